@@ -1,0 +1,43 @@
+-- The front of a buffer that is filled, and the front of bytes that are written.
+use Rattle.std.proofs.Common.{◌≡◌, ℕ, ◌+◌, ◌-◌, ◌≤◌, List, ◌++◌, length, take, drop, slice_range, arith, sym, ap, ◌∙◌, le_refl, drop_at, length-take-le, append_assoc, take-append-drop}
+use Rattle.std.proofs.lemmas.Slice.{take-put_mid_below}
+use Rattle.std.proofs.lemmas.List.{take_rest, drop-drop}
+use borrow.Rule.Slice.PartMut.{put_mid, post_of}
+use lib.Seq.{take-add, take-append-le, take-append_seam}
+
+take_split : (a b : ℕ) (old new : List ℕ) → a ≤ b → take a new ≡ take a old → take a old ++ slice_range new a b ≡ take b new
+take_split a b old new h front =
+    let same : a + (b - a) ≡ b = omega arith in
+    ap (λ l. l ++ slice_range new a b) (sym front) ∙ sym (take-add a (b - a) new) ∙ ap (λ n. take n new) same
+
+slice_range-put_mid : (a k n : ℕ) (xs ys : List ℕ) → a ≤ length xs → n ≤ length ys → slice_range (put_mid a k xs ys) a (a + n) ≡ take n ys
+slice_range-put_mid a k n xs ys within fits =
+    let same : (a + n) - a ≡ n = omega arith in
+    let after = post_of a k xs in
+    ap (take ((a + n) - a)) (drop_at (take a xs) (ys ++ after) a (length-take-le a xs within)) ∙ ap (λ m. take m (ys ++ after)) same ∙ take-append-le n ys after fits
+
+-- what a part of the buffer took in goes behind what was there
+pub take-put_mid : (a k n : ℕ) (xs ys : List ℕ) → a ≤ length xs → n ≤ length ys → take a xs ++ take n ys ≡ take (a + n) (put_mid a k xs ys)
+take-put_mid a k n xs ys within fits =
+    let part = slice_range-put_mid a k n xs ys within fits in
+    ap (λ l. take a xs ++ l) (sym part) ∙ take_split a (a + n) xs (put_mid a k xs ys) (omega arith) (take-put_mid_below _ _ _ _ _ (le_refl _) within)
+
+-- the bytes that were taken join those that went before
+pub moves_front : (all done rest : List ℕ) (n : ℕ) → all ≡ done ++ rest → all ≡ (done ++ take n rest) ++ take (length rest - n) (drop n rest)
+moves_front all done rest n e =
+    e ∙ ap (λ l. done ++ l) (sym (take-append-drop n rest)) ∙ sym (append_assoc done (take n rest) (drop n rest)) ∙ ap (λ l. (done ++ take n rest) ++ l) (sym (take_rest rest n))
+
+-- a part that is written leaves what is before it
+pub take-put_mid_same : (a k : ℕ) (xs ys : List ℕ) → a ≤ length xs → take a (put_mid a k xs ys) ≡ take a xs
+take-put_mid_same a k xs ys within = take-put_mid_below _ _ _ _ _ (le_refl _) within
+
+-- what is taken of a rest joins what was taken before
+pub take-drop-take : (n count : ℕ) (bytes rest : List ℕ) → rest ≡ drop n bytes → take n bytes ++ take count rest ≡ take (n + count) bytes
+take-drop-take n count bytes rest e = ap (λ l. take n bytes ++ take count l) e ∙ sym (take-add n count bytes)
+
+pub drop_further : (n count : ℕ) (bytes rest : List ℕ) → rest ≡ drop n bytes → drop count rest ≡ drop (n + count) bytes
+drop_further n count bytes rest e = ap (drop count) e ∙ drop-drop count n bytes
+
+-- a buffer that was filled anew as a whole
+pub refilled : (n : ℕ) (new old : List ℕ) → length new ≡ n → take n (new ++ drop (length new) old) ≡ new
+refilled n new old e = ap (λ k. take k (new ++ drop (length new) old)) (sym e) ∙ take-append_seam new (drop (length new) old)

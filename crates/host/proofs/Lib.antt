@@ -1,0 +1,8 @@
+pub mod Buffers
+pub mod Numbers
+pub mod Results
+pub mod Loads
+pub mod Tenants
+pub mod Frames
+pub mod Stands
+pub mod Serving

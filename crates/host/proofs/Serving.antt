@@ -1,0 +1,174 @@
+-- One frame more.
+use Rattle.std.proofs.Common.{◌≡◌, ◌≢◌, ℕ, ◌+◌, ◌<◌, Bool, true, false, List, [], ◌∷◌, ◌++◌, length, Option, Some, None, refl, sym, ap, subst, ◌∙◌, arith, append-nil, append_assoc, length-append, take, lit≤, inl}
+use Rattle.std.specs.Prelude.{slice_get, ◌==◌, filter, if◌then◌else◌}
+use Rattle.std.proofs.lemmas.Bool.{eqb-true, eqb-false}
+use Rattle.std.proofs.lemmas.List.Elements.{filter-append}
+use Rattle.std.proofs.lemmas.Grind.{flat_map-append}
+use Rattle.std.proofs.KnownBytes.{Consumes-nil, Consumes-trans, Appends-nil, Appends-trans}
+use Rattle.std.specs.List.{flat_map, AllByRecursion}
+use Rattle.std.specs.Io.KnownBytes.{Consumes, Appends}
+use Rattle.host.specs.Frame.{owner, framed, IsFrame}
+use Rattle.host.specs.Reading.{StandsFor}
+use Rattle.host.proofs.Stands.{stands_owner, stands_answers}
+use Rattle.host.specs.State.{State}
+use Rattle.host.specs.Alone.{frames_of, replies_of, MayAnswer, Alone}
+use Rattle.host.specs.declared.server.ServeFaultKind.{ServeFaultKind}
+use Rattle.host.specs.declared.server.ServeFaultKind.TheVariants.{Read, Write, Truncated, TooManyFrames, Memory}
+use Rattle.host.specs.Served.{IsServed, Handles, Moment, IsSound, Serves, Turns, Waits, Answered, CutOff, joined, Finishes, Stops, EndsFrame, StopsFrame}
+
+alone_more : (a b c : Option State) (frames others replies more : List (List ℕ)) → Alone a frames replies b → Alone b others more c → Alone a (frames ++ others) (replies ++ more) c
+alone_more a b c [] others [] more h k = subst (λ (x : Option State). Alone x others more c) h k
+alone_more a b c (frame ∷ frames) others (reply ∷ replies) more (between, answered, rest) k = (between, answered, alone_more between b c frames others replies more rest k)
+alone_more a b c [] others (reply ∷ replies) more h k = absurd h
+alone_more a b c (frame ∷ frames) others [] more h k = absurd h
+
+pushed : (b : Bool) (r : List ℕ) (xs ys zs : List (List ℕ)) → xs ≡ ys ++ zs → (if b then r ∷ xs else xs) ≡ (if b then r ∷ ys else ys) ++ zs
+pushed true r xs ys zs e = ap (λ l. r ∷ l) e
+pushed false r xs ys zs e = e
+
+replies_of-push : (t : ℕ) (frames replies : List (List ℕ)) (frame reply : List ℕ) → length replies ≡ length frames
+    → replies_of t (frames ++ frame ∷ []) (replies ++ reply ∷ []) ≡ replies_of t frames replies ++ replies_of t (frame ∷ []) (reply ∷ [])
+replies_of-push t [] [] frame reply len = refl
+replies_of-push t [] (r ∷ rs) frame reply len = absurd (omega arith)
+replies_of-push t (f ∷ fs) [] frame reply len = absurd (omega arith)
+replies_of-push t (f ∷ fs) (r ∷ rs) frame reply len =
+    pushed (owner f == t) r (replies_of t (fs ++ frame ∷ []) (rs ++ reply ∷ [])) (replies_of t fs rs) (replies_of t (frame ∷ []) (reply ∷ [])) (replies_of-push t fs rs frame reply (omega arith))
+
+one_by : (same : Bool) (frame reply : List ℕ) (before after : Option State) → (same ≡ true → MayAnswer frame reply before after) → (same ≡ false → after ≡ before)
+    → Alone before (if same then frame ∷ [] else []) (if same then reply ∷ [] else []) after
+one_by true frame reply before after own other = (after, own refl, refl)
+one_by false frame reply before after own other = other refl
+
+one_alone : (t : ℕ) (frame reply : List ℕ) (before after : List State) → Handles before frame reply after
+    → Alone (slice_get before t) (frames_of t (frame ∷ [])) (replies_of t (frame ∷ []) (reply ∷ [])) (slice_get after t)
+one_alone t frame reply before after h =
+    one_by (owner frame == t) frame reply (slice_get before t) (slice_get after t)
+    (λ e. subst (λ (n : ℕ). MayAnswer frame reply (slice_get before n) (slice_get after n)) (eqb-true (owner frame) t e) h.own)
+    (λ e. h.others t (λ k. eqb-false (owner frame) t e (sym k)))
+
+pub served_none : (states : List State) → IsServed states [] [] states
+served_none states t = refl
+
+-- what each tenant is told goes on by one frame
+pub served_more : (before mid after : List State) (frames replies : List (List ℕ)) (frame reply : List ℕ) → length replies ≡ length frames
+    → IsServed before frames replies mid → Handles mid frame reply after → IsServed before (frames ++ frame ∷ []) (replies ++ reply ∷ []) after
+served_more before mid after frames replies frame reply len served h t =
+    let more = alone_more (slice_get before t) (slice_get mid t) (slice_get after t) (frames_of t frames) (frames_of t (frame ∷ [])) (replies_of t frames replies) (replies_of t (frame ∷ []) (reply ∷ [])) (served t) (one_alone t frame reply mid after h) in
+    let fs : frames_of t (frames ++ frame ∷ []) ≡ frames_of t frames ++ frames_of t (frame ∷ []) = filter-append (λ f. owner f == t) frames (frame ∷ []) in
+    let rs = replies_of-push t frames replies frame reply len in
+    rw (fs, rs) more
+
+-- ---- the bytes
+
+all_push : {X : Type 0} (P : X → Type 0) (xs : List X) (x : X) → AllByRecursion P xs → P x → AllByRecursion P (xs ++ x ∷ [])
+all_push P [] x h p = (p, tt)
+all_push P (y ∷ ys) x h p = (h.0, all_push P ys x h.1 p)
+
+-- the frames that were read, and one more; `rest` is what came after it
+pub read_more : (a b c : Option (List ℕ)) (frames : List (List ℕ)) (frame rest : List ℕ) → Consumes a b (flat_map framed frames ++ []) → Consumes b c (framed frame ++ rest)
+    → Consumes a c (flat_map framed (frames ++ frame ∷ []) ++ rest)
+read_more a b c frames frame rest first later =
+    let whole : flat_map framed (frames ++ frame ∷ []) ≡ flat_map framed frames ++ framed frame = flat_map-append framed frames (frame ∷ []) ∙ ap (λ l. flat_map framed frames ++ l) (append-nil (framed frame)) in
+    let joins = Consumes-trans a b c (flat_map framed frames ++ []) (framed frame ++ rest) first later in
+    let regrouped : (flat_map framed frames ++ []) ++ (framed frame ++ rest) ≡ flat_map framed (frames ++ frame ∷ []) ++ rest =
+    ap (λ l. l ++ (framed frame ++ rest)) (append-nil (flat_map framed frames)) ∙ sym (append_assoc (flat_map framed frames) (framed frame) rest) ∙ ap (λ l. l ++ rest) (sym whole) in
+    subst (Consumes a c) regrouped joins
+
+-- the bytes after the last whole frame
+pub read_rest : (a b c : Option (List ℕ)) (frames : List (List ℕ)) (rest : List ℕ) → Consumes a b (flat_map framed frames ++ []) → Consumes b c rest
+    → Consumes a c (flat_map framed frames ++ rest)
+read_rest a b c frames rest first later =
+    subst (Consumes a c) (ap (λ l. l ++ rest) (append-nil (flat_map framed frames))) (Consumes-trans a b c (flat_map framed frames ++ []) rest first later)
+
+pub joined-push : (replies : List (List ℕ)) (reply : List ℕ) → joined (replies ++ reply ∷ []) ≡ joined replies ++ reply
+joined-push replies reply = flat_map-append (λ r. r) replies (reply ∷ []) ∙ ap (λ l. joined replies ++ l) (append-nil reply)
+
+-- ---- moments
+
+serves_more : (old mid new : Moment) (frames replies : List (List ℕ)) (frame reply out : List ℕ) → Serves old mid frames replies [] (joined replies) → Turns mid new frame reply out
+    → Serves old new (frames ++ frame ∷ []) (replies ++ reply ∷ []) [] (joined replies ++ out)
+serves_more old mid new frames replies frame reply out s h = record {
+  each = all_push IsFrame frames frame s.each h.is_frame;
+  paired = omega (arith, s.paired, length-append frames (frame ∷ []), length-append replies (reply ∷ []));
+  read = read_more old.input mid.input new.input frames frame [] s.read (subst (Consumes mid.input new.input) (sym (append-nil (framed frame))) h.read);
+  written = Appends-trans old.output mid.output new.output (joined replies) out s.written h.written;
+  served = served_more old.states mid.states new.states frames replies frame reply s.paired s.served h.handled;
+}
+
+pub answered_none : (m : Moment) → Answered m m 0 []
+answered_none m = ([], [], refl, record { each = tt; paired = refl; read = Consumes-nil m.input; written = Appends-nil m.output; served = served_none m.states })
+
+pub answered_more : (old mid new : Moment) (count : ℕ) (frame reply : List ℕ) → Answered old mid count [] → Turns mid new frame reply reply → Answered old new (count + 1) []
+answered_more old mid new count frame reply (frames, replies, len, s) h =
+    (frames ++ frame ∷ [], replies ++ reply ∷ [], omega (arith, len, length-append frames (frame ∷ [])), subst (Serves old new (frames ++ frame ∷ []) (replies ++ reply ∷ []) []) (sym (joined-push replies reply)) (serves_more old mid new frames replies frame reply reply s h))
+
+pub cut_off : (old mid new : Moment) (count n : ℕ) (frame reply : List ℕ) → Answered old mid count [] → Turns mid new frame reply (take n reply) → CutOff old new count
+cut_off old mid new count n frame reply (frames, replies, len, s) h =
+    (frames ++ frame ∷ [], replies, reply, n, omega (arith, len, length-append frames (frame ∷ [])), omega (arith, len, s.paired), serves_more old mid new frames replies frame reply (take n reply) s h)
+
+pub answered_rest : (old mid new : Moment) (count : ℕ) (rest : List ℕ) → Answered old mid count [] → Waits mid new rest → Answered old new count rest
+answered_rest old mid new count rest (frames, replies, len, s) h = (
+  frames,
+  replies,
+  len,
+  record {
+    each = s.each;
+    paired = s.paired;
+    read = read_rest old.input mid.input new.input frames rest s.read h.read;
+    written = subst (λ (o : Option (List ℕ)). Appends old.output o (joined replies)) (sym h.written) s.written;
+    served = subst (λ (x : List State). IsServed old.states frames replies x) (sym h.states) s.served;
+  },
+)
+
+-- the room held as much of the frame as its answer depends on
+pub turns : (old new : Moment) (frame front reply out : List ℕ) → IsFrame frame → Consumes old.input new.input (framed frame) → StandsFor front frame
+    → Appends old.output new.output out → MayAnswer front reply (slice_get old.states (owner front)) (slice_get new.states (owner front))
+    → ((other : ℕ) → other ≢ owner front → slice_get new.states other ≡ slice_get old.states other) → Turns old new frame reply out
+turns old new frame front reply out is_frame read stands written own others =
+    let same = stands_owner front frame stands in
+    record {
+      is_frame = is_frame;
+      read = read;
+      written = written;
+      handled = record {
+        own = subst (λ (n : ℕ). MayAnswer frame reply (slice_get old.states n) (slice_get new.states n)) same (stands_answers front frame reply _ _ stands own);
+        others = λ other ne. others other (λ e. ne (e ∙ same));
+      };
+    }
+
+-- ---- the end of a call
+
+sound_both : (old mid new : Moment) → IsSound old mid → IsSound mid new → IsSound old new
+sound_both old mid new h k = (k.0 ∙ h.0, k.1 ∙ h.1)
+
+-- a frame that stops the call
+pub frame_stops : (old mid new : Moment) (kind : ServeFaultKind) (count : ℕ) → Answered old mid count [] → IsSound old mid → StopsFrame mid new kind → Stops old new kind count
+frame_stops old mid new Read count answered sound ((rest, partial, waits), failed) =
+    (rest, partial, answered_rest old mid new count rest answered waits, omega (arith, sound.0, failed))
+frame_stops old mid new Write count answered sound ((frame, reply, n, turn), failed) =
+    (cut_off old mid new count n frame reply answered turn, omega (arith, sound.1, failed))
+frame_stops old mid new Truncated count answered sound ((rest, partial, some, waits), end, more) =
+    (rest, partial, some, answered_rest old mid new count rest answered waits, end, sound_both old mid new sound more)
+frame_stops old mid new TooManyFrames count answered sound h = absurd h
+frame_stops old mid new Memory count answered sound h = absurd h
+
+-- the input is at its end
+pub frame_done : (old mid new : Moment) (count : ℕ) → Answered old mid count [] → IsSound old mid → EndsFrame mid new false → Finishes old new count
+frame_done old mid new count answered sound (waits, end, more) = (answered_rest old mid new count [] answered waits, end, sound_both old mid new sound more)
+
+pub frame_more : (old mid new : Moment) (count : ℕ) → Answered old mid count [] → IsSound old mid → EndsFrame mid new true → Answered old new (count + 1) [] × IsSound old new
+frame_more old mid new count answered sound ((frame, reply, turn), more) = (answered_more old mid new count frame reply answered turn, sound_both old mid new sound more)
+
+-- as many frames are answered as the limit allows, and another byte follows
+pub end_more : (old mid new : Moment) (count limit byte : ℕ) → count ≡ limit → Answered old mid count [] → IsSound old mid → Consumes mid.input new.input (byte ∷ [])
+    → new.output ≡ mid.output → new.states ≡ mid.states → IsSound mid new → Stops old new TooManyFrames limit
+end_more old mid new count limit byte same answered sound read written states more =
+    let rest = answered_rest old mid new count (byte ∷ []) answered (record { read = read; written = written; states = states }) in
+    (byte ∷ [], lit≤ tt, subst (λ (n : ℕ). Answered old new n (byte ∷ [])) same rest, sound_both old mid new sound more)
+
+-- or the call fails that would tell
+pub end_fails : (old mid new : Moment) (count limit : ℕ) (kind : ServeFaultKind) → kind ≡ Read → count ≡ limit → Answered old mid count [] → IsSound old mid
+    → Consumes mid.input new.input [] → new.output ≡ mid.output → new.states ≡ mid.states → mid.read_failures < new.read_failures → Stops old new kind limit
+end_fails old mid new count limit kind is same answered sound read written states failed =
+    let rest = answered_rest old mid new count [] answered (record { read = read; written = written; states = states }) in
+    subst (λ (k : ServeFaultKind). Stops old new k limit) (sym is) ([], inl (lit≤ tt), subst (λ (n : ℕ). Answered old new n []) same rest, omega (arith, sound.0, failed))

@@ -1,0 +1,81 @@
+-- A frame that was cut to the room for it is answered as the whole one.
+use Rattle.std.proofs.Common.{◌≡◌, ℕ, ◌+◌, ◌<◌, ◌≤◌, Bool, true, false, List, [], length, take, drop, get_or, Option, Some, None, refl, sym, ap, subst, ◌∙◌, arith, inl, inr}
+use Rattle.std.specs.Prelude.{ℤ, nat_lt, if◌then◌else◌}
+use Rattle.std.proofs.lemmas.Bool.{lt-ltb, le-ltb}
+use Rattle.std.proofs.lemmas.List.{get_or-take, get_or-drop}
+use Rattle.byteorder.specs.Endian.{little_number}
+use Rattle.host.specs.declared.errno.Errno.{Errno}
+use Rattle.host.specs.declared.errno.Errno.TheVariants.{NotPermitted, Invalid}
+use Rattle.host.specs.Errno.{status_of}
+use Rattle.host.specs.Frame.{owner, command_number, reply_to, reply_bytes}
+use Rattle.host.specs.Reading.{StandsFor}
+use Rattle.host.specs.State.{State}
+use Rattle.host.specs.Machine.{Answer}
+use Rattle.host.specs.Alone.{AnswersFrame, MayAnswer}
+
+same_byte : (xs ys : List ℕ) (k : ℕ) → k < 4 → take 4 xs ≡ take 4 ys → get_or xs k 0 ≡ get_or ys k 0
+same_byte xs ys k lt e = sym (get_or-take 4 xs k 0 lt) ∙ ap (λ (l : List ℕ). get_or l k 0) e ∙ get_or-take 4 ys k 0 lt
+
+long_owner : (frame : List ℕ) → 65536 < length frame → owner frame ≡ little_number 2 frame
+long_owner frame long =
+    let headed : nat_lt (length frame) 4 ≡ false = le-ltb (length frame) 4 (omega arith) in
+    rw headed refl
+
+long_command : (frame : List ℕ) → 65536 < length frame → command_number frame ≡ little_number 2 (drop 2 frame)
+long_command frame long =
+    let headed : nat_lt (length frame) 4 ≡ false = le-ltb (length frame) 4 (omega arith) in
+    rw headed refl
+
+same_owner : (front frame : List ℕ) → 65536 < length front → 65536 < length frame → take 4 front ≡ take 4 frame → owner front ≡ owner frame
+same_owner front frame long_front long_frame e =
+    let low = same_byte front frame 0 (omega arith) e in
+    let high = same_byte front frame 1 (omega arith) e in
+    let same : little_number 2 front ≡ little_number 2 frame = omega arith in
+    long_owner front long_front ∙ same ∙ sym (long_owner frame long_frame)
+
+same_command : (front frame : List ℕ) → 65536 < length front → 65536 < length frame → take 4 front ≡ take 4 frame → command_number front ≡ command_number frame
+same_command front frame long_front long_frame e =
+    let low = get_or-drop 2 front 0 0 ∙ same_byte front frame 2 (omega arith) e ∙ sym (get_or-drop 2 frame 0 0) in
+    let high = get_or-drop 2 front 1 0 ∙ same_byte front frame 3 (omega arith) e ∙ sym (get_or-drop 2 frame 1 0) in
+    let same : little_number 2 (drop 2 front) ≡ little_number 2 (drop 2 frame) = omega arith in
+    long_command front long_front ∙ same ∙ sym (long_command frame long_frame)
+
+pub stands_owner : (front frame : List ℕ) → StandsFor front frame → owner front ≡ owner frame
+stands_owner front frame (inl same) = ap owner same
+stands_owner front frame (inr h) = same_owner front frame h.0 h.1 h.2
+
+too_long : (frame : List ℕ) → 65536 < length frame → nat_lt 65536 (length frame) ≡ true
+too_long frame long = lt-ltb 65536 (length frame) long
+
+long_answers : (memory_refused : Bool) (s : State) (front frame : List ℕ) → 65536 < length front → 65536 < length frame
+    → (answer : Answer) → AnswersFrame memory_refused s front answer → AnswersFrame memory_refused s frame answer
+long_answers memory_refused s front frame long_front long_frame answer h =
+    let front_long = too_long front long_front in
+    let frame_long = too_long frame long_frame in
+    rw frame_long (rw front_long at h)
+
+same_head : (front frame : List ℕ) (status : ℤ) (payload : List ℕ) → owner front ≡ owner frame → command_number front ≡ command_number frame → reply_to front status payload ≡ reply_to frame status payload
+same_head front frame status payload o c =
+    ap (λ (n : ℕ). reply_bytes n (command_number front) status payload) o ∙ ap (λ (n : ℕ). reply_bytes (owner frame) n status payload) c
+
+headed : (frame : List ℕ) → 65536 < length frame → (if nat_lt (length frame) 4 then Invalid else NotPermitted) ≡ NotPermitted
+headed frame long =
+    let head : nat_lt (length frame) 4 ≡ false = le-ltb (length frame) 4 (omega arith) in
+    rw head refl
+
+none_status : (front frame : List ℕ) → owner front ≡ owner frame → command_number front ≡ command_number frame → 65536 < length front → 65536 < length frame
+    → reply_to front (status_of (if nat_lt (length front) 4 then Invalid else NotPermitted)) [] ≡ reply_to frame (status_of (if nat_lt (length frame) 4 then Invalid else NotPermitted)) []
+none_status front frame o c long_front long_frame =
+    same_head front frame (status_of (if nat_lt (length front) 4 then Invalid else NotPermitted)) [] o c
+    ∙ ap (λ (e : Errno). reply_to frame (status_of e) []) (headed front long_front ∙ sym (headed frame long_frame))
+
+pub stands_answers : (front frame reply : List ℕ) (before after : Option State) → StandsFor front frame → MayAnswer front reply before after → MayAnswer frame reply before after
+stands_answers front frame reply before after (inl same) h = subst (λ (f : List ℕ). MayAnswer f reply before after) same h
+stands_answers front frame reply None after (inr (long_front, long_frame, e)) h =
+    let o = same_owner front frame long_front long_frame e in
+    let c = same_command front frame long_front long_frame e in
+    (h.0, h.1 ∙ none_status front frame o c long_front long_frame)
+stands_answers front frame reply (Some s) after (inr (long_front, long_frame, e)) (memory_refused, answer, answers, told, goes) =
+    let o = same_owner front frame long_front long_frame e in
+    let c = same_command front frame long_front long_frame e in
+    (memory_refused, answer, long_answers memory_refused s front frame long_front long_frame answer answers, told ∙ same_head front frame answer.status answer.payload o c, goes)

@@ -1,0 +1,10 @@
+pub mod Frame
+pub mod Stream
+pub mod Reading
+pub mod Errno
+pub mod State
+pub mod Machine
+pub mod Reply
+pub mod Alone
+pub mod Told
+pub mod Served

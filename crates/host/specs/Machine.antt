@@ -1,0 +1,127 @@
+-- The machine of one tenant: what each command answers, and what is open after it (bpf(2)).
+use Rattle.std.specs.Prelude.{◌≡◌, ℕ, ℤ, pos, ◌+◌, ◌-◌, ◌<◌, ◌^◌, Bool, true, false, not, ◌||◌, ◌==◌, nat_lt, is_none, List, [], ◌∷◌, ◌++◌, length, drop, replicate, slice_get, slice_set, Option, Some, None, option_and_then, position, if◌then◌else◌, MatchBool, MatchOption, ◌⊎◌}
+use Rattle.byteorder.specs.Endian.{little_number, little_bytes}
+use Rattle.insn_codec.specs.declared.insn.Insn.{Insn}
+use Rattle.insn_codec.specs.declared.fault.CodecFault.{CodecFault}
+use Rattle.insn_codec.specs.declared.fault.FaultKind.{FaultKind}
+use Rattle.insn_codec.specs.declared.fault.FaultKind.TheVariants as kind
+use Rattle.insn_codec.specs.Program.{IsProgram, program_bytes, IsProgramFault}
+use Rattle.insn_codec.specs.Fault.{fault_number}
+use Rattle.verifier.specs.declared.fault.Reason.{Reason}
+use Rattle.verifier.specs.declared.fault.Reason.TheVariants as reason
+use Rattle.verifier.specs.Reason.{reason_number}
+use Rattle.verifier.specs.Verdict.{IsAccepted, IsRefused}
+use Rattle.host.specs.declared.errno.Errno.{Errno}
+use Rattle.host.specs.declared.errno.Errno.TheVariants.{TooBig, BadDescriptor, NoMemory, AccessDenied, Invalid, TooManyOpen}
+use Rattle.host.specs.declared.object.Object.{Object}
+use Rattle.host.specs.declared.object.Object.TheVariants.{Program}
+use Rattle.host.specs.declared.command.Command.{Command}
+use Rattle.host.specs.declared.command.Command.TheVariants.{ProgLoad, ProgTestRun}
+use Rattle.host.specs.Errno.{status_of}
+use Rattle.host.specs.State.{State}
+
+-- ---- what a descriptor names
+
+-- descriptors begin at 3
+abbrev pub first_descriptor : ℕ
+first_descriptor = 3
+
+-- the lowest place that is free
+abbrev pub free_place : State → Option ℕ
+free_place s = position is_none s.table
+
+abbrev pub flattened : {X : Type 0} → Option (Option X) → Option X
+flattened o = option_and_then (λ x. x) o
+
+-- the object that a descriptor names
+abbrev pub named : State → ℕ → Option Object
+named s fd = if nat_lt fd first_descriptor then None else flattened (slice_get s.table (fd - first_descriptor))
+
+abbrev pub with_open : State → ℕ → Object → State
+with_open s place object = record { table = slice_set s.table place (Some object) }
+
+-- ---- answers
+
+pub record Answer : Type 0 where
+  pub status : ℤ
+  pub payload : List ℕ
+  pub after : State
+
+-- a refused command changes nothing
+abbrev pub refused : Errno → State → Answer
+refused errno s = record { status = status_of errno; payload = []; after = s }
+
+-- a refused load tells the slot and the reason
+abbrev pub refused_at : Errno → ℕ → ℕ → State → Answer
+refused_at errno slot reason s = record { status = status_of errno; payload = little_bytes 4 slot ++ little_bytes 2 reason; after = s }
+
+-- ---- PROG_LOAD
+
+abbrev pub codec_errno : FaultKind → Errno
+codec_errno kind.Empty = TooBig
+codec_errno kind.TooLong = TooBig
+codec_errno _ = Invalid
+
+abbrev pub verdict_errno : Reason → Errno
+verdict_errno reason.FallsOff = Invalid
+verdict_errno reason.Unreachable = Invalid
+verdict_errno reason.UnjudgedForm = Invalid
+verdict_errno _ = AccessDenied
+
+-- why a load of these slots opens nothing: the bytes are no program's, or the program is not accepted
+abbrev pub IsMalformed : List ℕ → Errno → ℕ → ℕ → Type 0
+IsMalformed slots errno slot number =
+    (fault : CodecFault) × IsProgramFault slots fault
+    × (errno ≡ codec_errno fault.kind) × (slot ≡ fault.slot) × (number ≡ 100 + fault_number fault.kind)
+
+abbrev pub IsUnaccepted : List ℕ → Errno → ℕ → ℕ → Type 0
+IsUnaccepted slots errno slot number =
+    (insns : List Insn) × (why : Reason) × IsProgram insns × (slots ≡ program_bytes insns) × IsRefused insns slot why
+    × (errno ≡ verdict_errno why) × (number ≡ reason_number why)
+
+abbrev pub IsLoadFault : List ℕ → Errno → ℕ → ℕ → Type 0
+IsLoadFault slots errno slot number = IsMalformed slots errno slot number ⊎ IsUnaccepted slots errno slot number
+
+-- an accepted program is open from then on
+abbrev pub opened : State → ℕ → List Insn → Answer
+opened s place insns = record { status = pos (first_descriptor + place); payload = []; after = with_open s place (Program insns) }
+
+-- a load of these slots at a free place
+abbrev pub LoadsAt : State → ℕ → List ℕ → Answer → Type 0
+LoadsAt s place slots answer =
+    ((errno : Errno) × (slot : ℕ) × (number : ℕ) × IsLoadFault slots errno slot number × (answer ≡ refused_at errno slot number s))
+    ⊎ ((insns : List Insn) × IsProgram insns × (slots ≡ program_bytes insns) × IsAccepted insns × (answer ≡ opened s place insns))
+
+-- where memory is refused, that is the answer
+abbrev pub Loads : Bool → State → ℕ → List ℕ → Answer → Type 0
+Loads memory_refused s place slots answer = MatchBool memory_refused (answer ≡ refused NoMemory s) (LoadsAt s place slots answer)
+
+abbrev pub AnswersLoad : Bool → State → List ℕ → Answer → Type 0
+AnswersLoad memory_refused s body answer =
+    MatchBool (nat_lt (length body) 4 || not (little_number 4 body == 1)) (answer ≡ refused Invalid s)
+    (MatchOption (free_place s) (answer ≡ refused TooManyOpen s) (λ place. Loads memory_refused s place (drop 4 body) answer))
+
+-- ---- PROG_TEST_RUN
+
+-- the descriptor and ten words of context come before the packet
+abbrev pub AnswersRun : State → List ℕ → Answer → Type 0
+AnswersRun s body answer =
+    MatchBool (nat_lt (length body) 44) (answer ≡ refused Invalid s)
+    (MatchOption (named s (little_number 4 body)) (answer ≡ refused BadDescriptor s)
+    (λ object. MatchBool (nat_lt 32768 (length body - 44)) (answer ≡ refused TooBig s)
+    ((outcome : ℕ) × (outcome < 2 ^ 32) × (answer ≡ record { status = pos 0; payload = little_bytes 4 outcome; after = s }))))
+
+-- ---- every command
+
+-- the commands, by their numbers in bpf(2)
+abbrev pub command_at : ℕ → Option Command
+command_at n = if n == 5 then Some ProgLoad else (if n == 10 then Some ProgTestRun else None)
+
+abbrev pub AnswersCommand : Bool → State → Option Command → List ℕ → Answer → Type 0
+AnswersCommand memory_refused s None body answer = answer ≡ refused Invalid s
+AnswersCommand memory_refused s (Some ProgLoad) body answer = AnswersLoad memory_refused s body answer
+AnswersCommand memory_refused s (Some ProgTestRun) body answer = AnswersRun s body answer
+
+-- what the command of a number may answer; memory may be refused to it
+abbrev pub Answers : Bool → State → ℕ → List ℕ → Answer → Type 0
+Answers memory_refused s number body answer = AnswersCommand memory_refused s (command_at number) body answer

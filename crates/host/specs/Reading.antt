@@ -1,0 +1,32 @@
+-- How reading a frame may go.
+use Rattle.std.specs.Prelude.{◌≡◌, ℕ, ◌<◌, List, length, take, Option, ◌⊎◌}
+use Rattle.std.specs.Io.KnownBytes.{Consumes, IsAtEnd}
+use Rattle.host.specs.declared.server.ServeFaultKind.{ServeFaultKind}
+use Rattle.host.specs.declared.server.ServeFaultKind.TheVariants.{Read, Write, Truncated, TooManyFrames, Memory}
+use Rattle.host.specs.Frame.{IsPartial}
+
+-- fewer than so many bytes came
+pub record ReadsShort (old new : Option (List ℕ)) (count : ℕ) : Type 0 where
+  pub bytes : List ℕ
+  pub few : length bytes < count
+  pub read : Consumes old new bytes
+
+-- less than a whole frame came; where the input ended, some of it
+pub record ReadsPartial (kind : ServeFaultKind) (old new : Option (List ℕ)) : Type 0 where
+  pub bytes : List ℕ
+  pub partial : IsPartial bytes
+  pub begun : kind ≡ Truncated → 0 < length bytes
+  pub read : Consumes old new bytes
+
+-- why no more came: a call failed, or the input is at its end and no call failed
+abbrev pub StopsRead : ServeFaultKind → Option (List ℕ) → ℕ → ℕ → Type 0
+StopsRead Read left failures_before failures_after = failures_before < failures_after
+StopsRead Truncated left failures_before failures_after = IsAtEnd left × (failures_after ≡ failures_before)
+StopsRead Write left failures_before failures_after = ⊥
+StopsRead TooManyFrames left failures_before failures_after = ⊥
+StopsRead Memory left failures_before failures_after = ⊥
+
+-- the first bytes are the frame, or both are longer than a frame may be and begin with one head
+abbrev pub StandsFor : List ℕ → List ℕ → Type 0
+StandsFor front frame =
+    (front ≡ frame) ⊎ ((65536 < length front) × (65536 < length frame) × (take 4 front ≡ take 4 frame))

@@ -1,0 +1,172 @@
+//! Frames out of a reader.
+
+ghost use Rattle.std.specs.Prelude.{◌≡◌, ℕ, ◌+◌, ◌-◌, ◌<◌, ◌≤◌, ◌^◌, ◌++◌, [], List, length, take, drop, min, IfOk, IfErr, IfSome, IfNone, Ok, OnOk, OnErr};
+ghost use Rattle.std.specs.Io.KnownBytes.{Consumes, IsAtEnd};
+ghost use Rattle.byteorder.specs.Endian.{little_number};
+ghost use Rattle.byteorder.specs.Endian.{little_bytes};
+ghost use Rattle.host.specs.Frame.{framed, IsFrame, IsPartial};
+ghost use Rattle.host.specs.Reading.{ReadsShort, ReadsPartial, StopsRead, StandsFor};
+
+use crate::server::ServeFaultKind;
+use crate::stream::Source;
+use byteorder::{ByteOrder, LittleEndian};
+use std::alloc::{AllocError, Global};
+
+/// How many bytes of a frame are kept: one more than the longest frame that is looked at has.
+pub(crate) const KEPT: usize = 65_537;
+
+/// Reads until the buffer is full or the input ends, and says how many bytes came.
+pub(crate) fn fill<S: Source>(reader: &mut S, buffer: &mut [u8]) -> Result<usize, ServeFaultKind>
+    requires { S.failures reader.old < 2 ^ 64 - 1 }
+    ensures bytes { IfOk result (λ n. Consumes (S.remaining reader.old) (S.remaining reader.new) (take n buffer.new)) }
+    ensures bound { IfOk result (λ n. n ≤ length buffer.new) }
+    ensures end { IfOk result (λ n. n < length buffer.new → IsAtEnd (S.remaining reader.new)) }
+    ensures sound { IfOk result (λ n. S.failures reader.new ≡ S.failures reader.old) }
+    ensures kind { IfErr result (λ kind. kind ≡ ServeFaultKind.Read) }
+    ensures part { OnErr result ((n : ℕ) × (n < length buffer.new) × Consumes (S.remaining reader.old) (S.remaining reader.new) (take n buffer.new)) }
+    ensures failed { OnErr result (S.failures reader.old < S.failures reader.new) }
+{
+    let mut at = 0;
+    while at < buffer.len() {
+        match reader.read(&mut buffer[at..]) {
+            Ok(0) => return Ok(at),
+            Ok(count) => at += count,
+            Err(_) => return Err(ServeFaultKind::Read),
+        }
+    }
+    Ok(at)
+}
+
+/// The number that four bytes spell.
+fn number_in(bytes: &[u8]) -> u32
+    requires { length bytes.now ≡ 4 }
+    ensures { little_bytes 4 result ≡ bytes.now }
+{
+    LittleEndian::read_u32(bytes)
+}
+
+/// Reads the length of a frame: none where the input ends before it.
+fn read_length<S: Source>(reader: &mut S) -> Result<Option<u32>, ServeFaultKind>
+    requires { S.failures reader.old < 2 ^ 64 - 1 }
+    ensures some { IfOk result (λ found. IfSome found (λ total. Consumes (S.remaining reader.old) (S.remaining reader.new) (little_bytes 4 total))) }
+    ensures bound { IfOk result (λ found. IfSome found (λ total. total < 2 ^ 32)) }
+    ensures none { IfOk result (λ found. IfNone found (Consumes (S.remaining reader.old) (S.remaining reader.new) [] × IsAtEnd (S.remaining reader.new))) }
+    ensures sound { OnOk result (S.failures reader.new ≡ S.failures reader.old) }
+    ensures short { IfErr result (λ kind. ReadsPartial kind (S.remaining reader.old) (S.remaining reader.new)) }
+    ensures stop { IfErr result (λ kind. StopsRead kind (S.remaining reader.new) (S.failures reader.old) (S.failures reader.new)) }
+{
+    let mut bytes = [0; 4];
+    let count = fill(reader, &mut bytes)?;
+    if count == 0 {
+        return Ok(None);
+    }
+    if count < 4 {
+        return Err(ServeFaultKind::Truncated);
+    }
+    Ok(Some(number_in(&bytes)))
+}
+
+/// Reads so many bytes and keeps none of them.
+fn skip<S: Source>(reader: &mut S, scratch: &mut [u8], count: usize) -> Result<(), ServeFaultKind>
+    requires failures { S.failures reader.old < 2 ^ 64 - 1 }
+    requires scratch { 0 < length scratch.old }
+    ensures bytes { OnOk result ((bytes : List ℕ) × (length bytes ≡ count) × Consumes (S.remaining reader.old) (S.remaining reader.new) bytes) }
+    ensures sound { OnOk result (S.failures reader.new ≡ S.failures reader.old) }
+    ensures short { OnErr result (ReadsShort (S.remaining reader.old) (S.remaining reader.new) count) }
+    ensures stop { IfErr result (λ kind. StopsRead kind (S.remaining reader.new) (S.failures reader.old) (S.failures reader.new)) }
+{
+    let mut left = count;
+    while left > 0 {
+        let wanted = left.min(scratch.len());
+        let came = fill(reader, &mut scratch[..wanted])?;
+        if came < wanted {
+            return Err(ServeFaultKind::Truncated);
+        }
+        left -= came;
+    }
+    Ok(())
+}
+
+/// Reads so many bytes into the front of the buffer.
+fn read_whole<S: Source>(
+    reader: &mut S,
+    buffer: &mut [u8],
+    count: usize,
+) -> Result<(), ServeFaultKind>
+    requires failures { S.failures reader.old < 2 ^ 64 - 1 }
+    requires room { count ≤ length buffer.old }
+    ensures bytes { OnOk result (Consumes (S.remaining reader.old) (S.remaining reader.new) (take count buffer.new)) }
+    ensures sound { OnOk result (S.failures reader.new ≡ S.failures reader.old) }
+    ensures short { OnErr result (ReadsShort (S.remaining reader.old) (S.remaining reader.new) count) }
+    ensures stop { IfErr result (λ kind. StopsRead kind (S.remaining reader.new) (S.failures reader.old) (S.failures reader.new)) }
+{
+    let came = fill(reader, &mut buffer[..count])?;
+    if came < count {
+        return Err(ServeFaultKind::Truncated);
+    }
+    Ok(())
+}
+
+/// Reads a frame that is longer than the buffer. The buffer is full then, and begins with the frame's head.
+fn read_long<S: Source>(
+    reader: &mut S,
+    buffer: &mut [u8],
+    total: usize,
+) -> Result<(), ServeFaultKind>
+    requires failures { S.failures reader.old < 2 ^ 64 - 1 }
+    requires room { length buffer.old ≡ 65537 }
+    requires long { 65537 < total }
+    ensures frame { OnOk result ((frame : List ℕ) × (length frame ≡ total) × Consumes (S.remaining reader.old) (S.remaining reader.new) frame × (take 4 buffer.new ≡ take 4 frame)) }
+    ensures sound { OnOk result (S.failures reader.new ≡ S.failures reader.old) }
+    ensures short { OnErr result (ReadsShort (S.remaining reader.old) (S.remaining reader.new) total) }
+    ensures stop { IfErr result (λ kind. StopsRead kind (S.remaining reader.new) (S.failures reader.old) (S.failures reader.new)) }
+{
+    read_whole(reader, buffer, KEPT)?;
+    skip(reader, &mut buffer[4..], total - KEPT)?;
+    Ok(())
+}
+
+/// Reads the bytes of a frame of this length into the front of the buffer, and says how many it holds then.
+fn read_body<S: Source>(
+    reader: &mut S,
+    buffer: &mut [u8],
+    total: usize,
+) -> Result<usize, ServeFaultKind>
+    requires failures { S.failures reader.old < 2 ^ 64 - 1 }
+    requires room { length buffer.old ≡ 65537 }
+    ensures frame { IfOk result (λ kept. (frame : List ℕ) × (length frame ≡ total) × Consumes (S.remaining reader.old) (S.remaining reader.new) frame × StandsFor (take kept buffer.new) frame) }
+    ensures bound { IfOk result (λ kept. kept ≤ 65537) }
+    ensures sound { OnOk result (S.failures reader.new ≡ S.failures reader.old) }
+    ensures short { OnErr result (ReadsShort (S.remaining reader.old) (S.remaining reader.new) total) }
+    ensures stop { IfErr result (λ kind. StopsRead kind (S.remaining reader.new) (S.failures reader.old) (S.failures reader.new)) }
+{
+    if total <= KEPT {
+        read_whole(reader, buffer, total)?;
+        Ok(total)
+    } else {
+        read_long(reader, buffer, total)?;
+        Ok(KEPT)
+    }
+}
+
+/// Reads a frame into the front of the buffer, and says how many bytes the buffer holds of it; nothing where the input
+/// ends before a frame.
+pub(crate) fn read_frame<S: Source>(
+    reader: &mut S,
+    buffer: &mut [u8],
+) -> Result<Option<usize>, ServeFaultKind>
+    requires failures { S.failures reader.old < 2 ^ 64 - 1 }
+    requires room { length buffer.old ≡ 65537 }
+    ensures frame { IfOk result (λ found. IfSome found (λ kept. (frame : List ℕ) × IsFrame frame × Consumes (S.remaining reader.old) (S.remaining reader.new) (framed frame) × StandsFor (take kept buffer.new) frame)) }
+    ensures bound { IfOk result (λ found. IfSome found (λ kept. kept ≤ 65537)) }
+    ensures none { IfOk result (λ found. IfNone found (Consumes (S.remaining reader.old) (S.remaining reader.new) [] × IsAtEnd (S.remaining reader.new))) }
+    ensures sound { OnOk result (S.failures reader.new ≡ S.failures reader.old) }
+    ensures short { IfErr result (λ kind. ReadsPartial kind (S.remaining reader.old) (S.remaining reader.new)) }
+    ensures stop { IfErr result (λ kind. StopsRead kind (S.remaining reader.new) (S.failures reader.old) (S.failures reader.new)) }
+{
+    let Some(total) = read_length(reader)? else {
+        return Ok(None);
+    };
+    let kept = read_body(reader, buffer, total as usize)?;
+    Ok(Some(kept))
+}

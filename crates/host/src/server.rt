@@ -1,0 +1,149 @@
+//! A whole stream.
+
+ghost use Rattle.std.specs.Prelude.{◌≡◌, ◌≢◌, ℕ, ◌+◌, ◌-◌, ◌<◌, ◌≤◌, ◌^◌, [], List, length, take, IfOk, IfErr, OnOk, OnErr, IsTrue, true, false, slice_get};
+ghost use Rattle.std.specs.Prelude.{◌∷◌};
+ghost use Rattle.std.specs.Io.KnownBytes.{Consumes, IsAtEnd};
+ghost use Rattle.host.specs.Reading.{ReadsPartial, StopsRead};
+ghost use Rattle.host.specs.Served.{Moment, IsSound, Turns, Waits, Answered, CutOff, Finishes, Stops, EndsFrame, StopsFrame};
+
+use crate::host::Host;
+use crate::reading::{KEPT, fill, read_frame};
+use crate::reply::ReplyBuf;
+use crate::stream::{Sink, Source};
+use crate::writing::write_whole;
+use std::alloc::{AllocError, Global};
+
+/// Why a stream was not served to its end.
+#[derive(Clone, Copy, Debug, PartialEq, Eq)]
+pub enum ServeFaultKind {
+    /// A call of the reader failed.
+    Read,
+    /// A call of the writer failed.
+    Write,
+    /// The input ended inside a frame, which has no reply and no effect.
+    Truncated,
+    /// As many frames as allowed are answered, and another byte follows.
+    TooManyFrames,
+    /// The buffers could not be had. Nothing was read or written.
+    Memory,
+}
+
+/// Why a stream was not served to its end, and how many replies were written whole and sent on.
+#[derive(Clone, Copy, Debug, PartialEq, Eq)]
+pub struct ServeFault {
+    pub kind: ServeFaultKind,
+    pub frames: u32,
+}
+
+/// Room for a frame and for a reply.
+#[derive(Drop)]
+struct Rooms {
+    frame: Vec<u8>,
+    reply: ReplyBuf,
+    ghost long: { length frame.items ≡ 65537 },
+}
+
+impl Rooms {
+    fn new(alloc: Global) -> Result<Rooms, AllocError> {
+        Ok(Rooms {
+            frame: vec![in alloc; 0; KEPT]?,
+            reply: ReplyBuf::new(alloc)?,
+        })
+    }
+}
+
+/// Reads a frame, handles it, and writes its reply; false where the input ends before a frame.
+fn serve_frame<R: Source, W: Sink>(
+    host: &mut Host,
+    reader: &mut R,
+    writer: &mut W,
+    rooms: &mut Rooms,
+) -> Result<bool, ServeFaultKind>
+    requires reader { R.failures reader.old < 2 ^ 64 - 1 }
+    requires writer { W.failures writer.old < 2 ^ 64 - 1 }
+    ensures done { IfOk result (λ more. EndsFrame
+        (record { states = host.old; input = R.remaining reader.old; output = W.contents writer.old; read_failures = R.failures reader.old; write_failures = W.failures writer.old })
+        (record { states = host.new; input = R.remaining reader.new; output = W.contents writer.new; read_failures = R.failures reader.new; write_failures = W.failures writer.new })
+        more) }
+    ensures fault { IfErr result (λ kind. StopsFrame
+        (record { states = host.old; input = R.remaining reader.old; output = W.contents writer.old; read_failures = R.failures reader.old; write_failures = W.failures writer.old })
+        (record { states = host.new; input = R.remaining reader.new; output = W.contents writer.new; read_failures = R.failures reader.new; write_failures = W.failures writer.new })
+        kind) }
+{
+    let Some(kept) = read_frame(reader, &mut rooms.frame)? else {
+        return Ok(false);
+    };
+    host.handle(&rooms.frame[..kept], &mut rooms.reply);
+    write_whole(writer, rooms.reply.bytes())?;
+    Ok(true)
+}
+
+/// Whether the input is at its end. One byte more is taken from it where it isn't.
+fn is_at_end<R: Source>(reader: &mut R) -> Result<bool, ServeFaultKind>
+    requires { R.failures reader.old < 2 ^ 64 - 1 }
+    ensures end { IfOk result (λ end. end ≡ true → Consumes (R.remaining reader.old) (R.remaining reader.new) [] × IsAtEnd (R.remaining reader.new)) }
+    ensures more { IfOk result (λ end. end ≡ false → (byte : ℕ) × Consumes (R.remaining reader.old) (R.remaining reader.new) (byte ∷ [])) }
+    ensures sound { OnOk result (R.failures reader.new ≡ R.failures reader.old) }
+    ensures kind { IfErr result (λ kind. kind ≡ ServeFaultKind.Read) }
+    ensures failed { OnErr result (Consumes (R.remaining reader.old) (R.remaining reader.new) [] × (R.failures reader.old < R.failures reader.new)) }
+{
+    let mut byte = [0; 1];
+    let count = fill(reader, &mut byte)?;
+    Ok(count == 0)
+}
+
+/// Serves a stream: reads a frame, handles it, writes its reply, sends it on, and goes on, until the input ends or as
+/// many frames are answered as the limit allows. It says how many.
+///
+/// # Errors
+///
+/// `Read` and `Write` where a call of the reader or the writer failed; `Truncated` where the input ends inside a
+/// frame; `TooManyFrames` where another byte follows the last frame allowed; `Memory` where the buffers could not be
+/// had, before anything is read.
+pub fn serve<R: Source, W: Sink>(
+    alloc: Global,
+    host: &mut Host,
+    reader: &mut R,
+    writer: &mut W,
+    limit: u32,
+) -> Result<u32, ServeFault>
+    requires limit { limit ≤ 16777216 }
+    requires reader { R.failures reader.old < 2 ^ 64 - 1 }
+    requires writer { W.failures writer.old < 2 ^ 64 - 1 }
+    ensures done { IfOk result (λ count. Finishes
+        (record { states = host.old; input = R.remaining reader.old; output = W.contents writer.old; read_failures = R.failures reader.old; write_failures = W.failures writer.old })
+        (record { states = host.new; input = R.remaining reader.new; output = W.contents writer.new; read_failures = R.failures reader.new; write_failures = W.failures writer.new })
+        count) }
+    ensures few { IfOk result (λ count. count ≤ limit) }
+    ensures fault { IfErr result (λ fault. Stops
+        (record { states = host.old; input = R.remaining reader.old; output = W.contents writer.old; read_failures = R.failures reader.old; write_failures = W.failures writer.old })
+        (record { states = host.new; input = R.remaining reader.new; output = W.contents writer.new; read_failures = R.failures reader.new; write_failures = W.failures writer.new })
+        fault.kind fault.frames) }
+    ensures few_before { IfErr result (λ fault. fault.frames ≤ limit) }
+    ensures too_many { IfErr result (λ fault. fault.kind ≡ ServeFaultKind.TooManyFrames → fault.frames ≡ limit) }
+{
+    let Ok(mut rooms) = Rooms::new(alloc) else {
+        return Err(ServeFault {
+            kind: ServeFaultKind::Memory,
+            frames: 0,
+        });
+    };
+    for frames in 0..limit {
+        match serve_frame(host, reader, writer, &mut rooms) {
+            Ok(true) => {}
+            Ok(false) => return Ok(frames),
+            Err(kind) => return Err(ServeFault { kind, frames }),
+        }
+    }
+    match is_at_end(reader) {
+        Ok(true) => Ok(limit),
+        Ok(false) => Err(ServeFault {
+            kind: ServeFaultKind::TooManyFrames,
+            frames: limit,
+        }),
+        Err(kind) => Err(ServeFault {
+            kind,
+            frames: limit,
+        }),
+    }
+}

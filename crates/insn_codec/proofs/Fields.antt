@@ -1,0 +1,142 @@
+-- Each field of an instruction's first slot has a value that its form lists, and fits its bits.
+use Rattle.std.proofs.Common.{◌≡◌, ℕ, ◌+◌, ◌^◌, ◌<◌, ◌≤◌, Bool, true, false, ◌||◌, refl, arith, lit≤, lit<}
+use Rattle.std.specs.Prelude.{IsTrue, FitsSigned, ℤ}
+use Rattle.std.specs.Int.{w16, w32}
+use Rattle.std.proofs.lemmas.Int.{ints}
+use Rattle.insn_codec.specs.declared.slot.Slot.{Slot}
+use Rattle.insn_codec.specs.declared.insn.AluOp.{AluOp}
+use Rattle.insn_codec.specs.declared.insn.AluOp.TheVariants as op
+use Rattle.insn_codec.specs.declared.insn.ByteOrder.{ByteOrder}
+use Rattle.insn_codec.specs.declared.insn.Bits.{Bits}
+use Rattle.insn_codec.specs.declared.insn.Bits.TheVariants as bits
+use Rattle.insn_codec.specs.declared.insn.Narrow.{Narrow}
+use Rattle.insn_codec.specs.declared.insn.Narrow.TheVariants as narrow
+use Rattle.insn_codec.specs.declared.insn.Operand.{Operand}
+use Rattle.insn_codec.specs.declared.insn.Operand.TheVariants as operand
+use Rattle.insn_codec.specs.declared.insn.Insn.{Insn}
+use Rattle.insn_codec.specs.declared.insn.Insn.TheVariants.{Alu, Movsx, Neg, End, Ja, Jal, Jump, Call, Exit, Load, Store, Const, MapFd}
+use Rattle.insn_codec.specs.declared.opcode.Source.TheVariants as source
+use Rattle.insn_codec.specs.declared.opcode.AluCode.TheVariants as code
+use Rattle.insn_codec.specs.declared.form.Form.TheVariants as form
+use Rattle.insn_codec.specs.Sizes.{is_short}
+use Rattle.insn_codec.specs.Numbers.{opcode, alu_class, jump_class, alu_number, alu_offset, condition_number, narrow_number, bits_number, end_opcode, memory_opcode, offset_bits, imm_bits}
+use Rattle.insn_codec.specs.Form.{listed, one_operand, offset_listed}
+use Rattle.insn_codec.specs.Slot.{slot, IsSlot}
+use Rattle.insn_codec.specs.Spelling.{first, source_bit, src_field, imm_field, IsOperand, IsInsn}
+use Rattle.insn_codec.proofs.Opcodes.{code_of, source_of, form_of}
+
+-- ---- which the form lists
+
+offset_listed-alu : (wide : Bool) (o : AluOp) (src : Operand) → offset_listed wide (code_of o) (source_of src) (alu_offset o) ≡ true
+offset_listed-alu wide op.Add src = refl
+offset_listed-alu wide op.Sub src = refl
+offset_listed-alu wide op.Mul src = refl
+offset_listed-alu wide op.Div src = refl
+offset_listed-alu wide op.SignedDiv src = refl
+offset_listed-alu wide op.Or src = refl
+offset_listed-alu wide op.And src = refl
+offset_listed-alu wide op.ShiftLeft src = refl
+offset_listed-alu wide op.ShiftRight src = refl
+offset_listed-alu wide op.Mod src = refl
+offset_listed-alu wide op.SignedMod src = refl
+offset_listed-alu wide op.Xor src = refl
+offset_listed-alu wide op.Mov (operand.Imm n) = refl
+offset_listed-alu wide op.Mov (operand.Reg r) = refl
+offset_listed-alu wide op.SignedShiftRight src = refl
+
+offset_listed-movsx : (wide : Bool) (b : Narrow) → IsTrue (wide || is_short b) → offset_listed wide code.Mov source.Reg (narrow_number b) ≡ true
+offset_listed-movsx wide narrow.Bits8 h = refl
+offset_listed-movsx wide narrow.Bits16 h = refl
+offset_listed-movsx true narrow.Bits32 h = refl
+offset_listed-movsx false narrow.Bits32 h = absurd cc
+
+one_operand-fields : (o : Operand) (op dst offset : ℕ) → one_operand (source_of o) (slot op dst (src_field o) offset (imm_field o)) ≡ true
+one_operand-fields (operand.Imm n) op dst offset = refl
+one_operand-fields (operand.Reg r) op dst offset = refl
+
+bits_listed : (b : Bits) (op dst : ℕ) (how : ByteOrder) → listed (form.End how) (slot op dst 0 0 (bits_number b)) ≡ true
+bits_listed bits.Bits16 op dst how = refl
+bits_listed bits.Bits32 op dst how = refl
+bits_listed bits.Bits64 op dst how = refl
+
+pub listed-first : (i : Insn) → listed (form_of i) (first i) ≡ true
+listed-first (Alu wide o dst src) = rw (one_operand-fields src (opcode (alu_number o) (source_bit src) (alu_class wide)) dst (alu_offset o)) (offset_listed-alu wide o src)
+listed-first (Movsx m) = offset_listed-movsx m.wide m.bits m.listed
+listed-first (Neg wide dst) = refl
+listed-first (End how width dst) = bits_listed width (end_opcode how) dst how
+listed-first (Ja off) = refl
+listed-first (Jal off) = refl
+listed-first (Jump wide condition dst src off) = one_operand-fields src (opcode (condition_number condition) (source_bit src) (jump_class wide)) dst (offset_bits off)
+listed-first (Call id) = refl
+listed-first Exit = refl
+listed-first (Load l) = refl
+listed-first (Store s dst src off) = one_operand-fields src (memory_opcode 3 s (2 + source_bit src)) dst (offset_bits off)
+listed-first (Const dst value) = refl
+listed-first (MapFd dst fd) = refl
+
+-- ---- each field of the first slot fits its bits
+
+alu_offset_le : (o : AluOp) → alu_offset o ≤ 1
+alu_offset_le op.Add = lit≤ tt
+alu_offset_le op.Sub = lit≤ tt
+alu_offset_le op.Mul = lit≤ tt
+alu_offset_le op.Div = lit≤ tt
+alu_offset_le op.SignedDiv = lit≤ tt
+alu_offset_le op.Or = lit≤ tt
+alu_offset_le op.And = lit≤ tt
+alu_offset_le op.ShiftLeft = lit≤ tt
+alu_offset_le op.ShiftRight = lit≤ tt
+alu_offset_le op.Mod = lit≤ tt
+alu_offset_le op.SignedMod = lit≤ tt
+alu_offset_le op.Xor = lit≤ tt
+alu_offset_le op.Mov = lit≤ tt
+alu_offset_le op.SignedShiftRight = lit≤ tt
+
+narrow_number_le : (b : Narrow) → narrow_number b ≤ 32
+narrow_number_le narrow.Bits8 = lit≤ tt
+narrow_number_le narrow.Bits16 = lit≤ tt
+narrow_number_le narrow.Bits32 = lit≤ tt
+
+bits_number_le : (b : Bits) → bits_number b ≤ 64
+bits_number_le bits.Bits16 = lit≤ tt
+bits_number_le bits.Bits32 = lit≤ tt
+bits_number_le bits.Bits64 = lit≤ tt
+
+offset_bits_lt : (z : ℤ) → FitsSigned w16 z → offset_bits z < 2 ^ 16
+offset_bits_lt z h = omega (arith, ints)
+
+imm_bits_lt : (z : ℤ) → FitsSigned w32 z → imm_bits z < 2 ^ 32
+imm_bits_lt z h = omega (arith, ints)
+
+src_field_le : (o : Operand) → IsOperand o → src_field o ≤ 10
+src_field_le (operand.Imm n) h = lit≤ tt
+src_field_le (operand.Reg r) h = h
+
+imm_field_lt : (o : Operand) → IsOperand o → imm_field o < 2 ^ 32
+imm_field_lt (operand.Imm n) h = imm_bits_lt n h
+imm_field_lt (operand.Reg r) h = lit< tt
+
+-- the registers exist
+pub record IsFront (s : Slot) : Type 0 where
+  pub dst : s.dst ≤ 10
+  pub src : s.src ≤ 10
+  pub offset : s.offset < 2 ^ 16
+  pub imm : s.imm < 2 ^ 32
+
+pub IsFront-first : (i : Insn) → IsInsn i → IsFront (first i)
+IsFront-first (Alu wide o dst src) h = record { dst = h.0; src = src_field_le src h.1; offset = omega (arith, alu_offset_le o); imm = imm_field_lt src h.1 }
+IsFront-first (Movsx m) h = record { dst = h.0; src = h.1; offset = omega (arith, narrow_number_le m.bits); imm = lit< tt }
+IsFront-first (Neg wide dst) h = record { dst = h; src = lit≤ tt; offset = lit< tt; imm = lit< tt }
+IsFront-first (End how width dst) h = record { dst = h; src = lit≤ tt; offset = lit< tt; imm = omega (arith, bits_number_le width) }
+IsFront-first (Ja off) h = record { dst = lit≤ tt; src = lit≤ tt; offset = offset_bits_lt off h; imm = lit< tt }
+IsFront-first (Jal off) h = record { dst = lit≤ tt; src = lit≤ tt; offset = lit< tt; imm = imm_bits_lt off h }
+IsFront-first (Jump wide condition dst src off) h = record { dst = h.0; src = src_field_le src h.1; offset = offset_bits_lt off h.2; imm = imm_field_lt src h.1 }
+IsFront-first (Call id) h = record { dst = lit≤ tt; src = lit≤ tt; offset = lit< tt; imm = imm_bits_lt id h }
+IsFront-first Exit h = record { dst = lit≤ tt; src = lit≤ tt; offset = lit< tt; imm = lit< tt }
+IsFront-first (Load l) h = record { dst = h.0; src = h.1; offset = offset_bits_lt l.off h.2; imm = lit< tt }
+IsFront-first (Store s dst src off) h = record { dst = h.0; src = src_field_le src h.1; offset = offset_bits_lt off h.2; imm = imm_field_lt src h.1 }
+IsFront-first (Const dst value) h = record { dst = h.0; src = lit≤ tt; offset = lit< tt; imm = omega arith }
+IsFront-first (MapFd dst fd) h = record { dst = h.0; src = lit≤ tt; offset = lit< tt; imm = imm_bits_lt fd h.1 }
+
+pub IsSlot-front : (s : Slot) → IsFront s → IsSlot s
+IsSlot-front s h = record { dst = omega arith; src = omega arith; offset = h.offset; imm = h.imm }

@@ -1,0 +1,256 @@
+-- The form of each opcode, and of each instruction's first slot.
+use Rattle.std.proofs.Common.{◌≡◌, Bool, true, false, ◌&&◌, Some, refl, sym, ap, ◌∙◌}
+use Rattle.std.specs.Prelude.{IsTrue, not}
+use Rattle.insn_codec.specs.declared.insn.AluOp.{AluOp}
+use Rattle.insn_codec.specs.declared.insn.AluOp.TheVariants as op
+use Rattle.insn_codec.specs.declared.insn.ByteOrder.TheVariants.{Little, Big, Swap}
+use Rattle.insn_codec.specs.declared.insn.Condition.{Condition}
+use Rattle.insn_codec.specs.declared.insn.Condition.TheVariants as conditions
+use Rattle.insn_codec.specs.declared.insn.Size.{Size}
+use Rattle.insn_codec.specs.declared.insn.Size.TheVariants as size
+use Rattle.insn_codec.specs.declared.insn.Operand.{Operand}
+use Rattle.insn_codec.specs.declared.insn.Operand.TheVariants as operand
+use Rattle.insn_codec.specs.declared.insn.Insn.{Insn}
+use Rattle.insn_codec.specs.declared.insn.Insn.TheVariants.{Alu, Movsx, Neg, End, Ja, Jal, Jump, Call, Exit, Load, Store, Const, MapFd}
+use Rattle.insn_codec.specs.declared.opcode.Source.{Source}
+use Rattle.insn_codec.specs.declared.opcode.Source.TheVariants as source
+use Rattle.insn_codec.specs.declared.opcode.AluCode.{AluCode}
+use Rattle.insn_codec.specs.declared.opcode.AluCode.TheVariants as code
+use Rattle.insn_codec.specs.declared.opcode.LoadKind.{LoadKind}
+use Rattle.insn_codec.specs.declared.opcode.LoadKind.TheVariants as load
+use Rattle.insn_codec.specs.declared.form.Form.{Form}
+use Rattle.insn_codec.specs.declared.form.Form.TheVariants as form
+use Rattle.insn_codec.specs.Sizes.{is_double}
+use Rattle.insn_codec.specs.Numbers.{alu_number, load_mode, memory_opcode, source_number, code_number, load_opcode, opcode_of}
+use Rattle.insn_codec.specs.Form.{form_at}
+use Rattle.insn_codec.specs.Spelling.{first, source_bit}
+
+-- ---- the form of an instruction
+
+abbrev pub code_of : AluOp → AluCode
+code_of op.Add = code.Add
+code_of op.Sub = code.Sub
+code_of op.Mul = code.Mul
+code_of op.Div = code.Div
+code_of op.SignedDiv = code.Div
+code_of op.Or = code.Or
+code_of op.And = code.And
+code_of op.ShiftLeft = code.ShiftLeft
+code_of op.ShiftRight = code.ShiftRight
+code_of op.Mod = code.Mod
+code_of op.SignedMod = code.Mod
+code_of op.Xor = code.Xor
+code_of op.Mov = code.Mov
+code_of op.SignedShiftRight = code.SignedShiftRight
+
+abbrev pub source_of : Operand → Source
+source_of (operand.Imm n) = source.Imm
+source_of (operand.Reg r) = source.Reg
+
+abbrev pub kind_of : Size → Bool → LoadKind
+kind_of size.Word false = load.Word
+kind_of size.Half false = load.Half
+kind_of size.Byte false = load.Byte
+kind_of size.Double signed = load.Double
+kind_of size.Word true = load.SignedWord
+kind_of size.Half true = load.SignedHalf
+kind_of size.Byte true = load.SignedByte
+
+abbrev pub form_of : Insn → Form
+form_of (Alu wide o dst src) = form.Alu wide (code_of o) (source_of src)
+form_of (Movsx m) = form.Alu m.wide code.Mov source.Reg
+form_of (Neg wide dst) = form.Neg wide
+form_of (End how width dst) = form.End how
+form_of (Ja off) = form.Ja
+form_of (Jal off) = form.Jal
+form_of (Jump wide condition dst src off) = form.Jump wide condition (source_of src)
+form_of (Call id) = form.Call
+form_of Exit = form.Exit
+form_of (Load l) = form.Load (kind_of l.size l.signed)
+form_of (Store s dst src off) = form.Store s (source_of src)
+form_of (Const dst value) = form.Wide
+form_of (MapFd dst fd) = form.Wide
+
+-- ---- the form of an opcode
+
+pub form_at-alu : (wide : Bool) (c : AluCode) (s : Source) → form_at (opcode_of (form.Alu wide c s)) ≡ Some (form.Alu wide c s)
+unfolding form_at
+form_at-alu true code.Add source.Imm = refl
+form_at-alu true code.Add source.Reg = refl
+form_at-alu true code.Sub source.Imm = refl
+form_at-alu true code.Sub source.Reg = refl
+form_at-alu true code.Mul source.Imm = refl
+form_at-alu true code.Mul source.Reg = refl
+form_at-alu true code.Div source.Imm = refl
+form_at-alu true code.Div source.Reg = refl
+form_at-alu true code.Or source.Imm = refl
+form_at-alu true code.Or source.Reg = refl
+form_at-alu true code.And source.Imm = refl
+form_at-alu true code.And source.Reg = refl
+form_at-alu true code.ShiftLeft source.Imm = refl
+form_at-alu true code.ShiftLeft source.Reg = refl
+form_at-alu true code.ShiftRight source.Imm = refl
+form_at-alu true code.ShiftRight source.Reg = refl
+form_at-alu true code.Mod source.Imm = refl
+form_at-alu true code.Mod source.Reg = refl
+form_at-alu true code.Xor source.Imm = refl
+form_at-alu true code.Xor source.Reg = refl
+form_at-alu true code.Mov source.Imm = refl
+form_at-alu true code.Mov source.Reg = refl
+form_at-alu true code.SignedShiftRight source.Imm = refl
+form_at-alu true code.SignedShiftRight source.Reg = refl
+form_at-alu false code.Add source.Imm = refl
+form_at-alu false code.Add source.Reg = refl
+form_at-alu false code.Sub source.Imm = refl
+form_at-alu false code.Sub source.Reg = refl
+form_at-alu false code.Mul source.Imm = refl
+form_at-alu false code.Mul source.Reg = refl
+form_at-alu false code.Div source.Imm = refl
+form_at-alu false code.Div source.Reg = refl
+form_at-alu false code.Or source.Imm = refl
+form_at-alu false code.Or source.Reg = refl
+form_at-alu false code.And source.Imm = refl
+form_at-alu false code.And source.Reg = refl
+form_at-alu false code.ShiftLeft source.Imm = refl
+form_at-alu false code.ShiftLeft source.Reg = refl
+form_at-alu false code.ShiftRight source.Imm = refl
+form_at-alu false code.ShiftRight source.Reg = refl
+form_at-alu false code.Mod source.Imm = refl
+form_at-alu false code.Mod source.Reg = refl
+form_at-alu false code.Xor source.Imm = refl
+form_at-alu false code.Xor source.Reg = refl
+form_at-alu false code.Mov source.Imm = refl
+form_at-alu false code.Mov source.Reg = refl
+form_at-alu false code.SignedShiftRight source.Imm = refl
+form_at-alu false code.SignedShiftRight source.Reg = refl
+
+pub form_at-jump : (wide : Bool) (c : Condition) (s : Source) → form_at (opcode_of (form.Jump wide c s)) ≡ Some (form.Jump wide c s)
+unfolding form_at
+form_at-jump true conditions.Equal source.Imm = refl
+form_at-jump true conditions.Equal source.Reg = refl
+form_at-jump true conditions.Above source.Imm = refl
+form_at-jump true conditions.Above source.Reg = refl
+form_at-jump true conditions.AboveOrEqual source.Imm = refl
+form_at-jump true conditions.AboveOrEqual source.Reg = refl
+form_at-jump true conditions.CommonBit source.Imm = refl
+form_at-jump true conditions.CommonBit source.Reg = refl
+form_at-jump true conditions.NotEqual source.Imm = refl
+form_at-jump true conditions.NotEqual source.Reg = refl
+form_at-jump true conditions.SignedAbove source.Imm = refl
+form_at-jump true conditions.SignedAbove source.Reg = refl
+form_at-jump true conditions.SignedAboveOrEqual source.Imm = refl
+form_at-jump true conditions.SignedAboveOrEqual source.Reg = refl
+form_at-jump true conditions.Below source.Imm = refl
+form_at-jump true conditions.Below source.Reg = refl
+form_at-jump true conditions.BelowOrEqual source.Imm = refl
+form_at-jump true conditions.BelowOrEqual source.Reg = refl
+form_at-jump true conditions.SignedBelow source.Imm = refl
+form_at-jump true conditions.SignedBelow source.Reg = refl
+form_at-jump true conditions.SignedBelowOrEqual source.Imm = refl
+form_at-jump true conditions.SignedBelowOrEqual source.Reg = refl
+form_at-jump false conditions.Equal source.Imm = refl
+form_at-jump false conditions.Equal source.Reg = refl
+form_at-jump false conditions.Above source.Imm = refl
+form_at-jump false conditions.Above source.Reg = refl
+form_at-jump false conditions.AboveOrEqual source.Imm = refl
+form_at-jump false conditions.AboveOrEqual source.Reg = refl
+form_at-jump false conditions.CommonBit source.Imm = refl
+form_at-jump false conditions.CommonBit source.Reg = refl
+form_at-jump false conditions.NotEqual source.Imm = refl
+form_at-jump false conditions.NotEqual source.Reg = refl
+form_at-jump false conditions.SignedAbove source.Imm = refl
+form_at-jump false conditions.SignedAbove source.Reg = refl
+form_at-jump false conditions.SignedAboveOrEqual source.Imm = refl
+form_at-jump false conditions.SignedAboveOrEqual source.Reg = refl
+form_at-jump false conditions.Below source.Imm = refl
+form_at-jump false conditions.Below source.Reg = refl
+form_at-jump false conditions.BelowOrEqual source.Imm = refl
+form_at-jump false conditions.BelowOrEqual source.Reg = refl
+form_at-jump false conditions.SignedBelow source.Imm = refl
+form_at-jump false conditions.SignedBelow source.Reg = refl
+form_at-jump false conditions.SignedBelowOrEqual source.Imm = refl
+form_at-jump false conditions.SignedBelowOrEqual source.Reg = refl
+
+pub form_at-store : (z : Size) (s : Source) → form_at (opcode_of (form.Store z s)) ≡ Some (form.Store z s)
+unfolding form_at
+form_at-store size.Word source.Imm = refl
+form_at-store size.Word source.Reg = refl
+form_at-store size.Half source.Imm = refl
+form_at-store size.Half source.Reg = refl
+form_at-store size.Byte source.Imm = refl
+form_at-store size.Byte source.Reg = refl
+form_at-store size.Double source.Imm = refl
+form_at-store size.Double source.Reg = refl
+
+pub form_at-opcode_of : (f : Form) → form_at (opcode_of f) ≡ Some f
+unfolding form_at
+form_at-opcode_of (form.Alu wide c s) = form_at-alu wide c s
+form_at-opcode_of (form.Neg true) = refl
+form_at-opcode_of (form.Neg false) = refl
+form_at-opcode_of (form.End Little) = refl
+form_at-opcode_of (form.End Big) = refl
+form_at-opcode_of (form.End Swap) = refl
+form_at-opcode_of form.Ja = refl
+form_at-opcode_of form.Jal = refl
+form_at-opcode_of (form.Jump wide c s) = form_at-jump wide c s
+form_at-opcode_of form.Call = refl
+form_at-opcode_of form.Exit = refl
+form_at-opcode_of (form.Load load.Word) = refl
+form_at-opcode_of (form.Load load.Half) = refl
+form_at-opcode_of (form.Load load.Byte) = refl
+form_at-opcode_of (form.Load load.Double) = refl
+form_at-opcode_of (form.Load load.SignedWord) = refl
+form_at-opcode_of (form.Load load.SignedHalf) = refl
+form_at-opcode_of (form.Load load.SignedByte) = refl
+form_at-opcode_of (form.Store z s) = form_at-store z s
+form_at-opcode_of form.Wide = refl
+
+-- ---- an instruction's first slot is of its form
+
+code_number-code_of : (o : AluOp) → code_number (code_of o) ≡ alu_number o
+code_number-code_of op.Add = refl
+code_number-code_of op.Sub = refl
+code_number-code_of op.Mul = refl
+code_number-code_of op.Div = refl
+code_number-code_of op.SignedDiv = refl
+code_number-code_of op.Or = refl
+code_number-code_of op.And = refl
+code_number-code_of op.ShiftLeft = refl
+code_number-code_of op.ShiftRight = refl
+code_number-code_of op.Mod = refl
+code_number-code_of op.SignedMod = refl
+code_number-code_of op.Xor = refl
+code_number-code_of op.Mov = refl
+code_number-code_of op.SignedShiftRight = refl
+
+source_number-source_of : (o : Operand) → source_number (source_of o) ≡ source_bit o
+source_number-source_of (operand.Imm n) = refl
+source_number-source_of (operand.Reg r) = refl
+
+opcode_of-load : (z : Size) (signed : Bool) → IsTrue (not (signed && is_double z)) → load_opcode (kind_of z signed) ≡ memory_opcode (load_mode signed) z 1
+opcode_of-load size.Word true h = refl
+opcode_of-load size.Word false h = refl
+opcode_of-load size.Half true h = refl
+opcode_of-load size.Half false h = refl
+opcode_of-load size.Byte true h = refl
+opcode_of-load size.Byte false h = refl
+opcode_of-load size.Double true h = absurd cc
+opcode_of-load size.Double false h = refl
+
+opcode_of-form_of : (i : Insn) → opcode_of (form_of i) ≡ (first i).opcode
+opcode_of-form_of (Alu wide o dst src) = rw (code_number-code_of o, source_number-source_of src) refl
+opcode_of-form_of (Movsx m) = refl
+opcode_of-form_of (Neg wide dst) = refl
+opcode_of-form_of (End how width dst) = refl
+opcode_of-form_of (Ja off) = refl
+opcode_of-form_of (Jal off) = refl
+opcode_of-form_of (Jump wide condition dst src off) = rw (source_number-source_of src) refl
+opcode_of-form_of (Call id) = refl
+opcode_of-form_of Exit = refl
+opcode_of-form_of (Load l) = opcode_of-load l.size l.signed l.listed
+opcode_of-form_of (Store s dst src off) = rw (source_number-source_of src) refl
+opcode_of-form_of (Const dst value) = refl
+opcode_of-form_of (MapFd dst fd) = refl
+
+pub form_at-first : (i : Insn) → form_at (first i).opcode ≡ Some (form_of i)
+form_at-first i = ap form_at (sym (opcode_of-form_of i)) ∙ form_at-opcode_of (form_of i)

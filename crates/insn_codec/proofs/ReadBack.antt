@@ -1,0 +1,190 @@
+-- An instruction is read back from its slots.
+use Rattle.std.proofs.Common.{◌≡◌, ℕ, ◌+◌, ◌*◌, ◌/◌, ◌^◌, Bool, true, false, cond, ◌&&◌, ◌||◌, ltb, Option, Some, None, refl, ap, arith}
+use Rattle.std.specs.Prelude.{IsTrue, not, FitsSigned, ℤ, ◌==◌}
+use Rattle.std.specs.Int.{w16, w32, cast_signed}
+use Rattle.std.proofs.Props.{props}
+use Rattle.std.proofs.lemmas.Int.{to_z-of_z}
+use Rattle.insn_codec.specs.declared.slot.Slot.{Slot}
+use Rattle.insn_codec.specs.declared.insn.AluOp.{AluOp}
+use Rattle.insn_codec.specs.declared.insn.AluOp.TheVariants as op
+use Rattle.insn_codec.specs.declared.insn.Bits.{Bits}
+use Rattle.insn_codec.specs.declared.insn.Bits.TheVariants as bits
+use Rattle.insn_codec.specs.declared.insn.Narrow.{Narrow}
+use Rattle.insn_codec.specs.declared.insn.Narrow.TheVariants as narrow
+use Rattle.insn_codec.specs.declared.insn.Size.{Size}
+use Rattle.insn_codec.specs.declared.insn.Size.TheVariants as size
+use Rattle.insn_codec.specs.declared.insn.Operand.{Operand}
+use Rattle.insn_codec.specs.declared.insn.Operand.TheVariants as operand
+use Rattle.insn_codec.specs.declared.insn.Insn.{Insn}
+use Rattle.insn_codec.specs.declared.insn.Insn.TheVariants.{Alu, Movsx, Neg, End, Ja, Jal, Jump, Call, Exit, Load, Store, Const, MapFd}
+use Rattle.insn_codec.specs.declared.opcode.Source.{Source}
+use Rattle.insn_codec.specs.declared.opcode.Source.TheVariants as source
+use Rattle.insn_codec.specs.declared.opcode.AluCode.{AluCode}
+use Rattle.insn_codec.specs.declared.opcode.AluCode.TheVariants as code
+use Rattle.insn_codec.specs.declared.opcode.LoadKind.{LoadKind}
+use Rattle.insn_codec.specs.declared.opcode.LoadKind.TheVariants as load
+use Rattle.insn_codec.specs.declared.form.Form.{Form}
+use Rattle.insn_codec.specs.declared.form.Form.TheVariants as form
+use Rattle.insn_codec.specs.Sizes.{is_double, is_short}
+use Rattle.insn_codec.specs.Numbers.{opcode, alu_class, jump_class, alu_number, alu_offset, condition_number, narrow_number, bits_number, memory_opcode, offset_bits, imm_bits}
+use Rattle.insn_codec.specs.Form.{wide_at}
+use Rattle.insn_codec.specs.Slot.{slot}
+use Rattle.insn_codec.specs.Spelling.{first, source_bit, src_field, imm_field, IsOperand, IsInsn}
+use Rattle.insn_codec.specs.declared.opcode.WideKind.{WideKind}
+use Rattle.insn_codec.specs.declared.opcode.WideKind.TheVariants.{Number, Map}
+use Rattle.insn_codec.proofs.Opcodes.{code_of, source_of, kind_of, form_of}
+
+-- ---- reading back
+
+abbrev pub op_at : AluCode → ℕ → AluOp
+op_at code.Add offset = op.Add
+op_at code.Sub offset = op.Sub
+op_at code.Mul offset = op.Mul
+op_at code.Div offset = cond (offset == 0) op.Div op.SignedDiv
+op_at code.Or offset = op.Or
+op_at code.And offset = op.And
+op_at code.ShiftLeft offset = op.ShiftLeft
+op_at code.ShiftRight offset = op.ShiftRight
+op_at code.Mod offset = cond (offset == 0) op.Mod op.SignedMod
+op_at code.Xor offset = op.Xor
+op_at code.Mov offset = op.Mov
+op_at code.SignedShiftRight offset = op.SignedShiftRight
+
+abbrev pub operand_at : Source → Slot → Operand
+operand_at source.Imm s = operand.Imm (cast_signed w32 s.imm)
+operand_at source.Reg s = operand.Reg s.src
+
+abbrev pub narrow_at : ℕ → Narrow
+narrow_at offset = cond (offset == 8) narrow.Bits8 (cond (offset == 16) narrow.Bits16 narrow.Bits32)
+
+abbrev pub bits_at : ℕ → Bits
+bits_at imm = cond (imm == 16) bits.Bits16 (cond (imm == 32) bits.Bits32 bits.Bits64)
+
+abbrev pub movsx_at : Bool → Narrow → ℕ → ℕ → Insn
+movsx_at true b dst src = Movsx (record { wide = true; bits = b; dst = dst; src = src; listed = refl })
+movsx_at false narrow.Bits8 dst src = Movsx (record { wide = false; bits = narrow.Bits8; dst = dst; src = src; listed = refl })
+movsx_at false narrow.Bits16 dst src = Movsx (record { wide = false; bits = narrow.Bits16; dst = dst; src = src; listed = refl })
+movsx_at false narrow.Bits32 dst src = Exit
+
+abbrev pub load_insn : LoadKind → ℕ → ℕ → ℤ → Insn
+load_insn load.Word dst src off = Load (record { size = size.Word; signed = false; dst = dst; src = src; off = off; listed = refl })
+load_insn load.Half dst src off = Load (record { size = size.Half; signed = false; dst = dst; src = src; off = off; listed = refl })
+load_insn load.Byte dst src off = Load (record { size = size.Byte; signed = false; dst = dst; src = src; off = off; listed = refl })
+load_insn load.Double dst src off = Load (record { size = size.Double; signed = false; dst = dst; src = src; off = off; listed = refl })
+load_insn load.SignedWord dst src off = Load (record { size = size.Word; signed = true; dst = dst; src = src; off = off; listed = refl })
+load_insn load.SignedHalf dst src off = Load (record { size = size.Half; signed = true; dst = dst; src = src; off = off; listed = refl })
+load_insn load.SignedByte dst src off = Load (record { size = size.Byte; signed = true; dst = dst; src = src; off = off; listed = refl })
+
+abbrev pub wide_insn : Option WideKind → Slot → ℕ → Insn
+wide_insn None s next = Exit
+wide_insn (Some Number) s next = Const s.dst (s.imm + 2 ^ 32 * next)
+wide_insn (Some Map) s next = MapFd s.dst (cast_signed w32 s.imm)
+
+-- the instruction of a form's slot, and of the number in a second slot
+abbrev pub insn_at : Form → Slot → ℕ → Insn
+insn_at (form.Alu wide c z) s next = cond (ltb s.offset 8) (Alu wide (op_at c s.offset) s.dst (operand_at z s)) (movsx_at wide (narrow_at s.offset) s.dst s.src)
+insn_at (form.Neg wide) s next = Neg wide s.dst
+insn_at (form.End how) s next = End how (bits_at s.imm) s.dst
+insn_at form.Ja s next = Ja (cast_signed w16 s.offset)
+insn_at form.Jal s next = Jal (cast_signed w32 s.imm)
+insn_at (form.Jump wide c z) s next = Jump wide c s.dst (operand_at z s) (cast_signed w16 s.offset)
+insn_at form.Call s next = Call (cast_signed w32 s.imm)
+insn_at form.Exit s next = Exit
+insn_at (form.Load kind) s next = load_insn kind s.dst s.src (cast_signed w16 s.offset)
+insn_at (form.Store z y) s next = Store z s.dst (operand_at y s) (cast_signed w16 s.offset)
+insn_at form.Wide s next = wide_insn (wide_at s.src) s next
+
+abbrev pub next : Insn → ℕ
+next (Const dst value) = value / 2 ^ 32
+next _ = 0
+
+offset_again : (z : ℤ) → FitsSigned w16 z → cast_signed w16 (offset_bits z) ≡ z
+offset_again z h = to_z-of_z w16 z h
+
+imm_again : (z : ℤ) → FitsSigned w32 z → cast_signed w32 (imm_bits z) ≡ z
+imm_again z h = to_z-of_z w32 z h
+
+operand_again : (o : Operand) (op dst offset : ℕ) → IsOperand o → operand_at (source_of o) (slot op dst (src_field o) offset (imm_field o)) ≡ o
+operand_again (operand.Imm n) op dst offset h = ap operand.Imm (imm_again n h)
+operand_again (operand.Reg r) op dst offset h = refl
+
+op_again : (o : AluOp) → op_at (code_of o) (alu_offset o) ≡ o
+op_again op.Add = refl
+op_again op.Sub = refl
+op_again op.Mul = refl
+op_again op.Div = refl
+op_again op.SignedDiv = refl
+op_again op.Or = refl
+op_again op.And = refl
+op_again op.ShiftLeft = refl
+op_again op.ShiftRight = refl
+op_again op.Mod = refl
+op_again op.SignedMod = refl
+op_again op.Xor = refl
+op_again op.Mov = refl
+op_again op.SignedShiftRight = refl
+
+alu_offset_below : (o : AluOp) → ltb (alu_offset o) 8 ≡ true
+alu_offset_below op.Add = refl
+alu_offset_below op.Sub = refl
+alu_offset_below op.Mul = refl
+alu_offset_below op.Div = refl
+alu_offset_below op.SignedDiv = refl
+alu_offset_below op.Or = refl
+alu_offset_below op.And = refl
+alu_offset_below op.ShiftLeft = refl
+alu_offset_below op.ShiftRight = refl
+alu_offset_below op.Mod = refl
+alu_offset_below op.SignedMod = refl
+alu_offset_below op.Xor = refl
+alu_offset_below op.Mov = refl
+alu_offset_below op.SignedShiftRight = refl
+
+bits_again : (b : Bits) → bits_at (bits_number b) ≡ b
+bits_again bits.Bits16 = refl
+bits_again bits.Bits32 = refl
+bits_again bits.Bits64 = refl
+
+IsTrue-prop : (b : Bool) → IsProp (IsTrue b)
+IsTrue-prop b = hlevel props
+
+movsx_same : (wide : Bool) (b : Narrow) (dst src : ℕ) (p q : IsTrue (wide || is_short b)) → Movsx (record { wide = wide; bits = b; dst = dst; src = src; listed = p }) ≡ Movsx (record { wide = wide; bits = b; dst = dst; src = src; listed = q })
+movsx_same wide b dst src p q =
+    ap (λ (h : IsTrue (wide || is_short b)). Movsx (record { wide = wide; bits = b; dst = dst; src = src; listed = h })) (IsTrue-prop (wide || is_short b) p q)
+
+movsx_again : (wide : Bool) (b : Narrow) (dst src : ℕ) (h : IsTrue (wide || is_short b)) (other : Insn) → cond (ltb (narrow_number b) 8) other (movsx_at wide (narrow_at (narrow_number b)) dst src) ≡ Movsx (record { wide = wide; bits = b; dst = dst; src = src; listed = h })
+movsx_again true narrow.Bits8 dst src h other = movsx_same true narrow.Bits8 dst src refl h
+movsx_again true narrow.Bits16 dst src h other = movsx_same true narrow.Bits16 dst src refl h
+movsx_again true narrow.Bits32 dst src h other = movsx_same true narrow.Bits32 dst src refl h
+movsx_again false narrow.Bits8 dst src h other = movsx_same false narrow.Bits8 dst src refl h
+movsx_again false narrow.Bits16 dst src h other = movsx_same false narrow.Bits16 dst src refl h
+movsx_again false narrow.Bits32 dst src h other = absurd cc
+
+load_same : (z : Size) (signed : Bool) (dst src : ℕ) (off : ℤ) (p q : IsTrue (not (signed && is_double z))) → Load (record { size = z; signed = signed; dst = dst; src = src; off = off; listed = p }) ≡ Load (record { size = z; signed = signed; dst = dst; src = src; off = off; listed = q })
+load_same z signed dst src off p q =
+    ap (λ (h : IsTrue (not (signed && is_double z))). Load (record { size = z; signed = signed; dst = dst; src = src; off = off; listed = h })) (IsTrue-prop (not (signed && is_double z)) p q)
+
+load_again : (z : Size) (signed : Bool) (dst src : ℕ) (off : ℤ) (h : IsTrue (not (signed && is_double z))) → load_insn (kind_of z signed) dst src off ≡ Load (record { size = z; signed = signed; dst = dst; src = src; off = off; listed = h })
+load_again size.Word true dst src off h = load_same size.Word true dst src off refl h
+load_again size.Word false dst src off h = load_same size.Word false dst src off refl h
+load_again size.Half true dst src off h = load_same size.Half true dst src off refl h
+load_again size.Half false dst src off h = load_same size.Half false dst src off refl h
+load_again size.Byte true dst src off h = load_same size.Byte true dst src off refl h
+load_again size.Byte false dst src off h = load_same size.Byte false dst src off refl h
+load_again size.Double true dst src off h = absurd cc
+load_again size.Double false dst src off h = load_same size.Double false dst src off refl h
+
+pub insn_at-first : (i : Insn) → IsInsn i → insn_at (form_of i) (first i) (next i) ≡ i
+insn_at-first (Alu wide o dst src) h = rw (alu_offset_below o, op_again o, operand_again src (opcode (alu_number o) (source_bit src) (alu_class wide)) dst (alu_offset o) h.1) refl
+insn_at-first (Movsx m) h = movsx_again m.wide m.bits m.dst m.src m.listed (Alu m.wide (op_at code.Mov (narrow_number m.bits)) m.dst (operand.Reg m.src))
+insn_at-first (Neg wide dst) h = refl
+insn_at-first (End how width dst) h = rw (bits_again width) refl
+insn_at-first (Ja off) h = ap Ja (offset_again off h)
+insn_at-first (Jal off) h = ap Jal (imm_again off h)
+insn_at-first (Jump wide condition dst src off) h = rw (operand_again src (opcode (condition_number condition) (source_bit src) (jump_class wide)) dst (offset_bits off) h.1, offset_again off h.2) refl
+insn_at-first (Call id) h = ap Call (imm_again id h)
+insn_at-first Exit h = refl
+insn_at-first (Load l) h = rw (offset_again l.off h.2) (load_again l.size l.signed l.dst l.src l.off l.listed)
+insn_at-first (Store s dst src off) h = rw (operand_again src (memory_opcode 3 s (2 + source_bit src)) dst (offset_bits off) h.1, offset_again off h.2) refl
+insn_at-first (Const dst value) h = ap (Const dst) (omega arith)
+insn_at-first (MapFd dst fd) h = ap (MapFd dst) (imm_again fd h.1)

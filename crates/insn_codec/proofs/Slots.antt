@@ -1,0 +1,97 @@
+-- The fields of a slot and its eight bytes.
+use Rattle.std.proofs.Common.{◌≡◌, ℕ, ◌+◌, ◌*◌, ◌/◌, ◌%◌, ◌<◌, ◌≤◌, List, [], ◌∷◌, ◌++◌, length, get_or, take, drop, refl, sym, ap, ◌∙◌, append_assoc, arith, inl, inr}
+use Rattle.std.specs.Int.{w16, w32, from_le_bytes, to_le_bytes}
+use Rattle.std.specs.List.{flat_map}
+use Rattle.std.proofs.lemmas.Bool.{cases_lt}
+use Rattle.std.proofs.lemmas.List.{take-append-drop, length-append, length-take, get_or-drop, get_or-take, get_or_past}
+use Rattle.std.proofs.lemmas.Nat.{le_bytes_2, le_bytes_4, from_le_bytes-to_le_bytes_2, from_le_bytes-to_le_bytes_4}
+use Rattle.std.proofs.Math.Seq.{take-add}
+use Rattle.insn_codec.specs.declared.slot.Slot.{Slot}
+use Rattle.insn_codec.specs.declared.insn.Insn.{Insn}
+use Rattle.insn_codec.specs.Slot.{slot_of, slot_bytes, IsSlot}
+use Rattle.insn_codec.specs.Spelling.{slots, spelling, Begins}
+
+abbrev pub IsBytes : List ℕ → Type 0
+IsBytes bytes = (i : ℕ) → get_or bytes i 0 < 256
+
+pub IsBytes-drop : (n : ℕ) (bytes : List ℕ) → IsBytes bytes → IsBytes (drop n bytes)
+IsBytes-drop n bytes h i = rw get_or-drop (h (n + i))
+
+pub IsBytes-take : (n : ℕ) (bytes : List ℕ) → IsBytes bytes → IsBytes (take n bytes)
+IsBytes-take n bytes h i =
+    elim (cases_lt i n) [
+      | inl lt ↦ rw (get_or-take n bytes i 0 lt) (h i)
+      | inr le ↦ rw (get_or_past (take n bytes) i 0 (omega (arith, length-take n bytes))) (omega arith)
+    ]
+
+-- what was written is read
+pub slot_of-append : (s : Slot) (rest : List ℕ) → IsSlot s → slot_of (slot_bytes s ++ rest) ≡ s
+unfolding slot_of
+slot_of-append s rest h =
+    let low : (16 * s.src + s.dst) % 16 ≡ s.dst = omega arith in
+    let high : (16 * s.src + s.dst) / 16 ≡ s.src = omega arith in
+    rw (low, high, from_le_bytes-to_le_bytes_2 s.offset h.offset, from_le_bytes-to_le_bytes_4 s.imm h.imm) refl
+
+-- what was read is written
+pub slot_bytes-slot_of : (bytes : List ℕ) → IsBytes bytes → 8 ≤ length bytes → slot_bytes (slot_of bytes) ≡ take 8 bytes
+unfolding slot_of
+slot_bytes-slot_of (a ∷ b ∷ c ∷ d ∷ e ∷ f ∷ g ∷ h ∷ rest) fits long =
+    let bytes : List ℕ = a ∷ b ∷ c ∷ d ∷ e ∷ f ∷ g ∷ h ∷ rest in
+    let registers : 16 * (b / 16) + b % 16 ≡ b = omega arith in
+    let offset : to_le_bytes w16 (from_le_bytes w16 (c ∷ d ∷ [])) ≡ c ∷ d ∷ [] = le_bytes_2 (c ∷ d ∷ []) _ refl (IsBytes-take 2 (drop 2 bytes) (IsBytes-drop 2 bytes fits)) refl in
+    let imm : to_le_bytes w32 (from_le_bytes w32 (e ∷ f ∷ g ∷ h ∷ [])) ≡ e ∷ f ∷ g ∷ h ∷ [] = le_bytes_4 (e ∷ f ∷ g ∷ h ∷ []) _ refl (IsBytes-take 4 (drop 4 bytes) (IsBytes-drop 4 bytes fits)) refl in
+    ap (λ (r : ℕ). a ∷ r ∷ (to_le_bytes w16 (from_le_bytes w16 (c ∷ d ∷ [])) ++ to_le_bytes w32 (from_le_bytes w32 (e ∷ f ∷ g ∷ h ∷ [])))) registers
+    ∙ ap (λ (x : List ℕ). a ∷ b ∷ (x ++ to_le_bytes w32 (from_le_bytes w32 (e ∷ f ∷ g ∷ h ∷ [])))) offset
+    ∙ ap (λ (x : List ℕ). a ∷ b ∷ c ∷ d ∷ x) imm
+slot_bytes-slot_of _ fits long = absurd (omega arith)
+
+-- the bytes begin with one slot, or with two
+one_slot : (ss : List Slot) (bytes : List ℕ) → IsBytes bytes → 8 ≤ length bytes → ss ≡ slot_of bytes ∷ [] → take (length (flat_map slot_bytes ss)) bytes ≡ flat_map slot_bytes ss
+one_slot ss bytes fits long e = rw (e, slot_bytes-slot_of bytes fits long) refl
+
+two_slots : (ss : List Slot) (bytes : List ℕ) → IsBytes bytes → 8 ≤ length bytes → 8 ≤ length (drop 8 bytes) → ss ≡ slot_of bytes ∷ slot_of (drop 8 bytes) ∷ [] → take (length (flat_map slot_bytes ss)) bytes ≡ flat_map slot_bytes ss
+two_slots ss bytes fits long more e =
+    let first = slot_bytes-slot_of bytes fits long in
+    let second = slot_bytes-slot_of (drop 8 bytes) (IsBytes-drop 8 bytes fits) more in
+    rw e (take-add 8 8 bytes ∙ sym (ap (λ (x : List ℕ). x ++ take 8 (drop 8 bytes)) first) ∙ sym (ap (λ (x : List ℕ). slot_bytes (slot_of bytes) ++ x) second))
+
+pub begins_one : (i : Insn) (bytes : List ℕ) → IsBytes bytes → 8 ≤ length bytes → slots i ≡ slot_of bytes ∷ [] → Begins i bytes
+unfolding spelling
+begins_one i bytes fits long e = one_slot (slots i) bytes fits long e
+
+pub begins_two : (i : Insn) (bytes rest : List ℕ) → IsBytes bytes → 8 ≤ length bytes → rest ≡ drop 8 bytes → 8 ≤ length rest → slots i ≡ slot_of bytes ∷ slot_of rest ∷ [] → Begins i bytes
+unfolding spelling
+begins_two i bytes rest fits long rest-is long_rest slots-is =
+    let more : 8 ≤ length (drop 8 bytes) = rw rest-is at long_rest in
+    let e : slots i ≡ slot_of bytes ∷ slot_of (drop 8 bytes) ∷ [] = rw rest-is at slots-is in
+    two_slots (slots i) bytes fits long more e
+
+-- the other way: the bytes are the spelling and a rest
+whole_of_begins : (i : Insn) (bytes : List ℕ) → Begins i bytes → bytes ≡ spelling i ++ drop (length (spelling i)) bytes
+whole_of_begins i bytes h =
+    sym (take-append-drop (length (spelling i)) bytes) ∙ ap (λ (x : List ℕ). x ++ drop (length (spelling i)) bytes) h
+
+pub first_of_begins : (i : Insn) (s : Slot) (others : List Slot) (bytes : List ℕ) → IsSlot s → slots i ≡ s ∷ others → Begins i bytes → (slot_of bytes ≡ s) × (8 ≤ length bytes)
+unfolding spelling
+first_of_begins i s others bytes fits e h =
+    let rest = drop (length (spelling i)) bytes in
+    let spelled : spelling i ≡ slot_bytes s ++ flat_map slot_bytes others = ap (flat_map slot_bytes) e in
+    let whole : bytes ≡ slot_bytes s ++ (flat_map slot_bytes others ++ rest) = whole_of_begins i bytes h ∙ ap (λ (x : List ℕ). x ++ rest) spelled ∙ append_assoc (slot_bytes s) (flat_map slot_bytes others) rest in
+    (ap slot_of whole ∙ slot_of-append s (flat_map slot_bytes others ++ rest) fits, omega (arith, ap length whole, length-append (slot_bytes s) (flat_map slot_bytes others ++ rest)))
+
+pub second_of_begins : (i : Insn) (s t : Slot) (bytes : List ℕ) → IsSlot t → slots i ≡ s ∷ t ∷ [] → Begins i bytes → (slot_of (drop 8 bytes) ≡ t) × (8 ≤ length (drop 8 bytes))
+unfolding spelling
+second_of_begins i s t bytes fits e h =
+    let rest = drop (length (spelling i)) bytes in
+    let spelled : spelling i ≡ slot_bytes s ++ slot_bytes t = ap (flat_map slot_bytes) e in
+    let whole : bytes ≡ slot_bytes s ++ (slot_bytes t ++ rest) = whole_of_begins i bytes h ∙ ap (λ (x : List ℕ). x ++ rest) spelled ∙ append_assoc (slot_bytes s) (slot_bytes t) rest in
+    let more : drop 8 bytes ≡ slot_bytes t ++ rest = ap (drop 8) whole in
+    (ap slot_of more ∙ slot_of-append t rest fits, omega (arith, ap length more, length-append (slot_bytes t) rest))
+
+pub spelling-one : (i : Insn) (s : Slot) → slots i ≡ s ∷ [] → spelling i ≡ slot_bytes s
+unfolding spelling
+spelling-one i s e = ap (flat_map slot_bytes) e
+
+pub spelling-two : (i : Insn) (s t : Slot) → slots i ≡ s ∷ t ∷ [] → spelling i ≡ slot_bytes s ++ slot_bytes t
+unfolding spelling
+spelling-two i s t e = ap (flat_map slot_bytes) e

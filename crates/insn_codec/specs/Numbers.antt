@@ -1,0 +1,161 @@
+-- The numbers of the standard, RFC 9669, sections 3.3 (classes), 4 and 5: an opcode is a sum of three of them.
+use Rattle.std.specs.Prelude.{ℕ, ◌+◌, ◌*◌, Bool, true, false, ℤ}
+use Rattle.std.specs.Int.{w16, w32, cast_unsigned}
+use Rattle.insn_codec.specs.declared.insn.AluOp.{AluOp}
+use Rattle.insn_codec.specs.declared.insn.AluOp.TheVariants.{Add, Sub, Mul, Div, SignedDiv, Or, And, ShiftLeft, ShiftRight, Mod, SignedMod, Xor, Mov, SignedShiftRight}
+use Rattle.insn_codec.specs.declared.insn.ByteOrder.{ByteOrder}
+use Rattle.insn_codec.specs.declared.insn.ByteOrder.TheVariants.{Little, Big, Swap}
+use Rattle.insn_codec.specs.declared.insn.Bits.{Bits}
+use Rattle.insn_codec.specs.declared.insn.Bits.TheVariants as bits
+use Rattle.insn_codec.specs.declared.insn.Narrow.{Narrow}
+use Rattle.insn_codec.specs.declared.insn.Narrow.TheVariants as narrow
+use Rattle.insn_codec.specs.declared.insn.Condition.{Condition}
+use Rattle.insn_codec.specs.declared.insn.Condition.TheVariants.{Equal, Above, AboveOrEqual, CommonBit, NotEqual, SignedAbove, SignedAboveOrEqual, Below, BelowOrEqual, SignedBelow, SignedBelowOrEqual}
+use Rattle.insn_codec.specs.declared.insn.Size.{Size}
+use Rattle.insn_codec.specs.declared.insn.Size.TheVariants as size
+use Rattle.insn_codec.specs.declared.opcode.AluCode.{AluCode}
+use Rattle.insn_codec.specs.declared.opcode.AluCode.TheVariants as code
+use Rattle.insn_codec.specs.declared.opcode.Source.{Source}
+use Rattle.insn_codec.specs.declared.opcode.Source.TheVariants as source
+use Rattle.insn_codec.specs.declared.opcode.LoadKind.{LoadKind}
+use Rattle.insn_codec.specs.declared.opcode.LoadKind.TheVariants as load
+use Rattle.insn_codec.specs.declared.form.Form.{Form}
+use Rattle.insn_codec.specs.declared.form.Form.TheVariants as form
+
+-- arithmetic and jumps, section 4: four bits of code, one of source, three of class
+abbrev pub opcode : ℕ → ℕ → ℕ → ℕ
+opcode code source class = 16 * code + 8 * source + class
+
+-- section 3.3: ALU64 or ALU
+abbrev pub alu_class : Bool → ℕ
+alu_class true = 7
+alu_class false = 4
+
+-- section 3.3: JMP or JMP32
+abbrev pub jump_class : Bool → ℕ
+jump_class true = 5
+jump_class false = 6
+
+-- section 4.1, the table of codes
+abbrev pub alu_number : AluOp → ℕ
+alu_number Add = 0
+alu_number Sub = 1
+alu_number Mul = 2
+alu_number Div = 3
+alu_number SignedDiv = 3
+alu_number Or = 4
+alu_number And = 5
+alu_number ShiftLeft = 6
+alu_number ShiftRight = 7
+alu_number Mod = 9
+alu_number SignedMod = 9
+alu_number Xor = 10
+alu_number Mov = 11
+alu_number SignedShiftRight = 12
+
+-- section 4.1: division and remainder are signed at offset 1
+abbrev pub alu_offset : AluOp → ℕ
+alu_offset SignedDiv = 1
+alu_offset SignedMod = 1
+alu_offset _ = 0
+
+-- section 4.3, the table of codes
+abbrev pub condition_number : Condition → ℕ
+condition_number Equal = 1
+condition_number Above = 2
+condition_number AboveOrEqual = 3
+condition_number CommonBit = 4
+condition_number NotEqual = 5
+condition_number SignedAbove = 6
+condition_number SignedAboveOrEqual = 7
+condition_number Below = 10
+condition_number BelowOrEqual = 11
+condition_number SignedBelow = 12
+condition_number SignedBelowOrEqual = 13
+
+-- section 5, the sizes
+abbrev pub size_number : Size → ℕ
+size_number size.Word = 0
+size_number size.Half = 1
+size_number size.Byte = 2
+size_number size.Double = 3
+
+-- section 4.1: the offset of a move with sign extension
+abbrev pub narrow_number : Narrow → ℕ
+narrow_number narrow.Bits8 = 8
+narrow_number narrow.Bits16 = 16
+narrow_number narrow.Bits32 = 32
+
+-- section 4.2: the immediate of a byte-order change
+abbrev pub bits_number : Bits → ℕ
+bits_number bits.Bits16 = 16
+bits_number bits.Bits32 = 32
+bits_number bits.Bits64 = 64
+
+-- section 4.2: class ALU with source 0 or 1, and class ALU64
+abbrev pub end_opcode : ByteOrder → ℕ
+end_opcode Little = opcode 13 0 4
+end_opcode Big = opcode 13 1 4
+end_opcode Swap = opcode 13 0 7
+
+-- section 5: the modes MEM and MEMSX
+abbrev pub load_mode : Bool → ℕ
+load_mode false = 3
+load_mode true = 4
+
+-- loads and stores, section 5: three bits of mode, two of size, three of class
+abbrev pub memory_opcode : ℕ → Size → ℕ → ℕ
+memory_opcode mode s class = 32 * mode + 8 * size_number s + class
+
+-- section 3.1: a signed field's bits
+abbrev pub offset_bits : ℤ → ℕ
+offset_bits z = cast_unsigned w16 z
+
+abbrev pub imm_bits : ℤ → ℕ
+imm_bits z = cast_unsigned w32 z
+
+-- ---- the same numbers by the parts of an opcode
+
+-- section 4.1
+abbrev pub code_number : AluCode → ℕ
+code_number code.Add = 0
+code_number code.Sub = 1
+code_number code.Mul = 2
+code_number code.Div = 3
+code_number code.Or = 4
+code_number code.And = 5
+code_number code.ShiftLeft = 6
+code_number code.ShiftRight = 7
+code_number code.Mod = 9
+code_number code.Xor = 10
+code_number code.Mov = 11
+code_number code.SignedShiftRight = 12
+
+-- section 4: the source bit
+abbrev pub source_number : Source → ℕ
+source_number source.Imm = 0
+source_number source.Reg = 1
+
+-- sections 5.1 and 5.2
+abbrev pub load_opcode : LoadKind → ℕ
+load_opcode load.Word = 0x61
+load_opcode load.Half = 0x69
+load_opcode load.Byte = 0x71
+load_opcode load.Double = 0x79
+load_opcode load.SignedWord = 0x81
+load_opcode load.SignedHalf = 0x89
+load_opcode load.SignedByte = 0x91
+
+-- the opcode of each form
+abbrev pub opcode_of : Form → ℕ
+opcode_of (form.Alu wide c s) = opcode (code_number c) (source_number s) (alu_class wide)
+opcode_of (form.Neg wide) = opcode 8 0 (alu_class wide)
+opcode_of (form.End how) = end_opcode how
+opcode_of form.Ja = opcode 0 0 5
+opcode_of form.Jal = opcode 0 0 6
+opcode_of (form.Jump wide cond s) = opcode (condition_number cond) (source_number s) (jump_class wide)
+opcode_of form.Call = opcode 8 0 5
+opcode_of form.Exit = opcode 9 0 5
+opcode_of (form.Load kind) = load_opcode kind
+opcode_of (form.Store z s) = memory_opcode 3 z (2 + source_number s)
+opcode_of form.Wide = 0x18

@@ -1,0 +1,85 @@
+-- What bytes spell an instruction: its one or two slots, RFC 9669, sections 3.1 and 3.2.
+use Rattle.std.specs.Prelude.{◌≡◌, ◌==◌, Bool, ℕ, ◌+◌, ◌/◌, ◌%◌, ◌^◌, ◌<◌, ◌≤◌, List, [], ◌∷◌, length, take, FitsSigned}
+use Rattle.std.specs.List.{flat_map}
+use Rattle.std.specs.Int.{w16, w32}
+use Rattle.insn_codec.specs.declared.slot.Slot.{Slot}
+use Rattle.insn_codec.specs.declared.insn.Operand.{Operand}
+use Rattle.insn_codec.specs.declared.insn.Operand.TheVariants.{Imm, Reg}
+use Rattle.insn_codec.specs.declared.insn.Insn.{Insn}
+use Rattle.insn_codec.specs.declared.insn.Insn.TheVariants.{Alu, Movsx, Neg, End, Ja, Jal, Jump, Call, Exit, Load, Store, Const, MapFd}
+use Rattle.insn_codec.specs.Slot.{slot, slot_bytes}
+use Rattle.insn_codec.specs.Numbers.{opcode, alu_class, jump_class, alu_number, alu_offset, condition_number, narrow_number, bits_number, end_opcode, load_mode, memory_opcode, offset_bits, imm_bits}
+
+-- ---- the second operand, section 4: the source bit, and the field that it selects
+
+abbrev pub source_bit : Operand → ℕ
+source_bit (Imm n) = 0
+source_bit (Reg r) = 1
+
+abbrev pub src_field : Operand → ℕ
+src_field (Imm n) = 0
+src_field (Reg r) = r
+
+abbrev pub imm_field : Operand → ℕ
+imm_field (Imm n) = imm_bits n
+imm_field (Reg r) = 0
+
+-- ---- the grammar: one case for each form, section 4 (arithmetic, jumps) and section 5 (loads, stores)
+
+-- the first slot
+abbrev pub first : Insn → Slot
+first (Alu wide op dst src) = slot (opcode (alu_number op) (source_bit src) (alu_class wide)) dst (src_field src) (alu_offset op) (imm_field src)
+first (Movsx m) = slot (opcode 11 1 (alu_class m.wide)) m.dst m.src (narrow_number m.bits) 0
+first (Neg wide dst) = slot (opcode 8 0 (alu_class wide)) dst 0 0 0
+first (End how width dst) = slot (end_opcode how) dst 0 0 (bits_number width)
+first (Ja off) = slot (opcode 0 0 5) 0 0 (offset_bits off) 0
+first (Jal off) = slot (opcode 0 0 6) 0 0 0 (imm_bits off)
+first (Jump wide cond dst src off) = slot (opcode (condition_number cond) (source_bit src) (jump_class wide)) dst (src_field src) (offset_bits off) (imm_field src)
+first (Call id) = slot (opcode 8 0 5) 0 0 0 (imm_bits id)
+first Exit = slot (opcode 9 0 5) 0 0 0 0
+first (Load l) = slot (memory_opcode (load_mode l.signed) l.size 1) l.dst l.src (offset_bits l.off) 0
+first (Store s dst src off) = slot (memory_opcode 3 s (2 + source_bit src)) dst (src_field src) (offset_bits off) (imm_field src)
+first (Const dst value) = slot 0x18 dst 0 0 (value % 2 ^ 32)
+first (MapFd dst fd) = slot 0x18 dst 1 0 (imm_bits fd)
+
+-- the second slot, which wide loads alone have: section 5.4
+abbrev pub second : Insn → List Slot
+second (Const dst value) = slot 0 0 0 0 (value / 2 ^ 32) ∷ []
+second (MapFd dst fd) = slot 0 0 0 0 0 ∷ []
+second _ = []
+
+abbrev pub slots : Insn → List Slot
+slots i = first i ∷ second i
+
+-- its bytes
+unfoldable pub spelling : Insn → List ℕ
+spelling i = flat_map slot_bytes (slots i)
+
+-- it takes two slots: section 3.2
+abbrev pub is_wide : Insn → Bool
+is_wide i = length (slots i) == 2
+
+-- ---- the values of the type: numbers in the ranges of their fields, section 3.1
+
+abbrev pub IsOperand : Operand → Type 0
+IsOperand (Imm n) = FitsSigned w32 n
+IsOperand (Reg r) = r ≤ 10
+
+abbrev pub IsInsn : Insn → Type 0
+IsInsn (Alu wide op dst src) = (dst ≤ 10) × IsOperand src
+IsInsn (Movsx m) = (m.dst ≤ 10) × (m.src ≤ 10)
+IsInsn (Neg wide dst) = dst ≤ 10
+IsInsn (End how width dst) = dst ≤ 10
+IsInsn (Ja off) = FitsSigned w16 off
+IsInsn (Jal off) = FitsSigned w32 off
+IsInsn (Jump wide cond dst src off) = (dst ≤ 10) × IsOperand src × FitsSigned w16 off
+IsInsn (Call id) = FitsSigned w32 id
+IsInsn Exit = Unit {0}
+IsInsn (Load l) = (l.dst ≤ 10) × (l.src ≤ 10) × FitsSigned w16 l.off
+IsInsn (Store s dst src off) = (dst ≤ 10) × IsOperand src × FitsSigned w16 off
+IsInsn (Const dst value) = (dst ≤ 10) × (value < 2 ^ 64)
+IsInsn (MapFd dst fd) = (dst ≤ 10) × FitsSigned w32 fd
+
+-- the bytes begin with the spelling
+abbrev pub Begins : Insn → List ℕ → Type 0
+Begins i bytes = take (length (spelling i)) bytes ≡ spelling i

@@ -1,0 +1,298 @@
+//! Instructions, as RFC 9669 defines them: the groups base32, base64, divmul32 and divmul64.
+//!
+//! `wide` tells the two widths apart: 64 bits, or 32 bits where it is false (RFC 9669, section 3.3).
+
+ghost use Rattle.std.specs.Prelude.{◌≡◌, ◌≤◌, ◌<◌, ◌^◌, ℕ, IsTrue, not, ◌&&◌, ◌||◌};
+ghost use Rattle.insn_codec.specs.Sizes.{is_double, is_short};
+
+use std::marker::Model;
+
+/// A register, by its number: 0 to 10 (RFC 9669, section 2).
+/// Register 10 is the frame pointer. Contracts see the number.
+#[derive(Clone, Copy, Debug, PartialEq, Eq)]
+pub struct Reg {
+    number: u8,
+}
+
+impl Model for Reg {
+    ghost Value = { ℕ };
+
+    ghost view = { λ r. r.number };
+
+    ghost invariant = { λ r. r.number ≤ 10 };
+
+    ghost inverse = { λ n. record { number = n } };
+}
+
+impl Reg {
+    /// The register with this number.
+    pub fn new(number: u8) -> Reg
+        requires { number ≤ 10 }
+        ensures { result ≡ number }
+    {
+        Reg { number }
+    }
+
+    /// Its number.
+    pub fn number(self) -> u8
+        ensures value { result ≡ self }
+        ensures bound { result ≤ 10 }
+    {
+        self.number
+    }
+}
+
+/// The second operand of an operation, and what a store writes (RFC 9669, section 4, the source bit).
+#[derive(Clone, Copy, Debug, PartialEq, Eq)]
+pub enum Operand {
+    /// The constant in the immediate field.
+    Imm(i32),
+    /// What the source register holds.
+    Reg(Reg),
+}
+
+/// An operation on two operands (RFC 9669, section 4.1).
+#[derive(Clone, Copy, Debug, PartialEq, Eq)]
+pub enum AluOp {
+    Add,
+    Sub,
+    Mul,
+    Div,
+    SignedDiv,
+    Or,
+    And,
+    ShiftLeft,
+    ShiftRight,
+    Mod,
+    SignedMod,
+    Xor,
+    Mov,
+    SignedShiftRight,
+}
+
+/// How a byte order is changed (RFC 9669, section 4.2).
+#[derive(Clone, Copy, Debug, PartialEq, Eq)]
+pub enum ByteOrder {
+    /// To little-endian, which cuts to the width.
+    Little,
+    /// To big-endian.
+    Big,
+    /// Bytes in reverse, whatever the machine's order.
+    Swap,
+}
+
+/// The width of a byte-order change, in bits.
+#[derive(Clone, Copy, Debug, PartialEq, Eq)]
+pub enum Bits {
+    Bits16,
+    Bits32,
+    Bits64,
+}
+
+/// The width that a sign extension starts from, in bits.
+#[derive(Clone, Copy, Debug, PartialEq, Eq)]
+pub enum Narrow {
+    Bits8,
+    Bits16,
+    Bits32,
+}
+
+/// When a conditional jump is taken (RFC 9669, section 4.3).
+#[derive(Clone, Copy, Debug, PartialEq, Eq)]
+pub enum Condition {
+    Equal,
+    Above,
+    AboveOrEqual,
+    /// The operands have a bit in common.
+    CommonBit,
+    NotEqual,
+    SignedAbove,
+    SignedAboveOrEqual,
+    Below,
+    BelowOrEqual,
+    SignedBelow,
+    SignedBelowOrEqual,
+}
+
+/// How many bytes a load or a store moves (RFC 9669, section 5): a word has four.
+#[derive(Clone, Copy, Debug, PartialEq, Eq)]
+pub enum Size {
+    Word,
+    Half,
+    Byte,
+    Double,
+}
+
+/// A move with sign extension (RFC 9669, section 4.1). Only the wide one starts from 32 bits.
+///
+/// It is a struct of its own, since the variants of an enum have no ghost fields to say so. So is `Load`.
+#[derive(Clone, Copy, Debug, PartialEq, Eq)]
+pub struct Movsx {
+    pub wide: bool,
+    pub bits: Narrow,
+    pub dst: Reg,
+    pub src: Reg,
+    pub ghost listed: { IsTrue (wide || is_short bits) },
+}
+
+/// A load of what stands at `src` plus `off` (RFC 9669, sections 5.1 and 5.2). A double word has no sign extension.
+#[derive(Clone, Copy, Debug, PartialEq, Eq)]
+pub struct Load {
+    pub size: Size,
+    pub signed: bool,
+    pub dst: Reg,
+    pub src: Reg,
+    pub off: i16,
+    pub ghost listed: { IsTrue (not (signed && is_double size)) },
+}
+
+/// An instruction, of one slot or of two. Each value of the type has a spelling.
+#[derive(Clone, Copy, Debug, PartialEq, Eq)]
+pub enum Insn {
+    /// `dst = dst op src`, or `dst = src` for a move (RFC 9669, section 4.1).
+    Alu {
+        wide: bool,
+        op: AluOp,
+        dst: Reg,
+        src: Operand,
+    },
+    /// `dst` becomes the low bits of `src`, sign-extended (RFC 9669, section 4.1).
+    Movsx(Movsx),
+    /// `dst = -dst` (RFC 9669, section 4.1).
+    Neg {
+        wide: bool,
+        dst: Reg,
+    },
+    /// A change of byte order, in place (RFC 9669, section 4.2).
+    End {
+        how: ByteOrder,
+        bits: Bits,
+        dst: Reg,
+    },
+    /// A jump of class JMP: the distance counts slots from the next one (RFC 9669, section 4.3).
+    Ja {
+        off: i16,
+    },
+    /// A jump of class JMP32, whose distance has 32 bits (RFC 9669, section 4.3).
+    Jal {
+        off: i32,
+    },
+    /// A jump where the comparison of `dst` with `src` holds (RFC 9669, section 4.3).
+    Jump {
+        wide: bool,
+        cond: Condition,
+        dst: Reg,
+        src: Operand,
+        off: i16,
+    },
+    /// A call of a helper by its number (RFC 9669, section 4.3.1).
+    Call {
+        id: i32,
+    },
+    /// The end of the program (RFC 9669, section 4.3).
+    Exit,
+    /// A load from memory (RFC 9669, sections 5.1 and 5.2).
+    Load(Load),
+    /// A store of `src` at `dst` plus `off` (RFC 9669, section 5.1).
+    Store {
+        size: Size,
+        dst: Reg,
+        src: Operand,
+        off: i16,
+    },
+    /// `dst` becomes a number of 64 bits: two slots (RFC 9669, section 5.4).
+    Const {
+        dst: Reg,
+        value: u64,
+    },
+    /// `dst` becomes the map with this descriptor: two slots (RFC 9669, section 5.4.1).
+    MapFd {
+        dst: Reg,
+        fd: i32,
+    },
+}
+
+impl Insn {
+    ghost use Rattle.std.specs.Prelude.{length};
+    ghost use Rattle.insn_codec.specs.Spelling.{slots, is_wide, IsInsn};
+
+    /// Whether it takes two slots (RFC 9669, section 3.2).
+    pub fn is_wide(&self) -> bool
+        ensures { result ≡ is_wide self.now }
+    {
+        matches!(self, Insn::Const { .. } | Insn::MapFd { .. })
+    }
+
+    /// In how many slots it is spelled: one, or two for a wide instruction.
+    pub fn slots(&self) -> usize
+        ensures count { result ≡ length (slots self.now) }
+        ensures some { 1 ≤ result }
+        ensures room { result ≤ 2 }
+    {
+        if self.is_wide() { 2 } else { 1 }
+    }
+
+    /// A law: each value of the type has its numbers in the ranges of its fields. It does nothing when it runs.
+    pub fn in_range(&self)
+        ensures { IsInsn self.now }
+    {
+        match *self {
+            Insn::Alu { dst, src, .. } => {
+                let _ = (dst.number(), src.in_range());
+            }
+            Insn::Movsx(Movsx { dst, src, .. }) => {
+                let _ = (dst.number(), src.number());
+            }
+            Insn::Neg { dst, .. } => {
+                let _ = dst.number();
+            }
+            Insn::End { dst, .. } => {
+                let _ = dst.number();
+            }
+            Insn::Ja { off } => {
+                let _ = off;
+            }
+            Insn::Jal { off } => {
+                let _ = off;
+            }
+            Insn::Jump { dst, src, off, .. } => {
+                let _ = (dst.number(), src.in_range(), off);
+            }
+            Insn::Call { id } => {
+                let _ = id;
+            }
+            Insn::Exit => {}
+            Insn::Load(Load { dst, src, off, .. }) => {
+                let _ = (dst.number(), src.number(), off);
+            }
+            Insn::Store { dst, src, off, .. } => {
+                let _ = (dst.number(), src.in_range(), off);
+            }
+            Insn::Const { dst, value } => {
+                word_in_range(value);
+                let _ = dst.number();
+            }
+            Insn::MapFd { dst, fd } => {
+                let _ = (dst.number(), fd);
+            }
+        }
+    }
+}
+
+fn word_in_range(value: u64)
+    ensures { value < 2 ^ 64 }
+{
+    let _ = value;
+}
+
+impl Operand {
+    ghost use Rattle.insn_codec.specs.Spelling.{IsOperand};
+
+    fn in_range(self)
+        ensures { IsOperand self }
+    {
+        if let Operand::Reg(reg) = self {
+            let _ = reg.number();
+        }
+    }
+}

@@ -1,0 +1,242 @@
+//! The parts of an opcode, and the tables of their numbers.
+
+ghost use Rattle.std.specs.Prelude.{◌≡◌, ◌<◌, ◌≤◌, IfSome, IsTrue, not, ◌&&◌, false};
+
+use crate::insn::{AluOp, Condition, Insn, Operand, Reg, Size};
+use crate::slot::Slot;
+
+/// Where the second operand is: the source bit (RFC 9669, section 4).
+#[derive(Clone, Copy, Debug, PartialEq, Eq)]
+pub enum Source {
+    Imm,
+    Reg,
+}
+
+/// The code of an operation (RFC 9669, section 4.1).
+/// Division and remainder have two operations each, which the offset tells apart.
+#[derive(Clone, Copy, Debug, PartialEq, Eq)]
+pub enum AluCode {
+    Add,
+    Sub,
+    Mul,
+    Div,
+    Or,
+    And,
+    ShiftLeft,
+    ShiftRight,
+    Mod,
+    Xor,
+    Mov,
+    SignedShiftRight,
+}
+
+/// What is loaded, and how (RFC 9669, sections 5.1 and 5.2).
+#[derive(Clone, Copy, Debug, PartialEq, Eq)]
+pub enum LoadKind {
+    Word,
+    Half,
+    Byte,
+    Double,
+    SignedWord,
+    SignedHalf,
+    SignedByte,
+}
+
+/// What the immediates of a wide load are, by its source field (RFC 9669, section 5.4).
+#[derive(Clone, Copy, Debug, PartialEq, Eq)]
+pub enum WideKind {
+    /// The two halves of a number.
+    Number,
+    /// The descriptor of a map.
+    Map,
+}
+
+impl AluCode {
+    ghost use Rattle.insn_codec.specs.declared.opcode.Source.TheVariants as source_variant;
+    ghost use Rattle.insn_codec.specs.Form.{alu_code_at, offset_listed};
+    ghost use Rattle.insn_codec.specs.Numbers.{alu_number, alu_offset, code_number};
+
+    /// The operation with this code.
+    pub fn of(code: u8) -> Option<AluCode>
+        ensures value { result ≡ alu_code_at code }
+        ensures number { IfSome result (λ c. code_number c ≡ code) }
+    {
+        match code {
+            0 => Some(AluCode::Add),
+            1 => Some(AluCode::Sub),
+            2 => Some(AluCode::Mul),
+            3 => Some(AluCode::Div),
+            4 => Some(AluCode::Or),
+            5 => Some(AluCode::And),
+            6 => Some(AluCode::ShiftLeft),
+            7 => Some(AluCode::ShiftRight),
+            9 => Some(AluCode::Mod),
+            10 => Some(AluCode::Xor),
+            11 => Some(AluCode::Mov),
+            12 => Some(AluCode::SignedShiftRight),
+            _ => None,
+        }
+    }
+
+    /// Whether the operation has this offset.
+    pub fn lists_offset(self, wide: bool, source: Source, offset: u16) -> bool
+        ensures { result ≡ offset_listed wide self source offset }
+    {
+        match (self, source) {
+            (AluCode::Div, _) | (AluCode::Mod, _) => offset <= 1,
+            (AluCode::Mov, Source::Reg) => {
+                offset == 0 || offset == 8 || offset == 16 || (wide && offset == 32)
+            }
+            _ => offset == 0,
+        }
+    }
+
+    /// The operation of a code at an offset that it lists.
+    pub fn operation(self, offset: u16) -> AluOp
+        requires { IsTrue (offset_listed false self source_variant.Imm offset) }
+        ensures number { alu_number result ≡ code_number self }
+        ensures offset { alu_offset result ≡ offset }
+    {
+        match self {
+            AluCode::Add => AluOp::Add,
+            AluCode::Sub => AluOp::Sub,
+            AluCode::Mul => AluOp::Mul,
+            AluCode::Div if offset == 0 => AluOp::Div,
+            AluCode::Div => AluOp::SignedDiv,
+            AluCode::Or => AluOp::Or,
+            AluCode::And => AluOp::And,
+            AluCode::ShiftLeft => AluOp::ShiftLeft,
+            AluCode::ShiftRight => AluOp::ShiftRight,
+            AluCode::Mod if offset == 0 => AluOp::Mod,
+            AluCode::Mod => AluOp::SignedMod,
+            AluCode::Xor => AluOp::Xor,
+            AluCode::Mov => AluOp::Mov,
+            AluCode::SignedShiftRight => AluOp::SignedShiftRight,
+        }
+    }
+}
+
+impl Source {
+    ghost use Rattle.insn_codec.specs.Form.{one_operand};
+    ghost use Rattle.insn_codec.specs.Numbers.{source_number};
+    ghost use Rattle.insn_codec.specs.Spelling.{source_bit, src_field, imm_field, IsOperand};
+
+    /// Whether the operand that is not used is zero.
+    pub fn lists_operand(self, slot: Slot) -> bool
+        ensures { result ≡ one_operand self slot }
+    {
+        match self {
+            Source::Imm => slot.src == 0,
+            Source::Reg => slot.imm == 0,
+        }
+    }
+
+    /// The operand that a slot has.
+    pub fn operand(self, slot: Slot, src: Reg) -> Operand
+        requires listed { IsTrue (one_operand self slot) }
+        requires src { slot.src ≡ src }
+        requires bound { src ≤ 10 }
+        ensures source { source_bit result ≡ source_number self }
+        ensures src { src_field result ≡ slot.src }
+        ensures imm { imm_field result ≡ slot.imm }
+        ensures value { IsOperand result }
+    {
+        match self {
+            Source::Imm => Operand::Imm(slot.imm.cast_signed()),
+            Source::Reg => Operand::Reg(src),
+        }
+    }
+}
+
+impl Condition {
+    ghost use Rattle.insn_codec.specs.Form.{condition_at};
+    ghost use Rattle.insn_codec.specs.Numbers.{condition_number};
+
+    /// The condition with this code.
+    pub(crate) fn of(code: u8) -> Option<Condition>
+        ensures value { result ≡ condition_at code }
+        ensures number { IfSome result (λ c. condition_number c ≡ code) }
+    {
+        match code {
+            1 => Some(Condition::Equal),
+            2 => Some(Condition::Above),
+            3 => Some(Condition::AboveOrEqual),
+            4 => Some(Condition::CommonBit),
+            5 => Some(Condition::NotEqual),
+            6 => Some(Condition::SignedAbove),
+            7 => Some(Condition::SignedAboveOrEqual),
+            10 => Some(Condition::Below),
+            11 => Some(Condition::BelowOrEqual),
+            12 => Some(Condition::SignedBelow),
+            13 => Some(Condition::SignedBelowOrEqual),
+            _ => None,
+        }
+    }
+}
+
+impl Size {
+    ghost use Rattle.insn_codec.specs.Form.{size_at};
+    ghost use Rattle.insn_codec.specs.Numbers.{size_number};
+
+    /// The size with this code.
+    pub(crate) fn of(code: u8) -> Size
+        requires { code < 4 }
+        ensures value { result ≡ size_at code }
+        ensures number { size_number result ≡ code }
+    {
+        match code {
+            0 => Size::Word,
+            1 => Size::Half,
+            2 => Size::Byte,
+            _ => Size::Double,
+        }
+    }
+}
+
+impl LoadKind {
+    ghost use Rattle.insn_codec.specs.Numbers.{load_opcode, load_mode, memory_opcode};
+    ghost use Rattle.insn_codec.specs.Sizes.{is_double};
+
+    /// How many bytes are loaded, and whether with sign extension.
+    pub fn size(self) -> (Size, bool)
+        ensures opcode { load_opcode self ≡ memory_opcode (load_mode result.1) result.0 1 }
+        ensures listed { IsTrue (not (result.1 && is_double result.0)) }
+    {
+        match self {
+            LoadKind::Word => (Size::Word, false),
+            LoadKind::Half => (Size::Half, false),
+            LoadKind::Byte => (Size::Byte, false),
+            LoadKind::Double => (Size::Double, false),
+            LoadKind::SignedWord => (Size::Word, true),
+            LoadKind::SignedHalf => (Size::Half, true),
+            LoadKind::SignedByte => (Size::Byte, true),
+        }
+    }
+}
+
+impl WideKind {
+    ghost use Rattle.insn_codec.specs.Form.{wide_at};
+    ghost use Rattle.insn_codec.specs.Fault.{is_second};
+
+    /// The kind that the source field of the first slot names.
+    pub fn of(src: u8) -> Option<WideKind>
+        ensures { result ≡ wide_at src }
+    {
+        match src {
+            0 => Some(WideKind::Number),
+            1 => Some(WideKind::Map),
+            _ => None,
+        }
+    }
+
+    /// Whether a slot is a second slot of this kind: all zero, except for a number that the kind uses.
+    pub fn lists_second(self, next: Slot) -> bool
+        ensures { result ≡ is_second self next }
+    {
+        let number = match self {
+            WideKind::Number => true,
+            WideKind::Map => next.imm == 0,
+        };
+        next.opcode == 0 && next.dst == 0 && next.src == 0 && next.offset == 0 && number
+    }
+}

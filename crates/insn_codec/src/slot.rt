@@ -1,0 +1,52 @@
+//! Slots of eight bytes, and their fields (RFC 9669, section 3.1).
+
+ghost use Rattle.std.specs.Prelude.{◌≡◌, ◌≤◌, ◌<◌, ◌++◌, length, drop};
+
+/// The fields of a slot, as bits: no field is read as signed here. The two numbers of registers have four bits each.
+#[derive(Clone, Copy, Debug, PartialEq, Eq)]
+pub struct Slot {
+    pub opcode: u8,
+    pub dst: u8,
+    pub src: u8,
+    pub offset: u16,
+    pub imm: u32,
+}
+
+impl Slot {
+    ghost use Rattle.insn_codec.specs.Slot.{slot_of, slot_bytes, IsSlot};
+
+    /// The slot at the front of the bytes.
+    #[tactic(auto, unfolding(crate::specs::Slot::slot_of))]
+    pub fn first(bytes: &[u8]) -> Slot
+        requires { 8 ≤ length bytes.now }
+        ensures { result ≡ slot_of bytes.now }
+    {
+        Slot {
+            opcode: bytes[0],
+            dst: bytes[1] % 16,
+            src: bytes[1] / 16,
+            offset: u16::from_le_bytes([bytes[2], bytes[3]]),
+            imm: u32::from_le_bytes([bytes[4], bytes[5], bytes[6], bytes[7]]),
+        }
+    }
+
+    /// Its eight bytes.
+    pub fn bytes(self) -> [u8; 8]
+        requires dst { self.dst < 16 }
+        requires src { self.src < 16 }
+        ensures { result ≡ slot_bytes self }
+    {
+        let [offset_low, offset_high] = self.offset.to_le_bytes();
+        let [a, b, c, d] = self.imm.to_le_bytes();
+        [
+            self.opcode,
+            16 * self.src + self.dst,
+            offset_low,
+            offset_high,
+            a,
+            b,
+            c,
+            d,
+        ]
+    }
+}

@@ -1,0 +1,289 @@
+//! Instructions to bytes.
+
+ghost use Rattle.std.specs.Prelude.{◌≡◌, ◌+◌, ◌*◌, ◌≤◌, ◌<◌, ◌^◌, ◌%◌, [], ◌∷◌, ◌++◌, length, drop, IfSome};
+ghost use Rattle.std.specs.Option.{option_to_list};
+ghost use Rattle.insn_codec.specs.Slot.{slot as slot_from};
+ghost use Rattle.insn_codec.specs.Spelling.{first as first_slot, second as second_slot, spelling, source_bit, src_field, imm_field};
+ghost use Rattle.insn_codec.specs.Numbers.{opcode as opcode_from, memory_opcode, alu_class, jump_class, alu_number, alu_offset, condition_number, size_number, narrow_number, bits_number, end_opcode, load_mode};
+
+use crate::insn::{AluOp, Bits, ByteOrder, Condition, Insn, Narrow, Operand, Size};
+use crate::slot::Slot;
+
+impl AluOp {
+    fn number(self) -> u8
+        ensures value { result ≡ alu_number self }
+        ensures bound { result ≤ 12 }
+    {
+        match self {
+            AluOp::Add => 0,
+            AluOp::Sub => 1,
+            AluOp::Mul => 2,
+            AluOp::Div | AluOp::SignedDiv => 3,
+            AluOp::Or => 4,
+            AluOp::And => 5,
+            AluOp::ShiftLeft => 6,
+            AluOp::ShiftRight => 7,
+            AluOp::Mod | AluOp::SignedMod => 9,
+            AluOp::Xor => 10,
+            AluOp::Mov => 11,
+            AluOp::SignedShiftRight => 12,
+        }
+    }
+
+    fn offset(self) -> u16
+        ensures { result ≡ alu_offset self }
+    {
+        match self {
+            AluOp::SignedDiv | AluOp::SignedMod => 1,
+            _ => 0,
+        }
+    }
+}
+
+impl Condition {
+    fn number(self) -> u8
+        ensures value { result ≡ condition_number self }
+        ensures bound { result ≤ 13 }
+    {
+        match self {
+            Condition::Equal => 1,
+            Condition::Above => 2,
+            Condition::AboveOrEqual => 3,
+            Condition::CommonBit => 4,
+            Condition::NotEqual => 5,
+            Condition::SignedAbove => 6,
+            Condition::SignedAboveOrEqual => 7,
+            Condition::Below => 10,
+            Condition::BelowOrEqual => 11,
+            Condition::SignedBelow => 12,
+            Condition::SignedBelowOrEqual => 13,
+        }
+    }
+}
+
+impl Size {
+    fn number(self) -> u8
+        ensures value { result ≡ size_number self }
+        ensures bound { result ≤ 3 }
+    {
+        match self {
+            Size::Word => 0,
+            Size::Half => 1,
+            Size::Byte => 2,
+            Size::Double => 3,
+        }
+    }
+}
+
+impl Narrow {
+    fn number(self) -> u16
+        ensures { result ≡ narrow_number self }
+    {
+        match self {
+            Narrow::Bits8 => 8,
+            Narrow::Bits16 => 16,
+            Narrow::Bits32 => 32,
+        }
+    }
+}
+
+impl Bits {
+    fn number(self) -> u32
+        ensures { result ≡ bits_number self }
+    {
+        match self {
+            Bits::Bits16 => 16,
+            Bits::Bits32 => 32,
+            Bits::Bits64 => 64,
+        }
+    }
+}
+
+impl ByteOrder {
+    fn opcode(self) -> u8
+        ensures { result ≡ end_opcode self }
+    {
+        match self {
+            ByteOrder::Little => 0xd4,
+            ByteOrder::Big => 0xdc,
+            ByteOrder::Swap => 0xd7,
+        }
+    }
+}
+
+impl Operand {
+    fn source(self) -> u8
+        ensures value { result ≡ source_bit self }
+        ensures bound { result ≤ 1 }
+    {
+        match self {
+            Operand::Imm(_) => 0,
+            Operand::Reg(_) => 1,
+        }
+    }
+
+    fn src(self) -> u8
+        ensures value { result ≡ src_field self }
+        ensures bound { result < 16 }
+    {
+        match self {
+            Operand::Imm(_) => 0,
+            Operand::Reg(reg) => reg.number(),
+        }
+    }
+
+    fn imm(self) -> u32
+        ensures { result ≡ imm_field self }
+    {
+        match self {
+            Operand::Imm(imm) => imm.cast_unsigned(),
+            Operand::Reg(_) => 0,
+        }
+    }
+}
+
+fn arithmetic_class(wide: bool) -> u8
+    ensures value { result ≡ alu_class wide }
+    ensures bound { result < 8 }
+{
+    if wide { 7 } else { 4 }
+}
+
+fn jumping_class(wide: bool) -> u8
+    ensures value { result ≡ jump_class wide }
+    ensures bound { result < 8 }
+{
+    if wide { 5 } else { 6 }
+}
+
+fn opcode(code: u8, source: u8, class: u8) -> u8
+    requires code { code < 16 }
+    requires source { source ≤ 1 }
+    requires class { class < 8 }
+    ensures { result ≡ opcode_from code source class }
+{
+    16 * code + 8 * source + class
+}
+
+fn sized_opcode(mode: u8, size: Size, class: u8) -> u8
+    requires mode { mode ≤ 4 }
+    requires class { class < 8 }
+    ensures { result ≡ memory_opcode mode size class }
+{
+    32 * mode + 8 * size.number() + class
+}
+
+/// A slot of these fields.
+fn slot(opcode: u8, dst: u8, src: u8, offset: u16, imm: u32) -> Slot
+    ensures { result ≡ slot_from opcode dst src offset imm }
+{
+    Slot {
+        opcode,
+        dst,
+        src,
+        offset,
+        imm,
+    }
+}
+
+/// The first slot.
+fn first(insn: &Insn) -> Slot
+    ensures value { result ≡ first_slot insn.now }
+    ensures dst { result.dst < 16 }
+    ensures src { result.src < 16 }
+{
+    match *insn {
+        Insn::Alu { wide, op, dst, src } => {
+            let opcode = opcode(op.number(), src.source(), arithmetic_class(wide));
+            slot(opcode, dst.number(), src.src(), op.offset(), src.imm())
+        }
+        Insn::Movsx(m) => {
+            let opcode = opcode(11, 1, arithmetic_class(m.wide));
+            slot(opcode, m.dst.number(), m.src.number(), m.bits.number(), 0)
+        }
+        Insn::Neg { wide, dst } => {
+            slot(opcode(8, 0, arithmetic_class(wide)), dst.number(), 0, 0, 0)
+        }
+        Insn::End { how, bits, dst } => slot(how.opcode(), dst.number(), 0, 0, bits.number()),
+        Insn::Ja { off } => slot(0x05, 0, 0, off.cast_unsigned(), 0),
+        Insn::Jal { off } => slot(0x06, 0, 0, 0, off.cast_unsigned()),
+        Insn::Jump {
+            wide,
+            cond,
+            dst,
+            src,
+            off,
+        } => {
+            let opcode = opcode(cond.number(), src.source(), jumping_class(wide));
+            slot(
+                opcode,
+                dst.number(),
+                src.src(),
+                off.cast_unsigned(),
+                src.imm(),
+            )
+        }
+        Insn::Call { id } => slot(0x85, 0, 0, 0, id.cast_unsigned()),
+        Insn::Exit => slot(0x95, 0, 0, 0, 0),
+        Insn::Load(l) => {
+            let opcode = sized_opcode(if l.signed { 4 } else { 3 }, l.size, 1);
+            slot(
+                opcode,
+                l.dst.number(),
+                l.src.number(),
+                l.off.cast_unsigned(),
+                0,
+            )
+        }
+        Insn::Store {
+            size,
+            dst,
+            src,
+            off,
+        } => {
+            let opcode = sized_opcode(3, size, 2 + src.source());
+            slot(
+                opcode,
+                dst.number(),
+                src.src(),
+                off.cast_unsigned(),
+                src.imm(),
+            )
+        }
+        Insn::Const { dst, value } => {
+            slot(0x18, dst.number(), 0, 0, (value % 0x1_0000_0000) as u32)
+        }
+        Insn::MapFd { dst, fd } => slot(0x18, dst.number(), 1, 0, fd.cast_unsigned()),
+    }
+}
+
+/// The second slot of a wide instruction.
+fn second(insn: &Insn) -> Option<Slot>
+    ensures value { second_slot insn.now ≡ option_to_list result }
+    ensures fits { IfSome result (λ next. (next.dst < 16) × (next.src < 16)) }
+{
+    match *insn {
+        Insn::Const { dst: _, value } => { Some(slot(0, 0, 0, 0, (value / 0x1_0000_0000) as u32)) }
+        Insn::MapFd { .. } => Some(slot(0, 0, 0, 0, 0)),
+        _ => None,
+    }
+}
+
+/// Writes the spelling at the front, 8 or 16 bytes, and answers its length. The bytes after it stay.
+/// Each instruction can be written: there is no error.
+pub fn encode(insn: &Insn, out: &mut [u8; 16]) -> usize
+    ensures length { result ≡ length (spelling insn.now) }
+    ensures room { result ≤ 16 }
+    ensures bytes { out.new ≡ spelling insn.now ++ drop result out.old }
+{
+    let first = first(insn);
+    let (front, back) = out.split_at_mut(8);
+    front.copy_from_slice(&first.bytes());
+    match second(insn) {
+        None => 8,
+        Some(next) => {
+            back.copy_from_slice(&next.bytes());
+            16
+        }
+    }
+}

@@ -1,0 +1,13 @@
+//! Worked cases, over the public calls of all crates.
+#![tactic(auto)]
+
+#[cfg(test)]
+mod faults;
+#[cfg(test)]
+mod frames;
+#[cfg(test)]
+mod loads;
+#[cfg(test)]
+mod streams;
+#[cfg(test)]
+mod words;

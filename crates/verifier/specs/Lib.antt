@@ -1,0 +1,3 @@
+pub mod Reason
+pub mod Access
+pub mod Verdict

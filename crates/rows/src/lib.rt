@@ -8,6 +8,8 @@ mod frames;
 #[cfg(test)]
 mod loads;
 #[cfg(test)]
+mod memory;
+#[cfg(test)]
 mod streams;
 #[cfg(test)]
 mod words;

@@ -1,0 +1,4 @@
+pub mod Marks
+pub mod Bytes
+pub mod Memory
+pub mod Lending

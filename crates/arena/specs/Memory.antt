@@ -1,0 +1,57 @@
+-- The memory of all tenants, and what is asked of it.
+use Rattle.std.specs.Prelude.{◌≡◌, ℕ, ◌+◌, ◌-◌, ◌*◌, ◌&&◌, List, length, Option, Some, None, nat_le, if◌then◌else◌, refl, take, drop, ◌++◌}
+use Rattle.std.specs.Coded.{Coded, code_by, coded×, coded_ℕ, coded_list}
+use Rattle.arena.specs.Bytes.{bytes_at, written_at, number_of, low_bytes}
+
+-- all bytes, and how many each part has
+pub record Memory : Type 0 where
+  pub bytes : List ℕ
+  pub part : ℕ
+
+abbrev pub memory_code : Coded Memory
+memory_code = code_by (List ℕ × ℕ) (coded× (coded_list coded_ℕ) coded_ℕ) (λ m. (m.bytes, m.part)) (λ p. record { bytes = p.0; part = p.1 }) (λ _. refl)
+
+abbrev pub size_of : Memory → ℕ
+size_of m = length m.bytes
+
+-- addresses begin here
+abbrev pub base : ℕ
+base = 4294967296
+
+-- the place of n bytes at an address, where they lie in a memory of that size
+abbrev pub place_of : ℕ → ℕ → ℕ → Option ℕ
+place_of size n address = if nat_le base address && nat_le (address + n) (base + size) then Some (address - base) else None
+
+-- ---- loads, stores and copies, at a place if there is one
+
+abbrev pub loaded : Memory → ℕ → Option ℕ → Option ℕ
+loaded m n None = None
+loaded m n (Some place) = Some (number_of (bytes_at m.bytes place n))
+
+abbrev pub with_bytes : Memory → ℕ → List ℕ → Memory
+with_bytes m place new = record { bytes = written_at m.bytes place new; part = m.part }
+
+abbrev pub stored : Memory → ℕ → ℕ → Option ℕ → Memory
+stored m n value None = m
+stored m n value (Some place) = with_bytes m place (low_bytes n value)
+
+abbrev pub copied : Memory → ℕ → Option ℕ → Option ℕ → Memory
+copied m n None to = m
+copied m n (Some from) None = m
+copied m n (Some from) (Some to) = with_bytes m to (bytes_at m.bytes from n)
+
+-- ---- parts
+
+abbrev pub part_start : Memory → ℕ → ℕ
+part_start m t = t * m.part
+
+abbrev pub part_bytes : Memory → ℕ → List ℕ
+part_bytes m t = bytes_at m.bytes (part_start m t) m.part
+
+-- the bytes with others in their place from the first on, as many as there are
+abbrev pub refilled : List ℕ → List ℕ → List ℕ
+refilled bytes others = take (length bytes) (others ++ drop (length others) bytes)
+
+-- the memory with these as the bytes of a part
+abbrev pub with_part : Memory → ℕ → List ℕ → Memory
+with_part m t new = record { bytes = refilled m.bytes (written_at m.bytes (part_start m t) new); part = m.part }

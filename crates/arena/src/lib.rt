@@ -1,0 +1,11 @@
+//! The memory of all tenants: one list of bytes, in parts of one size, each of which belongs to one tenant.
+//!
+//! Addresses begin at 2^32, and the parts follow one another.
+#![tactic(auto)]
+
+mod memory;
+mod numbers;
+mod trace;
+
+pub use memory::{Arena, BASE};
+pub use trace::Trace;

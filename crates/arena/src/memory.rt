@@ -1,0 +1,135 @@
+//! The arena.
+
+ghost use Rattle.std.specs.Prelude.{◌≡◌, ℕ, ◌+◌, ◌*◌, ◌^◌, ◌<◌, ◌≤◌, ◌++◌, ◌∷◌, [], length, IfOk, is_some, ◌&&◌};
+ghost use Rattle.std.specs.Borrow.{sem};
+ghost use Rattle.arena.specs.Bytes.{IsSize};
+ghost use Rattle.arena.specs.Memory.{base, place_of, loaded, stored, copied, part_start, part_bytes, size_of};
+
+use crate::numbers::{read, write};
+use crate::trace::Trace;
+use std::alloc::{AllocError, Global};
+use std::marker::Model;
+
+/// Where addresses begin.
+pub const BASE: u64 = 0x1_0000_0000;
+
+/// The bytes of all tenants, in parts of one size.
+#[derive(Drop)]
+pub struct Arena {
+    bytes: Vec<u8>,
+    part_size: usize,
+}
+
+impl Model for Arena {
+    ghost use Rattle.std.specs.Prelude.{◌≤◌, ◌^◌, vec_len};
+    ghost use Rattle.arena.specs.Memory.{Memory, memory_code};
+
+    ghost Value = { Memory };
+
+    ghost coded = { memory_code };
+
+    ghost view = { λ a. record { bytes = a.bytes.items; part = a.part_size } };
+
+    ghost invariant = { λ a. vec_len a.bytes ≤ 2 ^ 28 };
+}
+
+/// The place of so many bytes at an address, if they lie in a memory of this size.
+#[inline(always)]
+fn place(memory_size: usize, size: usize, address: u64) -> Option<usize>
+    requires memory { memory_size ≤ 2 ^ 28 }
+    requires size { size < 2 ^ 32 }
+    ensures { result ≡ place_of memory_size size address }
+{
+    let place = address.checked_sub(BASE)?;
+    if size > memory_size || place > (memory_size - size) as u64 {
+        return None;
+    }
+    Some(place as usize)
+}
+
+impl Arena {
+    ghost use Rattle.arena.specs.Lending.{LendsPart};
+
+    /// So many parts of this size, all bytes zero. An error is want of memory.
+    pub fn new(alloc: Global, parts: usize, part_size: usize) -> Result<Arena, AllocError>
+        requires parts { 1 ≤ parts }
+        requires part_size { 1 ≤ part_size }
+        requires size { parts * part_size ≤ 2 ^ 28 }
+        ensures size { IfOk result (λ arena. size_of arena ≡ parts * part_size) }
+        ensures part { IfOk result (λ arena. arena.part ≡ part_size) }
+    {
+        Ok(Arena {
+            bytes: vec![in alloc; 0; parts * part_size]?,
+            part_size,
+        })
+    }
+
+    /// The bytes of a tenant's part.
+    pub fn part(&self, tenant: usize) -> &[u8]
+        requires { part_start self.now tenant + self.now.part ≤ size_of self.now }
+        ensures bytes { result.now ≡ part_bytes self.now tenant }
+        ensures length { length result.now ≡ self.now.part }
+    {
+        let start = tenant * self.part_size;
+        &self.bytes[start..start + self.part_size]
+    }
+
+    /// The number that so many bytes at an address make, the lowest first; nothing exactly where they leave the memory.
+    #[inline(always)]
+    pub fn load(&self, address: u64, size: usize, trace: &mut Trace) -> Option<u64>
+        requires { IsSize size }
+        ensures value { result ≡ loaded self.now size (place_of (size_of self.now) size address) }
+        ensures steps { trace.new.steps ≡ trace.old.steps }
+        ensures ranges { trace.new.ranges ≡ trace.old.ranges ++ (address, size) ∷ [] }
+    {
+        trace.range(address, size as u64);
+        let at = place(self.bytes.len(), size, address)?;
+        Some(read(&self.bytes, at, size))
+    }
+
+    /// Writes the low bytes of a number at an address, the lowest first. It answers nothing, and changes nothing, exactly
+    /// where they leave the memory.
+    #[inline(always)]
+    pub fn store(&mut self, address: u64, size: usize, value: u64, trace: &mut Trace) -> Option<()>
+        requires { IsSize size }
+        ensures found { is_some result ≡ is_some (place_of (size_of self.old) size address) }
+        ensures bytes { self.new ≡ stored self.old size value (place_of (size_of self.old) size address) }
+        ensures steps { trace.new.steps ≡ trace.old.steps }
+        ensures ranges { trace.new.ranges ≡ trace.old.ranges ++ (address, size) ∷ [] }
+    {
+        trace.range(address, size as u64);
+        let at = place(self.bytes.len(), size, address)?;
+        write(&mut self.bytes, at, size, value);
+        Some(())
+    }
+
+    /// Writes the bytes at one address over those at another, as if through a buffer. It answers nothing, and changes
+    /// nothing, exactly where either leave the memory.
+    pub fn copy(&mut self, to: u64, from: u64, length: usize, trace: &mut Trace) -> Option<()>
+        requires some { 1 ≤ length }
+        requires few { length < 2 ^ 32 }
+        ensures found { is_some result ≡ (is_some (place_of (size_of self.old) length from) && is_some (place_of (size_of self.old) length to)) }
+        ensures bytes { self.new ≡ copied self.old length (place_of (size_of self.old) length from) (place_of (size_of self.old) length to) }
+        ensures steps { trace.new.steps ≡ trace.old.steps }
+        ensures ranges { trace.new.ranges ≡ trace.old.ranges ++ (from, length) ∷ [] ++ (to, length) ∷ [] }
+    {
+        trace.range(from, length as u64);
+        trace.range(to, length as u64);
+        let size = self.bytes.len();
+        let source = place(size, length, from)?;
+        let target = place(size, length, to)?;
+        self.bytes.copy_within(source..source + length, target);
+        Some(())
+    }
+
+    /// The bytes of a tenant's part, to write. All other bytes stay.
+    pub fn part_mut(&mut self, tenant: usize) -> &mut [u8]
+        requires { part_start self.old tenant + self.old.part ≤ size_of self.old }
+        ensures* lends { sem 𝓛 (LendsPart self.entry tenant result) }
+        ensures bytes { result.now ≡ part_bytes self.old tenant }
+    {
+        let start = tenant * self.part_size;
+        let end = start + self.part_size;
+        self.bytes.slice_mut(start..end)
+    }
+}

@@ -1,0 +1,75 @@
+//! Numbers in bytes, the lowest byte first.
+
+ghost use Rattle.std.specs.Prelude.{◌≡◌, ◌+◌, ◌≤◌, ◌<◌, ◌^◌, length};
+ghost use Rattle.arena.specs.Bytes.{bytes_at, written_at, number_of, low_bytes, IsSize};
+
+/// The number that so many bytes make.
+#[inline(always)]
+pub(crate) fn read(bytes: &[u8], at: usize, size: usize) -> u64
+    requires size { IsSize size }
+    requires within { at + size ≤ length bytes.now }
+    ensures { result ≡ number_of (bytes_at bytes.now at size) }
+{
+    if size == 8 {
+        read_double(bytes, at)
+    } else if size == 4 {
+        u64::from(read_word(bytes, at))
+    } else if size == 2 {
+        u64::from(u16::from_le_bytes([bytes[at], bytes[at + 1]]))
+    } else {
+        u64::from(bytes[at])
+    }
+}
+
+#[inline(always)]
+fn read_word(bytes: &[u8], at: usize) -> u32
+    requires { at + 4 ≤ length bytes.now }
+    ensures { result ≡ number_of (bytes_at bytes.now at 4) }
+{
+    u32::from_le_bytes([bytes[at], bytes[at + 1], bytes[at + 2], bytes[at + 3]])
+}
+
+#[inline(always)]
+fn read_double(bytes: &[u8], at: usize) -> u64
+    requires { at + 8 ≤ length bytes.now }
+    ensures { result ≡ number_of (bytes_at bytes.now at 8) }
+{
+    u64::from_le_bytes([
+        bytes[at],
+        bytes[at + 1],
+        bytes[at + 2],
+        bytes[at + 3],
+        bytes[at + 4],
+        bytes[at + 5],
+        bytes[at + 6],
+        bytes[at + 7],
+    ])
+}
+
+/// Writes the low bytes of a number.
+#[inline(always)]
+pub(crate) fn write(bytes: &mut [u8], at: usize, size: usize, value: u64)
+    requires size { IsSize size }
+    requires within { at + size ≤ length bytes.old }
+    ensures { bytes.new ≡ written_at bytes.old at (low_bytes size value) }
+{
+    let spelled = value.to_le_bytes();
+    if size == 8 {
+        put(bytes, at, &spelled);
+    } else if size == 4 {
+        put(bytes, at, &spelled[..4]);
+    } else if size == 2 {
+        put(bytes, at, &spelled[..2]);
+    } else {
+        put(bytes, at, &spelled[..1]);
+    }
+}
+
+/// Writes bytes over those from a place on.
+#[inline(always)]
+fn put(bytes: &mut [u8], at: usize, new: &[u8])
+    requires { at + length new.now ≤ length bytes.old }
+    ensures { bytes.new ≡ written_at bytes.old at new.now }
+{
+    bytes[at..at + new.len()].copy_from_slice(new);
+}

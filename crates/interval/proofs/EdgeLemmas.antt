@@ -1,0 +1,112 @@
+-- Two members that take an edge are members of the ranges on it.
+use Rattle.std.proofs.Common.{◌≡◌, ℕ, ◌%◌, ◌^◌, ◌<◌, ◌≤◌, ◌≢◌, ◌==◌, true, false, nat_lt, IsTrue, IsFalse, Option, Some, None, refl, sym, ap₂, ◌∙◌, ◌&&◌, arith}
+use Rattle.std.proofs.Math.Nat.{mod-eq_of_lt}
+use Rattle.std.proofs.lemmas.Bool.{cond_both, eqb-true, eqb-false, ltb-true, ltb-false, leb-true, leb-false, not-true, not-false, and_parts}
+use Rattle.std.proofs.lemmas.Bool.Decides.{nat_tests}
+use Rattle.interval.specs.declared.range.Range.{Range}
+use Rattle.interval.specs.Ranges.{IsMember}
+use Rattle.interval.specs.Refine.{Pair, turned, where_equal, where_different, where_above, where_at_most, IsPairOn, Edges, edges, unchanged, refined}
+use Rattle.interval.specs.declared.operator.Comparison.{Comparison}
+use Rattle.interval.specs.declared.operator.Comparison.TheVariants.{Equal, NotEqual, Above, AboveOrEqual, Below, BelowOrEqual, SignedAbove, SignedAboveOrEqual, SignedBelow, SignedBelowOrEqual, CommonBit}
+use Rattle.interval.specs.Operate.{operand}
+use Rattle.interval.specs.Compare.{holds, compares}
+use Rattle.interval.specs.Laws.{IsOfWords, IsPairOfWords}
+
+equal_keeps : (a b : Range) (x y : ℕ) → IsMember x a → IsMember y b → x ≡ y → IsPairOn (where_equal a b) x y
+equal_keeps a b x y h k e = grind (arith, nat_tests)
+
+above_keeps : (a b : Range) (x y : ℕ) → IsMember x a → IsMember y b → y < x → IsPairOn (where_above a b) x y
+above_keeps a b x y h k e = grind (arith, nat_tests)
+
+at_most_keeps : (a b : Range) (x y : ℕ) → IsMember x a → IsMember y b → x ≤ y → IsPairOn (where_at_most a b) x y
+at_most_keeps a b x y h k e = grind (arith, nat_tests)
+
+different_keeps : (a b : Range) (x y : ℕ) → IsMember x a → IsMember y b → x ≢ y → IsPairOn (where_different a b) x y
+different_keeps a b x y h k e = grind (arith, nat_tests)
+
+turned_keeps : (e : Option Pair) (x y : ℕ) → IsPairOn e y x → IsPairOn (turned e) x y
+turned_keeps None x y h = h
+turned_keeps (Some p) x y h = (h.1, h.0)
+
+-- both edges of a comparison whose operands are below 2 ^ n
+abbrev BothKeep : ℕ → Comparison → Range → Range → ℕ → ℕ → Edges → Type 0
+BothKeep n comparison a b x y e =
+    (holds n comparison x y ≡ true → IsPairOn e.0 x y) × (holds n comparison x y ≡ false → IsPairOn e.1 x y)
+
+stay : (n : ℕ) (comparison : Comparison) (a b : Range) (x y : ℕ) → IsMember x a → IsMember y b → BothKeep n comparison a b x y (unchanged a b)
+stay n comparison a b x y h k = ((λ _. (h, k)), (λ _. (h, k)))
+
+edges_keep : (n : ℕ) (comparison : Comparison) (a b : Range) (x y : ℕ) → IsMember x a → IsMember y b → BothKeep n comparison a b x y (edges comparison a b)
+edges_keep n Equal a b x y h k = ((λ t. equal_keeps a b x y h k (eqb-true x y t)), (λ t. different_keeps a b x y h k (eqb-false x y t)))
+edges_keep n NotEqual a b x y h k =
+    ((λ t. different_keeps a b x y h k (eqb-false x y (not-true (x == y) t))), (λ t. equal_keeps a b x y h k (eqb-true x y (not-false (x == y) t))))
+edges_keep n Above a b x y h k = ((λ t. above_keeps a b x y h k (ltb-true y x t)), (λ t. at_most_keeps a b x y h k (ltb-false y x t)))
+edges_keep n BelowOrEqual a b x y h k = ((λ t. at_most_keeps a b x y h k (leb-true x y t)), (λ t. above_keeps a b x y h k (leb-false x y t)))
+edges_keep n Below a b x y h k =
+    ((λ t. turned_keeps (where_above b a) x y (above_keeps b a y x k h (ltb-true x y t))), (λ t. turned_keeps (where_at_most b a) x y (at_most_keeps b a y x k h (ltb-false x y t))))
+edges_keep n AboveOrEqual a b x y h k =
+    ((λ t. turned_keeps (where_at_most b a) x y (at_most_keeps b a y x k h (leb-true y x t))), (λ t. turned_keeps (where_above b a) x y (above_keeps b a y x k h (leb-false y x t))))
+edges_keep n SignedAbove a b x y h k = stay n SignedAbove a b x y h k
+edges_keep n SignedAboveOrEqual a b x y h k = stay n SignedAboveOrEqual a b x y h k
+edges_keep n SignedBelow a b x y h k = stay n SignedBelow a b x y h k
+edges_keep n SignedBelowOrEqual a b x y h k = stay n SignedBelowOrEqual a b x y h k
+edges_keep n CommonBit a b x y h k = stay n CommonBit a b x y h k
+
+-- an operand that fits is seen whole
+seen_whole : (n x : ℕ) → x < 2 ^ n → operand n x ≡ x
+seen_whole n x h = cond_both (nat_lt n 64) (x % 2 ^ n) x (λ v. v ≡ x) (λ _. mod-eq_of_lt h) (λ _. refl)
+
+pub refined_keep : (n : ℕ) (comparison : Comparison) (a b : Range) (x y : ℕ) → IsMember x a → IsMember y b → (IsTrue (compares n comparison x y) → IsPairOn (refined n comparison a b).0 x y) × (IsFalse (compares n comparison x y) → IsPairOn (refined n comparison a b).1 x y)
+refined_keep n comparison a b x y h k =
+    cond_both (nat_lt a.hi (2 ^ n) && nat_lt b.hi (2 ^ n)) (edges comparison a b) (unchanged a b)
+    (λ e. (IsTrue (compares n comparison x y) → IsPairOn e.0 x y) × (IsFalse (compares n comparison x y) → IsPairOn e.1 x y))
+    (λ t.
+    let parts = and_parts (nat_lt a.hi (2 ^ n)) (nat_lt b.hi (2 ^ n)) t in
+    let seen_x : operand n x ≡ x = seen_whole n x (omega (arith, ltb-true a.hi (2 ^ n) parts.0, h.to)) in
+    let seen_y : operand n y ≡ y = seen_whole n y (omega (arith, ltb-true b.hi (2 ^ n) parts.1, k.to)) in
+    let same : holds n comparison x y ≡ compares n comparison x y = sym (ap₂ (holds n comparison) seen_x seen_y) in
+    let keep = edges_keep n comparison a b x y h k in
+    ((λ w. keep.0 (same ∙ w)), (λ w. keep.1 (same ∙ w))))
+    (λ _. ((λ _. (h, k)), (λ _. (h, k))))
+
+-- ---- the ranges on the edges are ones of words
+
+equal_words : (a b : Range) → IsOfWords a → IsOfWords b → IsPairOfWords (where_equal a b)
+equal_words a b p q = grind (arith, nat_tests)
+
+different_words : (a b : Range) → IsOfWords a → IsOfWords b → IsPairOfWords (where_different a b)
+different_words a b p q = grind (arith, nat_tests)
+
+above_words : (a b : Range) → IsOfWords a → IsOfWords b → IsPairOfWords (where_above a b)
+above_words a b p q = grind (arith, nat_tests)
+
+at_most_words : (a b : Range) → IsOfWords a → IsOfWords b → IsPairOfWords (where_at_most a b)
+at_most_words a b p q = grind (arith, nat_tests)
+
+turned_words : (e : Option Pair) → IsPairOfWords e → IsPairOfWords (turned e)
+turned_words None h = h
+turned_words (Some p) h = (h.1, h.0)
+
+abbrev pub BothWords : Edges → Type 0
+BothWords e = IsPairOfWords e.0 × IsPairOfWords e.1
+
+edges_words : (comparison : Comparison) (a b : Range) → IsOfWords a → IsOfWords b → BothWords (edges comparison a b)
+edges_words Equal a b p q = (equal_words a b p q, different_words a b p q)
+edges_words NotEqual a b p q = (different_words a b p q, equal_words a b p q)
+edges_words Above a b p q = (above_words a b p q, at_most_words a b p q)
+edges_words BelowOrEqual a b p q = (at_most_words a b p q, above_words a b p q)
+edges_words Below a b p q =
+    (turned_words (where_above b a) (above_words b a q p), turned_words (where_at_most b a) (at_most_words b a q p))
+edges_words AboveOrEqual a b p q =
+    (turned_words (where_at_most b a) (at_most_words b a q p), turned_words (where_above b a) (above_words b a q p))
+edges_words SignedAbove a b p q = ((p, q), (p, q))
+edges_words SignedAboveOrEqual a b p q = ((p, q), (p, q))
+edges_words SignedBelow a b p q = ((p, q), (p, q))
+edges_words SignedBelowOrEqual a b p q = ((p, q), (p, q))
+edges_words CommonBit a b p q = ((p, q), (p, q))
+
+pub refined_words : (n : ℕ) (comparison : Comparison) (a b : Range) → IsOfWords a → IsOfWords b → BothWords (refined n comparison a b)
+refined_words n comparison a b p q =
+    cond_both (nat_lt a.hi (2 ^ n) && nat_lt b.hi (2 ^ n)) (edges comparison a b) (unchanged a b) BothWords
+    (λ _. edges_words comparison a b p q)
+    (λ _. ((p, q), (p, q)))

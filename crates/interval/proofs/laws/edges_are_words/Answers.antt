@@ -1,0 +1,9 @@
+use Rattle.interval.proofs.EdgeLemmas.{refined_words}
+use Rattle.interval.proofs.laws.edges_are_words.Goals as goal
+
+pub returns : goal.returns
+returns c =
+    record {
+      wide = λ comparison a b p q. refined_words 64 comparison a b p q;
+      narrow = λ comparison a b p q. refined_words 32 comparison a b p q;
+    }

@@ -1,0 +1,49 @@
+-- What holds of the definitions, for all ranges of words.
+use Rattle.std.specs.Prelude.{◌≡◌, ℕ, ◌^◌, ◌<◌, IsTrue, IsFalse, Option, Some, None}
+use Rattle.interval.specs.declared.range.Range.{Range}
+use Rattle.interval.specs.declared.operator.Operator.{Operator}
+use Rattle.interval.specs.declared.operator.Comparison.{Comparison}
+use Rattle.interval.specs.Operate.{operate}
+use Rattle.interval.specs.Compare.{compares}
+use Rattle.interval.specs.Ranges.{IsMember, hull}
+use Rattle.interval.specs.Table.{range_of}
+use Rattle.interval.specs.Refine.{Pair, refined, IsPairOn}
+
+-- its members are words
+abbrev pub IsOfWords : Range → Type 0
+IsOfWords r = r.hi < 2 ^ 64
+
+-- the result of two members is a member of the table's range
+abbrev pub ResultsAreMembers : ℕ → Type 0
+ResultsAreMembers n =
+    (op : Operator) (a b : Range) (x y : ℕ) → IsOfWords a → IsOfWords b → IsMember x a → IsMember y b → IsMember (operate n op x y) (range_of n op a b)
+
+-- and the table's range is one of words
+abbrev pub ResultsAreWords : ℕ → Type 0
+ResultsAreWords n = (op : Operator) (a b : Range) → IsOfWords a → IsOfWords b → IsOfWords (range_of n op a b)
+
+-- two members that take an edge are members of what the comparison leaves on it
+abbrev pub EdgesKeepMembers : ℕ → Type 0
+EdgesKeepMembers n =
+    (comparison : Comparison) (a b : Range) (x y : ℕ) → IsOfWords a → IsOfWords b → IsMember x a → IsMember y b →
+    (IsTrue (compares n comparison x y) → IsPairOn (refined n comparison a b).0 x y)
+    × (IsFalse (compares n comparison x y) → IsPairOn (refined n comparison a b).1 x y)
+
+abbrev pub IsPairOfWords : Option Pair → Type 0
+IsPairOfWords None = Unit {0}
+IsPairOfWords (Some p) = IsOfWords p.0 × IsOfWords p.1
+
+-- and the ranges on both edges are ones of words
+abbrev pub EdgesAreWords : ℕ → Type 0
+EdgesAreWords n =
+    (comparison : Comparison) (a b : Range) → IsOfWords a → IsOfWords b → IsPairOfWords (refined n comparison a b).0 × IsPairOfWords (refined n comparison a b).1
+
+-- the hull holds the members of both
+abbrev pub HullHoldsBoth : Type 0
+HullHoldsBoth = (a b : Range) (x : ℕ) → (IsMember x a → IsMember x (hull a b)) × (IsMember x b → IsMember x (hull a b))
+
+abbrev pub HullCommutes : Type 0
+HullCommutes = (a b : Range) → hull a b ≡ hull b a
+
+abbrev pub HullAssociates : Type 0
+HullAssociates = (a b c : Range) → hull (hull a b) c ≡ hull a (hull b c)

@@ -1,0 +1,107 @@
+-- The range of each operator's results, of operands in two ranges.
+use Rattle.std.specs.Prelude.{ℕ, ◌+◌, ◌-◌, ◌*◌, ◌/◌, ◌%◌, ◌^◌, min, max, nat_lt, nat_le, Bool, ◌&&◌, if◌then◌else◌}
+use Rattle.std.specs.Int.{w64, leading_zeros}
+use Rattle.interval.specs.declared.range.Range.{Range}
+use Rattle.interval.specs.declared.operator.Operator.{Operator}
+use Rattle.interval.specs.declared.operator.Operator.TheVariants.{Add, Sub, Mul, Div, SignedDiv, Or, And, ShiftLeft, ShiftRight, Mod, SignedMod, Xor, Mov, SignedShiftRight, Neg, SignExtend, End}
+use Rattle.interval.specs.Operate.{combined, kept_bits, narrow_bits}
+use Rattle.interval.specs.Ranges.{span, constant, is_constant, full}
+
+-- ---- one row for each operator, on operands below 2 ^ n
+
+abbrev pub sum_range : ℕ → Range → Range → Range
+sum_range n a b =
+    if nat_lt (a.hi + b.hi) (2 ^ n) then span (a.lo + b.lo) (a.hi + b.hi) else
+    (if nat_le (2 ^ n) (a.lo + b.lo) then span (a.lo + b.lo - 2 ^ n) (a.hi + b.hi - 2 ^ n) else full n)
+
+abbrev pub difference_range : ℕ → Range → Range → Range
+difference_range n a b =
+    if nat_le b.hi a.lo then span (a.lo - b.hi) (a.hi - b.lo) else
+    (if nat_lt a.hi b.lo then span (a.lo + 2 ^ n - b.hi) (a.hi + 2 ^ n - b.lo) else full n)
+
+abbrev pub product_range : ℕ → Range → Range → Range
+product_range n a b = if nat_lt (a.hi * b.hi) (2 ^ n) then span (a.lo * b.lo) (a.hi * b.hi) else full n
+
+abbrev pub quotient_range : Range → Range → Range
+quotient_range a b = if nat_le 1 b.lo then span (a.lo / b.hi) (a.hi / b.lo) else span 0 a.hi
+
+abbrev pub remainder_range : Range → Range → Range
+remainder_range a b = if nat_le 1 b.lo then span 0 (min a.hi (b.hi - 1)) else span 0 a.hi
+
+abbrev pub and_range : Range → Range → Range
+and_range a b = span 0 (min a.hi b.hi)
+
+-- how many binary digits a word has: 0 has none
+abbrev pub binary_digits : ℕ → ℕ
+binary_digits v = 64 - leading_zeros w64 v
+
+-- the greatest number with the digits of the greater end
+abbrev pub digits_end : Range → Range → ℕ
+digits_end a b = 2 ^ binary_digits (max a.hi b.hi) - 1
+
+abbrev pub or_range : Range → Range → Range
+or_range a b = span (max a.lo b.lo) (digits_end a b)
+
+abbrev pub xor_range : Range → Range → Range
+xor_range a b = span 0 (digits_end a b)
+
+abbrev pub scaled_range : ℕ → Range → ℕ → Range
+scaled_range n a k = if nat_lt (a.hi * 2 ^ k) (2 ^ n) then span (a.lo * 2 ^ k) (a.hi * 2 ^ k) else full n
+
+abbrev pub shift_left_range : ℕ → Range → Range → Range
+shift_left_range n a b = if is_constant b then scaled_range n a (b.lo % n) else full n
+
+abbrev pub shift_right_range : ℕ → Range → Range → Range
+shift_right_range n a b =
+    if is_constant b then span (a.lo / 2 ^ (b.lo % n)) (a.hi / 2 ^ (b.lo % n)) else span 0 a.hi
+
+abbrev pub signed_shift_right_range : ℕ → Range → Range → Range
+signed_shift_right_range n a b = if nat_lt a.hi (2 ^ (n - 1)) then shift_right_range n a b else full n
+
+abbrev pub sign_extend_range : ℕ → ℕ → Range → Range
+sign_extend_range n k b = if nat_lt b.hi (2 ^ (k - 1)) then b else full n
+
+abbrev pub spread : ℕ → Operator → Range → Range → Range
+spread n Add a b = sum_range n a b
+spread n Sub a b = difference_range n a b
+spread n Mul a b = product_range n a b
+spread n Div a b = quotient_range a b
+spread n SignedDiv a b = full n
+spread n Or a b = or_range a b
+spread n And a b = and_range a b
+spread n ShiftLeft a b = shift_left_range n a b
+spread n ShiftRight a b = shift_right_range n a b
+spread n Mod a b = remainder_range a b
+spread n SignedMod a b = full n
+spread n Xor a b = xor_range a b
+spread n Mov a b = b
+spread n SignedShiftRight a b = signed_shift_right_range n a b
+spread n Neg a b = full n
+spread n (SignExtend from) a b = sign_extend_range n (narrow_bits from) b
+spread n (End how kept) a b = full (kept_bits kept)
+
+-- ---- the table
+
+-- each operand that the operator reads is one number
+abbrev pub are_constants : Operator → Range → Range → Bool
+are_constants Mov a b = is_constant b
+are_constants (SignExtend from) a b = is_constant b
+are_constants Neg a b = is_constant a
+are_constants (End how kept) a b = is_constant a
+are_constants op a b = is_constant a && is_constant b
+
+-- constants give a constant
+abbrev pub result_range : ℕ → Operator → Range → Range → Range
+result_range n op a b = if are_constants op a b then constant (combined n op a.lo b.lo) else spread n op a b
+
+-- the numbers that an operator on n bits sees of a range of words
+abbrev pub cut : ℕ → Range → Range
+cut n r = if nat_lt r.hi (2 ^ n) then r else (if is_constant r then constant (r.lo % 2 ^ n) else full n)
+
+abbrev pub seen : ℕ → Range → Range
+seen n r = if nat_lt n 64 then cut n r else r
+
+-- A change of byte order sees the whole word, on 32 bits too
+abbrev pub range_of : ℕ → Operator → Range → Range → Range
+range_of n (End how kept) a b = result_range n (End how kept) a b
+range_of n op a b = result_range n op (seen n a) (seen n b)

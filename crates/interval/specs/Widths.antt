@@ -1,0 +1,6 @@
+-- How many bits an operator or a comparison works on: wide ones on whole words, the others on low halves.
+use Rattle.std.specs.Prelude.{ℕ, Bool, true, false}
+
+abbrev pub bits_of : Bool → ℕ
+bits_of true = 64
+bits_of false = 32

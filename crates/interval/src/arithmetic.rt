@@ -1,0 +1,73 @@
+//! The ranges of sums, differences, products, quotients and remainders.
+
+ghost use Rattle.std.specs.Prelude.{◌≡◌, ◌<◌, ◌^◌};
+ghost use Rattle.interval.specs.Widths.{bits_of};
+ghost use Rattle.interval.specs.Table.{sum_range, difference_range, product_range, quotient_range, remainder_range};
+
+use crate::range::{Range, greatest};
+
+/// The sums of members: exact unless some wrap and some do not.
+pub(crate) fn sum(wide: bool, a: Range, b: Range) -> Range
+    requires first { a.hi < 2 ^ bits_of wide }
+    requires second { b.hi < 2 ^ bits_of wide }
+    ensures { result ≡ sum_range (bits_of wide) a b }
+{
+    let greatest = greatest(wide);
+    if a.hi <= greatest - b.hi {
+        Range::new(a.lo + b.lo, a.hi + b.hi)
+    } else if greatest - b.lo < a.lo {
+        Range::new(a.lo - (greatest - b.lo) - 1, a.hi - (greatest - b.hi) - 1)
+    } else {
+        Range::full(wide)
+    }
+}
+
+/// The differences of members: exact unless some wrap and some do not.
+pub(crate) fn difference(wide: bool, a: Range, b: Range) -> Range
+    requires first { a.hi < 2 ^ bits_of wide }
+    requires second { b.hi < 2 ^ bits_of wide }
+    ensures { result ≡ difference_range (bits_of wide) a b }
+{
+    let greatest = greatest(wide);
+    if b.hi <= a.lo {
+        Range::new(a.lo - b.hi, a.hi - b.lo)
+    } else if a.hi < b.lo {
+        Range::new(greatest - b.hi + a.lo + 1, greatest - b.lo + a.hi + 1)
+    } else {
+        Range::full(wide)
+    }
+}
+
+/// The products of members, unless one wraps.
+pub(crate) fn product(wide: bool, a: Range, b: Range) -> Range
+    requires first { a.hi < 2 ^ bits_of wide }
+    requires second { b.hi < 2 ^ bits_of wide }
+    ensures { result ≡ product_range (bits_of wide) a b }
+{
+    match a.hi.checked_mul(b.hi) {
+        Some(hi) if hi <= greatest(wide) => Range::new(a.lo * b.lo, hi),
+        _ => Range::full(wide),
+    }
+}
+
+/// The quotients of members. A divisor that may be 0 gives quotients from 0.
+pub(crate) fn quotient(a: Range, b: Range) -> Range
+    ensures { result ≡ quotient_range a b }
+{
+    if b.lo >= 1 {
+        Range::new(a.lo / b.hi, a.hi / b.lo)
+    } else {
+        Range::new(0, a.hi)
+    }
+}
+
+/// The remainders of members. A divisor that may be 0 leaves the dividend.
+pub(crate) fn remainder(a: Range, b: Range) -> Range
+    ensures { result ≡ remainder_range a b }
+{
+    if b.lo >= 1 {
+        Range::new(0, a.hi.min(b.hi - 1))
+    } else {
+        Range::new(0, a.hi)
+    }
+}

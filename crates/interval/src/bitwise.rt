@@ -1,0 +1,41 @@
+//! The ranges of the operators that work bit by bit.
+
+ghost use Rattle.std.specs.Prelude.{◌≡◌, ◌≤◌};
+ghost use Rattle.interval.specs.Table.{and_range, or_range, xor_range, digits_end};
+
+use crate::range::Range;
+
+/// What is common to two members is at most either of them.
+pub(crate) fn and(a: Range, b: Range) -> Range
+    ensures { result ≡ and_range a b }
+{
+    Range::new(0, a.hi.min(b.hi))
+}
+
+/// The bits of either member: at least both members, with no more digits than the greatest.
+pub(crate) fn or(a: Range, b: Range) -> Range
+    ensures { result ≡ or_range a b }
+{
+    Range::new(a.lo.max(b.lo), digits_end(a, b))
+}
+
+/// The bits of one member alone, with no more digits than the greatest.
+pub(crate) fn exclusive_or(a: Range, b: Range) -> Range
+    ensures { result ≡ xor_range a b }
+{
+    Range::new(0, digits_end(a, b))
+}
+
+/// The greatest number with as many binary digits as the greatest member.
+fn digits_end(a: Range, b: Range) -> u64
+    ensures value { result ≡ digits_end a b }
+    ensures first { a.hi ≤ result }
+    ensures second { b.hi ≤ result }
+{
+    let most = a.hi.max(b.hi);
+    if most == 0 {
+        0
+    } else {
+        u64::MAX >> most.leading_zeros()
+    }
+}

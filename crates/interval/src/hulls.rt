@@ -1,0 +1,16 @@
+//! The hull of two ranges.
+
+ghost use Rattle.std.specs.Prelude.{◌≡◌};
+ghost use Rattle.interval.specs.Ranges.{hull};
+
+use crate::range::Range;
+
+/// The least range that holds the members of both.
+pub fn hull(a: Range, b: Range) -> Range
+    ensures { result ≡ hull a b }
+{
+    Range {
+        lo: a.lo.min(b.lo),
+        hi: a.hi.max(b.hi),
+    }
+}

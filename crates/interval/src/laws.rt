@@ -1,0 +1,34 @@
+//! Laws of the definitions, for proofs that stand on them. Each is the contract of a function that does nothing.
+
+ghost use Rattle.interval.specs.Laws.{ResultsAreMembers, ResultsAreWords, EdgesKeepMembers, EdgesAreWords, HullHoldsBoth, HullCommutes, HullAssociates};
+
+/// The result of two members is a member of the range that the table gives.
+pub fn results_are_members()
+    ensures wide { ResultsAreMembers 64 }
+    ensures narrow { ResultsAreMembers 32 }
+{}
+
+/// The range that the table gives for ranges of words is one of words.
+pub fn results_are_words()
+    ensures wide { ResultsAreWords 64 }
+    ensures narrow { ResultsAreWords 32 }
+{}
+
+/// Two members that take an edge are members of the ranges on it.
+pub fn edges_keep_members()
+    ensures wide { EdgesKeepMembers 64 }
+    ensures narrow { EdgesKeepMembers 32 }
+{}
+
+/// The ranges on both edges of a comparison of words are ones of words.
+pub fn edges_are_words()
+    ensures wide { EdgesAreWords 64 }
+    ensures narrow { EdgesAreWords 32 }
+{}
+
+/// The hull holds the members of both ranges, in whatever order they come.
+pub fn hull_is_a_join()
+    ensures holds_both { HullHoldsBoth }
+    ensures commutes { HullCommutes }
+    ensures associates { HullAssociates }
+{}

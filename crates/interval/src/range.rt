@@ -1,0 +1,61 @@
+//! A range of unsigned numbers.
+
+ghost use Rattle.std.specs.Prelude.{◌≡◌, ◌+◌, ◌^◌, ◌≤◌};
+ghost use Rattle.interval.specs.Widths.{bits_of};
+
+/// The whole numbers from `lo` to `hi`, both included. There is at least one.
+#[derive(Clone, Copy, Debug, PartialEq, Eq)]
+pub struct Range {
+    /// The least member.
+    pub lo: u64,
+    /// The greatest member.
+    pub hi: u64,
+    pub ghost ordered: { lo ≤ hi },
+}
+
+impl Range {
+    ghost use Rattle.std.specs.Prelude.{◌≡◌, ◌≤◌};
+    ghost use Rattle.interval.specs.Ranges.{span, constant, is_constant, full};
+
+    /// The numbers from `lo` to `hi`.
+    pub fn new(lo: u64, hi: u64) -> Range
+        requires { lo ≤ hi }
+        ensures { result ≡ span lo hi }
+    {
+        Range { lo, hi }
+    }
+
+    /// One number.
+    pub fn constant(value: u64) -> Range
+        ensures { result ≡ constant value }
+    {
+        Range {
+            lo: value,
+            hi: value,
+        }
+    }
+
+    /// All numbers of 64 bits (`wide`), or of 32.
+    pub fn full(wide: bool) -> Range
+        ensures { result ≡ full (bits_of wide) }
+    {
+        Range {
+            lo: 0,
+            hi: greatest(wide),
+        }
+    }
+
+    /// Whether there is one member alone.
+    pub fn is_constant(self) -> bool
+        ensures { result ≡ is_constant self }
+    {
+        self.lo == self.hi
+    }
+}
+
+/// The greatest number of 64 bits (`wide`), or of 32.
+pub(crate) fn greatest(wide: bool) -> u64
+    ensures { result + 1 ≡ 2 ^ bits_of wide }
+{
+    if wide { u64::MAX } else { 0xffff_ffff }
+}

@@ -1,0 +1,15 @@
+-- The bits of aligned bytes lie in one slot.
+use Rattle.std.proofs.Common.{◌≡◌, ℕ, ◌-◌, ◌*◌, ◌%◌, ◌^◌, ◌<◌, ◌≤◌, arith}
+use Rattle.std.proofs.Math.Nat.{mod-eq_of_lt, pow-le-pow_right}
+
+pub half_bits : (place : ℕ) → place % 2 ≡ 0 → (3 * 2 ^ (place % 8)) % 256 ≡ (2 ^ 2 - 1) * 2 ^ (place % 8)
+half_bits place h =
+    let few : place % 8 ≤ 6 = omega (arith, h) in
+    let some : 0 < 2 = omega arith in
+    let most : 2 ^ (place % 8) ≤ 2 ^ 6 = pow-le-pow_right some few in mod-eq_of_lt (omega arith)
+
+pub word_bits : (place : ℕ) → place % 4 ≡ 0 → (15 * 2 ^ (place % 8)) % 256 ≡ (2 ^ 4 - 1) * 2 ^ (place % 8)
+word_bits place h =
+    let few : place % 8 ≤ 4 = omega (arith, h) in
+    let some : 0 < 2 = omega arith in
+    let most : 2 ^ (place % 8) ≤ 2 ^ 4 = pow-le-pow_right some few in mod-eq_of_lt (omega arith)

@@ -1,0 +1,7 @@
+pub mod ByteBits
+pub mod FactLaws
+pub mod JoinedByTest
+pub mod KindGroups
+pub mod KindOrder
+pub mod PointerLemmas
+pub mod Tables

@@ -1,0 +1,34 @@
+-- What is known where two edges meet.
+use Rattle.std.specs.Prelude.{◌==◌, ◌&&◌, bit_and, if◌then◌else◌}
+use Rattle.std.specs.Ordering.{int_eq}
+use Rattle.interval.specs.Ranges.{hull}
+use Rattle.reg_kinds.specs.declared.kind.Kind.{Kind}
+use Rattle.reg_kinds.specs.declared.kind.Kind.TheVariants.{Unreadable, Scalar, MapRef, Stack, Ctx, Value, MaybeValue}
+use Rattle.reg_kinds.specs.declared.kind.Slot.{Slot}
+use Rattle.reg_kinds.specs.declared.kind.Slot.TheVariants.{Bytes, Spill}
+use Rattle.reg_kinds.specs.declared.facts.Facts.{Facts}
+use Rattle.reg_kinds.specs.Pointers.{offsets_hull}
+use Rattle.reg_kinds.specs.Kinds.{kind_at, slot_at, facts_of}
+
+abbrev pub kind_join : Kind → Kind → Kind
+kind_join (Scalar a) (Scalar b) = Scalar (hull a b)
+kind_join (MapRef m) (MapRef n) = if m == n then MapRef m else Unreadable
+kind_join (Stack x) (Stack y) = if int_eq x y then Stack x else Unreadable
+kind_join Ctx Ctx = Ctx
+kind_join (Value p) (Value q) = if p.map == q.map then Value (offsets_hull p q) else Unreadable
+kind_join (MaybeValue m s) (MaybeValue n t) = if (m == n) && (s == t) then MaybeValue m s else Unreadable
+kind_join _ _ = Unreadable
+
+-- a spilled value, unless nothing is known of it
+abbrev pub spilled : Kind → Slot
+spilled Unreadable = Bytes 0
+spilled k = Spill k
+
+abbrev pub slot_join : Slot → Slot → Slot
+slot_join (Bytes x) (Bytes y) = Bytes (bit_and x y)
+slot_join (Spill j) (Spill k) = spilled (kind_join j k)
+slot_join _ _ = Bytes 0
+
+abbrev pub facts_join : Facts → Facts → Facts
+facts_join a b =
+    facts_of (λ r. kind_join (kind_at a r) (kind_at b r)) (λ i. slot_join (slot_at a i) (slot_at b i))

@@ -1,0 +1,7 @@
+pub mod Join
+pub mod Kinds
+pub mod Laws
+pub mod Pointers
+pub mod Reason
+pub mod Settle
+pub mod Stack

@@ -1,0 +1,21 @@
+-- Pointers into values of a map.
+use Rattle.std.specs.Prelude.{ℕ, ℤ, ◌≤ℤ◌}
+use Rattle.std.specs.Int.{int_min, int_max}
+use Rattle.std.proofs.Common.{arith}
+use Rattle.std.proofs.lemmas.Int.{ints, clamps}
+use Rattle.reg_kinds.specs.declared.kind.ValuePointer.{ValuePointer}
+
+pub at_most_max : (lo hi : ℤ) → lo ≤ℤ int_max lo hi
+at_most_max lo hi = omega (arith, ints, clamps)
+
+pub offsets_ordered : (p q : ValuePointer) → int_min p.lo q.lo ≤ℤ int_max p.hi q.hi
+offsets_ordered p q = omega (arith, ints, clamps, p.ordered, q.ordered)
+
+-- at an offset from lo to hi, or at lo alone where hi is below it
+abbrev pub value_span : ℕ → ℤ → ℤ → ValuePointer
+value_span m lo hi = record { map = m; lo = lo; hi = int_max lo hi; ordered = at_most_max lo hi }
+
+-- into values of the first one's map, with the least range of offsets that holds both
+abbrev pub offsets_hull : ValuePointer → ValuePointer → ValuePointer
+offsets_hull p q =
+    record { map = p.map; lo = int_min p.lo q.lo; hi = int_max p.hi q.hi; ordered = offsets_ordered p q }

@@ -1,0 +1,36 @@
+-- Why a program is refused, and the number of each reason.
+use Rattle.std.specs.Prelude.{ℕ, Result, Ok, Err}
+use Rattle.reg_kinds.specs.declared.reason.Reason.{Reason}
+use Rattle.reg_kinds.specs.declared.reason.Reason.TheVariants.{JumpOutside, JumpBackward, FallsOff, Unreachable, UnknownHelper, FramePointerWritten, DescriptorNotOpen, DescriptorNotMap, UnreadableRegister, ResultNotScalar, NotPointer, PointerArithmetic, OffsetTooLarge, OutsideStack, UnalignedStack, UnwrittenStack, PartOfSpill, OutsideValue, MaybeNull, ContextAccess, PointerStored, PointerComparison, HelperArgument, LengthUnbounded, Memory}
+
+abbrev pub number : Reason → ℕ
+number JumpOutside = 1
+number JumpBackward = 2
+number FallsOff = 3
+number Unreachable = 4
+number UnknownHelper = 5
+number FramePointerWritten = 6
+number DescriptorNotOpen = 7
+number DescriptorNotMap = 8
+number UnreadableRegister = 20
+number ResultNotScalar = 21
+number NotPointer = 22
+number PointerArithmetic = 23
+number OffsetTooLarge = 24
+number OutsideStack = 25
+number UnalignedStack = 26
+number UnwrittenStack = 27
+number PartOfSpill = 28
+number OutsideValue = 29
+number MaybeNull = 30
+number ContextAccess = 31
+number PointerStored = 32
+number PointerComparison = 33
+number HelperArgument = 34
+number LengthUnbounded = 35
+number Memory = 40
+
+-- what follows from a value, unless there is none: then the reason stays
+abbrev pub given : {A B : Type 0} → Result A Reason → (A → Result B Reason) → Result B Reason
+given (Ok a) f = f a
+given (Err e) f = Err e

@@ -1,0 +1,81 @@
+-- Loads from the stack, and stores into it. Offsets count from its upper end, so those of its bytes are -512 to -1.
+use Rattle.std.specs.Prelude.{ℕ, ◌-◌, ◌*◌, ◌/◌, ◌%◌, ◌^◌, ◌==◌, ℤ, pos, negsuc, ◌+ℤ◌, int_le, unsigned_abs, bit_and, bit_or, Bool, true, false, not, ◌&&◌, if◌then◌else◌, Result, Ok, Err}
+use Rattle.interval.specs.Ranges.{full}
+use Rattle.reg_kinds.specs.declared.kind.Kind.{Kind}
+use Rattle.reg_kinds.specs.declared.kind.Kind.TheVariants.{Unreadable, Scalar}
+use Rattle.reg_kinds.specs.declared.kind.Slot.{Slot}
+use Rattle.reg_kinds.specs.declared.kind.Slot.TheVariants.{Bytes, Spill}
+use Rattle.reg_kinds.specs.declared.facts.Facts.{Facts}
+use Rattle.reg_kinds.specs.declared.stack.Size.{Size}
+use Rattle.reg_kinds.specs.declared.stack.Size.TheVariants.{Byte, Half, Word, Double}
+use Rattle.reg_kinds.specs.declared.reason.Reason.{Reason}
+use Rattle.reg_kinds.specs.declared.reason.Reason.TheVariants.{UnreadableRegister, OutsideStack, UnalignedStack, UnwrittenStack, PartOfSpill}
+use Rattle.reg_kinds.specs.Reason.{given}
+use Rattle.reg_kinds.specs.Kinds.{is_pointer, slot_at, with_slot}
+
+abbrev pub bytes_of : Size → ℕ
+bytes_of Byte = 1
+bytes_of Half = 2
+bytes_of Word = 4
+bytes_of Double = 8
+
+abbrev pub is_whole : Size → Bool
+is_whole Double = true
+is_whole _ = false
+
+-- so many bytes from this offset on lie in the stack
+abbrev pub is_in_stack : ℤ → ℕ → Bool
+is_in_stack offset n = int_le (negsuc 511) offset && int_le (offset +ℤ pos n) (pos 0)
+
+-- how far an offset in the stack is above the lowest byte
+abbrev pub place : ℤ → ℕ
+place offset = unsigned_abs (offset +ℤ pos 512)
+
+-- the stack has a multiple of each size, so an offset is one where its place is
+abbrev pub is_aligned : ℤ → ℕ → Bool
+is_aligned offset n = place offset % n == 0
+
+-- the bits of n bytes of a slot, the first of which is at this place
+abbrev pub byte_bits : ℕ → ℕ → ℕ
+byte_bits at n = (2 ^ n - 1) * 2 ^ (at % 8)
+
+-- the slot that an access touches, and the bits of its bytes
+abbrev pub touched : ℤ → Size → Result (ℕ × ℕ) Reason
+touched offset size =
+    if not (is_in_stack offset (bytes_of size)) then Err OutsideStack else
+    (if not (is_aligned offset (bytes_of size)) then Err UnalignedStack else
+    Ok (place offset / 8, byte_bits (place offset) (bytes_of size)))
+
+-- ---- loads
+
+-- what a load of bytes gives
+abbrev pub loaded : Size → Bool → Kind
+loaded size true = Scalar (full 64)
+loaded size false = Scalar (full (8 * bytes_of size))
+
+abbrev pub read_slot : Slot → ℕ → Size → Bool → Result Kind Reason
+read_slot (Spill k) bits size signed = if is_whole size then Ok k else Err PartOfSpill
+read_slot (Bytes mask) bits size signed = if bit_and mask bits == bits then Ok (loaded size signed) else Err UnwrittenStack
+
+abbrev pub stack_read : Facts → ℤ → Size → Bool → Result Kind Reason
+stack_read f offset size signed = given (touched offset size) (λ t. read_slot (slot_at f t.0) t.1 size signed)
+
+-- ---- stores
+
+-- bytes are written over bytes, or over a spilled value, of which no byte is left
+abbrev pub bytes_over : Slot → ℕ → Slot
+bytes_over (Bytes mask) bits = Bytes (bit_or mask bits)
+bytes_over (Spill k) bits = Bytes bits
+
+-- a pointer is kept whole or not at all
+abbrev pub slot_written : Slot → ℕ → Size → Kind → Result Slot Reason
+slot_written s bits size k =
+    if is_pointer k then (if is_whole size then Ok (Spill k) else Err PartOfSpill) else Ok (bytes_over s bits)
+
+-- facts after a store
+abbrev pub facts_written : Facts → Size → Kind → ℕ × ℕ → Result Facts Reason
+facts_written f size k t = given (slot_written (slot_at f t.0) t.1 size k) (λ s. Ok (with_slot f t.0 s))
+
+abbrev pub stack_write : Facts → ℤ → Size → Kind → Result Facts Reason
+stack_write f offset size Unreadable = Err UnreadableRegister
+stack_write f offset size k = given (touched offset size) (facts_written f size k)

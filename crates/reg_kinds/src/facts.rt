@@ -1,0 +1,68 @@
+//! What is known before an instruction.
+
+use crate::kind::{Kind, Slot};
+
+/// How many registers there are: 0 to 10.
+pub const REGISTERS: usize = 11;
+
+/// How many slots of eight bytes the stack has.
+pub const STACK_SLOTS: usize = 64;
+
+/// What is known of each register, and of each slot of the stack. Slot i is the eight bytes at 8 * i above the stack's
+/// lowest.
+#[derive(Clone, Copy, Debug, PartialEq, Eq)]
+pub struct Facts {
+    pub registers: [Kind; REGISTERS],
+    pub slots: [Slot; STACK_SLOTS],
+}
+
+impl Facts {
+    ghost use Rattle.std.specs.Prelude.{◌≡◌, ◌<◌};
+    ghost use Rattle.reg_kinds.specs.Kinds.{entry, kind_at, slot_at, with_kind, with_slot};
+
+    /// At the start of a program: register 1 is the context, register 10 the upper end of the stack, and nothing else is
+    /// there.
+    pub fn at_entry() -> Facts
+        ensures { result ≡ entry }
+    {
+        let mut registers = [Kind::Unreadable; REGISTERS];
+        registers[1] = Kind::Ctx;
+        registers[10] = Kind::Stack(0);
+        Facts {
+            registers,
+            slots: [Slot::Bytes(0); STACK_SLOTS],
+        }
+    }
+
+    /// The kind of a register.
+    pub fn kind(&self, register: usize) -> Kind
+        requires { register < 11 }
+        ensures { result ≡ kind_at self.now register }
+    {
+        self.registers[register]
+    }
+
+    /// Sets the kind of the register of a number.
+    pub fn set_kind(&mut self, number: usize, kind: Kind)
+        requires { number < 11 }
+        ensures { self.new ≡ with_kind self.old number kind }
+    {
+        self.registers[number] = kind;
+    }
+
+    /// What is known of a stack slot.
+    pub fn slot(&self, index: usize) -> Slot
+        requires { index < 64 }
+        ensures { result ≡ slot_at self.now index }
+    {
+        self.slots[index]
+    }
+
+    /// Sets what is known of a stack slot.
+    pub fn set_slot(&mut self, number: usize, slot: Slot)
+        requires { number < 64 }
+        ensures { self.new ≡ with_slot self.old number slot }
+    {
+        self.slots[number] = slot;
+    }
+}

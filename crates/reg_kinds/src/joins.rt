@@ -1,0 +1,93 @@
+//! What is known where two edges meet.
+
+ghost use Rattle.std.specs.Prelude.{◌≡◌};
+ghost use Rattle.reg_kinds.specs.Kinds.{kind_at, slot_at, with_registers, with_slots};
+ghost use Rattle.reg_kinds.specs.Pointers.{offsets_hull};
+ghost use Rattle.reg_kinds.specs.Join.{kind_join, spilled, slot_join, facts_join};
+
+use crate::facts::{Facts, REGISTERS, STACK_SLOTS};
+use crate::kind::{Kind, Slot, ValuePointer};
+use interval::hull;
+
+impl Kind {
+    /// The kind of a value that is of one of two kinds: the hull of two ranges, or of two ranges of offsets into values of
+    /// one map, else what both are, and otherwise `Unreadable`.
+    pub fn join(self, other: Kind) -> Kind
+        ensures { result ≡ kind_join self other }
+    {
+        match (self, other) {
+            (Kind::Scalar(a), Kind::Scalar(b)) => Kind::Scalar(hull(a, b)),
+            (Kind::MapRef(m), Kind::MapRef(n)) if m == n => self,
+            (Kind::Stack(x), Kind::Stack(y)) if x == y => self,
+            (Kind::Ctx, Kind::Ctx) => Kind::Ctx,
+            (Kind::Value(p), Kind::Value(q)) if p.map == q.map => Kind::Value(offsets_hull(p, q)),
+            (Kind::MaybeValue { map: m, site: s }, Kind::MaybeValue { map: n, site: t })
+                if m == n && s == t => self,
+            _ => Kind::Unreadable,
+        }
+    }
+}
+
+impl Slot {
+    /// What is known of eight bytes of which one of two things is: the bytes that both have, or a spilled value of both. Of a
+    /// spilled value that is not known on both sides no byte is left.
+    pub fn join(self, other: Slot) -> Slot
+        ensures { result ≡ slot_join self other }
+    {
+        match (self, other) {
+            (Slot::Bytes(x), Slot::Bytes(y)) => Slot::Bytes(x & y),
+            (Slot::Spill(j), Slot::Spill(k)) => spilled(j.join(k)),
+            _ => Slot::Bytes(0),
+        }
+    }
+}
+
+/// The least range of offsets that holds both.
+fn offsets_hull(p: ValuePointer, q: ValuePointer) -> ValuePointer
+    ensures { result ≡ offsets_hull p q }
+{
+    ValuePointer::new(p.map, p.lo.min(q.lo), p.hi.max(q.hi))
+}
+
+/// A spilled value, unless nothing is known of it.
+fn spilled(kind: Kind) -> Slot
+    ensures { result ≡ spilled kind }
+{
+    match kind {
+        Kind::Unreadable => Slot::Bytes(0),
+        known => Slot::Spill(known),
+    }
+}
+
+/// What is known where two edges meet: the join of each register and of each slot.
+pub fn join(a: &Facts, b: &Facts) -> Facts
+    ensures { result ≡ facts_join a.now b.now }
+{
+    let mut both = *a;
+    join_into(&mut both, b);
+    both
+}
+
+/// Joins what is known on a further edge into what is known so far.
+pub fn join_into(facts: &mut Facts, edge: &Facts)
+    ensures { facts.new ≡ facts_join facts.old edge.now }
+{
+    join_registers(facts, edge);
+    join_stack(facts, edge);
+}
+
+fn join_registers(facts: &mut Facts, edge: &Facts)
+    ensures { facts.new ≡ with_registers facts.old (λ r. kind_join (kind_at facts.old r) (kind_at edge.now r)) }
+{
+    for r in 0..REGISTERS {
+        facts.registers[r] = facts.kind(r).join(edge.kind(r));
+    }
+}
+
+fn join_stack(facts: &mut Facts, edge: &Facts)
+    ensures { facts.new ≡ with_slots facts.old (λ i. slot_join (slot_at facts.old i) (slot_at edge.now i)) }
+{
+    for i in 0..STACK_SLOTS {
+        facts.slots[i] = facts.slot(i).join(edge.slot(i));
+    }
+}

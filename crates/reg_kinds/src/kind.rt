@@ -1,0 +1,82 @@
+//! Kinds of values, and what is known of eight bytes of the stack.
+
+ghost use Rattle.std.specs.Prelude.{◌≤ℤ◌};
+
+use interval::Range;
+
+/// A pointer into a value of a map. Which offset it has is known to lie from `lo` to `hi`.
+#[derive(Clone, Copy, Debug, PartialEq, Eq)]
+pub struct ValuePointer {
+    /// The descriptor of the map.
+    pub map: u32,
+    /// The least offset, in bytes from the start of the value.
+    pub lo: i32,
+    /// The greatest offset.
+    pub hi: i32,
+    pub ghost ordered: { lo ≤ℤ hi },
+}
+
+impl ValuePointer {
+    ghost use Rattle.std.specs.Prelude.{◌≡◌, ◌≤ℤ◌};
+    ghost use Rattle.reg_kinds.specs.Pointers.{value_span};
+
+    /// A pointer into a value of a map, at an offset from `lo` to `hi`.
+    pub fn new(map: u32, lo: i32, hi: i32) -> ValuePointer
+        requires { lo ≤ℤ hi }
+        ensures { result ≡ value_span map lo hi }
+    {
+        ValuePointer { map, lo, hi }
+    }
+}
+
+/// What is known of a value.
+#[derive(Clone, Copy, Debug, PartialEq, Eq)]
+pub enum Kind {
+    /// Nothing: there may be no value at all, and it may not be read.
+    Unreadable,
+    /// A number of a range.
+    Scalar(Range),
+    /// A map, by its descriptor.
+    MapRef(u32),
+    /// A pointer into the stack, by its offset from the stack's upper end.
+    Stack(i32),
+    /// The pointer to the context.
+    Ctx,
+    /// A pointer into a value of a map.
+    Value(ValuePointer),
+    /// What a look-up gave that no test has settled yet: 0, or a pointer to the start of a value.
+    MaybeValue {
+        /// The descriptor of the map.
+        map: u32,
+        /// The slot of the look-up: all that carry it are one value.
+        site: u16,
+    },
+}
+
+/// What is known of eight bytes of the stack.
+#[derive(Clone, Copy, Debug, PartialEq, Eq)]
+pub enum Slot {
+    /// Which bytes are written: bit 0 is the lowest byte's.
+    Bytes(u8),
+    /// They hold a value that is no scalar, whole.
+    Spill(Kind),
+}
+
+impl Kind {
+    ghost use Rattle.std.specs.Prelude.{◌≡◌};
+    ghost use Rattle.reg_kinds.specs.Kinds.{is_pointer};
+
+    /// Whether it is a map reference, or a pointer, possibly null.
+    pub fn is_pointer(self) -> bool
+        ensures { result ≡ is_pointer self }
+    {
+        match self {
+            Kind::Unreadable | Kind::Scalar(_) => false,
+            Kind::MapRef(_) => true,
+            Kind::Stack(_) => true,
+            Kind::Ctx => true,
+            Kind::Value(_) => true,
+            Kind::MaybeValue { .. } => true,
+        }
+    }
+}

@@ -1,0 +1,23 @@
+//! Laws of the joins, for proofs that stand on them. Each is the contract of a function that does nothing.
+
+ghost use Rattle.reg_kinds.specs.Laws.{KindsCommute, KindsAssociate, SlotsCommute, SlotsAssociate, FactsCommute, FactsAssociate};
+
+use interval::hull_is_a_join;
+
+/// In whatever order two edges come, what holds where they meet is the same.
+pub fn joins_commute()
+    ensures kinds { KindsCommute }
+    ensures slots { SlotsCommute }
+    ensures facts { FactsCommute }
+{
+    hull_is_a_join();
+}
+
+/// In whatever groups three edges come, what holds where they meet is the same.
+pub fn joins_associate()
+    ensures kinds { KindsAssociate }
+    ensures slots { SlotsAssociate }
+    ensures facts { FactsAssociate }
+{
+    hull_is_a_join();
+}

@@ -1,0 +1,21 @@
+//! What a verifier knows of a program's registers and of its stack before an instruction.
+#![tactic(auto)]
+
+mod facts;
+mod joins;
+mod kind;
+mod laws;
+mod null_tests;
+mod reason;
+mod stack;
+
+pub use facts::{Facts, REGISTERS, STACK_SLOTS};
+pub use joins::{join, join_into};
+pub use kind::{Kind, Slot, ValuePointer};
+pub use laws::{joins_associate, joins_commute};
+pub use null_tests::settle;
+pub use reason::Reason;
+pub use stack::{Size, read_stack, write_stack};
+
+#[cfg(test)]
+mod tests;

@@ -1,0 +1,94 @@
+//! Why a program is refused.
+
+/// The first rule that a program breaks. Each has a number, which a refusal tells.
+#[derive(Clone, Copy, Debug, PartialEq, Eq)]
+pub enum Reason {
+    /// A jump out of the program, or into the second half of a wide instruction.
+    JumpOutside,
+    /// A jump to the same or to an earlier slot.
+    JumpBackward,
+    /// The last instruction can go on to the slot after the program.
+    FallsOff,
+    /// No path leads to the instruction.
+    Unreachable,
+    /// A call of a helper that is not known.
+    UnknownHelper,
+    /// Arithmetic or a load into the frame pointer.
+    FramePointerWritten,
+    /// A map is named by a descriptor that is not open.
+    DescriptorNotOpen,
+    /// A map is named by a descriptor of something else.
+    DescriptorNotMap,
+    /// A register is read that may hold anything.
+    UnreadableRegister,
+    /// The result at the exit is not a scalar.
+    ResultNotScalar,
+    /// A load or a store at an address that is not a pointer.
+    NotPointer,
+    /// Arithmetic on a pointer other than moving it by a scalar.
+    PointerArithmetic,
+    /// A pointer is moved too far.
+    OffsetTooLarge,
+    /// An access outside the stack.
+    OutsideStack,
+    /// A load or a store in the stack that is not aligned to its size.
+    UnalignedStack,
+    /// A read of a stack byte that may never have been written.
+    UnwrittenStack,
+    /// An access to a part of a pointer that was spilled.
+    PartOfSpill,
+    /// An access outside a map's value.
+    OutsideValue,
+    /// Use of a pointer that may be null.
+    MaybeNull,
+    /// An access to the context other than a load of one of its words.
+    ContextAccess,
+    /// A pointer is stored outside the stack.
+    PointerStored,
+    /// A pointer is compared with something other than null.
+    PointerComparison,
+    /// A helper's argument is of the wrong kind.
+    HelperArgument,
+    /// A helper's length may be zero or too large.
+    LengthUnbounded,
+    /// The verifier got no memory.
+    Memory,
+}
+
+impl Reason {
+    ghost use Rattle.std.specs.Prelude.{◌≡◌};
+    ghost use Rattle.reg_kinds.specs.Reason.{number};
+
+    /// The number that a refusal tells: 1 to 8 for the shape of a program, 20 to 35 for its safety, 40 for memory.
+    pub fn number(self) -> u16
+        ensures { result ≡ number self }
+    {
+        match self {
+            Reason::JumpOutside => 1,
+            Reason::JumpBackward => 2,
+            Reason::FallsOff => 3,
+            Reason::Unreachable => 4,
+            Reason::UnknownHelper => 5,
+            Reason::FramePointerWritten => 6,
+            Reason::DescriptorNotOpen => 7,
+            Reason::DescriptorNotMap => 8,
+            Reason::UnreadableRegister => 20,
+            Reason::ResultNotScalar => 21,
+            Reason::NotPointer => 22,
+            Reason::PointerArithmetic => 23,
+            Reason::OffsetTooLarge => 24,
+            Reason::OutsideStack => 25,
+            Reason::UnalignedStack => 26,
+            Reason::UnwrittenStack => 27,
+            Reason::PartOfSpill => 28,
+            Reason::OutsideValue => 29,
+            Reason::MaybeNull => 30,
+            Reason::ContextAccess => 31,
+            Reason::PointerStored => 32,
+            Reason::PointerComparison => 33,
+            Reason::HelperArgument => 34,
+            Reason::LengthUnbounded => 35,
+            Reason::Memory => 40,
+        }
+    }
+}

@@ -36,8 +36,7 @@ impl Model for Arena {
 /// The place of so many bytes at an address, if they lie in a memory of this size.
 #[inline(always)]
 fn place(memory_size: usize, size: usize, address: u64) -> Option<usize>
-    requires memory { memory_size ≤ 2 ^ 28 }
-    requires size { size < 2 ^ 32 }
+    requires { memory_size ≤ 2 ^ 28 }
     ensures { result ≡ place_of memory_size size address }
 {
     let place = address.checked_sub(BASE)?;
@@ -106,8 +105,7 @@ impl Arena {
     /// Writes the bytes at one address over those at another, as if through a buffer. It answers nothing, and changes
     /// nothing, exactly where either leave the memory.
     pub fn copy(&mut self, to: u64, from: u64, length: usize, trace: &mut Trace) -> Option<()>
-        requires some { 1 ≤ length }
-        requires few { length < 2 ^ 32 }
+        requires { 1 ≤ length }
         ensures found { is_some result ≡ (is_some (place_of (size_of self.old) length from) && is_some (place_of (size_of self.old) length to)) }
         ensures bytes { self.new ≡ copied self.old length (place_of (size_of self.old) length from) (place_of (size_of self.old) length to) }
         ensures steps { trace.new.steps ≡ trace.old.steps }

@@ -1,4 +1,4 @@
-use Rattle.std.proofs.Common.{◌≡◌, ◌+◌, ◌*◌, ◌≤◌, length, take, slice_index, get_or, sym, ap, subst, ◌∙◌, arith, rules, refl, Some, ℕ, List, ◌++◌, ◌||◌, not, take_all, false}
+use Rattle.std.proofs.Common.{◌≡◌, ◌+◌, ◌*◌, ◌≤◌, length, take, get_or, sym, ap, subst, ◌∙◌, arith, rules, refl, Some, ℕ, List, ◌++◌, ◌||◌, not, take_all, false}
 use Rattle.std.specs.Prelude.{slice_get}
 use Rattle.std.specs.List.{list_any}
 use Rattle.std.proofs.lemmas.Option.{slice_get_read}
@@ -7,7 +7,7 @@ use Rattle.insn_codec.specs.declared.insn.Insn.{Insn}
 use Rattle.insn_codec.specs.declared.insn.Insn.TheVariants.{Exit}
 use Rattle.verifier.specs.Access.{is_exit}
 use Rattle.verifier.specs.Verdict.{IsAccepted, run_length}
-use Rattle.flat_machine.specs.Memory.{AreInside, AddsInside, asked}
+use Rattle.flat_machine.specs.Memory.{asked}
 use Rattle.flat_machine.proofs.Reach.{run_length_few, run_length_at, ends_in_exit, judged_at, inside_at, frame_pointer_stays, adds_more, not_exit, some_is}
 use Rattle.flat_machine.proofs.machine.run.Goals as goal
 

@@ -1,4 +1,4 @@
-use Rattle.std.proofs.Common.{◌≡◌, ◌<◌, ◌∙◌, sym, length, below_more, arith, None}
+use Rattle.std.proofs.Common.{◌∙◌, sym, below_more, arith}
 use Rattle.verifier.proofs.Slots.{fault_at-here, none_unless}
 use Rattle.verifier.proofs.verdict.first_fault.Goals as goal
 

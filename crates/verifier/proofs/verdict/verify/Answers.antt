@@ -1,5 +1,5 @@
-use Rattle.std.proofs.Common.{◌≡◌, sym, ap, subst, ◌∙◌, inr, refl}
-use Rattle.verifier.specs.Verdict.{IsAccepted, IsRefused}
+use Rattle.std.proofs.Common.{sym, subst, inr}
+use Rattle.verifier.specs.Verdict.{IsAccepted}
 use Rattle.verifier.proofs.Slots.{refused_in_order, accepted_in_order, if_none_holds}
 use Rattle.verifier.proofs.verdict.verify.Goals as goal
 

@@ -1,0 +1,9 @@
+pub mod Faults
+pub mod HexLines
+pub mod HexLaw
+pub mod Tokens
+pub mod Grammar
+pub mod Spelled
+pub mod Read
+pub mod LabelLines
+pub mod Printing

@@ -1,0 +1,26 @@
+-- The printed text.
+use Rattle.std.proofs.Common.{◌≡◌, ℕ, suc, ℤ, pos, negsuc, List, [], ◌∷◌, ◌++◌, sym, ap, ◌∙◌, append-nil}
+use Rattle.std.specs.Fmt.{decimal}
+use Rattle.std.specs.Option.{option_to_list}
+use Rattle.std.specs.Prelude.{Option, Some, None}
+use Rattle.std.proofs.lemmas.List.Concat.{flat_map-append}
+use Rattle.insn_codec.specs.declared.insn.Insn.{Insn}
+use Rattle.bpf_text.specs.Form.{Layout, constant}
+use Rattle.bpf_text.specs.Printed.{number_of, laid_out, printed, printed_line, printed_insn}
+
+-- what follows a number stands after it
+pub laid_out_constant : (z : ℤ) (rest : Layout) → laid_out (constant (number_of z) rest) ≡ laid_out (constant (number_of z) []) ++ laid_out rest
+laid_out_constant (pos n) rest = ap (λ (t : List ℕ). t ++ laid_out rest) (sym (append-nil (decimal n)))
+laid_out_constant (negsuc n) rest = ap (λ (t : List ℕ). 45 ∷ (t ++ laid_out rest)) (sym (append-nil (decimal (suc n))))
+
+-- one more slot
+pub printed_more : (insns before after : List Insn) (text : List ℕ) (o : Option Insn) (line : List ℕ) → text ≡ printed before → after ≡ before ++ option_to_list o → line ≡ printed (option_to_list o) → text ++ line ≡ printed after
+printed_more insns before after text o line h e l =
+    ap (λ (t : List ℕ). t ++ line) h ∙ ap (λ (t : List ℕ). printed before ++ t) l
+    ∙ sym (flat_map-append printed_line before (option_to_list o)) ∙ ap printed (sym e)
+
+pub printed_one : (insn : Insn) (o : Option Insn) → Some insn ≡ o → printed_insn insn ++ 10 ∷ [] ≡ printed (option_to_list o)
+printed_one insn o e = sym (append-nil (printed_line insn)) ∙ ap (λ (x : Option Insn). printed (option_to_list x)) e
+
+pub printed_none : (o : Option Insn) → None ≡ o → [] ≡ printed (option_to_list o)
+printed_none o e = ap (λ (x : Option Insn). printed (option_to_list x)) e

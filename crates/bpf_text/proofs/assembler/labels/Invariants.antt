@@ -1,0 +1,13 @@
+use Rattle.std.proofs.Common.{◌≡◌, ◌*◌, ◌≤◌, take}
+use Rattle.bpf_text.specs.Reading.{seen_lines}
+use Rattle.bpf_text.specs.Assembly.{slots_on}
+use Rattle.bpf_text.specs.Labels.{FindsLabels}
+use Rattle.bpf_text.proofs.assembler.labels.Given as goal
+
+-- the labels of the lines so far
+abbrev pub invariant-loop-index : goal.invariant-loop-index
+invariant-loop-index l = record {
+  finds : FindsLabels (seen_lines l.lines) l.labels l.index;
+  slot : l.slot ≡ slots_on (take l.index (seen_lines l.lines));
+  bound : l.slot ≤ 2 * l.index;
+}

@@ -1,0 +1,8 @@
+use Rattle.std.proofs.Common.{take, map}
+use Rattle.bpf_text.specs.Reading.{seen_lines}
+use Rattle.bpf_text.specs.Assembly.{AreRead}
+use Rattle.bpf_text.proofs.assembler.read_lines.Given as goal
+
+-- the lines so far are read
+abbrev pub invariant-loop-line : goal.invariant-loop-line
+invariant-loop-line l = AreRead (map (λ line. line.now) (take l.line-index l.text)) (seen_lines l.lines.items)

@@ -1,0 +1,49 @@
+-- The first fault of a text.
+use Rattle.std.specs.Prelude.{◌≡◌, ℕ, ◌+◌, ◌<◌, ◌⊎◌, Option, Some, None}
+use Rattle.bpf_text.specs.declared.fault.TextFault.{TextFault}
+use Rattle.bpf_text.specs.declared.fault.TextFaultKind.{TextFaultKind}
+use Rattle.bpf_text.specs.declared.fault.TextFaultKind.TheVariants.{Syntax, Range, UnknownLabel, LabelTwice, TooLong, Empty, Memory}
+
+abbrev pub kind_number : TextFaultKind → ℕ
+kind_number Syntax = 1
+kind_number Range = 2
+kind_number UnknownLabel = 3
+kind_number LabelTwice = 4
+kind_number TooLong = 5
+kind_number Empty = 6
+kind_number Memory = 7
+
+-- a growth was refused
+abbrev pub memory_fault : TextFault
+memory_fault = record { line = 0; kind = Memory }
+
+abbrev pub empty_fault : TextFault
+empty_fault = record { line = 0; kind = Empty }
+
+-- a kind of fault on the line of an index: a refused growth is the whole text's
+abbrev pub fault_on : ℕ → TextFaultKind → TextFault
+fault_on index Memory = memory_fault
+fault_on index kind = record { line = index + 1; kind = kind }
+
+-- Below, `fault_at i` is the fault of line i + 1, of the lowest kind that the line has: none if it has none.
+
+-- no line below has a fault
+abbrev pub NoneBelow : (ℕ → Option TextFaultKind) → ℕ → Type 0
+NoneBelow fault_at n = (i : ℕ) → i < n → fault_at i ≡ None
+
+-- the fault of the first line that has one
+pub record IsFirst (fault_at : ℕ → Option TextFaultKind) (fault : TextFault) : Type 0 where
+  pub index : ℕ
+  pub line : fault.line ≡ index + 1
+  pub here : fault_at index ≡ Some fault.kind
+  pub below : NoneBelow fault_at index
+
+-- no line has a fault, and there is no slot
+pub record IsEmpty (fault_at : ℕ → Option TextFaultKind) (slots : ℕ) (fault : TextFault) : Type 0 where
+  pub fault_is : fault ≡ empty_fault
+  pub none : (i : ℕ) → fault_at i ≡ None
+  pub slots_is : slots ≡ 0
+
+-- the fault of a text, by the faults of its lines and its number of slots
+abbrev pub IsTextFault : (ℕ → Option TextFaultKind) → ℕ → TextFault → Type 0
+IsTextFault fault_at slots fault = (fault ≡ memory_fault) ⊎ (IsFirst fault_at fault ⊎ IsEmpty fault_at slots fault)

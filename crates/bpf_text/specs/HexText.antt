@@ -1,0 +1,43 @@
+-- Slots as lines of hex digits.
+use Rattle.std.specs.Prelude.{◌≡◌, ℕ, ◌+◌, ◌*◌, ◌<◌, ◌==◌, ◌&&◌, List, [], ◌∷◌, ◌++◌, length, take, slice_get, Option, Some, None, unwrap_or, nat_lt, nat_le, if◌then◌else◌}
+use Rattle.std.specs.List.{flat_map}
+use Rattle.std.specs.Result.{result_ok}
+use Rattle.hex.specs.Hex.{encode_lower, decode_sized}
+use Rattle.insn_codec.specs.declared.TheConstants.{MAX_SLOTS}
+use Rattle.bpf_text.specs.declared.fault.TextFaultKind.{TextFaultKind}
+use Rattle.bpf_text.specs.declared.fault.TextFaultKind.TheVariants.{Syntax, TooLong}
+use Rattle.bpf_text.specs.Lines.{text_lines, stripped}
+
+-- each eight bytes as a line of sixteen lower-case digits
+unfoldable pub hex_text : List ℕ → List ℕ
+hex_text (a ∷ b ∷ c ∷ d ∷ e ∷ f ∷ g ∷ h ∷ bytes) = encode_lower (a ∷ b ∷ c ∷ d ∷ e ∷ f ∷ g ∷ h ∷ []) ++ 10 ∷ hex_text bytes
+hex_text _ = []
+
+-- the bytes on a line without blanks at its ends: none on an empty one, else eight of sixteen digits in either case
+abbrev pub hex_digits : List ℕ → Option (List ℕ)
+hex_digits digits = if length digits == 0 then Some [] else result_ok (decode_sized digits 8)
+
+unfoldable pub hex_line : List ℕ → Option (List ℕ)
+hex_line line = hex_digits (stripped line)
+
+-- the bytes on the lines that have any
+abbrev pub hex_bytes : List (List ℕ) → List ℕ
+hex_bytes lines = flat_map (λ line. unwrap_or (hex_line line) []) lines
+
+-- the fault of a line with these bytes, after lines with that many
+abbrev pub hex_fault : ℕ → Option (List ℕ) → Option TextFaultKind
+hex_fault before None = Some Syntax
+hex_fault before (Some bytes) = if nat_le before (8 * MAX_SLOTS) && nat_lt (8 * MAX_SLOTS) (before + length bytes) then Some TooLong else None
+
+abbrev pub hex_fault_of : ℕ → Option (List ℕ) → Option TextFaultKind
+hex_fault_of before None = None
+hex_fault_of before (Some line) = hex_fault before (hex_line line)
+
+unfoldable pub hex_fault_at : List (List ℕ) → ℕ → Option TextFaultKind
+hex_fault_at lines i = hex_fault_of (length (hex_bytes (take i lines))) (slice_get lines i)
+
+-- the text is lines of these slots, at least one and at most as many as a program may have
+pub record IsHexText (text bytes : List ℕ) : Type 0 where
+  pub none : (i : ℕ) → hex_fault_at (text_lines text) i ≡ None
+  pub bytes_are : bytes ≡ hex_bytes (text_lines text)
+  pub some : 0 < length bytes

@@ -1,0 +1,285 @@
+//! Programs to text.
+
+ghost use Rattle.std.specs.Prelude.{◌≡◌, ◌++◌, [], true, false, IfOk, OnOk};
+ghost use Rattle.std.specs.String.{string_bytes};
+ghost use Rattle.bpf_text.specs.Names.{operator_name, condition_name, order_name, narrow_name, size_name, register_name};
+ghost use Rattle.bpf_text.specs.Form.{operand as operand_layout, constant as constant_layout};
+ghost use Rattle.bpf_text.specs.Printed.{number_of, source_of, laid_out, printed_insn, printed, signed_bytes};
+
+use insn_codec::{
+    AluOp, Bits, ByteOrder, Condition, Insn, Load, Movsx, Narrow, Operand, Program, Reg, Size,
+};
+use std::alloc::{AllocError, Global};
+use std::fmt::Write;
+
+// ---- names
+
+fn operator_name(op: AluOp) -> &'static str
+    ensures { result.now ≡ operator_name op }
+{
+    match op {
+        AluOp::Add => "+=",
+        AluOp::Sub => "-=",
+        AluOp::Mul => "*=",
+        AluOp::Div => "/=",
+        AluOp::SignedDiv => "s/=",
+        AluOp::Or => "|=",
+        AluOp::And => "&=",
+        AluOp::ShiftLeft => "<<=",
+        AluOp::ShiftRight => ">>=",
+        AluOp::Mod => "%=",
+        AluOp::SignedMod => "s%=",
+        AluOp::Xor => "^=",
+        AluOp::Mov => "=",
+        AluOp::SignedShiftRight => "s>>=",
+    }
+}
+
+fn condition_name(cond: Condition) -> &'static str
+    ensures { result.now ≡ condition_name cond }
+{
+    match cond {
+        Condition::Equal => "==",
+        Condition::Above => ">",
+        Condition::AboveOrEqual => ">=",
+        Condition::CommonBit => "&",
+        Condition::NotEqual => "!=",
+        Condition::SignedAbove => "s>",
+        Condition::SignedAboveOrEqual => "s>=",
+        Condition::Below => "<",
+        Condition::BelowOrEqual => "<=",
+        Condition::SignedBelow => "s<",
+        Condition::SignedBelowOrEqual => "s<=",
+    }
+}
+
+fn order_name(how: ByteOrder, bits: Bits) -> &'static str
+    ensures { result.now ≡ order_name how bits }
+{
+    match (how, bits) {
+        (ByteOrder::Little, Bits::Bits16) => "le16",
+        (ByteOrder::Little, Bits::Bits32) => "le32",
+        (ByteOrder::Little, Bits::Bits64) => "le64",
+        (ByteOrder::Big, Bits::Bits16) => "be16",
+        (ByteOrder::Big, Bits::Bits32) => "be32",
+        (ByteOrder::Big, Bits::Bits64) => "be64",
+        (ByteOrder::Swap, Bits::Bits16) => "bswap16",
+        (ByteOrder::Swap, Bits::Bits32) => "bswap32",
+        (ByteOrder::Swap, Bits::Bits64) => "bswap64",
+    }
+}
+
+fn narrow_name(bits: Narrow) -> &'static str
+    ensures { result.now ≡ narrow_name bits }
+{
+    match bits {
+        Narrow::Bits8 => "s8",
+        Narrow::Bits16 => "s16",
+        Narrow::Bits32 => "s32",
+    }
+}
+
+fn size_name(signed: bool, size: Size) -> &'static str
+    ensures { result.now ≡ size_name signed size }
+{
+    match (signed, size) {
+        (false, Size::Byte) => "u8",
+        (false, Size::Half) => "u16",
+        (false, Size::Word) => "u32",
+        (false, Size::Double) => "u64",
+        (true, Size::Byte) => "s8",
+        (true, Size::Half) => "s16",
+        (true, Size::Word) => "s32",
+        (true, Size::Double) => "s64",
+    }
+}
+
+fn wide_name(reg: Reg) -> &'static str
+    ensures { result.now ≡ register_name true reg }
+{
+    match reg.number() {
+        0 => "r0",
+        1 => "r1",
+        2 => "r2",
+        3 => "r3",
+        4 => "r4",
+        5 => "r5",
+        6 => "r6",
+        7 => "r7",
+        8 => "r8",
+        9 => "r9",
+        _ => "r10",
+    }
+}
+
+fn half_name(reg: Reg) -> &'static str
+    ensures { result.now ≡ register_name false reg }
+{
+    match reg.number() {
+        0 => "w0",
+        1 => "w1",
+        2 => "w2",
+        3 => "w3",
+        4 => "w4",
+        5 => "w5",
+        6 => "w6",
+        7 => "w7",
+        8 => "w8",
+        9 => "w9",
+        _ => "w10",
+    }
+}
+
+fn register_name(wide: bool, reg: Reg) -> &'static str
+    ensures { result.now ≡ register_name wide reg }
+{
+    if wide { wide_name(reg) } else { half_name(reg) }
+}
+
+// ---- parts of a line
+
+/// Writes a number, with a minus if it is negative.
+fn write_constant(text: &mut String, n: i32) -> Result<(), AllocError>
+    ensures { OnOk result (string_bytes text.new ≡ string_bytes text.old ++ laid_out (constant_layout (number_of n) [])) }
+{
+    write!(text, "{n}")
+}
+
+/// Writes a number behind its sign.
+fn write_signed(text: &mut String, n: i32, gap: &str) -> Result<(), AllocError>
+    ensures { OnOk result (string_bytes text.new ≡ string_bytes text.old ++ signed_bytes n gap.now) }
+{
+    let sign = if n < 0 { "-" } else { "+" };
+    let magnitude = n.unsigned_abs();
+    write!(text, "{sign}{gap}{magnitude}")
+}
+
+/// Writes the second operand.
+fn write_operand(text: &mut String, wide: bool, src: Operand) -> Result<(), AllocError>
+    ensures { OnOk result (string_bytes text.new ≡ string_bytes text.old ++ laid_out (operand_layout wide (source_of src) [])) }
+{
+    match src {
+        Operand::Imm(n) => write_constant(text, n),
+        Operand::Reg(reg) => text.push_str(register_name(wide, reg)),
+    }
+}
+
+/// Writes a wide load of a map.
+#[tactic(auto, using(crate::proofs::Printing::laid_out_constant), unfolding(crate::specs::Printed::printed_insn))]
+fn write_map_fd(text: &mut String, dst: Reg, fd: i32) -> Result<(), AllocError>
+    ensures { OnOk result (string_bytes text.new ≡ string_bytes text.old ++ printed_insn (Insn.MapFd dst fd)) }
+{
+    let dst = wide_name(dst);
+    write!(text, "{dst} = map_fd ")?;
+    write_constant(text, fd)?;
+    text.push_str(" ll")
+}
+
+/// Writes an instruction.
+#[tactic(auto, unfolding(crate::specs::Printed::printed_insn))]
+fn write_insn(text: &mut String, insn: &Insn) -> Result<(), AllocError>
+    ensures { OnOk result (string_bytes text.new ≡ string_bytes text.old ++ printed_insn insn.now) }
+{
+    match *insn {
+        Insn::Alu { wide, op, dst, src } => {
+            let (dst, op) = (register_name(wide, dst), operator_name(op));
+            write!(text, "{dst} {op} ")?;
+            write_operand(text, wide, src)
+        }
+        Insn::Movsx(
+            Movsx {
+                wide,
+                bits,
+                dst,
+                src,
+            },
+        ) => {
+            let (dst, bits, src) = (
+                register_name(wide, dst),
+                narrow_name(bits),
+                register_name(wide, src),
+            );
+            write!(text, "{dst} = ({bits}){src}")
+        }
+        Insn::Neg { wide, dst } => {
+            let dst = register_name(wide, dst);
+            write!(text, "{dst} = -{dst}")
+        }
+        Insn::End { how, bits, dst } => {
+            let (dst, order) = (wide_name(dst), order_name(how, bits));
+            write!(text, "{dst} = {order} {dst}")
+        }
+        Insn::Ja { off } => {
+            text.push_str("goto ")?;
+            write_signed(text, i32::from(off), "")
+        }
+        Insn::Jal { off } => {
+            text.push_str("gotol ")?;
+            write_signed(text, off, "")
+        }
+        Insn::Jump {
+            wide,
+            cond,
+            dst,
+            src,
+            off,
+        } => {
+            let (dst, cond) = (register_name(wide, dst), condition_name(cond));
+            write!(text, "if {dst} {cond} ")?;
+            write_operand(text, wide, src)?;
+            text.push_str(" goto ")?;
+            write_signed(text, i32::from(off), "")
+        }
+        Insn::Call { id } => {
+            text.push_str("call ")?;
+            write_constant(text, id)
+        }
+        Insn::Exit => text.push_str("exit"),
+        Insn::Load(
+            Load {
+                size,
+                signed,
+                dst,
+                src,
+                off,
+            },
+        ) => {
+            let (dst, size, base) = (wide_name(dst), size_name(signed, size), wide_name(src));
+            write!(text, "{dst} = *({size} *)({base} ")?;
+            write_signed(text, i32::from(off), " ")?;
+            text.push_str(")")
+        }
+        Insn::Store {
+            size,
+            dst,
+            src,
+            off,
+        } => {
+            let (size, base) = (size_name(false, size), wide_name(dst));
+            write!(text, "*({size} *)({base} ")?;
+            write_signed(text, i32::from(off), " ")?;
+            text.push_str(") = ")?;
+            write_operand(text, true, src)
+        }
+        Insn::Const { dst, value } => {
+            let dst = wide_name(dst);
+            write!(text, "{dst} = {value} ll")
+        }
+        Insn::MapFd { dst, fd } => write_map_fd(text, dst, fd),
+    }
+}
+
+/// The text of a program: an instruction on each line, numbers in decimal, jumps as numbers.
+pub fn disassemble(alloc: Global, program: &Program) -> Result<String, AllocError>
+    ensures { IfOk result (λ text. string_bytes text ≡ printed program.now) }
+{
+    program.insns_in_order();
+    let mut text = String::new(alloc);
+    for slot in 0..program.slots() {
+        if let Some(insn) = program.get(slot) {
+            write_insn(&mut text, insn)?;
+            text.push_str("\n")?;
+        }
+    }
+    Ok(text)
+}

@@ -1,0 +1,93 @@
+//! What is wrong with a text.
+
+ghost use Rattle.std.specs.Prelude.{◌≡◌, ◌<◌, ◌^◌};
+
+use std::alloc::{AllocError, AllocFailed};
+
+/// The kinds, lowest first.
+#[derive(Clone, Copy, Debug, PartialEq, Eq)]
+pub enum TextFaultKind {
+    /// The line is none of the forms.
+    Syntax,
+    /// A number is out of its range.
+    Range,
+    /// A jump names a label that no line defines.
+    UnknownLabel,
+    /// The line defines a label that an earlier line defines.
+    LabelTwice,
+    /// The line's slots pass the number that a program may have.
+    TooLong,
+    /// The text has no slot.
+    Empty,
+    /// A growth was refused.
+    Memory,
+}
+
+impl TextFaultKind {
+    ghost use Rattle.bpf_text.specs.Fault.{kind_number};
+
+    /// The kind's number, from 1 to 7.
+    pub fn number(self) -> u16
+        ensures { result ≡ kind_number self }
+    {
+        match self {
+            TextFaultKind::Syntax => 1,
+            TextFaultKind::Range => 2,
+            TextFaultKind::UnknownLabel => 3,
+            TextFaultKind::LabelTwice => 4,
+            TextFaultKind::TooLong => 5,
+            TextFaultKind::Empty => 6,
+            TextFaultKind::Memory => 7,
+        }
+    }
+}
+
+/// A fault, and the line that has it. Lines are numbered from 1; line 0 is the whole text.
+#[derive(Clone, Copy, Debug, PartialEq, Eq)]
+pub struct TextFault {
+    pub line: usize,
+    pub kind: TextFaultKind,
+}
+
+impl TextFault {
+    ghost use Rattle.bpf_text.specs.Fault.{fault_on};
+
+    /// The fault of a line, given by its index from 0; a refused growth is the whole text's.
+    pub(crate) fn at(index: usize, kind: TextFaultKind) -> TextFault
+        requires { index < 2 ^ 63 }
+        ensures { result ≡ fault_on index kind }
+    {
+        let line = if kind == TextFaultKind::Memory {
+            0
+        } else {
+            index + 1
+        };
+        TextFault { line, kind }
+    }
+}
+
+impl From<AllocError> for TextFault {
+    ghost use Rattle.bpf_text.specs.Fault.{memory_fault};
+
+    ghost from_gives = { λ _ e. e ≡ memory_fault };
+
+    fn from(_e: AllocError) -> TextFault {
+        TextFault {
+            line: 0,
+            kind: TextFaultKind::Memory,
+        }
+    }
+}
+
+impl<T: Drop> From<AllocFailed<T>> for TextFault {
+    ghost use Rattle.bpf_text.specs.Fault.{memory_fault};
+
+    ghost from_gives = { λ _ e. e ≡ memory_fault };
+
+    fn from(_e: AllocFailed<T>) -> TextFault {
+        TextFault {
+            line: 0,
+            kind: TextFaultKind::Memory,
+        }
+    }
+}

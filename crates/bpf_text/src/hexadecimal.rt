@@ -1,0 +1,111 @@
+//! Slots as lines of hex digits.
+
+ghost use Rattle.std.specs.Prelude.{◌≡◌, ◌≢◌, ◌+◌, ◌*◌, ◌<◌, ◌≤◌, ◌++◌, [], ◌⊎◌, ℕ, List, length, map, vec_len, IfOk, OnOk, IfErr, MatchResult, Some, None, unwrap_or};
+ghost use Rattle.bpf_text.specs.declared.fault.TextFaultKind.TheVariants.{Memory};
+ghost use Rattle.std.specs.String.{string_bytes};
+ghost use Rattle.hex.specs.Hex.{IsBytes};
+ghost use Rattle.insn_codec.specs.Program.{program_bytes};
+ghost use Rattle.bpf_text.specs.Lines.{text_lines};
+ghost use Rattle.bpf_text.specs.Fault.{IsTextFault, IsFirst, NoneBelow, memory_fault};
+ghost use Rattle.bpf_text.specs.HexText.{hex_text, hex_line, hex_bytes, hex_fault, hex_fault_at, IsHexText};
+
+use crate::fault::{TextFault, TextFaultKind};
+use crate::lines::{split_lines, stripped};
+use hex::FromHex;
+use insn_codec::{MAX_SLOTS, Program, write_program};
+use std::alloc::{AllocError, Global};
+
+/// The slots of a program, one on each line, as sixteen lower-case hex digits and a line feed.
+pub fn hex_lines(alloc: Global, program: &Program) -> Result<String, AllocError>
+    ensures { IfOk result (λ text. string_bytes text ≡ hex_text (program_bytes program.now)) }
+{
+    let bytes = write_program(alloc, program)?;
+    let mut text = String::new(alloc);
+    let mut rest = bytes.as_slice();
+    while rest.len() >= 8 {
+        let (slot, after) = rest.split_at(8);
+        text.push_str(&hex::encode(alloc, slot)?)?;
+        text.push_str("\n")?;
+        rest = after;
+    }
+    Ok(text)
+}
+
+/// The slots on the lines of a text, one after the other.
+///
+/// A line is sixteen hex digits, in either case. Spaces, tabs and carriage returns at its ends are dropped, and
+/// a line that is empty then is skipped.
+///
+/// # Errors
+///
+/// The fault of the first line that has one: `Syntax` where it is no such line, `TooLong` where its slot is one more
+/// than a program may have. Where no line has a fault, `Empty` at line 0 if there is no slot.
+/// `Memory` at line 0 where a growth was refused.
+pub fn from_hex_lines(alloc: Global, text: &str) -> Result<Vec<u8>, TextFault>
+    // What is answered is what the text has.
+    ensures found { IfOk result (λ bytes. IsHexText text.now bytes.items) }
+    // What the text has is answered, unless memory runs out.
+    ensures only { (slots : List ℕ) → IsHexText text.now slots → MatchResult result (λ bytes. bytes.items ≡ slots) (λ e. e ≡ memory_fault) }
+    // Which fault it is.
+    ensures fault { IfErr result (λ e. let lines = text_lines text.now in IsTextFault (hex_fault_at lines) (length (hex_bytes lines)) e) }
+{
+    let lines = split_lines(alloc, text)?;
+    let bytes = slots_on(alloc, &lines)?;
+    if bytes.is_empty() {
+        return Err(TextFault {
+            line: 0,
+            kind: TextFaultKind::Empty,
+        });
+    }
+    Ok(bytes)
+}
+
+/// The slots on the lines, one after the other.
+fn slots_on(alloc: Global, lines: &[&str]) -> Result<Vec<u8>, TextFault>
+    ensures found { IfOk result (λ bytes. bytes.items ≡ hex_bytes (map (λ line. line.now) lines.now)) }
+    ensures none { OnOk result (NoneBelow (hex_fault_at (map (λ line. line.now) lines.now)) (length lines.now)) }
+    ensures fault { IfErr result (λ e. (e ≡ memory_fault) ⊎ IsFirst (hex_fault_at (map (λ line. line.now) lines.now)) e) }
+{
+    let mut bytes = Vec::new(alloc);
+    for (index, line) in lines.iter().enumerate() {
+        if let Err(kind) = append_slot(&mut bytes, line) {
+            return Err(TextFault::at(index, kind));
+        }
+    }
+    Ok(bytes)
+}
+
+/// Adds the slot of a line at the end, if the line has one.
+fn append_slot(bytes: &mut Vec<u8>, line: &str) -> Result<(), TextFaultKind>
+    requires { vec_len bytes.old ≤ 8 * MAX_SLOTS }
+    ensures ok { OnOk result (bytes.new.items ≡ bytes.old.items ++ unwrap_or (hex_line line.now) []) }
+    ensures room { OnOk result (vec_len bytes.new ≤ 8 * MAX_SLOTS) }
+    ensures none { OnOk result (hex_fault (length bytes.old.items) (hex_line line.now) ≡ None) }
+    ensures fault { IfErr result (λ kind. (kind ≡ Memory) ⊎ ((kind ≢ Memory) × (hex_fault (length bytes.old.items) (hex_line line.now) ≡ Some kind))) }
+{
+    let digits = stripped(line.as_bytes());
+    if digits.is_empty() {
+        return Ok(());
+    }
+    let Ok(slot) = <[u8; 8] as FromHex>::from_hex(digits) else {
+        return Err(TextFaultKind::Syntax);
+    };
+    if bytes.len() > 8 * MAX_SLOTS - 8 {
+        return Err(TextFaultKind::TooLong);
+    }
+    match bytes.extend_from_slice(&slot) {
+        Ok(()) => Ok(()),
+        Err(_) => Err(TextFaultKind::Memory),
+    }
+}
+
+/// A law: the lines that `hex_lines` writes of one to `MAX_SLOTS` slots are read as these slots. It does nothing when
+/// it runs.
+pub fn hex_lines_are_read()
+    ensures { (slots : ℕ) (bytes : List ℕ) → IsBytes bytes → length bytes ≡ 8 * slots → 1 ≤ slots → slots ≤ MAX_SLOTS → IsHexText (hex_text bytes) bytes }
+{}
+
+/// A law: a text has one list of slots. It does nothing when it runs.
+pub fn one_hex_text()
+    ensures { (text a b : List ℕ) → IsHexText text a → IsHexText text b → a ≡ b }
+{}

@@ -1,2 +1,3 @@
 mod Walks
 pub mod Parts
+pub mod Apart

@@ -1,4 +1,5 @@
 pub mod Marks
 pub mod Bytes
 pub mod Memory
+pub mod Apart
 pub mod Lending

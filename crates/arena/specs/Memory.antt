@@ -1,15 +1,17 @@
 -- The memory of all tenants, and what is asked of it.
 use Rattle.std.specs.Prelude.{ℕ, ◌+◌, ◌-◌, ◌*◌, ◌&&◌, List, length, Option, Some, None, nat_le, if◌then◌else◌, refl, take, drop, ◌++◌}
 use Rattle.std.specs.Coded.{Coded, code_by, coded×, coded_ℕ, coded_list}
-use Rattle.arena.specs.Bytes.{bytes_at, written_at, number_of, low_bytes}
+use Rattle.interval.specs.Bytes.{number_of, low_bytes}
+use Rattle.arena.specs.Bytes.{bytes_at, written_at}
 
--- all bytes, and how many each part has
+-- all bytes, how many parts they are, and how many bytes each part has
 pub record Memory : Type 0 where
   pub bytes : List ℕ
+  pub parts : ℕ
   pub part : ℕ
 
 abbrev pub memory_code : Coded Memory
-memory_code = code_by (List ℕ × ℕ) (coded× (coded_list coded_ℕ) coded_ℕ) (λ m. (m.bytes, m.part)) (λ p. record { bytes = p.0; part = p.1 }) (λ _. refl)
+memory_code = code_by (List ℕ × (ℕ × ℕ)) (coded× (coded_list coded_ℕ) (coded× coded_ℕ coded_ℕ)) (λ m. (m.bytes, (m.parts, m.part))) (λ p. record { bytes = p.0; parts = p.1.0; part = p.1.1 }) (λ _. refl)
 
 abbrev pub size_of : Memory → ℕ
 size_of m = length m.bytes
@@ -29,7 +31,7 @@ loaded m n None = None
 loaded m n (Some place) = Some (number_of (bytes_at m.bytes place n))
 
 abbrev pub with_bytes : Memory → ℕ → List ℕ → Memory
-with_bytes m place new = record { bytes = written_at m.bytes place new; part = m.part }
+with_bytes m place new = record { bytes = written_at m.bytes place new; parts = m.parts; part = m.part }
 
 abbrev pub stored : Memory → ℕ → ℕ → Option ℕ → Memory
 stored m n value None = m
@@ -54,4 +56,4 @@ refilled bytes others = take (length bytes) (others ++ drop (length others) byte
 
 -- the memory with these as the bytes of a part
 abbrev pub with_part : Memory → ℕ → List ℕ → Memory
-with_part m t new = record { bytes = refilled m.bytes (written_at m.bytes (part_start m t) new); part = m.part }
+with_part m t new = record { bytes = refilled m.bytes (written_at m.bytes (part_start m t) new); parts = m.parts; part = m.part }

@@ -3,9 +3,11 @@
 //! Addresses begin at 2^32, and the parts follow one another.
 #![tactic(auto)]
 
+mod laws;
 mod memory;
 mod numbers;
 mod trace;
 
+pub use laws::{parts_are_apart, writes_stay_inside};
 pub use memory::{Arena, BASE};
 pub use trace::Trace;

@@ -1,6 +1,6 @@
 //! The arena.
 
-ghost use Rattle.std.specs.Prelude.{◌≡◌, ℕ, ◌+◌, ◌*◌, ◌^◌, ◌<◌, ◌≤◌, ◌++◌, ◌∷◌, [], length, IfOk, is_some, ◌&&◌};
+ghost use Rattle.std.specs.Prelude.{◌≡◌, ℕ, ◌+◌, ◌*◌, ◌^◌, ◌<◌, ◌≤◌, ◌++◌, ◌∷◌, [], length, replicate, IfOk, is_some, ◌&&◌};
 ghost use Rattle.std.specs.Borrow.{sem};
 ghost use Rattle.arena.specs.Bytes.{IsSize};
 ghost use Rattle.arena.specs.Memory.{base, place_of, loaded, stored, copied, part_start, part_bytes, size_of};
@@ -17,20 +17,21 @@ pub const BASE: u64 = 0x1_0000_0000;
 #[derive(Drop)]
 pub struct Arena {
     bytes: Vec<u8>,
+    parts: usize,
     part_size: usize,
 }
 
 impl Model for Arena {
-    ghost use Rattle.std.specs.Prelude.{◌≤◌, ◌^◌, vec_len};
+    ghost use Rattle.std.specs.Prelude.{◌≡◌, ◌≤◌, ◌*◌, ◌^◌, vec_len};
     ghost use Rattle.arena.specs.Memory.{Memory, memory_code};
 
     ghost Value = { Memory };
 
     ghost coded = { memory_code };
 
-    ghost view = { λ a. record { bytes = a.bytes.items; part = a.part_size } };
+    ghost view = { λ a. record { bytes = a.bytes.items; parts = a.parts; part = a.part_size } };
 
-    ghost invariant = { λ a. vec_len a.bytes ≤ 2 ^ 28 };
+    ghost invariant = { λ a. (vec_len a.bytes ≤ 2 ^ 28) × (vec_len a.bytes ≡ a.parts * a.part_size) };
 }
 
 /// The place of so many bytes at an address, if they lie in a memory of this size.
@@ -54,22 +55,40 @@ impl Arena {
         requires parts { 1 ≤ parts }
         requires part_size { 1 ≤ part_size }
         requires size { parts * part_size ≤ 2 ^ 28 }
-        ensures size { IfOk result (λ arena. size_of arena ≡ parts * part_size) }
+        ensures parts { IfOk result (λ arena. arena.parts ≡ parts) }
         ensures part { IfOk result (λ arena. arena.part ≡ part_size) }
+        ensures zero { IfOk result (λ arena. arena.bytes ≡ replicate (parts * part_size) 0) }
     {
         Ok(Arena {
             bytes: vec![in alloc; 0; parts * part_size]?,
+            parts,
             part_size,
         })
     }
 
-    /// The bytes of a tenant's part.
+    /// A law: the memory is its parts. It does nothing when it runs.
+    pub fn is_its_parts(&self)
+        ensures { size_of self.now ≡ self.now.parts * self.now.part }
+    {
+        let _ = &self.bytes;
+    }
+
+    /// Where a tenant's part begins.
+    fn start(&self, tenant: usize) -> usize
+        requires { tenant < self.now.parts }
+        ensures value { result ≡ part_start self.now tenant }
+        ensures room { result + self.now.part ≤ size_of self.now }
+    {
+        tenant * self.part_size
+    }
+
+    /// The bytes of a tenant's part. Tenants are numbered from 0.
     pub fn part(&self, tenant: usize) -> &[u8]
-        requires { part_start self.now tenant + self.now.part ≤ size_of self.now }
+        requires { tenant < self.now.parts }
         ensures bytes { result.now ≡ part_bytes self.now tenant }
         ensures length { length result.now ≡ self.now.part }
     {
-        let start = tenant * self.part_size;
+        let start = self.start(tenant);
         &self.bytes[start..start + self.part_size]
     }
 
@@ -122,11 +141,11 @@ impl Arena {
 
     /// The bytes of a tenant's part, to write. All other bytes stay.
     pub fn part_mut(&mut self, tenant: usize) -> &mut [u8]
-        requires { part_start self.old tenant + self.old.part ≤ size_of self.old }
+        requires { tenant < self.old.parts }
         ensures* lends { sem 𝓛 (LendsPart self.entry tenant result) }
         ensures bytes { result.now ≡ part_bytes self.old tenant }
     {
-        let start = tenant * self.part_size;
+        let start = self.start(tenant);
         let end = start + self.part_size;
         self.bytes.slice_mut(start..end)
     }

@@ -2,10 +2,10 @@
 use Rattle.std.proofs.Common.{◌≡◌, ℕ, suc, ◌+◌, ◌<◌, Bool, true, false, cond, List, [], ◌∷◌, ◌++◌, length, take, map, get_or, Option, Some, None, Bor, subst, refl, sym, ap, ◌∙◌, arith}
 use Rattle.std.specs.Prelude.{option_map, is_some}
 use Rattle.std.specs.Option.{option_copied}
-use Rattle.bpf_text.specs.declared.form.Line.{Line as CodeLine}
-use Rattle.bpf_text.specs.Reading.{seen_option, seen_lines}
-use Rattle.bpf_text.specs.Token.{or_else}
-use Rattle.bpf_text.specs.Line.{Line, blank, label, code, ReadAs}
+use Rattle.text_line.specs.declared.form.Line.{Line as CodeLine}
+use Rattle.text_line.specs.Shown.{seen_option, seen_lines}
+use Rattle.text_line.specs.Token.{or_else}
+use Rattle.text_line.specs.Line.{Line, blank, label, code, ReadAs}
 use Rattle.std.specs.Str.{bytes_eq}
 use Rattle.std.proofs.lemmas.Slice.Eq.{bytes_eq-Decides}
 use Rattle.std.proofs.lemmas.Bool.{false≢true}

@@ -1,9 +1,8 @@
 pub mod Faults
 pub mod HexLines
 pub mod HexLaw
-pub mod Tokens
-pub mod Grammar
-pub mod Spelled
-pub mod Read
 pub mod LabelLines
 pub mod Printing
+pub mod Assembling
+pub mod TextLaws
+pub mod ProgramBytes

@@ -5,8 +5,9 @@ use Rattle.std.specs.Option.{option_to_list}
 use Rattle.std.specs.Prelude.{Option, Some, None}
 use Rattle.std.proofs.lemmas.List.Concat.{flat_map-append}
 use Rattle.insn_codec.specs.declared.insn.Insn.{Insn}
-use Rattle.bpf_text.specs.Form.{Layout, constant}
-use Rattle.bpf_text.specs.Printed.{number_of, laid_out, printed, printed_line, printed_insn}
+use Rattle.text_line.specs.Form.{Layout, constant}
+use Rattle.text_line.specs.Written.{number_of, laid_out, printed_insn}
+use Rattle.bpf_text.specs.Printed.{printed, printed_line}
 
 -- what follows a number stands after it
 pub laid_out_constant : (z : ℤ) (rest : Layout) → laid_out (constant (number_of z) rest) ≡ laid_out (constant (number_of z) []) ++ laid_out rest

@@ -1,97 +1,20 @@
 -- From the lines of a text to a program, or to the first fault.
-use Rattle.std.specs.Prelude.{◌≡◌, ℕ, suc, ◌+◌, ◌<◌, Bool, true, false, ◌&&◌, ◌||◌, not, ℤ, pos, ◌-ℤ◌, List, [], ◌∷◌, take, map, slice_get, Option, Some, None, is_some, option_map, unwrap_or, nat_lt, nat_le, ◌==◌, if◌then◌else◌}
+use Rattle.std.specs.Prelude.{◌≡◌, ◌⊎◌, ℕ, suc, ◌+◌, ◌<◌, Bool, false, ◌&&◌, ◌||◌, not, ℤ, pos, ◌-ℤ◌, List, [], ◌∷◌, take, map, slice_get, Option, Some, None, is_some, option_map, unwrap_or, nat_lt, nat_le, if◌then◌else◌}
 use Rattle.std.specs.Str.{bytes_eq}
 use Rattle.insn_codec.specs.declared.TheConstants.{MAX_SLOTS}
 use Rattle.insn_codec.specs.declared.insn.Insn.{Insn}
+use Rattle.bpf_text.specs.declared.fault.TextFault.{TextFault}
 use Rattle.bpf_text.specs.declared.fault.TextFaultKind.{TextFaultKind}
+use Rattle.bpf_text.specs.Fault.{IsFirst, IsEmpty, memory_fault}
 use Rattle.bpf_text.specs.declared.fault.TextFaultKind.TheVariants.{Syntax, Range, UnknownLabel, LabelTwice, TooLong}
-use Rattle.bpf_text.specs.declared.form.Number.{Number}
-use Rattle.bpf_text.specs.declared.form.Source.{Source}
-use Rattle.bpf_text.specs.declared.form.Source.TheVariants as source
-use Rattle.bpf_text.specs.declared.form.Target.{Target}
-use Rattle.bpf_text.specs.declared.form.Target.TheVariants as target
-use Rattle.bpf_text.specs.declared.form.Form.{Form}
-use Rattle.bpf_text.specs.declared.form.Form.TheVariants.{Alu, Ja, Jal, Jump, Call, Load, Store, Const, MapFd}
+use Rattle.text_line.specs.declared.form.Form.{Form}
+use Rattle.text_line.specs.Form.{names_label}
+use Rattle.text_line.specs.Line.{Line, blank, label, code, ReadAs}
+use Rattle.text_line.specs.Ranges.{form_fits, form_slots, resolved}
+use Rattle.text_line.specs.Written.{written}
 use Rattle.bpf_text.specs.Lines.{text_lines}
-use Rattle.bpf_text.specs.Form.{names_label}
-use Rattle.bpf_text.specs.Line.{Line, blank, label, code, ReadAs}
-use Rattle.bpf_text.specs.Printed.{number_of, written}
-
--- ---- ranges
-
-abbrev pub is_at_most : ℕ → Option ℕ → Bool
-is_at_most most None = false
-is_at_most most (Some n) = nat_le n most
-
--- a signed number of 32 bits, and one of 16
-abbrev pub imm_fits : Number → Bool
-imm_fits n = is_at_most (if n.negative then 2147483648 else 2147483647) n.magnitude
-
-abbrev pub offset_fits : Number → Bool
-offset_fits n = is_at_most (if n.negative then 32768 else 32767) n.magnitude
-
-abbrev pub source_fits : Source → Bool
-source_fits (source.Number n) = imm_fits n
-source_fits (source.Reg r) = true
-
-abbrev pub target_fits : Target → Bool
-target_fits (target.Number n) = offset_fits n
-target_fits target.Label = true
-
-abbrev pub long_target_fits : Target → Bool
-long_target_fits (target.Number n) = imm_fits n
-long_target_fits target.Label = true
-
--- each number of a form is in its range
-abbrev pub form_fits : Form → Bool
-form_fits (Alu wide op dst src) = source_fits src
-form_fits (Ja to) = target_fits to
-form_fits (Jal to) = long_target_fits to
-form_fits (Jump wide cond dst src to) = source_fits src && target_fits to
-form_fits (Call id) = imm_fits id
-form_fits (Load size signed dst src offset) = offset_fits offset
-form_fits (Store size dst src offset) = source_fits src && offset_fits offset
-form_fits (Const dst value) = is_some value
-form_fits (MapFd dst fd) = imm_fits fd
-form_fits _ = true
-
--- ---- labels, as numbers
-
-abbrev pub is_zero : Option ℕ → Bool
-is_zero None = false
-is_zero (Some n) = n == 0
-
--- a minus before 0 changes nothing
-abbrev pub normal : Number → Number
-normal n = record { negative = n.negative && not (is_zero n.magnitude); magnitude = n.magnitude }
-
-abbrev pub normal_source : Source → Source
-normal_source (source.Number n) = source.Number (normal n)
-normal_source (source.Reg r) = source.Reg r
-
--- a label is a second spelling of a number: how far it is
-abbrev pub placed : ℤ → Target → Target
-placed distance (target.Number n) = target.Number (normal n)
-placed distance target.Label = target.Number (number_of distance)
-
--- the form as it is printed
-abbrev pub resolved : ℤ → Form → Form
-resolved distance (Alu wide op dst src) = Alu wide op dst (normal_source src)
-resolved distance (Ja to) = Ja (placed distance to)
-resolved distance (Jal to) = Jal (placed distance to)
-resolved distance (Jump wide cond dst src to) = Jump wide cond dst (normal_source src) (placed distance to)
-resolved distance (Call id) = Call (normal id)
-resolved distance (Load size signed dst src offset) = Load size signed dst src (normal offset)
-resolved distance (Store size dst src offset) = Store size dst (normal_source src) (normal offset)
-resolved distance (MapFd dst fd) = MapFd dst (normal fd)
-resolved distance form = form
 
 -- ---- slots and labels of lines; `None` is a line that is none of the forms
-
-abbrev pub form_slots : Form → ℕ
-form_slots (Const dst value) = 2
-form_slots (MapFd dst fd) = 2
-form_slots _ = 1
 
 abbrev pub line_slots : Option Line → ℕ
 line_slots None = 0
@@ -180,3 +103,13 @@ pub record IsAssembled (text : List ℕ) (insns : List Insn) : Type 0 where
   pub none : (i : ℕ) → fault_at lines i ≡ None
   pub forms : map written insns ≡ forms_from lines 0 lines
   pub some : 0 < slots_on lines
+
+-- the fault of the text itself: of its first line that has one, or that it has no slot
+pub record IsOwnFault (text : List ℕ) (fault : TextFault) : Type 0 where
+  pub lines : List (Option Line)
+  pub read : AreRead (text_lines text) lines
+  pub first : IsFirst (fault_at lines) fault ⊎ IsEmpty (fault_at lines) (slots_on lines) fault
+
+-- the fault that is told: the text's own, or that a growth was refused
+abbrev pub IsFaultOf : List ℕ → TextFault → Type 0
+IsFaultOf text fault = (fault ≡ memory_fault) ⊎ IsOwnFault text fault

@@ -6,7 +6,8 @@ use Rattle.hex.specs.Hex.{encode_lower, decode_sized}
 use Rattle.insn_codec.specs.declared.TheConstants.{MAX_SLOTS}
 use Rattle.bpf_text.specs.declared.fault.TextFaultKind.{TextFaultKind}
 use Rattle.bpf_text.specs.declared.fault.TextFaultKind.TheVariants.{Syntax, TooLong}
-use Rattle.bpf_text.specs.Lines.{text_lines, stripped}
+use Rattle.text_line.specs.Blanks.{stripped}
+use Rattle.bpf_text.specs.Lines.{text_lines}
 
 -- each eight bytes as a line of sixteen lower-case digits
 unfoldable pub hex_text : List ℕ → List ℕ

@@ -1,13 +1,7 @@
 pub mod Lines
 pub mod Fault
 pub mod HexText
-pub mod Token
-pub mod Shown
-pub mod Names
-pub mod Class
-pub mod Form
-pub mod Line
-pub mod Reading
 pub mod Printed
 pub mod Assembly
 pub mod Labels
+pub mod Law

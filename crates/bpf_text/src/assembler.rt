@@ -1,27 +1,28 @@
 //! Text to programs.
 
-ghost use Rattle.std.specs.Prelude.{◌≡◌, ◌≤◌, ℕ, List, length, map, option_map, Some, None, if◌then◌else◌, IfOk, OnOk};
-ghost use Rattle.bpf_text.specs.Line.{ReadAs};
-ghost use Rattle.bpf_text.specs.Reading.{seen_line, seen_option, seen_lines};
-ghost use Rattle.bpf_text.specs.Assembly.{AreRead, line_slots, label_defined, defines};
-ghost use Rattle.bpf_text.specs.Token.{or_else};
-ghost use Rattle.bpf_text.specs.Labels.{place_of, FindsLabels};
+ghost use Rattle.std.specs.Prelude.{◌≡◌, ◌<◌, ◌≤◌, ◌⊎◌, ℕ, List, length, map, option_map, Some, None, if◌then◌else◌, IfOk, OnOk, IfErr, IsErrAnd, MatchResult};
+ghost use Rattle.std.specs.List.{AllByRecursion};
+ghost use Rattle.std.specs.Option.{option_to_list};
+ghost use Rattle.insn_codec.specs.Program.{slot_count};
+ghost use Rattle.insn_codec.specs.declared.insn.Insn.{Insn as AnyInsn};
+ghost use Rattle.text_line.specs.Line.{ReadAs};
+ghost use Rattle.text_line.specs.Shown.{seen_line, seen_option, seen_lines};
+ghost use Rattle.bpf_text.specs.declared.fault.TextFault.{TextFault as AnyFault};
+ghost use Rattle.bpf_text.specs.Fault.{IsFirst, memory_fault, empty_fault};
+ghost use Rattle.bpf_text.specs.Assembly.{AreRead, IsAssembled, IsOwnFault, IsFaultOf, line_slots, slots_on, label_defined, defines, fault_at, forms_from};
+ghost use Rattle.text_line.specs.Form.{IsForm};
+ghost use Rattle.text_line.specs.Ranges.{resolved};
+ghost use Rattle.text_line.specs.Written.{written};
+ghost use Rattle.text_line.specs.Token.{or_else};
+ghost use Rattle.bpf_text.specs.Labels.{place_of, FindsLabels, kept_distance, code_fault, kept_fault, kept_form, IsFormed};
 
-use crate::form::Line;
-use crate::line::line_of;
-use crate::token::tokens;
+use crate::fault::{TextFault, TextFaultKind};
+use crate::laws::{one_fault, one_program, program_has_no_fault};
+use crate::lines::split_lines;
+use insn_codec::{Insn, MAX_SLOTS, Program};
 use std::alloc::{AllocError, Global};
 use std::collections::HashMap;
-
-/// The line, or none where it is none of the forms.
-fn read_line<'a>(alloc: Global, line: &'a str) -> Result<Option<Line<'a>>, AllocError>
-    ensures { IfOk result (λ found. ReadAs line.now (option_map seen_line found)) }
-{
-    match tokens(alloc, line)? {
-        None => Ok(None),
-        Some(tokens) => Ok(line_of(&tokens)),
-    }
-}
+use text_line::{Form, Line, read_line};
 
 /// The lines of a text.
 fn read_lines<'a>(alloc: Global, text: &'a [&'a str]) -> Result<Vec<Option<Line<'a>>>, AllocError>
@@ -38,7 +39,7 @@ fn read_lines<'a>(alloc: Global, text: &'a [&'a str]) -> Result<Vec<Option<Line<
     Ok(lines)
 }
 
-/// A line that defines a label, and its slot.
+/// A line, by its index, and the slots before it.
 #[derive(Clone, Copy, Debug)]
 struct Place {
     line: usize,
@@ -97,4 +98,160 @@ fn labels<'a>(
         slot += line_slots(line);
     }
     Ok(labels)
+}
+
+/// Where a label is defined.
+fn place_of_label(labels: &HashMap<&str, Place>, name: &str) -> Option<Place>
+    ensures { result ≡ place_of labels.now name.now }
+{
+    labels.get(name).copied()
+}
+
+/// How far a label is from the slot after this one.
+fn distance(label: Option<Place>, slot: usize) -> i16
+    requires { slot ≤ MAX_SLOTS }
+    ensures { result ≡ kept_distance label slot }
+{
+    let to = match label {
+        Some(place) => place.slot.min(MAX_SLOTS),
+        None => 0,
+    };
+    to as i16 - (slot as i16 + 1)
+}
+
+/// The instruction of a form, by the place of the label that it names and the slots before it.
+fn resolve(form: &Form, label: Option<Place>, slot: usize) -> Result<Insn, TextFaultKind>
+    requires form { IsForm form.now }
+    requires room { slot ≤ MAX_SLOTS }
+    ensures found { IfOk result (λ insn. written insn ≡ resolved (kept_distance label slot) form.now) }
+    ensures none { OnOk result (code_fault form.now label slot ≡ None) }
+    ensures fault { IfErr result (λ kind. code_fault form.now label slot ≡ Some kind) }
+{
+    let insn = form
+        .insn(distance(label, slot))
+        .ok_or(TextFaultKind::Range)?;
+    if form.names_label() && matches!(label, None) {
+        return Err(TextFaultKind::UnknownLabel);
+    }
+    if slot + form.slots() > MAX_SLOTS {
+        return Err(TextFaultKind::TooLong);
+    }
+    Ok(insn)
+}
+
+/// The instruction on a line at a place; none on a blank line or one that defines a label.
+fn instruction(
+    labels: &HashMap<&str, Place>,
+    line: &Option<Line<'_>>,
+    here: Place,
+) -> Result<Option<Insn>, TextFaultKind>
+    requires form { IsFormed (seen_option line.now) }
+    requires room { here.slot ≤ MAX_SLOTS }
+    ensures found { IfOk result (λ insn. map written (option_to_list insn) ≡ kept_form labels.now here.slot (seen_option line.now)) }
+    ensures none { OnOk result (kept_fault labels.now here (seen_option line.now) ≡ None) }
+    ensures fault { IfErr result (λ kind. kept_fault labels.now here (seen_option line.now) ≡ Some kind) }
+{
+    match line {
+        None => Err(TextFaultKind::Syntax),
+        Some(Line::Blank) => Ok(None),
+        Some(Line::Label(name)) => {
+            match place_of_label(labels, name) {
+                Some(first) if first.line < here.line => Err(TextFaultKind::LabelTwice),
+                _ => Ok(None),
+            }
+        }
+        Some(Line::Code(form, label)) => {
+            let insn = resolve(form, place_of_label(labels, label), here.slot)?;
+            Ok(Some(insn))
+        }
+    }
+}
+
+/// The instructions on the lines.
+fn instructions(
+    alloc: Global,
+    lines: &[Option<Line<'_>>],
+    labels: &HashMap<&str, Place>,
+) -> Result<Vec<Insn>, TextFault>
+    requires formed { AllByRecursion IsFormed (seen_lines lines.now) }
+    requires labels { FindsLabels (seen_lines lines.now) labels.now (length lines.now) }
+    ensures none { OnOk result ((i : ℕ) → fault_at (seen_lines lines.now) i ≡ None) }
+    ensures forms { IfOk result (λ insns. map written insns.items ≡ forms_from (seen_lines lines.now) 0 (seen_lines lines.now)) }
+    ensures count { IfOk result (λ insns. slot_count insns.items ≡ slots_on (seen_lines lines.now)) }
+    ensures room { IfOk result (λ insns. slot_count insns.items ≤ MAX_SLOTS) }
+    ensures fault { IfErr result (λ e. (e ≡ memory_fault) ⊎ IsFirst (fault_at (seen_lines lines.now)) e) }
+{
+    let mut insns = Vec::new(alloc);
+    let mut slot = 0;
+    for (index, line) in lines.iter().enumerate() {
+        let insn = match instruction(labels, line, Place { line: index, slot }) {
+            Ok(insn) => insn,
+            Err(kind) => return Err(TextFault::at(index, kind)),
+        };
+        insns.extend_from_slice(insn.as_slice())?;
+        slot += line_slots(line);
+    }
+    Ok(insns)
+}
+
+/// The program of the instructions, if there is one.
+fn program(alloc: Global, insns: &[Insn]) -> Result<Program, TextFault>
+    requires { slot_count insns.now ≤ MAX_SLOTS }
+    ensures made { IfOk result (λ program. (program ≡ insns.now) × (0 < slot_count insns.now)) }
+    ensures refused { IfErr result (λ e. (e ≡ memory_fault) ⊎ ((e ≡ empty_fault) × (slot_count insns.now ≡ 0))) }
+{
+    if insns.is_empty() {
+        return Err(TextFault {
+            line: 0,
+            kind: TextFaultKind::Empty,
+        });
+    }
+    match Program::new(alloc, insns) {
+        Ok(program) => Ok(program),
+        Err(_) => {
+            Err(TextFault {
+                line: 0,
+                kind: TextFaultKind::Memory,
+            })
+        }
+    }
+}
+
+/// The program that a text says.
+fn program_of(alloc: Global, text: &str) -> Result<Program, TextFault>
+    ensures ok { IfOk result (λ program. IsAssembled text.now program) }
+    ensures fault { IfErr result (λ fault. IsFaultOf text.now fault) }
+{
+    let text = split_lines(alloc, text)?;
+    let lines = read_lines(alloc, &text)?;
+    let labels = labels(alloc, &lines)?;
+    let insns = instructions(alloc, &lines, &labels)?;
+    program(alloc, &insns)
+}
+
+/// The program that a text says, line by line.
+///
+/// A line is empty, a label `name:`, or one instruction; `//` begins a comment. A label names the slot after it, and
+/// stands for the number that leads there.
+///
+/// # Errors
+///
+/// The fault of the first line that has one, in it the lowest kind: `Syntax` where it is none of the forms, `Range` where
+/// a number is too large or too small, `UnknownLabel` where no line defines the label, `LabelTwice` where an earlier
+/// line defines it, `TooLong` where the line's slots pass `MAX_SLOTS`. Where no line has a fault, `Empty` at line 0 if
+/// there is no slot. `Memory` at line 0 where a growth was refused.
+pub fn assemble(alloc: Global, text: &str) -> Result<Program, TextFault>
+    // What is answered is what the text says.
+    ensures ok { IfOk result (λ program. IsAssembled text.now program) }
+    // What the text says is answered, unless memory runs out.
+    ensures only { (insns : List AnyInsn) → IsAssembled text.now insns → MatchResult result (λ program. program ≡ insns) (λ e. e ≡ memory_fault) }
+    // A refusal tells the fault, unless memory runs out.
+    ensures fault { IfErr result (λ e. IsFaultOf text.now e) }
+    // A fault is refused so, unless memory runs out.
+    ensures faulty { (fault : AnyFault) → IsOwnFault text.now fault → IsErrAnd result (λ e. (e ≡ fault) ⊎ (e ≡ memory_fault)) }
+{
+    one_program();
+    program_has_no_fault();
+    one_fault();
+    program_of(alloc, text)
 }

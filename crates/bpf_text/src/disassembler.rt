@@ -2,10 +2,13 @@
 
 ghost use Rattle.std.specs.Prelude.{◌≡◌, ◌++◌, [], true, false, IfOk, OnOk};
 ghost use Rattle.std.specs.String.{string_bytes};
-ghost use Rattle.bpf_text.specs.Names.{operator_name, condition_name, order_name, narrow_name, size_name, register_name};
-ghost use Rattle.bpf_text.specs.Form.{operand as operand_layout, constant as constant_layout};
-ghost use Rattle.bpf_text.specs.Printed.{number_of, source_of, laid_out, printed_insn, printed, signed_bytes};
+ghost use Rattle.text_line.specs.Names.{operator_name, condition_name, order_name, narrow_name, size_name, register_name};
+ghost use Rattle.text_line.specs.Form.{operand as operand_layout, constant as constant_layout};
+ghost use Rattle.text_line.specs.Written.{number_of, source_of, laid_out, printed_insn};
+ghost use Rattle.bpf_text.specs.Assembly.{IsAssembled};
+ghost use Rattle.bpf_text.specs.Printed.{printed, signed_bytes};
 
+use crate::laws::printed_text_is_assembled;
 use insn_codec::{
     AluOp, Bits, ByteOrder, Condition, Insn, Load, Movsx, Narrow, Operand, Program, Reg, Size,
 };
@@ -165,7 +168,7 @@ fn write_operand(text: &mut String, wide: bool, src: Operand) -> Result<(), Allo
 }
 
 /// Writes a wide load of a map.
-#[tactic(auto, using(crate::proofs::Printing::laid_out_constant), unfolding(crate::specs::Printed::printed_insn))]
+#[tactic(auto, using(crate::proofs::Printing::laid_out_constant), unfolding(text_line::specs::Written::printed_insn))]
 fn write_map_fd(text: &mut String, dst: Reg, fd: i32) -> Result<(), AllocError>
     ensures { OnOk result (string_bytes text.new ≡ string_bytes text.old ++ printed_insn (Insn.MapFd dst fd)) }
 {
@@ -176,7 +179,7 @@ fn write_map_fd(text: &mut String, dst: Reg, fd: i32) -> Result<(), AllocError>
 }
 
 /// Writes an instruction.
-#[tactic(auto, unfolding(crate::specs::Printed::printed_insn))]
+#[tactic(auto, unfolding(text_line::specs::Written::printed_insn))]
 fn write_insn(text: &mut String, insn: &Insn) -> Result<(), AllocError>
     ensures { OnOk result (string_bytes text.new ≡ string_bytes text.old ++ printed_insn insn.now) }
 {
@@ -271,11 +274,14 @@ fn write_insn(text: &mut String, insn: &Insn) -> Result<(), AllocError>
 
 /// The text of a program: an instruction on each line, numbers in decimal, jumps as numbers.
 pub fn disassemble(alloc: Global, program: &Program) -> Result<String, AllocError>
-    ensures { IfOk result (λ text. string_bytes text ≡ printed program.now) }
+    ensures text { IfOk result (λ text. string_bytes text ≡ printed program.now) }
+    // So `assemble` gives the program again.
+    ensures program { IfOk result (λ text. IsAssembled (string_bytes text) program.now) }
 {
     program.insns_in_order();
+    printed_text_is_assembled();
     let mut text = String::new(alloc);
-    for slot in 0..program.slots() {
+    for slot in 0..program.code().len() {
         if let Some(insn) = program.get(slot) {
             write_insn(&mut text, insn)?;
             text.push_str("\n")?;

@@ -3,22 +3,26 @@
 ghost use Rattle.std.specs.Prelude.{◌≡◌, ◌≢◌, ◌+◌, ◌*◌, ◌<◌, ◌≤◌, ◌++◌, [], ◌⊎◌, ℕ, List, length, map, vec_len, IfOk, OnOk, IfErr, MatchResult, Some, None, unwrap_or};
 ghost use Rattle.bpf_text.specs.declared.fault.TextFaultKind.TheVariants.{Memory};
 ghost use Rattle.std.specs.String.{string_bytes};
-ghost use Rattle.hex.specs.Hex.{IsBytes};
 ghost use Rattle.insn_codec.specs.Program.{program_bytes};
 ghost use Rattle.bpf_text.specs.Lines.{text_lines};
 ghost use Rattle.bpf_text.specs.Fault.{IsTextFault, IsFirst, NoneBelow, memory_fault};
 ghost use Rattle.bpf_text.specs.HexText.{hex_text, hex_line, hex_bytes, hex_fault, hex_fault_at, IsHexText};
 
 use crate::fault::{TextFault, TextFaultKind};
-use crate::lines::{split_lines, stripped};
+use crate::laws::hex_lines_are_read;
+use crate::lines::split_lines;
 use hex::FromHex;
 use insn_codec::{MAX_SLOTS, Program, write_program};
 use std::alloc::{AllocError, Global};
+use text_line::stripped;
 
 /// The slots of a program, one on each line, as sixteen lower-case hex digits and a line feed.
 pub fn hex_lines(alloc: Global, program: &Program) -> Result<String, AllocError>
-    ensures { IfOk result (λ text. string_bytes text ≡ hex_text (program_bytes program.now)) }
+    ensures text { IfOk result (λ text. string_bytes text ≡ hex_text (program_bytes program.now)) }
+    // So `from_hex_lines` gives the slots again.
+    ensures slots { IfOk result (λ text. IsHexText (string_bytes text) (program_bytes program.now)) }
 {
+    hex_lines_are_read();
     let bytes = write_program(alloc, program)?;
     let mut text = String::new(alloc);
     let mut rest = bytes.as_slice();
@@ -98,14 +102,3 @@ fn append_slot(bytes: &mut Vec<u8>, line: &str) -> Result<(), TextFaultKind>
         Err(_) => Err(TextFaultKind::Memory),
     }
 }
-
-/// A law: the lines that `hex_lines` writes of one to `MAX_SLOTS` slots are read as these slots. It does nothing when
-/// it runs.
-pub fn hex_lines_are_read()
-    ensures { (slots : ℕ) (bytes : List ℕ) → IsBytes bytes → length bytes ≡ 8 * slots → 1 ≤ slots → slots ≤ MAX_SLOTS → IsHexText (hex_text bytes) bytes }
-{}
-
-/// A law: a text has one list of slots. It does nothing when it runs.
-pub fn one_hex_text()
-    ensures { (text a b : List ℕ) → IsHexText text a → IsHexText text b → a ≡ b }
-{}

@@ -4,17 +4,18 @@
 mod assembler;
 mod disassembler;
 mod fault;
-mod form;
 mod hexadecimal;
-mod line;
+mod laws;
 mod lines;
-mod names;
-mod parts;
-mod token;
 
+pub use assembler::assemble;
 pub use disassembler::disassemble;
 pub use fault::{TextFault, TextFaultKind};
-pub use hexadecimal::{from_hex_lines, hex_lines, hex_lines_are_read, one_hex_text};
+pub use hexadecimal::{from_hex_lines, hex_lines};
+pub use laws::{
+    hex_lines_are_read, hex_slots_are_read, one_fault, one_hex_text, one_program,
+    printed_text_is_assembled, program_has_no_fault,
+};
 
 #[cfg(test)]
 mod tests;

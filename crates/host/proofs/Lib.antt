@@ -6,3 +6,4 @@ pub mod Tenants
 pub mod Frames
 pub mod Stands
 pub mod Serving
+mod Digits

@@ -1,5 +1,5 @@
 -- What a load that opens nothing is answered.
-use Rattle.std.proofs.Common.{◌≡◌, ℕ, ◌<◌, ◌≤◌, Bool, true, false, List, length, drop, Option, Some, refl, sym, ap, subst, inl, inr}
+use Rattle.std.proofs.Common.{◌≡◌, ℕ, ◌≤◌, Bool, true, false, List, length, drop, Some, refl, sym, ap, subst, inl, inr}
 use Rattle.std.specs.Prelude.{nat_lt, ◌==◌, ◌⊎◌}
 use Rattle.std.proofs.lemmas.Bool.{le-ltb, eq-eqb}
 use Rattle.byteorder.specs.Endian.{little_number}

@@ -1,5 +1,5 @@
 -- Numbers of two and four bytes, the lowest first.
-use Rattle.std.proofs.Common.{◌≡◌, ℕ, ◌+◌, ◌<◌, ◌^◌, List, ◌++◌, length, get_or, arith, inl, inr, length-append}
+use Rattle.std.proofs.Common.{◌≡◌, ℕ, ◌<◌, ◌^◌, List, ◌++◌, length, get_or, arith, inr}
 use Rattle.std.specs.Int.{w32, from_le_bytes}
 use Rattle.std.proofs.lemmas.Nat.{le_bytes_4}
 use Rattle.byteorder.specs.Endian.{little_number, little_bytes}

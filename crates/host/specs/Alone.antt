@@ -1,5 +1,5 @@
 -- What one tenant is told: the machine of its own, on its own frames.
-use Rattle.std.specs.Prelude.{◌≡◌, ℕ, ◌+◌, Bool, List, [], ◌∷◌, length, drop, filter, Option, Some, None, nat_lt, ◌==◌, if◌then◌else◌, MatchBool}
+use Rattle.std.specs.Prelude.{◌≡◌, ℕ, Bool, List, [], ◌∷◌, length, drop, filter, Option, Some, None, nat_lt, ◌==◌, if◌then◌else◌, MatchBool}
 use Rattle.host.specs.declared.errno.Errno.TheVariants.{NotPermitted, TooBig, Invalid}
 use Rattle.host.specs.Errno.{status_of}
 use Rattle.host.specs.Frame.{owner, command_number, reply_to}

@@ -1,7 +1,6 @@
 -- Frames: a stream is a list of them and a rest, and each has a reply.
-use Rattle.std.specs.Prelude.{◌≡◌, ℕ, ℤ, ◌+◌, ◌<◌, ◌^◌, List, [], ◌∷◌, ◌++◌, length, drop, nat_lt, if◌then◌else◌, ◌⊎◌}
+use Rattle.std.specs.Prelude.{ℕ, ℤ, ◌+◌, ◌<◌, ◌^◌, List, ◌++◌, length, drop, nat_lt, if◌then◌else◌, ◌⊎◌}
 use Rattle.std.specs.Int.{w32, cast_unsigned}
-use Rattle.std.specs.List.{flat_map}
 use Rattle.byteorder.specs.Endian.{little_number, little_bytes}
 
 -- on the stream: its length in four bytes, the lowest first, and then so many bytes

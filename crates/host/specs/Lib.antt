@@ -8,3 +8,4 @@ pub mod Reply
 pub mod Alone
 pub mod Told
 pub mod Served
+pub mod Words

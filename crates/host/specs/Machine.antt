@@ -1,5 +1,5 @@
 -- The machine of one tenant: what each command answers, and what is open after it (bpf(2)).
-use Rattle.std.specs.Prelude.{◌≡◌, ℕ, ℤ, pos, ◌+◌, ◌-◌, ◌<◌, ◌^◌, Bool, true, false, not, ◌||◌, ◌==◌, nat_lt, is_none, List, [], ◌∷◌, ◌++◌, length, drop, replicate, slice_get, slice_set, Option, Some, None, option_and_then, position, if◌then◌else◌, MatchBool, MatchOption, ◌⊎◌}
+use Rattle.std.specs.Prelude.{◌≡◌, ℕ, ℤ, pos, ◌+◌, ◌-◌, ◌<◌, ◌^◌, Bool, not, ◌||◌, ◌==◌, nat_lt, is_none, List, [], ◌++◌, length, drop, slice_get, slice_set, Option, Some, None, option_and_then, position, if◌then◌else◌, MatchBool, MatchOption, ◌⊎◌}
 use Rattle.byteorder.specs.Endian.{little_number, little_bytes}
 use Rattle.insn_codec.specs.declared.insn.Insn.{Insn}
 use Rattle.insn_codec.specs.declared.fault.CodecFault.{CodecFault}

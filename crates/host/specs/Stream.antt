@@ -1,5 +1,5 @@
 -- What a read or a write did, beside the bytes: whether it failed.
-use Rattle.std.specs.Prelude.{ℕ, List, length, Bool, false, true, ◌==◌, ◌&&◌, not, if◌then◌else◌}
+use Rattle.std.specs.Prelude.{ℕ, List, length, ◌==◌, ◌&&◌, not, if◌then◌else◌}
 use Rattle.std.specs.declared.result.Result.{Result}
 use Rattle.std.specs.declared.result.Result.TheVariants.{Ok, Err}
 

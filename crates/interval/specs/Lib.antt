@@ -1,4 +1,5 @@
 pub mod Words
+pub mod Bytes
 pub mod Operate
 pub mod Compare
 pub mod Widths

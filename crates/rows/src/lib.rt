@@ -10,6 +10,8 @@ mod loads;
 #[cfg(test)]
 mod memory;
 #[cfg(test)]
+mod shapes;
+#[cfg(test)]
 mod streams;
 #[cfg(test)]
 mod words;

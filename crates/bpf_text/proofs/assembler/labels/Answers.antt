@@ -1,7 +1,7 @@
 use Rattle.std.proofs.Common.{ℕ, ◌+◌, List, Bor, ap, ◌∙◌, arith}
 use Rattle.std.specs.Map.{lookup}
 use Rattle.std.specs.Str.{bytes_eq}
-use Rattle.bpf_text.specs.Reading.{seen_option, seen_lines}
+use Rattle.text_line.specs.Shown.{seen_option, seen_lines}
 use Rattle.bpf_text.proofs.LabelLines.{finds_more, slots_more, none_found, no_slots, take_seen, length_seen}
 use Rattle.bpf_text.specs.declared.assembler.Place.{Place}
 use Rattle.bpf_text.proofs.assembler.labels.Goals as goal

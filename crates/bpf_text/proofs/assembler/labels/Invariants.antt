@@ -1,5 +1,5 @@
 use Rattle.std.proofs.Common.{◌≡◌, ◌*◌, ◌≤◌, take}
-use Rattle.bpf_text.specs.Reading.{seen_lines}
+use Rattle.text_line.specs.Shown.{seen_lines}
 use Rattle.bpf_text.specs.Assembly.{slots_on}
 use Rattle.bpf_text.specs.Labels.{FindsLabels}
 use Rattle.bpf_text.proofs.assembler.labels.Given as goal

@@ -1,5 +1,5 @@
 use Rattle.std.proofs.Common.{take, map}
-use Rattle.bpf_text.specs.Reading.{seen_lines}
+use Rattle.text_line.specs.Shown.{seen_lines}
 use Rattle.bpf_text.specs.Assembly.{AreRead}
 use Rattle.bpf_text.proofs.assembler.read_lines.Given as goal
 

@@ -1,9 +1,11 @@
-use Rattle.std.proofs.Common.{◌∙◌, ◌++◌, ◌+◌, ◌∷◌, ap, sym, ℕ, List, [], append-nil, append_assoc}
+use Rattle.std.proofs.Common.{◌≡◌, arith, subst, ◌∙◌, ◌++◌, ◌+◌, ◌∷◌, ap, sym, ℕ, List, [], append-nil, append_assoc}
 use Rattle.std.specs.Option.{option_copied}
 use Rattle.std.specs.String.{string_bytes}
 use Rattle.insn_codec.specs.declared.insn.Insn.{Insn}
-use Rattle.insn_codec.specs.Program.{begun_below, begins_at}
-use Rattle.bpf_text.specs.Printed.{printed_insn}
+use Rattle.insn_codec.specs.Program.{begun_below, begins_at, slot_count}
+use Rattle.bpf_text.specs.Assembly.{IsAssembled}
+use Rattle.bpf_text.specs.Printed.{printed}
+use Rattle.text_line.specs.Written.{printed_insn}
 use Rattle.bpf_text.proofs.Printing.{printed_more, printed_one, printed_none}
 use Rattle.bpf_text.proofs.disassembler.disassemble.Goals.{in-Some+in_ok-write_insn+in_ok-push_str, in_default}
 use Rattle.bpf_text.proofs.disassembler.disassemble.Goals as goal
@@ -29,3 +31,10 @@ loop-slot-preserved c =
           ∙ sym (append-nil text)
           ∙ printed_more is before (begun_below is (c.loop-slot.slot + 1)) text (begins_at is c.loop-slot.slot) [] c.loop-slot.invariant step (printed_none (begins_at is c.loop-slot.slot) here)
     ]
+
+pub returns-clause-program : goal.returns-clause-program
+returns-clause-program c =
+    let is : List Insn = c.args.program.now in
+    let all : c.loop-slot.slot ≡ slot_count is = omega (arith, c.code-slot-end.ensures.length) in
+    let text : string_bytes c.loop-slot.text ≡ printed is = c.loop-slot.invariant ∙ ap (λ (n : ℕ). printed (begun_below is n)) all ∙ ap printed c.insns_in_order.ensures.end in
+    subst (λ (t : List ℕ). IsAssembled t is) (sym text) (c.printed_text_is_assembled.ensures is c.code-slot-end.ensures.program)

@@ -1,5 +1,5 @@
 use Rattle.std.proofs.Common.{◌≡◌, List, ℕ, eqb, true, false, length, arith, ap, sym, ◌∙◌, append-nil, inr, unwrap_or, ◌++◌, Option, []}
-use Rattle.bpf_text.specs.Lines.{stripped}
+use Rattle.text_line.specs.Blanks.{stripped}
 use Rattle.bpf_text.specs.HexText.{hex_line, hex_fault}
 use Rattle.bpf_text.proofs.HexLines.{empty_line, slot_line, bad_line, fits, passes}
 use Rattle.bpf_text.proofs.hexadecimal.append_slot.Goals as goal

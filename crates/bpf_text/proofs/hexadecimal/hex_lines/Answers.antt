@@ -1,6 +1,7 @@
-use Rattle.std.proofs.Common.{arith, ap, sym, ◌∙◌, append-nil, append_assoc, ◌≡◌, ◌++◌, ◌∷◌, [], List, ℕ}
+use Rattle.std.proofs.Common.{arith, ap, sym, ◌∙◌, append-nil, append_assoc, ◌≡◌, ◌++◌, ◌∷◌, [], List, ℕ, subst}
 use Rattle.std.specs.String.{string_bytes}
-use Rattle.bpf_text.specs.HexText.{hex_text}
+use Rattle.bpf_text.specs.HexText.{hex_text, IsHexText}
+use Rattle.insn_codec.specs.Program.{program_bytes}
 use Rattle.hex.specs.Hex.{encode_lower}
 use Rattle.std.proofs.lemmas.List.{take-append-drop}
 use Rattle.bpf_text.proofs.HexLines.{hex_text-append, hex_text_short}
@@ -16,7 +17,11 @@ loop-rest-preserved c =
     ap (λ (t : List ℕ). t ++ hex_text after) text
     ∙ simp append_assoc (ap (λ (t : List ℕ). string_bytes c.loop-rest.text ++ t) (sym (ap hex_text parts ∙ step)) ∙ c.loop-rest.invariant)
 
-pub returns : goal.returns
-returns c =
+pub returns-clause-text : goal.returns-clause-text
+returns-clause-text c =
     let none = hex_text_short c.loop-rest.rest.now (omega arith) in
     sym (append-nil (string_bytes c.loop-rest.text)) ∙ ap (λ (t : List ℕ). string_bytes c.loop-rest.text ++ t) (sym none) ∙ c.loop-rest.invariant
+
+pub returns-clause-slots : goal.returns-clause-slots
+returns-clause-slots c =
+    subst (λ (t : List ℕ). IsHexText t (program_bytes c.args.program.now)) (sym (returns-clause-text c)) (c.hex_lines_are_read.ensures c.args.program.now c.in_ok-bytes.ensures.program)

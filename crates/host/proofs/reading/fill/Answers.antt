@@ -1,7 +1,7 @@
-use Rattle.std.proofs.Common.{◌+◌, ◌-◌, ◌<◌, length, subst, arith, rules, ◌∙◌}
+use Rattle.std.proofs.Common.{◌-◌, length, subst, rules}
 use Rattle.std.specs.Io.KnownBytes.{Consumes}
-use Rattle.std.proofs.KnownBytes.{Consumes-trans, Consumes-kept}
-use Rattle.host.proofs.Buffers.{take-put_mid, take-put_mid_same}
+use Rattle.std.proofs.KnownBytes.{Consumes-trans}
+use Rattle.host.proofs.Buffers.{take-put_mid}
 use Rattle.host.proofs.reading.fill.Goals as goal
 
 pub loop-at-preserved : goal.loop-at-preserved

@@ -1,4 +1,4 @@
-use Rattle.std.proofs.Common.{◌≡◌, ◌<◌, length, take, arith, length-take, take_all, refl, sym, ap, ◌∙◌, inl, inr}
+use Rattle.std.proofs.Common.{◌≡◌, take, arith, length-take, take_all, refl, ap, ◌∙◌, inl, inr}
 use Rattle.host.proofs.reading.read_body.Goals as goal
 
 pub returns-in_ok-read_whole-clause-frame : goal.returns-in_ok-read_whole-clause-frame

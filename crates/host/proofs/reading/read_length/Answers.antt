@@ -1,4 +1,4 @@
-use Rattle.std.proofs.Common.{◌≡◌, take, subst, sym, ap, ◌∙◌, arith, take_all}
+use Rattle.std.proofs.Common.{◌≡◌, take, subst, sym, ◌∙◌, arith, take_all}
 use Rattle.std.specs.Io.KnownBytes.{Consumes}
 use Rattle.host.proofs.reading.read_length.Goals as goal
 

@@ -1,4 +1,4 @@
-use Rattle.std.proofs.Common.{◌≡◌, ℕ, Bool, true, false, refl, sym, subst, arith}
+use Rattle.std.proofs.Common.{◌≡◌, refl, subst, arith}
 use Rattle.host.specs.Served.{EndsFrame}
 use Rattle.host.proofs.Serving.{answered_none, frame_more, frame_stops, end_more, end_fails}
 use Rattle.host.proofs.server.serve.Goals as goal

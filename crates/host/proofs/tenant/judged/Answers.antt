@@ -1,4 +1,4 @@
-use Rattle.std.proofs.Common.{◌≡◌, arith, sym, subst}
+use Rattle.std.proofs.Common.{sym, subst}
 use Rattle.host.specs.Reply.{IsLoadRefusal}
 use Rattle.host.proofs.Loads.{verdict_told}
 use Rattle.host.proofs.tenant.judged.Goals as goal

@@ -1,4 +1,4 @@
-use Rattle.std.proofs.Common.{◌≡◌, ◌<◌, length, Some, ap, sym, ◌∙◌, arith}
+use Rattle.std.proofs.Common.{◌<◌, length, ap, arith}
 use Rattle.std.specs.Prelude.{slice_get}
 use Rattle.host.specs.Frame.{owner}
 use Rattle.host.proofs.Tenants.{slice_get_some}

@@ -1,4 +1,4 @@
-use Rattle.std.proofs.Common.{◌≡◌, ℕ, ◌<◌, List, length, Some, None, Option, refl, sym, ap, subst, ◌∙◌, arith, false}
+use Rattle.std.proofs.Common.{◌≡◌, ◌<◌, length, Some, None, Option, refl, sym, ap, subst, ◌∙◌, arith, false}
 use Rattle.host.specs.declared.command.Command.{Command}
 use Rattle.host.specs.declared.command.Command.TheVariants.{ProgLoad, ProgTestRun}
 use Rattle.host.specs.declared.errno.Errno.TheVariants.{Invalid}

@@ -1,4 +1,4 @@
-use Rattle.std.proofs.Common.{◌≡◌, ℕ, List, arith, sym, subst, ◌∙◌}
+use Rattle.std.proofs.Common.{ℕ, List, arith, sym, subst, ◌∙◌}
 use Rattle.std.proofs.lemmas.List.{take_rest}
 use Rattle.host.specs.Reply.{IsLoadRefusal}
 use Rattle.host.proofs.Loads.{load_told}

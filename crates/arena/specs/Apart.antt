@@ -1,0 +1,19 @@
+-- What is written in one part leaves the others as they were.
+use Rattle.std.specs.Prelude.{◌≡◌, ◌≢◌, ℕ, ◌+◌, ◌*◌, ◌<◌, ◌≤◌, List, length}
+use Rattle.arena.specs.Memory.{Memory, size_of, part_start, part_bytes, with_bytes, with_part}
+
+-- the memory is its parts, and this is one of them
+abbrev pub IsPart : Memory → ℕ → Type 0
+IsPart m t = (size_of m ≡ m.parts * m.part) × (t < m.parts)
+
+-- bytes that are written within a part
+abbrev pub WritesStayInside : Type 0
+WritesStayInside =
+    (m : Memory) (t u place : ℕ) (new : List ℕ) → IsPart m t → part_start m t ≤ place → place + length new ≤ part_start m t + m.part → u ≢ t
+    → part_bytes (with_bytes m place new) u ≡ part_bytes m u
+
+-- all bytes of a part
+pub record PartsAreApart : Type 0 where
+  pub others : (m : Memory) (t u : ℕ) (new : List ℕ) → IsPart m t → length new ≡ m.part → u ≢ t → part_bytes (with_part m t new) u ≡ part_bytes m u
+  pub own : (m : Memory) (t : ℕ) (new : List ℕ) → IsPart m t → length new ≡ m.part → part_bytes (with_part m t new) t ≡ new
+  pub size : (m : Memory) (t : ℕ) (new : List ℕ) → IsPart m t → length new ≡ m.part → size_of (with_part m t new) ≡ size_of m

@@ -1,0 +1,13 @@
+//! Laws of the parts. Each is the contract of a function that does nothing.
+
+ghost use Rattle.arena.specs.Apart.{WritesStayInside, PartsAreApart};
+
+/// What a store or a copy writes within a part leaves the other parts as they were.
+pub fn writes_stay_inside()
+    ensures { WritesStayInside }
+{}
+
+/// What is written through a part that is lent is that part, and leaves the other parts as they were.
+pub fn parts_are_apart()
+    ensures { PartsAreApart }
+{}

@@ -1,5 +1,0 @@
-use Rattle.bpf_text.proofs.HexLaw.{hex_text_is_read}
-use Rattle.bpf_text.proofs.hexadecimal.hex_lines_are_read.Goals as goal
-
-pub returns : goal.returns
-returns c = λ slots bytes fit len some room. hex_text_is_read slots bytes fit len some room

@@ -1,0 +1,5 @@
+use Rattle.bpf_text.proofs.TextLaws.{one_program_is}
+use Rattle.bpf_text.proofs.laws.one_program.Goals as goal
+
+pub returns : goal.returns
+returns c = one_program_is c.one_reading.ensures c.one_instruction.ensures

@@ -1,0 +1,5 @@
+use Rattle.bpf_text.proofs.TextLaws.{printed_is}
+use Rattle.bpf_text.proofs.laws.printed_text_is_assembled.Goals as goal
+
+pub returns : goal.returns
+returns c = printed_is c.written_in_range.ensures c.printed_is_read.ensures

@@ -1,9 +1,0 @@
-use Rattle.std.proofs.Common.{◌≡◌, length}
-use Rattle.bpf_text.specs.Lines.{skip_blanks}
-use Rattle.bpf_text.proofs.lines.skip_blanks.Given as goal
-
-abbrev pub invariant-loop-first : goal.invariant-loop-first
-invariant-loop-first l = skip_blanks l.line ≡ skip_blanks l.rest
-
-abbrev pub decreases-loop-first : goal.decreases-loop-first
-decreases-loop-first l = length l.rest

@@ -1,0 +1,29 @@
+-- What the laws of texts say.
+use Rattle.std.specs.Prelude.{◌≡◌, ℕ, List}
+use Rattle.insn_codec.specs.declared.insn.Insn.{Insn}
+use Rattle.insn_codec.specs.Program.{program_bytes, IsProgram}
+use Rattle.bpf_text.specs.declared.fault.TextFault.{TextFault}
+use Rattle.bpf_text.specs.Assembly.{IsAssembled, IsOwnFault, IsFaultOf}
+use Rattle.bpf_text.specs.Fault.{memory_fault}
+use Rattle.bpf_text.specs.HexText.{hex_text, IsHexText}
+use Rattle.bpf_text.specs.Printed.{printed}
+
+-- a text is at most one program
+abbrev pub OneProgram : Type 0
+OneProgram = (text : List ℕ) (a b : List Insn) → IsAssembled text a → IsAssembled text b → a ≡ b
+
+-- a text that is a program has no fault of its own
+abbrev pub ProgramHasNoFault : Type 0
+ProgramHasNoFault = (text : List ℕ) (insns : List Insn) (fault : TextFault) → IsAssembled text insns → IsFaultOf text fault → fault ≡ memory_fault
+
+-- a text has at most one fault of its own
+abbrev pub OneFault : Type 0
+OneFault = (text : List ℕ) (a b : TextFault) → IsOwnFault text a → IsOwnFault text b → a ≡ b
+
+-- the printed text of a program is that program
+abbrev pub PrintedIsAssembled : Type 0
+PrintedIsAssembled = (insns : List Insn) → IsProgram insns → IsAssembled (printed insns) insns
+
+-- the hex lines of a program are its slots
+abbrev pub HexLinesAreRead : Type 0
+HexLinesAreRead = (insns : List Insn) → IsProgram insns → IsHexText (hex_text (program_bytes insns)) (program_bytes insns)

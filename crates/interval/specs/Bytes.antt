@@ -1,0 +1,12 @@
+-- Numbers and their bytes, the lowest first (RFC 9669, section 5, on a little-endian machine).
+use Rattle.std.specs.Prelude.{ℕ, zero, suc, ◌+◌, ◌*◌, ◌/◌, ◌%◌, List, [], ◌∷◌}
+
+-- the number that bytes make
+abbrev pub number_of : List ℕ → ℕ
+number_of [] = 0
+number_of (b ∷ bs) = b + 256 * number_of bs
+
+-- the low n bytes of a number
+abbrev pub low_bytes : ℕ → ℕ → List ℕ
+low_bytes zero x = []
+low_bytes (suc n) x = x % 256 ∷ low_bytes n (x / 256)

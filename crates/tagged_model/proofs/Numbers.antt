@@ -1,0 +1,29 @@
+-- The numbers that loads give are words of the kind that is told.
+use Rattle.std.proofs.Common.{ℕ, ◌-◌, ◌*◌, ◌%◌, ◌^◌, ◌<◌, ◌≤◌, ℤ, pos, negsuc, Bool, true, false, refl, arith}
+use Rattle.interval.specs.Words.{unsigned, signed}
+use Rattle.interval.specs.Ranges.{full}
+use Rattle.reg_kinds.specs.declared.stack.Size.{Size}
+use Rattle.reg_kinds.specs.declared.stack.Size.TheVariants.{Byte, Half, Word, Double}
+use Rattle.reg_kinds.specs.Stack.{bytes_of, loaded}
+use Rattle.tagged_model.specs.declared.value.Tagged.{Tagged}
+use Rattle.tagged_model.specs.declared.value.Tagged.TheVariants.{Scalar}
+use Rattle.tagged_model.specs.Cells.{widened}
+use Rattle.tagged_model.specs.Admits.{IsOf, IsScalarOf}
+
+word_of : (z : ℤ) → unsigned 64 z < 2 ^ 64
+word_of (pos m) = omega arith
+word_of (negsuc m) = omega arith
+
+in_full : (x y w : ℕ) → x < y → y ≤ w → (0 ≤ x) × (x ≤ y - 1) × (x < w)
+in_full x y w h g = (omega arith, omega arith, omega arith)
+
+pub full_scalar : (k x : ℕ) → x < 2 ^ k → 2 ^ k ≤ 2 ^ 64 → IsScalarOf (full k) (Scalar x)
+full_scalar k x h g = let p = in_full x (2 ^ k) (2 ^ 64) h g in (x, refl, record { from = p.0; to = p.1 }, p.2)
+
+-- a number of so many bytes, with its sign or with zeros above
+pub widened_is : (gave : ℕ → Tagged) (size : Size) (signed : Bool) (x : ℕ) → x < 256 ^ bytes_of size → IsOf gave (loaded size signed) (Scalar (widened size signed x))
+widened_is gave size true x h = full_scalar 64 (widened size true x) (word_of (signed (8 * bytes_of size) (x % 2 ^ (8 * bytes_of size)))) (omega arith)
+widened_is gave Byte false x h = full_scalar 8 x h (omega arith)
+widened_is gave Half false x h = full_scalar 16 x h (omega arith)
+widened_is gave Word false x h = full_scalar 32 x h (omega arith)
+widened_is gave Double false x h = full_scalar 64 x h (omega arith)

@@ -1,0 +1,59 @@
+-- Accesses that facts let go ahead lie in the stack, in one slot.
+use Rattle.std.proofs.Common.{◌≡◌, ℕ, ◌+◌, ◌/◌, ◌%◌, ◌<◌, ◌≤◌, ◌&&◌, not, ℤ, Bool, true, false, if◌then◌else◌, Result, Ok, Err, Some, None, refl, arith}
+use Rattle.std.proofs.lemmas.Bool.{cond-true, and_from, eqb-true}
+use Rattle.reg_kinds.specs.declared.reason.Reason.{Reason}
+use Rattle.reg_kinds.specs.declared.reason.Reason.TheVariants.{OutsideStack, UnalignedStack}
+use Rattle.reg_kinds.specs.declared.stack.Size.{Size}
+use Rattle.reg_kinds.specs.declared.stack.Size.TheVariants.{Byte, Half, Word, Double}
+use Rattle.reg_kinds.specs.Reason.{given}
+use Rattle.reg_kinds.specs.Stack.{bytes_of, is_in_stack, is_aligned, place, byte_bits, touched}
+use Rattle.tagged_model.specs.State.{stack_place}
+
+-- ---- results
+
+pub refused : {A : Type 0} (r : Reason) (y : A) → Err r ≡ Ok y → ⊥
+refused r y e = cc
+
+pub same_ok : {A : Type 0} (x y : A) → ◌≡◌ {A = Result A Reason} (Ok x) (Ok y) → x ≡ y
+same_ok x y e = cc
+
+-- what goes ahead where a test holds
+pub chosen : {A : Type 0} (b : Bool) (x y : A) (r : Reason) → (if b then Ok x else Err r) ≡ Ok y → (b ≡ true) × (x ≡ y)
+chosen true x y r e = (refl, same_ok x y e)
+chosen false x y r e = absurd (refused r y e)
+
+-- what goes ahead after a step has gone ahead
+pub given_ok : {A B : Type 0} (r : Result A Reason) (f : A → Result B Reason) (y : B) → given r f ≡ Ok y → (x : A) × (r ≡ Ok x) × (f x ≡ Ok y)
+given_ok (Ok x) f y e = (x, refl, e)
+given_ok (Err r) f y e = absurd (refused r y e)
+
+-- ---- places
+
+after_tests : {B : Type 0} (a b : Bool) (t : ℕ × ℕ) (f : ℕ × ℕ → Result B Reason) (y : B) → given (if not a then Err OutsideStack else (if not b then Err UnalignedStack else Ok t)) f ≡ Ok y → (a ≡ true) × (b ≡ true) × (f t ≡ Ok y)
+after_tests true true t f y e = (refl, refl, e)
+after_tests true false t f y e = absurd (refused UnalignedStack y e)
+after_tests false b t f y e = absurd (refused OutsideStack y e)
+
+-- the place of the access, that it is aligned, and what goes ahead there
+pub at_place : {B : Type 0} (offset : ℤ) (size : Size) (f : ℕ × ℕ → Result B Reason) (y : B) → given (touched offset size) f ≡ Ok y → (stack_place offset size ≡ Some (place offset)) × (place offset % bytes_of size ≡ 0) × (f (place offset / 8, byte_bits (place offset) (bytes_of size)) ≡ Ok y)
+at_place offset size f y e =
+    let n = bytes_of size in
+    let p = place offset in
+    let h = after_tests (is_in_stack offset n) (is_aligned offset n) (p / 8, byte_bits p n) f y e in (
+      cond-true (is_in_stack offset n && is_aligned offset n) (Some p) None (and_from (is_in_stack offset n) (is_aligned offset n) h.0 h.1),
+      eqb-true (p % n) 0 h.1,
+      h.2,
+    )
+
+-- an aligned access ends in the slot where it begins
+pub in_one_slot : (size : Size) (p : ℕ) → p % bytes_of size ≡ 0 → p % 8 + bytes_of size ≤ 8
+in_one_slot Byte p h = omega arith
+in_one_slot Half p h = omega arith
+in_one_slot Word p h = omega arith
+in_one_slot Double p h = omega arith
+
+pub some_bytes : (size : Size) → 0 < bytes_of size
+some_bytes Byte = omega arith
+some_bytes Half = omega arith
+some_bytes Word = omega arith
+some_bytes Double = omega arith

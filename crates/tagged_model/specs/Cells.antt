@@ -1,0 +1,52 @@
+-- Eight bytes of the stack, and how they are read and written.
+use Rattle.std.specs.Prelude.{ℕ, zero, suc, ◌+◌, ◌-◌, ◌*◌, Bool, true, false, ◌&&◌, nat_lt, nat_le, if◌then◌else◌, List, [], ◌∷◌, length, slice_get, Option, Some, None, option_map}
+use Rattle.interval.specs.Words.{sign_extend}
+use Rattle.interval.specs.Bytes.{number_of, low_bytes}
+use Rattle.reg_kinds.specs.declared.stack.Size.{Size}
+use Rattle.reg_kinds.specs.declared.stack.Size.TheVariants.{Double}
+use Rattle.reg_kinds.specs.Stack.{bytes_of}
+use Rattle.tagged_model.specs.declared.value.Tagged.{Tagged}
+use Rattle.tagged_model.specs.declared.value.Tagged.TheVariants.{Scalar}
+
+-- a pointer or a map that is kept whole, or bytes, of which any may be absent
+pub data Cell : Type 0 where
+  holds : Tagged → Cell
+  bytes : (ℕ → Option ℕ) → Cell
+
+-- what is made of a thing that may be absent
+abbrev pub also : {A B : Type 0} → Option A → (A → Option B) → Option B
+also None f = None
+also (Some x) f = f x
+
+abbrev pub byte_at : Cell → ℕ → Option ℕ
+byte_at (holds v) j = None
+byte_at (bytes b) j = b j
+
+-- n bytes from the j-th on, if none of them is absent
+unfoldable pub bytes_from : Cell → ℕ → ℕ → Option (List ℕ)
+bytes_from c j zero = Some []
+bytes_from c j (suc n) = also (byte_at c j) (λ b. also (bytes_from c (suc j) n) (λ bs. Some (b ∷ bs)))
+
+-- a number of so many bytes as a word: with its sign, or with zeros above
+abbrev pub widened : Size → Bool → ℕ → ℕ
+widened size true n = sign_extend 64 (8 * bytes_of size) n
+widened size false n = n
+
+abbrev pub number_from : Size → Bool → Option (List ℕ) → Option Tagged
+number_from size signed o = option_map (λ bs. Scalar (widened size signed (number_of bs))) o
+
+-- what a load gives; nothing of a part of what is kept whole
+abbrev pub read_cell : Cell → ℕ → Size → Bool → Option Tagged
+read_cell (holds v) j Double signed = Some v
+read_cell (holds v) j _ signed = None
+read_cell (bytes b) j size signed = number_from size signed (bytes_from (bytes b) j (bytes_of size))
+
+-- these bytes from the j-th on, over what was there; of what was kept whole nothing is left
+abbrev pub written_over : Cell → ℕ → List ℕ → Cell
+written_over c j bs = bytes (λ k. if nat_le j k && nat_lt k (j + length bs) then slice_get bs (k - j) else byte_at c k)
+
+-- what a store leaves; a pointer or a map is not cut
+abbrev pub write_cell : Cell → ℕ → Size → Tagged → Option Cell
+write_cell c j size (Scalar n) = Some (written_over c j (low_bytes (bytes_of size) n))
+write_cell c j Double v = Some (holds v)
+write_cell c j _ v = None

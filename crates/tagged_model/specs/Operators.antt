@@ -1,0 +1,82 @@
+-- The operators of instructions, as those on words (RFC 9669, sections 4.1 to 4.3), and the sizes of loads and stores
+-- (section 5).
+use Rattle.std.specs.Prelude.{ℕ, Bool, true, false}
+use Rattle.insn_codec.specs.declared.insn.AluOp.{AluOp}
+use Rattle.insn_codec.specs.declared.insn.AluOp.TheVariants as alu
+use Rattle.insn_codec.specs.declared.insn.Condition.{Condition}
+use Rattle.insn_codec.specs.declared.insn.Condition.TheVariants as condition
+use Rattle.insn_codec.specs.declared.insn.ByteOrder.{ByteOrder}
+use Rattle.insn_codec.specs.declared.insn.ByteOrder.TheVariants as order
+use Rattle.insn_codec.specs.declared.insn.Bits.{Bits}
+use Rattle.insn_codec.specs.declared.insn.Bits.TheVariants as bits
+use Rattle.insn_codec.specs.declared.insn.Narrow.{Narrow}
+use Rattle.insn_codec.specs.declared.insn.Narrow.TheVariants as narrow
+use Rattle.insn_codec.specs.declared.insn.Size.{Size}
+use Rattle.insn_codec.specs.declared.insn.Size.TheVariants as size
+use Rattle.interval.specs.declared.operator.Operator.{Operator}
+use Rattle.interval.specs.declared.operator.Operator.TheVariants.{Add, Sub, Mul, Div, SignedDiv, Or, And, ShiftLeft, ShiftRight, Mod, SignedMod, Xor, Mov, SignedShiftRight}
+use Rattle.interval.specs.declared.operator.Comparison.{Comparison}
+use Rattle.interval.specs.declared.operator.Comparison.TheVariants.{Equal, NotEqual, Above, AboveOrEqual, Below, BelowOrEqual, SignedAbove, SignedAboveOrEqual, SignedBelow, SignedBelowOrEqual, CommonBit}
+use Rattle.interval.specs.declared.operator.Bits.{Bits as WordBits}
+use Rattle.interval.specs.declared.operator.Bits.TheVariants.{Bits16, Bits32, Bits64}
+use Rattle.interval.specs.declared.operator.Narrow.{Narrow as WordNarrow}
+use Rattle.interval.specs.declared.operator.Narrow.TheVariants as word
+use Rattle.interval.specs.declared.operator.ByteOrder.{ByteOrder as WordOrder}
+use Rattle.interval.specs.declared.operator.ByteOrder.TheVariants.{Little, Big, Swap}
+use Rattle.reg_kinds.specs.declared.stack.Size.{Size as AccessSize}
+use Rattle.reg_kinds.specs.declared.stack.Size.TheVariants.{Byte, Half, Word, Double}
+
+-- the bits of a class: 64, or the low 32
+abbrev pub width : Bool → ℕ
+width true = 64
+width false = 32
+
+abbrev pub operator_of : AluOp → Operator
+operator_of alu.Add = Add
+operator_of alu.Sub = Sub
+operator_of alu.Mul = Mul
+operator_of alu.Div = Div
+operator_of alu.SignedDiv = SignedDiv
+operator_of alu.Or = Or
+operator_of alu.And = And
+operator_of alu.ShiftLeft = ShiftLeft
+operator_of alu.ShiftRight = ShiftRight
+operator_of alu.Mod = Mod
+operator_of alu.SignedMod = SignedMod
+operator_of alu.Xor = Xor
+operator_of alu.Mov = Mov
+operator_of alu.SignedShiftRight = SignedShiftRight
+
+abbrev pub comparison_of : Condition → Comparison
+comparison_of condition.Equal = Equal
+comparison_of condition.Above = Above
+comparison_of condition.AboveOrEqual = AboveOrEqual
+comparison_of condition.CommonBit = CommonBit
+comparison_of condition.NotEqual = NotEqual
+comparison_of condition.SignedAbove = SignedAbove
+comparison_of condition.SignedAboveOrEqual = SignedAboveOrEqual
+comparison_of condition.Below = Below
+comparison_of condition.BelowOrEqual = BelowOrEqual
+comparison_of condition.SignedBelow = SignedBelow
+comparison_of condition.SignedBelowOrEqual = SignedBelowOrEqual
+
+abbrev pub narrow_of : Narrow → WordNarrow
+narrow_of narrow.Bits8 = word.Bits8
+narrow_of narrow.Bits16 = word.Bits16
+narrow_of narrow.Bits32 = word.Bits32
+
+abbrev pub order_of : ByteOrder → WordOrder
+order_of order.Little = Little
+order_of order.Big = Big
+order_of order.Swap = Swap
+
+abbrev pub kept_of : Bits → WordBits
+kept_of bits.Bits16 = Bits16
+kept_of bits.Bits32 = Bits32
+kept_of bits.Bits64 = Bits64
+
+abbrev pub size_of : Size → AccessSize
+size_of size.Byte = Byte
+size_of size.Half = Half
+size_of size.Word = Word
+size_of size.Double = Double

@@ -1,0 +1,33 @@
+-- The shapes that a map may have. The limits are this project's own; kinds and fields are those of bpf(2), BPF_MAP_CREATE.
+use Rattle.std.specs.Prelude.{ℕ, ◌+◌, ◌*◌, ◌/◌, ◌==◌, Bool, ◌&&◌, nat_le, if◌then◌else◌, Option, Some, None}
+use Rattle.tagged_model.specs.declared.shape.MapKind.{MapKind}
+use Rattle.tagged_model.specs.declared.shape.MapKind.TheVariants.{Hash, Array}
+use Rattle.tagged_model.specs.declared.shape.ShapeFault.{ShapeFault}
+use Rattle.tagged_model.specs.declared.shape.ShapeFault.TheVariants.{Invalid, TooBig}
+
+abbrev pub is_from_to : ℕ → ℕ → ℕ → Bool
+is_from_to low high n = nat_le low n && nat_le n high
+
+-- a key of an array is a word of four bytes
+abbrev pub has_key : MapKind → ℕ → Bool
+has_key Array key = key == 4
+has_key Hash key = is_from_to 1 64 key
+
+-- the bytes that the values take, each rounded up to a multiple of eight
+abbrev pub area : ℕ → ℕ → ℕ
+area value max = max * ((value + 7) / 8 * 8)
+
+-- each field is in its limits
+abbrev pub is_valid : MapKind → ℕ → ℕ → ℕ → ℕ → Bool
+is_valid kind key value max flags = has_key kind key && is_from_to 1 4096 value && is_from_to 1 4096 max && (flags == 0)
+
+abbrev pub fits : ℕ → ℕ → Bool
+fits value max = nat_le (area value max) 65536
+
+abbrev pub is_shape : MapKind → ℕ → ℕ → ℕ → Bool
+is_shape kind key value max = is_valid kind key value max 0 && fits value max
+
+-- what is wrong with the fields
+abbrev pub shape_fault : MapKind → ℕ → ℕ → ℕ → ℕ → Option ShapeFault
+shape_fault kind key value max flags =
+    if is_valid kind key value max flags then (if fits value max then None else Some TooBig) else Some Invalid

@@ -1,0 +1,99 @@
+//! The operators of instructions, as those on words, and the sizes of loads and stores, as those of stack accesses.
+
+ghost use Rattle.std.specs.Prelude.{◌≡◌};
+ghost use Rattle.tagged_model.specs.Operators.{operator_of, comparison_of, narrow_of, order_of, kept_of, size_of};
+
+use insn_codec::{AluOp, Bits, ByteOrder, Condition, Narrow, Size};
+use interval::{Comparison, Operator};
+
+/// The operator on words.
+#[inline(always)]
+pub fn operator(op: AluOp) -> Operator
+    ensures { result ≡ operator_of op }
+{
+    match op {
+        AluOp::Add => Operator::Add,
+        AluOp::Sub => Operator::Sub,
+        AluOp::Mul => Operator::Mul,
+        AluOp::Div => Operator::Div,
+        AluOp::SignedDiv => Operator::SignedDiv,
+        AluOp::Or => Operator::Or,
+        AluOp::And => Operator::And,
+        AluOp::ShiftLeft => Operator::ShiftLeft,
+        AluOp::ShiftRight => Operator::ShiftRight,
+        AluOp::Mod => Operator::Mod,
+        AluOp::SignedMod => Operator::SignedMod,
+        AluOp::Xor => Operator::Xor,
+        AluOp::Mov => Operator::Mov,
+        AluOp::SignedShiftRight => Operator::SignedShiftRight,
+    }
+}
+
+/// The comparison of words.
+#[inline(always)]
+pub fn comparison(condition: Condition) -> Comparison
+    ensures { result ≡ comparison_of condition }
+{
+    match condition {
+        Condition::Equal => Comparison::Equal,
+        Condition::Above => Comparison::Above,
+        Condition::AboveOrEqual => Comparison::AboveOrEqual,
+        Condition::CommonBit => Comparison::CommonBit,
+        Condition::NotEqual => Comparison::NotEqual,
+        Condition::SignedAbove => Comparison::SignedAbove,
+        Condition::SignedAboveOrEqual => Comparison::SignedAboveOrEqual,
+        Condition::Below => Comparison::Below,
+        Condition::BelowOrEqual => Comparison::BelowOrEqual,
+        Condition::SignedBelow => Comparison::SignedBelow,
+        Condition::SignedBelowOrEqual => Comparison::SignedBelowOrEqual,
+    }
+}
+
+/// The bits that a sign extension starts from.
+#[inline(always)]
+pub fn narrow(bits: Narrow) -> interval::Narrow
+    ensures { result ≡ narrow_of bits }
+{
+    match bits {
+        Narrow::Bits8 => interval::Narrow::Bits8,
+        Narrow::Bits16 => interval::Narrow::Bits16,
+        Narrow::Bits32 => interval::Narrow::Bits32,
+    }
+}
+
+/// The change of byte order.
+#[inline(always)]
+pub fn byte_order(how: ByteOrder) -> interval::ByteOrder
+    ensures { result ≡ order_of how }
+{
+    match how {
+        ByteOrder::Little => interval::ByteOrder::Little,
+        ByteOrder::Big => interval::ByteOrder::Big,
+        ByteOrder::Swap => interval::ByteOrder::Swap,
+    }
+}
+
+/// The bits that a change of byte order keeps.
+#[inline(always)]
+pub fn kept_bits(bits: Bits) -> interval::Bits
+    ensures { result ≡ kept_of bits }
+{
+    match bits {
+        Bits::Bits16 => interval::Bits::Bits16,
+        Bits::Bits32 => interval::Bits::Bits32,
+        Bits::Bits64 => interval::Bits::Bits64,
+    }
+}
+
+/// The size of a load or a store.
+#[inline(always)]
+pub fn access_size(size: Size) -> reg_kinds::Size
+    ensures { result ≡ size_of size }
+{
+    match size {
+        Size::Byte => reg_kinds::Size::Byte,
+        Size::Half => reg_kinds::Size::Half,
+        Size::Word => reg_kinds::Size::Word,
+        Size::Double => reg_kinds::Size::Double,
+    }
+}

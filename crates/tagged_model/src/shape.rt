@@ -1,0 +1,98 @@
+//! The shapes of maps, and what a descriptor names.
+
+ghost use Rattle.std.specs.Prelude.{◌≡◌, ◌≤◌, IsTrue, IfOk, OnOk, IfErr, Some, None};
+ghost use Rattle.tagged_model.specs.Shape.{area, is_shape, shape_fault};
+
+/// How a map finds its values.
+#[derive(Clone, Copy, Debug, PartialEq, Eq)]
+pub enum MapKind {
+    /// By keys of any bytes.
+    Hash,
+    /// By an index.
+    Array,
+}
+
+/// Why there is no map of a shape.
+#[derive(Clone, Copy, Debug, PartialEq, Eq)]
+pub enum ShapeFault {
+    /// A field is out of its limits.
+    Invalid,
+    /// The values take more than 65,536 bytes.
+    TooBig,
+}
+
+/// The shape of a map: its fields are within their limits, and its values take at most 65,536 bytes.
+#[derive(Clone, Copy, Debug, PartialEq, Eq)]
+pub struct MapShape {
+    pub kind: MapKind,
+    /// In bytes: 4 of an array, and 1 to 64 of a hash map.
+    pub key_size: u32,
+    /// In bytes, 1 to 4,096.
+    pub value_size: u32,
+    /// 1 to 4,096.
+    pub max_entries: u32,
+    pub ghost listed: { IsTrue (is_shape kind key_size value_size max_entries) },
+}
+
+/// What a descriptor names.
+#[derive(Clone, Copy, Debug, PartialEq, Eq)]
+pub enum Target {
+    Map(MapShape),
+    Program,
+}
+
+/// An open descriptor, and what it names.
+#[derive(Clone, Copy, Debug, PartialEq, Eq)]
+pub struct Named {
+    pub fd: u32,
+    pub target: Target,
+}
+
+impl MapShape {
+    /// The shape of these fields, which are those of bpf(2), BPF_MAP_CREATE. The sizes are in bytes.
+    ///
+    /// # Errors
+    ///
+    /// `Invalid` where a field is out of its limits or a flag is set, and else `TooBig` where the values, each rounded up
+    /// to a multiple of eight bytes, take more than 65,536 bytes.
+    pub fn new(
+        kind: MapKind,
+        key_size: u32,
+        value_size: u32,
+        max_entries: u32,
+        flags: u32,
+    ) -> Result<MapShape, ShapeFault>
+        ensures made { IfOk result (λ s. (s.kind ≡ kind) × (s.key_size ≡ key_size) × (s.value_size ≡ value_size) × (s.max_entries ≡ max_entries)) }
+        ensures listed { OnOk result (shape_fault kind key_size value_size max_entries flags ≡ None) }
+        ensures fault { IfErr result (λ e. shape_fault kind key_size value_size max_entries flags ≡ Some e) }
+    {
+        let has_key = match kind {
+            MapKind::Hash => key_size >= 1 && key_size <= 64,
+            MapKind::Array => key_size == 4,
+        };
+        let in_limits = value_size >= 1
+            && value_size <= 4096
+            && max_entries >= 1
+            && max_entries <= 4096;
+        if !has_key || !in_limits || flags != 0 {
+            return Err(ShapeFault::Invalid);
+        }
+        if max_entries * value_size.next_multiple_of(8) > 65_536 {
+            return Err(ShapeFault::TooBig);
+        }
+        Ok(MapShape {
+            kind,
+            key_size,
+            value_size,
+            max_entries,
+        })
+    }
+
+    /// The bytes that the values take, each rounded up to a multiple of eight: at most 65,536.
+    pub fn area(&self) -> u32
+        ensures value { result ≡ area self.now.value_size self.now.max_entries }
+        ensures bound { result ≤ 65536 }
+    {
+        self.max_entries * self.value_size.next_multiple_of(8)
+    }
+}

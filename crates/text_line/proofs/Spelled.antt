@@ -1,0 +1,421 @@
+-- What is spelled is read so.
+use Rattle.std.proofs.Common.{◌≡◌, ℕ, zero, suc, ◌≤◌, Bool, true, false, List, [], ◌∷◌, Option, Some, None, refl, sym, ap, ◌∙◌, arith, eqb}
+use Rattle.std.specs.Prelude.{codes, IsTrue, ◌||◌, ◌&&◌, not}
+use Rattle.std.specs.Str.{bytes_eq}
+use Rattle.std.proofs.lemmas.Bool.{false≢true}
+use Rattle.std.proofs.lemmas.Bool.Decides.{nat_tests}
+use Rattle.insn_codec.specs.declared.insn.AluOp.{AluOp}
+use Rattle.insn_codec.specs.declared.insn.AluOp.TheVariants.{Add, Sub, Mul, Div, SignedDiv, Or, And, ShiftLeft, ShiftRight, Mod, SignedMod, Xor, Mov, SignedShiftRight}
+use Rattle.insn_codec.specs.declared.insn.Condition.{Condition}
+use Rattle.insn_codec.specs.declared.insn.Condition.TheVariants.{Equal, Above, AboveOrEqual, CommonBit, NotEqual, SignedAbove, SignedAboveOrEqual, Below, BelowOrEqual, SignedBelow, SignedBelowOrEqual}
+use Rattle.insn_codec.specs.declared.insn.ByteOrder.{ByteOrder}
+use Rattle.insn_codec.specs.declared.insn.ByteOrder.TheVariants.{Little, Big, Swap}
+use Rattle.insn_codec.specs.declared.insn.Bits.{Bits}
+use Rattle.insn_codec.specs.declared.insn.Bits.TheVariants as bits
+use Rattle.insn_codec.specs.declared.insn.Narrow.{Narrow}
+use Rattle.insn_codec.specs.declared.insn.Narrow.TheVariants as narrow
+use Rattle.insn_codec.specs.declared.insn.Size.{Size}
+use Rattle.insn_codec.specs.declared.insn.Size.TheVariants as size
+use Rattle.insn_codec.specs.Sizes.{is_double, is_short}
+use Rattle.text_line.specs.declared.form.Number.{Number}
+use Rattle.text_line.specs.declared.form.Source.{Source}
+use Rattle.text_line.specs.declared.form.Source.TheVariants as source
+use Rattle.text_line.specs.declared.form.Target.{Target}
+use Rattle.text_line.specs.declared.form.Target.TheVariants as target
+use Rattle.text_line.specs.declared.form.Form.{Form}
+use Rattle.text_line.specs.declared.form.Form.TheVariants as form
+use Rattle.text_line.specs.Token.{Token, name, number, symbol}
+use Rattle.text_line.specs.Names.{operator_name, condition_name, order_name, narrow_name, size_name, register_name, sign_name}
+use Rattle.text_line.specs.Form.{Layout, layout, sign, word, space, tokens_of, minus, to_label, constant, operand, destination, address, IsForm, IsSource, names_label}
+use Rattle.text_line.specs.Line.{Line, blank, label, code, spelled, IsWellFormed, NoLabel}
+use Rattle.text_line.specs.Reading.{named, operators, conditions, orders, narrows, sizes, registers, after_symbol, after_word, register_then, constant_then, signed_then, operand_then, destination_of, address_then, jump_of, load_of, store_of, movsx_of, neg_of, end_of, const_of, map_fd_of, wide_of, moved_of, alu_of, assignment_of, assigned_of, goto_of, gotol_of, call_of, form_of, label_of, line_of}
+
+-- ---- names
+
+named_operator : (op : AluOp) → named operators (operator_name op) ≡ Some op
+named_operator Add = refl
+named_operator Sub = refl
+named_operator Mul = refl
+named_operator Div = refl
+named_operator SignedDiv = refl
+named_operator Or = refl
+named_operator And = refl
+named_operator ShiftLeft = refl
+named_operator ShiftRight = refl
+named_operator Mod = refl
+named_operator SignedMod = refl
+named_operator Xor = refl
+named_operator Mov = refl
+named_operator SignedShiftRight = refl
+
+named_condition : (c : Condition) → named conditions (condition_name c) ≡ Some c
+named_condition Equal = refl
+named_condition Above = refl
+named_condition AboveOrEqual = refl
+named_condition CommonBit = refl
+named_condition NotEqual = refl
+named_condition SignedAbove = refl
+named_condition SignedAboveOrEqual = refl
+named_condition Below = refl
+named_condition BelowOrEqual = refl
+named_condition SignedBelow = refl
+named_condition SignedBelowOrEqual = refl
+
+named_order : (how : ByteOrder) (b : Bits) → named orders (order_name how b) ≡ Some (how, b)
+named_order Little bits.Bits16 = refl
+named_order Little bits.Bits32 = refl
+named_order Little bits.Bits64 = refl
+named_order Big bits.Bits16 = refl
+named_order Big bits.Bits32 = refl
+named_order Big bits.Bits64 = refl
+named_order Swap bits.Bits16 = refl
+named_order Swap bits.Bits32 = refl
+named_order Swap bits.Bits64 = refl
+
+named_narrow : (b : Narrow) → named narrows (narrow_name b) ≡ Some b
+named_narrow narrow.Bits8 = refl
+named_narrow narrow.Bits16 = refl
+named_narrow narrow.Bits32 = refl
+
+named_size : (signed : Bool) (s : Size) → IsTrue (not (signed && is_double s)) → named sizes (size_name signed s) ≡ Some (signed, s)
+named_size false size.Byte h = refl
+named_size false size.Half h = refl
+named_size false size.Word h = refl
+named_size false size.Double h = refl
+named_size true size.Byte h = refl
+named_size true size.Half h = refl
+named_size true size.Word h = refl
+named_size true size.Double h = absurd (false≢true h)
+
+pub below_eleven : (P : ℕ → Type 0) → P 0 → P 1 → P 2 → P 3 → P 4 → P 5 → P 6 → P 7 → P 8 → P 9 → P 10 → (r : ℕ) → r ≤ 10 → P r
+below_eleven P a b c d e f g h i j k zero fits = a
+below_eleven P a b c d e f g h i j k (suc zero) fits = b
+below_eleven P a b c d e f g h i j k (suc (suc zero)) fits = c
+below_eleven P a b c d e f g h i j k (suc (suc (suc zero))) fits = d
+below_eleven P a b c d e f g h i j k (suc (suc (suc (suc zero)))) fits = e
+below_eleven P a b c d e f g h i j k (suc (suc (suc (suc (suc zero))))) fits = f
+below_eleven P a b c d e f g h i j k (suc (suc (suc (suc (suc (suc zero)))))) fits = g
+below_eleven P a b c d e f g h i j k (suc (suc (suc (suc (suc (suc (suc zero))))))) fits = h
+below_eleven P a b c d e f g h i j k (suc (suc (suc (suc (suc (suc (suc (suc zero)))))))) fits = i
+below_eleven P a b c d e f g h i j k (suc (suc (suc (suc (suc (suc (suc (suc (suc zero))))))))) fits = j
+below_eleven P a b c d e f g h i j k (suc (suc (suc (suc (suc (suc (suc (suc (suc (suc zero)))))))))) fits = k
+below_eleven P a b c d e f g h i j k (suc (suc (suc (suc (suc (suc (suc (suc (suc (suc (suc r))))))))))) fits = absurd (omega arith)
+
+named_wide : (r : ℕ) → r ≤ 10 → named registers (register_name true r) ≡ Some (true, r)
+named_wide = below_eleven (λ r. named registers (register_name true r) ≡ Some (true, r)) refl refl refl refl refl refl refl refl refl refl refl
+
+named_half : (r : ℕ) → r ≤ 10 → named registers (register_name false r) ≡ Some (false, r)
+named_half = below_eleven (λ r. named registers (register_name false r) ≡ Some (false, r)) refl refl refl refl refl refl refl refl refl refl refl
+
+named_register : (wide : Bool) (r : ℕ) → r ≤ 10 → named registers (register_name wide r) ≡ Some (wide, r)
+named_register true r fits = named_wide r fits
+named_register false r fits = named_half r fits
+
+-- ---- parts of a line
+
+register_read : (wide : Bool) (r : ℕ) (ts : List Token) → r ≤ 10 → register_then wide (name (register_name wide r) ∷ ts) ≡ Some (r, ts)
+unfolding register_then
+register_read true r ts fits = rw (named_wide r fits) refl
+register_read false r ts fits = rw (named_half r fits) refl
+
+constant_read : (n : Number) (rest : Layout) → constant_then (tokens_of (constant n rest)) ≡ Some (n, tokens_of rest)
+unfolding constant_then after_symbol
+constant_read n rest =
+    elim n.negative as (λ (t : Bool). constant_then (tokens_of (minus t (Some (number n.magnitude) ∷ rest))) ≡ Some (record { negative = t; magnitude = n.magnitude }, tokens_of rest)) [
+      | true ↦ refl
+      | false ↦ refl
+    ]
+
+signed_read : (n : Number) (ts : List Token) → signed_then (symbol (sign_name n.negative) ∷ number n.magnitude ∷ ts) ≡ Some (n, ts)
+unfolding signed_then after_symbol
+signed_read n ts =
+    elim n.negative as (λ (t : Bool). signed_then (symbol (sign_name t) ∷ number n.magnitude ∷ ts) ≡ Some (record { negative = t; magnitude = n.magnitude }, ts)) [
+      | true ↦ refl
+      | false ↦ refl
+    ]
+
+-- a number is no register
+constant_no_register : (wide : Bool) (n : Number) (rest : Layout) → register_then wide (tokens_of (constant n rest)) ≡ None
+unfolding register_then
+constant_no_register wide n rest =
+    elim n.negative as (λ (t : Bool). register_then wide (tokens_of (minus t (Some (number n.magnitude) ∷ rest))) ≡ None) [
+      | true ↦ refl
+      | false ↦ refl
+    ]
+
+operand_read : (wide : Bool) (s : Source) (rest : Layout) → IsSource s → operand_then wide (tokens_of (operand wide s rest)) ≡ Some (s, tokens_of rest)
+unfolding operand_then
+operand_read wide (source.Reg r) rest fits = rw (register_read wide r (tokens_of rest) fits) refl
+operand_read wide (source.Number n) rest fits = rw (constant_no_register wide n rest, constant_read n rest) refl
+
+signed_name : (n : List ℕ) (ts : List Token) → signed_then (name n ∷ ts) ≡ None
+unfolding signed_then after_symbol
+signed_name n ts = refl
+
+abbrev destination_made : Target → List ℕ → Target × List ℕ
+destination_made to n = (to, n)
+
+destination_read : (to : Target) (n : List ℕ) → NoLabel (to_label to) n → destination_of (tokens_of (destination to n)) ≡ Some (to, n)
+unfolding destination_of
+destination_read (target.Number m) n none = rw (signed_read m []) (ap (λ (l : List ℕ). Some (destination_made (target.Number m) l)) (sym none))
+destination_read target.Label n none = rw (signed_name n []) refl
+
+address_read : (signed : Bool) (s : Size) (base : ℕ) (offset : Number) (rest : Layout) → IsTrue (not (signed && is_double s)) → base ≤ 10 → address_then (tokens_of (address (size_name signed s) base offset rest)) ≡ Some (record { signed = signed; size = s; base = base; offset = offset }, tokens_of rest)
+unfolding address_then after_symbol
+address_read signed s base offset rest listed fits = rw (named_size signed s listed, register_read true base (symbol (sign_name offset.negative) ∷ number offset.magnitude ∷ symbol (codes ")") ∷ tokens_of rest) fits, signed_read offset (symbol (codes ")") ∷ tokens_of rest)) refl
+
+-- ---- forms
+
+same_eq : (a : ℕ) → eqb a a ≡ true
+same_eq a = grind (arith, nat_tests)
+
+call_read : (n : Number) → call_of (tokens_of (constant n [])) ≡ Some (form.Call n)
+unfolding call_of
+call_read n = rw (constant_read n []) refl
+
+goto_read : (to : Target) (n : List ℕ) → NoLabel (to_label to) n → goto_of (tokens_of (destination to n)) ≡ Some (form.Ja to, n)
+unfolding goto_of
+goto_read to n none = rw (destination_read to n none) refl
+
+gotol_read : (to : Target) (n : List ℕ) → NoLabel (to_label to) n → gotol_of (tokens_of (destination to n)) ≡ Some (form.Jal to, n)
+unfolding gotol_of
+gotol_read to n none = rw (destination_read to n none) refl
+
+jump_read : (wide : Bool) (c : Condition) (dst : ℕ) (src : Source) (to : Target) (n : List ℕ) → dst ≤ 10 → IsSource src → NoLabel (to_label to) n
+    → jump_of (name (register_name wide dst) ∷ symbol (condition_name c) ∷ tokens_of (operand wide src (space ∷ word (codes "goto") ∷ space ∷ destination to n))) ≡ Some (form.Jump wide c dst src to, n)
+unfolding jump_of after_word
+jump_read wide c dst src to n fits s none = rw (named_register wide dst fits, named_condition c, operand_read wide src (space ∷ word (codes "goto") ∷ space ∷ destination to n) s, destination_read to n none) refl
+
+load_read : (size : Size) (signed : Bool) (dst src : ℕ) (offset : Number) → src ≤ 10 → IsTrue (not (signed && is_double size)) → load_of dst (tokens_of (address (size_name signed size) src offset [])) ≡ Some (form.Load size signed dst src offset)
+unfolding load_of
+load_read size signed dst src offset fits listed = rw (address_read signed size src offset [] listed fits) refl
+
+store_read : (size : Size) (dst : ℕ) (src : Source) (offset : Number) → dst ≤ 10 → IsSource src → store_of (tokens_of (address (size_name false size) dst offset (space ∷ sign (codes "=") ∷ space ∷ operand true src []))) ≡ Some (form.Store size dst src offset)
+unfolding store_of after_symbol
+store_read size dst src offset fits s = rw (address_read false size dst offset (space ∷ sign (codes "=") ∷ space ∷ operand true src []) refl fits, operand_read true src [] s) refl
+
+movsx_read : (wide : Bool) (b : Narrow) (dst src : ℕ) → src ≤ 10 → IsTrue (wide || is_short b) → movsx_of wide dst (name (narrow_name b) ∷ symbol (codes ")") ∷ name (register_name wide src) ∷ []) ≡ Some (form.Movsx wide b dst src)
+unfolding movsx_of after_symbol
+movsx_read wide b dst src fits listed = rw (named_narrow b, register_read wide src [] fits, listed) refl
+
+neg_read : (wide : Bool) (dst : ℕ) → dst ≤ 10 → neg_of wide dst (name (register_name wide dst) ∷ []) ≡ Some (form.Neg wide dst)
+unfolding neg_of
+neg_read wide dst fits = rw (register_read wide dst [] fits, same_eq dst) refl
+
+end_read : (how : ByteOrder) (b : Bits) (dst : ℕ) → dst ≤ 10 → end_of dst (name (order_name how b) ∷ name (register_name true dst) ∷ []) ≡ Some (form.End how b dst)
+unfolding end_of
+end_read how b dst fits = rw (named_order how b, register_read true dst [] fits, same_eq dst) refl
+
+const_read : (dst : ℕ) (v : Option ℕ) → const_of dst (number v ∷ name (codes "ll") ∷ []) ≡ Some (form.Const dst v)
+unfolding const_of after_word
+const_read dst v = refl
+
+map_fd_read : (dst : ℕ) (n : Number) → map_fd_of dst (tokens_of (constant n (space ∷ word (codes "ll") ∷ []))) ≡ Some (form.MapFd dst n)
+unfolding map_fd_of after_word
+map_fd_read dst n = rw (constant_read n (space ∷ word (codes "ll") ∷ [])) refl
+
+-- ---- what is assigned
+
+alu_read : (wide : Bool) (op : AluOp) (dst : ℕ) (src : Source) → IsSource src → assignment_of wide dst (symbol (operator_name op) ∷ tokens_of (operand wide src [])) ≡ Some (form.Alu wide op dst src)
+unfolding assignment_of alu_of
+alu_read wide op dst src s = rw (named_operator op, operand_read wide src [] s) refl
+
+assign_move : (wide : Bool) (dst : ℕ) (ts : List Token) (f : Form) → alu_of wide Mov dst ts ≡ None → moved_of wide dst ts ≡ Some f → assignment_of wide dst (symbol (codes "=") ∷ ts) ≡ Some f
+unfolding assignment_of
+assign_move wide dst ts f none some = rw (none, some) refl
+
+order_no_register : (how : ByteOrder) (b : Bits) → named registers (order_name how b) ≡ None
+order_no_register Little bits.Bits16 = refl
+order_no_register Little bits.Bits32 = refl
+order_no_register Little bits.Bits64 = refl
+order_no_register Big bits.Bits16 = refl
+order_no_register Big bits.Bits32 = refl
+order_no_register Big bits.Bits64 = refl
+order_no_register Swap bits.Bits16 = refl
+order_no_register Swap bits.Bits32 = refl
+order_no_register Swap bits.Bits64 = refl
+
+order_no_map : (how : ByteOrder) (b : Bits) → bytes_eq (order_name how b) (codes "map_fd") ≡ false
+order_no_map Little bits.Bits16 = refl
+order_no_map Little bits.Bits32 = refl
+order_no_map Little bits.Bits64 = refl
+order_no_map Big bits.Bits16 = refl
+order_no_map Big bits.Bits32 = refl
+order_no_map Big bits.Bits64 = refl
+order_no_map Swap bits.Bits16 = refl
+order_no_map Swap bits.Bits32 = refl
+order_no_map Swap bits.Bits64 = refl
+
+no_alu_symbol : (wide : Bool) (op : AluOp) (dst : ℕ) (s : List ℕ) (ts : List Token) → bytes_eq s (codes "-") ≡ false → alu_of wide op dst (symbol s ∷ ts) ≡ None
+unfolding alu_of operand_then register_then constant_then after_symbol
+no_alu_symbol wide op dst s ts h = rw h refl
+
+no_alu_minus : (wide : Bool) (op : AluOp) (dst : ℕ) (n : List ℕ) (ts : List Token) → alu_of wide op dst (symbol (codes "-") ∷ name n ∷ ts) ≡ None
+unfolding alu_of operand_then register_then constant_then after_symbol
+no_alu_minus wide op dst n ts = refl
+
+no_alu_name : (wide : Bool) (op : AluOp) (dst : ℕ) (n : List ℕ) (ts : List Token) → named registers n ≡ None → alu_of wide op dst (name n ∷ ts) ≡ None
+unfolding alu_of operand_then register_then constant_then after_symbol
+no_alu_name wide op dst n ts h = rw h refl
+
+no_alu_const : (wide : Bool) (op : AluOp) (dst : ℕ) (v : Option ℕ) → alu_of wide op dst (number v ∷ name (codes "ll") ∷ []) ≡ None
+unfolding alu_of operand_then register_then constant_then after_symbol
+no_alu_const wide op dst v = refl
+
+moved_movsx : (wide : Bool) (dst : ℕ) (ts : List Token) (f : Form) → movsx_of wide dst ts ≡ Some f → moved_of wide dst (symbol (codes "(") ∷ ts) ≡ Some f
+unfolding moved_of after_symbol
+moved_movsx wide dst ts f e = e
+
+moved_neg : (wide : Bool) (dst : ℕ) (ts : List Token) (f : Form) → neg_of wide dst ts ≡ Some f → moved_of wide dst (symbol (codes "-") ∷ ts) ≡ Some f
+unfolding moved_of after_symbol
+moved_neg wide dst ts f e = e
+
+moved_end : (dst : ℕ) (how : ByteOrder) (b : Bits) (ts : List Token) (f : Form) → end_of dst (name (order_name how b) ∷ ts) ≡ Some f → moved_of true dst (name (order_name how b) ∷ ts) ≡ Some f
+unfolding moved_of wide_of after_symbol after_word
+moved_end dst how b ts f e = rw (order_no_map how b, e) refl
+
+moved_map : (dst : ℕ) (ts : List Token) (f : Form) → map_fd_of dst ts ≡ Some f → moved_of true dst (name (codes "map_fd") ∷ ts) ≡ Some f
+unfolding moved_of wide_of after_symbol after_word
+moved_map dst ts f e = e
+
+moved_const : (dst : ℕ) (v : Option ℕ) (ts : List Token) (f : Form) → const_of dst (number v ∷ ts) ≡ Some f → moved_of true dst (number v ∷ ts) ≡ Some f
+unfolding moved_of wide_of after_symbol after_word end_of
+moved_const dst v ts f e = rw e refl
+
+moved_load : (dst : ℕ) (ts : List Token) (f : Form) → load_of dst (symbol (codes "*") ∷ ts) ≡ Some f → moved_of true dst (symbol (codes "*") ∷ ts) ≡ Some f
+unfolding moved_of wide_of after_symbol after_word end_of const_of
+moved_load dst ts f e = e
+
+-- ---- whole lines
+
+operator_no_colon : (op : AluOp) → bytes_eq (operator_name op) (codes ":") ≡ false
+operator_no_colon Add = refl
+operator_no_colon Sub = refl
+operator_no_colon Mul = refl
+operator_no_colon Div = refl
+operator_no_colon SignedDiv = refl
+operator_no_colon Or = refl
+operator_no_colon And = refl
+operator_no_colon ShiftLeft = refl
+operator_no_colon ShiftRight = refl
+operator_no_colon Mod = refl
+operator_no_colon SignedMod = refl
+operator_no_colon Xor = refl
+operator_no_colon Mov = refl
+operator_no_colon SignedShiftRight = refl
+
+no_label_symbol : (n s : List ℕ) (ts : List Token) → bytes_eq s (codes ":") ≡ false → label_of (name n ∷ symbol s ∷ ts) ≡ None
+unfolding label_of after_symbol
+no_label_symbol n s ts h = rw h refl
+
+no_label_name : (n m : List ℕ) (ts : List Token) → label_of (name n ∷ name m ∷ ts) ≡ None
+unfolding label_of after_symbol
+no_label_name n m ts = refl
+
+no_label_number : (n : List ℕ) (v : Option ℕ) (ts : List Token) → label_of (name n ∷ number v ∷ ts) ≡ None
+unfolding label_of after_symbol
+no_label_number n v ts = refl
+
+no_label_end : (n : List ℕ) → label_of (name n ∷ []) ≡ None
+unfolding label_of after_symbol
+no_label_end n = refl
+
+no_label_front : (s : List ℕ) (ts : List Token) → label_of (symbol s ∷ ts) ≡ None
+unfolding label_of
+no_label_front s ts = refl
+
+no_label_constant : (w : List ℕ) (n : Number) → label_of (name w ∷ tokens_of (constant n [])) ≡ None
+unfolding label_of after_symbol
+no_label_constant w n =
+    elim n.negative as (λ (t : Bool). label_of (name w ∷ tokens_of (minus t (Some (number n.magnitude) ∷ []))) ≡ None) [
+      | true ↦ refl
+      | false ↦ refl
+    ]
+
+no_label_destination : (w : List ℕ) (to : Target) (n : List ℕ) → label_of (name w ∷ tokens_of (destination to n)) ≡ None
+unfolding label_of after_symbol
+no_label_destination w (target.Number m) n =
+    elim m.negative as (λ (t : Bool). label_of (name w ∷ symbol (sign_name t) ∷ number m.magnitude ∷ []) ≡ None) [
+      | true ↦ refl
+      | false ↦ refl
+    ]
+no_label_destination w target.Label n = refl
+
+line_from : (t : Token) (ts : List Token) (f : Form) (n : List ℕ) → label_of (t ∷ ts) ≡ None → form_of (t ∷ ts) ≡ Some (f, n) → line_of (t ∷ ts) ≡ Some (code f n)
+unfolding line_of
+line_from t ts f n none some = rw (none, some) refl
+
+form_from_register : (wide : Bool) (r : ℕ) (ts : List Token) (f : Form) → r ≤ 10 → assignment_of wide r ts ≡ Some f → form_of (name (register_name wide r) ∷ ts) ≡ Some (f, [])
+unfolding form_of after_word assigned_of
+form_from_register true r ts f fits e = rw (named_wide r fits, e) refl
+form_from_register false r ts f fits e = rw (named_half r fits, e) refl
+
+form_from_if : (ts : List Token) (f : Form) (n : List ℕ) → jump_of ts ≡ Some (f, n) → form_of (name (codes "if") ∷ ts) ≡ Some (f, n)
+unfolding form_of after_word
+form_from_if ts f n e = e
+
+form_from_goto : (ts : List Token) (f : Form) (n : List ℕ) → goto_of ts ≡ Some (f, n) → form_of (name (codes "goto") ∷ ts) ≡ Some (f, n)
+unfolding form_of after_word
+form_from_goto ts f n e = e
+
+form_from_gotol : (ts : List Token) (f : Form) (n : List ℕ) → gotol_of ts ≡ Some (f, n) → form_of (name (codes "gotol") ∷ ts) ≡ Some (f, n)
+unfolding form_of after_word
+form_from_gotol ts f n e = e
+
+form_from_call : (ts : List Token) (f : Form) → call_of ts ≡ Some f → form_of (name (codes "call") ∷ ts) ≡ Some (f, [])
+unfolding form_of after_word
+form_from_call ts f e = rw e refl
+
+form_from_exit : form_of (name (codes "exit") ∷ []) ≡ Some (form.Exit, [])
+unfolding form_of after_word
+form_from_exit = refl
+
+form_from_store : (ts : List Token) (f : Form) → store_of (symbol (codes "*") ∷ ts) ≡ Some f → form_of (symbol (codes "*") ∷ ts) ≡ Some (f, [])
+unfolding form_of after_word assigned_of
+form_from_store ts f e = rw e refl
+
+-- a register and what is assigned to it
+line_from_register : (wide : Bool) (r : ℕ) (s : List ℕ) (ts : List Token) (f : Form) (n : List ℕ) → r ≤ 10 → bytes_eq s (codes ":") ≡ false → n ≡ [] → assignment_of wide r (symbol s ∷ ts) ≡ Some f → line_of (name (register_name wide r) ∷ symbol s ∷ ts) ≡ Some (code f n)
+line_from_register wide r s ts f n fits colon none e =
+    line_from (name (register_name wide r)) (symbol s ∷ ts) f [] (no_label_symbol (register_name wide r) s ts colon) (form_from_register wide r (symbol s ∷ ts) f fits e) ∙ ap (λ (l : List ℕ). Some (code f l)) (sym none)
+
+line_from_move : (wide : Bool) (r : ℕ) (ts : List Token) (f : Form) (n : List ℕ) → r ≤ 10 → n ≡ [] → alu_of wide Mov r ts ≡ None → moved_of wide r ts ≡ Some f → line_of (name (register_name wide r) ∷ symbol (codes "=") ∷ ts) ≡ Some (code f n)
+line_from_move wide r ts f n fits none alu e = line_from_register wide r (codes "=") ts f n fits refl none (assign_move wide r ts f alu e)
+
+code_read : (f : Form) (n : List ℕ) → IsForm f → NoLabel (names_label f) n → line_of (tokens_of (layout f n)) ≡ Some (code f n)
+code_read (form.Alu wide op dst src) n fits none = line_from_register wide dst (operator_name op) (tokens_of (operand wide src [])) (form.Alu wide op dst src) n fits.0 (operator_no_colon op) none (alu_read wide op dst src fits.1)
+code_read (form.Movsx wide b dst src) n fits none =
+    let ts : List Token = name (narrow_name b) ∷ symbol (codes ")") ∷ name (register_name wide src) ∷ [] in
+    line_from_move wide dst (symbol (codes "(") ∷ ts) (form.Movsx wide b dst src) n fits.0 none (no_alu_symbol wide Mov dst (codes "(") ts refl) (moved_movsx wide dst ts (form.Movsx wide b dst src) (movsx_read wide b dst src fits.1 fits.2))
+code_read (form.Neg wide dst) n fits none =
+    let ts : List Token = name (register_name wide dst) ∷ [] in
+    line_from_move wide dst (symbol (codes "-") ∷ ts) (form.Neg wide dst) n fits none (no_alu_minus wide Mov dst (register_name wide dst) []) (moved_neg wide dst ts (form.Neg wide dst) (neg_read wide dst fits))
+code_read (form.End how b dst) n fits none =
+    let ts : List Token = name (register_name true dst) ∷ [] in
+    line_from_move true dst (name (order_name how b) ∷ ts) (form.End how b dst) n fits none (no_alu_name true Mov dst (order_name how b) ts (order_no_register how b)) (moved_end dst how b ts (form.End how b dst) (end_read how b dst fits))
+code_read (form.Ja to) n fits none = line_from (name (codes "goto")) (tokens_of (destination to n)) (form.Ja to) n (no_label_destination (codes "goto") to n) (form_from_goto (tokens_of (destination to n)) (form.Ja to) n (goto_read to n none))
+code_read (form.Jal to) n fits none = line_from (name (codes "gotol")) (tokens_of (destination to n)) (form.Jal to) n (no_label_destination (codes "gotol") to n) (form_from_gotol (tokens_of (destination to n)) (form.Jal to) n (gotol_read to n none))
+code_read (form.Jump wide c dst src to) n fits none =
+    let ts : List Token = symbol (condition_name c) ∷ tokens_of (operand wide src (space ∷ word (codes "goto") ∷ space ∷ destination to n)) in
+    line_from (name (codes "if")) (name (register_name wide dst) ∷ ts) (form.Jump wide c dst src to) n (no_label_name (codes "if") (register_name wide dst) ts) (form_from_if (name (register_name wide dst) ∷ ts) (form.Jump wide c dst src to) n (jump_read wide c dst src to n fits.0 fits.1 none))
+code_read (form.Call id) n fits none =
+    line_from (name (codes "call")) (tokens_of (constant id [])) (form.Call id) [] (no_label_constant (codes "call") id) (form_from_call (tokens_of (constant id [])) (form.Call id) (call_read id)) ∙ ap (λ (l : List ℕ). Some (code (form.Call id) l)) (sym none)
+code_read form.Exit n fits none = line_from (name (codes "exit")) [] form.Exit [] (no_label_end (codes "exit")) form_from_exit ∙ ap (λ (l : List ℕ). Some (code form.Exit l)) (sym none)
+code_read (form.Load size signed dst src offset) n fits none =
+    let ts : List Token = symbol (codes "(") ∷ name (size_name signed size) ∷ symbol (codes "*") ∷ symbol (codes ")") ∷ symbol (codes "(") ∷ name (register_name true src) ∷ symbol (sign_name offset.negative) ∷ number offset.magnitude ∷ symbol (codes ")") ∷ [] in
+    line_from_move true dst (symbol (codes "*") ∷ ts) (form.Load size signed dst src offset) n fits.0 none (no_alu_symbol true Mov dst (codes "*") ts refl) (moved_load dst ts (form.Load size signed dst src offset) (load_read size signed dst src offset fits.1 fits.2))
+code_read (form.Store size dst src offset) n fits none =
+    let ts : List Token = symbol (codes "(") ∷ name (size_name false size) ∷ symbol (codes "*") ∷ symbol (codes ")") ∷ symbol (codes "(") ∷ name (register_name true dst) ∷ symbol (sign_name offset.negative) ∷ number offset.magnitude ∷ symbol (codes ")") ∷ symbol (codes "=") ∷ tokens_of (operand true src []) in
+    line_from (symbol (codes "*")) ts (form.Store size dst src offset) [] (no_label_front (codes "*") ts) (form_from_store ts (form.Store size dst src offset) (store_read size dst src offset fits.0 fits.1)) ∙ ap (λ (l : List ℕ). Some (code (form.Store size dst src offset) l)) (sym none)
+code_read (form.Const dst v) n fits none =
+    line_from_move true dst (number v ∷ name (codes "ll") ∷ []) (form.Const dst v) n fits none (no_alu_const true Mov dst v) (moved_const dst v (name (codes "ll") ∷ []) (form.Const dst v) (const_read dst v))
+code_read (form.MapFd dst fd) n fits none =
+    let ts : List Token = tokens_of (constant fd (space ∷ word (codes "ll") ∷ [])) in
+    line_from_move true dst (name (codes "map_fd") ∷ ts) (form.MapFd dst fd) n fits none (no_alu_name true Mov dst (codes "map_fd") ts refl) (moved_map dst ts (form.MapFd dst fd) (map_fd_read dst fd))
+
+-- What is spelled is read so.
+pub line_read : (line : Line) → IsWellFormed line → line_of (spelled line) ≡ Some line
+unfolding line_of label_of after_symbol
+line_read blank h = refl
+line_read (label n) h = refl
+line_read (code f n) h = code_read f n h.0 h.1

@@ -1,0 +1,5 @@
+use Rattle.text_line.proofs.Written.{one_insn}
+use Rattle.text_line.proofs.laws.one_instruction.Goals as goal
+
+pub returns : goal.returns
+returns c = one_insn

@@ -1,0 +1,5 @@
+use Rattle.text_line.proofs.Printed.{printed}
+use Rattle.text_line.proofs.laws.printed_is_read.Goals as goal
+
+pub returns : goal.returns
+returns c = printed

@@ -1,0 +1,102 @@
+-- The forms of a line: the table of the grammar, and of what is printed.
+use Rattle.std.specs.Prelude.{ℕ, ◌≤◌, Bool, true, false, ◌&&◌, ◌||◌, not, IsTrue, List, [], ◌∷◌, codes, Option, Some, None}
+use Rattle.insn_codec.specs.Sizes.{is_double, is_short}
+use Rattle.text_line.specs.declared.form.Number.{Number}
+use Rattle.text_line.specs.declared.form.Source.{Source}
+use Rattle.text_line.specs.declared.form.Source.TheVariants as source
+use Rattle.text_line.specs.declared.form.Target.{Target}
+use Rattle.text_line.specs.declared.form.Target.TheVariants as target
+use Rattle.text_line.specs.declared.form.Form.{Form}
+use Rattle.text_line.specs.declared.form.Form.TheVariants.{Alu, Movsx, Neg, End, Ja, Jal, Jump, Call, Exit, Load, Store, Const, MapFd}
+use Rattle.text_line.specs.Token.{Token, name, number, symbol}
+use Rattle.text_line.specs.Names.{operator_name, condition_name, order_name, narrow_name, size_name, register_name, sign_name}
+
+-- A line is laid out as tokens and single spaces, which are `None`. Any other blanks may stand between tokens.
+abbrev pub Layout : Type 0
+Layout = List (Option Token)
+
+abbrev pub space : Option Token
+space = None
+
+abbrev pub word : List ℕ → Option Token
+word n = Some (name n)
+
+abbrev pub sign : List ℕ → Option Token
+sign s = Some (symbol s)
+
+abbrev pub reg : Bool → ℕ → Option Token
+reg wide r = word (register_name wide r)
+
+-- Each part of a line is laid out before what follows it.
+
+-- a minus where there is one, and the number
+abbrev pub minus : Bool → Layout → Layout
+minus true rest = sign (codes "-") ∷ rest
+minus false rest = rest
+
+abbrev pub constant : Number → Layout → Layout
+constant n rest = minus n.negative (Some (number n.magnitude) ∷ rest)
+
+abbrev pub operand : Bool → Source → Layout → Layout
+operand wide (source.Number n) rest = constant n rest
+operand wide (source.Reg r) rest = reg wide r ∷ rest
+
+-- a number whose sign stands, or the name of a label
+abbrev pub destination : Target → List ℕ → Layout
+destination (target.Number n) label = sign (sign_name n.negative) ∷ Some (number n.magnitude) ∷ []
+destination target.Label label = word label ∷ []
+
+abbrev pub address : List ℕ → ℕ → Number → Layout → Layout
+address size base offset rest =
+    sign (codes "*") ∷ sign (codes "(") ∷ word size ∷ space ∷ sign (codes "*") ∷ sign (codes ")")
+    ∷ sign (codes "(") ∷ reg true base ∷ space ∷ sign (sign_name offset.negative) ∷ space ∷ Some (number offset.magnitude) ∷ sign (codes ")") ∷ rest
+
+-- the table: a line for each form, with the label that its jump names, if it names one
+abbrev pub layout : Form → List ℕ → Layout
+layout (Alu wide op dst src) label = reg wide dst ∷ space ∷ sign (operator_name op) ∷ space ∷ operand wide src []
+layout (Movsx wide bits dst src) label = reg wide dst ∷ space ∷ sign (codes "=") ∷ space ∷ sign (codes "(") ∷ word (narrow_name bits) ∷ sign (codes ")") ∷ reg wide src ∷ []
+layout (Neg wide dst) label = reg wide dst ∷ space ∷ sign (codes "=") ∷ space ∷ sign (codes "-") ∷ reg wide dst ∷ []
+layout (End how bits dst) label = reg true dst ∷ space ∷ sign (codes "=") ∷ space ∷ word (order_name how bits) ∷ space ∷ reg true dst ∷ []
+layout (Ja to) label = word (codes "goto") ∷ space ∷ destination to label
+layout (Jal to) label = word (codes "gotol") ∷ space ∷ destination to label
+layout (Jump wide cond dst src to) label = word (codes "if") ∷ space ∷ reg wide dst ∷ space ∷ sign (condition_name cond) ∷ space ∷ operand wide src (space ∷ word (codes "goto") ∷ space ∷ destination to label)
+layout (Call id) label = word (codes "call") ∷ space ∷ constant id []
+layout Exit label = word (codes "exit") ∷ []
+layout (Load size signed dst src offset) label = reg true dst ∷ space ∷ sign (codes "=") ∷ space ∷ address (size_name signed size) src offset []
+layout (Store size dst src offset) label = address (size_name false size) dst offset (space ∷ sign (codes "=") ∷ space ∷ operand true src [])
+layout (Const dst value) label = reg true dst ∷ space ∷ sign (codes "=") ∷ space ∷ Some (number value) ∷ space ∷ word (codes "ll") ∷ []
+layout (MapFd dst fd) label = reg true dst ∷ space ∷ sign (codes "=") ∷ space ∷ word (codes "map_fd") ∷ space ∷ constant fd (space ∷ word (codes "ll") ∷ [])
+
+-- without the spaces
+abbrev pub tokens_of : Layout → List Token
+tokens_of [] = []
+tokens_of (None ∷ rest) = tokens_of rest
+tokens_of (Some t ∷ rest) = t ∷ tokens_of rest
+
+-- the values of the type that are forms: registers up to 10, sign extension of a part only
+abbrev pub IsSource : Source → Type 0
+IsSource (source.Number n) = Unit {0}
+IsSource (source.Reg r) = r ≤ 10
+
+abbrev pub IsForm : Form → Type 0
+IsForm (Alu wide op dst src) = (dst ≤ 10) × IsSource src
+IsForm (Movsx wide bits dst src) = (dst ≤ 10) × (src ≤ 10) × IsTrue (wide || is_short bits)
+IsForm (Neg wide dst) = dst ≤ 10
+IsForm (End how bits dst) = dst ≤ 10
+IsForm (Jump wide cond dst src to) = (dst ≤ 10) × IsSource src
+IsForm (Load size signed dst src offset) = (dst ≤ 10) × (src ≤ 10) × IsTrue (not (signed && is_double size))
+IsForm (Store size dst src offset) = (dst ≤ 10) × IsSource src
+IsForm (Const dst value) = dst ≤ 10
+IsForm (MapFd dst fd) = dst ≤ 10
+IsForm _ = Unit {0}
+
+-- whether its jump names a label
+abbrev pub to_label : Target → Bool
+to_label (target.Number n) = false
+to_label target.Label = true
+
+abbrev pub names_label : Form → Bool
+names_label (Ja to) = to_label to
+names_label (Jal to) = to_label to
+names_label (Jump wide cond dst src to) = to_label to
+names_label _ = false

@@ -1,0 +1,34 @@
+-- Lines.
+use Rattle.std.specs.Prelude.{◌≡◌, ℕ, Bool, true, false, List, [], ◌∷◌, codes, Option, Some, None}
+use Rattle.text_line.specs.declared.form.Form.{Form}
+use Rattle.text_line.specs.Token.{Token, name, symbol, IsTokens}
+use Rattle.text_line.specs.Form.{layout, tokens_of, IsForm, names_label}
+
+-- Nothing; a label; or an instruction, with the label that its jump names: the empty list if it names none.
+pub data Line : Type 0 where
+  blank : Line
+  label : List ℕ → Line
+  code : Form → List ℕ → Line
+
+-- the tokens of a line
+abbrev pub spelled : Line → List Token
+spelled blank = []
+spelled (label n) = name n ∷ symbol (codes ":") ∷ []
+spelled (code form n) = tokens_of (layout form n)
+
+abbrev pub NoLabel : Bool → List ℕ → Type 0
+NoLabel true n = Unit {0}
+NoLabel false n = n ≡ []
+
+abbrev pub IsWellFormed : Line → Type 0
+IsWellFormed (code form n) = IsForm form × NoLabel (names_label form) n
+IsWellFormed _ = Unit {0}
+
+-- the bytes of a line are read so
+abbrev pub IsLine : List ℕ → Line → Type 0
+IsLine bytes line = IsWellFormed line × IsTokens bytes (spelled line)
+
+-- what the bytes of a line are read as: none of the forms where it is `None`
+abbrev pub ReadAs : List ℕ → Option Line → Type 0
+ReadAs bytes (Some line) = IsLine bytes line
+ReadAs bytes None = (line : Line) → ¬ IsLine bytes line

@@ -1,0 +1,363 @@
+//! The forms of a line: instructions as they are written.
+
+ghost use Rattle.std.specs.Prelude.{◌≡◌, ◌≤◌, IfSome, IfNone, true, false};
+
+use insn_codec::{
+    AluOp, Bits, ByteOrder, Condition, Insn, Load, Movsx, Narrow, Operand, Reg, Size,
+};
+
+/// A number as it is written: its sign, and its digits in decimal or hexadecimal.
+///
+/// It may be out of its field's range: `Form::insn` tells whether it is.
+#[derive(Clone, Copy, Debug, PartialEq, Eq)]
+pub struct Number {
+    /// Whether a minus stands before the digits, also before a 0.
+    pub negative: bool,
+    /// What the digits say: 0 to 2 ^ 64 - 1. None from 2 ^ 64 on, where no field has room for it.
+    pub magnitude: Option<u64>,
+}
+
+/// The second operand as it is written.
+#[derive(Clone, Copy, Debug, PartialEq, Eq)]
+pub enum Source {
+    /// A constant. An instruction has room for -2 ^ 31 to 2 ^ 31 - 1.
+    Number(Number),
+    /// A register, as wide as the instruction.
+    Reg(Reg),
+}
+
+/// Where a jump leads, as it is written.
+#[derive(Clone, Copy, Debug, PartialEq, Eq)]
+pub enum Target {
+    /// How many slots from the next one. A jump has room for -2 ^ 15 to 2 ^ 15 - 1, a long jump for -2 ^ 31 to 2 ^ 31 - 1.
+    Number(Number),
+    /// A label. Its name stands beside the form, in `Line::Code`.
+    Label,
+}
+
+/// An instruction as it is written: its numbers may be out of range, and its label unknown.
+///
+/// `wide` tells `r` registers, of 64 bits, from `w` registers, their low halves. No line is read as a sign extension of
+/// 32 bits to a `w` register, or as a load that sign-extends a double word.
+#[derive(Clone, Copy, Debug, PartialEq, Eq)]
+pub enum Form {
+    /// An operator or a move, as `r0 += r10` or `w1 = -2`.
+    Alu {
+        wide: bool,
+        op: AluOp,
+        dst: Reg,
+        src: Source,
+    },
+    /// A move with sign extension, as `r1 = (s32)r2`.
+    Movsx {
+        wide: bool,
+        bits: Narrow,
+        dst: Reg,
+        src: Reg,
+    },
+    /// A negation, as `r1 = -r1`.
+    Neg {
+        wide: bool,
+        dst: Reg,
+    },
+    /// A change of byte order, as `r8 = le64 r8`.
+    End {
+        how: ByteOrder,
+        bits: Bits,
+        dst: Reg,
+    },
+    /// A jump, as `goto -1` or `goto done`.
+    Ja {
+        to: Target,
+    },
+    /// A long jump, as `gotol +1` or `gotol done`.
+    Jal {
+        to: Target,
+    },
+    /// A conditional jump, as `if w1 s< -1 goto -2`.
+    Jump {
+        wide: bool,
+        cond: Condition,
+        dst: Reg,
+        src: Source,
+        to: Target,
+    },
+    /// A call, as `call 26`. The number has room for -2 ^ 31 to 2 ^ 31 - 1.
+    Call {
+        id: Number,
+    },
+    /// `exit`.
+    Exit,
+    /// A load, as `r1 = *(u32 *)(r6 + 0)`. The offset has room for -2 ^ 15 to 2 ^ 15 - 1.
+    Load {
+        size: Size,
+        signed: bool,
+        dst: Reg,
+        src: Reg,
+        offset: Number,
+    },
+    /// A store, as `*(u8 *)(r10 - 4) = 5`. The offset has room for -2 ^ 15 to 2 ^ 15 - 1.
+    Store {
+        size: Size,
+        dst: Reg,
+        src: Source,
+        offset: Number,
+    },
+    /// A constant of 64 bits, as `r2 = 5 ll`: none from 2 ^ 64 on.
+    Const {
+        dst: Reg,
+        value: Option<u64>,
+    },
+    /// A map by its descriptor, as `r1 = map_fd 3 ll`. The number has room for -2 ^ 31 to 2 ^ 31 - 1.
+    MapFd {
+        dst: Reg,
+        fd: Number,
+    },
+}
+
+/// A place in memory, and what is moved there.
+#[derive(Clone, Copy, Debug, PartialEq, Eq)]
+pub(crate) struct Address {
+    pub signed: bool,
+    pub size: Size,
+    pub base: Reg,
+    pub offset: Number,
+}
+
+/// What a line of a text says. Names are lent from the line.
+#[derive(Clone, Copy, Debug)]
+pub enum Line<'a> {
+    /// Nothing but blanks and a comment.
+    Blank,
+    /// It defines the label of this name, as `done:`.
+    Label(&'a str),
+    /// An instruction, and the label that its jump names: the empty text if it names none.
+    Code(Form, &'a str),
+}
+
+impl Number {
+    ghost use Rattle.text_line.specs.Ranges.{imm_fits, offset_fits, normal};
+    ghost use Rattle.text_line.specs.Written.{number_of};
+
+    /// The number, if it fits 32 bits.
+    fn imm(self) -> Option<i32>
+        ensures found { IfSome result (λ n. number_of n ≡ normal self) }
+        ensures fits { IfSome result (λ _. imm_fits self ≡ true) }
+        ensures none { IfNone result (imm_fits self ≡ false) }
+    {
+        let magnitude = self.magnitude?;
+        if self.negative {
+            if magnitude > 0x8000_0000 {
+                None
+            } else {
+                Some((0 - magnitude as i64) as i32)
+            }
+        } else if magnitude > 0x7fff_ffff {
+            None
+        } else {
+            Some(magnitude as i32)
+        }
+    }
+
+    /// The number, if it fits 16 bits.
+    fn offset(self) -> Option<i16>
+        ensures found { IfSome result (λ n. number_of n ≡ normal self) }
+        ensures fits { IfSome result (λ _. offset_fits self ≡ true) }
+        ensures none { IfNone result (offset_fits self ≡ false) }
+    {
+        let magnitude = self.magnitude?;
+        if self.negative {
+            if magnitude > 0x8000 {
+                None
+            } else {
+                Some((0 - magnitude as i64) as i16)
+            }
+        } else if magnitude > 0x7fff {
+            None
+        } else {
+            Some(magnitude as i16)
+        }
+    }
+}
+
+impl Source {
+    ghost use Rattle.text_line.specs.Ranges.{source_fits, normal_source};
+    ghost use Rattle.text_line.specs.Written.{source_of};
+
+    /// The operand, if its number fits.
+    fn operand(self) -> Option<Operand>
+        ensures found { IfSome result (λ src. source_of src ≡ normal_source self) }
+        ensures fits { IfSome result (λ _. source_fits self ≡ true) }
+        ensures none { IfNone result (source_fits self ≡ false) }
+    {
+        match self {
+            Source::Number(number) => {
+                let imm = number.imm()?;
+                Some(Operand::Imm(imm))
+            }
+            Source::Reg(reg) => Some(Operand::Reg(reg)),
+        }
+    }
+}
+
+impl Target {
+    ghost use Rattle.text_line.specs.Ranges.{target_fits, long_target_fits, placed};
+    ghost use Rattle.text_line.specs.Written.{number_of};
+    ghost use Rattle.text_line.specs.declared.form.Target.TheVariants as target;
+
+    /// How far a jump goes, if its number fits 16 bits. A label is so far.
+    fn offset(self, distance: i16) -> Option<i16>
+        ensures found { IfSome result (λ n. target.Number (number_of n) ≡ placed distance self) }
+        ensures fits { IfSome result (λ _. target_fits self ≡ true) }
+        ensures none { IfNone result (target_fits self ≡ false) }
+    {
+        match self {
+            Target::Number(number) => number.offset(),
+            Target::Label => Some(distance),
+        }
+    }
+
+    /// How far a long jump goes, if its number fits 32 bits. A label is so far.
+    fn long_offset(self, distance: i16) -> Option<i32>
+        ensures found { IfSome result (λ n. target.Number (number_of n) ≡ placed distance self) }
+        ensures fits { IfSome result (λ _. long_target_fits self ≡ true) }
+        ensures none { IfNone result (long_target_fits self ≡ false) }
+    {
+        match self {
+            Target::Number(number) => number.imm(),
+            Target::Label => Some(i32::from(distance)),
+        }
+    }
+}
+
+impl Form {
+    ghost use Rattle.text_line.specs.Form.{IsForm, names_label};
+    ghost use Rattle.text_line.specs.Ranges.{form_fits, form_slots, resolved};
+    ghost use Rattle.text_line.specs.Written.{written};
+
+    /// The instruction that is written so. Where its jump names a label, the label is `distance` slots from the next one.
+    ///
+    /// None where a number is out of its field's range.
+    pub fn insn(self, distance: i16) -> Option<Insn>
+        requires { IsForm self }
+        ensures found { IfSome result (λ insn. written insn ≡ resolved distance self) }
+        ensures fits { IfSome result (λ _. form_fits self ≡ true) }
+        ensures none { IfNone result (form_fits self ≡ false) }
+    {
+        match self {
+            Form::Alu { wide, op, dst, src } => {
+                let src = src.operand()?;
+                Some(Insn::Alu { wide, op, dst, src })
+            }
+            Form::Movsx {
+                wide,
+                bits,
+                dst,
+                src,
+            } => {
+                Some(Insn::Movsx(Movsx {
+                    wide,
+                    bits,
+                    dst,
+                    src,
+                }))
+            }
+            Form::Neg { wide, dst } => Some(Insn::Neg { wide, dst }),
+            Form::End { how, bits, dst } => Some(Insn::End { how, bits, dst }),
+            Form::Ja { to } => {
+                let off = to.offset(distance)?;
+                Some(Insn::Ja { off })
+            }
+            Form::Jal { to } => {
+                let off = to.long_offset(distance)?;
+                Some(Insn::Jal { off })
+            }
+            Form::Jump {
+                wide,
+                cond,
+                dst,
+                src,
+                to,
+            } => {
+                let src = src.operand()?;
+                let off = to.offset(distance)?;
+                Some(Insn::Jump {
+                    wide,
+                    cond,
+                    dst,
+                    src,
+                    off,
+                })
+            }
+            Form::Call { id } => {
+                let id = id.imm()?;
+                Some(Insn::Call { id })
+            }
+            Form::Exit => Some(Insn::Exit),
+            Form::Load {
+                size,
+                signed,
+                dst,
+                src,
+                offset,
+            } => {
+                let off = offset.offset()?;
+                Some(Insn::Load(Load {
+                    size,
+                    signed,
+                    dst,
+                    src,
+                    off,
+                }))
+            }
+            Form::Store {
+                size,
+                dst,
+                src,
+                offset,
+            } => {
+                let src = src.operand()?;
+                let off = offset.offset()?;
+                Some(Insn::Store {
+                    size,
+                    dst,
+                    src,
+                    off,
+                })
+            }
+            Form::Const { dst, value } => {
+                let value = value?;
+                Some(Insn::Const { dst, value })
+            }
+            Form::MapFd { dst, fd } => {
+                let fd = fd.imm()?;
+                Some(Insn::MapFd { dst, fd })
+            }
+        }
+    }
+
+    /// In how many slots its instruction is spelled: 2 for `Const` and `MapFd`, else 1. Numbers out of range change nothing.
+    pub fn slots(self) -> usize
+        ensures value { result ≡ form_slots self }
+        ensures bound { result ≤ 2 }
+        ensures some { 1 ≤ result }
+    {
+        match self {
+            Form::Const { .. } | Form::MapFd { .. } => 2,
+            _ => 1,
+        }
+    }
+
+    /// Whether it is a jump that names a label, and so needs the label's place.
+    pub fn names_label(self) -> bool
+        ensures { result ≡ names_label self }
+    {
+        match self {
+            Form::Ja { to } | Form::Jal { to } | Form::Jump { to, .. } => matches!(
+                to,
+                Target::Label
+            ),
+            _ => false,
+        }
+    }
+}

@@ -1,0 +1,343 @@
+//! A line: its tokens as one of the forms.
+
+ghost use Rattle.std.specs.Prelude.{◌≡◌, option_map};
+ghost use Rattle.text_line.specs.Shown.{shown_tokens};
+ghost use Rattle.text_line.specs.Shown.{seen_line};
+ghost use Rattle.text_line.specs.Reading.{jump_of, load_of, store_of, movsx_of, neg_of, end_of, const_of, map_fd_of, wide_of, moved_of, is_move, alu_of, assignment_of, assigned_of, goto_of, gotol_of, call_of, form_of, label_of, line_of, seen_destination};
+
+use crate::form::{Form, Line};
+use crate::names::{byte_order, condition, narrow, operator, register_named};
+use crate::parts::{
+    address, after_symbol, after_word, constant, destination, ended, name, number, operand,
+    register, symbol,
+};
+use crate::token::Token;
+use insn_codec::{AluOp, Narrow, Reg};
+
+/// A conditional jump, after `if`.
+#[tactic(auto, unfolding(crate::specs::Reading::jump_of))]
+fn jump<'a>(tokens: &[Token<'a>]) -> Option<(Form, &'a str)>
+    ensures { seen_destination result ≡ jump_of (shown_tokens tokens.now) }
+{
+    let (name, rest) = name(tokens)?;
+    let (wide, dst) = register_named(name)?;
+    let (symbol, rest) = symbol(rest)?;
+    let cond = condition(symbol)?;
+    let Some((src, rest)) = operand(wide, rest) else {
+        return None;
+    };
+    let rest = after_word(rest, "goto")?;
+    let (to, label) = destination(rest)?;
+    Some((
+        Form::Jump {
+            wide,
+            cond,
+            dst,
+            src,
+            to,
+        },
+        label,
+    ))
+}
+
+/// A load, after `=`.
+#[tactic(auto, unfolding(crate::specs::Reading::load_of))]
+fn load(dst: Reg, tokens: &[Token<'_>]) -> Option<Form>
+    ensures { result ≡ load_of dst (shown_tokens tokens.now) }
+{
+    let Some((address, rest)) = address(tokens) else {
+        return None;
+    };
+    if !ended(rest) {
+        return None;
+    }
+    Some(Form::Load {
+        size: address.size,
+        signed: address.signed,
+        dst,
+        src: address.base,
+        offset: address.offset,
+    })
+}
+
+/// A store.
+#[tactic(auto, unfolding(crate::specs::Reading::store_of))]
+fn store(tokens: &[Token<'_>]) -> Option<Form>
+    ensures { result ≡ store_of (shown_tokens tokens.now) }
+{
+    let Some((address, rest)) = address(tokens) else {
+        return None;
+    };
+    let rest = after_symbol(rest, "=")?;
+    let Some((src, rest)) = operand(true, rest) else {
+        return None;
+    };
+    if address.signed || !ended(rest) {
+        return None;
+    }
+    Some(Form::Store {
+        size: address.size,
+        dst: address.base,
+        src,
+        offset: address.offset,
+    })
+}
+
+/// A move with sign extension, after `(`.
+#[tactic(auto, unfolding(crate::specs::Reading::movsx_of))]
+fn movsx(wide: bool, dst: Reg, tokens: &[Token<'_>]) -> Option<Form>
+    ensures { result ≡ movsx_of wide dst (shown_tokens tokens.now) }
+{
+    let (name, rest) = name(tokens)?;
+    let bits = narrow(name)?;
+    let rest = after_symbol(rest, ")")?;
+    let Some((src, rest)) = register(wide, rest) else {
+        return None;
+    };
+    if !wide && bits == Narrow::Bits32 {
+        return None;
+    }
+    if !ended(rest) {
+        return None;
+    }
+    Some(Form::Movsx {
+        wide,
+        bits,
+        dst,
+        src,
+    })
+}
+
+/// A negation, after `-`.
+#[tactic(auto, unfolding(crate::specs::Reading::neg_of))]
+fn neg(wide: bool, dst: Reg, tokens: &[Token<'_>]) -> Option<Form>
+    ensures { result ≡ neg_of wide dst (shown_tokens tokens.now) }
+{
+    let Some((again, rest)) = register(wide, tokens) else {
+        return None;
+    };
+    if again.number() != dst.number() {
+        return None;
+    }
+    if ended(rest) {
+        Some(Form::Neg { wide, dst })
+    } else {
+        None
+    }
+}
+
+/// A change of byte order, after `=`.
+#[tactic(auto, unfolding(crate::specs::Reading::end_of))]
+fn end(dst: Reg, tokens: &[Token<'_>]) -> Option<Form>
+    ensures { result ≡ end_of dst (shown_tokens tokens.now) }
+{
+    let (name, rest) = name(tokens)?;
+    let (how, bits) = byte_order(name)?;
+    let Some((again, rest)) = register(true, rest) else {
+        return None;
+    };
+    if again.number() != dst.number() {
+        return None;
+    }
+    if ended(rest) {
+        Some(Form::End { how, bits, dst })
+    } else {
+        None
+    }
+}
+
+/// A wide constant, after `=`.
+#[tactic(auto, unfolding(crate::specs::Reading::const_of))]
+fn constant_load(dst: Reg, tokens: &[Token<'_>]) -> Option<Form>
+    ensures { result ≡ const_of dst (shown_tokens tokens.now) }
+{
+    let (value, rest) = number(tokens)?;
+    let rest = after_word(rest, "ll")?;
+    if ended(rest) {
+        Some(Form::Const { dst, value })
+    } else {
+        None
+    }
+}
+
+/// A map's descriptor, after `map_fd`.
+#[tactic(auto, unfolding(crate::specs::Reading::map_fd_of))]
+fn map_fd(dst: Reg, tokens: &[Token<'_>]) -> Option<Form>
+    ensures { result ≡ map_fd_of dst (shown_tokens tokens.now) }
+{
+    let (fd, rest) = constant(tokens)?;
+    let rest = after_word(rest, "ll")?;
+    if ended(rest) {
+        Some(Form::MapFd { dst, fd })
+    } else {
+        None
+    }
+}
+
+/// What only a wide register can be given, after `=`.
+#[tactic(auto, unfolding(crate::specs::Reading::wide_of))]
+fn wide_move(dst: Reg, tokens: &[Token<'_>]) -> Option<Form>
+    ensures { result ≡ wide_of dst (shown_tokens tokens.now) }
+{
+    if let Some(rest) = after_word(tokens, "map_fd") {
+        return map_fd(dst, rest);
+    }
+    if let Some(form) = end(dst, tokens) {
+        return Some(form);
+    }
+    if let Some(form) = constant_load(dst, tokens) {
+        return Some(form);
+    }
+    load(dst, tokens)
+}
+
+/// What is no plain operand, after `=`.
+#[tactic(auto, unfolding(crate::specs::Reading::moved_of))]
+fn special_move(wide: bool, dst: Reg, tokens: &[Token<'_>]) -> Option<Form>
+    ensures { result ≡ moved_of wide dst (shown_tokens tokens.now) }
+{
+    if let Some(rest) = after_symbol(tokens, "(") {
+        return movsx(wide, dst, rest);
+    }
+    if let Some(rest) = after_symbol(tokens, "-") {
+        return neg(wide, dst, rest);
+    }
+    if wide { wide_move(dst, tokens) } else { None }
+}
+
+/// An operator and one operand.
+#[tactic(auto, unfolding(crate::specs::Reading::alu_of))]
+fn alu(wide: bool, op: AluOp, dst: Reg, tokens: &[Token<'_>]) -> Option<Form>
+    ensures { result ≡ alu_of wide op dst (shown_tokens tokens.now) }
+{
+    let Some((src, rest)) = operand(wide, tokens) else {
+        return None;
+    };
+    if ended(rest) {
+        Some(Form::Alu { wide, op, dst, src })
+    } else {
+        None
+    }
+}
+
+fn is_move(op: AluOp) -> bool
+    ensures { result ≡ is_move op }
+{
+    matches!(op, AluOp::Mov)
+}
+
+/// What follows the register that is written.
+#[tactic(auto, unfolding(crate::specs::Reading::assignment_of))]
+fn assignment(wide: bool, dst: Reg, tokens: &[Token<'_>]) -> Option<Form>
+    ensures { result ≡ assignment_of wide dst (shown_tokens tokens.now) }
+{
+    let (symbol, rest) = symbol(tokens)?;
+    let op = operator(symbol)?;
+    if let Some(form) = alu(wide, op, dst, rest) {
+        return Some(form);
+    }
+    if is_move(op) {
+        special_move(wide, dst, rest)
+    } else {
+        None
+    }
+}
+
+#[tactic(auto, unfolding(crate::specs::Reading::assigned_of))]
+fn assigned(tokens: &[Token<'_>]) -> Option<Form>
+    ensures { result ≡ assigned_of (shown_tokens tokens.now) }
+{
+    let (name, rest) = name(tokens)?;
+    let (wide, dst) = register_named(name)?;
+    assignment(wide, dst, rest)
+}
+
+/// A jump, after `goto`.
+#[tactic(auto, unfolding(crate::specs::Reading::goto_of))]
+fn goto<'a>(tokens: &[Token<'a>]) -> Option<(Form, &'a str)>
+    ensures { seen_destination result ≡ goto_of (shown_tokens tokens.now) }
+{
+    let (to, label) = destination(tokens)?;
+    Some((Form::Ja { to }, label))
+}
+
+/// A long jump, after `gotol`.
+#[tactic(auto, unfolding(crate::specs::Reading::gotol_of))]
+fn gotol<'a>(tokens: &[Token<'a>]) -> Option<(Form, &'a str)>
+    ensures { seen_destination result ≡ gotol_of (shown_tokens tokens.now) }
+{
+    let (to, label) = destination(tokens)?;
+    Some((Form::Jal { to }, label))
+}
+
+/// A call, after `call`.
+#[tactic(auto, unfolding(crate::specs::Reading::call_of))]
+fn call(tokens: &[Token<'_>]) -> Option<Form>
+    ensures { result ≡ call_of (shown_tokens tokens.now) }
+{
+    let (id, rest) = constant(tokens)?;
+    if ended(rest) {
+        Some(Form::Call { id })
+    } else {
+        None
+    }
+}
+
+/// An instruction, and the label that its jump names.
+#[tactic(auto, unfolding(crate::specs::Reading::form_of))]
+fn form<'a>(tokens: &[Token<'a>]) -> Option<(Form, &'a str)>
+    ensures { seen_destination result ≡ form_of (shown_tokens tokens.now) }
+{
+    if let Some(rest) = after_word(tokens, "if") {
+        return jump(rest);
+    }
+    if let Some(rest) = after_word(tokens, "goto") {
+        return goto(rest);
+    }
+    if let Some(rest) = after_word(tokens, "gotol") {
+        return gotol(rest);
+    }
+    if let Some(rest) = after_word(tokens, "call") {
+        let form = call(rest)?;
+        return Some((form, ""));
+    }
+    if let Some(rest) = after_word(tokens, "exit") {
+        return if ended(rest) {
+            Some((Form::Exit, ""))
+        } else {
+            None
+        };
+    }
+    if let Some(form) = assigned(tokens) {
+        return Some((form, ""));
+    }
+    let form = store(tokens)?;
+    Some((form, ""))
+}
+
+/// The name of the label that the line defines.
+#[tactic(auto, unfolding(crate::specs::Reading::label_of))]
+fn label<'a>(tokens: &[Token<'a>]) -> Option<&'a str>
+    ensures { option_map (λ n. n.now) result ≡ label_of (shown_tokens tokens.now) }
+{
+    let (name, rest) = name(tokens)?;
+    let rest = after_symbol(rest, ":")?;
+    if ended(rest) { Some(name) } else { None }
+}
+
+/// The line of these tokens, if they are one of the forms.
+#[tactic(auto, unfolding(crate::specs::Reading::line_of))]
+pub(crate) fn line_of<'a>(tokens: &[Token<'a>]) -> Option<Line<'a>>
+    ensures { option_map seen_line result ≡ line_of (shown_tokens tokens.now) }
+{
+    if ended(tokens) {
+        return Some(Line::Blank);
+    }
+    if let Some(name) = label(tokens) {
+        return Some(Line::Label(name));
+    }
+    let Some((form, label)) = form(tokens) else {
+        return None;
+    };
+    Some(Line::Code(form, label))
+}

@@ -1,0 +1,213 @@
+//! Parts of a line: what the tokens at the front are, and the tokens after it.
+
+ghost use Rattle.std.specs.Prelude.{◌≡◌};
+ghost use Rattle.text_line.specs.Shown.{shown_tokens};
+ghost use Rattle.text_line.specs.Reading.{symbol_then, name_then, number_then, after_symbol, after_word, register_then, constant_then, signed_then, operand_then, destination_of, address_then, is_ended, seen, seen_pair, seen_label, seen_destination};
+
+use crate::form::{Address, Number, Source, Target};
+use crate::names::{register_named, size};
+use crate::token::Token;
+use insn_codec::Reg;
+
+// ---- one token, and the tokens after it
+
+pub(crate) fn symbol<'t, 'a>(tokens: &'t [Token<'a>]) -> Option<(&'a str, &'t [Token<'a>])>
+    ensures { seen_label result ≡ symbol_then (shown_tokens tokens.now) }
+{
+    match tokens.split_first() {
+        Some((Token::Symbol(symbol), rest)) => Some((*symbol, rest)),
+        _ => None,
+    }
+}
+
+pub(crate) fn name<'t, 'a>(tokens: &'t [Token<'a>]) -> Option<(&'a str, &'t [Token<'a>])>
+    ensures { seen_label result ≡ name_then (shown_tokens tokens.now) }
+{
+    match tokens.split_first() {
+        Some((Token::Name(name), rest)) => Some((*name, rest)),
+        _ => None,
+    }
+}
+
+pub(crate) fn number<'t, 'a>(tokens: &'t [Token<'a>]) -> Option<(Option<u64>, &'t [Token<'a>])>
+    ensures { seen_pair result ≡ number_then (shown_tokens tokens.now) }
+{
+    match tokens.split_first() {
+        Some((Token::Number(value), rest)) => Some((*value, rest)),
+        _ => None,
+    }
+}
+
+/// The tokens after this symbol.
+#[tactic(auto, unfolding(crate::specs::Reading::after_symbol))]
+pub(crate) fn after_symbol<'t, 'a>(
+    tokens: &'t [Token<'a>],
+    expected: &str,
+) -> Option<&'t [Token<'a>]>
+    ensures { seen result ≡ after_symbol expected.now (shown_tokens tokens.now) }
+{
+    let (found, rest) = symbol(tokens)?;
+    if found == expected { Some(rest) } else { None }
+}
+
+/// The tokens after this name.
+#[tactic(auto, unfolding(crate::specs::Reading::after_word))]
+pub(crate) fn after_word<'t, 'a>(tokens: &'t [Token<'a>], expected: &str) -> Option<&'t [Token<'a>]>
+    ensures { seen result ≡ after_word expected.now (shown_tokens tokens.now) }
+{
+    let (found, rest) = name(tokens)?;
+    if found == expected { Some(rest) } else { None }
+}
+
+// ---- parts of a line
+
+/// A register, 64 bits wide or its low half.
+#[tactic(auto, unfolding(crate::specs::Reading::register_then))]
+pub(crate) fn register<'t, 'a>(
+    wide: bool,
+    tokens: &'t [Token<'a>],
+) -> Option<(Reg, &'t [Token<'a>])>
+    ensures { seen_pair result ≡ register_then wide (shown_tokens tokens.now) }
+{
+    let (name, rest) = name(tokens)?;
+    let (found, reg) = register_named(name)?;
+    if found == wide {
+        Some((reg, rest))
+    } else {
+        None
+    }
+}
+
+/// A number, behind a minus where there is one.
+#[tactic(auto, unfolding(crate::specs::Reading::constant_then))]
+pub(crate) fn constant<'t, 'a>(tokens: &'t [Token<'a>]) -> Option<(Number, &'t [Token<'a>])>
+    ensures { seen_pair result ≡ constant_then (shown_tokens tokens.now) }
+{
+    match after_symbol(tokens, "-") {
+        Some(rest) => {
+            let (magnitude, rest) = number(rest)?;
+            Some((
+                Number {
+                    negative: true,
+                    magnitude,
+                },
+                rest,
+            ))
+        }
+        None => {
+            let (magnitude, rest) = number(tokens)?;
+            Some((
+                Number {
+                    negative: false,
+                    magnitude,
+                },
+                rest,
+            ))
+        }
+    }
+}
+
+/// A number behind its sign.
+#[tactic(auto, unfolding(crate::specs::Reading::signed_then))]
+pub(crate) fn signed<'t, 'a>(tokens: &'t [Token<'a>]) -> Option<(Number, &'t [Token<'a>])>
+    ensures { seen_pair result ≡ signed_then (shown_tokens tokens.now) }
+{
+    match after_symbol(tokens, "+") {
+        Some(rest) => {
+            let (magnitude, rest) = number(rest)?;
+            Some((
+                Number {
+                    negative: false,
+                    magnitude,
+                },
+                rest,
+            ))
+        }
+        None => {
+            let rest = after_symbol(tokens, "-")?;
+            let (magnitude, rest) = number(rest)?;
+            Some((
+                Number {
+                    negative: true,
+                    magnitude,
+                },
+                rest,
+            ))
+        }
+    }
+}
+
+/// A register or a constant.
+#[tactic(auto, unfolding(crate::specs::Reading::operand_then))]
+pub(crate) fn operand<'t, 'a>(
+    wide: bool,
+    tokens: &'t [Token<'a>],
+) -> Option<(Source, &'t [Token<'a>])>
+    ensures { seen_pair result ≡ operand_then wide (shown_tokens tokens.now) }
+{
+    match register(wide, tokens) {
+        Some((reg, rest)) => Some((Source::Reg(reg), rest)),
+        None => {
+            let (number, rest) = constant(tokens)?;
+            Some((Source::Number(number), rest))
+        }
+    }
+}
+
+/// Whether no token is left.
+pub(crate) fn ended(tokens: &[Token<'_>]) -> bool
+    ensures { result ≡ is_ended (shown_tokens tokens.now) }
+{
+    match tokens.split_first() {
+        None => true,
+        Some(_) => false,
+    }
+}
+
+/// Where a jump leads, and the label's name if it names one. Nothing follows it.
+#[tactic(auto, unfolding(crate::specs::Reading::destination_of))]
+pub(crate) fn destination<'a>(tokens: &[Token<'a>]) -> Option<(Target, &'a str)>
+    ensures { seen_destination result ≡ destination_of (shown_tokens tokens.now) }
+{
+    if let Some((number, rest)) = signed(tokens) {
+        return if ended(rest) {
+            Some((Target::Number(number), ""))
+        } else {
+            None
+        };
+    }
+    let (name, rest) = name(tokens)?;
+    if ended(rest) {
+        Some((Target::Label, name))
+    } else {
+        None
+    }
+}
+
+/// A place in memory.
+#[tactic(auto, unfolding(crate::specs::Reading::address_then))]
+pub(crate) fn address<'t, 'a>(tokens: &'t [Token<'a>]) -> Option<(Address, &'t [Token<'a>])>
+    ensures { seen_pair result ≡ address_then (shown_tokens tokens.now) }
+{
+    let rest = after_symbol(tokens, "*")?;
+    let rest = after_symbol(rest, "(")?;
+    let (name, rest) = name(rest)?;
+    let (signed_size, size) = size(name)?;
+    let rest = after_symbol(rest, "*")?;
+    let rest = after_symbol(rest, ")")?;
+    let rest = after_symbol(rest, "(")?;
+    let Some((base, rest)) = register(true, rest) else {
+        return None;
+    };
+    let (offset, rest) = signed(rest)?;
+    let rest = after_symbol(rest, ")")?;
+    Some((
+        Address {
+            signed: signed_size,
+            size,
+            base,
+            offset,
+        },
+        rest,
+    ))
+}

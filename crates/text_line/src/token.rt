@@ -1,0 +1,229 @@
+//! The tokens of a line.
+
+ghost use Rattle.std.specs.Prelude.{◌≡◌, ◌≤◌, ◌<◌, List, length, drop, map, nat_eq, find, option_map, IfSome, IfNone, IfOk, IsTrue, slice_index};
+ghost use Rattle.std.specs.List.{prefix_len, starts_with};
+ghost use Rattle.std.specs.Option.{option_map_or};
+ghost use Rattle.std.specs.Str.{IsAscii};
+ghost use Rattle.std.specs.Str.Parse.{digits_value};
+ghost use Rattle.text_line.specs.Blanks.{skip_blanks};
+ghost use Rattle.text_line.specs.Token.{Token as AnyToken, number as Number, symbol as Symbol, symbol_at, name_at, number_at, token_at, value_of, run, is_name_start, is_hex_digit, is_over, IsTokens};
+ghost use Rattle.text_line.specs.Shown.{shown, shown_front, shown_tokens};
+ghost use Rattle.text_line.specs.Class.{in_class, IsDigits};
+
+use crate::blanks::is_blank;
+use std::alloc::{AllocError, Global};
+
+/// A token.
+#[derive(Clone, Copy, Debug)]
+pub(crate) enum Token<'a> {
+    Name(&'a str),
+    /// A number's value: none from 2 ^ 64 on.
+    Number(Option<u64>),
+    Symbol(&'a str),
+}
+
+/// The symbols, the longer ones first.
+const SYMBOLS: [&str; 31] = [
+    "s>>=", "s/=", "s%=", "s>=", "s<=", "<<=", ">>=", "s>", "s<", "+=", "-=", "*=", "/=", "|=",
+    "&=", "%=", "^=", "==", ">=", "!=", "<=", "=", ">", "<", "&", "+", "-", "*", "(", ")", ":",
+];
+
+/// How many bytes the longest symbol at the front has, or 0.
+#[tactic(auto, unfolding(crate::specs::Token::symbol_at))]
+fn symbol_len(text: &[u8]) -> usize
+    ensures bound { result ≤ length text.now }
+    ensures value { result ≡ option_map_or length (symbol_at text.now) 0 }
+{
+    first_len(text, &SYMBOLS)
+}
+
+/// How many bytes the first of the symbols has with which the text begins, or 0.
+fn first_len(text: &[u8], symbols: &[&str]) -> usize
+    ensures bound { result ≤ length text.now }
+    ensures value { result ≡ option_map_or length (find (λ s. starts_with nat_eq text.now s) (map (λ s. s.now) symbols.now)) 0 }
+{
+    for symbol in symbols {
+        if text.starts_with(symbol.as_bytes()) {
+            return symbol.len();
+        }
+    }
+    0
+}
+
+/// The bytes that a name or a number is made of.
+#[derive(Clone, Copy, Debug)]
+enum ByteClass {
+    Blank,
+    Name,
+    Digit,
+    HexDigit,
+}
+
+impl ByteClass {
+    ghost use Rattle.text_line.specs.Class.{in_class};
+
+    fn contains(self, byte: u8) -> bool
+        ensures { result ≡ in_class self byte }
+    {
+        match self {
+            ByteClass::Blank => is_blank(byte),
+            ByteClass::Name => is_name_start(byte) || byte.is_ascii_digit(),
+            ByteClass::Digit => byte.is_ascii_digit(),
+            ByteClass::HexDigit => is_hex_digit(byte),
+        }
+    }
+
+    /// How many bytes at the front are of this class.
+    fn run_len(self, text: &[u8]) -> usize
+        ensures value { result ≡ prefix_len (in_class self) text.now }
+        ensures bound { result ≤ length text.now }
+    {
+        let mut len = 0;
+        while len < text.len() && self.contains(text[len]) {
+            len += 1;
+        }
+        len
+    }
+}
+
+fn is_name_start(byte: u8) -> bool
+    ensures { result ≡ is_name_start byte }
+{
+    byte.is_ascii_alphabetic() || byte == b'_'
+}
+
+fn is_hex_digit(byte: u8) -> bool
+    ensures { result ≡ is_hex_digit byte }
+{
+    byte.is_ascii_digit() || (byte > 64 && byte < 71) || (byte > 96 && byte < 103)
+}
+
+/// The byte at an index, or 0.
+fn byte_at(text: &[u8], index: usize) -> u8
+    ensures { result ≡ slice_index text.now index }
+{
+    if index < text.len() { text[index] } else { 0 }
+}
+
+/// The text after the blanks at its front.
+fn after_blanks(text: &str) -> &str
+    requires { IsAscii text.now }
+    ensures value { result.now ≡ skip_blanks text.now }
+    ensures ascii { IsAscii result.now }
+    ensures bound { length result.now ≤ length text.now }
+{
+    let (_, rest) = text.split_at(ByteClass::Blank.run_len(text.as_bytes()));
+    rest
+}
+
+/// The symbol at the front, and the text after it.
+fn symbol(text: &str) -> Option<(Token<'_>, &str)>
+    requires { IsAscii text.now }
+    ensures value { shown_front result ≡ option_map (λ s. (Symbol s, drop (length s) text.now)) (symbol_at text.now) }
+    ensures ascii { IfSome result (λ r. IsAscii r.1.now) }
+    ensures shorter { IfSome result (λ r. length r.1.now < length text.now) }
+{
+    let len = symbol_len(text.as_bytes());
+    if len == 0 {
+        return None;
+    }
+    let (symbol, rest) = text.split_at(len);
+    Some((Token::Symbol(symbol), rest))
+}
+
+/// The name at the front, and the text after it.
+#[tactic(auto, unfolding(crate::specs::Token::name_at))]
+fn name(text: &str) -> Option<(Token<'_>, &str)>
+    requires { IsAscii text.now }
+    ensures value { shown_front result ≡ name_at text.now }
+    ensures ascii { IfSome result (λ r. IsAscii r.1.now) }
+    ensures shorter { IfSome result (λ r. length r.1.now < length text.now) }
+{
+    let bytes = text.as_bytes();
+    if !is_name_start(byte_at(bytes, 0)) {
+        return None;
+    }
+    let (name, rest) = text.split_at(ByteClass::Name.run_len(bytes));
+    Some((Token::Name(name), rest))
+}
+
+/// The number at the front, and the text after it.
+#[tactic(auto, unfolding(crate::specs::Token::number_at))]
+fn number(text: &str) -> Option<(Token<'_>, &str)>
+    requires { IsAscii text.now }
+    ensures value { shown_front result ≡ number_at text.now }
+    ensures ascii { IfSome result (λ r. IsAscii r.1.now) }
+    ensures shorter { IfSome result (λ r. length r.1.now < length text.now) }
+{
+    let bytes = text.as_bytes();
+    let first = byte_at(bytes, 0);
+    if first == b'0' && byte_at(bytes, 1) == b'x' && is_hex_digit(byte_at(bytes, 2)) {
+        let (_, digits) = text.split_at(2);
+        return Some(value(digits, ByteClass::HexDigit, 16));
+    }
+    if first.is_ascii_digit() {
+        return Some(value(text, ByteClass::Digit, 10));
+    }
+    None
+}
+
+/// The number that the digits at the front write, and the text after them.
+fn value(text: &str, class: ByteClass, radix: u32) -> (Token<'_>, &str)
+    requires ascii { IsAscii text.now }
+    requires digits { IsDigits class radix }
+    requires first { IsTrue (in_class class (slice_index text.now 0)) }
+    ensures value { shown result.0 ≡ Number (value_of (digits_value radix (run (in_class class) text.now))) }
+    ensures rest { result.1.now ≡ drop (prefix_len (in_class class) text.now) text.now }
+    ensures ascii { IsAscii result.1.now }
+    ensures shorter { length result.1.now < length text.now }
+{
+    let (digits, rest) = text.split_at(class.run_len(text.as_bytes()));
+    (Token::Number(u64::from_str_radix(digits, radix).ok()), rest)
+}
+
+/// The longest token at the front, and the text after it.
+#[tactic(auto, unfolding(crate::specs::Token::token_at))]
+fn first_token(text: &str) -> Option<(Token<'_>, &str)>
+    requires { IsAscii text.now }
+    ensures value { shown_front result ≡ token_at text.now }
+    ensures ascii { IfSome result (λ r. IsAscii r.1.now) }
+    ensures shorter { IfSome result (λ r. length r.1.now < length text.now) }
+{
+    if let Some(found) = symbol(text) {
+        return Some(found);
+    }
+    if let Some(found) = name(text) {
+        return Some(found);
+    }
+    number(text)
+}
+
+/// Whether nothing but a comment is left.
+fn is_over(text: &[u8]) -> bool
+    ensures { result ≡ is_over text.now }
+{
+    text.is_empty() || text.starts_with(b"//")
+}
+
+/// The tokens of a line, or none where something on it is no token.
+pub(crate) fn tokens<'a>(alloc: Global, line: &'a str) -> Result<Option<Vec<Token<'a>>>, AllocError>
+    ensures found { IfOk result (λ o. IfSome o (λ ts. IsTokens line.now (shown_tokens ts.items))) }
+    ensures none { IfOk result (λ o. IfNone o ((ts : List AnyToken) → ¬ IsTokens line.now ts)) }
+{
+    if !line.is_ascii() {
+        return Ok(None);
+    }
+    let mut tokens = Vec::new(alloc);
+    let mut rest = line;
+    loop {
+        let text = after_blanks(rest);
+        if is_over(text.as_bytes()) {
+            return Ok(Some(tokens));
+        }
+        let Some((token, after)) = first_token(text) else {
+            return Ok(None);
+        };
+        tokens.push(token)?;
+        rest = after;
+    }
+}

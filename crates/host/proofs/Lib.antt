@@ -7,3 +7,6 @@ pub mod Frames
 pub mod Stands
 pub mod Serving
 mod Digits
+mod Rewriting
+mod OtherFailures
+mod HexRefusals

@@ -8,4 +8,6 @@ pub mod Reply
 pub mod Alone
 pub mod Told
 pub mod Served
+pub mod Failure
 pub mod Words
+pub mod Texts

@@ -3,6 +3,7 @@
 
 mod command;
 mod errno;
+mod failure;
 mod host;
 mod object;
 mod reading;
@@ -10,6 +11,7 @@ mod reply;
 mod server;
 mod stream;
 mod tenant;
+mod texts;
 mod words;
 mod writing;
 

@@ -14,4 +14,6 @@ mod shapes;
 #[cfg(test)]
 mod streams;
 #[cfg(test)]
+mod texts;
+#[cfg(test)]
 mod words;

@@ -1,0 +1,138 @@
+-- What `asm` and `dis` make of their input, and what they refuse.
+use Rattle.std.specs.Prelude.{◌≡◌, ◌⊎◌, ℕ, ◌+◌, ◌<◌, ◌≤◌, List, length, take, Option, IsUtf8}
+use Rattle.std.specs.Io.KnownBytes.{Appends, Consumes, IsAtEnd, Keeps}
+use Rattle.bpf_text.specs.Assembly.{IsAssembled, IsOwnFault}
+use Rattle.bpf_text.specs.Fault.{IsFirst, IsEmpty}
+use Rattle.bpf_text.specs.HexText.{IsHexText, hex_bytes, hex_fault_at, hex_text}
+use Rattle.bpf_text.specs.Lines.{text_lines}
+use Rattle.bpf_text.specs.Printed.{printed}
+use Rattle.bpf_text.specs.declared.fault.TextFault.{TextFault}
+use Rattle.insn_codec.specs.Program.{IsProgram, IsProgramFault, program_bytes}
+use Rattle.insn_codec.specs.declared.fault.CodecFault.{CodecFault}
+use Rattle.insn_codec.specs.declared.insn.Insn.{Insn}
+use Rattle.host.specs.Failure.{codec_failure, text_failure}
+use Rattle.host.specs.declared.texts.TheConstants.{LONGEST_INPUT}
+use Rattle.host.specs.declared.failure.Failure.{Failure}
+use Rattle.host.specs.declared.failure.Failure.TheVariants.{WrongWords, Truncated, TooManyFrames, TooLong, Line, Slot, Read, Write, Memory}
+use Rattle.host.specs.declared.texts.TextTask.{TextTask}
+use Rattle.host.specs.declared.texts.TextTask.TheVariants.{Assemble, Disassemble}
+
+-- the input is a program's text, and the output the program's slots as hex lines
+pub record IsAssembly (input output : List ℕ) : Type 0 where
+  pub insns : List Insn
+  pub utf8 : IsUtf8 input
+  pub program : IsAssembled input insns
+  pub lines : output ≡ hex_text (program_bytes insns)
+
+-- the input has a program's slots as hex lines, and the output is the program's text
+pub record IsDisassembly (input output : List ℕ) : Type 0 where
+  pub insns : List Insn
+  pub utf8 : IsUtf8 input
+  pub slots : IsHexText input (program_bytes insns)
+  pub program : IsProgram insns
+  pub text : output ≡ printed insns
+
+abbrev pub IsRewritten : TextTask → List ℕ → List ℕ → Type 0
+IsRewritten Assemble input output = IsAssembly input output
+IsRewritten Disassemble input output = IsDisassembly input output
+
+-- the input is no text at all
+abbrev pub IsNoText : List ℕ → Failure → Type 0
+IsNoText input failure = (¬ IsUtf8 input) × (failure ≡ Line 0 1)
+
+-- a line of a program's text has a fault, or the text has no instruction
+pub record IsTextRefused (input : List ℕ) (failure : Failure) : Type 0 where
+  pub fault : TextFault
+  pub utf8 : IsUtf8 input
+  pub own : IsOwnFault input fault
+  pub failure_is : failure ≡ text_failure fault
+
+-- a line has a fault, or no line has a slot
+pub record IsHexRefused (input : List ℕ) (failure : Failure) : Type 0 where
+  pub fault : TextFault
+  pub utf8 : IsUtf8 input
+  pub own : IsFirst (hex_fault_at (text_lines input)) fault ⊎ IsEmpty (hex_fault_at (text_lines input)) (length (hex_bytes (text_lines input))) fault
+  pub failure_is : failure ≡ text_failure fault
+
+-- the lines have slots that are no program
+pub record IsProgramRefused (input : List ℕ) (failure : Failure) : Type 0 where
+  pub bytes : List ℕ
+  pub fault : CodecFault
+  pub utf8 : IsUtf8 input
+  pub slots : IsHexText input bytes
+  pub own : IsProgramFault bytes fault
+  pub failure_is : failure ≡ codec_failure fault
+
+abbrev pub IsRefused : TextTask → List ℕ → Failure → Type 0
+IsRefused Assemble input failure = IsNoText input failure ⊎ IsTextRefused input failure
+IsRefused Disassemble input failure = IsNoText input failure ⊎ (IsHexRefused input failure ⊎ IsProgramRefused input failure)
+
+-- ---- the streams
+
+-- the bytes that the reader has left and those that the writer holds, where they are known, and how many calls of the two
+-- failed so far
+pub record Streams : Type 0 where
+  pub input : Option (List ℕ)
+  pub output : Option (List ℕ)
+  pub read_failures : ℕ
+  pub write_failures : ℕ
+
+-- the input was read to its end, and is not too long
+pub record IsReadWhole (before after : Option (List ℕ)) (input : List ℕ) : Type 0 where
+  pub short : length input ≤ LONGEST_INPUT
+  pub read : Consumes before after input
+  pub end : IsAtEnd after
+
+-- why no input was had: it is too long, and then one byte more than allowed was read; a call failed; or memory ran out
+-- before anything was read
+abbrev pub IsUnread : Failure → Option (List ℕ) → Option (List ℕ) → ℕ → ℕ → Type 0
+IsUnread TooLong before after failures_before failures_after =
+    ((bytes : List ℕ) × (length bytes ≡ LONGEST_INPUT + 1) × Consumes before after bytes) × (failures_after ≡ failures_before)
+IsUnread Read before after failures_before failures_after =
+    ((bytes : List ℕ) × (length bytes ≤ LONGEST_INPUT) × Consumes before after bytes) × (failures_before < failures_after)
+IsUnread Memory before after failures_before failures_after = (after ≡ before) × (failures_after ≡ failures_before)
+IsUnread WrongWords before after failures_before failures_after = ⊥
+IsUnread (Truncated frames) before after failures_before failures_after = ⊥
+IsUnread TooManyFrames before after failures_before failures_after = ⊥
+IsUnread (Line line kind) before after failures_before failures_after = ⊥
+IsUnread (Slot slot kind) before after failures_before failures_after = ⊥
+IsUnread Write before after failures_before failures_after = ⊥
+
+-- nothing was written
+abbrev pub IsSilent : Streams → Streams → Type 0
+IsSilent old new = (new.output ≡ old.output) × (new.write_failures ≡ old.write_failures)
+
+-- the input was read, and what stands for it went out; no call failed
+pub record EndsText (task : TextTask) (old new : Streams) : Type 0 where
+  pub input : List ℕ
+  pub output : List ℕ
+  pub whole : IsReadWhole old.input new.input input
+  pub made : IsRewritten task input output
+  pub written : Appends old.output new.output output
+  pub sound : (new.read_failures ≡ old.read_failures) × (new.write_failures ≡ old.write_failures)
+
+-- the input was read, and is refused, or memory ran out
+pub record IsUnmade (task : TextTask) (old new : Streams) (failure : Failure) : Type 0 where
+  pub input : List ℕ
+  pub whole : IsReadWhole old.input new.input input
+  pub why : (failure ≡ Memory) ⊎ IsRefused task input failure
+  pub silent : IsSilent old new
+  pub sound : new.read_failures ≡ old.read_failures
+
+-- some of what stands for the input went out, and a call failed
+pub record IsUnwritten (task : TextTask) (old new : Streams) (failure : Failure) : Type 0 where
+  pub input : List ℕ
+  pub output : List ℕ
+  pub count : ℕ
+  pub whole : IsReadWhole old.input new.input input
+  pub made : IsRewritten task input output
+  pub part : count ≤ length output
+  pub written : Appends old.output new.output (take count output)
+  pub failure_is : failure ≡ Write
+  pub failed : old.write_failures < new.write_failures
+  pub sound : new.read_failures ≡ old.read_failures
+
+abbrev pub StopsText : TextTask → Streams → Streams → Failure → Type 0
+StopsText task old new failure =
+    (IsUnread failure old.input new.input old.read_failures new.read_failures × IsSilent old new)
+    ⊎ (IsUnmade task old new failure ⊎ IsUnwritten task old new failure)

@@ -1,0 +1,9 @@
+pub mod Parts
+pub mod Tables
+pub mod Words
+pub mod States
+pub mod Pointers
+pub mod Values
+pub mod Memory
+pub mod Jumps
+pub mod Cover

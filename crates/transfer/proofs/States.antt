@@ -1,0 +1,124 @@
+-- What is known of a state stays known: after a register is given a value, after a move, and where more is known of a
+-- register.
+use Rattle.std.proofs.Common.{◌≡◌, ℕ, ◌+◌, ◌<◌, ◌≤◌, ◌^◌, ◌==◌, ℤ, pos, negsuc, Bool, true, false, Option, Some, Ok, refl, sym, ap, subst, ◌∙◌, ⊎_elim, inl, arith}
+use Rattle.std.proofs.lemmas.Bool.{cases_Bool, cond-true, cond-false, eqb-true}
+use Rattle.interval.specs.declared.range.Range.{Range}
+use Rattle.interval.specs.Ranges.{constant, IsMember}
+use Rattle.interval.specs.Words.{unsigned}
+use Rattle.insn_codec.specs.declared.insn.AluOp.{AluOp}
+use Rattle.insn_codec.specs.declared.insn.AluOp.TheVariants as alu
+use Rattle.insn_codec.specs.declared.insn.Operand.{Operand}
+use Rattle.insn_codec.specs.declared.insn.Operand.TheVariants.{Imm, Reg}
+use Rattle.reg_kinds.specs.declared.kind.Kind.{Kind}
+use Rattle.reg_kinds.specs.declared.kind.Kind.TheVariants as kind
+use Rattle.reg_kinds.specs.declared.facts.Facts.{Facts}
+use Rattle.reg_kinds.specs.Kinds.{kind_at, with_kind}
+use Rattle.tagged_model.specs.declared.value.Tagged.{Tagged}
+use Rattle.tagged_model.specs.declared.value.Tagged.TheVariants.{Scalar}
+use Rattle.tagged_model.specs.Operators.{width}
+use Rattle.tagged_model.specs.Values.{first_operand}
+use Rattle.tagged_model.specs.State.{State, set_at, at_slot, with_register}
+use Rattle.tagged_model.specs.Step.{operand, assigned}
+use Rattle.tagged_model.specs.Admits.{IsOf, HasKind}
+use Rattle.transfer.specs.Arithmetic.{readable}
+use Rattle.transfer.specs.Branches.{falls}
+use Rattle.transfer.specs.Effects.{source_kind, first_kind}
+use Rattle.transfer.specs.Sound.{IsOfWordsKind, IsOn}
+use Rattle.transfer.proofs.Parts.{Agree, IsKindOf, IsReadable, IsFound, IsKnown, IsCoveredIf}
+use Rattle.transfer.proofs.Tables.{in_written}
+use Rattle.transfer.proofs.Words.{kind_words}
+
+-- ---- numbers
+
+module _ (gave : ℕ → Tagged) where
+  pub scalar_of : (r : Range) (n : ℕ) → IsMember n r → r.hi < 2 ^ 64 → IsKindOf gave (kind.Scalar r) (Scalar n)
+  scalar_of r n m h = record { is = (n, refl, m, below n r.hi m.to h); words = h }
+    where
+      below : (x y : ℕ) → x ≤ y → y < 2 ^ 64 → x < 2 ^ 64
+      below x y l h = omega arith
+
+  pub constant_of : (n : ℕ) → n < 2 ^ 64 → IsKindOf gave (kind.Scalar (constant n)) (Scalar n)
+  constant_of n h = scalar_of (constant n) n (record { from = omega arith; to = omega arith }) h
+
+-- ---- operands
+
+word_of : (wide : Bool) (z : ℤ) → unsigned (width wide) z < 2 ^ 64
+word_of true (pos n) = omega arith
+word_of true (negsuc n) = omega arith
+word_of false (pos n) = omega arith
+word_of false (negsuc n) = omega arith
+
+module _ (gave : ℕ → Tagged) where
+  some_kind : (k : Kind) (v : Tagged) → IsOf gave k v → HasKind gave k (Some v)
+  some_kind kind.Unreadable v h = tt
+  some_kind k v h = (v, refl, h)
+
+  -- of a kind that may be read the value is there
+  there : (o : Option Tagged) (k : Kind) (v : Tagged) → o ≡ Some v → IsReadable k → IsOf gave k v → IsOfWordsKind k → Agree (IsFound gave o) (Ok k) o
+  there o k v e r h w = subst (Agree (IsFound gave o) (Ok k)) (sym e) (record { kind = record { is = h; words = w }; from = e; readable = r })
+
+  pub found : (o : Option Tagged) (k : Kind) → HasKind gave k o → IsOfWordsKind k → Agree (IsFound gave o) (readable k) o
+  found o kind.Unreadable h w = tt
+  found o k h w = there o k h.0 h.1 tt h.2 w
+
+  module _ (f : Facts) (s : State) (known : IsKnown gave f s) where
+    pub register_found : (r : ℕ) → Agree (IsFound gave (s.registers r)) (readable (kind_at f r)) (s.registers r)
+    register_found r = found (s.registers r) (kind_at f r) (known.admits.registers r) (known.words.registers r)
+
+    pub source_found : (wide : Bool) (src : Operand) → Agree (IsFound gave (operand s wide src)) (readable (source_kind f wide src)) (operand s wide src)
+    source_found wide (Imm z) = let k = constant_of gave (unsigned (width wide) z) (word_of wide z) in record { kind = k; from = refl; readable = tt }
+    source_found wide (Reg r) = register_found r
+
+    -- a move does not read its destination
+    pub first_found : (op : AluOp) (r : ℕ) → Agree (IsFound gave (first_operand op (s.registers r))) (first_kind op (kind_at f r)) (first_operand op (s.registers r))
+    first_found alu.Mov r = let k = constant_of gave 0 (omega arith) in record { kind = k; from = refl; readable = tt }
+    first_found op r = register_found r
+
+    -- ---- a register is given a value
+
+    pub given_value : (r : ℕ) (k : Kind) (v : Tagged) → IsKindOf gave k v → IsKnown gave (with_kind f r k) (with_register s r v)
+    given_value r k v h =
+        record {
+          admits = record {
+            registers = in_written (HasKind gave) f.registers s.registers r k kind.Unreadable (Some v) (some_kind k v h.is) tt known.admits.registers;
+            slots = known.admits.slots;
+          };
+          words = kind_words f r k known.words h.words;
+          proper = record { bytes = known.proper.bytes; words = known.proper.words; count = known.proper.count };
+        }
+
+    -- more is known of a register
+    pub known_more : (r : ℕ) (k : Kind) (v : Tagged) → s.registers r ≡ Some v → IsKindOf gave k v → IsKnown gave (with_kind f r k) s
+    known_more r k v e h =
+        let after = given_value r k v h in
+        record {
+          admits = record {
+            registers = λ q. subst (HasKind gave (kind_at (with_kind f r k) q)) (same q) (after.admits.registers q);
+            slots = known.admits.slots;
+          };
+          words = after.words;
+          proper = known.proper;
+        }
+      where
+        same : (q : ℕ) → set_at s.registers r (Some v) q ≡ s.registers q
+        same q =
+            ⊎_elim
+            (λ t. cond-true (q == r) (Some v) (s.registers q) t ∙ (sym e ∙ ap s.registers (sym (eqb-true q r t))))
+            (λ t. cond-false (q == r) (Some v) (s.registers q) t)
+            (cases_Bool (q == r))
+
+    -- ---- the next slot
+
+    pub moved_to : (n : ℕ) → IsKnown gave f (at_slot n s)
+    moved_to n =
+        record {
+          admits = record { registers = known.admits.registers; slots = known.admits.slots };
+          words = known.words;
+          proper = record { bytes = known.proper.bytes; words = known.proper.words; count = known.proper.count };
+        }
+
+  pub goes_to : (f : Facts) (s : State) (n : ℕ) → IsKnown gave f s → IsOn gave (Some f) (Some n) (at_slot n s)
+  goes_to f s n known = let k = moved_to f s known n in (refl, k.admits, k.words, k.proper)
+
+  pub assigned_covered : (f : Facts) (s : State) (n : ℕ) (target : Option ℕ) (r : ℕ) (k : Kind) (v : Tagged) → IsKnown gave f s → IsKindOf gave k v → IsCoveredIf gave (s.at + n) target (falls (with_kind f r k)) (assigned n s r v)
+  assigned_covered f s n target r k v known h = inl (goes_to (with_kind f r k) (with_register s r v) (s.at + n) (given_value f s known r k v h))

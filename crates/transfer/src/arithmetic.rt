@@ -1,0 +1,207 @@
+//! What an operator leaves in its destination.
+
+ghost use Rattle.std.specs.Prelude.{◌≡◌, ◌≤ℤ◌, ◌+ℤ◌, ◌-ℤ◌, IfSome, true};
+ghost use Rattle.transfer.specs.declared.arithmetic.Way.TheVariants.{Forwards, Backwards};
+ghost use Rattle.interval.specs.Table.{range_of};
+ghost use Rattle.tagged_model.specs.Operators.{width};
+ghost use Rattle.transfer.specs.Arithmetic.{readable, distance, moved_offset, stack_moved, value_by, value_moved, pointer_moved, is_maybe, of_scalars, sum_kind, difference_kind, arithmetic_kind, of_scalar};
+
+use insn_codec::AluOp;
+use interval::{Operator, Range, alu32, alu64};
+use reg_kinds::{Kind, Reason, ValuePointer};
+use tagged_model::operator;
+
+/// The farthest that an offset may lie, in bytes.
+const FARTHEST: i64 = 0x2000_0000;
+
+/// Which way a number moves a pointer.
+#[derive(Clone, Copy, Debug, PartialEq, Eq)]
+pub(crate) enum Way {
+    Forwards,
+    Backwards,
+}
+
+/// A value that may be read.
+pub(crate) fn readable(kind: Kind) -> Result<Kind, Reason>
+    ensures { result ≡ readable kind }
+{
+    match kind {
+        Kind::Unreadable => Err(Reason::UnreadableRegister),
+        other => Ok(other),
+    }
+}
+
+/// The least and the greatest number of a range, read as signed, if all have one sign.
+fn distance(range: Range) -> Option<(i64, i64)>
+    ensures value { result ≡ distance range }
+    ensures ordered { IfSome result (λ d. d.0 ≤ℤ d.1) }
+{
+    if range.hi <= 0x7fff_ffff_ffff_ffff || range.lo > 0x7fff_ffff_ffff_ffff {
+        Some((range.lo.cast_signed(), range.hi.cast_signed()))
+    } else {
+        None
+    }
+}
+
+/// An offset that is moved forwards, if it stays near.
+fn moved_forwards(offset: i32, by: i64) -> Option<i32>
+    ensures value { result ≡ moved_offset Forwards offset by }
+    ensures moved { IfSome result (λ to. to ≡ offset +ℤ by) }
+{
+    let to = i64::from(offset).checked_add(by)?;
+    if to < -FARTHEST || to > FARTHEST {
+        None
+    } else {
+        Some(to as i32)
+    }
+}
+
+/// An offset that is moved backwards, if it stays near.
+fn moved_backwards(offset: i32, by: i64) -> Option<i32>
+    ensures value { result ≡ moved_offset Backwards offset by }
+    ensures moved { IfSome result (λ to. to ≡ offset -ℤ by) }
+{
+    let to = i64::from(offset).checked_sub(by)?;
+    if to < -FARTHEST || to > FARTHEST {
+        None
+    } else {
+        Some(to as i32)
+    }
+}
+
+/// A pointer into the stack that is moved by a constant.
+fn stack_moved(way: Way, offset: i32, range: Range) -> Result<Kind, Reason>
+    ensures { result ≡ stack_moved way offset range }
+{
+    let Some((by, _)) = distance(range) else {
+        return Err(Reason::OffsetTooLarge);
+    };
+    let to = match way {
+        Way::Forwards => moved_forwards(offset, by),
+        Way::Backwards => moved_backwards(offset, by),
+    };
+    match to {
+        Some(offset) => Ok(Kind::Stack(offset)),
+        None => Err(Reason::OffsetTooLarge),
+    }
+}
+
+/// A pointer into a value, moved forwards by a number from `least` to `greatest`, if it stays near.
+fn value_forwards(pointer: ValuePointer, least: i64, greatest: i64) -> Option<ValuePointer>
+    requires { least ≤ℤ greatest }
+    ensures { result ≡ value_by Forwards pointer (least, greatest) }
+{
+    let lo = moved_forwards(pointer.lo, least)?;
+    let hi = moved_forwards(pointer.hi, greatest)?;
+    Some(ValuePointer::new(pointer.map, lo, hi))
+}
+
+/// A pointer into a value, moved backwards by a number from `least` to `greatest`, if it stays near.
+fn value_backwards(pointer: ValuePointer, least: i64, greatest: i64) -> Option<ValuePointer>
+    requires { least ≤ℤ greatest }
+    ensures { result ≡ value_by Backwards pointer (least, greatest) }
+{
+    let lo = moved_backwards(pointer.lo, greatest)?;
+    let hi = moved_backwards(pointer.hi, least)?;
+    Some(ValuePointer::new(pointer.map, lo, hi))
+}
+
+/// A pointer into a value that is moved by a number of a range.
+fn value_moved(way: Way, pointer: ValuePointer, range: Range) -> Result<Kind, Reason>
+    ensures { result ≡ value_moved way pointer range }
+{
+    let Some((least, greatest)) = distance(range) else {
+        return Err(Reason::OffsetTooLarge);
+    };
+    let moved = match way {
+        Way::Forwards => value_forwards(pointer, least, greatest),
+        Way::Backwards => value_backwards(pointer, least, greatest),
+    };
+    match moved {
+        Some(value) => Ok(Kind::Value(value)),
+        None => Err(Reason::OffsetTooLarge),
+    }
+}
+
+/// A pointer that is moved by a number of a range.
+fn pointer_moved(way: Way, pointer: Kind, range: Range) -> Result<Kind, Reason>
+    ensures { result ≡ pointer_moved way pointer range }
+{
+    match pointer {
+        Kind::Stack(offset) if range.is_constant() => stack_moved(way, offset, range),
+        Kind::Value(value) => value_moved(way, value, range),
+        _ => Err(Reason::PointerArithmetic),
+    }
+}
+
+/// The range of an operator's results.
+fn result_range(wide: bool, op: Operator, a: Range, b: Range) -> Range
+    ensures { result ≡ range_of (width wide) op a b }
+{
+    if wide {
+        alu64(op, a, b)
+    } else {
+        alu32(op, a, b)
+    }
+}
+
+/// An operator on two numbers.
+fn of_scalars(wide: bool, op: Operator, a: Kind, b: Kind) -> Result<Kind, Reason>
+    ensures { result ≡ of_scalars wide op a b }
+{
+    match (a, b) {
+        (Kind::Scalar(a), Kind::Scalar(b)) => Ok(Kind::Scalar(result_range(wide, op, a, b))),
+        _ => Err(Reason::PointerArithmetic),
+    }
+}
+
+/// An operator on one number.
+pub(crate) fn of_scalar(wide: bool, op: Operator, kind: Kind) -> Result<Kind, Reason>
+    ensures { result ≡ of_scalar wide op kind }
+{
+    of_scalars(wide, op, kind, kind)
+}
+
+/// A sum of 64 bits.
+fn sum(a: Kind, b: Kind) -> Result<Kind, Reason>
+    ensures { result ≡ sum_kind a b }
+{
+    match (a, b) {
+        (Kind::Scalar(_), Kind::Scalar(_)) => of_scalars(true, Operator::Add, a, b),
+        (Kind::Scalar(range), pointer) => pointer_moved(Way::Forwards, pointer, range),
+        (pointer, Kind::Scalar(range)) => pointer_moved(Way::Forwards, pointer, range),
+        _ => Err(Reason::PointerArithmetic),
+    }
+}
+
+/// A difference of 64 bits.
+fn difference(a: Kind, b: Kind) -> Result<Kind, Reason>
+    ensures { result ≡ difference_kind a b }
+{
+    match (a, b) {
+        (Kind::Scalar(_), Kind::Scalar(_)) => of_scalars(true, Operator::Sub, a, b),
+        (Kind::Scalar(_), _) => Err(Reason::PointerArithmetic),
+        (pointer, Kind::Scalar(range)) => pointer_moved(Way::Backwards, pointer, range),
+        _ => Err(Reason::PointerArithmetic),
+    }
+}
+
+/// Whether it is a look-up that may be null.
+fn is_maybe(kind: Kind) -> bool
+    ensures { result ≡ is_maybe kind }
+{
+    matches!(kind, Kind::MaybeValue { .. })
+}
+
+/// What an operator of two operands leaves in its destination.
+pub(crate) fn arithmetic(wide: bool, op: AluOp, a: Kind, b: Kind) -> Result<Kind, Reason>
+    ensures { result ≡ arithmetic_kind wide op a b }
+{
+    match (wide, op) {
+        (true, AluOp::Mov) => Ok(b),
+        (true, AluOp::Add | AluOp::Sub) if is_maybe(a) || is_maybe(b) => Err(Reason::MaybeNull),
+        (true, AluOp::Add) => sum(a, b),
+        (true, AluOp::Sub) => difference(a, b),
+        _ => of_scalars(wide, operator(op), a, b),
+    }
+}

@@ -1,0 +1,139 @@
+//! What is known on the two edges of a conditional jump.
+
+ghost use Rattle.std.specs.Prelude.{◌≡◌, ◌<◌, ◌≤◌, IfOk, IfErr, OnErr, Ok, Err};
+ghost use Rattle.transfer.specs.Branches.{with_pair, is_same, number_edges, pointer_edges, settled_edges, branch_edges};
+ghost use Rattle.tagged_model.specs.Values.{is_null_test};
+ghost use Rattle.transfer.specs.Flows.{edges_of};
+
+use insn_codec::{Condition, Operand, Reg};
+use interval::{Range, refine};
+use reg_kinds::{Facts, Kind, Reason, settle};
+use tagged_model::comparison;
+
+/// Where control goes after an instruction.
+#[derive(Clone, Copy, Debug, PartialEq, Eq)]
+pub enum Flow {
+    /// Nowhere: the run ends.
+    Ends,
+    /// To the next instruction, with the facts in hand.
+    Falls,
+    /// To the jump's target, with the facts in hand.
+    Jumps,
+    /// To either, as far as each edge can be taken: to the next instruction with the facts in hand, to the target with
+    /// those that stand here.
+    Branches { falls: bool, taken: Option<Facts> },
+}
+
+/// Puts the ranges of both operands into the facts.
+fn put_pair(facts: &mut Facts, dst: Reg, src: Operand, pair: (Range, Range))
+    ensures { facts.new ≡ with_pair facts.old dst src pair }
+{
+    facts.set_kind(usize::from(dst.number()), Kind::Scalar(pair.0));
+    if let Operand::Reg(source) = src {
+        facts.set_kind(usize::from(source.number()), Kind::Scalar(pair.1));
+    }
+}
+
+/// Whether a register is compared with itself.
+fn is_same(dst: Reg, src: Operand) -> bool
+    ensures { result ≡ is_same dst src }
+{
+    match src {
+        Operand::Imm(_) => false,
+        Operand::Reg(source) => source == dst,
+    }
+}
+
+/// The edges of a comparison of two numbers.
+fn compare_numbers(
+    facts: &mut Facts,
+    wide: bool,
+    condition: Condition,
+    dst: Reg,
+    src: Operand,
+    a: Range,
+    b: Range,
+) -> Flow
+    ensures { edges_of result facts.new ≡ number_edges wide condition facts.old dst src a b }
+{
+    if is_same(dst, src) {
+        return Flow::Branches {
+            falls: true,
+            taken: Some(*facts),
+        };
+    }
+    let (taken, not_taken) = refine(comparison(condition), wide, a, b);
+    let taken = taken.map(|pair| {
+        let mut copy = *facts;
+        put_pair(&mut copy, dst, src, pair);
+        copy
+    });
+    if let Some(pair) = not_taken {
+        put_pair(facts, dst, src, pair);
+    }
+    Flow::Branches {
+        falls: not_taken.is_some(),
+        taken,
+    }
+}
+
+/// The edges of a test of a look-up for null, which `site` made.
+fn settle_edges(facts: &mut Facts, site: u16, jumps_on_null: bool) -> Flow
+    ensures { edges_of result facts.new ≡ settled_edges jumps_on_null site facts.old }
+{
+    let mut taken = *facts;
+    settle(&mut taken, site, jumps_on_null);
+    settle(facts, site, !jumps_on_null);
+    Flow::Branches {
+        falls: true,
+        taken: Some(taken),
+    }
+}
+
+/// The edges of a test of a pointer for null: a look-up is settled on both, any other pointer is not null.
+fn test_pointer(facts: &mut Facts, condition: Condition, pointer: Kind) -> Flow
+    ensures { edges_of result facts.new ≡ pointer_edges condition facts.old pointer }
+{
+    let jumps_on_null = condition != Condition::NotEqual;
+    if let Kind::MaybeValue { site, .. } = pointer {
+        settle_edges(facts, site, jumps_on_null)
+    } else if jumps_on_null {
+        Flow::Falls
+    } else {
+        Flow::Jumps
+    }
+}
+
+/// Whether it is a comparison of 64 bits with the constant 0, for equality or difference.
+fn is_null_test(wide: bool, condition: Condition, src: Operand) -> bool
+    ensures { result ≡ is_null_test wide condition src }
+{
+    let tests_equality = matches!(condition, Condition::Equal | Condition::NotEqual);
+    wide && tests_equality && src == Operand::Imm(0)
+}
+
+/// The edges of a conditional jump.
+pub(crate) fn branch(
+    facts: &mut Facts,
+    wide: bool,
+    condition: Condition,
+    dst: Reg,
+    src: Operand,
+    a: Kind,
+    b: Kind,
+) -> Result<Flow, Reason>
+    ensures ok { IfOk result (λ flow. branch_edges wide condition facts.old dst src a b ≡ Ok (edges_of flow facts.new)) }
+    ensures refused { IfErr result (λ reason. branch_edges wide condition facts.old dst src a b ≡ Err reason) }
+    ensures stays { OnErr result (facts.new ≡ facts.old) }
+{
+    match (a, b) {
+        (Kind::Scalar(a), Kind::Scalar(b)) => {
+            Ok(compare_numbers(facts, wide, condition, dst, src, a, b))
+        }
+        (Kind::Scalar(_), _) => Err(Reason::PointerComparison),
+        (pointer, _) if is_null_test(wide, condition, src) => {
+            Ok(test_pointer(facts, condition, pointer))
+        }
+        _ => Err(Reason::PointerComparison),
+    }
+}

@@ -1,0 +1,223 @@
+//! What each instruction does to what is known.
+
+ghost use Rattle.std.specs.Prelude.{◌≡◌, ℕ, ◌+ℤ◌, false, IfOk, IfErr, OnErr, OnOk, Ok, Err};
+ghost use Rattle.interval.specs.Words.{unsigned};
+ghost use Rattle.tagged_model.specs.Operators.{width, size_of};
+ghost use Rattle.transfer.specs.Arithmetic.{arithmetic_kind, of_scalar};
+ghost use Rattle.transfer.specs.Branches.{branch_edges};
+ghost use Rattle.transfer.specs.Effects.{source_kind, first_kind, is_word, context_read, load_kind, store_facts, ends_with, effect};
+ghost use Rattle.reg_kinds.specs.Stack.{is_in_stack};
+ghost use Rattle.reg_kinds.specs.declared.reason.Reason.TheVariants.{OutsideStack};
+ghost use Rattle.transfer.specs.Flows.{edges_of};
+ghost use Rattle.reg_kinds.specs.Kinds.{with_kind};
+ghost use Rattle.transfer.specs.declared.branches.Flow.TheVariants.{Falls};
+ghost use Rattle.insn_codec.specs.declared.insn.Insn.TheVariants.{Alu, Exit};
+
+use crate::arithmetic::{arithmetic, of_scalar, readable};
+use crate::branches::{Flow, branch};
+use insn_codec::{AluOp, Insn, Load, Movsx, Operand, Reg, Size};
+use interval::{Operator, Range};
+use reg_kinds::{Facts, Kind, Reason, read_stack, write_stack};
+use tagged_model::{access_size, byte_order, kept_bits, narrow};
+
+/// A constant as a word: of 32 bits it is read modulo 2^32.
+fn constant_word(wide: bool, imm: i32) -> u64
+    ensures { result ≡ unsigned (width wide) imm }
+{
+    if wide {
+        i64::from(imm).cast_unsigned()
+    } else {
+        u64::from(imm.cast_unsigned())
+    }
+}
+
+/// The kind of the second operand.
+fn source(facts: &Facts, wide: bool, src: &Operand) -> Kind
+    ensures { result ≡ source_kind facts.now wide src.now }
+{
+    match src {
+        Operand::Reg(reg) => facts.kind(usize::from(reg.number())),
+        Operand::Imm(imm) => Kind::Scalar(Range::constant(constant_word(wide, *imm))),
+    }
+}
+
+/// The kind of the first operand, which a move does not read.
+fn first(op: AluOp, kind: Kind) -> Result<Kind, Reason>
+    ensures { result ≡ first_kind op kind }
+{
+    match op {
+        AluOp::Mov => Ok(Kind::Scalar(Range::constant(0))),
+        _ => readable(kind),
+    }
+}
+
+/// What a load from the context gives.
+fn context_read(offset: i16, size: Size, signed: bool) -> Result<Kind, Reason>
+    ensures { result ≡ context_read offset (size_of size) signed }
+{
+    if size == Size::Word && !signed && offset >= 0 && offset < 44 && offset % 4 == 0 {
+        Ok(Kind::Scalar(Range::full(false)))
+    } else {
+        Err(Reason::ContextAccess)
+    }
+}
+
+/// Where an access of the stack is. One that is too far for the type is outside.
+fn stack_offset(from: i32, offset: i16) -> Result<i32, Reason>
+    ensures ok { IfOk result (λ at. at ≡ from +ℤ offset) }
+    ensures outside { IfErr result (λ reason. (reason ≡ OutsideStack) × ((n : ℕ) → is_in_stack (from +ℤ offset) n ≡ false)) }
+{
+    from.checked_add(i32::from(offset))
+        .ok_or(Reason::OutsideStack)
+}
+
+/// What a load gives.
+fn load(facts: &Facts, size: Size, signed: bool, offset: i16, base: Kind) -> Result<Kind, Reason>
+    ensures { result ≡ load_kind facts.now (size_of size) signed offset base }
+{
+    match base {
+        Kind::Stack(from) => {
+            let at = stack_offset(from, offset)?;
+            read_stack(facts, at, access_size(size), signed)
+        }
+        Kind::Ctx => context_read(offset, size, signed),
+        Kind::Value(_) => Err(Reason::OutsideValue),
+        Kind::MaybeValue { .. } => Err(Reason::MaybeNull),
+        _ => Err(Reason::NotPointer),
+    }
+}
+
+/// What a store leaves.
+fn store(facts: &mut Facts, size: Size, offset: i16, base: Kind, value: Kind) -> Result<(), Reason>
+    ensures ok { OnOk result (store_facts facts.old (size_of size) offset base value ≡ Ok facts.new) }
+    ensures refused { IfErr result (λ reason. store_facts facts.old (size_of size) offset base value ≡ Err reason) }
+    ensures stays { OnErr result (facts.new ≡ facts.old) }
+{
+    match base {
+        Kind::Stack(from) => {
+            if let Kind::Unreadable = value {
+                return Err(Reason::UnreadableRegister);
+            }
+            let at = stack_offset(from, offset)?;
+            write_stack(facts, at, access_size(size), value)
+        }
+        Kind::Ctx => Err(Reason::ContextAccess),
+        Kind::Value(_) => Err(Reason::OutsideValue),
+        Kind::MaybeValue { .. } => Err(Reason::MaybeNull),
+        _ => Err(Reason::NotPointer),
+    }
+}
+
+/// Gives a register the kind that an instruction leaves in it.
+fn assign(facts: &mut Facts, dst: Reg, kind: Kind) -> Flow
+    ensures flow { result ≡ Falls }
+    ensures facts { facts.new ≡ with_kind facts.old dst kind }
+{
+    facts.set_kind(usize::from(dst.number()), kind);
+    Flow::Falls
+}
+
+/// An operator of two operands.
+fn operate(facts: &mut Facts, wide: bool, op: AluOp, dst: Reg, src: Operand) -> Result<Flow, Reason>
+    ensures ok { IfOk result (λ flow. effect (Alu wide op dst src) facts.old ≡ Ok (edges_of flow facts.new)) }
+    ensures refused { IfErr result (λ reason. effect (Alu wide op dst src) facts.old ≡ Err reason) }
+    ensures stays { OnErr result (facts.new ≡ facts.old) }
+{
+    let a = first(op, facts.kind(usize::from(dst.number())))?;
+    let b = readable(source(facts, wide, &src))?;
+    let kind = arithmetic(wide, op, a, b)?;
+    Ok(assign(facts, dst, kind))
+}
+
+/// The end of a run.
+fn end(facts: &Facts) -> Result<Flow, Reason>
+    ensures ok { IfOk result (λ flow. effect Exit facts.now ≡ Ok (edges_of flow facts.now)) }
+    ensures refused { IfErr result (λ reason. effect Exit facts.now ≡ Err reason) }
+{
+    match readable(facts.kind(0))? {
+        Kind::Scalar(_) => Ok(Flow::Ends),
+        _ => Err(Reason::ResultNotScalar),
+    }
+}
+
+/// The facts on the edges out of an instruction. They are changed in place where one edge is left: see `Flow`.
+///
+/// # Errors
+///
+/// Why the instruction may not be run, and then the facts stay: the first of its conditions that fails, in the order that
+/// the definition of `effect` has.
+pub fn apply(facts: &mut Facts, insn: &Insn) -> Result<Flow, Reason>
+    ensures ok { IfOk result (λ flow. effect insn.now facts.old ≡ Ok (edges_of flow facts.new)) }
+    ensures refused { IfErr result (λ reason. effect insn.now facts.old ≡ Err reason) }
+    ensures stays { OnErr result (facts.new ≡ facts.old) }
+{
+    match *insn {
+        Insn::Alu { wide, op, dst, src } => operate(facts, wide, op, dst, src),
+        Insn::Movsx(
+            Movsx {
+                wide,
+                bits,
+                dst,
+                src,
+            },
+        ) => {
+            let from = readable(facts.kind(usize::from(src.number())))?;
+            let kind = of_scalar(wide, Operator::SignExtend { from: narrow(bits) }, from)?;
+            Ok(assign(facts, dst, kind))
+        }
+        Insn::Neg { wide, dst } => {
+            let from = readable(facts.kind(usize::from(dst.number())))?;
+            let kind = of_scalar(wide, Operator::Neg, from)?;
+            Ok(assign(facts, dst, kind))
+        }
+        Insn::End { how, bits, dst } => {
+            let from = readable(facts.kind(usize::from(dst.number())))?;
+            let op = Operator::End {
+                how: byte_order(how),
+                bits: kept_bits(bits),
+            };
+            let kind = of_scalar(true, op, from)?;
+            Ok(assign(facts, dst, kind))
+        }
+        Insn::Ja { .. } | Insn::Jal { .. } => Ok(Flow::Jumps),
+        Insn::Jump {
+            wide,
+            cond,
+            dst,
+            src,
+            ..
+        } => {
+            let a = readable(facts.kind(usize::from(dst.number())))?;
+            let b = readable(source(facts, wide, &src))?;
+            branch(facts, wide, cond, dst, src, a, b)
+        }
+        Insn::Call { .. } => Err(Reason::UnknownHelper),
+        Insn::Exit => end(facts),
+        Insn::Load(
+            Load {
+                size,
+                signed,
+                dst,
+                src,
+                off,
+            },
+        ) => {
+            let base = readable(facts.kind(usize::from(src.number())))?;
+            let kind = load(facts, size, signed, off, base)?;
+            Ok(assign(facts, dst, kind))
+        }
+        Insn::Store {
+            size,
+            dst,
+            src,
+            off,
+        } => {
+            let base = readable(facts.kind(usize::from(dst.number())))?;
+            let value = readable(source(facts, true, &src))?;
+            store(facts, size, off, base, value)?;
+            Ok(Flow::Falls)
+        }
+        Insn::Const { dst, value } => Ok(assign(facts, dst, Kind::Scalar(Range::constant(value)))),
+        Insn::MapFd { .. } => Err(Reason::DescriptorNotMap),
+    }
+}

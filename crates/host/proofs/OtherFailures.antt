@@ -1,5 +1,5 @@
 -- Where a text is read, no failure is that the words are wrong.
-use Rattle.std.proofs.Common.{◌≡◌, ◌≢◌, ◌∙◌, ℕ, List, subst, sym, inl, inr}
+use Rattle.std.proofs.Common.{◌≢◌, ◌∙◌, ℕ, List, subst, sym, inl, inr}
 use Rattle.bpf_text.specs.declared.fault.TextFaultKind.{TextFaultKind}
 use Rattle.bpf_text.specs.declared.fault.TextFaultKind.TheVariants as text
 use Rattle.insn_codec.specs.declared.fault.FaultKind.{FaultKind}
@@ -7,7 +7,7 @@ use Rattle.insn_codec.specs.declared.fault.FaultKind.TheVariants as codec
 use Rattle.host.specs.Failure.{failure_at, failure_on}
 use Rattle.host.specs.Texts.{IsRefused, IsUnread, Streams, StopsText}
 use Rattle.host.specs.declared.failure.Failure.{Failure}
-use Rattle.host.specs.declared.failure.Failure.TheVariants.{WrongWords, Line, Memory, Write}
+use Rattle.host.specs.declared.failure.Failure.TheVariants.{WrongWords}
 use Rattle.host.specs.declared.texts.TextTask.{TextTask}
 use Rattle.host.specs.declared.texts.TextTask.TheVariants.{Assemble, Disassemble}
 

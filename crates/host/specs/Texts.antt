@@ -1,6 +1,6 @@
 -- What `asm` and `dis` make of their input, and what they refuse.
 use Rattle.std.specs.Prelude.{◌≡◌, ◌⊎◌, ℕ, ◌+◌, ◌<◌, ◌≤◌, List, length, take, Option, IsUtf8}
-use Rattle.std.specs.Io.KnownBytes.{Appends, Consumes, IsAtEnd, Keeps}
+use Rattle.std.specs.Io.KnownBytes.{Appends, Consumes, IsAtEnd}
 use Rattle.bpf_text.specs.Assembly.{IsAssembled, IsOwnFault}
 use Rattle.bpf_text.specs.Fault.{IsFirst, IsEmpty}
 use Rattle.bpf_text.specs.HexText.{IsHexText, hex_bytes, hex_fault_at, hex_text}

@@ -35,8 +35,9 @@ fn refused(alloc: Global, word: &str, input: &[u8]) -> Result<String, Fail> {
 
 /// The text `exit`, with blanks up to a length.
 fn exit_with_blanks(alloc: Global, length: usize) -> Result<Vec<u8>, Fail> {
-    let mut text = vec![in alloc; b' '; length]?;
-    text[..4].copy_from_slice(b"exit");
+    let mut text = Vec::new(alloc);
+    text.extend_from_slice(b"exit")?;
+    text.resize(length, b' ')?;
     Ok(text)
 }
 
@@ -94,11 +95,12 @@ fn tells_the_fault_of_hex_lines(rt: HostRuntime) -> Result<(), Fail> {
 #[test]
 fn refuses_an_input_that_is_too_long(rt: HostRuntime) -> Result<(), Fail> {
     let alloc = rt.alloc();
-    let mut long = exit_with_blanks(alloc, LONGEST + 1)?;
+    let long = exit_with_blanks(alloc, LONGEST + 1)?;
     let line = refused(alloc, "asm", &long)?;
     assert_eq!(rt; line.as_str(), "input too long\n");
-    long[LONGEST] = 0xff;
-    let line = refused(alloc, "dis", &long)?;
+    let mut no_text = exit_with_blanks(alloc, LONGEST)?;
+    no_text.push(0xff)?;
+    let line = refused(alloc, "dis", &no_text)?;
     assert_eq!(rt; line.as_str(), "input too long\n");
     Ok(())
 }

@@ -62,7 +62,7 @@ order : (u t : ℕ) → u ≢ t → (u < t) ⊎ (t < u)
 order zero zero differ = absurd (differ refl)
 order zero (suc t) differ = inl (omega arith)
 order (suc u) zero differ = inr (omega arith)
-order (suc u) (suc t) differ = elim (order u t (λ e. differ (ap suc e))) [ | inl h ↦ inl (omega arith) | inr h ↦ inr (omega arith) ]
+order (suc u) (suc t) differ = elim (order u t (λ e. differ (ap suc e))) [ inl h ↦ inl (omega arith) | inr h ↦ inr (omega arith) ]
 
 pub below : (u t s : ℕ) → u < t → u * s + s ≤ t * s
 below u zero s h = absurd (omega arith)

@@ -7,3 +7,4 @@ pub mod Values
 pub mod Memory
 pub mod Jumps
 pub mod Cover
+pub mod OfWords

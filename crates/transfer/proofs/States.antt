@@ -42,7 +42,7 @@ module _ (gave : ℕ → Tagged) where
 
 -- ---- operands
 
-word_of : (wide : Bool) (z : ℤ) → unsigned (width wide) z < 2 ^ 64
+pub word_of : (wide : Bool) (z : ℤ) → unsigned (width wide) z < 2 ^ 64
 word_of true (pos n) = omega arith
 word_of true (negsuc n) = omega arith
 word_of false (pos n) = omega arith

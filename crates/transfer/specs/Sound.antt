@@ -63,3 +63,12 @@ abbrev pub EffectsCover : Type 0
 EffectsCover =
     (gave : ℕ → Tagged) (refused : Bool) (i : Insn) (f : Facts) (s : State) (edges : Edges) → IsInsn i → IsSome (jumps_to i s.at) → IsProper s → AreOfWords f → AdmitsBy gave f s → effect i f ≡ Ok edges
     → Covers gave i s.at edges (act refused i s)
+
+-- ---- facts that speak of words stay so
+
+abbrev pub AreOfWordsOn : Option Facts → Type 0
+AreOfWordsOn None = Unit {0}
+AreOfWordsOn (Some f) = AreOfWords f
+
+abbrev pub EffectsAreOfWords : Type 0
+EffectsAreOfWords = (i : Insn) (f : Facts) (edges : Edges) → IsInsn i → AreOfWords f → effect i f ≡ Ok edges → AreOfWordsOn edges.falling × AreOfWordsOn edges.jumping

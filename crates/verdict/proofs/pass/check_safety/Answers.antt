@@ -1,0 +1,83 @@
+use Rattle.std.proofs.Common.{◌≡◌, ℕ, ◌+◌, ◌<◌, ◌≤◌, replicate, List, Option, Some, None, sym, subst, ap, ◌∙◌, inl, inr, arith, below_more}
+use Rattle.std.specs.Option.{option_copied}
+use Rattle.std.specs.Prelude.{IfSome}
+use Rattle.std.proofs.lemmas.Bool.{cases_lt}
+use Rattle.std.proofs.lemmas.Result.{err_from_is_err_and}
+use Rattle.insn_codec.specs.Program.{begins_at, slot_count}
+use Rattle.reg_kinds.specs.declared.facts.Facts.{Facts}
+use Rattle.verdict.specs.Shape.{jump_target}
+use Rattle.verdict.specs.Verdict.{safety_fault}
+use Rattle.verdict.specs.declared.pass.Pass.{Pass}
+use Rattle.verdict.proofs.Slots.{none_past}
+use Rattle.verdict.proofs.Inflow.{IsBefore, at_start, here_is, after_insn, after_none, safety_is, safe_none, first_at}
+use Rattle.verdict.proofs.pass.check_safety.Goals.{in-Some+in_ok-step, in_default}
+use Rattle.verdict.proofs.pass.check_safety.Goals as goal
+
+pub loop-slot-init : goal.loop-slot-init
+loop-slot-init c =
+    let code = c.args.program.now in
+    let count = c.slots-slots.ensures.count in
+    let filled : c.in_ok-new.field-0 ≡ replicate (slot_count code) None = c.in_ok-new.ensures ∙ ap (λ (n : ℕ). replicate n None) count in
+    let some : 1 ≤ slot_count code = subst (λ (n : ℕ). 1 ≤ n) count c.slots-slots.ensures.some in
+    record {
+      known =
+          subst (λ (es : List (Option Facts)). IsBefore code 0 (Some c.at_entry.result) es) (sym filled)
+          (subst (λ (f : Facts). IsBefore code 0 (Some f) (replicate (slot_count code) None)) (sym c.at_entry.ensures) (at_start code some));
+      none_below = λ n lt. absurd (omega arith);
+    }
+
+pub step-requires-clause-lands : goal.step-requires-clause-lands
+step-requires-clause-lands c =
+    let begins : begins_at c.args.program.now c.loop-slot.slot ≡ Some c.in-Some.insn.now = sym c.get.ensures ∙ ap option_copied c.in-Some.is in
+    subst (λ (n : ℕ). IfSome (jump_target c.in-Some.insn.now c.loop-slot.slot) (λ to. to < n)) (sym c.loop-slot.invariant.known.long)
+    (c.requires c.loop-slot.slot c.in-Some.insn.now begins)
+
+pub returns-in_err-step-clause-refused : goal.returns-in_err-step-clause-refused
+returns-in_err-step-clause-refused c =
+    let p = err_from_is_err_and c.from_residual-in_err-step.result c.from_residual-in_err-step.ensures.1 in
+    let code = c.args.program.now in
+    let slot = c.loop-slot.slot in
+    let begins : begins_at code slot ≡ Some c.in-Some.insn.now = sym c.get.ensures ∙ ap option_copied c.in-Some.is in
+    let known = c.loop-slot.invariant.known in
+    let lt : slot < slot_count code = omega (arith, c.slots-slots.ensures.count) in
+    rw (p.1, p.2)
+    (elim c.in_err-step.ensures.refused [
+      | inl memory ↦ inl memory
+      | inr told ↦
+          inr (first_at (safety_fault code) c.in_err-step.field-0.0.slot slot c.in_err-step.field-0.0.reason told.0
+          (safety_is code slot c.in-Some.insn.now _ (Some c.in_err-step.field-0.0.reason) (here_is code slot _ _ known c.in-Some.insn.now begins lt) begins told.1)
+          c.loop-slot.invariant.none_below)
+    ])
+
+pub loop-slot-preserved : goal.loop-slot-preserved
+loop-slot-preserved c =
+    let code = c.args.program.now in
+    let slot = c.loop-slot.slot in
+    let known = c.loop-slot.invariant.known in
+    let lt : slot < slot_count code = omega (arith, c.slots-slots.ensures.count) in
+    elim c.match-get.branch [
+      | in-Some+in_ok-step w ↦
+          let begins : begins_at code slot ≡ Some w.in-Some.insn.now = sym c.get.ensures ∙ ap option_copied w.in-Some.is in
+          let told = w.in_ok-step.ensures in
+          record {
+            known =
+                subst (λ (p : Pass). IsBefore code (slot + 1) p.falling p.entries) (sym w.pass-is)
+                (after_insn c.joins_commute.ensures.facts c.joins_associate.ensures.facts code c.insns_adjoin.ensures slot _ _ _ _ known w.in-Some.insn.now begins lt told.falling told.sent told.long);
+            none_below = below_more _ _ c.loop-slot.invariant.none_below (safety_is code slot w.in-Some.insn.now _ None (here_is code slot _ _ known w.in-Some.insn.now begins lt) begins told.ok);
+          }
+      | in_default w ↦
+          let begins : begins_at code slot ≡ None = sym c.get.ensures ∙ ap option_copied w.in_default.is in
+          record {
+            known =
+                subst (λ (p : Pass). IsBefore code (slot + 1) p.falling p.entries) (sym w.pass-is)
+                (after_none code slot _ _ known begins lt);
+            none_below = below_more _ _ c.loop-slot.invariant.none_below (safe_none code slot begins);
+          }
+    ]
+
+pub returns-clause-sound : goal.returns-clause-sound
+returns-clause-sound c = λ n.
+    elim (cases_lt n (slot_count c.args.program.now)) [
+      | inl lt ↦ c.loop-slot.invariant.none_below n (omega arith)
+      | inr past ↦ safe_none c.args.program.now n (none_past c.args.program.now c.insns_adjoin.ensures n past)
+    ]

@@ -1,0 +1,12 @@
+use Rattle.std.proofs.Common.{◌≡◌, ℕ, ◌<◌, None}
+use Rattle.verdict.specs.Verdict.{safety_fault}
+use Rattle.verdict.proofs.Inflow.{IsBefore}
+use Rattle.verdict.proofs.pass.check_safety.Given as goal
+
+-- what is in hand and what is kept ahead is what the slots so far send, and none of those has a fault
+abbrev pub invariant-loop-slot : goal.invariant-loop-slot
+invariant-loop-slot l =
+    record {
+      known : IsBefore l.program l.slot l.pass.falling l.pass.entries;
+      none_below : (n : ℕ) → n < l.slot → safety_fault l.program n ≡ None;
+    }

@@ -1,0 +1,56 @@
+-- The facts before each slot: at slot 0 those at entry, else the join of those on all edges that lead there. Jumps lead
+-- forward alone, so a slot asks the slots below it.
+use Rattle.std.specs.Prelude.{ℕ, zero, suc, ◌==◌, Bool, List, Option, Some, None, Result, Ok, Err, if◌then◌else◌}
+use Rattle.insn_codec.specs.declared.insn.Insn.{Insn}
+use Rattle.insn_codec.specs.Program.{begins_at}
+use Rattle.reg_kinds.specs.declared.facts.Facts.{Facts}
+use Rattle.reg_kinds.specs.declared.reason.Reason.{Reason}
+use Rattle.reg_kinds.specs.Join.{facts_join}
+use Rattle.reg_kinds.specs.Kinds.{entry}
+use Rattle.tagged_model.specs.Cells.{also}
+use Rattle.transfer.specs.Branches.{Edges}
+use Rattle.transfer.specs.Effects.{effect}
+use Rattle.verdict.specs.Shape.{falls_into, jumps_into}
+
+-- what is known where two edges meet, of which either may not be there
+abbrev pub joined : Option Facts → Option Facts → Option Facts
+joined None g = g
+joined (Some f) None = Some f
+joined (Some f) (Some g) = Some (facts_join f g)
+
+-- the facts on an edge, if it leads there
+abbrev pub on : Bool → Option Facts → Option Facts
+on leads f = if leads then f else None
+
+-- the facts on an edge out of an instruction; none of one that may not be run
+abbrev pub falling_of : Result Edges Reason → Option Facts
+falling_of (Err reason) = None
+falling_of (Ok edges) = edges.falling
+
+abbrev pub jumping_of : Result Edges Reason → Option Facts
+jumping_of (Err reason) = None
+jumping_of (Ok edges) = edges.jumping
+
+-- the same from what is known before the instruction, which may be nothing
+abbrev pub falling_from : Insn → Option Facts → Option Facts
+falling_from insn known = also known (λ f. falling_of (effect insn f))
+
+abbrev pub jumping_from : Insn → Option Facts → Option Facts
+jumping_from insn known = also known (λ f. jumping_of (effect insn f))
+
+-- nothing goes on from an instruction that may not be run
+abbrev pub edges_into : Insn → ℕ → ℕ → Result Edges Reason → Option Facts
+edges_into insn n i (Err reason) = None
+edges_into insn n i (Ok edges) = joined (on (falls_into insn n i) edges.falling) (on (jumps_into insn n i) edges.jumping)
+
+-- the facts that slot n sends to slot i, from those before it
+abbrev pub sent : List Insn → ℕ → ℕ → Option Facts → Option Facts
+sent code n i before = also before (λ f. also (begins_at code n) (λ insn. edges_into insn n i (effect insn f)))
+
+-- the join of the facts that the slots below n send to slot i
+unfoldable pub inflow : List Insn → ℕ → ℕ → Option Facts
+inflow code i zero = if i == 0 then Some entry else None
+inflow code i (suc n) = joined (inflow code i n) (sent code n i (inflow code n n))
+
+abbrev pub before : List Insn → ℕ → Option Facts
+before code i = inflow code i i

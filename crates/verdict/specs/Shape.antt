@@ -1,0 +1,140 @@
+-- The shape of a program: where its instructions lead, which of them can be reached, and what is wrong with one whatever
+-- the registers hold. The rules and their order are this project's own.
+use Rattle.std.specs.Prelude.{◌≡◌, ℕ, zero, suc, ◌==◌, Bool, true, false, not, ◌&&◌, ◌||◌, nat_lt, nat_le, List, [], ◌∷◌, Option, Some, None, is_some, IfSome, ◌<◌, if◌then◌else◌}
+use Rattle.std.specs.Option.{option_map_or}
+use Rattle.interval.specs.Words.{unsigned}
+use Rattle.insn_codec.specs.declared.insn.Insn.{Insn}
+use Rattle.insn_codec.specs.declared.insn.Insn.TheVariants.{Alu, Movsx, Neg, End, Ja, Jal, Jump, Call, Exit, Load, Const, MapFd}
+use Rattle.insn_codec.specs.Program.{begins_at, slot_count}
+use Rattle.reg_kinds.specs.declared.reason.Reason.{Reason}
+use Rattle.reg_kinds.specs.declared.reason.Reason.TheVariants.{JumpOutside, JumpBackward, FallsOff, Unreachable, UnknownHelper, FramePointerWritten, DescriptorNotOpen, DescriptorNotMap}
+use Rattle.tagged_model.specs.declared.shape.Named.{Named}
+use Rattle.tagged_model.specs.declared.shape.Target.{Target}
+use Rattle.tagged_model.specs.declared.shape.Target.TheVariants as target
+use Rattle.transfer.specs.Sound.{falls_to, jumps_to}
+
+-- ---- where an instruction leads
+
+-- it may go on with the next one
+abbrev pub falls : Insn → Bool
+falls (Ja off) = false
+falls (Jal off) = false
+falls Exit = false
+falls i = true
+
+-- it may jump
+abbrev pub jumps : Insn → Bool
+jumps (Ja off) = true
+jumps (Jal off) = true
+jumps (Jump wide cond dst src off) = true
+jumps i = false
+
+-- the slot that it jumps to: none where it does not jump, or below slot 0
+abbrev pub jump_target : Insn → ℕ → Option ℕ
+jump_target i at = if jumps i then jumps_to i at else None
+
+-- an instruction begins there
+abbrev pub is_first_slot : List Insn → ℕ → Bool
+is_first_slot code n = is_some (begins_at code n)
+
+abbrev pub is_slot : Option ℕ → ℕ → Bool
+is_slot None i = false
+is_slot (Some n) i = n == i
+
+-- the edges of an instruction at slot n that lead to slot i; a jump to the same slot or an earlier one is no edge
+abbrev pub falls_into : Insn → ℕ → ℕ → Bool
+falls_into insn n i = falls insn && falls_to insn n == i
+
+abbrev pub jumps_into : Insn → ℕ → ℕ → Bool
+jumps_into insn n i = jumps insn && is_slot (jumps_to insn n) i && nat_lt n i
+
+abbrev pub leads_into : Option Insn → ℕ → ℕ → Bool
+leads_into None n i = false
+leads_into (Some insn) n i = falls_into insn n i || jumps_into insn n i
+
+-- ---- what can be reached: slot 0, and what a slot leads to that can be reached
+
+-- an edge leads to slot i from a slot below n that can be reached, or i is slot 0
+unfoldable pub reached_from : List Insn → ℕ → ℕ → Bool
+reached_from code i zero = i == 0
+reached_from code i (suc n) = reached_from code i n || (reached_from code n n && leads_into (begins_at code n) n i)
+
+abbrev pub is_reachable : List Insn → ℕ → Bool
+is_reachable code i = reached_from code i i
+
+-- ---- what is wrong with an instruction
+
+-- the register that it gives a value
+abbrev pub written_register : Insn → Option ℕ
+written_register (Alu wide op dst src) = Some dst
+written_register (Movsx m) = Some m.dst
+written_register (Neg wide dst) = Some dst
+written_register (End how kept dst) = Some dst
+written_register (Load l) = Some l.dst
+written_register (Const dst value) = Some dst
+written_register (MapFd dst fd) = Some dst
+written_register i = None
+
+abbrev pub is_call : Insn → Bool
+is_call (Call id) = true
+is_call i = false
+
+-- what a descriptor names
+unfoldable pub target_of : List Named → ℕ → Option Target
+target_of [] fd = None
+target_of (n ∷ ns) fd = if n.fd == fd then Some n.target else target_of ns fd
+
+abbrev pub is_map : Target → Bool
+is_map (target.Map shape) = true
+is_map target.Program = false
+
+-- the descriptor of a load of a map
+abbrev pub descriptor : Insn → Option ℕ
+descriptor (MapFd dst fd) = Some (unsigned 32 fd)
+descriptor i = None
+
+abbrev pub is_not_open : List Named → Option ℕ → Bool
+is_not_open named None = false
+is_not_open named (Some fd) = not (is_some (target_of named fd))
+
+abbrev pub is_not_map : List Named → Option ℕ → Bool
+is_not_map named None = false
+is_not_map named (Some fd) = not (option_map_or is_map (target_of named fd) true)
+
+abbrev pub leads_outside : List Insn → Option ℕ → Bool
+leads_outside code None = true
+leads_outside code (Some n) = not (is_first_slot code n)
+
+abbrev pub leads_backward : Option ℕ → ℕ → Bool
+leads_backward None at = true
+leads_backward (Some n) at = nat_le n at
+
+-- the reason of the first line that holds
+abbrev pub first_reason : List (Bool × Reason) → Option Reason
+first_reason [] = None
+first_reason (line ∷ lines) = if line.0 then Some line.1 else first_reason lines
+
+-- an instruction at a slot
+abbrev pub shape_reason : List Insn → List Named → Insn → ℕ → Option Reason
+shape_reason code named i at = first_reason (
+    (jumps i && leads_outside code (jumps_to i at), JumpOutside)
+    ∷ (jumps i && leads_backward (jumps_to i at) at, JumpBackward)
+    ∷ (falls i && nat_le (slot_count code) (falls_to i at), FallsOff)
+    ∷ (not (is_reachable code at), Unreachable)
+    ∷ (is_call i, UnknownHelper)
+    ∷ (is_slot (written_register i) 10, FramePointerWritten)
+    ∷ (is_not_open named (descriptor i), DescriptorNotOpen)
+    ∷ (is_not_map named (descriptor i), DescriptorNotMap)
+    ∷ [])
+
+-- at a slot: nothing where no instruction begins
+abbrev pub shape_of : List Insn → List Named → ℕ → Option Insn → Option Reason
+shape_of code named at None = None
+shape_of code named at (Some i) = shape_reason code named i at
+
+unfoldable pub shape_fault : List Insn → List Named → ℕ → Option Reason
+shape_fault code named at = shape_of code named at (begins_at code at)
+
+-- each jump leads to a slot of the program
+abbrev pub JumpsLand : List Insn → Type 0
+JumpsLand code = (n : ℕ) (i : Insn) → begins_at code n ≡ Some i → IfSome (jump_target i n) (λ to. to < slot_count code)

@@ -1,0 +1,47 @@
+-- The verdict on a program: the first fault of its shape, else the first instruction that may not be run with the facts
+-- before it, else it is accepted.
+use Rattle.std.specs.Prelude.{◌≡◌, ℕ, ◌<◌, List, Option, Some, None, Result, Ok, Err, ◌⊎◌}
+use Rattle.insn_codec.specs.declared.insn.Insn.{Insn}
+use Rattle.insn_codec.specs.Program.{begins_at}
+use Rattle.reg_kinds.specs.declared.facts.Facts.{Facts}
+use Rattle.reg_kinds.specs.declared.reason.Reason.{Reason}
+use Rattle.reg_kinds.specs.declared.reason.Reason.TheVariants.{Memory}
+use Rattle.tagged_model.specs.declared.shape.Named.{Named}
+use Rattle.tagged_model.specs.Cells.{also}
+use Rattle.transfer.specs.Branches.{Edges}
+use Rattle.transfer.specs.Effects.{effect}
+use Rattle.verdict.specs.declared.fault.VerifyFault.{VerifyFault}
+use Rattle.verdict.specs.Shape.{shape_fault}
+use Rattle.verdict.specs.Before.{before}
+
+abbrev pub reason_of : Result Edges Reason → Option Reason
+reason_of (Ok edges) = None
+reason_of (Err reason) = Some reason
+
+-- the first condition that fails of an instruction; none where nothing is known
+abbrev pub reason_from : Insn → Option Facts → Option Reason
+reason_from insn known = also known (λ f. reason_of (effect insn f))
+
+-- the first condition that fails at a slot; none where nothing is known to come there
+unfoldable pub safety_fault : List Insn → ℕ → Option Reason
+safety_fault code at = also (before code at) (λ f. also (begins_at code at) (λ i. reason_of (effect i f)))
+
+-- the reason at a slot, and none at any slot below
+pub record IsFirst (fault_at : ℕ → Option Reason) (slot : ℕ) (reason : Reason) : Type 0 where
+  pub here : fault_at slot ≡ Some reason
+  pub below : (n : ℕ) → n < slot → fault_at n ≡ None
+
+abbrev pub HasNone : (ℕ → Option Reason) → Type 0
+HasNone fault_at = (n : ℕ) → fault_at n ≡ None
+
+-- shape comes before safety
+abbrev pub IsRefused : List Insn → List Named → ℕ → Reason → Type 0
+IsRefused code named slot reason =
+    IsFirst (shape_fault code named) slot reason ⊎ (HasNone (shape_fault code named) × IsFirst (safety_fault code) slot reason)
+
+abbrev pub IsAccepted : List Insn → List Named → Type 0
+IsAccepted code named = HasNone (shape_fault code named) × HasNone (safety_fault code)
+
+-- there was no memory for the pass
+abbrev pub memory_fault : VerifyFault
+memory_fault = record { slot = 0; reason = Memory }

@@ -1,0 +1,86 @@
+//! What jumps bring to the slots ahead.
+
+ghost use Rattle.std.specs.Prelude.{◌≡◌, ◌<◌, length, slice_index_or, slice_set, replicate, None, Some, IfOk, IfSome, OnOk, ℕ};
+ghost use Rattle.std.specs.Option.{option_copied};
+ghost use Rattle.verdict.specs.Before.{joined, on};
+ghost use Rattle.verdict.specs.Shape.{is_slot};
+
+use reg_kinds::{Facts, join_into};
+use std::alloc::{AllocError, Global};
+use std::marker::Model;
+
+/// For each slot what is known there by the jumps that lead to it, so far.
+///
+/// Contracts see the list of it by slot.
+#[derive(Drop)]
+pub(crate) struct Entries {
+    facts: Vec<Option<Box<Facts>>>,
+}
+
+impl Model for Entries {
+    ghost use Rattle.std.specs.Prelude.{List, Option, map, option_map, box_value};
+    ghost use Rattle.reg_kinds.specs.declared.facts.Facts.{Facts as AnyFacts};
+
+    ghost Value = { List (Option AnyFacts) };
+
+    ghost view = { λ e. map (option_map box_value) e.facts.items };
+}
+
+impl Entries {
+    /// Nothing yet, for so many slots.
+    pub(crate) fn new(alloc: Global, slots: usize) -> Result<Entries, AllocError>
+        ensures { IfOk result (λ entries. entries ≡ replicate slots None) }
+    {
+        let mut facts = Vec::with_capacity(alloc, slots)?;
+        for _ in 0..slots {
+            facts.push(None)?;
+        }
+        Ok(Entries { facts })
+    }
+
+    /// Joins what came to a slot into what else is known there. Nothing is left of it.
+    pub(crate) fn join_at(&mut self, slot: usize, known: &mut Option<Facts>)
+        requires { slot < length self.old }
+        ensures known { known.new ≡ joined known.old (slice_index_or self.old slot None) }
+        ensures taken { self.new ≡ slice_set self.old slot None }
+    {
+        if let Some(entry) = self.facts[slot].take() {
+            match known {
+                Some(facts) => join_into(facts, &entry),
+                None => *known = Some(*entry),
+            }
+        }
+    }
+
+    /// Joins what a jump brings to a slot into what came there before.
+    fn put(&mut self, slot: usize, facts: &Facts) -> Result<(), AllocError>
+        requires { slot < length self.old }
+        ensures { OnOk result (self.new ≡ slice_set self.old slot (joined (slice_index_or self.old slot None) (Some facts.now))) }
+    {
+        let entry = match self.facts[slot].take() {
+            Some(mut entry) => {
+                join_into(&mut entry, facts);
+                entry
+            }
+            None => Box::new(*self.facts.allocator(), *facts)?,
+        };
+        self.facts[slot] = Some(entry);
+        Ok(())
+    }
+
+    /// Sends what is known on a jump's edge to the slot that it leads to, where there are both.
+    pub(crate) fn send(
+        &mut self,
+        target: Option<usize>,
+        facts: Option<&Facts>,
+    ) -> Result<(), AllocError>
+        requires { IfSome target (λ slot. slot < length self.old) }
+        ensures sent { OnOk result ((i : ℕ) → slice_index_or self.new i None ≡ joined (slice_index_or self.old i None) (on (is_slot target i) (option_copied facts.entry))) }
+        ensures long { OnOk result (length self.new ≡ length self.old) }
+    {
+        if let (Some(slot), Some(facts)) = (target, facts) {
+            self.put(slot, facts)?;
+        }
+        Ok(())
+    }
+}

@@ -1,0 +1,17 @@
+//! Laws of the verdict, for proofs that stand on it. Each is the contract of a function that does nothing.
+
+ghost use Rattle.std.specs.Prelude.{◌≡◌, ℕ, List};
+ghost use Rattle.insn_codec.specs.declared.insn.Insn.{Insn};
+ghost use Rattle.reg_kinds.specs.declared.reason.Reason.{Reason};
+ghost use Rattle.tagged_model.specs.declared.shape.Named.{Named};
+ghost use Rattle.verdict.specs.Verdict.{IsAccepted, IsRefused};
+
+/// A program is refused in one way: at one slot, for one reason.
+pub fn one_refusal()
+    ensures { (code : List Insn) (named : List Named) (m n : ℕ) (a b : Reason) → IsRefused code named m a → IsRefused code named n b → (m ≡ n) × (a ≡ b) }
+{}
+
+/// What is accepted is not refused.
+pub fn accepted_is_not_refused()
+    ensures { (code : List Insn) (named : List Named) (slot : ℕ) (reason : Reason) → IsAccepted code named → ¬ IsRefused code named slot reason }
+{}

@@ -1,0 +1,17 @@
+//! The verdict on a program: accepted, or why not and at which slot.
+//!
+//! The shape comes first: where the instructions lead, and what is wrong with one whatever the registers hold. Then each
+//! instruction is asked whether it may be run with what is known before it. Both are one pass over the slots.
+#![tactic(auto)]
+
+mod edges;
+mod entries;
+mod fault;
+mod judging;
+mod laws;
+mod pass;
+mod shape;
+
+pub use fault::VerifyFault;
+pub use judging::judge;
+pub use laws::{accepted_is_not_refused, one_refusal};

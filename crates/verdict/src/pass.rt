@@ -1,0 +1,97 @@
+//! Whether each instruction may be run with what is known before it.
+
+ghost use Rattle.std.specs.Prelude.{◌≡◌, ◌⊎◌, ◌<◌, ◌≤◌, ℕ, Some, None, length, slice_index_or, IsSome, IfSome, IfErr, OnOk};
+ghost use Rattle.tagged_model.specs.Cells.{also};
+ghost use Rattle.transfer.specs.Flows.{edges_of};
+ghost use Rattle.verdict.specs.Before.{joined, on, falling_from, jumping_from};
+ghost use Rattle.verdict.specs.Shape.{is_slot, jump_target, JumpsLand};
+ghost use Rattle.verdict.specs.Verdict.{IsFirst, HasNone, reason_from, safety_fault, memory_fault};
+
+use crate::edges::jump_target;
+use crate::entries::Entries;
+use crate::fault::VerifyFault;
+use insn_codec::{Insn, MAX_SLOTS, Program};
+use reg_kinds::{Facts, joins_associate, joins_commute};
+use std::alloc::{AllocError, Global};
+use transfer::{Flow, apply};
+
+/// What is known while a program is walked through.
+#[derive(Drop)]
+struct Pass {
+    /// By the falling edge into the next instruction.
+    falling: Option<Facts>,
+    /// By the jumps that lead ahead.
+    entries: Entries,
+}
+
+impl Pass {
+    /// Sends the facts in hand along the edges of an instruction.
+    fn leave(&mut self, flow: &Flow, target: Option<usize>) -> Result<(), AllocError>
+        requires known { IsSome self.old.falling }
+        requires lands { IfSome target (λ to. to < length self.old.entries) }
+        ensures falling { OnOk result (self.new.falling ≡ also self.old.falling (λ f. (edges_of flow.now f).falling)) }
+        ensures sent { OnOk result ((i : ℕ) → slice_index_or self.new.entries i None ≡ joined (slice_index_or self.old.entries i None) (on (is_slot target i) (also self.old.falling (λ f. (edges_of flow.now f).jumping)))) }
+        ensures long { OnOk result (length self.new.entries ≡ length self.old.entries) }
+    {
+        match flow {
+            Flow::Ends => self.falling = None,
+            Flow::Falls => {}
+            Flow::Jumps => {
+                self.entries.send(target, self.falling.as_ref())?;
+                self.falling = None;
+            }
+            Flow::Branches { falls, taken } => {
+                self.entries.send(target, taken.as_ref())?;
+                if !*falls {
+                    self.falling = None;
+                }
+            }
+        }
+        Ok(())
+    }
+
+    /// Goes on past the instruction at a slot, if it may be run with what is known there. Where nothing is known, no run
+    /// comes there.
+    fn step(&mut self, insn: &Insn, slot: usize) -> Result<(), VerifyFault>
+        requires room { slot ≤ MAX_SLOTS }
+        requires within { slot < length self.old.entries }
+        requires lands { IfSome (jump_target insn.now slot) (λ to. to < length self.old.entries) }
+        ensures ok { OnOk result (reason_from insn.now (joined self.old.falling (slice_index_or self.old.entries slot None)) ≡ None) }
+        ensures falling { OnOk result (self.new.falling ≡ falling_from insn.now (joined self.old.falling (slice_index_or self.old.entries slot None))) }
+        ensures sent { OnOk result ((i : ℕ) → slot < i → slice_index_or self.new.entries i None ≡ joined (slice_index_or self.old.entries i None) (on (is_slot (jump_target insn.now slot) i) (jumping_from insn.now (joined self.old.falling (slice_index_or self.old.entries slot None))))) }
+        ensures long { OnOk result (length self.new.entries ≡ length self.old.entries) }
+        ensures refused { IfErr result (λ e. (e ≡ memory_fault) ⊎ ((e.slot ≡ slot) × (reason_from insn.now (joined self.old.falling (slice_index_or self.old.entries slot None)) ≡ Some e.reason))) }
+    {
+        self.entries.join_at(slot, &mut self.falling);
+        if let Some(facts) = &mut self.falling {
+            match apply(facts, insn) {
+                Ok(flow) => self.leave(&flow, jump_target(insn, slot))?,
+                Err(reason) => return Err(VerifyFault { slot, reason }),
+            }
+        }
+        Ok(())
+    }
+}
+
+/// Looks for the first instruction that may not be run with what is known before it: one pass over the slots, with what is
+/// known by the falling edge in hand, and what jumps bring kept for the slots ahead.
+pub(crate) fn check_safety(alloc: Global, program: &Program) -> Result<(), VerifyFault>
+    requires { JumpsLand program.now }
+    ensures sound { OnOk result (HasNone (safety_fault program.now)) }
+    ensures refused { IfErr result (λ e. (e ≡ memory_fault) ⊎ IsFirst (safety_fault program.now) e.slot e.reason) }
+{
+    program.insns_adjoin();
+    joins_commute();
+    joins_associate();
+    let slots = program.slots();
+    let mut pass = Pass {
+        falling: Some(Facts::at_entry()),
+        entries: Entries::new(alloc, slots)?,
+    };
+    for slot in 0..slots {
+        if let Some(insn) = program.get(slot) {
+            pass.step(insn, slot)?;
+        }
+    }
+    Ok(())
+}

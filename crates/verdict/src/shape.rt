@@ -1,0 +1,168 @@
+//! The shape of a program.
+
+ghost use Rattle.std.specs.Prelude.{◌≡◌, ◌⊎◌, ◌+◌, ◌<◌, ◌≤◌, ◌&&◌, ◌||◌, not, nat_le, ℕ, Bool, false, [], ◌∷◌, length, slice_index_or, IsTrue, IfSome, IfErr, OnOk, Some};
+ghost use Rattle.insn_codec.specs.Program.{begins_at, slot_count};
+ghost use Rattle.reg_kinds.specs.declared.reason.Reason.TheVariants.{JumpOutside, JumpBackward, DescriptorNotOpen, DescriptorNotMap};
+ghost use Rattle.transfer.specs.Sound.{falls_to, jumps_to};
+ghost use Rattle.verdict.specs.Shape.{falls, jumps, jump_target, leads_into, is_reachable, is_slot, is_call, written_register, target_of, descriptor, is_not_open, is_not_map, leads_outside, leads_backward, first_reason, shape_reason, shape_fault, JumpsLand};
+ghost use Rattle.verdict.specs.Verdict.{IsFirst, HasNone, memory_fault};
+
+use crate::edges::{falls, jump_target, jumps};
+use crate::fault::VerifyFault;
+use insn_codec::{Insn, Load, MAX_SLOTS, Movsx, Program, Reg};
+use reg_kinds::Reason;
+use std::alloc::Global;
+use tagged_model::{Named, Target};
+
+/// The frame pointer's number.
+const FRAME_POINTER: u8 = 10;
+
+/// The register that an instruction gives a value.
+fn written_register(insn: &Insn) -> Option<Reg>
+    ensures { result ≡ written_register insn.now }
+{
+    match *insn {
+        Insn::Alu { dst, .. } => Some(dst),
+        Insn::Movsx(Movsx { dst, .. }) => Some(dst),
+        Insn::Neg { dst, .. } => Some(dst),
+        Insn::End { dst, .. } => Some(dst),
+        Insn::Load(Load { dst, .. }) => Some(dst),
+        Insn::Const { dst, .. } => Some(dst),
+        Insn::MapFd { dst, .. } => Some(dst),
+        _ => None,
+    }
+}
+
+/// Whether it gives the frame pointer a value.
+fn writes_frame_pointer(insn: &Insn) -> bool
+    ensures { result ≡ is_slot (written_register insn.now) 10 }
+{
+    match written_register(insn) {
+        Some(register) => register.number() == FRAME_POINTER,
+        None => false,
+    }
+}
+
+/// Whether it is a call.
+fn is_call(insn: &Insn) -> bool
+    ensures { result ≡ is_call insn.now }
+{
+    matches!(insn, Insn::Call { .. })
+}
+
+/// What a descriptor names, if it is open.
+fn target_of(named: &[Named], fd: u32) -> Option<Target>
+    ensures { result ≡ target_of named.now fd }
+{
+    for entry in named {
+        if entry.fd == fd {
+            return Some(entry.target);
+        }
+    }
+    None
+}
+
+/// The descriptor that an instruction names.
+fn descriptor(insn: &Insn) -> Option<u32>
+    ensures { result ≡ descriptor insn.now }
+{
+    match *insn {
+        Insn::MapFd { fd, .. } => Some(fd.cast_unsigned()),
+        _ => None,
+    }
+}
+
+/// What is wrong with the descriptor that an instruction names.
+fn descriptor_reason(named: &[Named], insn: &Insn) -> Option<Reason>
+    ensures { result ≡ first_reason ((is_not_open named.now (descriptor insn.now), DescriptorNotOpen) ∷ (is_not_map named.now (descriptor insn.now), DescriptorNotMap) ∷ []) }
+{
+    match target_of(named, descriptor(insn)?) {
+        None => Some(Reason::DescriptorNotOpen),
+        Some(Target::Program) => Some(Reason::DescriptorNotMap),
+        Some(Target::Map(_)) => None,
+    }
+}
+
+/// What is wrong with where an instruction jumps to.
+fn jump_reason(program: &Program, insn: &Insn, slot: usize) -> Option<Reason>
+    requires { slot ≤ MAX_SLOTS }
+    ensures { result ≡ first_reason ((jumps insn.now && leads_outside program.now (jumps_to insn.now slot), JumpOutside) ∷ (jumps insn.now && leads_backward (jumps_to insn.now slot) slot, JumpBackward) ∷ []) }
+{
+    if !jumps(insn) {
+        return None;
+    }
+    match jump_target(insn, slot) {
+        Some(to) if !program.is_first(to) => Some(Reason::JumpOutside),
+        Some(to) if to <= slot => Some(Reason::JumpBackward),
+        Some(_) => None,
+        None => Some(Reason::JumpOutside),
+    }
+}
+
+/// What is wrong with an instruction at a slot, whatever the registers hold.
+fn shape_reason(
+    program: &Program,
+    named: &[Named],
+    insn: &Insn,
+    slot: usize,
+    is_reached: bool,
+) -> Option<Reason>
+    requires room { slot ≤ MAX_SLOTS }
+    requires reached { is_reached ≡ is_reachable program.now slot }
+    ensures { result ≡ shape_reason program.now named.now insn.now slot }
+{
+    if let Some(reason) = jump_reason(program, insn, slot) {
+        Some(reason)
+    } else if falls(insn) && slot + insn.slots() >= program.slots() {
+        Some(Reason::FallsOff)
+    } else if !is_reached {
+        Some(Reason::Unreachable)
+    } else if is_call(insn) {
+        Some(Reason::UnknownHelper)
+    } else if writes_frame_pointer(insn) {
+        Some(Reason::FramePointerWritten)
+    } else {
+        descriptor_reason(named, insn)
+    }
+}
+
+/// Marks the slots that an instruction leads to.
+fn mark_edges(reached: &mut [bool], insn: &Insn, slot: usize)
+    requires room { slot ≤ MAX_SLOTS }
+    requires falls { IsTrue (falls insn.now) → falls_to insn.now slot < length reached.old }
+    requires jumps { IfSome (jump_target insn.now slot) (λ to. to < length reached.old) }
+    ensures { (i : ℕ) → slot < i → slice_index_or reached.new i false ≡ (slice_index_or reached.old i false || leads_into (Some insn.now) slot i) }
+{
+    if falls(insn) {
+        reached[slot + insn.slots()] = true;
+    }
+    if let Some(to) = jump_target(insn, slot) {
+        reached[to] = true;
+    }
+}
+
+/// Looks for the first fault of a program's shape: one pass, with a flag for each slot that an instruction before it leads
+/// to.
+pub(crate) fn check_shape(
+    alloc: Global,
+    program: &Program,
+    named: &[Named],
+) -> Result<(), VerifyFault>
+    ensures sound { OnOk result (HasNone (shape_fault program.now named.now)) }
+    ensures lands { OnOk result (JumpsLand program.now) }
+    ensures refused { IfErr result (λ e. (e ≡ memory_fault) ⊎ IsFirst (shape_fault program.now named.now) e.slot e.reason) }
+{
+    program.insns_adjoin();
+    let slots = program.slots();
+    let mut reached = vec![in alloc; false; slots]?;
+    reached[0] = true;
+    for slot in 0..slots {
+        if let Some(insn) = program.get(slot) {
+            if let Some(reason) = shape_reason(program, named, insn, slot, reached[slot]) {
+                return Err(VerifyFault { slot, reason });
+            }
+            mark_edges(&mut reached, insn, slot);
+        }
+    }
+    Ok(())
+}

@@ -66,9 +66,10 @@ impl Arena {
         })
     }
 
-    /// A law: the memory is its parts. It does nothing when it runs.
+    /// A law: the memory is its parts, and no more than 2^28 bytes. It does nothing when it runs.
     pub fn is_its_parts(&self)
-        ensures { size_of self.now ≡ self.now.parts * self.now.part }
+        ensures parts { size_of self.now ≡ self.now.parts * self.now.part }
+        ensures bound { size_of self.now ≤ 2 ^ 28 }
     {
         let _ = &self.bytes;
     }
@@ -78,8 +79,18 @@ impl Arena {
         requires { tenant < self.now.parts }
         ensures value { result ≡ part_start self.now tenant }
         ensures room { result + self.now.part ≤ size_of self.now }
+        ensures bound { result ≤ 2 ^ 28 }
     {
         tenant * self.part_size
+    }
+
+    /// The address at which a tenant's part begins. Tenants are numbered from 0.
+    pub fn address(&self, tenant: usize) -> u64
+        requires { tenant < self.now.parts }
+        ensures value { result ≡ base + part_start self.now tenant }
+        ensures room { part_start self.now tenant + self.now.part ≤ size_of self.now }
+    {
+        BASE + self.start(tenant) as u64
     }
 
     /// The bytes of a tenant's part. Tenants are numbered from 0.

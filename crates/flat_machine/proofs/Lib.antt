@@ -1,2 +1,10 @@
-mod Walks
-pub mod Reach
+pub mod Words
+pub mod Bytes
+pub mod Cells
+pub mod Addresses
+pub mod States
+pub mod Accesses
+pub mod Follows
+pub mod Added
+pub mod Context
+pub mod Turns

@@ -1,2 +1,4 @@
-pub mod Marks
-pub mod Memory
+pub mod Flat
+pub mod Ranges
+pub mod Stands
+pub mod Laws

@@ -1,12 +1,8 @@
 //! Runs of accepted programs, on words and bytes.
-//!
-//! So far a run is promised to reach the memory of all tenants alone, and to end. What it answers is not promised yet.
 #![tactic(auto)]
 
-mod machine;
-mod memory;
-mod trace;
+mod execution;
+mod laws;
+mod running;
 
-pub use machine::{Outcome, run};
-pub use memory::Memory;
-pub use trace::Trace;
+pub use running::run;

@@ -2,6 +2,8 @@ pub mod Buffers
 pub mod Numbers
 pub mod Results
 pub mod Loads
+pub mod Contexts
+pub mod Runs
 pub mod Tenants
 pub mod Frames
 pub mod Stands

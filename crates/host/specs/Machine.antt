@@ -1,5 +1,5 @@
 -- The machine of one tenant: what each command answers, and what is open after it (bpf(2)).
-use Rattle.std.specs.Prelude.{◌≡◌, ℕ, ℤ, pos, ◌+◌, ◌-◌, ◌<◌, ◌^◌, Bool, not, ◌||◌, ◌==◌, nat_lt, is_none, List, [], ◌++◌, length, drop, slice_get, slice_set, Option, Some, None, option_and_then, position, if◌then◌else◌, MatchBool, MatchOption, ◌⊎◌}
+use Rattle.std.specs.Prelude.{◌≡◌, ℕ, zero, suc, ℤ, pos, ◌+◌, ◌-◌, Bool, not, ◌||◌, ◌==◌, nat_lt, is_none, List, [], ◌∷◌, ◌++◌, length, drop, slice_get, slice_set, Option, Some, None, option_and_then, position, if◌then◌else◌, MatchBool, MatchOption, ◌⊎◌}
 use Rattle.byteorder.specs.Endian.{little_number, little_bytes}
 use Rattle.insn_codec.specs.declared.insn.Insn.{Insn}
 use Rattle.insn_codec.specs.declared.fault.CodecFault.{CodecFault}
@@ -7,10 +7,14 @@ use Rattle.insn_codec.specs.declared.fault.FaultKind.{FaultKind}
 use Rattle.insn_codec.specs.declared.fault.FaultKind.TheVariants as kind
 use Rattle.insn_codec.specs.Program.{IsProgram, program_bytes, IsProgramFault}
 use Rattle.insn_codec.specs.Fault.{fault_number}
-use Rattle.verifier.specs.declared.fault.Reason.{Reason}
-use Rattle.verifier.specs.declared.fault.Reason.TheVariants as reason
-use Rattle.verifier.specs.Reason.{reason_number}
-use Rattle.verifier.specs.Verdict.{IsAccepted, IsRefused}
+use Rattle.reg_kinds.specs.declared.reason.Reason.{Reason}
+use Rattle.reg_kinds.specs.declared.reason.Reason.TheVariants as reason
+use Rattle.reg_kinds.specs.Reason.{number as reason_number}
+use Rattle.tagged_model.specs.declared.shape.Named.{Named}
+use Rattle.tagged_model.specs.declared.shape.Target.TheVariants as target
+use Rattle.tagged_model.specs.declared.value.Outcome.TheVariants.{Value}
+use Rattle.tagged_model.specs.Step.{result_of}
+use Rattle.verdict.specs.Verdict.{IsAccepted, IsRefused}
 use Rattle.host.specs.declared.errno.Errno.{Errno}
 use Rattle.host.specs.declared.errno.Errno.TheVariants.{TooBig, BadDescriptor, NoMemory, AccessDenied, Invalid, TooManyOpen}
 use Rattle.host.specs.declared.object.Object.{Object}
@@ -40,6 +44,18 @@ named s fd = if nat_lt fd first_descriptor then None else flattened (slice_get s
 abbrev pub with_open : State → ℕ → Object → State
 with_open s place object = record { table = slice_set s.table place (Some object) }
 
+-- what each open descriptor names, for the verdict
+abbrev pub named_at : ℕ → Option Object → List Named
+named_at fd None = []
+named_at fd (Some (Program insns)) = record { fd = fd; target = target.Program } ∷ []
+
+unfoldable pub names_from : ℕ → List (Option Object) → List Named
+names_from fd [] = []
+names_from fd (o ∷ os) = named_at fd o ++ names_from (fd + 1) os
+
+abbrev pub open_descriptors : State → List Named
+open_descriptors s = names_from first_descriptor s.table
+
 -- ---- answers
 
 pub record Answer : Type 0 where
@@ -62,11 +78,34 @@ codec_errno kind.Empty = TooBig
 codec_errno kind.TooLong = TooBig
 codec_errno _ = Invalid
 
+-- A program of a wrong shape is invalid; a map's descriptor that is not open has an error of its own. What may not be done
+-- with registers and memory is denied.
 abbrev pub verdict_errno : Reason → Errno
+verdict_errno reason.JumpOutside = Invalid
+verdict_errno reason.JumpBackward = Invalid
 verdict_errno reason.FallsOff = Invalid
 verdict_errno reason.Unreachable = Invalid
-verdict_errno reason.UnjudgedForm = Invalid
-verdict_errno _ = AccessDenied
+verdict_errno reason.UnknownHelper = Invalid
+verdict_errno reason.FramePointerWritten = AccessDenied
+verdict_errno reason.DescriptorNotOpen = BadDescriptor
+verdict_errno reason.DescriptorNotMap = Invalid
+verdict_errno reason.UnreadableRegister = AccessDenied
+verdict_errno reason.ResultNotScalar = AccessDenied
+verdict_errno reason.NotPointer = AccessDenied
+verdict_errno reason.PointerArithmetic = AccessDenied
+verdict_errno reason.OffsetTooLarge = AccessDenied
+verdict_errno reason.OutsideStack = AccessDenied
+verdict_errno reason.UnalignedStack = AccessDenied
+verdict_errno reason.UnwrittenStack = AccessDenied
+verdict_errno reason.PartOfSpill = AccessDenied
+verdict_errno reason.OutsideValue = AccessDenied
+verdict_errno reason.MaybeNull = AccessDenied
+verdict_errno reason.ContextAccess = AccessDenied
+verdict_errno reason.PointerStored = AccessDenied
+verdict_errno reason.PointerComparison = AccessDenied
+verdict_errno reason.HelperArgument = AccessDenied
+verdict_errno reason.LengthUnbounded = AccessDenied
+verdict_errno reason.Memory = NoMemory
 
 -- why a load of these slots opens nothing: the bytes are no program's, or the program is not accepted
 abbrev pub IsMalformed : List ℕ → Errno → ℕ → ℕ → Type 0
@@ -74,13 +113,13 @@ IsMalformed slots errno slot number =
     (fault : CodecFault) × IsProgramFault slots fault
     × (errno ≡ codec_errno fault.kind) × (slot ≡ fault.slot) × (number ≡ 100 + fault_number fault.kind)
 
-abbrev pub IsUnaccepted : List ℕ → Errno → ℕ → ℕ → Type 0
-IsUnaccepted slots errno slot number =
-    (insns : List Insn) × (why : Reason) × IsProgram insns × (slots ≡ program_bytes insns) × IsRefused insns slot why
+abbrev pub IsUnaccepted : List Named → List ℕ → Errno → ℕ → ℕ → Type 0
+IsUnaccepted descriptors slots errno slot number =
+    (insns : List Insn) × (why : Reason) × IsProgram insns × (slots ≡ program_bytes insns) × IsRefused insns descriptors slot why
     × (errno ≡ verdict_errno why) × (number ≡ reason_number why)
 
-abbrev pub IsLoadFault : List ℕ → Errno → ℕ → ℕ → Type 0
-IsLoadFault slots errno slot number = IsMalformed slots errno slot number ⊎ IsUnaccepted slots errno slot number
+abbrev pub IsLoadFault : List Named → List ℕ → Errno → ℕ → ℕ → Type 0
+IsLoadFault descriptors slots errno slot number = IsMalformed slots errno slot number ⊎ IsUnaccepted descriptors slots errno slot number
 
 -- an accepted program is open from then on
 abbrev pub opened : State → ℕ → List Insn → Answer
@@ -89,8 +128,8 @@ opened s place insns = record { status = pos (first_descriptor + place); payload
 -- a load of these slots at a free place
 abbrev pub LoadsAt : State → ℕ → List ℕ → Answer → Type 0
 LoadsAt s place slots answer =
-    ((errno : Errno) × (slot : ℕ) × (number : ℕ) × IsLoadFault slots errno slot number × (answer ≡ refused_at errno slot number s))
-    ⊎ ((insns : List Insn) × IsProgram insns × (slots ≡ program_bytes insns) × IsAccepted insns × (answer ≡ opened s place insns))
+    ((errno : Errno) × (slot : ℕ) × (number : ℕ) × IsLoadFault (open_descriptors s) slots errno slot number × (answer ≡ refused_at errno slot number s))
+    ⊎ ((insns : List Insn) × IsProgram insns × (slots ≡ program_bytes insns) × IsAccepted insns (open_descriptors s) × (answer ≡ opened s place insns))
 
 -- where memory is refused, that is the answer
 abbrev pub Loads : Bool → State → ℕ → List ℕ → Answer → Type 0
@@ -101,15 +140,28 @@ AnswersLoad memory_refused s body answer =
     MatchBool (nat_lt (length body) 4 || not (little_number 4 body == 1)) (answer ≡ refused Invalid s)
     (MatchOption (free_place s) (answer ≡ refused TooManyOpen s) (λ place. Loads memory_refused s place (drop 4 body) answer))
 
--- ---- PROG_TEST_RUN
+-- ---- PROG_TEST_RUN (bpf(2))
 
--- the descriptor and ten words of context come before the packet
+abbrev pub program_of : Object → List Insn
+program_of (Program insns) = insns
+
+-- so many words of four bytes, the lowest byte first
+unfoldable pub words_from : ℕ → List ℕ → List ℕ
+words_from zero bytes = []
+words_from (suc n) bytes = little_number 4 bytes ∷ words_from n (drop 4 bytes)
+
+-- The context of a run: the first eleven words of the kernel's __sk_buff (linux/bpf.h). Word 0 is the packet's length; the
+-- frame hands in the other ten, which follow the descriptor.
+abbrev pub context_of : List ℕ → List ℕ
+context_of body = (length body - 44) ∷ words_from 10 (drop 4 body)
+
+-- The descriptor and ten words of context come before the packet. The result is that of the program on tagged values.
 abbrev pub AnswersRun : State → List ℕ → Answer → Type 0
 AnswersRun s body answer =
     MatchBool (nat_lt (length body) 44) (answer ≡ refused Invalid s)
     (MatchOption (named s (little_number 4 body)) (answer ≡ refused BadDescriptor s)
     (λ object. MatchBool (nat_lt 32768 (length body - 44)) (answer ≡ refused TooBig s)
-    ((outcome : ℕ) × (outcome < 2 ^ 32) × (answer ≡ record { status = pos 0; payload = little_bytes 4 outcome; after = s }))))
+    ((outcome : ℕ) × (result_of (program_of object) (context_of body) (drop 44 body) ≡ Value outcome) × (answer ≡ record { status = pos 0; payload = little_bytes 4 outcome; after = s }))))
 
 -- ---- every command
 

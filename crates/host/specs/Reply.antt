@@ -11,10 +11,11 @@ use Rattle.insn_codec.specs.declared.fault.CodecFault.{CodecFault}
 use Rattle.insn_codec.specs.declared.fault.FaultKind.{FaultKind}
 use Rattle.insn_codec.specs.declared.fault.FaultKind.TheVariants as kind
 use Rattle.insn_codec.specs.Fault.{fault_number}
-use Rattle.verifier.specs.declared.fault.Reason.{Reason}
-use Rattle.verifier.specs.declared.fault.Reason.TheVariants as reason
-use Rattle.verifier.specs.declared.fault.VerifyFault.{VerifyFault}
-use Rattle.verifier.specs.Reason.{reason_number}
+use Rattle.reg_kinds.specs.declared.reason.Reason.{Reason}
+use Rattle.reg_kinds.specs.declared.reason.Reason.TheVariants as reason
+use Rattle.reg_kinds.specs.Reason.{number as reason_number}
+use Rattle.tagged_model.specs.declared.shape.Named.{Named}
+use Rattle.verdict.specs.declared.fault.VerifyFault.{VerifyFault}
 
 abbrev pub status_told : Reply → ℤ
 status_told (Descriptor fd) = pos fd
@@ -49,8 +50,8 @@ abbrev pub verdict_reply : VerifyFault → Reply
 verdict_reply fault = verdict_refusal fault.reason fault.slot
 
 -- memory was refused, or the load has a fault
-abbrev pub IsLoadRefusal : List ℕ → Reply → Type 0
-IsLoadRefusal slots (RefusedAt errno slot number) = IsLoadFault slots errno slot number
-IsLoadRefusal slots (Refused errno) = errno ≡ NoMemory
-IsLoadRefusal slots (Descriptor fd) = ⊥
-IsLoadRefusal slots (Outcome outcome) = ⊥
+abbrev pub IsLoadRefusal : List Named → List ℕ → Reply → Type 0
+IsLoadRefusal descriptors slots (RefusedAt errno slot number) = IsLoadFault descriptors slots errno slot number
+IsLoadRefusal descriptors slots (Refused errno) = errno ≡ NoMemory
+IsLoadRefusal descriptors slots (Descriptor fd) = ⊥
+IsLoadRefusal descriptors slots (Outcome outcome) = ⊥

@@ -7,12 +7,12 @@ ghost use Rattle.host.specs.State.{State};
 ghost use Rattle.host.specs.Machine.{codec_errno, verdict_errno};
 ghost use Rattle.host.specs.Reply.{status_told, payload_told, codec_reply, verdict_reply};
 ghost use Rattle.insn_codec.specs.Fault.{fault_number};
-ghost use Rattle.verifier.specs.Reason.{reason_number};
 
 use crate::errno::Errno;
 use crate::reply::{Head, ReplyBuf, bytes_of_half, bytes_of_number, write_reply};
 use insn_codec::{CodecFault, FaultKind};
-use verifier::{Reason, VerifyFault};
+use reg_kinds::Reason;
+use verdict::VerifyFault;
 
 /// The commands that are served, as bpf(2) names them.
 #[derive(Clone, Copy, Debug, PartialEq, Eq)]
@@ -93,15 +93,27 @@ fn errno_of_verdict(reason: Reason) -> Errno
     ensures { result ≡ verdict_errno reason }
 {
     match reason {
-        Reason::FallsOff | Reason::Unreachable | Reason::UnjudgedForm => Errno::Invalid,
+        Reason::JumpOutside | Reason::JumpBackward | Reason::FallsOff => Errno::Invalid,
+        Reason::Unreachable | Reason::UnknownHelper | Reason::DescriptorNotMap => Errno::Invalid,
+        Reason::DescriptorNotOpen => Errno::BadDescriptor,
         Reason::FramePointerWritten
         | Reason::UnreadableRegister
+        | Reason::ResultNotScalar
         | Reason::NotPointer
         | Reason::PointerArithmetic
+        | Reason::OffsetTooLarge
         | Reason::OutsideStack
         | Reason::UnalignedStack
         | Reason::UnwrittenStack
-        | Reason::Memory => Errno::AccessDenied,
+        | Reason::PartOfSpill
+        | Reason::OutsideValue
+        | Reason::MaybeNull
+        | Reason::ContextAccess
+        | Reason::PointerStored
+        | Reason::PointerComparison
+        | Reason::HelperArgument
+        | Reason::LengthUnbounded => Errno::AccessDenied,
+        Reason::Memory => Errno::NoMemory,
     }
 }
 

@@ -11,9 +11,9 @@ ghost use Rattle.host.specs.Told.{TellsFrame};
 use crate::command::{Command, Reply};
 use crate::errno::Errno;
 use crate::reply::{Head, ReplyBuf};
-use crate::tenant::Tenant;
+use crate::tenant::{RUN_MEMORY, Tenant};
+use arena::Arena;
 use byteorder::{ByteOrder, LittleEndian};
-use flat_machine::Memory;
 use std::alloc::{AllocError, Global};
 use std::marker::Model;
 
@@ -24,19 +24,21 @@ const LONGEST_FRAME: usize = 65_536;
 #[derive(Drop)]
 pub struct Host {
     tenants: Vec<Tenant>,
-    memory: Memory,
+    /// A part for each tenant's runs.
+    arena: Arena,
     alloc: Global,
 }
 
 impl Model for Host {
-    ghost use Rattle.std.specs.Prelude.{List, ◌≤◌, ◌*◌, vec_len, length};
+    ghost use Rattle.std.specs.Prelude.{◌≡◌, List, ◌≤◌, vec_len};
+    ghost use Rattle.host.specs.declared.tenant.TheConstants.{RUN_MEMORY};
     ghost use Rattle.host.specs.State.{State};
 
     ghost Value = { List State };
 
     ghost view = { λ h. h.tenants.items };
 
-    ghost invariant = { λ h. (vec_len h.tenants ≤ 16) × (512 * vec_len h.tenants ≤ length h.memory) };
+    ghost invariant = { λ h. (vec_len h.tenants ≤ 16) × (h.arena.parts ≡ vec_len h.tenants) × (h.arena.part ≡ RUN_MEMORY) };
 }
 
 /// So many tenants with nothing open.
@@ -76,7 +78,7 @@ impl Host {
     {
         Ok(Host {
             tenants: new_tenants(alloc, tenants)?,
-            memory: Memory::new(alloc, tenants)?,
+            arena: Arena::new(alloc, tenants, RUN_MEMORY)?,
             alloc,
         })
     }
@@ -92,7 +94,7 @@ impl Host {
         match Command::of(number) {
             Some(Command::ProgLoad) => self.tenants[tenant].load(self.alloc, body),
             Some(Command::ProgTestRun) => {
-                self.tenants[tenant].test_run(body, tenant, &mut self.memory)
+                self.tenants[tenant].test_run(body, tenant, &mut self.arena)
             }
             None => Reply::Refused(Errno::Invalid),
         }

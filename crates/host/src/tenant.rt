@@ -1,22 +1,23 @@
 //! One tenant: what is open, and what its commands do.
 
-ghost use Rattle.std.specs.Prelude.{◌≡◌, ◌<◌, ◌≤◌, ◌+◌, ◌*◌, Bool, List, ℕ, length, IfOk, IfErr, IfSome, IfNone, Some, None};
+ghost use Rattle.std.specs.Prelude.{◌≡◌, ◌<◌, ◌≤◌, Bool, length, IfOk, IfErr, IfSome};
 ghost use Rattle.std.specs.Option.{option_copied};
 ghost use Rattle.insn_codec.specs.Program.{IsProgram, program_bytes};
-ghost use Rattle.verifier.specs.Verdict.{IsAccepted};
-ghost use Rattle.host.specs.declared.object.Object.TheVariants.{Program as ProgramObject};
-ghost use Rattle.host.specs.State.{State, nothing_open};
-ghost use Rattle.host.specs.Machine.{free_place, named, with_open, AnswersLoad, AnswersRun};
+ghost use Rattle.verdict.specs.Verdict.{IsAccepted};
+ghost use Rattle.host.specs.State.{nothing_open};
+ghost use Rattle.host.specs.Machine.{context_of, free_place, named, open_descriptors, with_open, AnswersLoad, AnswersRun};
 ghost use Rattle.host.specs.Reply.{answer_of, IsLoadRefusal};
 
 use crate::command::{Reply, reply_to_codec, reply_to_verdict};
 use crate::errno::Errno;
 use crate::object::Object;
+use arena::{Arena, Trace};
 use byteorder::{ByteOrder, LittleEndian};
-use flat_machine::{Memory, Outcome, Trace, run};
+use flat_machine::run;
 use insn_codec::read_program;
 use std::alloc::{AllocError, Global};
 use std::marker::Model;
+use tagged_model::{Named, Outcome, Target};
 use verifier::{Verified, verify};
 
 /// How many descriptors a tenant has.
@@ -33,6 +34,9 @@ const BEFORE_PACKET: usize = 44;
 
 /// The bytes of the longest packet.
 const LONGEST_PACKET: usize = 32_768;
+
+/// The bytes that a tenant's runs have: a stack of 512, and 64 for the context.
+pub(crate) const RUN_MEMORY: usize = 512 + 64;
 
 /// What a tenant has open.
 #[derive(Drop)]
@@ -62,20 +66,34 @@ fn empty_table(alloc: Global) -> Result<Vec<Option<Object>>, AllocError>
     Ok(table)
 }
 
-/// The program that the slots spell, if it is accepted.
-fn judged(alloc: Global, slots: &[u8]) -> Result<Verified, Reply>
+/// The program that the slots spell, if it is accepted with these descriptors open.
+fn judged(alloc: Global, slots: &[u8], descriptors: &[Named]) -> Result<Verified, Reply>
     requires { length slots.now < 4294967296 }
-    ensures accepted { IfOk result (λ verified. IsProgram verified × (slots.now ≡ program_bytes verified) × IsAccepted verified) }
-    ensures refused { IfErr result (λ reply. IsLoadRefusal slots.now reply) }
+    ensures accepted { IfOk result (λ verified. IsProgram verified × (slots.now ≡ program_bytes verified) × IsAccepted verified descriptors.now) }
+    ensures refused { IfErr result (λ reply. IsLoadRefusal descriptors.now slots.now reply) }
 {
     let program = match read_program(alloc, slots) {
         Ok(program) => program,
         Err(fault) => return Err(reply_to_codec(fault)),
     };
-    match verify(&program) {
+    // By this law a fault's slot is one of the program's.
+    program.code();
+    match verify(alloc, &program, descriptors) {
         Ok(verified) => Ok(verified),
         Err(fault) => Err(reply_to_verdict(fault)),
     }
+}
+
+/// The context of a run: the packet's length, and the ten words that follow the descriptor.
+fn context_words(body: &[u8]) -> [u32; 11]
+    requires words { 44 ≤ length body.now }
+    requires short { length body.now < 4294967296 }
+    ensures { result ≡ context_of body.now }
+{
+    let mut words = [0; 11];
+    words[0] = (body.len() - BEFORE_PACKET) as u32;
+    LittleEndian::read_u32_into(&body[4..BEFORE_PACKET], &mut words[1..]);
+    words
 }
 
 impl Tenant {
@@ -112,6 +130,22 @@ impl Tenant {
         self.table.get(place)?.as_ref()
     }
 
+    /// What each open descriptor names.
+    fn open_descriptors(&self, alloc: Global) -> Result<Vec<Named>, AllocError>
+        ensures { IfOk result (λ descriptors. descriptors.items ≡ open_descriptors self.now) }
+    {
+        let mut descriptors = Vec::with_capacity(alloc, DESCRIPTORS)?;
+        for (place, object) in self.table.iter().enumerate() {
+            if let Some(Object::Program(_)) = object {
+                descriptors.push(Named {
+                    fd: (FIRST_DESCRIPTOR + place) as u32,
+                    target: Target::Program,
+                })?;
+            }
+        }
+        Ok(descriptors)
+    }
+
     /// PROG_LOAD: its type, and the slots.
     pub fn load(&mut self, alloc: Global, body: &[u8]) -> Reply
         requires { length body.now < 4294967296 }
@@ -123,7 +157,10 @@ impl Tenant {
         let Some(place) = self.free_place() else {
             return Reply::Refused(Errno::TooManyOpen);
         };
-        match judged(alloc, &body[4..]) {
+        let Ok(descriptors) = self.open_descriptors(alloc) else {
+            return Reply::Refused(Errno::NoMemory);
+        };
+        match judged(alloc, &body[4..], &descriptors) {
             Ok(verified) => {
                 self.open_at(place, Object::Program(verified));
                 Reply::Descriptor((FIRST_DESCRIPTOR + place) as u8)
@@ -132,22 +169,28 @@ impl Tenant {
         }
     }
 
-    /// PROG_TEST_RUN: a descriptor, ten words of context, and the packet. The program runs on the stack of this place.
-    pub fn test_run(&self, body: &[u8], place: usize, memory: &mut Memory) -> Reply
-        requires { 512 * (place + 1) ≤ length memory.old }
+    /// PROG_TEST_RUN: a descriptor, ten words of context, and the packet. The program runs in this tenant's part.
+    pub fn test_run(&self, body: &[u8], tenant: usize, arena: &mut Arena) -> Reply
+        requires tenant { tenant < arena.old.parts }
+        requires part { arena.old.part ≡ RUN_MEMORY }
         ensures answer { AnswersRun self.now body.now (answer_of result self.now) }
-        ensures memory { length memory.new ≡ length memory.old }
+        ensures parts { arena.new.parts ≡ arena.old.parts }
+        ensures part { arena.new.part ≡ arena.old.part }
     {
         if body.len() < BEFORE_PACKET {
             return Reply::Refused(Errno::Invalid);
         }
-        let Some(Object::Program(program)) = self.named(LittleEndian::read_u32(body)) else {
+        let Some(object) = self.named(LittleEndian::read_u32(body)) else {
             return Reply::Refused(Errno::BadDescriptor);
         };
-        if body.len() - BEFORE_PACKET > LONGEST_PACKET {
+        let packet = &body[BEFORE_PACKET..];
+        if packet.len() > LONGEST_PACKET {
             return Reply::Refused(Errno::TooBig);
         }
-        match run(program, place, memory, &mut Trace::new()) {
+        let program = object.program();
+        let context = context_words(body);
+        let mut trace = Trace::new();
+        match run(program, tenant, arena, &context, packet, &mut trace) {
             Outcome::Value(value) => Reply::Outcome(value),
             Outcome::Fault => unreachable!(),
         }

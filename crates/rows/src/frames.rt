@@ -1,6 +1,8 @@
 //! Frames and replies as hex text.
 
+use bpf_text::assemble;
 use host::{Host, ReplyBuf};
+use insn_codec::write_program;
 use std::alloc::{AllocError, Global};
 use std::test::Fail;
 
@@ -29,9 +31,19 @@ pub fn load(alloc: Global, host: &mut Host, tenant: u8, slots: &str) -> Result<S
     reply(alloc, host, frame.as_str())
 }
 
+/// Ten words of context that are zero.
+pub const NO_WORDS: &str =
+    "0000000000000000000000000000000000000000 0000000000000000000000000000000000000000";
+
 /// The reply to a PROG_TEST_RUN of a descriptor, with context words of zero and no packet.
 pub fn test_run(alloc: Global, host: &mut Host, tenant: u8, fd: u8) -> Result<String, Fail> {
-    let words = "0000000000000000000000000000000000000000";
-    let frame = format!(in alloc; "{tenant:02x}00 0a00 {fd:02x}000000 {words} {words}")?;
+    let frame = format!(in alloc; "{tenant:02x}00 0a00 {fd:02x}000000 {NO_WORDS}")?;
     reply(alloc, host, frame.as_str())
+}
+
+/// The hex digits of the slots of a program's text.
+pub fn slots(alloc: Global, text: &str) -> Result<String, Fail> {
+    let program = assemble(alloc, text).map_err(|_| "the text is a program's")?;
+    let slots = write_program(alloc, &program)?;
+    Ok(digits(alloc, &slots)?)
 }

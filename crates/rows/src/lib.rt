@@ -10,10 +10,10 @@ mod loads;
 #[cfg(test)]
 mod memory;
 #[cfg(test)]
+mod runs;
+#[cfg(test)]
 mod shapes;
 #[cfg(test)]
 mod streams;
-#[cfg(test)]
-mod texts;
 #[cfg(test)]
 mod words;

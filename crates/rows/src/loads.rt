@@ -120,10 +120,27 @@ fn loads_that_the_verdict_refuses(rt: HostRuntime) -> Result<(), Fail> {
             "b700000000000000 7901000000000000 9500000000000000",
             "0e00000000000500f3ffffff010000001600",
         ),
-        // r0 = r10; exit
+        // r0 = r10; exit: the result is a pointer.
         (
             "bfa0000000000000 9500000000000000",
+            "0e00000000000500f3ffffff010000001500",
+        ),
+        // w0 = w10; exit
+        (
+            "bca0000000000000 9500000000000000",
             "0e00000000000500f3ffffff000000001700",
+        ),
+        // goto -1
+        ("0500ffff00000000", "0e00000000000500eaffffff000000000200"),
+        // call 4; exit
+        (
+            "8500000004000000 9500000000000000",
+            "0e00000000000500eaffffff000000000500",
+        ),
+        // r1 = map_fd 9 ll; r0 = 0; exit: nothing is open.
+        (
+            "1811000009000000 0000000000000000 b700000000000000 9500000000000000",
+            "0e00000000000500f7ffffff000000000700",
         ),
         // r0 = 0; *(u64 *)(r10 + 0) = 1; exit
         (
@@ -145,15 +162,40 @@ fn loads_that_the_verdict_refuses(rt: HostRuntime) -> Result<(), Fail> {
             "6a0af8ff07000000 61a0f8ff00000000 9500000000000000",
             "0e00000000000500f3ffffff010000001b00",
         ),
-        // goto +0; exit: a form that is not judged.
+        // goto +0; exit: register 0 still holds nothing.
         (
             "0500000000000000 9500000000000000",
-            "0e00000000000500eaffffff000000005a00",
+            "0e00000000000500f3ffffff010000001400",
         ),
     ];
     for (slots, want) in refused {
         assert_eq!(rt; load(alloc, &mut host, 0, slots)?.as_str(), want, "{slots}");
     }
+    Ok(())
+}
+
+#[test]
+fn a_program_is_no_map(rt: HostRuntime) -> Result<(), Fail> {
+    let alloc = rt.alloc();
+    let mut host = Host::new(alloc, 2)?;
+    // r1 = map_fd 3 ll; r0 = 0; exit
+    let slots = "1811000003000000 0000000000000000 b700000000000000 9500000000000000";
+    assert_eq!(rt;
+        load(alloc, &mut host, 0, slots)?.as_str(),
+        "0e00000000000500f7ffffff000000000700"
+    );
+    assert_eq!(rt;
+        load(alloc, &mut host, 0, CONSTANT_AND_EXIT)?.as_str(),
+        "080000000000050003000000"
+    );
+    assert_eq!(rt;
+        load(alloc, &mut host, 0, slots)?.as_str(),
+        "0e00000000000500eaffffff000000000800"
+    );
+    assert_eq!(rt;
+        load(alloc, &mut host, 1, slots)?.as_str(),
+        "0e00000001000500f7ffffff000000000700"
+    );
     Ok(())
 }
 

@@ -8,3 +8,4 @@ pub mod Memory
 pub mod Jumps
 pub mod Cover
 pub mod OfWords
+pub mod Rules

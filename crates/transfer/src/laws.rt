@@ -1,5 +1,11 @@
-//! The law of the effects. It is the contract of a function that does nothing.
+//! Laws of the effects. Each is the contract of a function that does nothing.
 
+ghost use Rattle.std.specs.Prelude.{◌≡◌, ◌≢◌, Err};
+ghost use Rattle.insn_codec.specs.declared.insn.Insn.{Insn};
+ghost use Rattle.reg_kinds.specs.declared.facts.Facts.{Facts};
+ghost use Rattle.reg_kinds.specs.declared.reason.Reason.{Reason};
+ghost use Rattle.reg_kinds.specs.declared.reason.Reason.TheVariants.{Memory};
+ghost use Rattle.transfer.specs.Effects.{effect};
 ghost use Rattle.transfer.specs.Sound.{EffectsCover, EffectsAreOfWords};
 
 use interval::{edges_are_words, edges_keep_members, results_are_members, results_are_words};
@@ -26,3 +32,8 @@ pub fn effects_are_of_words()
     edges_are_words();
     results_are_words();
 }
+
+/// No instruction is refused for want of memory.
+pub fn effects_need_no_memory()
+    ensures { (i : Insn) (f : Facts) (reason : Reason) → effect i f ≡ Err reason → reason ≢ Memory }
+{}

@@ -9,4 +9,4 @@ mod laws;
 
 pub use branches::Flow;
 pub use effects::apply;
-pub use laws::{effects_are_of_words, effects_cover};
+pub use laws::{effects_are_of_words, effects_cover, effects_need_no_memory};

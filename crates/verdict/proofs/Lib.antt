@@ -4,3 +4,4 @@ pub mod NamedTargets
 pub mod OneVerdict
 pub mod Reached
 pub mod Slots
+pub mod Rules

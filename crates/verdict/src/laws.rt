@@ -1,10 +1,13 @@
 //! Laws of the verdict, for proofs that stand on it. Each is the contract of a function that does nothing.
 
-ghost use Rattle.std.specs.Prelude.{◌≡◌, ℕ, List};
+ghost use Rattle.std.specs.Prelude.{◌≡◌, ◌≢◌, ℕ, List};
 ghost use Rattle.insn_codec.specs.declared.insn.Insn.{Insn};
 ghost use Rattle.reg_kinds.specs.declared.reason.Reason.{Reason};
+ghost use Rattle.reg_kinds.specs.declared.reason.Reason.TheVariants.{Memory};
 ghost use Rattle.tagged_model.specs.declared.shape.Named.{Named};
 ghost use Rattle.verdict.specs.Verdict.{IsAccepted, IsRefused};
+
+use transfer::effects_need_no_memory;
 
 /// A program is refused in one way: at one slot, for one reason.
 pub fn one_refusal()
@@ -15,3 +18,10 @@ pub fn one_refusal()
 pub fn accepted_is_not_refused()
     ensures { (code : List Insn) (named : List Named) (slot : ℕ) (reason : Reason) → IsAccepted code named → ¬ IsRefused code named slot reason }
 {}
+
+/// A program is refused by a rule, and not for want of memory: that is told alone where `judge` got none.
+pub fn refused_by_a_rule()
+    ensures { (code : List Insn) (named : List Named) (slot : ℕ) (reason : Reason) → IsRefused code named slot reason → reason ≢ Memory }
+{
+    effects_need_no_memory();
+}

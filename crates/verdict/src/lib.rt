@@ -14,4 +14,5 @@ mod shape;
 
 pub use fault::VerifyFault;
 pub use judging::judge;
-pub use laws::{accepted_is_not_refused, one_refusal};
+pub use laws::{accepted_is_not_refused, one_refusal, refused_by_a_rule};
+pub use shape::descriptor;

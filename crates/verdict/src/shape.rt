@@ -62,8 +62,8 @@ fn target_of(named: &[Named], fd: u32) -> Option<Target>
     None
 }
 
-/// The descriptor that an instruction names.
-fn descriptor(insn: &Insn) -> Option<u32>
+/// The descriptor that an instruction names: that of a load of a map.
+pub fn descriptor(insn: &Insn) -> Option<u32>
     ensures { result ≡ descriptor insn.now }
 {
     match *insn {

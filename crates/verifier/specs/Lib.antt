@@ -1,3 +1,3 @@
-pub mod Reason
-pub mod Access
-pub mod Verdict
+pub mod Sound
+pub mod Verified
+pub mod Maps

@@ -1,12 +1,9 @@
-//! Which programs may run.
-//!
-//! The verdict so far is on programs in a straight line: moves and sums of 64 bits, loads and stores of the stack
-//! through the frame pointer, and exit. Any other form is refused.
+//! Programs that are accepted, and why no run of them faults.
 #![tactic(auto)]
 
-mod access;
-mod fault;
-mod verdict;
+mod laws;
+mod maps;
+mod verified;
 
-pub use fault::{Reason, VerifyFault};
-pub use verdict::{Verified, verify};
+pub use laws::{accepted_programs_never_fault, steps_go_on};
+pub use verified::{Verified, verify};

@@ -1,7 +1,0 @@
-pub mod Slots
-pub mod Edges
-pub mod Leads
-pub mod Words
-pub mod Arrivals
-pub mod Steps
-pub mod Runs

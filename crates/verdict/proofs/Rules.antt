@@ -1,0 +1,82 @@
+-- Each refusal is by a rule, and none for want of memory.
+use Rattle.std.proofs.Common.{◌≡◌, ◌≢◌, ℕ, inl, inr, Bool, List, Option, Some, None, Result, Ok, Err, subst, refl}
+use Rattle.std.specs.Prelude.{if◌then◌else◌}
+use Rattle.std.proofs.lemmas.Bool.{cond_both}
+use Rattle.insn_codec.specs.declared.insn.Insn.{Insn}
+use Rattle.insn_codec.specs.Program.{begins_at}
+use Rattle.reg_kinds.specs.declared.facts.Facts.{Facts}
+use Rattle.reg_kinds.specs.declared.reason.Reason.{Reason}
+use Rattle.reg_kinds.specs.declared.reason.Reason.TheVariants.{JumpOutside, JumpBackward, FallsOff, Unreachable, UnknownHelper, FramePointerWritten, DescriptorNotOpen, DescriptorNotMap, Memory}
+use Rattle.tagged_model.specs.declared.shape.Named.{Named}
+use Rattle.tagged_model.specs.Cells.{also}
+use Rattle.transfer.specs.Branches.{Edges}
+use Rattle.transfer.specs.Effects.{effect}
+use Rattle.verdict.specs.Shape.{shape_of, shape_fault}
+use Rattle.verdict.specs.Before.{before}
+use Rattle.verdict.specs.Verdict.{reason_of, safety_fault, IsRefused}
+
+-- any reason but want of memory
+abbrev IsRule : Reason → Type 0
+IsRule Memory = ⊥
+IsRule reason = Unit {0}
+
+-- a reason that is told is not want of memory
+abbrev ByRule : Option Reason → Type 0
+ByRule told = (reason : Reason) → told ≡ Some reason → reason ≢ Memory
+
+-- what the transfer of facts says of itself
+abbrev EffectsNeedNone : Type 0
+EffectsNeedNone = (i : Insn) (f : Facts) (reason : Reason) → effect i f ≡ Err reason → reason ≢ Memory
+
+rule_is_other : (reason : Reason) → IsRule reason → reason ≢ Memory
+rule_is_other reason h same = subst IsRule same h
+
+by_this : (reason : Reason) → IsRule reason → ByRule (Some reason)
+by_this told h reason e = let same : told ≡ reason = cc in rule_is_other reason (subst IsRule same h)
+
+by_none : ByRule None
+by_none reason e = absurd (let z : ⊥ = cc in z)
+
+-- ---- shape
+
+line_rule : (holds : Bool) (reason : Reason) (rest : Option Reason) → IsRule reason → ByRule rest → ByRule (if holds then Some reason else rest)
+line_rule holds reason rest h further = cond_both holds (Some reason) rest ByRule (λ _. by_this reason h) (λ _. further)
+
+shape_of_rule : (code : List Insn) (named : List Named) (slot : ℕ) (o : Option Insn) → ByRule (shape_of code named slot o)
+shape_of_rule code named slot None = by_none
+shape_of_rule code named slot (Some i) =
+    line_rule _ JumpOutside _ tt
+    (line_rule _ JumpBackward _ tt
+    (line_rule _ FallsOff _ tt
+    (line_rule _ Unreachable _ tt
+    (line_rule _ UnknownHelper _ tt
+    (line_rule _ FramePointerWritten _ tt
+    (line_rule _ DescriptorNotOpen _ tt
+    (line_rule _ DescriptorNotMap _ tt by_none)))))))
+
+shape_rule : (code : List Insn) (named : List Named) (slot : ℕ) → ByRule (shape_fault code named slot)
+unfolding shape_fault
+shape_rule code named slot = shape_of_rule code named slot (begins_at code slot)
+
+-- ---- safety
+
+module _ (effects : EffectsNeedNone) where
+  effect_rule : (i : Insn) (f : Facts) (r : Result Edges Reason) → effect i f ≡ r → ByRule (reason_of r)
+  effect_rule i f (Ok edges) e reason same = by_none reason same
+  effect_rule i f (Err told) e reason same = effects i f reason (let z : effect i f ≡ Err reason = cc in z)
+
+  insn_rule : (f : Facts) (o : Option Insn) → ByRule (also o (λ i. reason_of (effect i f)))
+  insn_rule f None = by_none
+  insn_rule f (Some i) = effect_rule i f (effect i f) refl
+
+  facts_rule : (known : Option Facts) (o : Option Insn) → ByRule (also known (λ f. also o (λ i. reason_of (effect i f))))
+  facts_rule None o = by_none
+  facts_rule (Some f) o = insn_rule f o
+
+  safety_rule : (code : List Insn) (slot : ℕ) → ByRule (safety_fault code slot)
+  unfolding safety_fault
+  safety_rule code slot = facts_rule (before code slot) (begins_at code slot)
+
+  pub not_for_memory : (code : List Insn) (named : List Named) (slot : ℕ) (reason : Reason) → IsRefused code named slot reason → reason ≢ Memory
+  not_for_memory code named slot reason (inl first) = shape_rule code named slot reason first.here
+  not_for_memory code named slot reason (inr later) = safety_rule code slot reason later.1.here

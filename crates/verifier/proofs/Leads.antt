@@ -1,0 +1,107 @@
+-- Where an instruction of an accepted program leads, another one begins.
+use Rattle.std.proofs.Common.{◌≡◌, ℕ, ◌<◌, ◌==◌, if◌then◌else◌, Bool, true, false, not, List, [], ◌∷◌, Option, Some, None, refl, sym, ap, subst, ◌∙◌, ⊎_elim}
+use Rattle.std.specs.Prelude.{◌&&◌, nat_le, nat_lt}
+use Rattle.std.specs.Option.{is_some, IsSome}
+use Rattle.std.proofs.lemmas.Bool.{and_parts, and_from, and_cases, both_ways, false≢true, true≢false, not-false, eqb-true, eq-eqb, leb-false, lt-ltb}
+use Rattle.std.proofs.lemmas.Option.{none-some}
+use Rattle.insn_codec.specs.declared.insn.Insn.{Insn}
+use Rattle.insn_codec.specs.declared.insn.Insn.TheVariants.{Ja, Jal, Jump}
+use Rattle.insn_codec.specs.Program.{slot_count, begins_at}
+use Rattle.reg_kinds.specs.declared.reason.Reason.{Reason}
+use Rattle.reg_kinds.specs.declared.reason.Reason.TheVariants.{JumpOutside, JumpBackward, FallsOff, Unreachable, UnknownHelper, FramePointerWritten, DescriptorNotOpen, DescriptorNotMap}
+use Rattle.tagged_model.specs.declared.shape.Named.{Named}
+use Rattle.transfer.specs.Sound.{falls_to, jumps_to}
+use Rattle.verdict.specs.Shape.{falls, jumps, is_slot, falls_into, jumps_into, leads_outside, leads_backward, is_reachable, is_call, written_register, descriptor, is_not_open, is_not_map, first_reason, shape_of, shape_reason, shape_fault}
+use Rattle.verifier.proofs.Slots.{begins_next}
+
+-- ---- the shape of an instruction
+
+-- its jump lands where an instruction begins, farther on, and it does not fall off the end
+pub record IsShaped (code : List Insn) (i : Insn) (n : ℕ) : Type 0 where
+  pub inside : (jumps i && leads_outside code (jumps_to i n)) ≡ false
+  pub forward : (jumps i && leads_backward (jumps_to i n) n) ≡ false
+  pub on : (falls i && nat_le (slot_count code) (falls_to i n)) ≡ false
+
+not_first : (b : Bool) (r : Reason) (o : Option Reason) → (if b then Some r else o) ≡ None → (b ≡ false) × (o ≡ None)
+not_first true r o e = absurd (none-some r (sym e))
+not_first false r o e = (refl, e)
+
+first_three : (a b c : Bool) (r s t : Reason) (lines : List (Bool × Reason)) → first_reason ((a, r) ∷ (b, s) ∷ (c, t) ∷ lines) ≡ None → (a ≡ false) × (b ≡ false) × (c ≡ false)
+first_three a b c r s t lines e =
+    let first = not_first a r (first_reason ((b, s) ∷ (c, t) ∷ lines)) e in
+    let second = not_first b s (first_reason ((c, t) ∷ lines)) first.1 in
+    (first.0, second.0, (not_first c t (first_reason lines) second.1).0)
+
+-- the lines after those of where it leads
+abbrev further : List Insn → List Named → Insn → ℕ → List (Bool × Reason)
+further code named i n =
+    (not (is_reachable code n), Unreachable)
+    ∷ (is_call i, UnknownHelper)
+    ∷ (is_slot (written_register i) 10, FramePointerWritten)
+    ∷ (is_not_open named (descriptor i), DescriptorNotOpen)
+    ∷ (is_not_map named (descriptor i), DescriptorNotMap)
+    ∷ []
+
+pub shaped : (code : List Insn) (named : List Named) (n : ℕ) (i : Insn) → begins_at code n ≡ Some i → shape_fault code named n ≡ None → IsShaped code i n
+unfolding shape_fault
+shaped code named n i begins h =
+    let none : shape_reason code named i n ≡ None = sym (ap (shape_of code named n) begins) ∙ h in
+    let three = first_three (jumps i && leads_outside code (jumps_to i n)) (jumps i && leads_backward (jumps_to i n) n) (falls i && nat_le (slot_count code) (falls_to i n)) JumpOutside JumpBackward FallsOff (further code named i n) none in
+    record { inside = three.0; forward = three.1; on = three.2 }
+
+-- ---- where its edges lead
+
+second_false : (a b : Bool) → (a && b) ≡ false → a ≡ true → b ≡ false
+second_false a b h e = ⊎_elim (λ z. absurd (both_ways a z e)) (λ z. z) (and_cases a b h)
+
+slot_of : (o : Option ℕ) (m : ℕ) → is_slot o m ≡ true → o ≡ Some m
+slot_of None m e = absurd (false≢true e)
+slot_of (Some n) m e = ap Some (eqb-true n m e)
+
+target_there : (code : List Insn) (o : Option ℕ) → leads_outside code o ≡ false → IsSome o
+target_there code None e = absurd (true≢false e)
+target_there code (Some n) e = refl
+
+begins_there : (code : List Insn) (o : Option ℕ) (m : ℕ) → o ≡ Some m → leads_outside code o ≡ false → IsSome (begins_at code m)
+begins_there code o m e h = not-false (is_some (begins_at code m)) (subst (λ o. leads_outside code o ≡ false) e h)
+
+lies_farther : (o : Option ℕ) (n m : ℕ) → o ≡ Some m → leads_backward o n ≡ false → n < m
+lies_farther o n m e h = leb-false m n (subst (λ o. leads_backward o n ≡ false) e h)
+
+module _ (code : List Insn) (n : ℕ) (i : Insn) (shape : IsShaped code i n) where
+  -- the target is a slot, also of an instruction that does not jump
+  pub target_is : IsSome (jumps_to i n)
+  target_is = by_form i shape.inside
+    where
+      by_form : (i : Insn) → (jumps i && leads_outside code (jumps_to i n)) ≡ false → IsSome (jumps_to i n)
+      by_form (Ja off) h = target_there code (jumps_to (Ja off) n) h
+      by_form (Jal off) h = target_there code (jumps_to (Jal off) n) h
+      by_form (Jump wide cond dst src off) h = target_there code (jumps_to (Jump wide cond dst src off) n) h
+      by_form j h = refl
+
+  pub falls_begins : (m : ℕ) → begins_at code n ≡ Some i → falls_into i n m ≡ true → IsSome (begins_at code m)
+  falls_begins m begins t =
+      let h = and_parts (falls i) (falls_to i n == m) t in
+      let within = leb-false (slot_count code) (falls_to i n) (second_false (falls i) (nat_le (slot_count code) (falls_to i n)) shape.on h.0) in
+      subst (λ k. IsSome (begins_at code k)) (eqb-true (falls_to i n) m h.1) (begins_next code n i begins within)
+
+  pub jump_at : (m : ℕ) → jumps i ≡ true → jumps_to i n ≡ Some m → (n < m) × IsSome (begins_at code m)
+  jump_at m h e = (
+    lies_farther (jumps_to i n) n m e (second_false (jumps i) (leads_backward (jumps_to i n) n) shape.forward h),
+    begins_there code (jumps_to i n) m e (second_false (jumps i) (leads_outside code (jumps_to i n)) shape.inside h),
+  )
+
+  pub jumps_begins : (m : ℕ) → jumps_into i n m ≡ true → IsSome (begins_at code m)
+  jumps_begins m t =
+      let h = and_parts (jumps i && is_slot (jumps_to i n) m) (nat_lt n m) t in
+      let at = and_parts (jumps i) (is_slot (jumps_to i n) m) h.0 in
+      (jump_at m at.0 (slot_of (jumps_to i n) m at.1)).1
+
+  -- an edge that an instruction takes leads there
+  pub falls_lead : (m : ℕ) → falls i ≡ true → falls_to i n ≡ m → falls_into i n m ≡ true
+  falls_lead m h e = and_from (falls i) (falls_to i n == m) h (eq-eqb (falls_to i n) m e)
+
+  pub jumps_lead : (m : ℕ) → jumps i ≡ true → jumps_to i n ≡ Some m → jumps_into i n m ≡ true
+  jumps_lead m h e =
+      let at = subst (λ o. is_slot o m ≡ true) (sym e) (eq-eqb m m refl) in
+      and_from (jumps i && is_slot (jumps_to i n) m) (nat_lt n m) (and_from (jumps i) (is_slot (jumps_to i n) m) h at) (lt-ltb n m (jump_at m h e).0)

@@ -1,0 +1,123 @@
+-- The facts before each slot speak of words, where each instruction keeps them so.
+use Rattle.std.proofs.Common.{◌≡◌, ℕ, zero, suc, ◌<◌, ◌≤◌, ◌==◌, Bool, List, Option, Some, None, Result, Ok, Err, get_or, if◌then◌else◌, refl, sym, subst, ⊎_elim, arith}
+use Rattle.std.specs.Prelude.{◌&&◌}
+use Rattle.std.specs.List.{AllByRecursion}
+use Rattle.std.proofs.lemmas.Bool.{cases_lt, cond_both}
+use Rattle.std.proofs.lemmas.Nat.{and_le_l}
+use Rattle.std.proofs.lemmas.List.{get_or_past}
+use Rattle.std.proofs.lemmas.List.FromFn.{get_or-map-range_with_len, length-map-range_with_len}
+use Rattle.insn_codec.specs.declared.insn.Insn.{Insn}
+use Rattle.insn_codec.specs.Spelling.{IsInsn}
+use Rattle.insn_codec.specs.Program.{begins_at}
+use Rattle.reg_kinds.specs.declared.kind.Kind.{Kind}
+use Rattle.reg_kinds.specs.declared.kind.Kind.TheVariants.{Unreadable, Scalar, MapRef, Stack, Ctx, Value, MaybeValue}
+use Rattle.reg_kinds.specs.declared.kind.Slot.{Slot}
+use Rattle.reg_kinds.specs.declared.kind.Slot.TheVariants.{Bytes, Spill}
+use Rattle.reg_kinds.specs.declared.facts.Facts.{Facts}
+use Rattle.reg_kinds.specs.declared.reason.Reason.{Reason}
+use Rattle.reg_kinds.specs.Kinds.{tabulate, kind_at, slot_at, facts_of, entry_kind, entry}
+use Rattle.reg_kinds.specs.Pointers.{offsets_hull}
+use Rattle.reg_kinds.specs.Join.{kind_join, spilled, slot_join, facts_join}
+use Rattle.tagged_model.specs.Cells.{also}
+use Rattle.transfer.specs.Branches.{Edges}
+use Rattle.transfer.specs.Effects.{effect}
+use Rattle.transfer.specs.Sound.{IsOfWordsKind, IsOfWordsSlot, AreOfWords, AreOfWordsOn, EffectsAreOfWords}
+use Rattle.verdict.specs.Shape.{falls_into, jumps_into}
+use Rattle.verdict.specs.Before.{joined, on, edges_into, sent, inflow}
+use Rattle.verifier.proofs.Slots.{begins_one}
+
+-- ---- tables
+
+at_place : {X : Type 0} (f : ℕ → X) (n i : ℕ) (d : X) → i < n → get_or (tabulate n f) i d ≡ f i
+unfolding tabulate
+at_place f n i d h = get_or-map-range_with_len f 0 n i i d h (omega arith)
+
+past_end : {X : Type 0} (f : ℕ → X) (n i : ℕ) (d : X) → n ≤ i → get_or (tabulate n f) i d ≡ d
+unfolding tabulate
+past_end f n i d h = let l = length-map-range_with_len f 0 n in get_or_past (tabulate n f) i d (omega arith)
+
+-- what holds of the function's value at i, and of what stands for those past the end
+pub in_table : {X : Type 0} (P : X → Type 0) (f : ℕ → X) (n i : ℕ) (d : X) → P (f i) → P d → P (get_or (tabulate n f) i d)
+in_table P f n i d here past =
+    ⊎_elim
+    (λ lt. subst P (sym (at_place f n i d lt)) here)
+    (λ le. subst P (sym (past_end f n i d le)) past)
+    (cases_lt i n)
+
+no_bytes : IsOfWordsSlot (Bytes 0)
+no_bytes = omega arith
+
+words_of : (kinds : ℕ → Kind) (slots : ℕ → Slot) → ((r : ℕ) → IsOfWordsKind (kinds r)) → ((i : ℕ) → IsOfWordsSlot (slots i)) → AreOfWords (facts_of kinds slots)
+words_of kinds slots h g =
+    record {
+      registers = λ r. in_table IsOfWordsKind kinds 11 r Unreadable (h r) tt;
+      slots = λ i. in_table IsOfWordsSlot slots 64 i (Bytes 0) (g i) no_bytes;
+    }
+
+-- ---- at entry
+
+entry_words : AreOfWords entry
+entry_words =
+    words_of entry_kind (λ i. Bytes 0)
+    (λ r. cond_both (r == 1) Ctx _ IsOfWordsKind (λ _. tt) (λ _. cond_both (r == 10) _ Unreadable IsOfWordsKind (λ _. tt) (λ _. tt)))
+    (λ i. no_bytes)
+
+-- ---- where two edges meet
+
+either_kind : (b : Bool) (k : Kind) → IsOfWordsKind k → IsOfWordsKind (if b then k else Unreadable)
+either_kind b k h = cond_both b k Unreadable IsOfWordsKind (λ _. h) (λ _. tt)
+
+kind_joined : (j k : Kind) → IsOfWordsKind j → IsOfWordsKind k → IsOfWordsKind (kind_join j k)
+kind_joined (Scalar a) (Scalar b) h g = omega arith
+kind_joined (MapRef m) (MapRef n) h g = either_kind (m == n) (MapRef m) tt
+kind_joined (Stack x) (Stack y) h g = either_kind _ (Stack x) tt
+kind_joined Ctx Ctx h g = tt
+kind_joined (Value p) (Value q) h g = either_kind (p.map == q.map) (Value (offsets_hull p q)) tt
+kind_joined (MaybeValue m s) (MaybeValue n t) h g = either_kind ((m == n) && (s == t)) (MaybeValue m s) tt
+kind_joined j k h g = tt
+
+spilled_words : (k : Kind) → IsOfWordsKind k → IsOfWordsSlot (spilled k)
+spilled_words Unreadable h = no_bytes
+spilled_words k h = h
+
+slot_joined : (s t : Slot) → IsOfWordsSlot s → IsOfWordsSlot t → IsOfWordsSlot (slot_join s t)
+slot_joined (Bytes x) (Bytes y) h g = omega (arith, and_le_l x y)
+slot_joined (Spill j) (Spill k) h g = spilled_words (kind_join j k) (kind_joined j k h g)
+slot_joined s t h g = no_bytes
+
+facts_joined : (a b : Facts) → AreOfWords a → AreOfWords b → AreOfWords (facts_join a b)
+facts_joined a b h g =
+    words_of (λ r. kind_join (kind_at a r) (kind_at b r)) (λ i. slot_join (slot_at a i) (slot_at b i))
+    (λ r. kind_joined (kind_at a r) (kind_at b r) (h.registers r) (g.registers r))
+    (λ i. slot_joined (slot_at a i) (slot_at b i) (h.slots i) (g.slots i))
+
+joined_words : (a b : Option Facts) → AreOfWordsOn a → AreOfWordsOn b → AreOfWordsOn (joined a b)
+joined_words None b h g = g
+joined_words (Some f) None h g = h
+joined_words (Some e) (Some f) h g = facts_joined e f h g
+
+-- ---- before each slot
+
+on_words : (leads : Bool) (o : Option Facts) → AreOfWordsOn o → AreOfWordsOn (on leads o)
+on_words leads o h = cond_both leads o None AreOfWordsOn (λ _. h) (λ _. tt)
+
+module _ (law : EffectsAreOfWords) (code : List Insn) (each : AllByRecursion IsInsn code) where
+  edges_words : (n m : ℕ) (i : Insn) (f : Facts) → IsInsn i → AreOfWords f → (r : Result Edges Reason) → effect i f ≡ r → AreOfWordsOn (edges_into i n m r)
+  edges_words n m i f is h (Err reason) e = tt
+  edges_words n m i f is h (Ok edges) e =
+      let both = law i f edges is h e in
+      joined_words (on (falls_into i n m) edges.falling) (on (jumps_into i n m) edges.jumping) (on_words (falls_into i n m) edges.falling both.0) (on_words (jumps_into i n m) edges.jumping both.1)
+
+  begun_words : (n m : ℕ) (f : Facts) → AreOfWords f → (o : Option Insn) → begins_at code n ≡ o → AreOfWordsOn (also o (λ i. edges_into i n m (effect i f)))
+  begun_words n m f h None e = tt
+  begun_words n m f h (Some i) e = edges_words n m i f (begins_one code n i e each) h (effect i f) refl
+
+  sent_words : (n m : ℕ) (before : Option Facts) → AreOfWordsOn before → AreOfWordsOn (sent code n m before)
+  sent_words n m None h = tt
+  sent_words n m (Some f) h = begun_words n m f h (begins_at code n) refl
+
+  pub inflow_words : (n m : ℕ) → AreOfWordsOn (inflow code m n)
+  unfolding inflow
+  inflow_words zero m = cond_both (m == 0) (Some entry) None AreOfWordsOn (λ _. entry_words) (λ _. tt)
+  inflow_words (suc n) m =
+      joined_words (inflow code m n) (sent code n m (inflow code n n)) (inflow_words n m) (sent_words n m (inflow code n n) (inflow_words n n))

@@ -1,0 +1,5 @@
+use Rattle.verifier.proofs.Runs.{never_faults}
+use Rattle.verifier.proofs.laws.accepted_programs_never_fault.Goals as goal
+
+pub returns : goal.returns
+returns c = never_faults c.steps_go_on.ensures

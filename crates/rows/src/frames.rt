@@ -41,9 +41,10 @@ pub fn test_run(alloc: Global, host: &mut Host, tenant: u8, fd: u8) -> Result<St
     reply(alloc, host, frame.as_str())
 }
 
-/// The hex digits of the slots of a program's text.
+/// The hex digits of the slots of a program's text, where `;` stands for a line's end.
 pub fn slots(alloc: Global, text: &str) -> Result<String, Fail> {
-    let program = assemble(alloc, text).map_err(|_| "the text is a program's")?;
+    let lines = text.replace(alloc, ';', "\n")?;
+    let program = assemble(alloc, lines.as_str()).map_err(|_| "the text is a program's")?;
     let slots = write_program(alloc, &program)?;
     Ok(digits(alloc, &slots)?)
 }

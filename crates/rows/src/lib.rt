@@ -10,6 +10,8 @@ mod loads;
 #[cfg(test)]
 mod memory;
 #[cfg(test)]
+mod refusals;
+#[cfg(test)]
 mod runs;
 #[cfg(test)]
 mod shapes;

@@ -5,15 +5,6 @@ use host::Host;
 use std::alloc::Global;
 use std::test::*;
 
-/// The text's slots, where `;` stands for a line's end.
-fn slots_of(alloc: Global, text: &str) -> Result<String, Fail> {
-    let lines: String = text
-        .chars()
-        .map(|c| if c == ';' { '\n' } else { c })
-        .collect(alloc)?;
-    slots(alloc, lines.as_str())
-}
-
 /// The reply to a test run of the program at descriptor 3, with these words of context and this packet.
 fn run_on(alloc: Global, host: &mut Host, words: &str, packet: &str) -> Result<String, Fail> {
     reply(
@@ -26,7 +17,7 @@ fn run_on(alloc: Global, host: &mut Host, words: &str, packet: &str) -> Result<S
 /// The reply to a test run of a program's text in a new host.
 fn run_of(alloc: Global, text: &str, words: &str, packet: &str) -> Result<String, Fail> {
     let mut host = Host::new(alloc, 1)?;
-    let loaded = load(alloc, &mut host, 0, slots_of(alloc, text)?.as_str())?;
+    let loaded = load(alloc, &mut host, 0, slots(alloc, text)?.as_str())?;
     if loaded.as_str() != "080000000000050003000000" {
         return Err(Fail::from("the program is accepted"));
     }
@@ -145,7 +136,7 @@ fn a_run_begins_anew(rt: HostRuntime) -> Result<(), Fail> {
     let alloc = rt.alloc();
     let mut host = Host::new(alloc, 1)?;
     let text = "r0 = *(u32 *)(r1 + 4); *(u64 *)(r10 - 8) = r0; r0 += 1; exit";
-    load(alloc, &mut host, 0, slots_of(alloc, text)?.as_str())?;
+    load(alloc, &mut host, 0, slots(alloc, text)?.as_str())?;
     assert_eq!(rt; run_on(alloc, &mut host, NO_WORDS, "")?, result(alloc, 1)?);
     assert_eq!(rt; run_on(alloc, &mut host, NO_WORDS, "")?, result(alloc, 1)?);
     Ok(())

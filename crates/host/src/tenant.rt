@@ -1,7 +1,8 @@
 //! One tenant: what is open, and what its commands do.
 
-ghost use Rattle.std.specs.Prelude.{◌≡◌, ◌<◌, ◌≤◌, Bool, length, IfOk, IfErr, IfSome};
+ghost use Rattle.std.specs.Prelude.{◌≡◌, ◌≢◌, ℕ, ◌<◌, ◌≤◌, Bool, length, IfOk, IfErr, IfSome};
 ghost use Rattle.std.specs.Option.{option_copied};
+ghost use Rattle.arena.specs.Memory.{part_bytes};
 ghost use Rattle.insn_codec.specs.Program.{IsProgram, program_bytes};
 ghost use Rattle.verdict.specs.Verdict.{IsAccepted};
 ghost use Rattle.host.specs.State.{nothing_open};
@@ -169,13 +170,15 @@ impl Tenant {
         }
     }
 
-    /// PROG_TEST_RUN: a descriptor, ten words of context, and the packet. The program runs in this tenant's part.
+    /// PROG_TEST_RUN: a descriptor, ten words of context, and the packet. The program runs in this tenant's part of the
+    /// memory, and every other part stays as it is.
     pub fn test_run(&self, body: &[u8], tenant: usize, arena: &mut Arena) -> Reply
         requires tenant { tenant < arena.old.parts }
         requires part { arena.old.part ≡ RUN_MEMORY }
         ensures answer { AnswersRun self.now body.now (answer_of result self.now) }
         ensures parts { arena.new.parts ≡ arena.old.parts }
         ensures part { arena.new.part ≡ arena.old.part }
+        ensures others { (other : ℕ) → other ≢ tenant → part_bytes arena.new other ≡ part_bytes arena.old other }
     {
         if body.len() < BEFORE_PACKET {
             return Reply::Refused(Errno::Invalid);

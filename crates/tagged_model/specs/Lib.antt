@@ -6,3 +6,4 @@ pub mod Step
 pub mod Admits
 pub mod Laws
 pub mod Shape
+pub mod Table

@@ -1,0 +1,99 @@
+-- What the calls on the fields tell of the calls of the map.
+use Rattle.std.proofs.Common.{◌≡◌, ℕ, ◌+◌, ◌<◌, ◌≤◌, ◌==◌, Bool, true, false, List, Option, Some, None, Result, Ok, Err, IfOk, IfSome, refl, sym, ap, subst, ◌∙◌, nat_lt, nat_le, if◌then◌else◌, arith}
+use Rattle.std.proofs.lemmas.Bool.{ltb-true}
+use Rattle.std.specs.Map.{values_of}
+use Rattle.tagged_model.specs.declared.shape.MapKind.{MapKind}
+use Rattle.tagged_model.specs.declared.shape.MapKind.TheVariants.{Hash, Array}
+use Rattle.tagged_model.specs.declared.shape.MapShape.{MapShape}
+use Rattle.tagged_model.specs.declared.fault.MapFault.{MapFault}
+use Rattle.tagged_model.specs.declared.fault.MapFault.TheVariants.{NoEntry, TooBig, Exists, Invalid}
+use Rattle.tagged_model.specs.Table.{without, look_up, is_full, of_absent, of_found, verdict, removal, removal_of, Verdict, Refused, Present, New, no_exist, exist}
+use Rattle.bpf_maps.specs.Places.{PlaceTable, table_of, times, IsSound, IsFree, with_place, with_kept, Claims, Removes}
+use Rattle.bpf_maps.proofs.Counts.{one, times_one, times-without}
+
+pub same_table : (s : MapShape) {es fs : List (List ℕ × ℕ)} {ks ls : List ℕ} → es ≡ fs → ks ≡ ls → (let t : PlaceTable = record { shape = s; entries = es; kept = ks } in t) ≡ (let t : PlaceTable = record { shape = s; entries = fs; kept = ls } in t)
+same_table s e k i = record { shape = s; entries = e i; kept = k i }
+
+-- ---- a delete from a hash map
+
+pub removes_some : (key : List ℕ) (old seen new : PlaceTable) (p : ℕ) → old ≡ seen → old.shape.kind ≡ Hash → look_up (table_of old) key ≡ Some p → new ≡ with_kept old key p → Removes (removal (table_of seen) key) key seen (Ok tt) new
+removes_some key old seen new p v k e h =
+    subst (λ (t : PlaceTable). Removes (removal (table_of t) key) key t (Ok tt) new) v
+    (subst (λ (d : MapKind). Removes (removal_of d (look_up (table_of old) key)) key old (Ok tt) new) (sym k)
+    (subst (λ (o : Option ℕ). Removes (removal_of Hash o) key old (Ok tt) new) (sym e) (refl, h)))
+
+pub removes_none : (key : List ℕ) (old seen new : PlaceTable) → old ≡ seen → old.shape.kind ≡ Hash → look_up (table_of old) key ≡ None → new ≡ old → Removes (removal (table_of seen) key) key seen (Err NoEntry) new
+removes_none key old seen new v k e h =
+    subst (λ (t : PlaceTable). Removes (removal (table_of t) key) key t (Err NoEntry) new) v
+    (subst (λ (d : MapKind). Removes (removal_of d (look_up (table_of old) key)) key old (Err NoEntry) new) (sym k)
+    (subst (λ (o : Option ℕ). Removes (removal_of Hash o) key old (Err NoEntry) new) (sym e) (refl, h)))
+
+-- ---- a new key of a hash map
+
+pub claims_new : (key : List ℕ) (old seen new : PlaceTable) (p : ℕ) → old ≡ seen → is_full (table_of old) ≡ false → IsFree old p → new ≡ with_place old key p → Claims (of_absent Hash (is_full (table_of seen)) 0) key seen (Ok p) new
+claims_new key old seen new p v room free h =
+    subst (λ (t : PlaceTable). Claims (of_absent Hash (is_full (table_of t)) 0) key t (Ok p) new) v
+    (subst (λ (b : Bool). Claims (of_absent Hash b 0) key old (Ok p) new) (sym room) (free, h))
+
+-- ---- the verdict of an update, by what is found
+
+pub by_found : (t : PlaceTable) (key : List ℕ) (flags : ℕ) (o : Option ℕ) → nat_le flags exist ≡ true → look_up (table_of t) key ≡ o → verdict (table_of t) key flags ≡ of_found (table_of t) flags o
+by_found t key flags o few is =
+    ap (λ (b : Bool). if b then of_found (table_of t) flags (look_up (table_of t) key) else Refused Invalid) few ∙ ap (of_found (table_of t) flags) is
+
+-- ---- the place of a present key is below the most
+
+absent_not : (d : MapKind) (full : Bool) (flags k : ℕ) → of_absent d full flags ≡ Present k → ⊥
+absent_not Array full flags k q = cc
+absent_not Hash full flags k q = by (flags == exist) full q
+  where
+    by : (a b : Bool) → (if a then Refused NoEntry else (if b then Refused TooBig else New)) ≡ Present k → ⊥
+    by true b r = cc
+    by false true r = cc
+    by false false r = cc
+
+present_is : (t : PlaceTable) (flags k : ℕ) (o : Option ℕ) → of_found (table_of t) flags o ≡ Present k → o ≡ Some k
+present_is t flags k None g = absurd (absent_not t.shape.kind (is_full (table_of t)) flags k g)
+present_is t flags k (Some j) g = by (flags == no_exist) g
+  where
+    by : (a : Bool) → (if a then Refused Exists else Present j) ≡ Present k → Some j ≡ Some k
+    by true q = cc
+    by false q = cc
+
+pub present_found : (t : PlaceTable) (key : List ℕ) (flags k : ℕ) → verdict (table_of t) key flags ≡ Present k → look_up (table_of t) key ≡ Some k
+present_found t key flags k h = by (nat_le flags exist) h
+  where
+    by : (a : Bool) → (if a then of_found (table_of t) flags (look_up (table_of t) key) else Refused Invalid) ≡ Present k → look_up (table_of t) key ≡ Some k
+    by true g = present_is t flags k (look_up (table_of t) key) g
+    by false g = cc
+
+-- a place in use is below the most
+pub place_below : (t : PlaceTable) (key : List ℕ) (p : ℕ) → IsSound t → look_up (table_of t) key ≡ Some p → p < t.shape.max_entries
+place_below t key p h e = by (nat_lt p t.shape.max_entries) refl (h.once p)
+  where
+    used : 1 ≤ times p (values_of t.entries)
+    used = let u = subst (λ (o : Option ℕ). times p (values_of (without key t.entries)) + one p o ≡ times p (values_of t.entries)) e (times-without p key t.entries) in let o = times_one p in omega arith
+
+    by : (b : Bool) → nat_lt p t.shape.max_entries ≡ b → times p (values_of t.entries) + times p t.kept ≤ (if b then 1 else 0) → p < t.shape.max_entries
+    by true q l = ltb-true p t.shape.max_entries q
+    by false q l = let u = used in absurd (omega arith)
+
+pub found_within : (t : PlaceTable) (key : List ℕ) (o : Option ℕ) → IsSound t → o ≡ look_up (table_of t) key → IfSome o (λ p. p < t.shape.max_entries)
+found_within t key None h e = tt
+found_within t key (Some p) h e = place_below t key p h (sym e)
+
+-- the place that an update answers
+claims_within : (old new : PlaceTable) (flags p : ℕ) (key : List ℕ) → Claims (verdict (table_of old) key flags) key old (Ok p) new → IsSound new → p < new.shape.max_entries
+claims_within old new flags p key c h = by (verdict (table_of old) key flags) refl c
+  where
+    by : (v : Verdict ℕ) → verdict (table_of old) key flags ≡ v → Claims v key old (Ok p) new → p < new.shape.max_entries
+    by (Refused f) e d = cc (d.0)
+    by (Present q) e d =
+        let same : p ≡ q = cc (d.0) in
+        let at : look_up (table_of new) key ≡ Some p = ap (λ (t : PlaceTable). look_up (table_of t) key) d.1 ∙ present_found old key flags q e ∙ ap (λ (x : ℕ). let o : Option ℕ = Some x in o) (sym same) in
+        place_below new key p h at
+    by New e d = subst (λ (t : PlaceTable). p < t.shape.max_entries) (sym d.1) d.0.within
+
+pub claims_within_ok : (old new : PlaceTable) (flags : ℕ) (key : List ℕ) (answer : Result ℕ MapFault) → Claims (verdict (table_of old) key flags) key old answer new → IsSound new → IfOk answer (λ p. p < new.shape.max_entries)
+claims_within_ok old new flags key (Ok p) c h = claims_within old new flags p key c h
+claims_within_ok old new flags key (Err f) c h = tt

@@ -1,0 +1,86 @@
+-- A call that changes one map, which keeps its shape and its area.
+use Rattle.std.proofs.Common.{◌≡◌, ◌≢◌, ℕ, ◌+◌, ◌-◌, ◌*◌, ◌<◌, ◌≤◌, Bool, true, false, true≢false, if◌then◌else◌, nat_le, List, take, drop, Option, Some, None, is_some, option_map, refl, sym, ap, ◌∙◌, get_or, set}
+use Rattle.std.proofs.lemmas.Bool.{lt-leb, le-leb}
+use Rattle.bpf_maps.specs.declared.part.TheConstants.{FRONT, AREA}
+use Rattle.bpf_maps.specs.declared.maps.Entry.{Entry}
+use Rattle.bpf_maps.specs.declared.maps.Maps.TheInside.{Inside}
+use Rattle.bpf_maps.specs.Any.{places_of}
+use Rattle.bpf_maps.specs.Live.{Live, Tenant, live_at, live_or, offset, value_in, IsLaid, SameAreas, SameValues, Held, without_area, held_at, one_less}
+use Rattle.bpf_maps.specs.InMaps.{live_of, lives, seen, IsWhole}
+use Rattle.bpf_maps.proofs.Slots.{live_by, others_by, set_here, set_others, one_changed, offset_same}
+use Rattle.bpf_maps.proofs.Whole.{laid, whole_replaced}
+
+-- the fields with another entry at a slot
+abbrev pub with_entry : Inside → ℕ → Entry → Bool → Inside
+with_entry a at new refused = record a { slots = record a.slots { slots = set a.slots.slots at (Some new) }; refused = refused }
+
+pub record IsChange (a : Inside) (t : Tenant) (at key : ℕ) (old new : Entry) : Type 0 where
+  pub view : seen a ≡ t
+  pub whole : IsWhole a
+  pub same : at ≡ key
+  pub here : get_or a.slots.slots at None ≡ Some old
+  pub number : new.number ≡ old.number
+  pub stride : new.stride ≡ old.stride
+  pub shape : (places_of new.map).shape ≡ (places_of old.map).shape
+  pub held : 1 ≤ new.holds
+
+-- a map is live
+module _ (a : Inside) (t : Tenant) (at key : ℕ) (e : Entry) (view : seen a ≡ t) (same : at ≡ key) (here : get_or a.slots.slots at None ≡ Some e) where
+  pub live_here : live_at t key ≡ Some (live_of e)
+  live_here = ap (λ (u : Tenant). live_at u key) (sym view) ∙ ap (λ (k : ℕ). get_or (lives a.slots.slots) k None) (sym same) ∙ live_by a.slots.slots a.slots.slots at e here
+
+module _ (a : Inside) (t : Tenant) (at key : ℕ) (old new : Entry) (refused : Bool) (c : IsChange a t at key old new) where
+  pub live_old : live_at t key ≡ Some (live_of old)
+  live_old = live_here a t at key old c.view c.same c.here
+
+  there : get_or (set a.slots.slots at (Some new)) at None ≡ Some new
+  there = set_here a.slots.slots at old new c.here
+
+  pub live_new : live_at (seen (with_entry a at new refused)) key ≡ Some (live_of new)
+  live_new = live_here (with_entry a at new refused) (seen (with_entry a at new refused)) at key new refl c.same there
+
+  pub others_stay : (other : ℕ) → other ≢ key → live_at (seen (with_entry a at new refused)) other ≡ live_at t other
+  others_stay other ne =
+      others_by a.slots.slots (set a.slots.slots at (Some new)) at (set_others a.slots.slots at old new c.here) other (λ e. ne (e ∙ c.same))
+      ∙ ap (λ (u : Tenant). live_at u other) c.view
+
+  pub areas_stay : SameAreas t (seen (with_entry a at new refused))
+  areas_stay = one_changed t (seen (with_entry a at new refused)) key (live_of old) (live_of new) live_old live_new c.shape (ap (λ (n : ℕ). FRONT + n * AREA) c.number) c.stride others_stay
+
+  pub whole_stays : IsWhole (with_entry a at new refused)
+  whole_stays = whole_replaced a (with_entry a at new refused) at c.whole (set_others a.slots.slots at old new c.here) refl old new c.here there c.number c.stride c.shape c.held refl refl
+
+  pub laid_stays : IsLaid (seen (with_entry a at new refused))
+  laid_stays = laid (with_entry a at new refused) whole_stays
+
+-- what is said of the map, of its entry
+module _ {P : Type 0} (f : Live → P) (o : Option Live) (l : Live) (is : o ≡ Some l) where
+  pub told_of : f (live_or o) ≡ f l
+  told_of = ap (λ (x : Option Live). f (live_or x)) is
+
+-- where the areas stay, so do the values
+pub values_along : (t u : Tenant) (bytes : List ℕ) → SameAreas t u → SameValues t bytes u bytes
+values_along t u bytes same j p old_live new_live l = by (live_at u j) refl
+  where
+    by : (o : Option Live) → live_at u j ≡ o → value_in bytes u j p ≡ value_in bytes t j p
+    by None e = absurd (true≢false (sym new_live ∙ ap is_some e))
+    by (Some x) e =
+        let s = same j x e in
+        ap (λ (o : Option Live). take (live_or o).places.shape.value_size (drop (offset (live_or o) p) bytes)) e
+        ∙ (λ i. take (s.2 i).value_size (drop (offset_same x s.0 p s.3 s.4 i) bytes))
+        ∙ ap (λ (o : Option Live). take (live_or o).places.shape.value_size (drop (offset (live_or o) p) bytes)) (sym s.1)
+
+-- ---- one hold less
+
+pub less_held : (t u : Tenant) (key : ℕ) (l m : Live) → live_at t key ≡ Some l → live_at u key ≡ Some m → m.places ≡ l.places → m.holds ≡ l.holds - 1 → 1 < l.holds → held_at u key ≡ one_less (held_at t key)
+less_held t u key l m at bt places holds more =
+    let q : nat_le l.holds 1 ≡ false = lt-leb l.holds 1 more in
+    ap (option_map without_area) bt
+    ∙ (λ i. let h : Held = record { places = places i; holds = holds i } in Some h)
+    ∙ sym (ap (λ (o : Option Live). one_less (option_map without_area o)) at ∙ ap (λ (b : Bool). if b then None else Some (let h : Held = record { places = l.places; holds = l.holds - 1 } in h)) q)
+
+pub none_held : (t u : Tenant) (key : ℕ) (l : Live) → live_at t key ≡ Some l → live_at u key ≡ None → l.holds ≤ 1 → held_at u key ≡ one_less (held_at t key)
+none_held t u key l at bt last =
+    let q : nat_le l.holds 1 ≡ true = le-leb l.holds 1 last in
+    ap (option_map without_area) bt
+    ∙ sym (ap (λ (o : Option Live). one_less (option_map without_area o)) at ∙ ap (λ (b : Bool). if b then None else Some (let h : Held = record { places = l.places; holds = l.holds - 1 } in h)) q)

@@ -1,0 +1,61 @@
+-- How often a place stands in a list, and how many entries there are.
+use Rattle.std.proofs.Common.{◌≡◌, ℕ, ◌+◌, Bool, true, false, cond, List, [], ◌∷◌, ◌++◌, length, Option, Some, None, refl, sym, ap, subst, ◌∙◌, nat_eq, nat_lt, if◌then◌else◌, arith, eq-eqb}
+use Rattle.std.proofs.lemmas.Option.{none-some}
+use Rattle.std.proofs.lemmas.Bool.Decides.{nat_tests}
+use Rattle.std.specs.Map.{values_of}
+use Rattle.tagged_model.specs.Table.{is_key, found, without, with_key}
+use Rattle.bpf_maps.specs.Places.{times, IsSized}
+
+pub times-append : (p : ℕ) (xs ys : List ℕ) → times p (xs ++ ys) ≡ times p xs + times p ys
+times-append p [] ys = omega arith
+times-append p (x ∷ xs) ys = let h = times-append p xs ys in omega arith
+
+pub times_self : (p : ℕ) → times p (p ∷ []) ≡ 1
+times_self p = let e : nat_eq p p ≡ true = eq-eqb p p refl in let P : Bool → Type 0 = λ b. (if b then 1 else 0) + 0 ≡ 1 in subst P (sym e) refl
+
+one_of : (p n : ℕ) → (if nat_lt p n then 1 else 0) + ((if nat_eq p n then 1 else 0) + 0) ≡ (if nat_lt p (n + 1) then 1 else 0)
+one_of p n = grind (arith, nat_tests)
+
+-- the next place
+pub times-next : (p n : ℕ) (xs : List ℕ) → times p xs ≡ (if nat_lt p n then 1 else 0) → times p (xs ++ n ∷ []) ≡ (if nat_lt p (n + 1) then 1 else 0)
+times-next p n xs h = times-append p xs (n ∷ []) ∙ ap (λ (k : ℕ). k + times p (n ∷ [])) h ∙ one_of p n
+
+pub values_of-append : {K : Type 0} (es fs : List (K × ℕ)) → values_of (es ++ fs) ≡ values_of es ++ values_of fs
+values_of-append [] fs = refl
+values_of-append (e ∷ es) fs = ap (λ r. e.1 ∷ r) (values_of-append es fs)
+
+-- a place that an entry has
+abbrev pub one : ℕ → Option ℕ → ℕ
+one p None = 0
+one p (Some q) = if nat_eq p q then 1 else 0
+
+pub times_one : (p : ℕ) → one p (Some p) ≡ 1
+times_one p = let t = times_self p in omega arith
+
+pub times-without : (p : ℕ) (key : List ℕ) (es : List (List ℕ × ℕ)) → times p (values_of (without key es)) + one p (found key es) ≡ times p (values_of es)
+times-without p key [] = omega arith
+times-without p key (e ∷ es) = by (is_key key e.0) (times-without p key es)
+  where
+    by : (b : Bool) → times p (values_of (without key es)) + one p (found key es) ≡ times p (values_of es) → times p (values_of (cond b es (e ∷ without key es))) + one p (cond b (Some e.1) (found key es)) ≡ times p (values_of (e ∷ es))
+    by true h = omega arith
+    by false h = omega arith
+
+pub length-without : (key : List ℕ) (p : ℕ) (es : List (List ℕ × ℕ)) → found key es ≡ Some p → length (without key es) + 1 ≡ length es
+length-without key p [] h = absurd (none-some p h)
+length-without key p (e ∷ es) h = by (is_key key e.0) h (length-without key p es)
+  where
+    by : (b : Bool) → cond b (Some e.1) (found key es) ≡ Some p → (found key es ≡ Some p → length (without key es) + 1 ≡ length es) → length (cond b es (e ∷ without key es)) + 1 ≡ length (e ∷ es)
+    by true g r = omega arith
+    by false g r = let q = r g in omega arith
+
+pub sized-without : (n : ℕ) (key : List ℕ) (es : List (List ℕ × ℕ)) → IsSized n es → IsSized n (without key es)
+sized-without n key [] h = tt
+sized-without n key (e ∷ es) h = by (is_key key e.0) (sized-without n key es h.1)
+  where
+    by : (b : Bool) → IsSized n (without key es) → IsSized n (cond b es (e ∷ without key es))
+    by true r = h.1
+    by false r = (h.0, r)
+
+pub sized-with : (n : ℕ) (key : List ℕ) (p : ℕ) (es : List (List ℕ × ℕ)) → length key ≡ n → IsSized n es → IsSized n (with_key key p es)
+sized-with n key p [] e h = (e, tt)
+sized-with n key p (x ∷ es) e h = (h.0, sized-with n key p es e h.1)

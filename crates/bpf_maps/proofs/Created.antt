@@ -1,0 +1,171 @@
+-- A map that is new.
+use Rattle.std.proofs.Common.{◌≡◌, ◌≢◌, ℕ, ◌+◌, ◌*◌, ◌/◌, ◌<◌, ◌≤◌, ◌||◌, Bool, true, false, if◌then◌else◌, nat_le, nat_lt, List, ◌++◌, length, take, drop, replicate, Option, Some, None, Ok, Err, is_some, sym, ap, subst, ◌∙◌, arith, get_or, set, count_by, ⊎_elim, true≢false}
+use Rattle.std.proofs.lemmas.Bool.{lt-leb, le-ltb}
+use Rattle.tagged_model.specs.declared.shape.MapShape.{MapShape}
+use Rattle.tagged_model.specs.declared.fault.MapFault.{MapFault}
+use Rattle.tagged_model.specs.declared.fault.MapFault.TheVariants.{NoSpace, Memory}
+use Rattle.tagged_model.specs.Shape.{area}
+use Rattle.slab.specs.Slab.{Slab}
+use Rattle.bpf_maps.specs.declared.part.TheConstants.{FRONT, AREA, MAPS, PART}
+use Rattle.bpf_maps.specs.declared.maps.Entry.{Entry}
+use Rattle.bpf_maps.specs.declared.maps.Maps.TheInside.{Inside}
+use Rattle.bpf_maps.specs.Places.{PlaceTable, new_places}
+use Rattle.bpf_maps.specs.Any.{places_of}
+use Rattle.bpf_maps.specs.Live.{Live, Tenant, live_at, live_or, offset, value_in, count, areas, create_fault, Creates, IsLaid, SameValues}
+use Rattle.bpf_maps.specs.InMaps.{live_of, seen, IsWhole}
+use Rattle.bpf_maps.proofs.Slots.{some_entry, live_by, none_by, others_by, same_or_other}
+use Rattle.bpf_maps.proofs.Totals.{times_some, count_entries}
+use Rattle.bpf_maps.proofs.InAreas.{area_fits, value_ends, value_inside, apart_areas}
+use Rattle.bpf_maps.proofs.Changes.{told_of}
+use Rattle.bpf_maps.proofs.Cleared.{front_same, before_same, after_same, zeros}
+use Rattle.bpf_maps.proofs.Whole.{laid, whole_added, offset_of}
+
+no_fault : (t : Tenant) (s : MapShape) → count t < MAPS → areas t + area s.value_size s.max_entries ≤ AREA → create_fault t s ≡ None
+no_fault t s few fits =
+    let a : nat_le MAPS (count t) ≡ false = lt-leb MAPS (count t) few in
+    let b : nat_lt AREA (areas t + area s.value_size s.max_entries) ≡ false = le-ltb AREA (areas t + area s.value_size s.max_entries) fits in
+    ap (λ (x : Bool). if x || nat_lt AREA (areas t + area s.value_size s.max_entries) then Some NoSpace else None) a
+    ∙ ap (λ (x : Bool). if x then Some NoSpace else None) b
+
+-- there is room for another map
+pub record IsRoom (a : Inside) (t : Tenant) (shape : MapShape) (number size : ℕ) : Type 0 where
+  pub view : seen a ≡ t
+  pub whole : IsWhole a
+  pub size_is : size ≡ area shape.value_size shape.max_entries
+  pub below : number < MAPS
+  pub free : get_or a.taken number false ≡ false
+  pub room : a.bytes + size ≤ AREA
+
+-- the entry is in a slot
+pub record IsAdded (a : Inside) (shape : MapShape) (number : ℕ) (slots : Slab Entry) (k : ℕ) (e : Entry) : Type 0 where
+  pub was : get_or a.slots.slots k None ≡ None
+  pub there : get_or slots.slots k None ≡ Some e
+  pub others : (j : ℕ) → j ≢ k → get_or slots.slots j None ≡ get_or a.slots.slots j None
+  pub capacity : slots.capacity ≡ a.slots.capacity
+  pub places : places_of e.map ≡ new_places shape
+  pub number_is : e.number ≡ number
+  pub stride : e.stride ≡ (shape.value_size + 7) / 8 * 8
+  pub holds : e.holds ≡ 1
+
+-- the fields with it
+abbrev pub with_new : Inside → ℕ → ℕ → Slab Entry → Inside
+with_new a number size slots = record a { slots = slots; taken = set a.taken number true; bytes = a.bytes + size }
+
+module _ (a : Inside) (t : Tenant) (shape : MapShape) (number size : ℕ) (r : IsRoom a t shape number size) where
+  view : seen a ≡ t
+  view = r.view
+
+  h : IsWhole a
+  h = r.whole
+
+  free : get_or a.taken number false ≡ false
+  free = r.free
+
+  few : count (seen a) < MAPS
+  few =
+      let l = h.all in
+      let c = h.counted in
+      let b = r.below in
+      let s = times_some a.taken number (omega arith) free in
+      omega arith
+
+  pub no_fault_here : create_fault t shape ≡ None
+  no_fault_here = ap (λ (u : Tenant). create_fault u shape) (sym view) ∙ no_fault (seen a) shape few (let s = h.sum in let z = r.size_is in let m = r.room in omega arith)
+
+  -- there is room for its entry
+  pub room_here : count_by is_some a.slots.slots + 1 ≤ a.slots.capacity
+  room_here = let f = few in let c = count_entries a.slots.slots in let r = h.room in omega arith
+
+  -- memory was refused
+  pub creates_none : Creates (create_fault t shape) t shape (Err Memory) (seen (record a { refused = true }))
+  creates_none =
+      subst (λ (o : Option MapFault). Creates o t shape (Err Memory) (seen (record a { refused = true }))) (sym no_fault_here)
+      (ap (λ (u : Tenant). let v : Tenant = record { slots = u.slots; refused = true } in v) view)
+
+  module _ (slots : Slab Entry) (k : ℕ) (e : Entry) (d : IsAdded a shape number slots k e) where
+    stride : e.stride ≡ (shape.value_size + 7) / 8 * 8
+    stride = d.stride
+
+    live_new : live_at (seen (with_new a number size slots)) k ≡ Some (live_of e)
+    live_new = live_by slots.slots slots.slots k e d.there
+
+    others_stay : (j : ℕ) → j ≢ k → live_at (seen (with_new a number size slots)) j ≡ live_at t j
+    others_stay j ne = others_by a.slots.slots slots.slots k d.others j ne ∙ ap (λ (u : Tenant). live_at u j) view
+
+    pub creates_one : Creates (create_fault t shape) t shape (Ok k) (seen (with_new a number size slots))
+    creates_one =
+        subst (λ (o : Option MapFault). Creates o t shape (Ok k) (seen (with_new a number size slots))) (sym no_fault_here)
+        (record {
+          was = ap (λ (u : Tenant). live_at u k) (sym view) ∙ none_by a.slots.slots a.slots.slots k d.was;
+          live = ap is_some live_new;
+          places = told_of (λ l. l.places) _ _ live_new ∙ d.places;
+          holds = told_of (λ l. l.holds) _ _ live_new ∙ d.holds;
+          others = others_stay;
+          refused = ap (λ (u : Tenant). u.refused) view;
+        })
+
+    value_of : (places_of e.map).shape.value_size ≡ shape.value_size
+    value_of = ap (λ (q : PlaceTable). q.shape.value_size) d.places
+
+    most_of : (places_of e.map).shape.max_entries ≡ shape.max_entries
+    most_of = ap (λ (q : PlaceTable). q.shape.max_entries) d.places
+
+    round : e.stride ≡ ((places_of e.map).shape.value_size + 7) / 8 * 8
+    round = stride ∙ ap (λ (v : ℕ). (v + 7) / 8 * 8) (sym value_of)
+
+    pub whole_one : IsWhole (with_new a number size slots)
+    whole_one =
+        let x : area (places_of e.map).shape.value_size (places_of e.map).shape.max_entries ≡ area shape.value_size shape.max_entries = ap (λ (q : PlaceTable). area q.shape.value_size q.shape.max_entries) d.places in
+        whole_added a (with_new a number size slots) k h d.others d.capacity e d.was d.there (let n = d.number_is in let b = r.below in omega arith) (ap (λ (n : ℕ). get_or a.taken n false) d.number_is ∙ free) round (let o = d.holds in omega arith) (ap (λ (n : ℕ). set a.taken n true) (sym d.number_is)) (let s = r.size_is in omega arith) r.room
+
+    pub laid_one : IsLaid (seen (with_new a number size slots))
+    laid_one = laid (with_new a number size slots) whole_one
+
+    -- ---- the bytes
+
+    module _ (bytes later : List ℕ) (long : length bytes ≡ PART) (written : later ≡ take (FRONT + number * AREA) bytes ++ (replicate size 0 ++ drop (FRONT + number * AREA + size) bytes)) where
+      enough : FRONT + number * AREA + size ≤ length bytes
+      enough = let m = less_areas number r.below in let f = area_fits shape in let s = r.size_is in omega arith
+        where
+          less_areas : (n : ℕ) → n < MAPS → FRONT + n * AREA + AREA ≤ PART
+          less_areas n l = omega arith
+
+      pub front_kept : take FRONT later ≡ take FRONT bytes
+      front_kept = ap (take FRONT) written ∙ front_same bytes (FRONT + number * AREA) size enough FRONT (omega arith)
+
+      pub cleared_one : (p : ℕ) → p < shape.max_entries → value_in later (seen (with_new a number size slots)) k p ≡ replicate shape.value_size 0
+      cleared_one p l =
+          let o : offset (live_of e) p ≡ FRONT + number * AREA + p * e.stride = offset_of e p ∙ ap (λ (n : ℕ). FRONT + n * AREA + p * e.stride) d.number_is in
+          ap (λ (x : Option Live). take (live_or x).places.shape.value_size (drop (offset (live_or x) p) later)) live_new
+          ∙ ap (λ (v : ℕ). take v (drop (offset (live_of e) p) later)) value_of
+          ∙ ap (λ (n : ℕ). take shape.value_size (drop n later)) o
+          ∙ ap (λ (b : List ℕ). take shape.value_size (drop (FRONT + number * AREA + p * e.stride) b)) written
+          ∙ zeros bytes (FRONT + number * AREA) size enough (p * e.stride) shape.value_size (let x = value_ends shape.value_size shape.max_entries e.stride stride p l in let z = r.size_is in omega arith)
+
+      kept_at : (j p : ℕ) (f : Entry) → get_or a.slots.slots j None ≡ Some f → p < (places_of f.map).shape.max_entries → take (places_of f.map).shape.value_size (drop (offset (live_of f) p) later) ≡ take (places_of f.map).shape.value_size (drop (offset (live_of f) p) bytes)
+      kept_at j p f at l =
+          let i = h.placed j f at in
+          let s = (places_of f.map).shape in
+          let o = offset_of f p in
+          let x = value_inside s.value_size s.max_entries f.stride i.stride (area_fits s) p l in
+          let y = area_fits shape in
+          let z = r.size_is in
+          let ne : f.number ≢ number = λ (q : f.number ≡ number). true≢false (sym i.marked ∙ ap (λ (n : ℕ). get_or a.taken n false) q ∙ free) in
+          ap (λ (b : List ℕ). take s.value_size (drop (offset (live_of f) p) b)) written
+          ∙ ⊎_elim
+          (λ w. before_same bytes (FRONT + number * AREA) size enough (offset (live_of f) p) s.value_size (omega arith))
+          (λ w. after_same bytes (FRONT + number * AREA) size enough (offset (live_of f) p) s.value_size (omega arith))
+          (apart_areas f.number number (p * f.stride) 0 s.value_size size ne x (omega arith))
+
+      pub values_kept : SameValues t bytes (seen (with_new a number size slots)) later
+      values_kept j p old_live new_live l =
+          same_or_other j k
+          (λ (s : j ≡ k). absurd (true≢false (sym old_live ∙ ap is_some (ap (live_at t) s ∙ ap (λ (u : Tenant). live_at u k) (sym view) ∙ none_by a.slots.slots a.slots.slots k d.was))))
+          (λ (ne : j ≢ k).
+          let f = some_entry a.slots.slots j (ap (λ (u : Tenant). is_some (live_at u j)) view ∙ old_live) in
+          let o : live_at t j ≡ Some (live_of f.0) = ap (λ (u : Tenant). live_at u j) (sym view) ∙ live_by a.slots.slots a.slots.slots j f.0 f.1 in
+          let n = others_stay j ne ∙ o in
+          let m = told_of (λ x. x.places.shape.max_entries) _ _ n in
+          ap (λ (x : Option Live). take (live_or x).places.shape.value_size (drop (offset (live_or x) p) later)) n
+          ∙ kept_at j p f.0 f.1 (omega arith)
+          ∙ ap (λ (x : Option Live). take (live_or x).places.shape.value_size (drop (offset (live_or x) p) bytes)) (sym o))

@@ -1,0 +1,161 @@
+-- The places stay whole: each is in use, or kept apart, or free.
+use Rattle.std.proofs.Common.{◌≡◌, ℕ, ◌+◌, ◌<◌, ◌==◌, Bool, true, false, List, [], ◌∷◌, ◌++◌, length, Option, Some, refl, sym, ap, subst, ◌∙◌, nat_lt, if◌then◌else◌, arith, vec_capacity, length-append}
+use Rattle.std.proofs.lemmas.Bool.{ltb-true}
+use Rattle.std.proofs.lemmas.Bool.Decides.{nat_tests}
+use Rattle.std.specs.Map.{values_of}
+use Rattle.tagged_model.specs.Table.{found, without, with_key, is_full}
+use Rattle.bpf_maps.specs.Places.{table_of, times, IsSound, IsSized, IsFree}
+use Rattle.bpf_maps.specs.Index.{bare, IsKept, shown}
+use Rattle.bpf_maps.specs.declared.hash_map.HashMapIx.TheInside.{Inside}
+use Rattle.bpf_maps.proofs.Counts.{times-append, times_self, values_of-append, one, times-without, length-without, sized-without, sized-with}
+use Rattle.bpf_maps.proofs.Bare.{length-bare}
+
+pub sound : (a : Inside) → IsKept a → IsSound (shown a)
+sound a h = record {
+  once = λ p. let e = h.once p in omega arith;
+  few = let e = h.all in let n = length-bare a.index.entries in omega arith;
+  sized = h.sized;
+}
+
+-- a key that is taken out
+module _ (a b : Inside) (h : IsKept a) (key : List ℕ) (place : ℕ) (at : found key (bare a.index.entries) ≡ Some place) (shape : b.shape ≡ a.shape) (index : bare b.index.entries ≡ without key (bare a.index.entries)) (kept : b.kept.items ≡ a.kept.items ++ place ∷ []) (cap : vec_capacity b.kept ≡ vec_capacity a.kept) (free : b.free ≡ a.free) where
+  max : b.shape.max_entries ≡ a.shape.max_entries
+  max = ap (λ s. s.max_entries) shape
+
+  free_items : b.free.items ≡ a.free.items
+  free_items = ap (λ v. v.items) free
+
+  once : (p : ℕ) → times p (values_of (bare b.index.entries)) + times p b.kept.items + times p b.free.items ≡ (if nat_lt p b.shape.max_entries then 1 else 0)
+  once p =
+      let es = bare a.index.entries in
+      let u : times p (values_of (without key es)) + one p (Some place) ≡ times p (values_of es) = subst (λ (o : Option ℕ). times p (values_of (without key es)) + one p o ≡ times p (values_of es)) at (times-without p key es) in
+      let v : times p (values_of (bare b.index.entries)) ≡ times p (values_of (without key es)) = ap (λ (x : List (List ℕ × ℕ)). times p (values_of x)) index in
+      let w : times p b.kept.items ≡ times p a.kept.items + times p (place ∷ []) = ap (times p) kept ∙ times-append p a.kept.items (place ∷ []) in
+      let f : times p b.free.items ≡ times p a.free.items = ap (times p) free_items in
+      let g : times p (values_of es) + times p a.kept.items + times p a.free.items ≡ (if nat_lt p b.shape.max_entries then 1 else 0) = h.once p ∙ ap (λ (m : ℕ). if nat_lt p m then 1 else 0) (sym max) in
+      omega arith
+
+  all : length b.index.entries + length b.kept.items + length b.free.items ≡ b.shape.max_entries
+  all =
+      let x : length (bare b.index.entries) ≡ length (without key (bare a.index.entries)) = ap length index in
+      let y = length-without key place (bare a.index.entries) at in
+      let z : length b.kept.items ≡ length a.kept.items + length (place ∷ []) = ap length kept ∙ length-append a.kept.items (place ∷ []) in
+      let f : length b.free.items ≡ length a.free.items = ap length free_items in
+      let la = length-bare a.index.entries in
+      let lb = length-bare b.index.entries in
+      let g = h.all in
+      let m = max in
+      omega arith
+
+  pub kept_by_remove : IsKept b
+  kept_by_remove = record {
+    kind = ap (λ s. s.kind) shape ∙ h.kind;
+    once = once;
+    all = all;
+    kept_room = let g = h.kept_room in let m = max in omega arith;
+    free_room = let g = h.free_room in let m = max in let f : vec_capacity b.free ≡ vec_capacity a.free = ap vec_capacity free in omega arith;
+    sized =
+        let k : a.shape.key_size ≡ b.shape.key_size = ap (λ s. s.key_size) (sym shape) in
+        subst (λ (x : List (List ℕ × ℕ)). IsSized b.shape.key_size x) (sym index) (subst (λ (n : ℕ). IsSized n (without key (bare a.index.entries))) k (sized-without a.shape.key_size key (bare a.index.entries) h.sized));
+  }
+
+-- the last free place is not in use
+module _ (a : Inside) (h : IsKept a) (place : ℕ) (rest : List ℕ) (last : a.free.items ≡ rest ++ place ∷ []) where
+  within_by : (b : Bool) (n k : ℕ) → nat_lt place k ≡ b → n + 1 ≡ (if b then 1 else 0) → place < k
+  within_by true n k t e = ltb-true place k t
+  within_by false n k t e = absurd (omega arith)
+
+  zero_by : (b : Bool) (n : ℕ) → n + 1 ≡ (if b then 1 else 0) → n ≡ 0
+  zero_by true n e = omega arith
+  zero_by false n e = absurd (omega arith)
+
+  counted : times place (values_of (bare a.index.entries)) + times place a.kept.items + times place rest + 1 ≡ (if nat_lt place a.shape.max_entries then 1 else 0)
+  counted =
+      let t : times place a.free.items ≡ times place rest + times place (place ∷ []) = ap (times place) last ∙ times-append place rest (place ∷ []) in
+      let s = times_self place in
+      let g = h.once place in
+      omega arith
+
+  pub is_free : IsFree (shown a) place
+  is_free =
+      let z = zero_by (nat_lt place a.shape.max_entries) _ counted in
+      record { within = within_by (nat_lt place a.shape.max_entries) _ a.shape.max_entries refl counted; entries = omega arith; kept = omega arith }
+
+  pub not_full : is_full (table_of (shown a)) ≡ false
+  not_full =
+      let l : length a.free.items ≡ length rest + length (place ∷ []) = ap length last ∙ length-append rest (place ∷ []) in
+      let n = length-bare a.index.entries in
+      let g = h.all in
+      let less : length (bare a.index.entries) + length a.kept.items < a.shape.max_entries = omega arith in
+      unequal (length (bare a.index.entries) + length a.kept.items) a.shape.max_entries less
+    where
+      unequal : (n m : ℕ) → n < m → (n == m) ≡ false
+      unequal n m l = grind (arith, nat_tests)
+
+  module _ (b : Inside) (key : List ℕ) (size : length key ≡ a.shape.key_size) (shape : b.shape ≡ a.shape) (index : bare b.index.entries ≡ with_key key place (bare a.index.entries)) (kept : b.kept ≡ a.kept) (free : b.free.items ≡ rest) (cap : vec_capacity b.free ≡ vec_capacity a.free) where
+    most : b.shape.max_entries ≡ a.shape.max_entries
+    most = ap (λ s. s.max_entries) shape
+
+    kept_items : b.kept.items ≡ a.kept.items
+    kept_items = ap (λ v. v.items) kept
+
+    once_added : (p : ℕ) → times p (values_of (bare b.index.entries)) + times p b.kept.items + times p b.free.items ≡ (if nat_lt p b.shape.max_entries then 1 else 0)
+    once_added p =
+        let es = bare a.index.entries in
+        let u : times p (values_of (bare b.index.entries)) ≡ times p (values_of es) + times p (place ∷ []) = ap (λ (x : List (List ℕ × ℕ)). times p (values_of x)) index ∙ ap (times p) (values_of-append es ((key, place) ∷ [])) ∙ times-append p (values_of es) (place ∷ []) in
+        let k : times p b.kept.items ≡ times p a.kept.items = ap (times p) kept_items in
+        let f : times p b.free.items ≡ times p rest = ap (times p) free in
+        let t : times p a.free.items ≡ times p rest + times p (place ∷ []) = ap (times p) last ∙ times-append p rest (place ∷ []) in
+        let g : times p (values_of es) + times p a.kept.items + times p a.free.items ≡ (if nat_lt p b.shape.max_entries then 1 else 0) = h.once p ∙ ap (λ (m : ℕ). if nat_lt p m then 1 else 0) (sym most) in
+        omega arith
+
+    all_added : length b.index.entries + length b.kept.items + length b.free.items ≡ b.shape.max_entries
+    all_added =
+        let added : List (List ℕ × ℕ) = (key, place) ∷ [] in
+        let x : length (bare b.index.entries) ≡ length (bare a.index.entries) + 1 = ap length index ∙ length-append (bare a.index.entries) added in
+        let k : length b.kept.items ≡ length a.kept.items = ap length kept_items in
+        let l : length a.free.items ≡ length rest + length (place ∷ []) = ap length last ∙ length-append rest (place ∷ []) in
+        let f : length b.free.items ≡ length rest = ap length free in
+        let la = length-bare a.index.entries in
+        let lb = length-bare b.index.entries in
+        let g = h.all in
+        let m = most in
+        omega arith
+
+    pub kept_by_add : IsKept b
+    kept_by_add = record {
+      kind = ap (λ s. s.kind) shape ∙ h.kind;
+      once = once_added;
+      all = all_added;
+      kept_room = let g = h.kept_room in let m = most in let f : vec_capacity b.kept ≡ vec_capacity a.kept = ap vec_capacity kept in omega arith;
+      free_room = let g = h.free_room in let m = most in omega arith;
+      sized =
+          let k : a.shape.key_size ≡ b.shape.key_size = ap (λ s. s.key_size) (sym shape) in
+          subst (λ (x : List (List ℕ × ℕ)). IsSized b.shape.key_size x) (sym index) (subst (λ (n : ℕ). IsSized n (with_key key place (bare a.index.entries))) k (sized-with a.shape.key_size key place (bare a.index.entries) size h.sized));
+    }
+
+-- a place that was kept apart is free again
+pub kept_by_free : (a b : Inside) (place : ℕ) → IsKept a → b.shape ≡ a.shape → b.index ≡ a.index → a.kept.items ≡ b.kept.items ++ place ∷ [] → b.free.items ≡ a.free.items ++ place ∷ [] → vec_capacity b.kept ≡ vec_capacity a.kept → vec_capacity b.free ≡ vec_capacity a.free → IsKept b
+kept_by_free a b place h shape index kept free ck cf =
+    let max : b.shape.max_entries ≡ a.shape.max_entries = ap (λ s. s.max_entries) shape in
+    let es : bare b.index.entries ≡ bare a.index.entries = ap (λ m. bare m.entries) index in
+    record {
+      kind = ap (λ s. s.kind) shape ∙ h.kind;
+      once = λ p.
+          let u : times p (values_of (bare b.index.entries)) ≡ times p (values_of (bare a.index.entries)) = ap (λ (x : List (List ℕ × ℕ)). times p (values_of x)) es in
+          let k : times p a.kept.items ≡ times p b.kept.items + times p (place ∷ []) = ap (times p) kept ∙ times-append p b.kept.items (place ∷ []) in
+          let f : times p b.free.items ≡ times p a.free.items + times p (place ∷ []) = ap (times p) free ∙ times-append p a.free.items (place ∷ []) in
+          let g : times p (values_of (bare a.index.entries)) + times p a.kept.items + times p a.free.items ≡ (if nat_lt p b.shape.max_entries then 1 else 0) = h.once p ∙ ap (λ (m : ℕ). if nat_lt p m then 1 else 0) (sym max) in
+          omega arith;
+      all =
+          let x : length b.index.entries ≡ length a.index.entries = ap (λ m. length m.entries) index in
+          let k : length a.kept.items ≡ length b.kept.items + length (place ∷ []) = ap length kept ∙ length-append b.kept.items (place ∷ []) in
+          let f : length b.free.items ≡ length a.free.items + length (place ∷ []) = ap length free ∙ length-append a.free.items (place ∷ []) in
+          let g = h.all in
+          omega arith;
+      kept_room = let g = h.kept_room in omega arith;
+      free_room = let g = h.free_room in omega arith;
+      sized =
+          let k : a.shape.key_size ≡ b.shape.key_size = ap (λ s. s.key_size) (sym shape) in
+          subst (λ (x : List (List ℕ × ℕ)). IsSized b.shape.key_size x) (sym es) (subst (λ (n : ℕ). IsSized n (bare a.index.entries)) k h.sized);
+    }

@@ -1,0 +1,72 @@
+-- A live map among the others.
+use Rattle.std.proofs.Common.{◌≡◌, ◌≢◌, ℕ, zero, suc, ◌+◌, ◌<◌, List, [], ◌∷◌, length, Option, Some, None, option_map, refl, sym, ap, ◌∙◌, get_or, set, arith, get_or-set_same, get_or-set_other, Bool, true, false, IsSome, is_some, nat_eq, eqb-true, eq-eqb, true≢false, ◌*◌}
+use Rattle.std.proofs.lemmas.Option.{none-some, same_Some}
+use Rattle.bpf_maps.specs.declared.maps.Entry.{Entry}
+use Rattle.bpf_maps.specs.Live.{Live, Tenant, live_at, offset, SameAreas}
+use Rattle.bpf_maps.specs.InMaps.{live_of, lives}
+
+pub at_lives : (xs : List (Option Entry)) (k : ℕ) → get_or (lives xs) k None ≡ option_map live_of (get_or xs k None)
+at_lives [] k = refl
+at_lives (x ∷ xs) zero = refl
+at_lives (x ∷ xs) (suc k) = at_lives xs k
+
+pub within : (xs : List (Option Entry)) (k : ℕ) (e : Entry) → get_or xs k None ≡ Some e → k < length xs
+within [] k e h = absurd (none-some e h)
+within (x ∷ xs) zero e h = omega arith
+within (x ∷ xs) (suc k) e h = let r = within xs k e h in omega arith
+
+-- the entry of a live map
+pub entry_of : (xs : List (Option Entry)) (k : ℕ) (l : Live) → get_or (lives xs) k None ≡ Some l → (e : Entry) × (get_or xs k None ≡ Some e) × (live_of e ≡ l)
+entry_of xs k l h = by (get_or xs k None) refl
+  where
+    by : (o : Option Entry) → get_or xs k None ≡ o → (e : Entry) × (get_or xs k None ≡ Some e) × (live_of e ≡ l)
+    by None e = absurd (none-some l (sym (ap (option_map live_of) e) ∙ sym (at_lives xs k) ∙ h))
+    by (Some x) e = (x, e, same_Some (live_of x) l (sym (ap (option_map live_of) e) ∙ sym (at_lives xs k) ∙ h))
+
+pub some_entry : (xs : List (Option Entry)) (k : ℕ) → IsSome (get_or (lives xs) k None) → (e : Entry) × (get_or xs k None ≡ Some e)
+some_entry xs k h = by (get_or xs k None) refl
+  where
+    by : (o : Option Entry) → get_or xs k None ≡ o → (e : Entry) × (get_or xs k None ≡ Some e)
+    by None e = absurd (true≢false (sym h ∙ ap is_some (at_lives xs k ∙ ap (option_map live_of) e)))
+    by (Some x) e = (x, e)
+
+module _ (xs ys : List (Option Entry)) (k : ℕ) where
+  pub live_by : (e : Entry) → get_or xs k None ≡ Some e → get_or (lives xs) k None ≡ Some (live_of e)
+  live_by e at = at_lives xs k ∙ ap (option_map live_of) at
+
+  pub none_by : get_or xs k None ≡ None → get_or (lives xs) k None ≡ None
+  none_by at = at_lives xs k ∙ ap (option_map live_of) at
+
+  -- the other slots
+  pub others_by : ((l : ℕ) → l ≢ k → get_or ys l None ≡ get_or xs l None) → (l : ℕ) → l ≢ k → get_or (lives ys) l None ≡ get_or (lives xs) l None
+  others_by h l ne = at_lives ys l ∙ ap (option_map live_of) (h l ne) ∙ sym (at_lives xs l)
+
+module _ (xs : List (Option Entry)) (k : ℕ) (old new : Entry) (at : get_or xs k None ≡ Some old) where
+  pub set_here : get_or (set xs k (Some new)) k None ≡ Some new
+  set_here = get_or-set_same xs k (Some new) None (within xs k old at)
+
+  pub set_others : (l : ℕ) → l ≢ k → get_or (set xs k (Some new)) l None ≡ get_or xs l None
+  set_others l ne = get_or-set_other xs k l (Some new) None ne
+
+pub offset_same : (l m : Live) (p : ℕ) → l.start ≡ m.start → l.stride ≡ m.stride → offset l p ≡ offset m p
+unfolding offset
+offset_same l m p e f = λ i. e i + p * f i
+
+-- the same key, or another
+pub same_or_other : {P : Type 0} (j k : ℕ) → (j ≡ k → P) → (j ≢ k → P) → P
+same_or_other {P} j k f g = by (nat_eq j k) refl
+  where
+    by : (b : Bool) → nat_eq j k ≡ b → P
+    by true e = f (eqb-true j k e)
+    by false e = g (λ q. true≢false (sym (eq-eqb j k q) ∙ e))
+
+pub same_some : {A : Type 0} (o : Option A) (l m : A) → o ≡ Some l → o ≡ Some m → l ≡ m
+same_some o l m e f = same_Some l m (sym e ∙ f)
+
+-- one map that keeps its shape and its area
+pub one_changed : (old new : Tenant) (k : ℕ) (a b : Live) → live_at old k ≡ Some a → live_at new k ≡ Some b → b.places.shape ≡ a.places.shape → b.start ≡ a.start → b.stride ≡ a.stride → ((j : ℕ) → j ≢ k → live_at new j ≡ live_at old j) → SameAreas old new
+one_changed old new k a b at bt shape start stride others j l h =
+    same_or_other j k
+    (λ (q : j ≡ k). let is : l ≡ b = same_some (live_at new k) l b (ap (live_at new) (sym q) ∙ h) bt in
+    (a, ap (live_at old) q ∙ at, ap (λ (x : Live). x.places.shape) is ∙ shape, ap (λ (x : Live). x.start) is ∙ start, ap (λ (x : Live). x.stride) is ∙ stride))
+    (λ (ne : j ≢ k). (l, sym (others j ne) ∙ h, refl, refl, refl))

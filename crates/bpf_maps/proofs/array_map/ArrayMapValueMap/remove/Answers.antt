@@ -1,0 +1,10 @@
+use Rattle.std.proofs.Common.{Err, refl, sym, subst}
+use Rattle.tagged_model.specs.declared.shape.MapKind.{MapKind}
+use Rattle.tagged_model.specs.declared.fault.MapFault.TheVariants.{Invalid}
+use Rattle.tagged_model.specs.Table.{removal_of, look_up}
+use Rattle.bpf_maps.specs.Places.{table_of, Removes}
+use Rattle.bpf_maps.proofs.array_map.ArrayMapValueMap.remove.Goals as goal
+
+pub returns-clause-removed : goal.returns-clause-removed
+returns-clause-removed c =
+    subst (λ (k : MapKind). Removes (removal_of k (look_up (table_of c.args.self.now) c.args._key.now)) c.args._key.now c.args.self.now (Err Invalid) c.args.self.now) (sym c.is_array.ensures.kind) (refl, refl)

@@ -1,0 +1,14 @@
+use Rattle.std.proofs.Common.{◌≡◌, vec_len}
+use Rattle.bpf_maps.specs.Index.{bare, IsKept}
+use Rattle.bpf_maps.proofs.hash_map.HashMapIxValueMap.end_run.Given as goal
+
+-- the places stay whole, and the keys with them
+abbrev pub invariant-loop-place : goal.invariant-loop-place
+invariant-loop-place l = record {
+  whole : IsKept l.self-inside;
+  shape : l.self-inside.shape ≡ l.fn.self.shape;
+  entries : bare l.self-inside.index.entries ≡ l.fn.self.entries;
+}
+
+abbrev pub decreases-loop-place : goal.decreases-loop-place
+decreases-loop-place l = vec_len l.self-inside.kept

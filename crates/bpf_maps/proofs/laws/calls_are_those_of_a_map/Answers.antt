@@ -1,0 +1,11 @@
+use Rattle.std.proofs.Common.{ℕ, [], ◌∷◌, refl, ap, length-append}
+use Rattle.tagged_model.specs.Table.{Table, without}
+use Rattle.bpf_maps.proofs.laws.calls_are_those_of_a_map.Goals as goal
+
+pub returns : goal.returns
+returns c = record {
+  new = λ shape. refl;
+  update = λ t key place. refl;
+  delete = λ t key place. ap (λ (n : ℕ). let m : Table ℕ = record { shape = t.shape; entries = without key t.entries; deleted = n } in m) (length-append t.kept (place ∷ []));
+  end = λ t. refl;
+}

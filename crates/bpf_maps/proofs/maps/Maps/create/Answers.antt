@@ -1,0 +1,71 @@
+use Rattle.std.proofs.Common.{◌≡◌, ◌+◌, ◌*◌, ◌/◌, true, refl, subst, arith}
+use Rattle.bpf_maps.specs.Live.{IsLaid}
+use Rattle.bpf_maps.specs.declared.maps.Entry.{Entry}
+use Rattle.bpf_maps.proofs.Created.{IsRoom, IsAdded, room_here, creates_none, creates_one, whole_one, laid_one, front_kept, cleared_one, values_kept}
+use Rattle.bpf_maps.proofs.Whole.{laid, whole_refused}
+use Rattle.bpf_maps.proofs.maps.Maps.create.Goals as goal
+
+pub returns-in_default-clause-laid : goal.returns-in_default-clause-laid
+returns-in_default-clause-laid c = subst IsLaid c.self.view_is (laid c.self.inside c.self.invariant)
+
+-- ---- memory was refused
+
+pub returns-in_default-new-clause-created : goal.returns-in_default-new-clause-created
+returns-in_default-new-clause-created c =
+    creates_none c.self.inside c.args.self.now c.args.shape c.in-Some.number c.area-size.result
+    (record { view = c.self.view_is; whole = c.self.invariant; size_is = c.area-size.ensures.value; below = c.in-Some.ensures.free.0; free = c.in-Some.ensures.free.1; room = c.in-Some.ensures.room })
+
+pub returns-in_default-new-clause-laid : goal.returns-in_default-new-clause-laid
+returns-in_default-new-clause-laid c = laid _ (whole_refused c.self.inside true c.self.invariant)
+
+-- ---- the map is made
+
+pub insert_reserved-key-requires : goal.insert_reserved-key-requires
+insert_reserved-key-requires c =
+    room_here c.self.inside c.args.self.now c.args.shape c.in-Some.number c.area-size.result
+    (record { view = c.self.view_is; whole = c.self.invariant; size_is = c.area-size.ensures.value; below = c.in-Some.ensures.free.0; free = c.in-Some.ensures.free.1; room = c.in-Some.ensures.room })
+
+module _ (c : goal.After-self-2-1) where
+  room : IsRoom c.self.inside c.args.self.now c.args.shape c.in-Some.number c.area-size.result
+  room = record { view = c.self.view_is; whole = c.self.invariant; size_is = c.area-size.ensures.value; below = c.in-Some.ensures.free.0; free = c.in-Some.ensures.free.1; room = c.in-Some.ensures.room }
+
+  abbrev entry : Entry
+  entry = record { map = c.in-Ok.map; number = c.in-Some.number; stride = c.next_multiple_of.result; holds = 1 }
+
+  stride : c.next_multiple_of.result ≡ (c.args.shape.value_size + 7) / 8 * 8
+  stride =
+      let l = c.next_multiple_of.ensures.lower_bound in
+      let u = c.next_multiple_of.ensures.upper_bound in
+      let m = c.next_multiple_of.ensures.multiple in
+      omega arith
+
+  added : IsAdded c.self.inside c.args.shape c.in-Some.number c.insert_reserved-key.new.self c.insert_reserved-key.result entry
+  added = record {
+    was = c.insert_reserved-key.ensures.was_vacant;
+    there = c.insert_reserved-key.ensures.updates.changed;
+    others = c.insert_reserved-key.ensures.updates.others;
+    capacity = c.insert_reserved-key.ensures.capacity;
+    places = c.in-Ok.ensures;
+    number_is = refl;
+    stride = stride;
+    holds = refl;
+  }
+
+pub invariant_of-self-2 : goal.invariant_of-self-2
+invariant_of-self-2 c = whole_one c.self.inside c.args.self.now c.args.shape c.in-Some.number c.area-size.result (room c) c.insert_reserved-key.new.self c.insert_reserved-key.result (entry c) (added c)
+
+pub returns-clause-created : goal.returns-clause-created
+returns-clause-created c = creates_one c.self.inside c.args.self.now c.args.shape c.in-Some.number c.area-size.result (room c) c.insert_reserved-key.new.self c.insert_reserved-key.result (entry c) (added c)
+
+pub returns-clause-laid : goal.returns-clause-laid
+returns-clause-laid c = laid_one c.self.inside c.args.self.now c.args.shape c.in-Some.number c.area-size.result (room c) c.insert_reserved-key.new.self c.insert_reserved-key.result (entry c) (added c)
+
+pub returns-clause-cleared : goal.returns-clause-cleared
+returns-clause-cleared c =
+    λ array p l. cleared_one c.self.inside c.args.self.now c.args.shape c.in-Some.number c.area-size.result (room c) c.insert_reserved-key.new.self c.insert_reserved-key.result (entry c) (added c) c.args.part.now c.clear.new.part c.requires c.clear.ensures p l
+
+pub returns-clause-values : goal.returns-clause-values
+returns-clause-values c = values_kept c.self.inside c.args.self.now c.args.shape c.in-Some.number c.area-size.result (room c) c.insert_reserved-key.new.self c.insert_reserved-key.result (entry c) (added c) c.args.part.now c.clear.new.part c.requires c.clear.ensures
+
+pub returns-clause-front : goal.returns-clause-front
+returns-clause-front c = front_kept c.self.inside c.args.self.now c.args.shape c.in-Some.number c.area-size.result (room c) c.insert_reserved-key.new.self c.insert_reserved-key.result (entry c) (added c) c.args.part.now c.clear.new.part c.requires c.clear.ensures

@@ -1,0 +1,43 @@
+use Rattle.std.proofs.Common.{◌≡◌, refl, ap, sym, ◌∙◌, ◌+◌, arith, option_map, Some}
+use Rattle.bpf_maps.specs.Live.{live_at, one_more}
+use Rattle.bpf_maps.specs.InMaps.{live_of, seen}
+use Rattle.bpf_maps.specs.declared.maps.Entry.{Entry}
+use Rattle.bpf_maps.proofs.Changes.{IsChange, with_entry, live_old, live_new, others_stay, whole_stays, laid_stays}
+use Rattle.bpf_maps.proofs.maps.Maps.hold.Goals as goal
+
+module _ (c : goal.After-self-1) where
+  abbrev old : Entry
+  old = c.index_mut-entry.result.now
+
+  abbrev new : Entry
+  new = record { map = old.map; number = old.number; stride = old.stride; holds = old.holds + 1 }
+
+  change : IsChange c.self.inside c.args.self.now c.map.inside.number c.args.map old new
+  change = record {
+    view = c.self.view_is;
+    whole = c.self.invariant;
+    same = c.map.view_is;
+    here = c.index_mut-entry.ensures.value;
+    number = refl;
+    stride = refl;
+    shape = refl;
+    held = omega arith;
+  }
+
+  was : live_at c.args.self.now c.args.map ≡ Some (live_of old)
+  was = live_old c.self.inside c.args.self.now c.map.inside.number c.args.map old new c.self.inside.refused change
+
+  is : live_at (seen (with_entry c.self.inside c.map.inside.number new c.self.inside.refused)) c.args.map ≡ Some (live_of new)
+  is = live_new c.self.inside c.args.self.now c.map.inside.number c.args.map old new c.self.inside.refused change
+
+pub invariant_of-self : goal.invariant_of-self
+invariant_of-self c = whole_stays c.self.inside c.args.self.now c.map.inside.number c.args.map (old c) (new c) c.self.inside.refused (change c)
+
+pub returns-clause-more : goal.returns-clause-more
+returns-clause-more c = is c ∙ sym (ap (option_map one_more) (was c))
+
+pub returns-clause-others : goal.returns-clause-others
+returns-clause-others c = others_stay c.self.inside c.args.self.now c.map.inside.number c.args.map (old c) (new c) c.self.inside.refused (change c)
+
+pub returns-clause-laid : goal.returns-clause-laid
+returns-clause-laid c = laid_stays c.self.inside c.args.self.now c.map.inside.number c.args.map (old c) (new c) c.self.inside.refused (change c)

@@ -1,0 +1,23 @@
+use Rattle.std.proofs.Common.{◌≡◌, ℕ, List, [], Option, Some, None, refl, sym, ap, ◌∙◌, arith, get_or}
+use Rattle.std.proofs.lemmas.Option.{none-some}
+use Rattle.bpf_maps.specs.declared.maps.Entry.{Entry}
+use Rattle.bpf_maps.specs.Live.{total, area_of}
+use Rattle.bpf_maps.specs.InMaps.{lives}
+use Rattle.bpf_maps.proofs.maps.Maps.new.Goals as goal
+
+empty : (xs : List (Option Entry)) (k : ℕ) (e : Entry) → xs ≡ [] → get_or xs k None ≡ Some e → ⊥
+empty xs k e h at = none-some e (sym (ap (λ (l : List (Option Entry)). get_or l k None) h) ∙ at)
+
+pub invariant_of-result : goal.invariant_of-result
+unfolding total
+invariant_of-result c =
+    let h = c.in_ok-with_capacity.ensures.empty in
+    record {
+      placed = λ k e at. absurd (empty _ k e h at);
+      apart = λ k j e f at bt same. absurd (empty _ k e h at);
+      all = refl;
+      counted = ap (λ (xs : List (Option Entry)). total (λ l. 1) (lives xs)) (sym h);
+      room = c.in_ok-with_capacity.ensures.capacity;
+      sum = ap (λ (xs : List (Option Entry)). total area_of (lives xs)) (sym h);
+      few = omega arith;
+    }

@@ -1,0 +1,91 @@
+use Rattle.std.proofs.Common.{◌≡◌, ◌-◌, Some, refl, ap, ◌∙◌, option_map, arith}
+use Rattle.tagged_model.specs.Shape.{area}
+use Rattle.tagged_model.specs.declared.shape.MapShape.{MapShape}
+use Rattle.bpf_maps.specs.Any.{places_of}
+use Rattle.bpf_maps.specs.Live.{live_at, without_area}
+use Rattle.bpf_maps.specs.InMaps.{live_of, seen}
+use Rattle.bpf_maps.specs.declared.maps.Entry.{Entry}
+use Rattle.bpf_maps.proofs.Changes.{IsChange, with_entry, live_old, live_new, others_stay, areas_stay, whole_stays, laid_stays, values_along, less_held}
+use Rattle.bpf_maps.proofs.Released.{IsTaken, without_entry, below_maps, size_most, whole_gone, laid_gone, less_gone, others_gone, areas_gone}
+use Rattle.bpf_maps.proofs.maps.Maps.release.Goals as goal
+
+-- ---- one hold less
+
+module _ (c : goal.After-self-1) where
+  abbrev old : Entry
+  old = c.index_mut-entry.result.now
+
+  abbrev new : Entry
+  new = record { map = old.map; number = old.number; stride = old.stride; holds = old.holds - 1 }
+
+  change : IsChange c.self.inside c.args.self.now c.map.inside.number c.args.map old new
+  change = record {
+    view = c.self.view_is;
+    whole = c.self.invariant;
+    same = c.map.view_is;
+    here = c.index_mut-entry.ensures.value;
+    number = refl;
+    stride = refl;
+    shape = refl;
+    held = let m = c.if-entry-gt-LAST.true in omega arith;
+  }
+
+  was : live_at c.args.self.now c.args.map ≡ Some (live_of old)
+  was = live_old c.self.inside c.args.self.now c.map.inside.number c.args.map old new c.self.inside.refused change
+
+  is : live_at (seen (with_entry c.self.inside c.map.inside.number new c.self.inside.refused)) c.args.map ≡ Some (live_of new)
+  is = live_new c.self.inside c.args.self.now c.map.inside.number c.args.map old new c.self.inside.refused change
+
+pub invariant_of-self : goal.invariant_of-self
+invariant_of-self c = whole_stays c.self.inside c.args.self.now c.map.inside.number c.args.map (old c) (new c) c.self.inside.refused (change c)
+
+pub returns-then-entry-gt-LAST-clause-less : goal.returns-then-entry-gt-LAST-clause-less
+returns-then-entry-gt-LAST-clause-less c = less_held c.args.self.now (seen (with_entry c.self.inside c.map.inside.number (new c) c.self.inside.refused)) c.args.map (live_of (old c)) (live_of (new c)) (was c) (is c) refl refl c.if-entry-gt-LAST.true
+
+pub returns-then-entry-gt-LAST-clause-others : goal.returns-then-entry-gt-LAST-clause-others
+returns-then-entry-gt-LAST-clause-others c = λ other ne. ap (option_map without_area) (others_stay c.self.inside c.args.self.now c.map.inside.number c.args.map (old c) (new c) c.self.inside.refused (change c) other ne)
+
+pub returns-then-entry-gt-LAST-clause-laid : goal.returns-then-entry-gt-LAST-clause-laid
+returns-then-entry-gt-LAST-clause-laid c = laid_stays c.self.inside c.args.self.now c.map.inside.number c.args.map (old c) (new c) c.self.inside.refused (change c)
+
+pub returns-then-entry-gt-LAST-clause-values : goal.returns-then-entry-gt-LAST-clause-values
+returns-then-entry-gt-LAST-clause-values c =
+    values_along c.args.self.now (seen (with_entry c.self.inside c.map.inside.number (new c) c.self.inside.refused)) c.args.part.now
+    (areas_stay c.self.inside c.args.self.now c.map.inside.number c.args.map (old c) (new c) c.self.inside.refused (change c))
+
+-- ---- the last
+
+pub bounds-self-inside-entry : goal.bounds-self-inside-entry
+bounds-self-inside-entry c =
+    below_maps c.self.inside c.args.self.now c.map.inside.number c.args.map c.index_mut-entry.result.now c.remove-entry.result
+    (record { view = c.self.view_is; whole = c.self.invariant; same = c.map.view_is; here = c.index_mut-entry.ensures.value; value = c.remove-entry.ensures.value })
+
+pub overflow_sub-self : goal.overflow_sub-self
+overflow_sub-self c =
+    size_most c.self.inside c.args.self.now c.map.inside.number c.args.map c.index_mut-entry.result.now c.remove-entry.result
+    (record { view = c.self.view_is; whole = c.self.invariant; same = c.map.view_is; here = c.index_mut-entry.ensures.value; value = c.remove-entry.ensures.value })
+    c.area.result (c.area.ensures.value ∙ ap (λ (s : MapShape). area s.value_size s.max_entries) c.shape.ensures)
+
+module _ (c : goal.Joined-entry) where
+  gone : IsTaken c.self.inside c.args.self.now c.map.inside.number c.args.map c.index_mut-entry.result.now c.remove-entry.result
+  gone = record { view = c.self.view_is; whole = c.self.invariant; same = c.map.view_is; here = c.index_mut-entry.ensures.value; value = c.remove-entry.ensures.value }
+
+  size : c.area.result ≡ area (places_of c.remove-entry.result.map).shape.value_size (places_of c.remove-entry.result.map).shape.max_entries
+  size = c.area.ensures.value ∙ ap (λ (s : MapShape). area s.value_size s.max_entries) c.shape.ensures
+
+pub invariant_of-self-2 : goal.invariant_of-self-2
+invariant_of-self-2 c = whole_gone c.self.inside c.args.self.now c.map.inside.number c.args.map c.index_mut-entry.result.now c.remove-entry.result (gone c) c.area.result (size c) c.remove-entry.new.self c.remove-entry.ensures.updates.changed c.remove-entry.ensures.updates.others c.remove-entry.ensures.capacity
+
+pub returns-clause-less : goal.returns-clause-less
+returns-clause-less c = less_gone c.self.inside c.args.self.now c.map.inside.number c.args.map c.index_mut-entry.result.now c.remove-entry.result (gone c) c.area.result (size c) c.remove-entry.new.self c.remove-entry.ensures.updates.changed c.remove-entry.ensures.updates.others c.remove-entry.ensures.capacity c.if-entry-gt-LAST.false
+
+pub returns-clause-others : goal.returns-clause-others
+returns-clause-others c = others_gone c.self.inside c.args.self.now c.map.inside.number c.args.map c.index_mut-entry.result.now c.remove-entry.result (gone c) c.area.result (size c) c.remove-entry.new.self c.remove-entry.ensures.updates.changed c.remove-entry.ensures.updates.others c.remove-entry.ensures.capacity
+
+pub returns-clause-laid : goal.returns-clause-laid
+returns-clause-laid c = laid_gone c.self.inside c.args.self.now c.map.inside.number c.args.map c.index_mut-entry.result.now c.remove-entry.result (gone c) c.area.result (size c) c.remove-entry.new.self c.remove-entry.ensures.updates.changed c.remove-entry.ensures.updates.others c.remove-entry.ensures.capacity
+
+pub returns-clause-values : goal.returns-clause-values
+returns-clause-values c =
+    values_along c.args.self.now (seen (without_entry c.self.inside c.remove-entry.result c.area.result c.remove-entry.new.self)) c.args.part.now
+    (areas_gone c.self.inside c.args.self.now c.map.inside.number c.args.map c.index_mut-entry.result.now c.remove-entry.result (gone c) c.area.result (size c) c.remove-entry.new.self c.remove-entry.ensures.updates.changed c.remove-entry.ensures.updates.others c.remove-entry.ensures.capacity)

@@ -1,0 +1,6 @@
+pub mod Places
+pub mod Index
+pub mod Laws
+pub mod Any
+pub mod Live
+pub mod InMaps

@@ -1,0 +1,154 @@
+-- A tenant's live maps, and where their values lie in the tenant's part.
+use Rattle.std.specs.Prelude.{◌≡◌, ◌≢◌, ℕ, ◌+◌, ◌-◌, ◌*◌, ◌%◌, ◌<◌, ◌≤◌, ◌⊎◌, Bool, true, false, ◌||◌, nat_le, nat_lt, if◌then◌else◌, List, [], ◌∷◌, take, drop, Option, Some, None, IsSome, option_map, Result, Ok, Err, slice_index_or, refl}
+use Rattle.tagged_model.specs.declared.shape.MapKind.TheVariants.{Hash}
+use Rattle.tagged_model.specs.declared.shape.MapShape.{MapShape}
+use Rattle.tagged_model.specs.declared.fault.MapFault.{MapFault}
+use Rattle.tagged_model.specs.declared.fault.MapFault.TheVariants.{NoEntry, TooBig, Memory, Exists, Invalid, NoSpace}
+use Rattle.tagged_model.specs.Shape.{area}
+use Rattle.bpf_maps.specs.declared.part.TheConstants.{FRONT, AREA, MAPS, PART}
+use Rattle.bpf_maps.specs.Places.{PlaceTable, new_places}
+
+-- a live map, where its area begins in the part, how far its values are from one another, and how many hold it
+pub record Live : Type 0 where
+  pub places : PlaceTable
+  pub start : ℕ
+  pub stride : ℕ
+  pub holds : ℕ
+
+-- the live maps by their keys, and whether one was ever refused for memory
+pub record Tenant : Type 0 where
+  pub slots : List (Option Live)
+  pub refused : Bool
+
+abbrev pub live_at : Tenant → ℕ → Option Live
+live_at t k = slice_index_or t.slots k None
+
+-- what is said of the map under a key. Where none is live, it says nothing
+abbrev pub no_live : Live
+no_live = record { places = new_places (record { kind = Hash; key_size = 1; value_size = 1; max_entries = 1; listed = refl }); start = 0; stride = 0; holds = 0 }
+
+abbrev pub live_or : Option Live → Live
+live_or None = no_live
+live_or (Some l) = l
+
+abbrev pub places_at : Tenant → ℕ → PlaceTable
+places_at t k = (live_or (live_at t k)).places
+
+abbrev pub shape_at : Tenant → ℕ → MapShape
+shape_at t k = (places_at t k).shape
+
+abbrev pub holds_at : Tenant → ℕ → ℕ
+holds_at t k = (live_or (live_at t k)).holds
+
+-- ---- where the values lie
+
+-- where a place of a live map begins
+unfoldable pub offset : Live → ℕ → ℕ
+offset l p = l.start + p * l.stride
+
+abbrev pub offset_at : Tenant → ℕ → ℕ → ℕ
+offset_at t k p = offset (live_or (live_at t k)) p
+
+-- the bytes of a part at a place of the map under a key
+abbrev pub value_in : List ℕ → Tenant → ℕ → ℕ → List ℕ
+value_in part t k p = take (shape_at t k).value_size (drop (offset_at t k p) part)
+
+-- so many bytes that begin there lie in a part behind the stack and the context, and begin at a multiple of eight
+pub record IsInside (at size : ℕ) : Type 0 where
+  pub behind : FRONT ≤ at
+  pub within : at + size ≤ PART
+  pub aligned : at % 8 ≡ 0
+
+-- the values of all live maps lie inside, and apart from one another
+pub record IsLaid (t : Tenant) : Type 0 where
+  pub inside : (k p : ℕ) (l : Live) → live_at t k ≡ Some l → p < l.places.shape.max_entries → IsInside (offset l p) l.places.shape.value_size
+  pub apart : (k p j q : ℕ) (l m : Live) → live_at t k ≡ Some l → live_at t j ≡ Some m → p < l.places.shape.max_entries → q < m.places.shape.max_entries → (k ≡ j → p ≢ q)
+      → (offset l p + l.places.shape.value_size ≤ offset m q) ⊎ (offset m q + m.places.shape.value_size ≤ offset l p)
+
+-- the same maps with the same areas, in which only keys may differ
+abbrev pub SameAreas : Tenant → Tenant → Type 0
+SameAreas old new = (k : ℕ) (l : Live) → live_at new k ≡ Some l → (m : Live) × (live_at old k ≡ Some m) × (l.places.shape ≡ m.places.shape) × (l.start ≡ m.start) × (l.stride ≡ m.stride)
+
+-- a map that was live, and still is, has the bytes that it had
+abbrev pub SameValues : Tenant → List ℕ → Tenant → List ℕ → Type 0
+SameValues old bytes new later = (k p : ℕ) → IsSome (live_at old k) → IsSome (live_at new k) → p < (shape_at new k).max_entries → value_in later new k p ≡ value_in bytes old k p
+
+-- ---- how much room they take
+
+-- a number of the map in a slot, and nothing of an empty slot
+abbrev pub weight : (Live → ℕ) → Option Live → ℕ
+weight f None = 0
+weight f (Some l) = f l
+
+unfoldable pub total : (Live → ℕ) → List (Option Live) → ℕ
+total f [] = 0
+total f (x ∷ xs) = weight f x + total f xs
+
+abbrev pub area_of : Live → ℕ
+area_of l = area l.places.shape.value_size l.places.shape.max_entries
+
+-- how many maps are live
+abbrev pub count : Tenant → ℕ
+count t = total (λ l. 1) t.slots
+
+-- the bytes of all areas
+abbrev pub areas : Tenant → ℕ
+areas t = total area_of t.slots
+
+-- ---- a new map
+
+-- there are too many maps, or their values take too many bytes
+abbrev pub create_fault : Tenant → MapShape → Option MapFault
+create_fault t shape = if nat_le MAPS (count t) || nat_lt AREA (areas t + area shape.value_size shape.max_entries) then Some NoSpace else None
+
+-- a new map is live under a key that led to none, and one holds it
+pub record IsCreated (old : Tenant) (shape : MapShape) (k : ℕ) (new : Tenant) : Type 0 where
+  pub was : live_at old k ≡ None
+  pub live : IsSome (live_at new k)
+  pub places : places_at new k ≡ new_places shape
+  pub holds : holds_at new k ≡ 1
+  pub others : (other : ℕ) → other ≢ k → live_at new other ≡ live_at old other
+  pub refused : new.refused ≡ old.refused
+
+-- what a creation may answer and leave
+abbrev pub Creates : Option MapFault → Tenant → MapShape → Result ℕ MapFault → Tenant → Type 0
+Creates (Some fault) old shape answer new = (answer ≡ Err fault) × (new ≡ old)
+Creates None old shape (Ok k) new = IsCreated old shape k new
+Creates None old shape (Err Memory) new = new ≡ record { slots = old.slots; refused = true }
+Creates None old shape (Err NoEntry) new = ⊥
+Creates None old shape (Err TooBig) new = ⊥
+Creates None old shape (Err Exists) new = ⊥
+Creates None old shape (Err Invalid) new = ⊥
+Creates None old shape (Err NoSpace) new = ⊥
+
+-- ---- who holds a map
+
+-- a live map without its area
+pub record Held : Type 0 where
+  pub places : PlaceTable
+  pub holds : ℕ
+
+abbrev pub without_area : Live → Held
+without_area l = record { places = l.places; holds = l.holds }
+
+abbrev pub held_at : Tenant → ℕ → Option Held
+held_at t k = option_map without_area (live_at t k)
+
+-- one hold more
+abbrev pub one_more : Live → Live
+one_more l = record { places = l.places; start = l.start; stride = l.stride; holds = l.holds + 1 }
+
+-- one hold less, and at the last the map is gone
+abbrev pub one_less : Option Held → Option Held
+one_less None = None
+one_less (Some h) = if nat_le h.holds 1 then None else Some (record { places = h.places; holds = h.holds - 1 })
+
+-- whether memory was refused
+abbrev pub is_memory : Result ℕ MapFault → Bool
+is_memory (Ok p) = false
+is_memory (Err Memory) = true
+is_memory (Err NoEntry) = false
+is_memory (Err TooBig) = false
+is_memory (Err Exists) = false
+is_memory (Err Invalid) = false
+is_memory (Err NoSpace) = false

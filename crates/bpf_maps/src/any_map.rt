@@ -1,0 +1,81 @@
+//! The two kinds of map as one.
+
+ghost use Rattle.std.specs.Prelude.{◌≡◌, ◌≤◌, ◌<◌, ◌⊎◌, ◌++◌, length, [], drop, IfOk, IfSome};
+ghost use Rattle.tagged_model.specs.Table.{look_up, verdict, removal, next_of};
+ghost use Rattle.bpf_maps.specs.Places.{PlaceTable, table_of, IsSound, Claims, Removes, GivesKey, new_places, after_run};
+ghost use Rattle.bpf_maps.specs.Any.{places_of};
+
+use crate::array_map::ArrayMap;
+use crate::hash_map::HashMapIx;
+use crate::value_map::ValueMap;
+use std::alloc::{AllocError, Global};
+use tagged_model::{MapFault, MapKind, MapShape};
+
+/// A map of either kind.
+#[derive(Drop)]
+pub enum AnyMap {
+    Array(ArrayMap),
+    Hash(HashMapIx),
+}
+
+impl AnyMap {
+    /// A new map of this shape. An error is want of memory, which only a hash map needs.
+    pub fn new(alloc: Global, shape: MapShape) -> Result<AnyMap, AllocError>
+        ensures { IfOk result (λ map. places_of map ≡ new_places shape) }
+    {
+        match shape.kind {
+            MapKind::Array => Ok(AnyMap::Array(ArrayMap::new(shape))),
+            MapKind::Hash => Ok(AnyMap::Hash(HashMapIx::new(alloc, shape)?)),
+        }
+    }
+
+    /// Its shape.
+    pub fn shape(&self) -> MapShape
+        ensures { result ≡ (places_of self.now).shape }
+    {
+        match self {
+            AnyMap::Array(map) => map.shape(),
+            AnyMap::Hash(map) => map.shape(),
+        }
+    }
+}
+
+impl ValueMap for AnyMap {
+    ghost places = { places_of };
+
+    #[inline]
+    fn find(&self, key: &[u8]) -> Option<u32> {
+        match self {
+            AnyMap::Array(map) => map.find(key),
+            AnyMap::Hash(map) => map.find(key),
+        }
+    }
+
+    fn claim(&mut self, key: &[u8], flags: u64) -> Result<u32, MapFault> {
+        match self {
+            AnyMap::Array(map) => map.claim(key, flags),
+            AnyMap::Hash(map) => map.claim(key, flags),
+        }
+    }
+
+    fn remove(&mut self, key: &[u8]) -> Result<(), MapFault> {
+        match self {
+            AnyMap::Array(map) => map.remove(key),
+            AnyMap::Hash(map) => map.remove(key),
+        }
+    }
+
+    fn next_key(&self, key: &[u8], next: &mut [u8; 64]) -> Result<(), MapFault> {
+        match self {
+            AnyMap::Array(map) => map.next_key(key, next),
+            AnyMap::Hash(map) => map.next_key(key, next),
+        }
+    }
+
+    fn end_run(&mut self) {
+        match self {
+            AnyMap::Array(map) => map.end_run(),
+            AnyMap::Hash(map) => map.end_run(),
+        }
+    }
+}

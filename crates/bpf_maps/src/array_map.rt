@@ -1,0 +1,142 @@
+//! An array map.
+
+ghost use Rattle.std.specs.Prelude.{◌≡◌, ◌<◌, ◌⊎◌, [], IfSome, Some, None, nat_lt, if◌then◌else◌, length};
+ghost use Rattle.tagged_model.specs.declared.shape.MapKind.TheVariants.{Array};
+ghost use Rattle.tagged_model.specs.Table.{look_up, next_of, index_key};
+ghost use Rattle.bpf_maps.specs.Places.{PlaceTable, table_of, IsSound, new_places};
+
+use crate::value_map::{EXIST, NOEXIST, ValueMap, put_key};
+use std::marker::Model;
+use tagged_model::{MapFault, MapShape};
+
+/// An array, which has all its indices from the start. The place of an index is the index.
+#[derive(Drop)]
+pub struct ArrayMap {
+    shape: MapShape,
+}
+
+impl Model for ArrayMap {
+    ghost use Rattle.std.specs.Prelude.{◌≡◌};
+    ghost use Rattle.tagged_model.specs.declared.shape.MapKind.TheVariants.{Array};
+    ghost use Rattle.bpf_maps.specs.Places.{PlaceTable, new_places};
+
+    ghost Value = { PlaceTable };
+
+    ghost view = { λ a. new_places a.shape };
+
+    ghost invariant = { λ a. a.shape.kind ≡ Array };
+}
+
+impl ArrayMap {
+    /// An array of this shape.
+    pub fn new(shape: MapShape) -> ArrayMap
+        requires { shape.kind ≡ Array }
+        ensures { result ≡ new_places shape }
+    {
+        ArrayMap { shape }
+    }
+
+    /// Its shape.
+    pub fn shape(&self) -> MapShape
+        ensures { result ≡ self.now.shape }
+    {
+        self.shape
+    }
+
+    /// A law: it has its indices and nothing else, and their keys have four bytes. It does nothing when it runs.
+    #[inline(always)]
+    fn is_array(&self)
+        ensures kind { self.now.shape.kind ≡ Array }
+        ensures whole { self.now ≡ new_places self.now.shape }
+        ensures key_size { self.now.shape.key_size ≡ 4 }
+        ensures sound { IsSound self.now }
+    {
+        let _ = &self.shape;
+    }
+
+    /// The index that a key spells, if the array has it.
+    #[inline(always)]
+    fn place_of(&self, key: &[u8]) -> Option<u32>
+        requires { length key.now ≡ self.now.shape.key_size }
+        ensures place { result ≡ look_up (table_of self.now) key.now }
+        ensures within { IfSome result (λ index. index < self.now.shape.max_entries) }
+        ensures spelled { IfSome result (λ index. index_key index ≡ key.now) }
+    {
+        self.is_array();
+        let index = index_of(key);
+        if index < self.shape.max_entries {
+            Some(index)
+        } else {
+            None
+        }
+    }
+
+    /// The index that follows a key, which may be the one behind the last. An empty or unknown key is followed by the first.
+    fn index_after(&self, key: &[u8]) -> u32
+        requires size { (key.now ≡ []) ⊎ (length key.now ≡ self.now.shape.key_size) }
+        ensures next { next_of (table_of self.now) key.now ≡ (if nat_lt result self.now.shape.max_entries then Some (index_key result) else None) }
+    {
+        self.is_array();
+        if key.is_empty() {
+            return 0;
+        }
+        match self.place_of(key) {
+            Some(index) => index + 1,
+            None => 0,
+        }
+    }
+}
+
+impl ValueMap for ArrayMap {
+    ghost places = { λ m. m };
+
+    #[inline]
+    fn find(&self, key: &[u8]) -> Option<u32> {
+        self.is_array();
+        self.place_of(key)
+    }
+
+    fn claim(&mut self, key: &[u8], flags: u64) -> Result<u32, MapFault> {
+        self.is_array();
+        if flags > EXIST {
+            return Err(MapFault::Invalid);
+        }
+        match self.place_of(key) {
+            Some(place) => {
+                if flags == NOEXIST {
+                    Err(MapFault::Exists)
+                } else {
+                    Ok(place)
+                }
+            }
+            None => Err(MapFault::TooBig),
+        }
+    }
+
+    fn remove(&mut self, _key: &[u8]) -> Result<(), MapFault> {
+        self.is_array();
+        Err(MapFault::Invalid)
+    }
+
+    fn next_key(&self, key: &[u8], next: &mut [u8; 64]) -> Result<(), MapFault> {
+        let index = self.index_after(key);
+        if index >= self.shape.max_entries {
+            return Err(MapFault::NoEntry);
+        }
+        put_key(&index.to_le_bytes(), next);
+        Ok(())
+    }
+
+    fn end_run(&mut self) {
+        self.is_array();
+    }
+}
+
+/// The number that a key spells, the lowest byte first.
+#[inline(always)]
+fn index_of(key: &[u8]) -> u32
+    requires { length key.now ≡ 4 }
+    ensures { index_key result ≡ key.now }
+{
+    u32::from_le_bytes([key[0], key[1], key[2], key[3]])
+}

@@ -1,0 +1,185 @@
+//! A hash map.
+
+ghost use Rattle.std.specs.Prelude.{◌≡◌, ℕ, ◌<◌, ◌≤◌, None, IfOk, IfSome, nat_lt, if◌then◌else◌, vec_len, vec_capacity, length, slice_get};
+ghost use Rattle.tagged_model.specs.declared.shape.MapKind.TheVariants.{Hash};
+ghost use Rattle.tagged_model.specs.Table.{look_up, of_absent, is_full, verdict, removal, next_of};
+ghost use Rattle.bpf_maps.specs.Places.{PlaceTable, table_of, IsSound, Claims, Removes, GivesKey, key_of, new_places, after_run, times};
+
+use crate::value_map::{EXIST, NOEXIST, ValueMap, put_key};
+use indexmap::IndexMap;
+use std::alloc::{AllocError, Global};
+use std::marker::Model;
+use tagged_model::{MapFault, MapShape};
+
+/// A map from keys of any bytes to places, in the order in which the keys came.
+#[derive(Drop)]
+pub struct HashMapIx {
+    alloc: Global,
+    shape: MapShape,
+    index: IndexMap<Vec<u8>, u32>,
+    // Places of keys that were removed in this run.
+    kept: Vec<u32>,
+    // Places that are not in use.
+    free: Vec<u32>,
+}
+
+impl Model for HashMapIx {
+    ghost use Rattle.bpf_maps.specs.Places.{PlaceTable};
+
+    ghost Value = { PlaceTable };
+
+    ghost use Rattle.bpf_maps.specs.Index.{shown, IsKept};
+
+    ghost view = { shown };
+
+    ghost invariant = { IsKept };
+}
+
+impl HashMapIx {
+    /// A map of this shape with no keys. Room to keep all places apart is made here. An error is want of memory.
+    pub fn new(alloc: Global, shape: MapShape) -> Result<HashMapIx, AllocError>
+        requires { shape.kind ≡ Hash }
+        ensures { IfOk result (λ map. map ≡ new_places shape) }
+    {
+        let free = all_places(alloc, shape.max_entries)?;
+        let kept = Vec::with_capacity(alloc, shape.max_entries as usize)?;
+        Ok(HashMapIx {
+            alloc,
+            shape,
+            index: IndexMap::new(alloc),
+            kept,
+            free,
+        })
+    }
+
+    /// Its shape.
+    pub fn shape(&self) -> MapShape
+        ensures { result ≡ self.now.shape }
+    {
+        self.shape
+    }
+
+    /// A law: no two keys have the same place. It does nothing when it runs.
+    #[inline(always)]
+    fn is_hash_map(&self)
+        ensures kind { self.now.shape.kind ≡ Hash }
+        ensures sound { IsSound self.now }
+    {
+        let _ = &self.shape;
+    }
+
+    /// The place of a key.
+    #[inline(always)]
+    fn place_of(&self, key: &[u8]) -> Option<u32>
+        ensures place { result ≡ look_up (table_of self.now) key.now }
+        ensures within { IfSome result (λ place. place < self.now.shape.max_entries) }
+    {
+        self.index.get(key).copied()
+    }
+
+    /// The index of the entry that follows a key. An unknown key is followed by the first.
+    fn index_after(&self, key: &[u8]) -> usize
+        ensures { key_of (slice_get self.now.entries result) ≡ next_of (table_of self.now) key.now }
+    {
+        match self.index.get_index_of(key) {
+            Some(index) => index + 1,
+            None => 0,
+        }
+    }
+
+    /// A place for a new key, which goes last.
+    fn add(&mut self, key: &[u8]) -> Result<u32, MapFault>
+        requires absent { look_up (table_of self.old) key.now ≡ None }
+        requires size { length key.now ≡ self.old.shape.key_size }
+        ensures claimed { Claims (of_absent Hash (is_full (table_of self.old)) 0) key.now self.old result self.new }
+        ensures sound { IsSound self.new }
+    {
+        let Some(place) = self.free.last().copied() else {
+            return Err(MapFault::TooBig);
+        };
+        let Ok(own) = copy_of(self.alloc, key) else {
+            return Err(MapFault::Memory);
+        };
+        if self.index.insert(own, place).is_err() {
+            return Err(MapFault::Memory);
+        }
+        self.free.pop();
+        Ok(place)
+    }
+}
+
+impl ValueMap for HashMapIx {
+    ghost places = { λ m. m };
+
+    #[inline]
+    fn find(&self, key: &[u8]) -> Option<u32> {
+        self.is_hash_map();
+        self.place_of(key)
+    }
+
+    fn claim(&mut self, key: &[u8], flags: u64) -> Result<u32, MapFault> {
+        self.is_hash_map();
+        if flags > EXIST {
+            return Err(MapFault::Invalid);
+        }
+        match self.place_of(key) {
+            Some(place) => {
+                if flags == NOEXIST {
+                    Err(MapFault::Exists)
+                } else {
+                    Ok(place)
+                }
+            }
+            None => {
+                if flags == EXIST {
+                    Err(MapFault::NoEntry)
+                } else {
+                    self.add(key)
+                }
+            }
+        }
+    }
+
+    fn remove(&mut self, key: &[u8]) -> Result<(), MapFault> {
+        let Some(place) = self.index.shift_remove(key) else {
+            return Err(MapFault::NoEntry);
+        };
+        self.kept.push_reserved(place);
+        Ok(())
+    }
+
+    fn next_key(&self, key: &[u8], next: &mut [u8; 64]) -> Result<(), MapFault> {
+        let Some((following, _)) = self.index.get_index(self.index_after(key)) else {
+            return Err(MapFault::NoEntry);
+        };
+        put_key(following, next);
+        Ok(())
+    }
+
+    fn end_run(&mut self) {
+        while let Some(place) = self.kept.pop() {
+            self.free.push_reserved(place);
+        }
+    }
+}
+
+fn copy_of(alloc: Global, key: &[u8]) -> Result<Vec<u8>, AllocError>
+    ensures { IfOk result (λ own. own.items ≡ key.now) }
+{
+    let mut own = Vec::with_capacity(alloc, key.len())?;
+    own.extend_from_slice(key)?;
+    Ok(own)
+}
+
+/// All places below a number.
+fn all_places(alloc: Global, count: u32) -> Result<Vec<u32>, AllocError>
+    ensures once { IfOk result (λ all. (p : ℕ) → times p all.items ≡ (if nat_lt p count then 1 else 0)) }
+    ensures length { IfOk result (λ all. vec_len all ≡ count) }
+    ensures room { IfOk result (λ all. count ≤ vec_capacity all) }
+{
+    let mut all = Vec::with_capacity(alloc, count as usize)?;
+    for place in 0..count {
+        all.push_reserved(place);
+    }
+    Ok(all)
+}

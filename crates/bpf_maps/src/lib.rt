@@ -1,0 +1,27 @@
+//! The two kinds of map. Each finds places for keys; what a place holds is no concern of theirs.
+//!
+//! Both are the one definition of a map, with places for objects. A tenant's live maps have their values in its part of the
+//! memory, and each place of a map has its own bytes there.
+#![tactic(auto)]
+
+mod any_map;
+mod array_map;
+mod hash_map;
+mod laws;
+mod maps;
+mod part;
+mod value_map;
+
+pub use any_map::AnyMap;
+pub use array_map::ArrayMap;
+pub use hash_map::HashMapIx;
+pub use laws::calls_are_those_of_a_map;
+pub use maps::{MapKey, Maps};
+pub use part::{AREA, FRONT, MAPS, PART};
+pub use tagged_model::MapFault;
+pub use value_map::{ANY, EXIST, NOEXIST, ValueMap};
+
+#[cfg(test)]
+mod live_tests;
+#[cfg(test)]
+mod tests;

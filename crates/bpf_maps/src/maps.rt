@@ -1,0 +1,294 @@
+//! A tenant's live maps.
+
+ghost use Rattle.std.specs.Prelude.{◌≡◌, ◌≢◌, ℕ, ◌+◌, ◌-◌, ◌<◌, ◌≤◌, ◌^◌, ◌⊎◌, ◌||◌, true, false, if◌then◌else◌, [], length, take, replicate, option_map, Some, None, IfSome, IfNone, IfOk, OnErr, IsSome, slice_index_or};
+ghost use Rattle.tagged_model.specs.declared.shape.MapKind.TheVariants.{Array};
+ghost use Rattle.tagged_model.specs.Table.{look_up, verdict, removal, next_of};
+ghost use Rattle.bpf_maps.specs.declared.part.TheConstants.{PART, FRONT, MAPS, AREA};
+ghost use Rattle.bpf_maps.specs.Places.{table_of, IsSound, Claims, Removes, GivesKey, after_run};
+ghost use Rattle.bpf_maps.specs.Live.{live_at, places_at, shape_at, holds_at, held_at, offset_at, value_in, IsInside, IsLaid, SameAreas, SameValues, create_fault, Creates, one_more, one_less, is_memory};
+ghost use Rattle.bpf_maps.specs.InMaps.{times_true};
+
+use crate::any_map::AnyMap;
+use crate::part::{AREA, FRONT, MAPS, PART, clear};
+use crate::value_map::ValueMap;
+use slab::Slab;
+use std::alloc::{AllocError, Global};
+use std::marker::Model;
+use tagged_model::{MapFault, MapShape};
+
+// A map goes when so many hold it and one releases it.
+const LAST: u32 = 1;
+
+/// The key of a live map. Contracts see its number.
+#[derive(Clone, Copy, Debug, PartialEq, Eq)]
+pub struct MapKey {
+    number: usize,
+}
+
+impl Model for MapKey {
+    ghost Value = { ℕ };
+
+    ghost view = { λ k. k.number };
+
+    ghost inverse = { λ n. record { number = n } };
+}
+
+/// A tenant's live maps. Contracts see the maps by their keys, and where each has its values in the tenant's part.
+#[derive(Drop)]
+pub struct Maps {
+    alloc: Global,
+    slots: Slab<Entry>,
+    // Which areas of the part are in use.
+    taken: [bool; MAPS],
+    // The bytes that the values of all maps take.
+    bytes: usize,
+    refused: bool,
+}
+
+#[derive(Drop)]
+struct Entry {
+    map: AnyMap,
+    // The number of its area.
+    number: usize,
+    // How far its values are from one another.
+    stride: usize,
+    holds: u32,
+}
+
+impl Model for Maps {
+    ghost use Rattle.bpf_maps.specs.Live.{Tenant};
+
+    ghost Value = { Tenant };
+
+    ghost use Rattle.bpf_maps.specs.InMaps.{seen, IsWhole};
+
+    ghost view = { seen };
+
+    ghost invariant = { IsWhole };
+}
+
+impl Maps {
+    /// No maps. Room for as many as there may be is made here. An error is want of memory.
+    pub fn new(alloc: Global) -> Result<Maps, AllocError>
+        ensures none { IfOk result (λ maps. (k : ℕ) → live_at maps k ≡ None) }
+        ensures refused { IfOk result (λ maps. maps.refused ≡ false) }
+    {
+        Ok(Maps {
+            alloc,
+            slots: Slab::with_capacity(alloc, MAPS)?,
+            taken: [false; MAPS],
+            bytes: 0,
+            refused: false,
+        })
+    }
+
+    /// Makes a map, which one holds. Its area is the lowest that is free. The values of an array are zero bytes.
+    ///
+    /// # Errors
+    ///
+    /// `NoSpace` where there are sixteen maps, or where the values of all, each rounded up to a multiple of eight bytes, would
+    /// take more than 65,536 bytes. Else `Memory`, where there is none for a hash map. No map has changed then.
+    pub fn create(&mut self, shape: MapShape, part: &mut [u8]) -> Result<MapKey, MapFault>
+        requires { length part.old ≡ PART }
+        ensures created { Creates (create_fault self.old shape) self.old shape result self.new }
+        ensures laid { IsLaid self.new }
+        ensures cleared { IfOk result (λ k. shape.kind ≡ Array → (p : ℕ) → p < shape.max_entries → value_in part.new self.new k p ≡ replicate shape.value_size 0) }
+        ensures values { SameValues self.old part.old self.new part.new }
+        ensures front { take FRONT part.new ≡ take FRONT part.old }
+        ensures length { length part.new ≡ PART }
+        ensures unchanged { OnErr result (part.new ≡ part.old) }
+    {
+        let size = shape.area() as usize;
+        let Some(number) = area_for(&self.taken, self.bytes, size) else {
+            return Err(MapFault::NoSpace);
+        };
+        let Ok(map) = AnyMap::new(self.alloc, shape) else {
+            self.refused = true;
+            return Err(MapFault::Memory);
+        };
+        clear(part, FRONT + number * AREA, size);
+        let key = self.slots.insert_reserved(Entry {
+            map,
+            number,
+            stride: shape.value_size.next_multiple_of(8) as usize,
+            holds: 1,
+        });
+        self.taken[number] = true;
+        self.bytes += size;
+        Ok(MapKey { number: key })
+    }
+
+    /// One more holds the map.
+    pub fn hold(&mut self, map: MapKey)
+        requires live { IsSome (live_at self.old map) }
+        requires few { holds_at self.old map < 2 ^ 32 - 1 }
+        ensures more { live_at self.new map ≡ option_map one_more (live_at self.old map) }
+        ensures others { (other : ℕ) → other ≢ map → live_at self.new other ≡ live_at self.old other }
+        ensures refused { self.new.refused ≡ self.old.refused }
+        ensures laid { IsLaid self.new }
+    {
+        let entry = &mut self.slots[map.number];
+        entry.holds += 1;
+    }
+
+    /// One less holds the map, and at the last it is gone. The values of the other maps may be elsewhere afterwards.
+    pub fn release(&mut self, map: MapKey, part: &mut [u8])
+        requires live { IsSome (live_at self.old map) }
+        requires length { length part.old ≡ PART }
+        ensures less { held_at self.new map ≡ one_less (held_at self.old map) }
+        ensures others { (other : ℕ) → other ≢ map → held_at self.new other ≡ held_at self.old other }
+        ensures refused { self.new.refused ≡ self.old.refused }
+        ensures laid { IsLaid self.new }
+        ensures values { SameValues self.old part.old self.new part.new }
+        ensures front { take FRONT part.new ≡ take FRONT part.old }
+        ensures length { length part.new ≡ PART }
+    {
+        let entry = &mut self.slots[map.number];
+        if entry.holds > LAST {
+            entry.holds -= 1;
+            return;
+        }
+        let entry = self.slots.remove(map.number);
+        self.taken[entry.number] = false;
+        self.bytes -= entry.map.shape().area() as usize;
+    }
+
+    /// Whether a map was ever refused for memory, or a new key of one.
+    pub fn refused(&self) -> bool
+        ensures { result ≡ self.now.refused }
+    {
+        self.refused
+    }
+
+    /// The shape of a map.
+    pub fn shape(&self, map: MapKey) -> MapShape
+        requires { IsSome (live_at self.now map) }
+        ensures { result ≡ shape_at self.now map }
+    {
+        let entry = &self.slots[map.number];
+        entry.map.shape()
+    }
+
+    /// Where the value at a place of a map begins in the tenant's part. The values of all maps lie in the part, behind the
+    /// stack and the context, and apart from one another.
+    #[inline]
+    pub fn value_at(&self, map: MapKey, place: u32) -> usize
+        requires live { IsSome (live_at self.now map) }
+        requires place { place < (shape_at self.now map).max_entries }
+        ensures offset { result ≡ offset_at self.now map place }
+        ensures inside { IsInside result (shape_at self.now map).value_size }
+        ensures laid { IsLaid self.now }
+    {
+        let entry = &self.slots[map.number];
+        FRONT + entry.number * AREA + place as usize * entry.stride
+    }
+
+    /// The place of a key.
+    #[inline]
+    pub fn find(&self, map: MapKey, key: &[u8]) -> Option<u32>
+        requires live { IsSome (live_at self.now map) }
+        requires size { length key.now ≡ (shape_at self.now map).key_size }
+        ensures place { result ≡ look_up (table_of (places_at self.now map)) key.now }
+        ensures within { IfSome result (λ place. place < (shape_at self.now map).max_entries) }
+        ensures sound { IsSound (places_at self.now map) }
+    {
+        let entry = &self.slots[map.number];
+        entry.map.find(key)
+    }
+
+    /// A place for a key, where the caller then writes its value. A present key keeps its place. A new key goes last, and its
+    /// place is any that is not in use.
+    ///
+    /// # Errors
+    ///
+    /// Those of an update with these flags; no map has changed then. `Memory` is answered only to a new key of a hash map.
+    pub fn claim(&mut self, map: MapKey, key: &[u8], flags: u64) -> Result<u32, MapFault>
+        requires live { IsSome (live_at self.old map) }
+        requires size { length key.now ≡ (shape_at self.old map).key_size }
+        ensures claimed { Claims (verdict (table_of (places_at self.old map)) key.now flags) key.now (places_at self.old map) result (places_at self.new map) }
+        ensures within { IfOk result (λ place. place < (shape_at self.new map).max_entries) }
+        ensures sound { IsSound (places_at self.new map) }
+        ensures live { IsSome (live_at self.new map) }
+        ensures holds { holds_at self.new map ≡ holds_at self.old map }
+        ensures others { (other : ℕ) → other ≢ map → live_at self.new other ≡ live_at self.old other }
+        ensures areas { SameAreas self.old self.new }
+        ensures laid { IsLaid self.new }
+        ensures refused { self.new.refused ≡ (self.old.refused || is_memory result) }
+    {
+        let entry = &mut self.slots[map.number];
+        let answer = entry.map.claim(key, flags);
+        self.refused = self.refused || matches!(answer, Err(MapFault::Memory));
+        answer
+    }
+
+    /// Takes a key out. Its place is kept apart until the run ends, and is given to no key.
+    ///
+    /// # Errors
+    ///
+    /// Those of a delete; nothing has changed then. It takes no memory.
+    pub fn remove(&mut self, map: MapKey, key: &[u8]) -> Result<(), MapFault>
+        requires live { IsSome (live_at self.old map) }
+        requires size { length key.now ≡ (shape_at self.old map).key_size }
+        ensures removed { Removes (removal (table_of (places_at self.old map)) key.now) key.now (places_at self.old map) result (places_at self.new map) }
+        ensures sound { IsSound (places_at self.new map) }
+        ensures live { IsSome (live_at self.new map) }
+        ensures holds { holds_at self.new map ≡ holds_at self.old map }
+        ensures others { (other : ℕ) → other ≢ map → live_at self.new other ≡ live_at self.old other }
+        ensures areas { SameAreas self.old self.new }
+        ensures laid { IsLaid self.new }
+        ensures refused { self.new.refused ≡ self.old.refused }
+    {
+        let entry = &mut self.slots[map.number];
+        entry.map.remove(key)
+    }
+
+    /// Writes the key that follows a key at the front of `next`. An empty or unknown key is followed by the first.
+    ///
+    /// # Errors
+    ///
+    /// `NoEntry` where no key follows; `next` stays as it was then.
+    pub fn next_key(&self, map: MapKey, key: &[u8], next: &mut [u8; 64]) -> Result<(), MapFault>
+        requires live { IsSome (live_at self.now map) }
+        requires size { (key.now ≡ []) ⊎ (length key.now ≡ (shape_at self.now map).key_size) }
+        ensures given { GivesKey (next_of (table_of (places_at self.now map)) key.now) next.old result next.new }
+    {
+        let entry = &self.slots[map.number];
+        entry.map.next_key(key, next)
+    }
+
+    /// Ends a run on a map: the places that were kept apart are free again. It takes no memory.
+    pub fn end_run(&mut self, map: MapKey)
+        requires { IsSome (live_at self.old map) }
+        ensures ended { places_at self.new map ≡ after_run (places_at self.old map) }
+        ensures sound { IsSound (places_at self.new map) }
+        ensures live { IsSome (live_at self.new map) }
+        ensures holds { holds_at self.new map ≡ holds_at self.old map }
+        ensures others { (other : ℕ) → other ≢ map → live_at self.new other ≡ live_at self.old other }
+        ensures areas { SameAreas self.old self.new }
+        ensures laid { IsLaid self.new }
+        ensures refused { self.new.refused ≡ self.old.refused }
+    {
+        let entry = &mut self.slots[map.number];
+        entry.map.end_run();
+    }
+}
+
+/// The lowest area that is free, where there is room for so many bytes more.
+fn area_for(taken: &[bool; MAPS], bytes: usize, size: usize) -> Option<usize>
+    requires bytes { bytes ≤ AREA }
+    requires size { size ≤ AREA }
+    ensures room { IfSome result (λ number. bytes + size ≤ AREA) }
+    ensures free { IfSome result (λ number. (number < MAPS) × (slice_index_or taken.now number false ≡ false)) }
+    ensures lowest { IfSome result (λ number. (i : ℕ) → i < number → slice_index_or taken.now i false ≡ true) }
+    ensures none { IfNone result ((AREA < bytes + size) ⊎ (times_true taken.now ≡ MAPS)) }
+{
+    if bytes + size > AREA {
+        return None;
+    }
+    for (number, taken) in taken.iter().enumerate() {
+        if !*taken {
+            return Some(number);
+        }
+    }
+    None
+}

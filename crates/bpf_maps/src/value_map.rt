@@ -1,0 +1,75 @@
+//! What the two kinds of map have in common.
+
+ghost use Rattle.std.specs.Prelude.{◌≡◌, ◌≤◌, ◌<◌, ◌⊎◌, length, [], ◌++◌, drop, IfOk, IfSome};
+ghost use Rattle.tagged_model.specs.Table.{look_up, verdict, removal, next_of};
+ghost use Rattle.bpf_maps.specs.Places.{PlaceTable, table_of, IsSound, Claims, Removes, GivesKey, after_run};
+
+use tagged_model::MapFault;
+
+/// The flag of an update of any key.
+pub const ANY: u64 = 0;
+
+/// The flag of an update whose key must be new (bpf(2), BPF_NOEXIST).
+pub const NOEXIST: u64 = 1;
+
+/// The flag of an update whose key must be there (bpf(2), BPF_EXIST).
+pub const EXIST: u64 = 2;
+
+/// A map from keys to places, in order. A place is a number below the map's `max_entries`, and no two keys have the same.
+pub trait ValueMap {
+    /// The keys with their places in order, and the places that are kept apart.
+    ghost places: { Self → PlaceTable };
+
+    /// The place of a key.
+    fn find(&self, key: &[u8]) -> Option<u32>
+        requires size { length key.now ≡ (places self.now).shape.key_size }
+        ensures place { result ≡ look_up (table_of (places self.now)) key.now }
+        ensures within { IfSome result (λ place. place < (places self.now).shape.max_entries) }
+        ensures sound { IsSound (places self.now) };
+
+    /// A place for a key, where the caller then writes its value. A present key keeps its place. A new key goes last, and
+    /// its place is any that is not in use.
+    ///
+    /// # Errors
+    ///
+    /// Those of an update with these flags; nothing has changed then. `Memory` is answered only to a new key.
+    fn claim(&mut self, key: &[u8], flags: u64) -> Result<u32, MapFault>
+        requires size { length key.now ≡ (places self.old).shape.key_size }
+        ensures claimed { Claims (verdict (table_of (places self.old)) key.now flags) key.now (places self.old) result (places self.new) }
+        ensures within { IfOk result (λ place. place < (places self.new).shape.max_entries) }
+        ensures shape { (places self.new).shape ≡ (places self.old).shape }
+        ensures sound { IsSound (places self.new) };
+
+    /// Takes a key out. Its place is kept apart until the run ends, and is given to no key.
+    ///
+    /// # Errors
+    ///
+    /// Those of a delete; nothing has changed then. It takes no memory.
+    fn remove(&mut self, key: &[u8]) -> Result<(), MapFault>
+        requires size { length key.now ≡ (places self.old).shape.key_size }
+        ensures removed { Removes (removal (table_of (places self.old)) key.now) key.now (places self.old) result (places self.new) }
+        ensures shape { (places self.new).shape ≡ (places self.old).shape }
+        ensures sound { IsSound (places self.new) };
+
+    /// Writes the key that follows a key at the front of `next`. An empty or unknown key is followed by the first.
+    ///
+    /// # Errors
+    ///
+    /// `NoEntry` where no key follows; `next` stays as it was then.
+    fn next_key(&self, key: &[u8], next: &mut [u8; 64]) -> Result<(), MapFault>
+        requires size { (key.now ≡ []) ⊎ (length key.now ≡ (places self.now).shape.key_size) }
+        ensures given { GivesKey (next_of (table_of (places self.now)) key.now) next.old result next.new };
+
+    /// Ends a run: the places that were kept apart are free again. It takes no memory.
+    fn end_run(&mut self)
+        ensures ended { places self.new ≡ after_run (places self.old) }
+        ensures sound { IsSound (places self.new) };
+}
+
+/// Writes a key at the front of `next`. What is behind it stays.
+pub(crate) fn put_key(key: &[u8], next: &mut [u8; 64])
+    requires { length key.now ≤ 64 }
+    ensures { next.new ≡ key.now ++ drop (length key.now) next.old }
+{
+    next[..key.len()].copy_from_slice(key);
+}

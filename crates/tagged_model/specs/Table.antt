@@ -1,0 +1,137 @@
+-- What a map is (bpf(2); the kernel documentation of BPF_MAP_TYPE_ARRAY and BPF_MAP_TYPE_HASH): a list of keys with their
+-- objects, in order. An object is anything that stands for a value: its number in a run, its place in an area, its bytes.
+-- The order of the refusals, the order of a hash map's keys, and that what a run deletes counts until the run ends are this
+-- project's own.
+use Rattle.std.specs.Prelude.{ℕ, zero, suc, ◌+◌, ◌==◌, nat_eq, nat_le, Bool, if◌then◌else◌, List, [], ◌∷◌, ◌++◌, length, Option, Some, None, is_some, Result, Ok, Err}
+use Rattle.std.specs.Map.{lookup, remove_entry}
+use Rattle.std.specs.Cmp.Lexicographic.{pointwise}
+use Rattle.interval.specs.Bytes.{low_bytes}
+use Rattle.tagged_model.specs.declared.shape.MapKind.{MapKind}
+use Rattle.tagged_model.specs.declared.shape.MapKind.TheVariants.{Hash, Array}
+use Rattle.tagged_model.specs.declared.shape.MapShape.{MapShape}
+use Rattle.tagged_model.specs.declared.fault.MapFault.{MapFault}
+use Rattle.tagged_model.specs.declared.fault.MapFault.TheVariants.{NoEntry, TooBig, Exists, Invalid}
+
+-- what it is, its keys with their objects in order, and how many objects were deleted in this run
+pub record Table (A : Type 0) : Type 0 where
+  pub shape : MapShape
+  pub entries : List (List ℕ × A)
+  pub deleted : ℕ
+
+-- ---- lists of keys with their objects
+
+-- whether a key is this one
+abbrev pub is_key : List ℕ → List ℕ → Bool
+is_key key other = pointwise nat_eq key other
+
+module _ {A : Type 0} where
+  -- the object of a key
+  abbrev pub found : List ℕ → List (List ℕ × A) → Option A
+  found key es = lookup (is_key key) es
+
+  -- without a key. The others keep their order
+  abbrev pub without : List ℕ → List (List ℕ × A) → List (List ℕ × A)
+  without key es = remove_entry (is_key key) es
+
+  -- with a new key, which goes last
+  abbrev pub with_key : List ℕ → A → List (List ℕ × A) → List (List ℕ × A)
+  with_key key a es = es ++ (key, a) ∷ []
+
+  abbrev pub first_key : List (List ℕ × A) → Option (List ℕ)
+  first_key [] = None
+  first_key (e ∷ es) = Some e.0
+
+  -- the key behind one that is there
+  abbrev pub key_behind : List ℕ → List (List ℕ × A) → Option (List ℕ)
+  key_behind key [] = None
+  key_behind key (e ∷ es) = if is_key key e.0 then first_key es else key_behind key es
+
+  -- the key that follows. An empty or unknown key is followed by the first
+  abbrev pub key_after : List ℕ → List (List ℕ × A) → Option (List ℕ)
+  key_after key es = if is_some (found key es) then key_behind key es else first_key es
+
+-- the key of an index: its four bytes, the lowest first
+unfoldable pub index_key : ℕ → List ℕ
+index_key i = low_bytes 4 i
+
+-- so many indices from one on, each with its object
+unfoldable pub indexed : {A : Type 0} → (ℕ → A) → ℕ → ℕ → List (List ℕ × A)
+indexed object first zero = []
+indexed object first (suc n) = (index_key first, object first) ∷ indexed object (first + 1) n
+
+-- a new array has all its indices, and a new hash map has no key
+abbrev pub new_entries : {A : Type 0} → (ℕ → A) → MapKind → ℕ → List (List ℕ × A)
+new_entries object Array max = indexed object 0 max
+new_entries object Hash max = []
+
+-- ---- the flags of an update (bpf(2), BPF_MAP_UPDATE_ELEM): 0 is any update
+
+-- the key must be new
+abbrev pub no_exist : ℕ
+no_exist = 1
+
+-- the key must be there
+abbrev pub exist : ℕ
+exist = 2
+
+-- ---- the calls
+
+-- what an update comes to: a refusal, the object of a present key, or a new key, which needs a new object
+pub data Verdict (A : Type 0) : Type 0 where
+  Refused : (fault : MapFault) → Verdict A
+  Present : (object : A) → Verdict A
+  New : Verdict A
+
+module _ {A : Type 0} where
+  -- BPF_MAP_LOOKUP_ELEM
+  abbrev pub look_up : Table A → List ℕ → Option A
+  look_up t key = found key t.entries
+
+  -- a hash map is full where its keys and the objects deleted in this run are as many as it may have
+  abbrev pub is_full : Table A → Bool
+  is_full t = (length t.entries + t.deleted) == t.shape.max_entries
+
+  abbrev pub of_present : ℕ → A → Verdict A
+  of_present flags a = if flags == no_exist then Refused Exists else Present a
+
+  -- of an array, an absent key is an index out of range
+  abbrev pub of_absent : MapKind → Bool → ℕ → Verdict A
+  of_absent Array full flags = Refused TooBig
+  of_absent Hash full flags = if flags == exist then Refused NoEntry else (if full then Refused TooBig else New)
+
+  abbrev pub of_found : Table A → ℕ → Option A → Verdict A
+  of_found t flags None = of_absent t.shape.kind (is_full t) flags
+  of_found t flags (Some a) = of_present flags a
+
+  -- BPF_MAP_UPDATE_ELEM
+  abbrev pub verdict : Table A → List ℕ → ℕ → Verdict A
+  verdict t key flags = if nat_le flags exist then of_found t flags (look_up t key) else Refused Invalid
+
+  -- a new key goes last, with a new object. A present key stays where it is
+  abbrev pub with_new : Table A → List ℕ → A → Table A
+  with_new t key a = record { shape = t.shape; entries = with_key key a t.entries; deleted = t.deleted }
+
+  abbrev pub removal_of : MapKind → Option A → Result A MapFault
+  removal_of Array o = Err Invalid
+  removal_of Hash None = Err NoEntry
+  removal_of Hash (Some a) = Ok a
+
+  -- BPF_MAP_DELETE_ELEM: a refusal, or the object that goes
+  abbrev pub removal : Table A → List ℕ → Result A MapFault
+  removal t key = removal_of t.shape.kind (look_up t key)
+
+  -- the object counts until the run ends
+  abbrev pub with_deleted : Table A → List ℕ → Table A
+  with_deleted t key = record { shape = t.shape; entries = without key t.entries; deleted = t.deleted + 1 }
+
+  -- BPF_MAP_GET_NEXT_KEY: nothing after the last key, or where there is none
+  abbrev pub next_of : Table A → List ℕ → Option (List ℕ)
+  next_of t key = key_after key t.entries
+
+  -- the run has ended
+  abbrev pub after_run : Table A → Table A
+  after_run t = record { shape = t.shape; entries = t.entries; deleted = 0 }
+
+  -- a new map
+  abbrev pub new_table : (ℕ → A) → MapShape → Table A
+  new_table object shape = record { shape = shape; entries = new_entries object shape.kind shape.max_entries; deleted = 0 }

@@ -1,11 +1,11 @@
 -- A call that changes one map, which keeps its shape and its area.
-use Rattle.std.proofs.Common.{◌≡◌, ◌≢◌, ℕ, ◌+◌, ◌-◌, ◌*◌, ◌<◌, ◌≤◌, Bool, true, false, true≢false, if◌then◌else◌, nat_le, List, take, drop, Option, Some, None, is_some, option_map, refl, sym, ap, ◌∙◌, get_or, set}
+use Rattle.std.proofs.Common.{◌≡◌, ◌≢◌, ℕ, ◌+◌, ◌-◌, ◌*◌, ◌<◌, ◌≤◌, Bool, true, false, true≢false, if◌then◌else◌, nat_le, List, take, drop, Option, Some, None, is_some, option_map, refl, sym, ap, ◌∙◌, get_or, set, arith}
 use Rattle.std.proofs.lemmas.Bool.{lt-leb, le-leb}
 use Rattle.bpf_maps.specs.declared.part.TheConstants.{FRONT, AREA}
 use Rattle.bpf_maps.specs.declared.maps.Entry.{Entry}
 use Rattle.bpf_maps.specs.declared.maps.Maps.TheInside.{Inside}
 use Rattle.bpf_maps.specs.Any.{places_of}
-use Rattle.bpf_maps.specs.Live.{Live, Tenant, live_at, live_or, offset, value_in, IsLaid, SameAreas, SameValues, Held, without_area, held_at, one_less}
+use Rattle.bpf_maps.specs.Live.{Live, Tenant, live_at, live_or, holds_at, offset, value_in, IsLaid, SameAreas, SameValues, Held, without_area, held_at, one_less}
 use Rattle.bpf_maps.specs.InMaps.{live_of, lives, seen, IsWhole}
 use Rattle.bpf_maps.proofs.Slots.{live_by, others_by, set_here, set_others, one_changed, offset_same}
 use Rattle.bpf_maps.proofs.Whole.{laid, whole_replaced}
@@ -57,6 +57,10 @@ module _ (a : Inside) (t : Tenant) (at key : ℕ) (old new : Entry) (refused : B
 module _ {P : Type 0} (f : Live → P) (o : Option Live) (l : Live) (is : o ≡ Some l) where
   pub told_of : f (live_or o) ≡ f l
   told_of = ap (λ (x : Option Live). f (live_or x)) is
+
+-- one holds it
+pub not_more : (t : Tenant) (key : ℕ) (l : Live) → live_at t key ≡ Some l → l.holds ≤ 1 → 1 < holds_at t key → ⊥
+not_more t key l here last more = let held = told_of (λ (x : Live). x.holds) (live_at t key) l here in omega arith
 
 -- where the areas stay, so do the values
 pub values_along : (t u : Tenant) (bytes : List ℕ) → SameAreas t u → SameValues t bytes u bytes

@@ -1,9 +1,9 @@
 -- A map that is new.
-use Rattle.std.proofs.Common.{◌≡◌, ◌≢◌, ℕ, ◌+◌, ◌*◌, ◌/◌, ◌<◌, ◌≤◌, ◌||◌, Bool, true, false, if◌then◌else◌, nat_le, nat_lt, List, ◌++◌, length, take, drop, replicate, Option, Some, None, Ok, Err, is_some, sym, ap, subst, ◌∙◌, arith, get_or, set, count_by, ⊎_elim, true≢false}
+use Rattle.std.proofs.Common.{◌≡◌, ◌≢◌, ℕ, ◌+◌, ◌*◌, ◌/◌, ◌<◌, ◌≤◌, ◌||◌, Bool, true, false, if◌then◌else◌, nat_le, nat_lt, List, ◌++◌, length, take, drop, replicate, Option, Some, None, Result, Ok, Err, IsSome, is_some, sym, ap, subst, ◌∙◌, arith, get_or, set, count_by, ⊎_elim, true≢false}
 use Rattle.std.proofs.lemmas.Bool.{lt-leb, le-ltb}
 use Rattle.tagged_model.specs.declared.shape.MapShape.{MapShape}
 use Rattle.tagged_model.specs.declared.fault.MapFault.{MapFault}
-use Rattle.tagged_model.specs.declared.fault.MapFault.TheVariants.{NoSpace, Memory}
+use Rattle.tagged_model.specs.declared.fault.MapFault.TheVariants.{NoEntry, TooBig, Memory, Exists, Invalid, NoSpace}
 use Rattle.tagged_model.specs.Shape.{area}
 use Rattle.slab.specs.Slab.{Slab}
 use Rattle.bpf_maps.specs.declared.part.TheConstants.{FRONT, AREA, MAPS, PART}
@@ -11,7 +11,7 @@ use Rattle.bpf_maps.specs.declared.maps.Entry.{Entry}
 use Rattle.bpf_maps.specs.declared.maps.Maps.TheInside.{Inside}
 use Rattle.bpf_maps.specs.Places.{PlaceTable, new_places}
 use Rattle.bpf_maps.specs.Any.{places_of}
-use Rattle.bpf_maps.specs.Live.{Live, Tenant, live_at, live_or, offset, value_in, count, areas, create_fault, Creates, IsLaid, SameValues}
+use Rattle.bpf_maps.specs.Live.{Live, Tenant, live_at, live_or, offset, value_in, count, areas, create_fault, Creates, IsCreated, IsLaid, SameValues}
 use Rattle.bpf_maps.specs.InMaps.{live_of, seen, IsWhole}
 use Rattle.bpf_maps.proofs.Slots.{some_entry, live_by, none_by, others_by, same_or_other}
 use Rattle.bpf_maps.proofs.Totals.{times_some, count_entries}
@@ -169,3 +169,25 @@ module _ (a : Inside) (t : Tenant) (shape : MapShape) (number size : ℕ) (r : I
           ap (λ (x : Option Live). take (live_or x).places.shape.value_size (drop (offset (live_or x) p) later)) n
           ∙ kept_at j p f.0 f.1 (omega arith)
           ∙ ap (λ (x : Option Live). take (live_or x).places.shape.value_size (drop (offset (live_or x) p) bytes)) (sym o))
+
+-- ---- seen from a key that is answered
+
+pub created : (f : Option MapFault) (old new : Tenant) (s : MapShape) (k : ℕ) → Creates f old s (Ok k) new → IsCreated old s k new
+created None old new s k h = h
+created (Some f) old new s k h = cc (h.0)
+
+-- ---- the maps that were live before
+
+module _ (old new : Tenant) (s : MapShape) (k : ℕ) (live : IsSome (live_at old k)) where
+  unfilled : (j : ℕ) → IsCreated old s j new → live_at new k ≡ live_at old k
+  unfilled j h = h.others k (λ e. true≢false (sym live ∙ ap (λ (i : ℕ). is_some (live_at old i)) e ∙ ap is_some h.was))
+
+  pub live_stays : (f : Option MapFault) (answer : Result ℕ MapFault) → Creates f old s answer new → live_at new k ≡ live_at old k
+  live_stays None (Ok j) h = unfilled j h
+  live_stays None (Err Memory) h = ap (λ (t : Tenant). live_at t k) h
+  live_stays None (Err NoEntry) h = absurd h
+  live_stays None (Err TooBig) h = absurd h
+  live_stays None (Err Exists) h = absurd h
+  live_stays None (Err Invalid) h = absurd h
+  live_stays None (Err NoSpace) h = absurd h
+  live_stays (Some f) answer h = ap (λ (t : Tenant). live_at t k) h.1

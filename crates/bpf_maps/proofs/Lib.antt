@@ -15,4 +15,4 @@ pub mod Along
 pub mod Cleared
 pub mod Created
 pub mod Released
-pub mod CallerLemmas
+pub mod Values

@@ -54,7 +54,7 @@ module _ (a : Inside) (t : Tenant) (at key : ℕ) (old gone : Entry) (c : IsTake
       pub laid_gone : IsLaid (seen (without_entry a gone size slots))
       laid_gone = laid (without_entry a gone size slots) whole_gone
 
-      none_now : live_at (seen (without_entry a gone size slots)) key ≡ None
+      pub none_now : live_at (seen (without_entry a gone size slots)) key ≡ None
       none_now = ap (λ (k : ℕ). get_or (lives slots.slots) k None) (sym c.same) ∙ none_by slots.slots slots.slots at gap
 
       lives_stay : (j : ℕ) → j ≢ key → live_at (seen (without_entry a gone size slots)) j ≡ live_at t j

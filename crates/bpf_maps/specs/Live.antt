@@ -6,7 +6,8 @@ use Rattle.tagged_model.specs.declared.fault.MapFault.{MapFault}
 use Rattle.tagged_model.specs.declared.fault.MapFault.TheVariants.{NoEntry, TooBig, Memory, Exists, Invalid, NoSpace}
 use Rattle.tagged_model.specs.Shape.{area}
 use Rattle.bpf_maps.specs.declared.part.TheConstants.{FRONT, AREA, MAPS, PART}
-use Rattle.bpf_maps.specs.Places.{PlaceTable, new_places}
+use Rattle.tagged_model.specs.Table.{Table, with_values}
+use Rattle.bpf_maps.specs.Places.{PlaceTable, table_of, new_places}
 
 -- a live map, where its area begins in the part, how far its values are from one another, and how many hold it
 pub record Live : Type 0 where
@@ -52,6 +53,10 @@ offset_at t k p = offset (live_or (live_at t k)) p
 -- the bytes of a part at a place of the map under a key
 abbrev pub value_in : List ℕ → Tenant → ℕ → ℕ → List ℕ
 value_in part t k p = take (shape_at t k).value_size (drop (offset_at t k p) part)
+
+-- the map under a key as a list of keys with the bytes of their values
+abbrev pub map_in : List ℕ → Tenant → ℕ → Table (List ℕ)
+map_in part t k = with_values (value_in part t k) (table_of (places_at t k))
 
 -- so many bytes that begin there lie in a part behind the stack and the context, and begin at a multiple of eight
 pub record IsInside (at size : ℕ) : Type 0 where

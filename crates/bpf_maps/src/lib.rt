@@ -15,7 +15,7 @@ mod value_map;
 pub use any_map::AnyMap;
 pub use array_map::ArrayMap;
 pub use hash_map::HashMapIx;
-pub use laws::calls_are_those_of_a_map;
+pub use laws::{calls_are_those_of_a_map, calls_go_along};
 pub use maps::{MapKey, Maps};
 pub use part::{AREA, FRONT, MAPS, PART};
 pub use tagged_model::MapFault;

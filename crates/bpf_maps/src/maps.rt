@@ -2,10 +2,10 @@
 
 ghost use Rattle.std.specs.Prelude.{◌≡◌, ◌≢◌, ℕ, ◌+◌, ◌-◌, ◌<◌, ◌≤◌, ◌^◌, ◌⊎◌, ◌||◌, true, false, if◌then◌else◌, [], length, take, replicate, option_map, Some, None, IfSome, IfNone, IfOk, OnErr, IsSome, slice_index_or};
 ghost use Rattle.tagged_model.specs.declared.shape.MapKind.TheVariants.{Array};
-ghost use Rattle.tagged_model.specs.Table.{look_up, verdict, removal, next_of};
+ghost use Rattle.tagged_model.specs.Table.{look_up, verdict, removal, next_of, new_table};
 ghost use Rattle.bpf_maps.specs.declared.part.TheConstants.{PART, FRONT, MAPS, AREA};
 ghost use Rattle.bpf_maps.specs.Places.{table_of, IsSound, Claims, Removes, GivesKey, after_run};
-ghost use Rattle.bpf_maps.specs.Live.{live_at, places_at, shape_at, holds_at, held_at, offset_at, value_in, IsInside, IsLaid, SameAreas, SameValues, create_fault, Creates, one_more, one_less, is_memory};
+ghost use Rattle.bpf_maps.specs.Live.{live_at, places_at, shape_at, holds_at, held_at, offset_at, value_in, map_in, IsInside, IsLaid, SameAreas, SameValues, create_fault, Creates, one_more, one_less, is_memory};
 ghost use Rattle.bpf_maps.specs.InMaps.{times_true};
 
 use crate::any_map::AnyMap;
@@ -82,7 +82,8 @@ impl Maps {
         })
     }
 
-    /// Makes a map, which one holds. Its area is the lowest that is free. The values of an array are zero bytes.
+    /// Makes a map, which one holds. Its area is the lowest that is free. A hash map has no key, and the values of an array
+    /// are zero bytes. The maps that were live stay as they are.
     ///
     /// # Errors
     ///
@@ -91,8 +92,10 @@ impl Maps {
     pub fn create(&mut self, shape: MapShape, part: &mut [u8]) -> Result<MapKey, MapFault>
         requires { length part.old ≡ PART }
         ensures created { Creates (create_fault self.old shape) self.old shape result self.new }
+        ensures older { (map : ℕ) → IsSome (live_at self.old map) → live_at self.new map ≡ live_at self.old map }
         ensures laid { IsLaid self.new }
         ensures cleared { IfOk result (λ k. shape.kind ≡ Array → (p : ℕ) → p < shape.max_entries → value_in part.new self.new k p ≡ replicate shape.value_size 0) }
+        ensures fresh { IfOk result (λ k. map_in part.new self.new k ≡ new_table (λ i. replicate shape.value_size 0) shape) }
         ensures values { SameValues self.old part.old self.new part.new }
         ensures front { take FRONT part.new ≡ take FRONT part.old }
         ensures length { length part.new ≡ PART }
@@ -123,7 +126,11 @@ impl Maps {
         requires live { IsSome (live_at self.old map) }
         requires few { holds_at self.old map < 2 ^ 32 - 1 }
         ensures more { live_at self.new map ≡ option_map one_more (live_at self.old map) }
+        ensures live { IsSome (live_at self.new map) }
+        ensures holds { holds_at self.new map ≡ holds_at self.old map + 1 }
+        ensures shape { shape_at self.new map ≡ shape_at self.old map }
         ensures others { (other : ℕ) → other ≢ map → live_at self.new other ≡ live_at self.old other }
+        ensures areas { SameAreas self.old self.new }
         ensures refused { self.new.refused ≡ self.old.refused }
         ensures laid { IsLaid self.new }
     {
@@ -136,6 +143,9 @@ impl Maps {
         requires live { IsSome (live_at self.old map) }
         requires length { length part.old ≡ PART }
         ensures less { held_at self.new map ≡ one_less (held_at self.old map) }
+        ensures stays { 1 < holds_at self.old map → IsSome (live_at self.new map) }
+        ensures shape { 1 < holds_at self.old map → shape_at self.new map ≡ shape_at self.old map }
+        ensures gone { holds_at self.old map ≤ 1 → live_at self.new map ≡ None }
         ensures others { (other : ℕ) → other ≢ map → held_at self.new other ≡ held_at self.old other }
         ensures refused { self.new.refused ≡ self.old.refused }
         ensures laid { IsLaid self.new }
@@ -210,6 +220,7 @@ impl Maps {
         ensures sound { IsSound (places_at self.new map) }
         ensures live { IsSome (live_at self.new map) }
         ensures holds { holds_at self.new map ≡ holds_at self.old map }
+        ensures shape { shape_at self.new map ≡ shape_at self.old map }
         ensures others { (other : ℕ) → other ≢ map → live_at self.new other ≡ live_at self.old other }
         ensures areas { SameAreas self.old self.new }
         ensures laid { IsLaid self.new }
@@ -233,6 +244,7 @@ impl Maps {
         ensures sound { IsSound (places_at self.new map) }
         ensures live { IsSome (live_at self.new map) }
         ensures holds { holds_at self.new map ≡ holds_at self.old map }
+        ensures shape { shape_at self.new map ≡ shape_at self.old map }
         ensures others { (other : ℕ) → other ≢ map → live_at self.new other ≡ live_at self.old other }
         ensures areas { SameAreas self.old self.new }
         ensures laid { IsLaid self.new }
@@ -263,6 +275,7 @@ impl Maps {
         ensures sound { IsSound (places_at self.new map) }
         ensures live { IsSome (live_at self.new map) }
         ensures holds { holds_at self.new map ≡ holds_at self.old map }
+        ensures shape { shape_at self.new map ≡ shape_at self.old map }
         ensures others { (other : ℕ) → other ≢ map → live_at self.new other ≡ live_at self.old other }
         ensures areas { SameAreas self.old self.new }
         ensures laid { IsLaid self.new }

@@ -2,8 +2,8 @@
 -- objects, in order. An object is anything that stands for a value: its number in a run, its place in an area, its bytes.
 -- The order of the refusals, the order of a hash map's keys, and that what a run deletes counts until the run ends are this
 -- project's own.
-use Rattle.std.specs.Prelude.{ℕ, zero, suc, ◌+◌, ◌==◌, nat_eq, nat_le, Bool, if◌then◌else◌, List, [], ◌∷◌, ◌++◌, length, Option, Some, None, is_some, Result, Ok, Err}
-use Rattle.std.specs.Map.{lookup, remove_entry}
+use Rattle.std.specs.Prelude.{ℕ, zero, suc, ◌+◌, ◌==◌, nat_eq, nat_le, Bool, if◌then◌else◌, List, [], ◌∷◌, ◌++◌, length, map, Option, Some, None, is_some, Result, Ok, Err}
+use Rattle.std.specs.Map.{lookup, remove_entry, set_value}
 use Rattle.std.specs.Cmp.Lexicographic.{pointwise}
 use Rattle.interval.specs.Bytes.{low_bytes}
 use Rattle.tagged_model.specs.declared.shape.MapKind.{MapKind}
@@ -107,9 +107,13 @@ module _ {A : Type 0} where
   abbrev pub verdict : Table A → List ℕ → ℕ → Verdict A
   verdict t key flags = if nat_le flags exist then of_found t flags (look_up t key) else Refused Invalid
 
-  -- a new key goes last, with a new object. A present key stays where it is
+  -- a new key goes last, with a new object
   abbrev pub with_new : Table A → List ℕ → A → Table A
   with_new t key a = record { shape = t.shape; entries = with_key key a t.entries; deleted = t.deleted }
+
+  -- a present key stays where it is, with another object
+  abbrev pub with_object : Table A → List ℕ → A → Table A
+  with_object t key a = record { shape = t.shape; entries = set_value (is_key key) t.entries a; deleted = t.deleted }
 
   abbrev pub removal_of : MapKind → Option A → Result A MapFault
   removal_of Array o = Err Invalid
@@ -135,3 +139,15 @@ module _ {A : Type 0} where
   -- a new map
   abbrev pub new_table : (ℕ → A) → MapShape → Table A
   new_table object shape = record { shape = shape; entries = new_entries object shape.kind shape.max_entries; deleted = 0 }
+
+-- ---- what the objects stand for
+
+module _ {A B : Type 0} (value : A → B) where
+  -- the same keys in the same order, each with what its object stands for
+  abbrev pub with_values : Table A → Table B
+  with_values t = record { shape = t.shape; entries = map (λ e. (e.0, value e.1)) t.entries; deleted = t.deleted }
+
+  abbrev pub verdict_with : Verdict A → Verdict B
+  verdict_with (Refused fault) = Refused fault
+  verdict_with (Present a) = Present (value a)
+  verdict_with New = New

@@ -59,3 +59,6 @@ returns-clause-areas c = areas_stay c.self.inside c.args.self.now c.map.inside.n
 
 pub returns-clause-laid : goal.returns-clause-laid
 returns-clause-laid c = laid_stays c.self.inside c.args.self.now c.map.inside.number c.args.map (old c) (new c) c.if-self.self (change c)
+
+pub returns-clause-shape : goal.returns-clause-shape
+returns-clause-shape c = told_of (λ l. l.places.shape) _ _ (is c) ∙ (change c).shape ∙ sym (told_of (λ l. l.places.shape) _ _ (was c))

@@ -1,7 +1,9 @@
-use Rattle.std.proofs.Common.{◌≡◌, ◌+◌, ◌*◌, ◌/◌, true, refl, subst, arith}
-use Rattle.bpf_maps.specs.Live.{IsLaid}
+use Rattle.std.proofs.Common.{◌≡◌, ◌+◌, ◌*◌, ◌/◌, true, refl, subst, arith, replicate}
+use Rattle.bpf_maps.specs.Live.{Tenant, IsLaid, create_fault}
+use Rattle.bpf_maps.specs.InMaps.{seen}
 use Rattle.bpf_maps.specs.declared.maps.Entry.{Entry}
-use Rattle.bpf_maps.proofs.Created.{IsRoom, IsAdded, room_here, creates_none, creates_one, whole_one, laid_one, front_kept, cleared_one, values_kept}
+use Rattle.bpf_maps.proofs.Created.{IsRoom, IsAdded, with_new, room_here, creates_none, creates_one, whole_one, laid_one, front_kept, cleared_one, values_kept, created, live_stays}
+use Rattle.bpf_maps.proofs.Values.{new_map_in}
 use Rattle.bpf_maps.proofs.Whole.{laid, whole_refused}
 use Rattle.bpf_maps.proofs.maps.Maps.create.Goals as goal
 
@@ -14,6 +16,9 @@ pub returns-in_default-new-clause-created : goal.returns-in_default-new-clause-c
 returns-in_default-new-clause-created c =
     creates_none c.self.inside c.args.self.now c.args.shape c.in-Some.number c.area-size.result
     (record { view = c.self.view_is; whole = c.self.invariant; size_is = c.area-size.ensures.value; below = c.in-Some.ensures.free.0; free = c.in-Some.ensures.free.1; room = c.in-Some.ensures.room })
+
+pub returns-in_default-new-clause-older : goal.returns-in_default-new-clause-older
+returns-in_default-new-clause-older c = λ map live. live_stays c.args.self.now _ c.args.shape map live (create_fault c.args.self.now c.args.shape) _ (returns-in_default-new-clause-created c)
 
 pub returns-in_default-new-clause-laid : goal.returns-in_default-new-clause-laid
 returns-in_default-new-clause-laid c = laid _ (whole_refused c.self.inside true c.self.invariant)
@@ -57,6 +62,9 @@ invariant_of-self-2 c = whole_one c.self.inside c.args.self.now c.args.shape c.i
 pub returns-clause-created : goal.returns-clause-created
 returns-clause-created c = creates_one c.self.inside c.args.self.now c.args.shape c.in-Some.number c.area-size.result (room c) c.insert_reserved-key.new.self c.insert_reserved-key.result (entry c) (added c)
 
+pub returns-clause-older : goal.returns-clause-older
+returns-clause-older c = λ map live. live_stays c.args.self.now _ c.args.shape map live (create_fault c.args.self.now c.args.shape) _ (returns-clause-created c)
+
 pub returns-clause-laid : goal.returns-clause-laid
 returns-clause-laid c = laid_one c.self.inside c.args.self.now c.args.shape c.in-Some.number c.area-size.result (room c) c.insert_reserved-key.new.self c.insert_reserved-key.result (entry c) (added c)
 
@@ -69,3 +77,9 @@ returns-clause-values c = values_kept c.self.inside c.args.self.now c.args.shape
 
 pub returns-clause-front : goal.returns-clause-front
 returns-clause-front c = front_kept c.self.inside c.args.self.now c.args.shape c.in-Some.number c.area-size.result (room c) c.insert_reserved-key.new.self c.insert_reserved-key.result (entry c) (added c) c.args.part.now c.clear.new.part c.requires c.clear.ensures
+
+pub returns-clause-fresh : goal.returns-clause-fresh
+returns-clause-fresh c =
+    let new : Tenant = seen (with_new c.self.inside c.in-Some.number c.area-size.result c.insert_reserved-key.new.self) in
+    let made = created (create_fault c.args.self.now c.args.shape) c.args.self.now new c.args.shape c.insert_reserved-key.result (returns-clause-created c) in
+    new_map_in c.clear.new.part new c.insert_reserved-key.result c.args.shape (replicate c.args.shape.value_size 0) made.places (returns-clause-cleared c)

@@ -1,8 +1,8 @@
-use Rattle.std.proofs.Common.{◌≡◌, refl, ap, sym, ◌∙◌, ◌+◌, arith, option_map, Some}
+use Rattle.std.proofs.Common.{◌≡◌, refl, ap, sym, ◌∙◌, ◌+◌, arith, option_map, Some, ℕ, is_some}
 use Rattle.bpf_maps.specs.Live.{live_at, one_more}
 use Rattle.bpf_maps.specs.InMaps.{live_of, seen}
 use Rattle.bpf_maps.specs.declared.maps.Entry.{Entry}
-use Rattle.bpf_maps.proofs.Changes.{IsChange, with_entry, live_old, live_new, others_stay, whole_stays, laid_stays}
+use Rattle.bpf_maps.proofs.Changes.{IsChange, with_entry, live_old, live_new, others_stay, areas_stay, whole_stays, laid_stays, told_of}
 use Rattle.bpf_maps.proofs.maps.Maps.hold.Goals as goal
 
 module _ (c : goal.After-self-1) where
@@ -41,3 +41,15 @@ returns-clause-others c = others_stay c.self.inside c.args.self.now c.map.inside
 
 pub returns-clause-laid : goal.returns-clause-laid
 returns-clause-laid c = laid_stays c.self.inside c.args.self.now c.map.inside.number c.args.map (old c) (new c) c.self.inside.refused (change c)
+
+pub returns-clause-live : goal.returns-clause-live
+returns-clause-live c = ap is_some (is c)
+
+pub returns-clause-holds : goal.returns-clause-holds
+returns-clause-holds c = told_of (λ l. l.holds) _ _ (is c) ∙ sym (ap (λ (n : ℕ). n + 1) (told_of (λ l. l.holds) _ _ (was c)))
+
+pub returns-clause-shape : goal.returns-clause-shape
+returns-clause-shape c = told_of (λ l. l.places.shape) _ _ (is c) ∙ (change c).shape ∙ sym (told_of (λ l. l.places.shape) _ _ (was c))
+
+pub returns-clause-areas : goal.returns-clause-areas
+returns-clause-areas c = areas_stay c.self.inside c.args.self.now c.map.inside.number c.args.map (old c) (new c) c.self.inside.refused (change c)

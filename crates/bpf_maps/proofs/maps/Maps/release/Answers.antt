@@ -1,12 +1,12 @@
-use Rattle.std.proofs.Common.{◌≡◌, ◌-◌, Some, refl, ap, ◌∙◌, option_map, arith}
+use Rattle.std.proofs.Common.{◌≡◌, ◌-◌, Some, refl, ap, sym, is_some, ◌∙◌, option_map, arith}
 use Rattle.tagged_model.specs.Shape.{area}
 use Rattle.tagged_model.specs.declared.shape.MapShape.{MapShape}
 use Rattle.bpf_maps.specs.Any.{places_of}
 use Rattle.bpf_maps.specs.Live.{live_at, without_area}
 use Rattle.bpf_maps.specs.InMaps.{live_of, seen}
 use Rattle.bpf_maps.specs.declared.maps.Entry.{Entry}
-use Rattle.bpf_maps.proofs.Changes.{IsChange, with_entry, live_old, live_new, others_stay, areas_stay, whole_stays, laid_stays, values_along, less_held}
-use Rattle.bpf_maps.proofs.Released.{IsTaken, without_entry, below_maps, size_most, whole_gone, laid_gone, less_gone, others_gone, areas_gone}
+use Rattle.bpf_maps.proofs.Changes.{IsChange, with_entry, live_here, live_old, live_new, others_stay, areas_stay, whole_stays, laid_stays, values_along, told_of, not_more, less_held}
+use Rattle.bpf_maps.proofs.Released.{IsTaken, without_entry, below_maps, size_most, whole_gone, laid_gone, less_gone, others_gone, areas_gone, none_now}
 use Rattle.bpf_maps.proofs.maps.Maps.release.Goals as goal
 
 -- ---- one hold less
@@ -89,3 +89,32 @@ pub returns-clause-values : goal.returns-clause-values
 returns-clause-values c =
     values_along c.args.self.now (seen (without_entry c.self.inside c.remove-entry.result c.area.result c.remove-entry.new.self)) c.args.part.now
     (areas_gone c.self.inside c.args.self.now c.map.inside.number c.args.map c.index_mut-entry.result.now c.remove-entry.result (gone c) c.area.result (size c) c.remove-entry.new.self c.remove-entry.ensures.updates.changed c.remove-entry.ensures.updates.others c.remove-entry.ensures.capacity)
+
+pub returns-clause-stays : goal.returns-clause-stays
+returns-clause-stays c =
+    λ more.
+    let here = live_here c.self.inside c.args.self.now c.map.inside.number c.args.map c.index_mut-entry.result.now c.self.view_is c.map.view_is c.index_mut-entry.ensures.value in
+    absurd (not_more c.args.self.now c.args.map (live_of c.index_mut-entry.result.now) here c.if-entry-gt-LAST.false more)
+
+pub returns-clause-shape : goal.returns-clause-shape
+returns-clause-shape c =
+    λ more.
+    let here = live_here c.self.inside c.args.self.now c.map.inside.number c.args.map c.index_mut-entry.result.now c.self.view_is c.map.view_is c.index_mut-entry.ensures.value in
+    absurd (not_more c.args.self.now c.args.map (live_of c.index_mut-entry.result.now) here c.if-entry-gt-LAST.false more)
+
+pub returns-clause-gone : goal.returns-clause-gone
+returns-clause-gone c =
+    λ last. none_now c.self.inside c.args.self.now c.map.inside.number c.args.map c.index_mut-entry.result.now c.remove-entry.result (gone c) c.area.result (size c) c.remove-entry.new.self c.remove-entry.ensures.updates.changed c.remove-entry.ensures.updates.others c.remove-entry.ensures.capacity
+
+pub returns-then-entry-gt-LAST-clause-stays : goal.returns-then-entry-gt-LAST-clause-stays
+returns-then-entry-gt-LAST-clause-stays c = λ more. ap is_some (is c)
+
+pub returns-then-entry-gt-LAST-clause-shape : goal.returns-then-entry-gt-LAST-clause-shape
+returns-then-entry-gt-LAST-clause-shape c = λ more. told_of (λ l. l.places.shape) _ _ (is c) ∙ sym (told_of (λ l. l.places.shape) _ _ (was c))
+
+pub returns-then-entry-gt-LAST-clause-gone : goal.returns-then-entry-gt-LAST-clause-gone
+returns-then-entry-gt-LAST-clause-gone c =
+    λ last.
+    let held = told_of (λ l. l.holds) _ _ (was c) in
+    let more = c.if-entry-gt-LAST.true in
+    absurd (omega arith)

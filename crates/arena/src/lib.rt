@@ -3,6 +3,7 @@
 //! Addresses begin at 2^32, and the parts follow one another.
 #![tactic(auto)]
 
+mod known_answers;
 mod laws;
 mod memory;
 mod numbers;

@@ -20,8 +20,3 @@ pub use maps::{MapKey, Maps};
 pub use part::{AREA, FRONT, MAPS, PART};
 pub use tagged_model::MapFault;
 pub use value_map::{ANY, EXIST, NOEXIST, ValueMap};
-
-#[cfg(test)]
-mod live_tests;
-#[cfg(test)]
-mod tests;

@@ -6,3 +6,4 @@ pub mod Printing
 pub mod Assembling
 pub mod TextLaws
 pub mod ProgramBytes
+mod Vectors

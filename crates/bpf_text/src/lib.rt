@@ -5,6 +5,7 @@ mod assembler;
 mod disassembler;
 mod fault;
 mod hexadecimal;
+mod known_answers;
 mod laws;
 mod lines;
 
@@ -16,6 +17,3 @@ pub use laws::{
     hex_lines_are_read, hex_slots_are_read, one_fault, one_hex_text, one_program,
     printed_text_is_assembled, program_has_no_fault,
 };
-
-#[cfg(test)]
-mod tests;

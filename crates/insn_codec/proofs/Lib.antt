@@ -6,3 +6,4 @@ pub mod ReadBack
 pub mod UnknownOpcode
 pub mod Laws
 pub mod FaultKinds
+mod Vectors

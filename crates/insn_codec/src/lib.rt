@@ -8,6 +8,7 @@ mod code;
 mod fault;
 mod form;
 mod insn;
+mod known_answers;
 mod opcode;
 mod program;
 mod reading;
@@ -22,6 +23,3 @@ pub use writing::encode;
 
 /// How many slots a program may have at most, a limit of this project.
 pub const MAX_SLOTS: usize = 4096;
-
-#[cfg(test)]
-mod tests;

@@ -11,3 +11,4 @@ pub mod Signed
 pub mod Sound
 pub mod SoundBits
 pub mod SoundSums
+mod Vectors

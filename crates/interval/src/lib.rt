@@ -6,6 +6,7 @@ mod arithmetic;
 mod bitwise;
 mod edges;
 mod hulls;
+mod known_answers;
 mod laws;
 mod operator;
 mod parts;
@@ -22,6 +23,3 @@ pub use laws::{
 };
 pub use operator::{Bits, ByteOrder, Comparison, Narrow, Operator};
 pub use range::Range;
-
-#[cfg(test)]
-mod tests;

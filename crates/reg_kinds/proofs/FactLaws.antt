@@ -3,12 +3,13 @@ use Rattle.std.proofs.Common.{◌≡◌, ℕ, ◌<◌, refl, sym, ap, ◌∙◌}
 use Rattle.std.proofs.lemmas.Nat.{and_comm, and_assoc}
 use Rattle.std.specs.Int.Bits.{and_zero_r, and_zero_l}
 use Rattle.reg_kinds.specs.declared.kind.Kind.{Kind}
-use Rattle.reg_kinds.specs.declared.kind.Kind.TheVariants.{Unreadable, Scalar, MapRef, Stack, Ctx, Value, MaybeValue}
+use Rattle.reg_kinds.specs.declared.kind.Kind.TheVariants.{Unreadable}
 use Rattle.reg_kinds.specs.declared.kind.Slot.TheVariants.{Bytes, Spill}
 use Rattle.reg_kinds.specs.declared.facts.Facts.{Facts}
 use Rattle.reg_kinds.specs.Kinds.{kind_at, slot_at}
 use Rattle.reg_kinds.specs.Join.{kind_join, spilled, slot_join, facts_join}
 use Rattle.reg_kinds.specs.Laws.{KindsCommute, KindsAssociate, SlotsCommute, SlotsAssociate, FactsCommute, FactsAssociate}
+use Rattle.reg_kinds.proofs.KindGroups.{nothing_last}
 use Rattle.reg_kinds.proofs.Tables.{tabulate-at, same_table, same_facts}
 
 -- ---- slots
@@ -22,51 +23,22 @@ slots_commute h (Spill j) (Spill k) = ap spilled (h j k)
 nothing_first : (k : Kind) → kind_join Unreadable k ≡ Unreadable
 nothing_first k = refl
 
-nothing_last : (k : Kind) → kind_join k Unreadable ≡ Unreadable
-nothing_last Unreadable = refl
-nothing_last (Scalar a) = refl
-nothing_last (MapRef a) = refl
-nothing_last (Stack a) = refl
-nothing_last Ctx = refl
-nothing_last (Value a) = refl
-nothing_last (MaybeValue a b) = refl
-
 -- a spilled join, joined again
 first_spilled : (j k : Kind) → slot_join (spilled j) (Spill k) ≡ spilled (kind_join j k)
 first_spilled Unreadable k = ap spilled (sym (nothing_first k))
-first_spilled (Scalar a) k = refl
-first_spilled (MapRef a) k = refl
-first_spilled (Stack a) k = refl
-first_spilled Ctx k = refl
-first_spilled (Value a) k = refl
-first_spilled (MaybeValue a b) k = refl
+first_spilled _ k = refl
 
 last_spilled : (j k : Kind) → slot_join (Spill j) (spilled k) ≡ spilled (kind_join j k)
 last_spilled j Unreadable = ap spilled (sym (nothing_last j))
-last_spilled j (Scalar a) = refl
-last_spilled j (MapRef a) = refl
-last_spilled j (Stack a) = refl
-last_spilled j Ctx = refl
-last_spilled j (Value a) = refl
-last_spilled j (MaybeValue a b) = refl
+last_spilled j _ = refl
 
 first_bytes : (x : ℕ) (k : Kind) → slot_join (Bytes x) (spilled k) ≡ Bytes 0
 first_bytes x Unreadable = ap Bytes (and_zero_r x)
-first_bytes x (Scalar a) = refl
-first_bytes x (MapRef a) = refl
-first_bytes x (Stack a) = refl
-first_bytes x Ctx = refl
-first_bytes x (Value a) = refl
-first_bytes x (MaybeValue a b) = refl
+first_bytes x _ = refl
 
 last_bytes : (x : ℕ) (k : Kind) → slot_join (spilled k) (Bytes x) ≡ Bytes 0
 last_bytes x Unreadable = ap Bytes (and_zero_l x)
-last_bytes x (Scalar a) = refl
-last_bytes x (MapRef a) = refl
-last_bytes x (Stack a) = refl
-last_bytes x Ctx = refl
-last_bytes x (Value a) = refl
-last_bytes x (MaybeValue a b) = refl
+last_bytes x _ = refl
 
 pub slots_associate : KindsAssociate → SlotsAssociate
 slots_associate h (Bytes x) (Bytes y) (Bytes z) = ap Bytes (and_assoc z x y)

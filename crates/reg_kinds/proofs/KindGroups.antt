@@ -1,362 +1,75 @@
 -- The join of three kinds is the same in either grouping.
-use Rattle.std.proofs.Common.{◌≡◌, ℕ, Bool, ◌==◌, ◌&&◌, if◌then◌else◌, refl, sym, ap}
+use Rattle.std.proofs.Common.{◌≡◌, ℕ, Bool, true, not, ◌==◌, ◌&&◌, refl, sym, ap, ◌∙◌}
 use Rattle.std.proofs.lemmas.Bool.{cond_both}
 use Rattle.std.specs.Ordering.{int_eq}
-use Rattle.interval.specs.Laws.{HullAssociates}
+use Rattle.interval.specs.Ranges.{hull}
+use Rattle.interval.specs.Laws.{HullCommutes, HullAssociates}
 use Rattle.reg_kinds.specs.declared.kind.Kind.{Kind}
 use Rattle.reg_kinds.specs.declared.kind.Kind.TheVariants.{Unreadable, Scalar, MapRef, Stack, Ctx, Value, MaybeValue}
 use Rattle.reg_kinds.specs.Pointers.{offsets_hull}
 use Rattle.reg_kinds.specs.Join.{kind_join}
 use Rattle.reg_kinds.proofs.JoinedByTest.{joined_associates, number_test, offset_test, pair_test, map_test, hull_regrouped}
+use Rattle.reg_kinds.proofs.KindOrder.{kinds_commute}
 
--- what is joined to two kinds that may differ
-first_two : (t : Bool) (j k : Kind) → kind_join j k ≡ Unreadable → kind_join Unreadable k ≡ Unreadable → kind_join (if t then j else Unreadable) k ≡ Unreadable
-first_two t j k e f = cond_both t j Unreadable (λ i. kind_join i k ≡ Unreadable) (λ _. e) (λ _. f)
+abbrev constructor_of : Kind → ℕ
+constructor_of Unreadable = 0
+constructor_of (Scalar a) = 1
+constructor_of (MapRef m) = 2
+constructor_of (Stack x) = 3
+constructor_of Ctx = 4
+constructor_of (Value p) = 5
+constructor_of (MaybeValue m s) = 6
 
-last_two : (t : Bool) (j k : Kind) → kind_join k j ≡ Unreadable → kind_join k Unreadable ≡ Unreadable → Unreadable ≡ kind_join k (if t then j else Unreadable)
-last_two t j k e f = sym (cond_both t j Unreadable (λ i. kind_join k i ≡ Unreadable) (λ _. e) (λ _. f))
+abbrev differ : Kind → Kind → Bool
+differ i j = not (constructor_of i == constructor_of j)
 
-pub kinds_associate : HullAssociates → (i j k : Kind) → kind_join (kind_join i j) k ≡ kind_join i (kind_join j k)
-kinds_associate h Unreadable Unreadable Unreadable = refl
-kinds_associate h Unreadable Unreadable (Scalar a3) = refl
-kinds_associate h Unreadable Unreadable (MapRef a3) = refl
-kinds_associate h Unreadable Unreadable (Stack a3) = refl
-kinds_associate h Unreadable Unreadable Ctx = refl
-kinds_associate h Unreadable Unreadable (Value a3) = refl
-kinds_associate h Unreadable Unreadable (MaybeValue a3 b3) = refl
-kinds_associate h Unreadable (Scalar a2) Unreadable = refl
-kinds_associate h Unreadable (Scalar a2) (Scalar a3) = refl
-kinds_associate h Unreadable (Scalar a2) (MapRef a3) = refl
-kinds_associate h Unreadable (Scalar a2) (Stack a3) = refl
-kinds_associate h Unreadable (Scalar a2) Ctx = refl
-kinds_associate h Unreadable (Scalar a2) (Value a3) = refl
-kinds_associate h Unreadable (Scalar a2) (MaybeValue a3 b3) = refl
-kinds_associate h Unreadable (MapRef a2) Unreadable = refl
-kinds_associate h Unreadable (MapRef a2) (Scalar a3) = refl
-kinds_associate h Unreadable (MapRef a2) (MapRef a3) = last_two (a2 == a3) (MapRef a2) Unreadable refl refl
-kinds_associate h Unreadable (MapRef a2) (Stack a3) = refl
-kinds_associate h Unreadable (MapRef a2) Ctx = refl
-kinds_associate h Unreadable (MapRef a2) (Value a3) = refl
-kinds_associate h Unreadable (MapRef a2) (MaybeValue a3 b3) = refl
-kinds_associate h Unreadable (Stack a2) Unreadable = refl
-kinds_associate h Unreadable (Stack a2) (Scalar a3) = refl
-kinds_associate h Unreadable (Stack a2) (MapRef a3) = refl
-kinds_associate h Unreadable (Stack a2) (Stack a3) = last_two (int_eq a2 a3) (Stack a2) Unreadable refl refl
-kinds_associate h Unreadable (Stack a2) Ctx = refl
-kinds_associate h Unreadable (Stack a2) (Value a3) = refl
-kinds_associate h Unreadable (Stack a2) (MaybeValue a3 b3) = refl
-kinds_associate h Unreadable Ctx Unreadable = refl
-kinds_associate h Unreadable Ctx (Scalar a3) = refl
-kinds_associate h Unreadable Ctx (MapRef a3) = refl
-kinds_associate h Unreadable Ctx (Stack a3) = refl
-kinds_associate h Unreadable Ctx Ctx = refl
-kinds_associate h Unreadable Ctx (Value a3) = refl
-kinds_associate h Unreadable Ctx (MaybeValue a3 b3) = refl
-kinds_associate h Unreadable (Value a2) Unreadable = refl
-kinds_associate h Unreadable (Value a2) (Scalar a3) = refl
-kinds_associate h Unreadable (Value a2) (MapRef a3) = refl
-kinds_associate h Unreadable (Value a2) (Stack a3) = refl
-kinds_associate h Unreadable (Value a2) Ctx = refl
-kinds_associate h Unreadable (Value a2) (Value a3) = last_two (a2.map == a3.map) (Value (offsets_hull a2 a3)) Unreadable refl refl
-kinds_associate h Unreadable (Value a2) (MaybeValue a3 b3) = refl
-kinds_associate h Unreadable (MaybeValue a2 b2) Unreadable = refl
-kinds_associate h Unreadable (MaybeValue a2 b2) (Scalar a3) = refl
-kinds_associate h Unreadable (MaybeValue a2 b2) (MapRef a3) = refl
-kinds_associate h Unreadable (MaybeValue a2 b2) (Stack a3) = refl
-kinds_associate h Unreadable (MaybeValue a2 b2) Ctx = refl
-kinds_associate h Unreadable (MaybeValue a2 b2) (Value a3) = refl
-kinds_associate h Unreadable (MaybeValue a2 b2) (MaybeValue a3 b3) = last_two ((a2 == a3) && (b2 == b3)) (MaybeValue a2 b2) Unreadable refl refl
-kinds_associate h (Scalar a1) Unreadable Unreadable = refl
-kinds_associate h (Scalar a1) Unreadable (Scalar a3) = refl
-kinds_associate h (Scalar a1) Unreadable (MapRef a3) = refl
-kinds_associate h (Scalar a1) Unreadable (Stack a3) = refl
-kinds_associate h (Scalar a1) Unreadable Ctx = refl
-kinds_associate h (Scalar a1) Unreadable (Value a3) = refl
-kinds_associate h (Scalar a1) Unreadable (MaybeValue a3 b3) = refl
-kinds_associate h (Scalar a1) (Scalar a2) Unreadable = refl
-kinds_associate h (Scalar a1) (Scalar a2) (Scalar a3) = ap Scalar (h a1 a2 a3)
-kinds_associate h (Scalar a1) (Scalar a2) (MapRef a3) = refl
-kinds_associate h (Scalar a1) (Scalar a2) (Stack a3) = refl
-kinds_associate h (Scalar a1) (Scalar a2) Ctx = refl
-kinds_associate h (Scalar a1) (Scalar a2) (Value a3) = refl
-kinds_associate h (Scalar a1) (Scalar a2) (MaybeValue a3 b3) = refl
-kinds_associate h (Scalar a1) (MapRef a2) Unreadable = refl
-kinds_associate h (Scalar a1) (MapRef a2) (Scalar a3) = refl
-kinds_associate h (Scalar a1) (MapRef a2) (MapRef a3) = last_two (a2 == a3) (MapRef a2) (Scalar a1) refl refl
-kinds_associate h (Scalar a1) (MapRef a2) (Stack a3) = refl
-kinds_associate h (Scalar a1) (MapRef a2) Ctx = refl
-kinds_associate h (Scalar a1) (MapRef a2) (Value a3) = refl
-kinds_associate h (Scalar a1) (MapRef a2) (MaybeValue a3 b3) = refl
-kinds_associate h (Scalar a1) (Stack a2) Unreadable = refl
-kinds_associate h (Scalar a1) (Stack a2) (Scalar a3) = refl
-kinds_associate h (Scalar a1) (Stack a2) (MapRef a3) = refl
-kinds_associate h (Scalar a1) (Stack a2) (Stack a3) = last_two (int_eq a2 a3) (Stack a2) (Scalar a1) refl refl
-kinds_associate h (Scalar a1) (Stack a2) Ctx = refl
-kinds_associate h (Scalar a1) (Stack a2) (Value a3) = refl
-kinds_associate h (Scalar a1) (Stack a2) (MaybeValue a3 b3) = refl
-kinds_associate h (Scalar a1) Ctx Unreadable = refl
-kinds_associate h (Scalar a1) Ctx (Scalar a3) = refl
-kinds_associate h (Scalar a1) Ctx (MapRef a3) = refl
-kinds_associate h (Scalar a1) Ctx (Stack a3) = refl
-kinds_associate h (Scalar a1) Ctx Ctx = refl
-kinds_associate h (Scalar a1) Ctx (Value a3) = refl
-kinds_associate h (Scalar a1) Ctx (MaybeValue a3 b3) = refl
-kinds_associate h (Scalar a1) (Value a2) Unreadable = refl
-kinds_associate h (Scalar a1) (Value a2) (Scalar a3) = refl
-kinds_associate h (Scalar a1) (Value a2) (MapRef a3) = refl
-kinds_associate h (Scalar a1) (Value a2) (Stack a3) = refl
-kinds_associate h (Scalar a1) (Value a2) Ctx = refl
-kinds_associate h (Scalar a1) (Value a2) (Value a3) = last_two (a2.map == a3.map) (Value (offsets_hull a2 a3)) (Scalar a1) refl refl
-kinds_associate h (Scalar a1) (Value a2) (MaybeValue a3 b3) = refl
-kinds_associate h (Scalar a1) (MaybeValue a2 b2) Unreadable = refl
-kinds_associate h (Scalar a1) (MaybeValue a2 b2) (Scalar a3) = refl
-kinds_associate h (Scalar a1) (MaybeValue a2 b2) (MapRef a3) = refl
-kinds_associate h (Scalar a1) (MaybeValue a2 b2) (Stack a3) = refl
-kinds_associate h (Scalar a1) (MaybeValue a2 b2) Ctx = refl
-kinds_associate h (Scalar a1) (MaybeValue a2 b2) (Value a3) = refl
-kinds_associate h (Scalar a1) (MaybeValue a2 b2) (MaybeValue a3 b3) = last_two ((a2 == a3) && (b2 == b3)) (MaybeValue a2 b2) (Scalar a1) refl refl
-kinds_associate h (MapRef a1) Unreadable Unreadable = refl
-kinds_associate h (MapRef a1) Unreadable (Scalar a3) = refl
-kinds_associate h (MapRef a1) Unreadable (MapRef a3) = refl
-kinds_associate h (MapRef a1) Unreadable (Stack a3) = refl
-kinds_associate h (MapRef a1) Unreadable Ctx = refl
-kinds_associate h (MapRef a1) Unreadable (Value a3) = refl
-kinds_associate h (MapRef a1) Unreadable (MaybeValue a3 b3) = refl
-kinds_associate h (MapRef a1) (Scalar a2) Unreadable = refl
-kinds_associate h (MapRef a1) (Scalar a2) (Scalar a3) = refl
-kinds_associate h (MapRef a1) (Scalar a2) (MapRef a3) = refl
-kinds_associate h (MapRef a1) (Scalar a2) (Stack a3) = refl
-kinds_associate h (MapRef a1) (Scalar a2) Ctx = refl
-kinds_associate h (MapRef a1) (Scalar a2) (Value a3) = refl
-kinds_associate h (MapRef a1) (Scalar a2) (MaybeValue a3 b3) = refl
-kinds_associate h (MapRef a1) (MapRef a2) Unreadable = first_two (a1 == a2) (MapRef a1) Unreadable refl refl
-kinds_associate h (MapRef a1) (MapRef a2) (Scalar a3) = first_two (a1 == a2) (MapRef a1) (Scalar a3) refl refl
-kinds_associate h (MapRef a1) (MapRef a2) (MapRef a3) = joined_associates MapRef number_test (λ x y. x) (λ x y. refl) (λ x. refl) (λ x. refl) (λ x y z. refl) (λ x y z. refl) (λ x y z. refl) a1 a2 a3
-kinds_associate h (MapRef a1) (MapRef a2) (Stack a3) = first_two (a1 == a2) (MapRef a1) (Stack a3) refl refl
-kinds_associate h (MapRef a1) (MapRef a2) Ctx = first_two (a1 == a2) (MapRef a1) Ctx refl refl
-kinds_associate h (MapRef a1) (MapRef a2) (Value a3) = first_two (a1 == a2) (MapRef a1) (Value a3) refl refl
-kinds_associate h (MapRef a1) (MapRef a2) (MaybeValue a3 b3) = first_two (a1 == a2) (MapRef a1) (MaybeValue a3 b3) refl refl
-kinds_associate h (MapRef a1) (Stack a2) Unreadable = refl
-kinds_associate h (MapRef a1) (Stack a2) (Scalar a3) = refl
-kinds_associate h (MapRef a1) (Stack a2) (MapRef a3) = refl
-kinds_associate h (MapRef a1) (Stack a2) (Stack a3) = last_two (int_eq a2 a3) (Stack a2) (MapRef a1) refl refl
-kinds_associate h (MapRef a1) (Stack a2) Ctx = refl
-kinds_associate h (MapRef a1) (Stack a2) (Value a3) = refl
-kinds_associate h (MapRef a1) (Stack a2) (MaybeValue a3 b3) = refl
-kinds_associate h (MapRef a1) Ctx Unreadable = refl
-kinds_associate h (MapRef a1) Ctx (Scalar a3) = refl
-kinds_associate h (MapRef a1) Ctx (MapRef a3) = refl
-kinds_associate h (MapRef a1) Ctx (Stack a3) = refl
-kinds_associate h (MapRef a1) Ctx Ctx = refl
-kinds_associate h (MapRef a1) Ctx (Value a3) = refl
-kinds_associate h (MapRef a1) Ctx (MaybeValue a3 b3) = refl
-kinds_associate h (MapRef a1) (Value a2) Unreadable = refl
-kinds_associate h (MapRef a1) (Value a2) (Scalar a3) = refl
-kinds_associate h (MapRef a1) (Value a2) (MapRef a3) = refl
-kinds_associate h (MapRef a1) (Value a2) (Stack a3) = refl
-kinds_associate h (MapRef a1) (Value a2) Ctx = refl
-kinds_associate h (MapRef a1) (Value a2) (Value a3) = last_two (a2.map == a3.map) (Value (offsets_hull a2 a3)) (MapRef a1) refl refl
-kinds_associate h (MapRef a1) (Value a2) (MaybeValue a3 b3) = refl
-kinds_associate h (MapRef a1) (MaybeValue a2 b2) Unreadable = refl
-kinds_associate h (MapRef a1) (MaybeValue a2 b2) (Scalar a3) = refl
-kinds_associate h (MapRef a1) (MaybeValue a2 b2) (MapRef a3) = refl
-kinds_associate h (MapRef a1) (MaybeValue a2 b2) (Stack a3) = refl
-kinds_associate h (MapRef a1) (MaybeValue a2 b2) Ctx = refl
-kinds_associate h (MapRef a1) (MaybeValue a2 b2) (Value a3) = refl
-kinds_associate h (MapRef a1) (MaybeValue a2 b2) (MaybeValue a3 b3) = last_two ((a2 == a3) && (b2 == b3)) (MaybeValue a2 b2) (MapRef a1) refl refl
-kinds_associate h (Stack a1) Unreadable Unreadable = refl
-kinds_associate h (Stack a1) Unreadable (Scalar a3) = refl
-kinds_associate h (Stack a1) Unreadable (MapRef a3) = refl
-kinds_associate h (Stack a1) Unreadable (Stack a3) = refl
-kinds_associate h (Stack a1) Unreadable Ctx = refl
-kinds_associate h (Stack a1) Unreadable (Value a3) = refl
-kinds_associate h (Stack a1) Unreadable (MaybeValue a3 b3) = refl
-kinds_associate h (Stack a1) (Scalar a2) Unreadable = refl
-kinds_associate h (Stack a1) (Scalar a2) (Scalar a3) = refl
-kinds_associate h (Stack a1) (Scalar a2) (MapRef a3) = refl
-kinds_associate h (Stack a1) (Scalar a2) (Stack a3) = refl
-kinds_associate h (Stack a1) (Scalar a2) Ctx = refl
-kinds_associate h (Stack a1) (Scalar a2) (Value a3) = refl
-kinds_associate h (Stack a1) (Scalar a2) (MaybeValue a3 b3) = refl
-kinds_associate h (Stack a1) (MapRef a2) Unreadable = refl
-kinds_associate h (Stack a1) (MapRef a2) (Scalar a3) = refl
-kinds_associate h (Stack a1) (MapRef a2) (MapRef a3) = last_two (a2 == a3) (MapRef a2) (Stack a1) refl refl
-kinds_associate h (Stack a1) (MapRef a2) (Stack a3) = refl
-kinds_associate h (Stack a1) (MapRef a2) Ctx = refl
-kinds_associate h (Stack a1) (MapRef a2) (Value a3) = refl
-kinds_associate h (Stack a1) (MapRef a2) (MaybeValue a3 b3) = refl
-kinds_associate h (Stack a1) (Stack a2) Unreadable = first_two (int_eq a1 a2) (Stack a1) Unreadable refl refl
-kinds_associate h (Stack a1) (Stack a2) (Scalar a3) = first_two (int_eq a1 a2) (Stack a1) (Scalar a3) refl refl
-kinds_associate h (Stack a1) (Stack a2) (MapRef a3) = first_two (int_eq a1 a2) (Stack a1) (MapRef a3) refl refl
-kinds_associate h (Stack a1) (Stack a2) (Stack a3) = joined_associates Stack offset_test (λ x y. x) (λ x y. refl) (λ x. refl) (λ x. refl) (λ x y z. refl) (λ x y z. refl) (λ x y z. refl) a1 a2 a3
-kinds_associate h (Stack a1) (Stack a2) Ctx = first_two (int_eq a1 a2) (Stack a1) Ctx refl refl
-kinds_associate h (Stack a1) (Stack a2) (Value a3) = first_two (int_eq a1 a2) (Stack a1) (Value a3) refl refl
-kinds_associate h (Stack a1) (Stack a2) (MaybeValue a3 b3) = first_two (int_eq a1 a2) (Stack a1) (MaybeValue a3 b3) refl refl
-kinds_associate h (Stack a1) Ctx Unreadable = refl
-kinds_associate h (Stack a1) Ctx (Scalar a3) = refl
-kinds_associate h (Stack a1) Ctx (MapRef a3) = refl
-kinds_associate h (Stack a1) Ctx (Stack a3) = refl
-kinds_associate h (Stack a1) Ctx Ctx = refl
-kinds_associate h (Stack a1) Ctx (Value a3) = refl
-kinds_associate h (Stack a1) Ctx (MaybeValue a3 b3) = refl
-kinds_associate h (Stack a1) (Value a2) Unreadable = refl
-kinds_associate h (Stack a1) (Value a2) (Scalar a3) = refl
-kinds_associate h (Stack a1) (Value a2) (MapRef a3) = refl
-kinds_associate h (Stack a1) (Value a2) (Stack a3) = refl
-kinds_associate h (Stack a1) (Value a2) Ctx = refl
-kinds_associate h (Stack a1) (Value a2) (Value a3) = last_two (a2.map == a3.map) (Value (offsets_hull a2 a3)) (Stack a1) refl refl
-kinds_associate h (Stack a1) (Value a2) (MaybeValue a3 b3) = refl
-kinds_associate h (Stack a1) (MaybeValue a2 b2) Unreadable = refl
-kinds_associate h (Stack a1) (MaybeValue a2 b2) (Scalar a3) = refl
-kinds_associate h (Stack a1) (MaybeValue a2 b2) (MapRef a3) = refl
-kinds_associate h (Stack a1) (MaybeValue a2 b2) (Stack a3) = refl
-kinds_associate h (Stack a1) (MaybeValue a2 b2) Ctx = refl
-kinds_associate h (Stack a1) (MaybeValue a2 b2) (Value a3) = refl
-kinds_associate h (Stack a1) (MaybeValue a2 b2) (MaybeValue a3 b3) = last_two ((a2 == a3) && (b2 == b3)) (MaybeValue a2 b2) (Stack a1) refl refl
-kinds_associate h Ctx Unreadable Unreadable = refl
-kinds_associate h Ctx Unreadable (Scalar a3) = refl
-kinds_associate h Ctx Unreadable (MapRef a3) = refl
-kinds_associate h Ctx Unreadable (Stack a3) = refl
-kinds_associate h Ctx Unreadable Ctx = refl
-kinds_associate h Ctx Unreadable (Value a3) = refl
-kinds_associate h Ctx Unreadable (MaybeValue a3 b3) = refl
-kinds_associate h Ctx (Scalar a2) Unreadable = refl
-kinds_associate h Ctx (Scalar a2) (Scalar a3) = refl
-kinds_associate h Ctx (Scalar a2) (MapRef a3) = refl
-kinds_associate h Ctx (Scalar a2) (Stack a3) = refl
-kinds_associate h Ctx (Scalar a2) Ctx = refl
-kinds_associate h Ctx (Scalar a2) (Value a3) = refl
-kinds_associate h Ctx (Scalar a2) (MaybeValue a3 b3) = refl
-kinds_associate h Ctx (MapRef a2) Unreadable = refl
-kinds_associate h Ctx (MapRef a2) (Scalar a3) = refl
-kinds_associate h Ctx (MapRef a2) (MapRef a3) = last_two (a2 == a3) (MapRef a2) Ctx refl refl
-kinds_associate h Ctx (MapRef a2) (Stack a3) = refl
-kinds_associate h Ctx (MapRef a2) Ctx = refl
-kinds_associate h Ctx (MapRef a2) (Value a3) = refl
-kinds_associate h Ctx (MapRef a2) (MaybeValue a3 b3) = refl
-kinds_associate h Ctx (Stack a2) Unreadable = refl
-kinds_associate h Ctx (Stack a2) (Scalar a3) = refl
-kinds_associate h Ctx (Stack a2) (MapRef a3) = refl
-kinds_associate h Ctx (Stack a2) (Stack a3) = last_two (int_eq a2 a3) (Stack a2) Ctx refl refl
-kinds_associate h Ctx (Stack a2) Ctx = refl
-kinds_associate h Ctx (Stack a2) (Value a3) = refl
-kinds_associate h Ctx (Stack a2) (MaybeValue a3 b3) = refl
-kinds_associate h Ctx Ctx Unreadable = refl
-kinds_associate h Ctx Ctx (Scalar a3) = refl
-kinds_associate h Ctx Ctx (MapRef a3) = refl
-kinds_associate h Ctx Ctx (Stack a3) = refl
-kinds_associate h Ctx Ctx Ctx = refl
-kinds_associate h Ctx Ctx (Value a3) = refl
-kinds_associate h Ctx Ctx (MaybeValue a3 b3) = refl
-kinds_associate h Ctx (Value a2) Unreadable = refl
-kinds_associate h Ctx (Value a2) (Scalar a3) = refl
-kinds_associate h Ctx (Value a2) (MapRef a3) = refl
-kinds_associate h Ctx (Value a2) (Stack a3) = refl
-kinds_associate h Ctx (Value a2) Ctx = refl
-kinds_associate h Ctx (Value a2) (Value a3) = last_two (a2.map == a3.map) (Value (offsets_hull a2 a3)) Ctx refl refl
-kinds_associate h Ctx (Value a2) (MaybeValue a3 b3) = refl
-kinds_associate h Ctx (MaybeValue a2 b2) Unreadable = refl
-kinds_associate h Ctx (MaybeValue a2 b2) (Scalar a3) = refl
-kinds_associate h Ctx (MaybeValue a2 b2) (MapRef a3) = refl
-kinds_associate h Ctx (MaybeValue a2 b2) (Stack a3) = refl
-kinds_associate h Ctx (MaybeValue a2 b2) Ctx = refl
-kinds_associate h Ctx (MaybeValue a2 b2) (Value a3) = refl
-kinds_associate h Ctx (MaybeValue a2 b2) (MaybeValue a3 b3) = last_two ((a2 == a3) && (b2 == b3)) (MaybeValue a2 b2) Ctx refl refl
-kinds_associate h (Value a1) Unreadable Unreadable = refl
-kinds_associate h (Value a1) Unreadable (Scalar a3) = refl
-kinds_associate h (Value a1) Unreadable (MapRef a3) = refl
-kinds_associate h (Value a1) Unreadable (Stack a3) = refl
-kinds_associate h (Value a1) Unreadable Ctx = refl
-kinds_associate h (Value a1) Unreadable (Value a3) = refl
-kinds_associate h (Value a1) Unreadable (MaybeValue a3 b3) = refl
-kinds_associate h (Value a1) (Scalar a2) Unreadable = refl
-kinds_associate h (Value a1) (Scalar a2) (Scalar a3) = refl
-kinds_associate h (Value a1) (Scalar a2) (MapRef a3) = refl
-kinds_associate h (Value a1) (Scalar a2) (Stack a3) = refl
-kinds_associate h (Value a1) (Scalar a2) Ctx = refl
-kinds_associate h (Value a1) (Scalar a2) (Value a3) = refl
-kinds_associate h (Value a1) (Scalar a2) (MaybeValue a3 b3) = refl
-kinds_associate h (Value a1) (MapRef a2) Unreadable = refl
-kinds_associate h (Value a1) (MapRef a2) (Scalar a3) = refl
-kinds_associate h (Value a1) (MapRef a2) (MapRef a3) = last_two (a2 == a3) (MapRef a2) (Value a1) refl refl
-kinds_associate h (Value a1) (MapRef a2) (Stack a3) = refl
-kinds_associate h (Value a1) (MapRef a2) Ctx = refl
-kinds_associate h (Value a1) (MapRef a2) (Value a3) = refl
-kinds_associate h (Value a1) (MapRef a2) (MaybeValue a3 b3) = refl
-kinds_associate h (Value a1) (Stack a2) Unreadable = refl
-kinds_associate h (Value a1) (Stack a2) (Scalar a3) = refl
-kinds_associate h (Value a1) (Stack a2) (MapRef a3) = refl
-kinds_associate h (Value a1) (Stack a2) (Stack a3) = last_two (int_eq a2 a3) (Stack a2) (Value a1) refl refl
-kinds_associate h (Value a1) (Stack a2) Ctx = refl
-kinds_associate h (Value a1) (Stack a2) (Value a3) = refl
-kinds_associate h (Value a1) (Stack a2) (MaybeValue a3 b3) = refl
-kinds_associate h (Value a1) Ctx Unreadable = refl
-kinds_associate h (Value a1) Ctx (Scalar a3) = refl
-kinds_associate h (Value a1) Ctx (MapRef a3) = refl
-kinds_associate h (Value a1) Ctx (Stack a3) = refl
-kinds_associate h (Value a1) Ctx Ctx = refl
-kinds_associate h (Value a1) Ctx (Value a3) = refl
-kinds_associate h (Value a1) Ctx (MaybeValue a3 b3) = refl
-kinds_associate h (Value a1) (Value a2) Unreadable = first_two (a1.map == a2.map) (Value (offsets_hull a1 a2)) Unreadable refl refl
-kinds_associate h (Value a1) (Value a2) (Scalar a3) = first_two (a1.map == a2.map) (Value (offsets_hull a1 a2)) (Scalar a3) refl refl
-kinds_associate h (Value a1) (Value a2) (MapRef a3) = first_two (a1.map == a2.map) (Value (offsets_hull a1 a2)) (MapRef a3) refl refl
-kinds_associate h (Value a1) (Value a2) (Stack a3) = first_two (a1.map == a2.map) (Value (offsets_hull a1 a2)) (Stack a3) refl refl
-kinds_associate h (Value a1) (Value a2) Ctx = first_two (a1.map == a2.map) (Value (offsets_hull a1 a2)) Ctx refl refl
-kinds_associate h (Value a1) (Value a2) (Value a3) = joined_associates Value map_test offsets_hull (λ x y. refl) (λ x. refl) (λ x. refl) (λ x y z. refl) (λ x y z. refl) (λ x y z. ap Value (hull_regrouped x y z)) a1 a2 a3
-kinds_associate h (Value a1) (Value a2) (MaybeValue a3 b3) = first_two (a1.map == a2.map) (Value (offsets_hull a1 a2)) (MaybeValue a3 b3) refl refl
-kinds_associate h (Value a1) (MaybeValue a2 b2) Unreadable = refl
-kinds_associate h (Value a1) (MaybeValue a2 b2) (Scalar a3) = refl
-kinds_associate h (Value a1) (MaybeValue a2 b2) (MapRef a3) = refl
-kinds_associate h (Value a1) (MaybeValue a2 b2) (Stack a3) = refl
-kinds_associate h (Value a1) (MaybeValue a2 b2) Ctx = refl
-kinds_associate h (Value a1) (MaybeValue a2 b2) (Value a3) = refl
-kinds_associate h (Value a1) (MaybeValue a2 b2) (MaybeValue a3 b3) = last_two ((a2 == a3) && (b2 == b3)) (MaybeValue a2 b2) (Value a1) refl refl
-kinds_associate h (MaybeValue a1 b1) Unreadable Unreadable = refl
-kinds_associate h (MaybeValue a1 b1) Unreadable (Scalar a3) = refl
-kinds_associate h (MaybeValue a1 b1) Unreadable (MapRef a3) = refl
-kinds_associate h (MaybeValue a1 b1) Unreadable (Stack a3) = refl
-kinds_associate h (MaybeValue a1 b1) Unreadable Ctx = refl
-kinds_associate h (MaybeValue a1 b1) Unreadable (Value a3) = refl
-kinds_associate h (MaybeValue a1 b1) Unreadable (MaybeValue a3 b3) = refl
-kinds_associate h (MaybeValue a1 b1) (Scalar a2) Unreadable = refl
-kinds_associate h (MaybeValue a1 b1) (Scalar a2) (Scalar a3) = refl
-kinds_associate h (MaybeValue a1 b1) (Scalar a2) (MapRef a3) = refl
-kinds_associate h (MaybeValue a1 b1) (Scalar a2) (Stack a3) = refl
-kinds_associate h (MaybeValue a1 b1) (Scalar a2) Ctx = refl
-kinds_associate h (MaybeValue a1 b1) (Scalar a2) (Value a3) = refl
-kinds_associate h (MaybeValue a1 b1) (Scalar a2) (MaybeValue a3 b3) = refl
-kinds_associate h (MaybeValue a1 b1) (MapRef a2) Unreadable = refl
-kinds_associate h (MaybeValue a1 b1) (MapRef a2) (Scalar a3) = refl
-kinds_associate h (MaybeValue a1 b1) (MapRef a2) (MapRef a3) = last_two (a2 == a3) (MapRef a2) (MaybeValue a1 b1) refl refl
-kinds_associate h (MaybeValue a1 b1) (MapRef a2) (Stack a3) = refl
-kinds_associate h (MaybeValue a1 b1) (MapRef a2) Ctx = refl
-kinds_associate h (MaybeValue a1 b1) (MapRef a2) (Value a3) = refl
-kinds_associate h (MaybeValue a1 b1) (MapRef a2) (MaybeValue a3 b3) = refl
-kinds_associate h (MaybeValue a1 b1) (Stack a2) Unreadable = refl
-kinds_associate h (MaybeValue a1 b1) (Stack a2) (Scalar a3) = refl
-kinds_associate h (MaybeValue a1 b1) (Stack a2) (MapRef a3) = refl
-kinds_associate h (MaybeValue a1 b1) (Stack a2) (Stack a3) = last_two (int_eq a2 a3) (Stack a2) (MaybeValue a1 b1) refl refl
-kinds_associate h (MaybeValue a1 b1) (Stack a2) Ctx = refl
-kinds_associate h (MaybeValue a1 b1) (Stack a2) (Value a3) = refl
-kinds_associate h (MaybeValue a1 b1) (Stack a2) (MaybeValue a3 b3) = refl
-kinds_associate h (MaybeValue a1 b1) Ctx Unreadable = refl
-kinds_associate h (MaybeValue a1 b1) Ctx (Scalar a3) = refl
-kinds_associate h (MaybeValue a1 b1) Ctx (MapRef a3) = refl
-kinds_associate h (MaybeValue a1 b1) Ctx (Stack a3) = refl
-kinds_associate h (MaybeValue a1 b1) Ctx Ctx = refl
-kinds_associate h (MaybeValue a1 b1) Ctx (Value a3) = refl
-kinds_associate h (MaybeValue a1 b1) Ctx (MaybeValue a3 b3) = refl
-kinds_associate h (MaybeValue a1 b1) (Value a2) Unreadable = refl
-kinds_associate h (MaybeValue a1 b1) (Value a2) (Scalar a3) = refl
-kinds_associate h (MaybeValue a1 b1) (Value a2) (MapRef a3) = refl
-kinds_associate h (MaybeValue a1 b1) (Value a2) (Stack a3) = refl
-kinds_associate h (MaybeValue a1 b1) (Value a2) Ctx = refl
-kinds_associate h (MaybeValue a1 b1) (Value a2) (Value a3) = last_two (a2.map == a3.map) (Value (offsets_hull a2 a3)) (MaybeValue a1 b1) refl refl
-kinds_associate h (MaybeValue a1 b1) (Value a2) (MaybeValue a3 b3) = refl
-kinds_associate h (MaybeValue a1 b1) (MaybeValue a2 b2) Unreadable = first_two ((a1 == a2) && (b1 == b2)) (MaybeValue a1 b1) Unreadable refl refl
-kinds_associate h (MaybeValue a1 b1) (MaybeValue a2 b2) (Scalar a3) = first_two ((a1 == a2) && (b1 == b2)) (MaybeValue a1 b1) (Scalar a3) refl refl
-kinds_associate h (MaybeValue a1 b1) (MaybeValue a2 b2) (MapRef a3) = first_two ((a1 == a2) && (b1 == b2)) (MaybeValue a1 b1) (MapRef a3) refl refl
-kinds_associate h (MaybeValue a1 b1) (MaybeValue a2 b2) (Stack a3) = first_two ((a1 == a2) && (b1 == b2)) (MaybeValue a1 b1) (Stack a3) refl refl
-kinds_associate h (MaybeValue a1 b1) (MaybeValue a2 b2) Ctx = first_two ((a1 == a2) && (b1 == b2)) (MaybeValue a1 b1) Ctx refl refl
-kinds_associate h (MaybeValue a1 b1) (MaybeValue a2 b2) (Value a3) = first_two ((a1 == a2) && (b1 == b2)) (MaybeValue a1 b1) (Value a3) refl refl
-kinds_associate h (MaybeValue a1 b1) (MaybeValue a2 b2) (MaybeValue a3 b3) = joined_associates (λ (p : ℕ × ℕ). MaybeValue p.0 p.1) pair_test (λ x y. x) (λ x y. refl) (λ x. refl) (λ x. refl) (λ x y z. refl) (λ x y z. refl) (λ x y z. refl) (a1, b1) (a2, b2) (a3, b3)
+pub nothing_last : (i : Kind) → kind_join i Unreadable ≡ Unreadable
+nothing_last Unreadable = refl
+nothing_last _ = refl
+
+-- kinds of different constructors have nothing in common
+different : (i j : Kind) → differ i j ≡ true → kind_join i j ≡ Unreadable
+different Unreadable j d = refl
+different (Scalar a) (Scalar b) d = absurd (cc)
+different (MapRef m) (MapRef n) d = absurd (cc)
+different (Stack x) (Stack y) d = absurd (cc)
+different Ctx Ctx d = absurd (cc)
+different (Value p) (Value q) d = absurd (cc)
+different (MaybeValue m s) (MaybeValue n t) d = absurd (cc)
+different _ _ d = refl
+
+-- a join of two is of the first one's constructor, if anything is known of it
+different_from_join : (i j k : Kind) → differ i j ≡ true → kind_join i (kind_join j k) ≡ Unreadable
+different_from_join i (Scalar a) (Scalar b) d = different i (Scalar (hull a b)) d
+different_from_join i (MapRef m) (MapRef n) d = cond_both (m == n) (MapRef m) Unreadable (λ x. kind_join i x ≡ Unreadable) (λ _. different i (MapRef m) d) (λ _. nothing_last i)
+different_from_join i (Stack x) (Stack y) d = cond_both (int_eq x y) (Stack x) Unreadable (λ x. kind_join i x ≡ Unreadable) (λ _. different i (Stack x) d) (λ _. nothing_last i)
+different_from_join i Ctx Ctx d = different i Ctx d
+different_from_join i (Value p) (Value q) d = cond_both (p.map == q.map) (Value (offsets_hull p q)) Unreadable (λ x. kind_join i x ≡ Unreadable) (λ _. different i (Value (offsets_hull p q)) d) (λ _. nothing_last i)
+different_from_join i (MaybeValue m s) (MaybeValue n t) d = cond_both ((m == n) && (s == t)) (MaybeValue m s) Unreadable (λ x. kind_join i x ≡ Unreadable) (λ _. different i (MaybeValue m s) d) (λ _. nothing_last i)
+different_from_join i _ _ d = nothing_last i
+
+first_differs : (i j k : Kind) → differ i j ≡ true → kind_join (kind_join i j) k ≡ kind_join i (kind_join j k)
+first_differs i j k d = ap (λ x. kind_join x k) (different i j d) ∙ sym (different_from_join i j k d)
+
+-- what is so for three kinds is so for them in the other order
+last_differs : HullCommutes → (i j k : Kind) → differ k j ≡ true → kind_join (kind_join i j) k ≡ kind_join i (kind_join j k)
+last_differs h i j k d =
+    kinds_commute h (kind_join i j) k
+    ∙ (ap (kind_join k) (kinds_commute h i j)
+    ∙ (sym (first_differs k j i d) ∙ (kinds_commute h (kind_join k j) i ∙ ap (kind_join i) (kinds_commute h k j))))
+
+pub kinds_associate : HullCommutes → HullAssociates → (i j k : Kind) → kind_join (kind_join i j) k ≡ kind_join i (kind_join j k)
+kinds_associate h g Unreadable j k = refl
+kinds_associate h g (Scalar a) (Scalar b) (Scalar c) = ap Scalar (g a b c)
+kinds_associate h g (Scalar a) (Scalar b) k = last_differs h (Scalar a) (Scalar b) k refl
+kinds_associate h g (MapRef l) (MapRef m) (MapRef n) = joined_associates MapRef number_test (λ x y. x) (λ x y. refl) (λ x. refl) (λ x. refl) (λ x y z. refl) (λ x y z. refl) (λ x y z. refl) l m n
+kinds_associate h g (MapRef l) (MapRef m) k = last_differs h (MapRef l) (MapRef m) k refl
+kinds_associate h g (Stack x) (Stack y) (Stack z) = joined_associates Stack offset_test (λ x y. x) (λ x y. refl) (λ x. refl) (λ x. refl) (λ x y z. refl) (λ x y z. refl) (λ x y z. refl) x y z
+kinds_associate h g (Stack x) (Stack y) k = last_differs h (Stack x) (Stack y) k refl
+kinds_associate h g Ctx Ctx Ctx = refl
+kinds_associate h g Ctx Ctx k = last_differs h Ctx Ctx k refl
+kinds_associate h g (Value p) (Value q) (Value r) = joined_associates Value map_test offsets_hull (λ x y. refl) (λ x. refl) (λ x. refl) (λ x y z. refl) (λ x y z. refl) (λ x y z. ap Value (hull_regrouped x y z)) p q r
+kinds_associate h g (Value p) (Value q) k = last_differs h (Value p) (Value q) k refl
+kinds_associate h g (MaybeValue l s) (MaybeValue m t) (MaybeValue n u) = joined_associates (λ (p : ℕ × ℕ). MaybeValue p.0 p.1) pair_test (λ x y. x) (λ x y. refl) (λ x. refl) (λ x. refl) (λ x y z. refl) (λ x y z. refl) (λ x y z. refl) (l, s) (m, t) (n, u)
+kinds_associate h g (MaybeValue l s) (MaybeValue m t) k = last_differs h (MaybeValue l s) (MaybeValue m t) k refl
+kinds_associate h g i j k = first_differs i j k refl

@@ -5,3 +5,4 @@ pub mod KindGroups
 pub mod KindOrder
 pub mod PointerLemmas
 pub mod Tables
+mod Vectors

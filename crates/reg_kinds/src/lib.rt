@@ -4,6 +4,7 @@
 mod facts;
 mod joins;
 mod kind;
+mod known_answers;
 mod laws;
 mod null_tests;
 mod reason;
@@ -16,6 +17,3 @@ pub use laws::{joins_associate, joins_commute};
 pub use null_tests::settle;
 pub use reason::Reason;
 pub use stack::{Size, read_stack, write_stack};
-
-#[cfg(test)]
-mod tests;

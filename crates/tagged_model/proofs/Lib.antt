@@ -9,3 +9,5 @@ pub mod CellBytes
 pub mod WrittenBytes
 pub mod StackLoads
 pub mod StackStores
+mod RunVectors
+mod Vectors

@@ -1,0 +1,36 @@
+//! Worked cases over frames: writes what the host answers to each line of standard input.
+//!
+//! - `new TENANTS`: a new host, for the lines that follow.
+//! - `frame HEX`: the reply to a frame, which is what follows the length field.
+//! - `load TENANT TEXT`: the reply to PROG_LOAD of a program's text, where `;` ends a line.
+//! - `slots TENANT HEX`: the reply to PROG_LOAD of these slots.
+//! - `words HEX`: the words of context of the runs that follow; zeros at first.
+//! - `run TENANT FD HEX`: the reply to PROG_TEST_RUN with this packet, which may be left out.
+//! - `stream TENANTS LIMIT HEX`: how `serve` ends on these bytes in a new host, and what it wrote.
+//! - `cut TENANTS LIMIT COUNT HEX`: the same, on the first so many of these bytes.
+//! - `program WORDS < HEX`: what `run_words` answers at these words on these bytes: the status, what it wrote, and the
+//!   fault line. The word `""` is empty.
+//!
+//! Spaces may part the bytes, and `HEX*COUNT` stands for so many copies. A line that is empty or begins with `#` is
+//! written as it stands, and so is one that has no answer.
+#![tactic(auto)]
+
+mod bytes;
+mod session;
+mod streams;
+
+use anyhow::Result;
+use session::Session;
+
+fn main(rt: HostRuntime) -> Result<()> {
+    let alloc = rt.alloc();
+    let mut session = Session::new(alloc)?;
+    for line in rt.lines(alloc) {
+        let line = line?;
+        match session.play(line.as_str()) {
+            Ok(answer) => println!(rt; "{answer}")?,
+            Err(fault) => println!(rt; "{fault}")?,
+        }
+    }
+    Ok(())
+}

@@ -1,0 +1,145 @@
+//! Lines that are played on one host after another.
+
+use crate::bytes::{bytes_of, first_word, groups};
+use crate::streams::{cut, program, stream};
+use anyhow::{Result, bail};
+use bpf_text::assemble;
+use host::{Host, ReplyBuf};
+use insn_codec::write_program;
+use std::alloc::{AllocError, Global};
+
+/// The command PROG_LOAD.
+const PROG_LOAD: u16 = 5;
+
+/// The command PROG_TEST_RUN.
+const PROG_TEST_RUN: u16 = 10;
+
+/// A program type of PROG_LOAD: a socket filter.
+const SOCKET_FILTER: u32 = 1;
+
+/// The bytes of the words of context.
+const WORDS: usize = 40;
+
+/// A new host for so many tenants.
+pub fn new_host(alloc: Global, tenants: &str) -> Result<Host> {
+    let tenants: usize = tenants.parse()?;
+    if tenants < 1 || tenants > 16 {
+        bail!("no such number of tenants");
+    }
+    Ok(Host::new(alloc, tenants)?)
+}
+
+/// A frame of a tenant, with a number at its front.
+fn frame(
+    alloc: Global,
+    tenant: u16,
+    command: u16,
+    number: u32,
+    rest: &[u8],
+) -> Result<Vec<u8>, AllocError> {
+    let mut frame = Vec::new(alloc);
+    frame.extend_from_slice(&tenant.to_le_bytes())?;
+    frame.extend_from_slice(&command.to_le_bytes())?;
+    frame.extend_from_slice(&number.to_le_bytes())?;
+    frame.extend_from_slice(rest)?;
+    Ok(frame)
+}
+
+/// The slots of a program's text, where `;` ends a line.
+fn slots_of(alloc: Global, text: &str) -> Result<Vec<u8>> {
+    let lines = text.replace(alloc, ';', "\n")?;
+    let Ok(program) = assemble(alloc, lines.as_str()) else {
+        bail!("no program's text");
+    };
+    Ok(write_program(alloc, &program)?)
+}
+
+/// The host that lines are played on, and the words of context of its runs.
+#[derive(Drop)]
+pub struct Session {
+    alloc: Global,
+    host: Host,
+    words: Vec<u8>,
+}
+
+impl Session {
+    /// A host for one tenant, and words of zero.
+    pub fn new(alloc: Global) -> Result<Session, AllocError> {
+        Ok(Session {
+            alloc,
+            host: Host::new(alloc, 1)?,
+            words: vec![in alloc; 0; WORDS]?,
+        })
+    }
+
+    /// The reply to a frame.
+    fn reply(&mut self, frame: &[u8]) -> Result<String, AllocError> {
+        let mut room = ReplyBuf::new(self.alloc)?;
+        self.host.handle(frame, &mut room);
+        groups(self.alloc, room.bytes())
+    }
+
+    /// The reply to a load of these slots.
+    fn load(&mut self, tenant: u16, slots: &[u8]) -> Result<String, AllocError> {
+        let frame = frame(self.alloc, tenant, PROG_LOAD, SOCKET_FILTER, slots)?;
+        self.reply(&frame)
+    }
+
+    /// The reply to a test run: a tenant, a descriptor and a packet.
+    fn run(&mut self, rest: &str) -> Result<String> {
+        let (tenant, rest) = first_word(rest);
+        let (descriptor, packet) = first_word(rest);
+        let mut input = self.words.clone()?;
+        input.extend_from_slice(&bytes_of(self.alloc, packet)?)?;
+        let frame = frame(
+            self.alloc,
+            tenant.parse()?,
+            PROG_TEST_RUN,
+            descriptor.parse()?,
+            &input,
+        )?;
+        Ok(self.reply(&frame)?)
+    }
+
+    /// What a line's first word asks for; nothing where it has no answer.
+    fn answer(&mut self, word: &str, rest: &str) -> Result<Option<String>> {
+        let alloc = self.alloc;
+        let answer = match word {
+            "new" => {
+                self.host = new_host(alloc, rest)?;
+                return Ok(None);
+            }
+            "words" => {
+                self.words = bytes_of(alloc, rest)?;
+                return Ok(None);
+            }
+            "frame" => self.reply(&bytes_of(alloc, rest)?)?,
+            "load" => {
+                let (tenant, text) = first_word(rest);
+                self.load(tenant.parse()?, &slots_of(alloc, text)?)?
+            }
+            "slots" => {
+                let (tenant, digits) = first_word(rest);
+                self.load(tenant.parse()?, &bytes_of(alloc, digits)?)?
+            }
+            "run" => self.run(rest)?,
+            "stream" => stream(alloc, rest)?,
+            "cut" => cut(alloc, rest)?,
+            "program" => program(alloc, rest)?,
+            _ => bail!("unknown line"),
+        };
+        Ok(Some(answer))
+    }
+
+    /// What a line gives.
+    pub fn play(&mut self, line: &str) -> Result<String> {
+        let (word, rest) = first_word(line);
+        if line.is_empty() || line.starts_with('#') {
+            return Ok(line.to_string(self.alloc)?);
+        }
+        match self.answer(word, rest)? {
+            Some(answer) => Ok(answer),
+            None => Ok(line.to_string(self.alloc)?),
+        }
+    }
+}

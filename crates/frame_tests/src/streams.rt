@@ -1,0 +1,81 @@
+//! Whole streams, and runs of the program.
+
+use crate::bytes::{bytes_of, first_word, groups};
+use crate::session::new_host;
+use anyhow::{Result, bail};
+use host::{Counted, Host, ServeFault, ServeFaultKind, run_words, serve};
+use std::alloc::{AllocError, Global};
+
+/// The most frames that a stream may have.
+const MOST_FRAMES: u32 = 16_777_216;
+
+/// How a stream ended.
+fn end_of(alloc: Global, end: Result<u32, ServeFault>) -> Result<String, AllocError> {
+    let (kind, frames) = match end {
+        Ok(frames) => return format!(in alloc; "ok {frames}"),
+        Err(fault) => (fault.kind, fault.frames),
+    };
+    let kind = match kind {
+        ServeFaultKind::Read => "read fault",
+        ServeFaultKind::Write => "write fault",
+        ServeFaultKind::Truncated => "truncated",
+        ServeFaultKind::TooManyFrames => "too many frames",
+        ServeFaultKind::Memory => "out of memory",
+    };
+    format!(in alloc; "{kind} after {frames}")
+}
+
+/// How `serve` ends on these bytes, and what it wrote.
+fn served(alloc: Global, mut host: Host, limit: &str, input: &[u8]) -> Result<String> {
+    let limit: u32 = limit.parse()?;
+    if limit > MOST_FRAMES {
+        bail!("no such limit");
+    }
+    let mut reader = Counted::new(input);
+    let mut writer = Counted::new(Vec::new(alloc));
+    let end = serve(alloc, &mut host, &mut reader, &mut writer, limit);
+    let end = end_of(alloc, end)?;
+    let output = groups(alloc, &writer.into_inner())?;
+    Ok(format!(in alloc; "{end} [{output}]")?)
+}
+
+/// How `serve` ends: a number of tenants, a limit and the stream's bytes.
+pub fn stream(alloc: Global, line: &str) -> Result<String> {
+    let (tenants, rest) = first_word(line);
+    let (limit, digits) = first_word(rest);
+    let host = new_host(alloc, tenants)?;
+    served(alloc, host, limit, &bytes_of(alloc, digits)?)
+}
+
+/// How `serve` ends on a stream that is cut short: its bytes follow how many of them come.
+pub fn cut(alloc: Global, line: &str) -> Result<String> {
+    let (tenants, rest) = first_word(line);
+    let (limit, rest) = first_word(rest);
+    let (count, digits) = first_word(rest);
+    let host = new_host(alloc, tenants)?;
+    let mut input = bytes_of(alloc, digits)?;
+    input.truncate(count.parse()?);
+    served(alloc, host, limit, &input)
+}
+
+/// The word that stands for a word of a line.
+fn word_of(word: &str) -> &str {
+    if word == "\"\"" { "" } else { word }
+}
+
+/// What the program answers: its words, and after `<` its input.
+pub fn program(alloc: Global, line: &str) -> Result<String> {
+    let Some((words, digits)) = line.split_once('<') else {
+        bail!("no input");
+    };
+    let words: Vec<&str> = words.split_whitespace().map(word_of).collect(alloc)?;
+    let input = bytes_of(alloc, digits)?;
+    let mut output = Vec::new(alloc);
+    let mut faults = Vec::new(alloc);
+    let status = run_words(alloc, &words, input.as_slice(), &mut output, &mut faults);
+    let output = groups(alloc, &output)?;
+    let Ok(fault) = String::from_utf8(faults) else {
+        bail!("the fault line is no text");
+    };
+    Ok(format!(in alloc; "{status} [{output}] {fault:?}")?)
+}

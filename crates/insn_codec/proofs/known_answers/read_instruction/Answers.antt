@@ -1,0 +1,11 @@
+use Rattle.std.proofs.Common.{◌≡◌, true, refl}
+use Rattle.insn_codec.specs.declared.insn.Insn.TheVariants.{Exit}
+use Rattle.insn_codec.specs.Spelling.{spelling}
+use Rattle.insn_codec.proofs.known_answers.read_instruction.Goals as goal
+
+pub prove-unreachable-requires : goal.prove-unreachable-requires
+unfolding spelling
+prove-unreachable-requires c =
+    let found = c.decode-found.ensures.only Exit tt refl in
+    let same : c.eq-is_exit.result ≡ true = rw found at c.eq-is_exit.ensures in
+    cc

@@ -1,0 +1,91 @@
+//! Known answers of the public calls, proved from their contracts alone. Nothing calls these functions.
+
+ghost use Rattle.std.specs.Prelude.{◌≡◌};
+
+use crate::{
+    CodecFault, FaultKind, Insn, Program, Reg, decode, encode, read_program, write_program,
+};
+use std::alloc::Global;
+
+const _: () = prove!(size_of::<Insn>() == 16);
+
+const _: () = prove!(size_of::<Option<Insn>>() == 24);
+
+/// A wide load of a number.
+fn wide(value: u64) -> Insn
+    ensures { result ≡ Insn.Const 2 value }
+{
+    let dst = Reg::new(2);
+    Insn::Const { dst, value }
+}
+
+fn registers() {
+    let number = Reg::new(10).number();
+    prove!(number == 10);
+}
+
+fn kinds_of_faults() {
+    let (first, last) = (FaultKind::Opcode.number(), FaultKind::Memory.number());
+    prove!(first == 1);
+    prove!(last == 8);
+}
+
+fn slots_of_instructions() {
+    let (wide, exit) = (wide(7), Insn::Exit);
+    let (wide_slots, exit_slots) = (wide.slots(), exit.slots());
+    prove!(wide_slots == 2);
+    prove!(exit_slots == 1);
+    let (is_wide, is_exit_wide) = (wide.is_wide(), exit.is_wide());
+    prove!(is_wide);
+    prove!(!is_exit_wide);
+}
+
+#[tactic(auto, unfolding(crate::specs::Spelling::spelling))]
+fn written_instructions() {
+    let mut out = [0x55; 16];
+    let length = encode(&Insn::Exit, &mut out);
+    prove!(length == 8);
+    prove!(out[0] == 0x95);
+    prove!(out[8] == 0x55);
+    let length = encode(&wide(18446744069414584327), &mut out);
+    prove!(length == 16);
+    prove!(out[4] == 7);
+    prove!(out[15] == 0xff);
+}
+
+fn read_instruction() {
+    let found = decode(&[0x95, 0, 0, 0, 0, 0, 0, 0]);
+    let is_exit = found == Ok((Insn::Exit, 1));
+    prove!(is_exit);
+}
+
+#[tactic(auto, unfolding(crate::specs::Program::begins_at))]
+fn places_of_a_program(alloc: Global) -> Result<(), CodecFault> {
+    let program = Program::new(alloc, &[wide(7), Insn::Exit])?;
+    let slots = program.slots();
+    prove!(slots == 3);
+    let (first, second) = (program.is_first(0), program.is_first(1));
+    prove!(first && !second);
+    let (third, end) = (program.is_first(2), program.is_first(3));
+    prove!(third && !end);
+    let (nothing, something) = (program.get(1).is_none(), program.get(2).is_some());
+    prove!(nothing && something);
+    Ok(())
+}
+
+fn read_program_of_an_exit(alloc: Global) -> Result<(), CodecFault> {
+    let program = read_program(alloc, &[0x95, 0, 0, 0, 0, 0, 0, 0])?;
+    let slots = program.slots();
+    prove!(slots == 1);
+    Ok(())
+}
+
+#[tactic(auto, unfolding(crate::specs::Spelling::spelling))]
+fn written_program(alloc: Global) -> Result<(), CodecFault> {
+    let program = Program::new(alloc, &[wide(7), Insn::Exit])?;
+    let bytes = write_program(alloc, &program)?;
+    let length = bytes.len();
+    prove!(length == 24);
+    prove!(bytes[16] == 0x95);
+    Ok(())
+}

@@ -1,0 +1,58 @@
+//! Known answers, proved from the contracts alone.
+
+use crate::{Facts, Kind, Reason, Size, Slot, join, read_stack, settle, write_stack};
+use interval::Range;
+use std::mem::size_of;
+
+/// Facts are copied for jumps: they stay small.
+const _: () = prove!(size_of::<Facts>() <= 3072);
+
+#[tactic(auto, unfolding(crate::specs::Kinds::tabulate))]
+fn registers_at_entry() {
+    let facts = Facts::at_entry();
+    let context = facts.kind(1);
+    let is_context = matches!(context, Kind::Ctx);
+    prove!(is_context);
+}
+
+#[tactic(auto, unfolding(crate::specs::Kinds::tabulate))]
+fn joins() {
+    let both = Slot::Bytes(0x0f).join(Slot::Bytes(0x3c));
+    let is_common = matches!(both, Slot::Bytes(0x0c));
+    prove!(is_common);
+    let mut a = Facts::at_entry();
+    let mut b = a;
+    a.set_kind(2, Kind::Scalar(Range::new(0, 3)));
+    b.set_kind(2, Kind::Scalar(Range::new(5, 9)));
+    let facts = join(&a, &b);
+    let either = facts.kind(2);
+    let is_hull = matches!(either, Kind::Scalar(r) if r.lo == 0 && r.hi == 9);
+    prove!(is_hull);
+}
+
+fn a_pointer_is_spilled_whole() {
+    let mut facts = Facts::at_entry();
+    let stored = write_stack(&mut facts, -8, Size::Double, Kind::Stack(0));
+    let is_stored = stored.is_ok();
+    prove!(is_stored);
+    let part = read_stack(&facts, -6, Size::Half, false);
+    let is_refused = matches!(part, Err(Reason::PartOfSpill));
+    prove!(is_refused);
+}
+
+#[tactic(auto, unfolding(crate::specs::Kinds::tabulate))]
+fn a_null_test_settles() {
+    let mut facts = Facts::at_entry();
+    facts.set_kind(6, Kind::MaybeValue { map: 3, site: 5 });
+    settle(&mut facts, 5, false);
+    let settled = facts.kind(6);
+    let is_value = matches!(settled, Kind::Value(_));
+    prove!(is_value);
+}
+
+fn numbers_of_reasons() {
+    let number = Reason::Memory.number();
+    prove!(number == 40);
+    let is_pointer = Kind::Ctx.is_pointer();
+    prove!(is_pointer);
+}

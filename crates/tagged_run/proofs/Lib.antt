@@ -1,3 +1,0 @@
-pub mod Cells
-pub mod Begin
-pub mod Runs

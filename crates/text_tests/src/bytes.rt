@@ -1,0 +1,116 @@
+//! Cases whose text is bytes: hex digits, which blanks may part.
+
+use crate::notation::{shown, text_of, times, written};
+use crate::refusal::Refusal;
+use bpf_text::disassemble;
+use insn_codec::{FaultKind, Insn, Program, decode, encode, read_program};
+use std::alloc::{AllocError, Global};
+use std::fmt::Write;
+
+/// The bytes of hex digits.
+fn bytes_of(alloc: Global, text: &str) -> Result<Vec<u8>, Refusal> {
+    let text = written(alloc, text)?;
+    let digits = text_of(&text)?;
+    let digits: String = digits.chars().filter(|c| *c != ' ').collect(alloc)?;
+    let bytes = hex::decode(alloc, digits.as_str())?;
+    Ok(bytes)
+}
+
+/// Bytes as hex digits, with a blank after each slot but the last one.
+pub fn grouped(alloc: Global, bytes: &[u8]) -> Result<String, AllocError> {
+    let mut text = String::new(alloc);
+    for (index, slot) in bytes.chunks(8).enumerate() {
+        if index != 0 {
+            text.push_str(" ")?;
+        }
+        text.push_str(&hex::encode(alloc, slot)?)?;
+    }
+    Ok(text)
+}
+
+/// An instruction, in how many slots it is spelled, and how it is written.
+fn encoded(alloc: Global, insn: &Insn, slots: usize) -> Result<String, AllocError> {
+    let mut out = [0; 16];
+    let length = encode(insn, &mut out);
+    let written = grouped(alloc, &out[..length])?;
+    format!(in alloc; "{insn:?} in {slots}: {written}")
+}
+
+/// `codec`: the instruction at the front, and how it is written.
+pub fn decoded(alloc: Global, text: &str) -> Result<String, Refusal> {
+    let bytes = bytes_of(alloc, text)?;
+    match &decode(&bytes) {
+        Ok((insn, slots)) => Ok(encoded(alloc, insn, *slots)?),
+        Err(fault) => Err(Refusal::from(*fault)),
+    }
+}
+
+/// `dis`: the text of the program.
+pub fn disassembled(alloc: Global, text: &str) -> Result<String, Refusal> {
+    let bytes = bytes_of(alloc, text)?;
+    let program = read_program(alloc, &bytes)?;
+    let text = disassemble(alloc, &program)?;
+    let answer = shown(alloc, text.as_str())?;
+    Ok(answer)
+}
+
+/// The instructions of a program, in order.
+fn insns_of(alloc: Global, program: &Program) -> Result<Vec<Insn>, AllocError> {
+    let mut insns = Vec::new(alloc);
+    for slot in 0..program.slots() {
+        if let Some(insn) = program.get(slot) {
+            insns.push(*insn)?;
+        }
+    }
+    Ok(insns)
+}
+
+/// Adds what begins at a slot.
+fn append_place(text: &mut String, program: &Program, slot: usize) -> Result<(), AllocError> {
+    if slot != 0 {
+        text.push_str("; ")?;
+    }
+    match program.get(slot) {
+        Some(insn) => write!(text, "{slot}: {insn:?}"),
+        None => write!(text, "{slot}: none"),
+    }
+}
+
+/// `places`: what begins at each slot and behind the last one, in a copy of the program that is made of the instructions.
+pub fn places(alloc: Global, text: &str) -> Result<String, Refusal> {
+    let bytes = bytes_of(alloc, text)?;
+    let program = read_program(alloc, &bytes)?;
+    let insns = insns_of(alloc, &program)?;
+    let copy = Program::new(alloc, &insns)?.clone()?;
+    let mut answer = String::new(alloc);
+    for slot in 0..=copy.slots() {
+        append_place(&mut answer, &copy, slot)?;
+    }
+    Ok(answer)
+}
+
+/// `exits`: how many slots a program of so many exits has.
+pub fn made_of_exits(alloc: Global, digits: &str) -> Result<String, Refusal> {
+    let exits = vec![in alloc; Insn::Exit; times(digits)? as usize]?;
+    let program = Program::new(alloc, &exits)?;
+    let slots = program.slots();
+    let answer = format!(in alloc; "{slots} slots")?;
+    Ok(answer)
+}
+
+/// Whether a slot of this opcode and zeros has another fault than its opcode, or none.
+fn is_known(opcode: u8) -> bool {
+    let mut bytes = [0; 16];
+    bytes[0] = opcode;
+    match decode(&bytes) {
+        Ok(_) => true,
+        Err(fault) => fault.kind != FaultKind::Opcode,
+    }
+}
+
+/// `opcodes`: how many opcodes are the first byte of an instruction.
+pub fn known_opcodes(alloc: Global) -> Result<String, Refusal> {
+    let known = (0u8..=255).filter(|opcode| is_known(*opcode)).count();
+    let answer = format!(in alloc; "{known} opcodes")?;
+    Ok(answer)
+}

@@ -1,0 +1,35 @@
+//! The lines of the input.
+
+use crate::bytes::{decoded, disassembled, known_opcodes, made_of_exits, places};
+use crate::refusal::Refusal;
+use crate::texts::{assembled, printed, read_hex_lines};
+use crate::words::ran;
+use std::alloc::{AllocError, Global};
+
+/// What a case gives: its first word says what is done with the rest of the line.
+fn outcome(alloc: Global, case: &str) -> Result<String, Refusal> {
+    let (word, rest) = case.split_once(' ').unwrap_or((case, ""));
+    match word {
+        "codec" => decoded(alloc, rest),
+        "dis" => disassembled(alloc, rest),
+        "places" => places(alloc, rest),
+        "exits" => made_of_exits(alloc, rest),
+        "opcodes" => known_opcodes(alloc),
+        "asm" => assembled(alloc, rest),
+        "round" => printed(alloc, rest),
+        "hex" => read_hex_lines(alloc, rest),
+        "program" => ran(alloc, rest),
+        _ => Err(Refusal::UnknownWord),
+    }
+}
+
+/// The answer to a line.
+pub fn answer(alloc: Global, line: &str) -> Result<String, AllocError> {
+    if line.is_empty() || line.starts_with('#') {
+        return line.to_string(alloc);
+    }
+    match outcome(alloc, line) {
+        Ok(answer) => Ok(answer),
+        Err(refusal) => refusal.to_string(alloc),
+    }
+}

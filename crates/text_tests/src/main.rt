@@ -1,0 +1,22 @@
+//! Worked cases of instructions and programs, as bytes and as text. Each line of the input is a case, and a line of the
+//! output answers it. An empty line and one that begins with `#` are written as they stand.
+#![tactic(auto)]
+
+mod bytes;
+mod cases;
+mod notation;
+mod refusal;
+mod texts;
+mod words;
+
+use cases::answer;
+use std::io;
+
+fn main(rt: HostRuntime) -> io::Result<()> {
+    let alloc = rt.alloc();
+    for line in rt.lines(alloc) {
+        let answer = answer(alloc, line?.as_str())?;
+        println!(rt; "{answer}")?;
+    }
+    Ok(())
+}

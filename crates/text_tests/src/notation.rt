@@ -1,0 +1,121 @@
+//! How the lines of a case write texts: `;` is a line feed, `\xHH` the byte with these two hex digits, and `{COUNT*PART}`
+//! the part so many times, where each `#` in the part is how many times came before.
+
+use crate::refusal::Refusal;
+use hex::FromHex;
+use std::alloc::{AllocError, Global};
+use std::fmt::Write;
+
+/// The most times that a part is written.
+const MOST_TIMES: u32 = 1_048_576;
+
+/// How many times a part is written, from decimal digits.
+pub fn times(digits: &str) -> Result<u32, Refusal> {
+    match digits.parse::<u32>() {
+        Ok(times) if times <= MOST_TIMES => Ok(times),
+        _ => Err(Refusal::Notation),
+    }
+}
+
+/// Adds the characters of a text without escapes.
+fn append_characters(bytes: &mut Vec<u8>, text: &str) -> Result<(), AllocError> {
+    for byte in text.bytes() {
+        bytes.push(if byte == b';' { b'\n' } else { byte })?;
+    }
+    Ok(())
+}
+
+/// Adds the byte with the two hex digits at the front, and the characters after them.
+fn append_escaped(bytes: &mut Vec<u8>, text: &str) -> Result<(), Refusal> {
+    let (digits, rest) = text.split_at_checked(2).ok_or(Refusal::Notation)?;
+    let byte = <[u8; 1] as FromHex>::from_hex(digits)?;
+    bytes.extend_from_slice(&byte)?;
+    append_characters(bytes, rest)?;
+    Ok(())
+}
+
+/// Adds what a text without repetitions writes.
+fn append_text(bytes: &mut Vec<u8>, text: &str) -> Result<(), Refusal> {
+    for (index, piece) in text.split("\\x").enumerate() {
+        if index == 0 {
+            append_characters(bytes, piece)?;
+        } else {
+            append_escaped(bytes, piece)?;
+        }
+    }
+    Ok(())
+}
+
+/// Adds a part once, with a number in place of each `#`.
+fn append_numbered(bytes: &mut Vec<u8>, part: &[u8], digits: &str) -> Result<(), AllocError> {
+    for byte in part {
+        if *byte == b'#' {
+            bytes.extend_from_slice(digits.as_bytes())?;
+        } else {
+            bytes.push(*byte)?;
+        }
+    }
+    Ok(())
+}
+
+/// Adds a part so many times.
+fn append_times(
+    alloc: Global,
+    bytes: &mut Vec<u8>,
+    part: &[u8],
+    times: u32,
+) -> Result<(), AllocError> {
+    for time in 0..times {
+        let digits = time.to_string(alloc)?;
+        append_numbered(bytes, part, digits.as_str())?;
+    }
+    Ok(())
+}
+
+/// Adds what a repetition and the text after it write; the repetition's first brace is left out.
+fn append_repeated(alloc: Global, bytes: &mut Vec<u8>, text: &str) -> Result<(), Refusal> {
+    let (repetition, rest) = text.split_once('}').ok_or(Refusal::Notation)?;
+    let (digits, part) = repetition.split_once('*').ok_or(Refusal::Notation)?;
+    let mut once = Vec::new(alloc);
+    append_text(&mut once, part)?;
+    append_times(alloc, bytes, &once, times(digits)?)?;
+    append_text(bytes, rest)
+}
+
+/// The bytes that a text writes.
+pub fn written(alloc: Global, text: &str) -> Result<Vec<u8>, Refusal> {
+    let mut bytes = Vec::new(alloc);
+    for (index, piece) in text.split('{').enumerate() {
+        if index == 0 {
+            append_text(&mut bytes, piece)?;
+        } else {
+            append_repeated(alloc, &mut bytes, piece)?;
+        }
+    }
+    Ok(bytes)
+}
+
+/// The text that the bytes are.
+pub fn text_of(bytes: &[u8]) -> Result<&str, Refusal> {
+    str::from_utf8(bytes).map_err(|_| Refusal::NoText)
+}
+
+/// Adds lines that are equal: one as it stands, more as a repetition.
+fn append_lines(alloc: Global, shown: &mut String, lines: &[&str]) -> Result<(), AllocError> {
+    let line = lines.first().copied().unwrap_or("");
+    let line = line.replace(alloc, '\n', ";")?;
+    match lines.len() {
+        1 => shown.push_str(line.as_str()),
+        times => write!(shown, "{{{times}*{line}}}"),
+    }
+}
+
+/// How a text is written on one line.
+pub fn shown(alloc: Global, text: &str) -> Result<String, AllocError> {
+    let lines: Vec<&str> = text.split_inclusive('\n').collect(alloc)?;
+    let mut shown = String::new(alloc);
+    for equal in lines.chunk_by(|a, b| a == b) {
+        append_lines(alloc, &mut shown, equal)?;
+    }
+    Ok(shown)
+}

@@ -1,0 +1,23 @@
+//! The longest programs.
+
+use std::alloc::{AllocError, Global};
+
+/// How many jumps a program of 4,096 slots has, one in each second slot.
+const JUMPS: usize = 2047;
+
+/// The text of a program of 4,096 slots with a jump in each second one, which goes so many slots ahead, or to the end.
+pub fn jumping(alloc: Global, ahead: usize, end: &str) -> Result<String, AllocError> {
+    let mut lines = String::new(alloc);
+    lines.push_str("r0 = *(u32 *)(r1 + 0)")?;
+    for jump in 0..JUMPS {
+        let left = 2 * (JUMPS - jump) - 1;
+        write!(
+            lines,
+            "; if r0 == {jump} goto +{}; r2 = {jump}",
+            ahead.min(left)
+        )?;
+    }
+    lines.push_str("; ")?;
+    lines.push_str(end)?;
+    Ok(lines)
+}

@@ -52,7 +52,7 @@ written_length : (bytes new : List ℕ) (place : ℕ) → place + length new ≤
 written_length bytes new place k =
     omega (arith, length-append (take place bytes) (new ++ drop (place + length new) bytes), length-append new (drop (place + length new) bytes), length-take place bytes, length-drop (place + length new) bytes)
 
-refilled_whole : (bytes others : List ℕ) → length others ≡ length bytes → refilled bytes others ≡ others
+pub refilled_whole : (bytes others : List ℕ) → length others ≡ length bytes → refilled bytes others ≡ others
 refilled_whole bytes others e =
     ap (λ (n : ℕ). take n (others ++ drop (length others) bytes)) (sym e) ∙ take-append_seam others (drop (length others) bytes)
 
@@ -73,7 +73,7 @@ below zero (suc t) s h = omega (arith, next t s)
 below (suc u) (suc t) s h = omega (arith, below u t s (omega arith))
 
 -- a part lies in the memory
-within : (m : Memory) (t : ℕ) → IsPart m t → part_start m t + m.part ≤ size_of m
+pub within : (m : Memory) (t : ℕ) → IsPart m t → part_start m t + m.part ≤ size_of m
 within m t is = omega (arith, below t m.parts m.part is.1, is.0)
 
 sides : (m : Memory) (t u place n : ℕ) → part_start m t ≤ place → place + n ≤ part_start m t + m.part → u ≢ t → (part_start m u + m.part ≤ place) ⊎ (place + n ≤ part_start m u)

@@ -1,3 +1,4 @@
 mod Walks
 pub mod Parts
 pub mod Apart
+pub mod Within

@@ -2,4 +2,5 @@ pub mod Marks
 pub mod Bytes
 pub mod Memory
 pub mod Apart
+pub mod Ranges
 pub mod Lending

@@ -9,6 +9,6 @@ mod memory;
 mod numbers;
 mod trace;
 
-pub use laws::{parts_are_apart, writes_stay_inside};
+pub use laws::{parts_are_apart, writes_are_in_parts, writes_stay_inside};
 pub use memory::{Arena, BASE};
 pub use trace::Trace;

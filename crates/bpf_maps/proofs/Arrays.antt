@@ -3,7 +3,7 @@ use Rattle.std.proofs.Common.{◌≡◌, ℕ, ◌+◌, ◌*◌, ◌<◌, ◌^◌
 use Rattle.std.specs.Int.{w32, to_le_bytes}
 use Rattle.std.specs.Map.{values_of}
 use Rattle.tagged_model.specs.declared.shape.MapKind.{MapKind}
-use Rattle.tagged_model.specs.declared.shape.MapKind.TheVariants.{Array}
+use Rattle.tagged_model.specs.declared.shape.MapKind.TheVariants.{Array, Hash}
 use Rattle.tagged_model.specs.declared.shape.MapShape.{MapShape}
 use Rattle.tagged_model.specs.Table.{found, key_after, look_up, next_of, index_key, indexed, new_entries}
 use Rattle.bpf_maps.specs.Places.{PlaceTable, table_of, new_places, after_run, times, IsSound, IsSized}
@@ -104,3 +104,22 @@ spelled (a ∷ b ∷ c ∷ d ∷ e ∷ rest) n size small is = absurd (omega ari
 pub no_bytes : (key : List ℕ) → (length key == 0) ≡ true → key ≡ []
 no_bytes [] h = refl
 no_bytes (b ∷ key) h = let e : length (b ∷ key) ≡ 0 = eqb-true _ 0 h in absurd (omega arith)
+
+-- ---- a new map
+
+no_keys : (s : MapShape) → s.kind ≡ Hash → new_entries (λ i. i) s.kind s.max_entries ≡ []
+no_keys s hash = ap (λ (d : MapKind). new_entries (λ i. i) d s.max_entries) hash
+
+sound_hash : (s : MapShape) → s.kind ≡ Hash → IsSound (new_places s)
+sound_hash s hash = record {
+  once = λ p. let e : times p (values_of (new_entries (λ i. i) s.kind s.max_entries)) ≡ 0 = ap (λ (es : List (List ℕ × ℕ)). times p (values_of es)) (no_keys s hash) in omega arith;
+  few = let e : length (new_entries (λ i. i) s.kind s.max_entries) ≡ 0 = ap length (no_keys s hash) in omega arith;
+  sized = subst (λ (es : List (List ℕ × ℕ)). IsSized s.key_size es) (sym (no_keys s hash)) tt;
+}
+
+pub sound_new : (s : MapShape) → IsSound (new_places s)
+sound_new s = by s.kind refl
+  where
+    by : (d : MapKind) → s.kind ≡ d → IsSound (new_places s)
+    by Array e = sound_array s e
+    by Hash e = sound_hash s e

@@ -4,6 +4,7 @@ use Rattle.std.proofs.lemmas.Bool.{lt-leb, le-leb}
 use Rattle.bpf_maps.specs.declared.part.TheConstants.{FRONT, AREA}
 use Rattle.bpf_maps.specs.declared.maps.Entry.{Entry}
 use Rattle.bpf_maps.specs.declared.maps.Maps.TheInside.{Inside}
+use Rattle.bpf_maps.specs.Places.{IsSound}
 use Rattle.bpf_maps.specs.Any.{places_of}
 use Rattle.bpf_maps.specs.Live.{Live, Tenant, live_at, live_or, holds_at, offset, value_in, IsLaid, SameAreas, SameValues, Held, without_area, held_at, one_less}
 use Rattle.bpf_maps.specs.InMaps.{live_of, lives, seen, IsWhole}
@@ -23,6 +24,7 @@ pub record IsChange (a : Inside) (t : Tenant) (at key : ℕ) (old new : Entry) :
   pub stride : new.stride ≡ old.stride
   pub shape : (places_of new.map).shape ≡ (places_of old.map).shape
   pub held : 1 ≤ new.holds
+  pub sound : IsSound (places_of new.map)
 
 -- a map is live
 module _ (a : Inside) (t : Tenant) (at key : ℕ) (e : Entry) (view : seen a ≡ t) (same : at ≡ key) (here : get_or a.slots.slots at None ≡ Some e) where
@@ -48,7 +50,7 @@ module _ (a : Inside) (t : Tenant) (at key : ℕ) (old new : Entry) (refused : B
   areas_stay = one_changed t (seen (with_entry a at new refused)) key (live_of old) (live_of new) live_old live_new c.shape (ap (λ (n : ℕ). FRONT + n * AREA) c.number) c.stride others_stay
 
   pub whole_stays : IsWhole (with_entry a at new refused)
-  whole_stays = whole_replaced a (with_entry a at new refused) at c.whole (set_others a.slots.slots at old new c.here) refl old new c.here there c.number c.stride c.shape c.held refl refl
+  whole_stays = whole_replaced a (with_entry a at new refused) at c.whole (set_others a.slots.slots at old new c.here) refl old new c.here there c.number c.stride c.shape c.held c.sound refl refl
 
   pub laid_stays : IsLaid (seen (with_entry a at new refused))
   laid_stays = laid (with_entry a at new refused) whole_stays

@@ -40,6 +40,14 @@ times-without p key (e ∷ es) = by (is_key key e.0) (times-without p key es)
     by true h = omega arith
     by false h = omega arith
 
+-- the place of a key that goes is kept
+pub times-kept : (p : ℕ) (key : List ℕ) (place : ℕ) (es : List (List ℕ × ℕ)) (kept : List ℕ) → found key es ≡ Some place → times p (values_of (without key es)) + times p (kept ++ place ∷ []) ≡ times p (values_of es) + times p kept
+times-kept p key place es kept h =
+    let w = times-without p key es in
+    let o : one p (found key es) ≡ one p (Some place) = ap (one p) h in
+    let a = times-append p kept (place ∷ []) in
+    omega arith
+
 pub length-without : (key : List ℕ) (p : ℕ) (es : List (List ℕ × ℕ)) → found key es ≡ Some p → length (without key es) + 1 ≡ length es
 length-without key p [] h = absurd (none-some p h)
 length-without key p (e ∷ es) h = by (is_key key e.0) h (length-without key p es)

@@ -9,13 +9,14 @@ use Rattle.slab.specs.Slab.{Slab}
 use Rattle.bpf_maps.specs.declared.part.TheConstants.{FRONT, AREA, MAPS, PART}
 use Rattle.bpf_maps.specs.declared.maps.Entry.{Entry}
 use Rattle.bpf_maps.specs.declared.maps.Maps.TheInside.{Inside}
-use Rattle.bpf_maps.specs.Places.{PlaceTable, new_places}
+use Rattle.bpf_maps.specs.Places.{PlaceTable, IsSound, new_places}
 use Rattle.bpf_maps.specs.Any.{places_of}
 use Rattle.bpf_maps.specs.Live.{Live, Tenant, live_at, live_or, offset, value_in, count, areas, create_fault, Creates, IsCreated, IsLaid, SameValues}
 use Rattle.bpf_maps.specs.InMaps.{live_of, seen, IsWhole}
 use Rattle.bpf_maps.proofs.Slots.{some_entry, live_by, none_by, others_by, same_or_other}
 use Rattle.bpf_maps.proofs.Totals.{times_some, count_entries}
 use Rattle.bpf_maps.proofs.InAreas.{area_fits, value_ends, value_inside, apart_areas}
+use Rattle.bpf_maps.proofs.Arrays.{sound_new}
 use Rattle.bpf_maps.proofs.Changes.{told_of}
 use Rattle.bpf_maps.proofs.Cleared.{front_same, before_same, after_same, zeros}
 use Rattle.bpf_maps.proofs.Whole.{laid, whole_added, offset_of}
@@ -116,7 +117,7 @@ module _ (a : Inside) (t : Tenant) (shape : MapShape) (number size : ℕ) (r : I
     pub whole_one : IsWhole (with_new a number size slots)
     whole_one =
         let x : area (places_of e.map).shape.value_size (places_of e.map).shape.max_entries ≡ area shape.value_size shape.max_entries = ap (λ (q : PlaceTable). area q.shape.value_size q.shape.max_entries) d.places in
-        whole_added a (with_new a number size slots) k h d.others d.capacity e d.was d.there (let n = d.number_is in let b = r.below in omega arith) (ap (λ (n : ℕ). get_or a.taken n false) d.number_is ∙ free) round (let o = d.holds in omega arith) (ap (λ (n : ℕ). set a.taken n true) (sym d.number_is)) (let s = r.size_is in omega arith) r.room
+        whole_added a (with_new a number size slots) k h d.others d.capacity e d.was d.there (let n = d.number_is in let b = r.below in omega arith) (ap (λ (n : ℕ). get_or a.taken n false) d.number_is ∙ free) round (let o = d.holds in omega arith) (subst IsSound (sym d.places) (sound_new shape)) (ap (λ (n : ℕ). set a.taken n true) (sym d.number_is)) (let s = r.size_is in omega arith) r.room
 
     pub laid_one : IsLaid (seen (with_new a number size slots))
     laid_one = laid (with_new a number size slots) whole_one

@@ -16,3 +16,4 @@ pub mod Cleared
 pub mod Created
 pub mod Released
 pub mod Values
+pub mod GoAlong

@@ -2,7 +2,7 @@
 use Rattle.std.proofs.Common.{◌≡◌, ◌≢◌, ℕ, zero, suc, ◌+◌, ◌<◌, List, [], ◌∷◌, length, Option, Some, None, option_map, refl, sym, ap, ◌∙◌, get_or, set, arith, get_or-set_same, get_or-set_other, Bool, true, false, IsSome, is_some, nat_eq, eqb-true, eq-eqb, true≢false, ◌*◌}
 use Rattle.std.proofs.lemmas.Option.{none-some, same_Some}
 use Rattle.bpf_maps.specs.declared.maps.Entry.{Entry}
-use Rattle.bpf_maps.specs.Live.{Live, Tenant, live_at, offset, SameAreas}
+use Rattle.bpf_maps.specs.Live.{Live, Tenant, live_at, live_or, offset, offset_at, SameAreas}
 use Rattle.bpf_maps.specs.InMaps.{live_of, lives}
 
 pub at_lives : (xs : List (Option Entry)) (k : ℕ) → get_or (lives xs) k None ≡ option_map live_of (get_or xs k None)
@@ -51,6 +51,14 @@ module _ (xs : List (Option Entry)) (k : ℕ) (old new : Entry) (at : get_or xs 
 pub offset_same : (l m : Live) (p : ℕ) → l.start ≡ m.start → l.stride ≡ m.stride → offset l p ≡ offset m p
 unfolding offset
 offset_same l m p e f = λ i. e i + p * f i
+
+-- the same areas keep where each value lies
+pub offsets_stay : (old new : Tenant) (k p : ℕ) → SameAreas old new → IsSome (live_at new k) → offset_at new k p ≡ offset_at old k p
+offsets_stay old new k p areas live = by (live_at new k) refl live
+  where
+    by : (o : Option Live) → live_at new k ≡ o → IsSome o → offset (live_or o) p ≡ offset_at old k p
+    by None e some = absurd (true≢false (sym some))
+    by (Some l) e some = let h = areas k l e in offset_same l h.0 p h.3 h.4 ∙ ap (λ (o : Option Live). offset (live_or o) p) (sym h.1)
 
 -- the same key, or another
 pub same_or_other : {P : Type 0} (j k : ℕ) → (j ≡ k → P) → (j ≢ k → P) → P

@@ -1,5 +1,5 @@
 -- The maps stay whole: each has an area of its own, and what is counted is right.
-use Rattle.std.proofs.Common.{◌≡◌, ◌≢◌, ℕ, ◌+◌, ◌*◌, ◌/◌, ◌<◌, ◌≤◌, ◌⊎◌, Bool, true, false, if◌then◌else◌, List, length, Some, None, refl, sym, ap, subst, ◌∙◌, arith, get_or, set, get_or-set_same, get_or-set_other, length-set, true≢false, ⊎_elim, inl, inr}
+use Rattle.std.proofs.Common.{◌≡◌, ◌≢◌, ℕ, ◌+◌, ◌*◌, ◌/◌, ◌<◌, ◌≤◌, ◌⊎◌, Bool, true, false, if◌then◌else◌, List, length, Option, Some, None, IsSome, refl, sym, ap, subst, ◌∙◌, arith, get_or, set, get_or-set_same, get_or-set_other, length-set, true≢false, ⊎_elim, inl, inr}
 use Rattle.std.proofs.lemmas.Option.{none-some}
 use Rattle.tagged_model.specs.declared.shape.MapShape.{MapShape}
 use Rattle.tagged_model.specs.Shape.{area}
@@ -7,9 +7,10 @@ use Rattle.bpf_maps.specs.declared.part.TheConstants.{FRONT, AREA, MAPS}
 use Rattle.bpf_maps.specs.declared.maps.Entry.{Entry}
 use Rattle.bpf_maps.specs.declared.maps.Maps.TheInside.{Inside}
 use Rattle.bpf_maps.specs.Any.{places_of}
-use Rattle.bpf_maps.specs.Live.{Live, offset, IsInside, IsLaid, weight, total, area_of}
+use Rattle.bpf_maps.specs.Places.{IsSound}
+use Rattle.bpf_maps.specs.Live.{Live, live_at, live_or, places_at, offset, IsInside, IsLaid, weight, total, area_of}
 use Rattle.bpf_maps.specs.InMaps.{live_of, lives, seen, times_true, IsPlaced, IsWhole}
-use Rattle.bpf_maps.proofs.Slots.{entry_of, live_by, none_by, others_by, same_or_other, same_some}
+use Rattle.bpf_maps.proofs.Slots.{entry_of, some_entry, live_by, none_by, others_by, same_or_other, same_some}
 use Rattle.bpf_maps.proofs.Totals.{total_but_one, times_set}
 use Rattle.bpf_maps.proofs.InAreas.{area_fits, value_inside, place_inside, apart_places, apart_areas}
 
@@ -71,6 +72,12 @@ module _ (a : Inside) (h : IsWhole a) where
         (λ (x : p < (places_of e.0.map).shape.max_entries). subst (λ (y : Live). q < y.places.shape.max_entries → IsApart (live_of e.0) y p q) f.2 (λ (y : q < (places_of f.0.map).shape.max_entries). apart k j p q e.0 f.0 e.1 f.1 ne x y) ql) pl;
   }
 
+-- no two keys of a live map have one place
+pub sound_at : (a : Inside) (h : IsWhole a) (k : ℕ) → IsSome (live_at (seen a) k) → IsSound (places_at (seen a) k)
+sound_at a h k live =
+    let e = some_entry a.slots.slots k live in
+    subst (λ (o : Option Live). IsSound (live_or o).places) (sym (live_by a.slots.slots a.slots.slots k e.0 e.1)) (h.placed k e.0 e.1).sound
+
 -- no field but `refused` is changed
 pub whole_refused : (a : Inside) (refused : Bool) → IsWhole a → IsWhole (record a { refused = refused })
 whole_refused a refused h = record { placed = h.placed; apart = h.apart; all = h.all; counted = h.counted; room = h.room; sum = h.sum; few = h.few }
@@ -85,7 +92,7 @@ module _ (a b : Inside) (k : ℕ) (h : IsWhole a) (others : (j : ℕ) → j ≢ 
   changed f = total_but_one f k (lives a.slots.slots) (lives b.slots.slots) (others_by a.slots.slots b.slots.slots k others)
 
   -- a map that keeps its area
-  module _ (e f : Entry) (at : entry_at a k e) (bt : entry_at b k f) (number : f.number ≡ e.number) (stride : f.stride ≡ e.stride) (shape : (places_of f.map).shape ≡ (places_of e.map).shape) (held : 1 ≤ f.holds) (taken : b.taken ≡ a.taken) (bytes : b.bytes ≡ a.bytes) where
+  module _ (e f : Entry) (at : entry_at a k e) (bt : entry_at b k f) (number : f.number ≡ e.number) (stride : f.stride ≡ e.stride) (shape : (places_of f.map).shape ≡ (places_of e.map).shape) (held : 1 ≤ f.holds) (sound : IsSound (places_of f.map)) (taken : b.taken ≡ a.taken) (bytes : b.bytes ≡ a.bytes) where
     same_total : (w : Live → ℕ) → w (live_of f) ≡ w (live_of e) → total w (lives b.slots.slots) ≡ total w (lives a.slots.slots)
     same_total w s =
         let c = changed w in
@@ -110,6 +117,7 @@ module _ (a b : Inside) (k : ℕ) (h : IsWhole a) (others : (j : ℕ) → j ≢ 
               marked = ap (λ (n : ℕ). get_or a.taken n false) number ∙ i.marked;
               stride = stride ∙ i.stride ∙ ap (λ s. (s.value_size + 7) / 8 * 8) (sym shape);
               held = held;
+              sound = sound;
             }
 
     -- the number of an entry after the change is one of before, under the same key
@@ -136,7 +144,7 @@ module _ (a b : Inside) (k : ℕ) (h : IsWhole a) (others : (j : ℕ) → j ≢ 
     }
 
   -- a map that is new
-  module _ (e : Entry) (at : get_or a.slots.slots k None ≡ None) (bt : entry_at b k e) (below : e.number < MAPS) (free : get_or a.taken e.number false ≡ false) (stride : e.stride ≡ ((places_of e.map).shape.value_size + 7) / 8 * 8) (held : 1 ≤ e.holds) (taken : b.taken ≡ set a.taken e.number true) (bytes : b.bytes ≡ a.bytes + area_of (live_of e)) (few : b.bytes ≤ AREA) where
+  module _ (e : Entry) (at : get_or a.slots.slots k None ≡ None) (bt : entry_at b k e) (below : e.number < MAPS) (free : get_or a.taken e.number false ≡ false) (stride : e.stride ≡ ((places_of e.map).shape.value_size + 7) / 8 * 8) (held : 1 ≤ e.holds) (sound : IsSound (places_of e.map)) (taken : b.taken ≡ set a.taken e.number true) (bytes : b.bytes ≡ a.bytes + area_of (live_of e)) (few : b.bytes ≤ AREA) where
     more_total : (w : Live → ℕ) → total w (lives b.slots.slots) ≡ total w (lives a.slots.slots) + w (live_of e)
     more_total w =
         let c = changed w in
@@ -159,10 +167,10 @@ module _ (a b : Inside) (k : ℕ) (h : IsWhole a) (others : (j : ℕ) → j ≢ 
         (same_or_other j k
         (λ (s : j ≡ k).
         let is : e ≡ g = same_some (get_or b.slots.slots k None) e g bt (ap (λ (i : ℕ). get_or b.slots.slots i None) (sym s) ∙ gt) in
-        subst (λ (x : Entry). IsPlaced (set a.taken e.number true) x) is (record { below = below; marked = marked_new; stride = stride; held = held }))
+        subst (λ (x : Entry). IsPlaced (set a.taken e.number true) x) is (record { below = below; marked = marked_new; stride = stride; held = held; sound = sound }))
         (λ (o : j ≢ k).
         let i = h.placed j g (still j g o gt) in
-        record { below = i.below; marked = marked_still g.number i.marked; stride = i.stride; held = i.held }))
+        record { below = i.below; marked = marked_still g.number i.marked; stride = i.stride; held = i.held; sound = i.sound }))
 
     -- no other map has its area
     not_other : (j : ℕ) (g : Entry) → j ≢ k → entry_at b j g → g.number ≢ e.number
@@ -219,7 +227,7 @@ module _ (a b : Inside) (k : ℕ) (h : IsWhole a) (others : (j : ℕ) → j ≢ 
         let gt' = still j g o gt in
         let i = h.placed j g gt' in
         let ne : g.number ≢ e.number = λ (s : g.number ≡ e.number). o (h.apart j k g e gt' at s) in
-        record { below = i.below; marked = ap (λ (t : List Bool). get_or t g.number false) taken ∙ get_or-set_other a.taken e.number g.number false false ne ∙ i.marked; stride = i.stride; held = i.held }
+        record { below = i.below; marked = ap (λ (t : List Bool). get_or t g.number false) taken ∙ get_or-set_other a.taken e.number g.number false false ne ∙ i.marked; stride = i.stride; held = i.held; sound = i.sound }
 
     pub whole_removed : IsWhole b
     whole_removed = record {

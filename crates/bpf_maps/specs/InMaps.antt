@@ -3,6 +3,7 @@ use Rattle.std.specs.Prelude.{◌≡◌, ℕ, ◌+◌, ◌*◌, ◌/◌, ◌<◌
 use Rattle.bpf_maps.specs.declared.part.TheConstants.{FRONT, AREA, MAPS}
 use Rattle.bpf_maps.specs.declared.maps.Entry.{Entry}
 use Rattle.bpf_maps.specs.declared.maps.Maps.TheInside.{Inside}
+use Rattle.bpf_maps.specs.Places.{IsSound}
 use Rattle.bpf_maps.specs.Any.{places_of}
 use Rattle.bpf_maps.specs.Live.{Live, Tenant, count, areas}
 
@@ -20,12 +21,13 @@ abbrev pub times_true : List Bool → ℕ
 times_true [] = 0
 times_true (b ∷ bs) = (if b then 1 else 0) + times_true bs
 
--- a map has an area that is taken, its values are at multiples of eight, and one holds it
+-- a map has an area that is taken, its values are at multiples of eight, one holds it, and no two of its keys have one place
 pub record IsPlaced (taken : List Bool) (e : Entry) : Type 0 where
   pub below : e.number < MAPS
   pub marked : slice_index_or taken e.number false ≡ true
   pub stride : e.stride ≡ ((places_of e.map).shape.value_size + 7) / 8 * 8
   pub held : 1 ≤ e.holds
+  pub sound : IsSound (places_of e.map)
 
 -- each map has an area of its own, and what is counted is right
 pub record IsWhole (a : Inside) : Type 0 where

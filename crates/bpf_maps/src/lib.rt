@@ -15,7 +15,10 @@ mod value_map;
 pub use any_map::AnyMap;
 pub use array_map::ArrayMap;
 pub use hash_map::HashMapIx;
-pub use laws::{calls_are_those_of_a_map, calls_go_along};
+pub use laws::{
+    areas_keep_places, calls_are_those_of_a_map, calls_go_along, deletes_keep_places,
+    writes_go_along,
+};
 pub use maps::{MapKey, Maps};
 pub use part::{AREA, FRONT, MAPS, PART};
 pub use tagged_model::MapFault;

@@ -82,6 +82,16 @@ impl Maps {
         })
     }
 
+    /// A law: the values of all live maps lie inside and apart, and no two keys of a live map have one place. It does nothing
+    /// when it runs.
+    #[inline(always)]
+    pub fn is_laid(&self)
+        ensures laid { IsLaid self.now }
+        ensures sound { (map : ℕ) → IsSome (live_at self.now map) → IsSound (places_at self.now map) }
+    {
+        let _ = &self.slots;
+    }
+
     /// Makes a map, which one holds. Its area is the lowest that is free. A hash map has no key, and the values of an array
     /// are zero bytes. The maps that were live stay as they are.
     ///

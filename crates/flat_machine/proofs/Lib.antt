@@ -8,3 +8,4 @@ pub mod Follows
 pub mod Added
 pub mod Context
 pub mod Turns
+pub mod Given

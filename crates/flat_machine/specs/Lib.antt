@@ -1,3 +1,4 @@
+pub mod NoMaps
 pub mod Flat
 pub mod Ranges
 pub mod Stands

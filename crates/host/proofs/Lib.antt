@@ -3,6 +3,7 @@ pub mod Numbers
 pub mod Results
 pub mod Loads
 pub mod Contexts
+pub mod NoMaps
 pub mod Runs
 pub mod Tenants
 pub mod Frames

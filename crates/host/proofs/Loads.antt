@@ -1,5 +1,5 @@
 -- What a load that opens nothing is answered.
-use Rattle.std.proofs.Common.{◌≡◌, ℕ, ◌<◌, ◌≤◌, Bool, true, false, List, length, drop, Option, Some, None, refl, sym, ap, subst, inl, inr}
+use Rattle.std.proofs.Common.{◌≡◌, ℕ, ◌<◌, ◌≤◌, Bool, true, false, List, length, drop, Option, Some, None, refl, sym, ap, subst, inl, inr, ◌∙◌}
 use Rattle.std.specs.Prelude.{nat_lt, ◌==◌, ◌⊎◌, slice_get}
 use Rattle.std.proofs.lemmas.Bool.{le-ltb, eq-eqb}
 use Rattle.std.proofs.lemmas.Option.{none-some, slice_get_within}
@@ -12,13 +12,14 @@ use Rattle.reg_kinds.specs.declared.reason.Reason.TheVariants as reason
 use Rattle.tagged_model.specs.declared.shape.Named.{Named}
 use Rattle.tagged_model.specs.Cells.{also}
 use Rattle.verdict.specs.declared.fault.VerifyFault.{VerifyFault}
+use Rattle.verdict.specs.Maps.{shapes_of}
 use Rattle.verdict.specs.Before.{before}
 use Rattle.verdict.specs.Shape.{shape_fault, shape_of}
-use Rattle.verdict.specs.Verdict.{IsRefused, memory_fault, safety_fault}
+use Rattle.verdict.specs.Verdict.{IsAccepted, IsRefused, memory_fault, safety_fault}
 use Rattle.host.specs.declared.command.Reply.{Reply}
 use Rattle.host.specs.declared.command.Reply.TheVariants.{Descriptor, Outcome, Refused, RefusedAt}
 use Rattle.host.specs.State.{State}
-use Rattle.host.specs.Machine.{Answer, free_place, open_descriptors, refused, Loads, AnswersLoad}
+use Rattle.host.specs.Machine.{Answer, free_place, open_descriptors, refused, opened, Loads, AnswersLoad}
 use Rattle.host.specs.Reply.{answer_of, verdict_refusal, verdict_reply, IsLoadRefusal}
 
 told_by : (descriptors : List Named) (slots : List ℕ) (insns : List Insn) (why : Reason) (slot : ℕ) → IsProgram insns → slots ≡ program_bytes insns → IsRefused insns descriptors slot why
@@ -51,6 +52,12 @@ load_told s body place reply long socket free h =
     let (memory_refused, loads) = load_refused s place (drop 4 body) reply h in
     (memory_refused, at_place memory_refused s body place (answer_of reply s) long socket free loads)
 
+pub load_opens : (s : State) (body slots : List ℕ) (place : ℕ) (insns : List Insn) (descriptors : List Named) → 4 ≤ length body → little_number 4 body ≡ 1 → free_place s ≡ Some place
+    → slots ≡ drop 4 body → descriptors ≡ open_descriptors s → IsProgram insns → slots ≡ program_bytes insns → IsAccepted insns descriptors
+    → (memory_refused : Bool) × AnswersLoad memory_refused s body (opened s place insns)
+load_opens s body slots place insns descriptors long socket free cut listed program spelled accepted =
+    (false, at_place false s body place (opened s place insns) long socket free (inr (insns, program, sym cut ∙ spelled, subst (IsAccepted insns) listed accepted, refl)))
+
 -- ---- the slot of a refusal
 
 shape_begins : (code : List Insn) (named : List Named) (n : ℕ) (why : Reason) (o : Option Insn) → shape_of code named n o ≡ Some why → (i : Insn) × (o ≡ Some i)
@@ -66,7 +73,7 @@ safety_begins (Some i) known why f e = (i, refl)
 refused_begins : (code : List Insn) (named : List Named) (slot : ℕ) (why : Reason) → IsRefused code named slot why → (i : Insn) × (begins_at code slot ≡ Some i)
 unfolding shape_fault safety_fault
 refused_begins code named slot why (inl shape) = shape_begins code named slot why (begins_at code slot) shape.here
-refused_begins code named slot why (inr safety) = safety_begins (begins_at code slot) (before code slot) why _ safety.1.here
+refused_begins code named slot why (inr safety) = safety_begins (begins_at code slot) (before (shapes_of code named) code slot) why _ safety.1.here
 
 -- so it is one of the program's slots
 pub refused_within : (code by_slot : List Insn) (named : List Named) (fault : VerifyFault) → ((n : ℕ) (i : Insn) → begins_at code n ≡ Some i → slice_get by_slot n ≡ Some i)

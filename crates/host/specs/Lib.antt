@@ -3,6 +3,7 @@ pub mod Stream
 pub mod Reading
 pub mod Errno
 pub mod State
+pub mod Programs
 pub mod Machine
 pub mod Reply
 pub mod Alone

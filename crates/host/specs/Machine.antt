@@ -14,6 +14,7 @@ use Rattle.tagged_model.specs.declared.shape.Named.{Named}
 use Rattle.tagged_model.specs.declared.shape.Target.TheVariants as target
 use Rattle.tagged_model.specs.declared.value.Outcome.TheVariants.{Value}
 use Rattle.tagged_model.specs.Step.{result_of}
+use Rattle.flat_machine.specs.NoMaps.{no_maps}
 use Rattle.verdict.specs.Verdict.{IsAccepted, IsRefused}
 use Rattle.host.specs.declared.errno.Errno.{Errno}
 use Rattle.host.specs.declared.errno.Errno.TheVariants.{TooBig, BadDescriptor, NoMemory, AccessDenied, Invalid, TooManyOpen}
@@ -161,7 +162,7 @@ AnswersRun s body answer =
     MatchBool (nat_lt (length body) 44) (answer ≡ refused Invalid s)
     (MatchOption (named s (little_number 4 body)) (answer ≡ refused BadDescriptor s)
     (λ object. MatchBool (nat_lt 32768 (length body - 44)) (answer ≡ refused TooBig s)
-    ((outcome : ℕ) × (result_of (program_of object) (context_of body) (drop 44 body) ≡ Value outcome) × (answer ≡ record { status = pos 0; payload = little_bytes 4 outcome; after = s }))))
+    ((outcome : ℕ) × (result_of (program_of object) no_maps (context_of body) (drop 44 body) ≡ Value outcome) × (answer ≡ record { status = pos 0; payload = little_bytes 4 outcome; after = s }))))
 
 -- ---- every command
 

@@ -6,12 +6,13 @@ ghost use Rattle.arena.specs.Memory.{part_bytes};
 ghost use Rattle.insn_codec.specs.Program.{IsProgram, program_bytes};
 ghost use Rattle.verdict.specs.Verdict.{IsAccepted};
 ghost use Rattle.host.specs.State.{nothing_open};
+ghost use Rattle.host.specs.Programs.{ArePrograms};
 ghost use Rattle.host.specs.Machine.{context_of, free_place, named, open_descriptors, with_open, AnswersLoad, AnswersRun};
 ghost use Rattle.host.specs.Reply.{answer_of, IsLoadRefusal};
 
 use crate::command::{Reply, reply_to_codec, reply_to_verdict};
 use crate::errno::Errno;
-use crate::object::Object;
+use crate::object::{Loaded, Object};
 use arena::{Arena, Trace};
 use byteorder::{ByteOrder, LittleEndian};
 use flat_machine::run;
@@ -19,7 +20,8 @@ use insn_codec::read_program;
 use std::alloc::{AllocError, Global};
 use std::marker::Model;
 use tagged_model::{Named, Outcome, Target};
-use verifier::{Verified, verify};
+use verdict::loaded_maps_have_shapes;
+use verifier::verify;
 
 /// How many descriptors a tenant has.
 const DESCRIPTORS: usize = 64;
@@ -67,10 +69,11 @@ fn empty_table(alloc: Global) -> Result<Vec<Option<Object>>, AllocError>
     Ok(table)
 }
 
-/// The program that the slots spell, if it is accepted with these descriptors open.
-fn judged(alloc: Global, slots: &[u8], descriptors: &[Named]) -> Result<Verified, Reply>
-    requires { length slots.now < 4294967296 }
-    ensures accepted { IfOk result (λ verified. IsProgram verified × (slots.now ≡ program_bytes verified) × IsAccepted verified descriptors.now) }
+/// The program that the slots spell, if it is accepted with these descriptors open, which name programs.
+fn judged(alloc: Global, slots: &[u8], descriptors: &[Named]) -> Result<Loaded, Reply>
+    requires length { length slots.now < 4294967296 }
+    requires programs { ArePrograms descriptors.now }
+    ensures accepted { IfOk result (λ loaded. IsProgram loaded × (slots.now ≡ program_bytes loaded) × IsAccepted loaded descriptors.now) }
     ensures refused { IfErr result (λ reply. IsLoadRefusal descriptors.now slots.now reply) }
 {
     let program = match read_program(alloc, slots) {
@@ -79,8 +82,9 @@ fn judged(alloc: Global, slots: &[u8], descriptors: &[Named]) -> Result<Verified
     };
     // By this law a fault's slot is one of the program's.
     program.code();
+    loaded_maps_have_shapes();
     match verify(alloc, &program, descriptors) {
-        Ok(verified) => Ok(verified),
+        Ok(verified) => Ok(Loaded::new(verified)),
         Err(fault) => Err(reply_to_verdict(fault)),
     }
 }
@@ -133,7 +137,8 @@ impl Tenant {
 
     /// What each open descriptor names.
     fn open_descriptors(&self, alloc: Global) -> Result<Vec<Named>, AllocError>
-        ensures { IfOk result (λ descriptors. descriptors.items ≡ open_descriptors self.now) }
+        ensures named { IfOk result (λ descriptors. descriptors.items ≡ open_descriptors self.now) }
+        ensures programs { IfOk result (λ descriptors. ArePrograms descriptors.items) }
     {
         let mut descriptors = Vec::with_capacity(alloc, DESCRIPTORS)?;
         for (place, object) in self.table.iter().enumerate() {
@@ -162,8 +167,8 @@ impl Tenant {
             return Reply::Refused(Errno::NoMemory);
         };
         match judged(alloc, &body[4..], &descriptors) {
-            Ok(verified) => {
-                self.open_at(place, Object::Program(verified));
+            Ok(loaded) => {
+                self.open_at(place, Object::Program(loaded));
                 Reply::Descriptor((FIRST_DESCRIPTOR + place) as u8)
             }
             Err(reply) => reply,
@@ -190,7 +195,7 @@ impl Tenant {
         if packet.len() > LONGEST_PACKET {
             return Reply::Refused(Errno::TooBig);
         }
-        let program = object.program();
+        let program = object.program().verified();
         let context = context_words(body);
         let mut trace = Trace::new();
         match run(program, tenant, arena, &context, packet, &mut trace) {

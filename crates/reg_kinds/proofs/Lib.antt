@@ -3,6 +3,7 @@ pub mod FactLaws
 pub mod JoinedByTest
 pub mod KindGroups
 pub mod KindOrder
+pub mod SlotTests
 pub mod PointerLemmas
 pub mod Tables
 mod Vectors

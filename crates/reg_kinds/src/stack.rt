@@ -112,7 +112,7 @@ fn byte_bits(place: usize, size: Size) -> u8
 }
 
 /// What a load of bytes gives.
-fn loaded(size: Size, signed: bool) -> Kind
+pub fn loaded(size: Size, signed: bool) -> Kind
     ensures { result ≡ loaded size signed }
 {
     if signed {
@@ -148,7 +148,7 @@ fn slot_written(slot: Slot, bits: u8, size: Size, value: Kind) -> Result<Slot, R
 }
 
 /// Bytes written over bytes stay beside them. Over a spilled value they stay alone.
-fn bytes_over(slot: Slot, bits: u8) -> Slot
+pub(crate) fn bytes_over(slot: Slot, bits: u8) -> Slot
     ensures { result ≡ bytes_over slot bits }
 {
     match slot {

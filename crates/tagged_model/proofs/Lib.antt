@@ -9,5 +9,14 @@ pub mod CellBytes
 pub mod WrittenBytes
 pub mod StackLoads
 pub mod StackStores
+pub mod ManyReads
+pub mod ManyWrites
+pub mod Objects
+pub mod MapCalls
+pub mod AfterCalls
+pub mod NamedTargets
+pub mod ValueAccess
+pub mod Refusals
 mod RunVectors
+mod HelperVectors
 mod Vectors

@@ -15,65 +15,66 @@ use Rattle.tagged_model.specs.declared.value.Tagged.{Tagged}
 use Rattle.tagged_model.specs.declared.value.Tagged.TheVariants.{Scalar}
 use Rattle.tagged_model.specs.Cells.{Cell}
 use Rattle.tagged_model.specs.State.{State}
-use Rattle.tagged_model.specs.Admits.{IsOf, IsLookup, IsWhole, HasKind, HasSlot, AdmitsBy}
+use Rattle.tagged_model.specs.Admits.{Witness, IsOf, IsLookup, IsWhole, HasKind, HasSlot, AdmitsBy}
 use Rattle.tagged_model.proofs.Unknown.{has_kind, admitted_by}
 
 -- what a test of a site tells of a value of it, and of a slot that keeps one
-record Tells (gave : ℕ → Tagged) (site : ℕ) (null : Bool) : Type 0 where
-  of_value : (m : ℕ) (v : Tagged) → v ≡ gave site → IsLookup m v → IsOf gave (settled_value null m) v
-  of_slot : (m : ℕ) (c : Cell) → HasSlot gave (Spill (kind.MaybeValue m site)) c → HasSlot gave (settled_spill null m) c
+record Tells (witness : Witness) (site : ℕ) (null : Bool) : Type 0 where
+  of_value : (m : ℕ) (v : Tagged) → v ≡ witness.gave site → IsLookup witness m v → IsOf witness (settled_value null m) v
+  of_slot : (m : ℕ) (c : Cell) → HasSlot witness (Spill (kind.MaybeValue m site)) c → HasSlot witness (settled_spill null m) c
 
-module _ (gave : ℕ → Tagged) (site : ℕ) (null : Bool) (tells : Tells gave site null) where
-  register_settled : (k : Kind) (o : Option Tagged) → HasKind gave k o → HasKind gave (kind_settled site null k) o
+module _ (witness : Witness) (site : ℕ) (null : Bool) (tells : Tells witness site null) where
+  register_settled : (k : Kind) (o : Option Tagged) → HasKind witness k o → HasKind witness (kind_settled site null k) o
   register_settled (kind.MaybeValue m s) o h =
-      cond_both (s == site) (settled_value null m) (kind.MaybeValue m s) (λ k. HasKind gave k o)
-      (λ t. has_kind gave (settled_value null m) o h.0 h.1 (tells.of_value m h.0 (h.2.0 ∙ ap gave (eqb-true s site t)) h.2.1))
+      cond_both (s == site) (settled_value null m) (kind.MaybeValue m s) (λ k. HasKind witness k o)
+      (λ t. has_kind witness (settled_value null m) o h.0 h.1 (tells.of_value m h.0 (h.2.0 ∙ ap witness.gave (eqb-true s site t)) h.2.1))
       (λ _. h)
   register_settled k o h = h
 
-  cell_settled : (t : Slot) (c : Cell) → HasSlot gave t c → HasSlot gave (slot_settled site null t) c
+  cell_settled : (t : Slot) (c : Cell) → HasSlot witness t c → HasSlot witness (slot_settled site null t) c
   cell_settled (Spill (kind.MaybeValue m s)) c h =
-      cond_both (s == site) (settled_spill null m) (Spill (kind.MaybeValue m s)) (λ t. HasSlot gave t c)
-      (λ t. tells.of_slot m c (subst (λ j. HasSlot gave (Spill (kind.MaybeValue m j)) c) (eqb-true s site t) h))
+      cond_both (s == site) (settled_spill null m) (Spill (kind.MaybeValue m s)) (λ t. HasSlot witness t c)
+      (λ t. tells.of_slot m c (subst (λ j. HasSlot witness (Spill (kind.MaybeValue m j)) c) (eqb-true s site t) h))
       (λ _. h)
   cell_settled t c h = h
 
-  settled : (f : Facts) (s : State) → AdmitsBy gave f s → AdmitsBy gave (facts_settled site null f) s
+  settled : (f : Facts) (s : State) → AdmitsBy witness f s → AdmitsBy witness (facts_settled site null f) s
   settled f s h =
-      admitted_by gave (λ r. kind_settled site null (kind_at f r)) (λ i. slot_settled site null (slot_at f i)) s
+      admitted_by witness (λ r. kind_settled site null (kind_at f r)) (λ i. slot_settled site null (slot_at f i)) s
       (λ r. register_settled (kind_at f r) (s.registers r) (h.registers r))
       (λ i. cell_settled (slot_at f i) (s.cells i) (h.slots i))
+      h.objects
 
 -- ---- it is null
 
-zero_of : (gave : ℕ → Tagged) (v : Tagged) → v ≡ Scalar 0 → IsOf gave (kind.Scalar (constant 0)) v
-zero_of gave v e = (0, e, record { from = omega arith; to = omega arith }, omega arith)
+zero_of : (witness : Witness) (v : Tagged) → v ≡ Scalar 0 → IsOf witness (kind.Scalar (constant 0)) v
+zero_of witness v e = (0, e, record { from = omega arith; to = omega arith }, omega arith)
 
-module _ (gave : ℕ → Tagged) (site : ℕ) (is_null : gave site ≡ Scalar 0) where
+module _ (witness : Witness) (site : ℕ) (is_null : witness.gave site ≡ Scalar 0) where
   -- what is kept whole is no null, so there are eight bytes
-  null_slot : (m : ℕ) (c : Cell) → HasSlot gave (Spill (kind.MaybeValue m site)) c → HasSlot gave (Bytes 0xff) c
+  null_slot : (m : ℕ) (c : Cell) → HasSlot witness (Spill (kind.MaybeValue m site)) c → HasSlot witness (Bytes 0xff) c
   null_slot m c (inl h) = absurd (subst IsWhole (h.2.0 ∙ is_null) h.3)
   null_slot m c (inr h) = λ j lt _. (0, h.1 j lt)
 
-  null_tells : Tells gave site true
-  null_tells = record { of_value = λ m v e l. zero_of gave v (e ∙ is_null); of_slot = null_slot }
+  null_tells : Tells witness site true
+  null_tells = record { of_value = λ m v e l. zero_of witness v (e ∙ is_null); of_slot = null_slot }
 
-  pub null_settled : (f : Facts) (s : State) → AdmitsBy gave f s → AdmitsBy gave (facts_settled site true f) s
-  null_settled = settled gave site true null_tells
+  pub null_settled : (f : Facts) (s : State) → AdmitsBy witness f s → AdmitsBy witness (facts_settled site true f) s
+  null_settled = settled witness site true null_tells
 
 -- ---- it is a pointer to the start of a value
 
-module _ (gave : ℕ → Tagged) (site : ℕ) (is_pointer : gave site ≢ Scalar 0) where
-  start_of : (m : ℕ) (v : Tagged) → v ≡ gave site → IsLookup m v → IsOf gave (kind.Value (value_span m (pos 0) (pos 0))) v
+module _ (witness : Witness) (site : ℕ) (is_pointer : witness.gave site ≢ Scalar 0) where
+  start_of : (m : ℕ) (v : Tagged) → v ≡ witness.gave site → IsLookup witness m v → IsOf witness (kind.Value (value_span m (pos 0) (pos 0))) v
   start_of m v e (inl z) = absurd (is_pointer (sym e ∙ z))
-  start_of m v e (inr h) = (h.0, pos 0, h.1, omega (arith, ints, clamps), omega (arith, ints, clamps))
+  start_of m v e (inr h) = (h.0, pos 0, h.1, omega (arith, ints, clamps), omega (arith, ints, clamps), h.2)
 
-  start_slot : (m : ℕ) (c : Cell) → HasSlot gave (Spill (kind.MaybeValue m site)) c → HasSlot gave (Spill (kind.Value (value_span m (pos 0) (pos 0)))) c
+  start_slot : (m : ℕ) (c : Cell) → HasSlot witness (Spill (kind.MaybeValue m site)) c → HasSlot witness (Spill (kind.Value (value_span m (pos 0) (pos 0)))) c
   start_slot m c (inl h) = inl (h.0, h.1, start_of m h.0 h.2.0 h.2.1, h.3)
   start_slot m c (inr h) = absurd (is_pointer h.0)
 
-  start_tells : Tells gave site false
+  start_tells : Tells witness site false
   start_tells = record { of_value = start_of; of_slot = start_slot }
 
-  pub start_settled : (f : Facts) (s : State) → AdmitsBy gave f s → AdmitsBy gave (facts_settled site false f) s
-  start_settled = settled gave site false start_tells
+  pub start_settled : (f : Facts) (s : State) → AdmitsBy witness f s → AdmitsBy witness (facts_settled site false f) s
+  start_settled = settled witness site false start_tells

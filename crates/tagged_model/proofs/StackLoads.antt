@@ -17,7 +17,7 @@ use Rattle.tagged_model.specs.declared.value.Tagged.{Tagged}
 use Rattle.tagged_model.specs.declared.value.Tagged.TheVariants.{Scalar}
 use Rattle.tagged_model.specs.Cells.{Cell, holds, bytes, also, byte_at, widened, number_from, read_cell}
 use Rattle.tagged_model.specs.State.{State, stack_load}
-use Rattle.tagged_model.specs.Admits.{IsOf, HoldsNull, HasBytes, HasSlot, AdmitsBy, IsProper}
+use Rattle.tagged_model.specs.Admits.{Witness, IsOf, HoldsNull, HasBytes, HasSlot, AdmitsBy, IsProper}
 use Rattle.tagged_model.proofs.CellBytes.{AreBytes, AreRead, all_read, zeros_read}
 use Rattle.tagged_model.proofs.MaskBits.{in_mask}
 use Rattle.tagged_model.proofs.Numbers.{widened_is}
@@ -25,50 +25,50 @@ use Rattle.tagged_model.proofs.Places.{refused, same_ok, chosen, at_place, in_on
 
 -- ---- what a load of a cell gives
 
-abbrev Gives : (ℕ → Tagged) → Cell → ℕ → Size → Bool → Kind → Type 0
-Gives gave c j size signed k = (v : Tagged) × (read_cell c j size signed ≡ Some v) × IsOf gave k v
+abbrev Gives : Witness → Cell → ℕ → Size → Bool → Kind → Type 0
+Gives witness c j size signed k = (v : Tagged) × (read_cell c j size signed ≡ Some v) × IsOf witness k v
 
-bytes_give : (gave : ℕ → Tagged) (c : Cell) (j : ℕ) (size : Size) (signed : Bool) → (b : ℕ) × (byte_at c (j + 0) ≡ Some b) → AreRead c j (bytes_of size) → Gives gave c j size signed (loaded size signed)
-bytes_give gave (holds v) j size signed first r = absurd (none-some first.0 first.1)
-bytes_give gave (bytes b) j size signed first r =
-    (Scalar (widened size signed (number_of r.list)), ap (number_from size signed) r.read, widened_is gave size signed (number_of r.list) r.small)
+bytes_give : (witness : Witness) (c : Cell) (j : ℕ) (size : Size) (signed : Bool) → (b : ℕ) × (byte_at c (j + 0) ≡ Some b) → AreRead (byte_at c) j (bytes_of size) → Gives witness c j size signed (loaded size signed)
+bytes_give witness (holds v) j size signed first r = absurd (none-some first.0 first.1)
+bytes_give witness (bytes b) j size signed first r =
+    (Scalar (widened size signed (number_of r.list)), ap (number_from size signed) r.read, widened_is witness size signed (number_of r.list) r.small)
 
-written_give : (gave : ℕ → Tagged) (mask : ℕ) (c : Cell) (p : ℕ) (size : Size) (signed : Bool) → AreBytes c → p % bytes_of size ≡ 0 → HasBytes mask c → bit_and mask (byte_bits p (bytes_of size)) ≡ byte_bits p (bytes_of size) → Gives gave c (p % 8) size signed (loaded size signed)
-written_give gave mask c p size signed small even has e =
+written_give : (witness : Witness) (mask : ℕ) (c : Cell) (p : ℕ) (size : Size) (signed : Bool) → AreBytes c → p % bytes_of size ≡ 0 → HasBytes mask c → bit_and mask (byte_bits p (bytes_of size)) ≡ byte_bits p (bytes_of size) → Gives witness c (p % 8) size signed (loaded size signed)
+written_give witness mask c p size signed small even has e =
     let n = bytes_of size in
     let fits = in_one_slot size p even in
     let there : (k : ℕ) → k < n → (b : ℕ) × (byte_at c (p % 8 + k) ≡ Some b) = λ k lt. has (p % 8 + k) (omega arith) (in_mask mask p n k lt e) in
-    bytes_give gave c (p % 8) size signed (there 0 (some_bytes size)) (all_read c n (p % 8) small there)
+    bytes_give witness c (p % 8) size signed (there 0 (some_bytes size)) (all_read (byte_at c) n (p % 8) small there)
 
 -- eight zero bytes are read as 0, with a sign or without
 null_read : (c : Cell) (signed : Bool) → ((j : ℕ) → j < 8 → byte_at c j ≡ Some 0) → read_cell c 0 Double signed ≡ Some (Scalar 0)
 null_read (holds v) signed zeros = absurd (none-some 0 (zeros 0 (omega arith)))
 null_read (bytes b) true zeros =
-    let r = zeros_read (bytes b) 8 0 (λ k lt. ap (byte_at (bytes b)) (omega arith) ∙ zeros k lt) in
+    let r = zeros_read b 8 0 (λ k lt. ap (byte_at (bytes b)) (omega arith) ∙ zeros k lt) in
     ap (number_from Double true) r.1 ∙ ap (λ n. Some (Scalar (widened Double true n))) r.2
 null_read (bytes b) false zeros =
-    let r = zeros_read (bytes b) 8 0 (λ k lt. ap (byte_at (bytes b)) (omega arith) ∙ zeros k lt) in
+    let r = zeros_read b 8 0 (λ k lt. ap (byte_at (bytes b)) (omega arith) ∙ zeros k lt) in
     ap (number_from Double false) r.1 ∙ ap (λ n. Some (Scalar n)) r.2
 
-null_gives : (gave : ℕ → Tagged) (k : Kind) (c : Cell) (j : ℕ) (signed : Bool) → j ≡ 0 → HoldsNull gave k c → Gives gave c j Double signed k
-null_gives gave (kind.MaybeValue m s) c j signed z h = (Scalar 0, ap (λ i. read_cell c i Double signed) z ∙ null_read c signed h.1, (sym h.0, inl refl))
-null_gives gave k c j signed z h = absurd h
+null_gives : (witness : Witness) (k : Kind) (c : Cell) (j : ℕ) (signed : Bool) → j ≡ 0 → HoldsNull witness k c → Gives witness c j Double signed k
+null_gives witness (kind.MaybeValue m s) c j signed z h = (Scalar 0, ap (λ i. read_cell c i Double signed) z ∙ null_read c signed h.1, (sym h.0, inl refl))
+null_gives witness k c j signed z h = absurd h
 
-cell_gives : (gave : ℕ → Tagged) (t : Slot) (c : Cell) (p : ℕ) (size : Size) (signed : Bool) (k : Kind) → AreBytes c → p % bytes_of size ≡ 0 → HasSlot gave t c → read_slot t (byte_bits p (bytes_of size)) size signed ≡ Ok k → Gives gave c (p % 8) size signed k
-cell_gives gave (slot.Bytes mask) c p size signed k small even has e =
+cell_gives : (witness : Witness) (t : Slot) (c : Cell) (p : ℕ) (size : Size) (signed : Bool) (k : Kind) → AreBytes c → p % bytes_of size ≡ 0 → HasSlot witness t c → read_slot t (byte_bits p (bytes_of size)) size signed ≡ Ok k → Gives witness c (p % 8) size signed k
+cell_gives witness (slot.Bytes mask) c p size signed k small even has e =
     let bits = byte_bits p (bytes_of size) in
     let h = chosen (bit_and mask bits == bits) (loaded size signed) k UnwrittenStack e in
-    subst (Gives gave c (p % 8) size signed) h.1 (written_give gave mask c p size signed small even has (eqb-true (bit_and mask bits) bits h.0))
-cell_gives gave (slot.Spill l) c p Double signed k small even (inl h) e =
-    (h.0, ap (λ d. read_cell d (p % 8) Double signed) h.1, subst (λ x. IsOf gave x h.0) (same_ok l k e) h.2)
-cell_gives gave (slot.Spill l) c p Double signed k small even (inr h) e = subst (Gives gave c (p % 8) Double signed) (same_ok l k e) (null_gives gave l c (p % 8) signed even h)
-cell_gives gave (slot.Spill l) c p size signed k small even has e = absurd (refused PartOfSpill k e)
+    subst (Gives witness c (p % 8) size signed) h.1 (written_give witness mask c p size signed small even has (eqb-true (bit_and mask bits) bits h.0))
+cell_gives witness (slot.Spill l) c p Double signed k small even (inl h) e =
+    (h.0, ap (λ d. read_cell d (p % 8) Double signed) h.1, subst (λ x. IsOf witness x h.0) (same_ok l k e) h.2)
+cell_gives witness (slot.Spill l) c p Double signed k small even (inr h) e = subst (Gives witness c (p % 8) Double signed) (same_ok l k e) (null_gives witness l c (p % 8) signed even h)
+cell_gives witness (slot.Spill l) c p size signed k small even has e = absurd (refused PartOfSpill k e)
 
 -- ---- loads from the stack
 
-pub stack_gives : (gave : ℕ → Tagged) (f : Facts) (s : State) (offset : ℤ) (size : Size) (signed : Bool) (k : Kind) → IsProper s → AdmitsBy gave f s → stack_read f offset size signed ≡ Ok k → (v : Tagged) × (stack_load s offset size signed ≡ Some v) × IsOf gave k v
-stack_gives gave f s offset size signed k proper admits e =
+pub stack_gives : (witness : Witness) (f : Facts) (s : State) (offset : ℤ) (size : Size) (signed : Bool) (k : Kind) → IsProper s → AdmitsBy witness f s → stack_read f offset size signed ≡ Ok k → (v : Tagged) × (stack_load s offset size signed ≡ Some v) × IsOf witness k v
+stack_gives witness f s offset size signed k proper admits e =
     let p = place offset in
     let at = at_place offset size (λ t. read_slot (slot_at f t.0) t.1 size signed) k e in
-    let r = cell_gives gave (slot_at f (p / 8)) (s.cells (p / 8)) p size signed k (proper.bytes (p / 8)) at.1 (admits.slots (p / 8)) at.2 in
+    let r = cell_gives witness (slot_at f (p / 8)) (s.cells (p / 8)) p size signed k (proper.bytes (p / 8)) at.1 (admits.slots (p / 8)) at.2 in
     (r.0, ap (λ o. also o (λ q. read_cell (s.cells (q / 8)) (q % 8) size signed)) at.0 ∙ r.1, r.2)

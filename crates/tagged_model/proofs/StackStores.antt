@@ -18,7 +18,7 @@ use Rattle.tagged_model.specs.declared.value.Tagged.{Tagged}
 use Rattle.tagged_model.specs.declared.value.Tagged.TheVariants.{Scalar, Map, Pointer}
 use Rattle.tagged_model.specs.Cells.{Cell, holds, also, written_over, write_cell}
 use Rattle.tagged_model.specs.State.{State, with_cell, stack_store}
-use Rattle.tagged_model.specs.Admits.{IsOf, IsWhole, HasSlot, AdmitsBy, IsProper}
+use Rattle.tagged_model.specs.Admits.{Witness, IsOf, IsWhole, HasSlot, AdmitsBy, IsProper}
 use Rattle.tagged_model.proofs.Tables.{in_written}
 use Rattle.tagged_model.proofs.Unknown.{no_bytes}
 use Rattle.tagged_model.proofs.CellBytes.{AreBytes}
@@ -27,36 +27,36 @@ use Rattle.tagged_model.proofs.Places.{refused, same_ok, given_ok, at_place}
 
 -- ---- a cell after a store
 
-record IsWritten (gave : ℕ → Tagged) (t : Slot) (c : Cell) (j : ℕ) (size : Size) (v : Tagged) : Type 0 where
+record IsWritten (witness : Witness) (t : Slot) (c : Cell) (j : ℕ) (size : Size) (v : Tagged) : Type 0 where
   cell : Cell
   written : write_cell c j size v ≡ Some cell
-  has : HasSlot gave t cell
+  has : HasSlot witness t cell
   small : AreBytes cell
 
-over_has : (gave : ℕ → Tagged) (t : Slot) (c : Cell) (p n x : ℕ) → HasSlot gave t c → HasSlot gave (bytes_over t (byte_bits p n)) (written_over c (p % 8) (low_bytes n x))
-over_has gave (slot.Bytes mask) c p n x has = both_there mask c p n x has
-over_has gave (slot.Spill k) c p n x has = touched_there c p n x
+over_has : (witness : Witness) (t : Slot) (c : Cell) (p n x : ℕ) → HasSlot witness t c → HasSlot witness (bytes_over t (byte_bits p n)) (written_over c (p % 8) (low_bytes n x))
+over_has witness (slot.Bytes mask) c p n x has = both_there mask c p n x has
+over_has witness (slot.Spill k) c p n x has = touched_there c p n x
 
-number_written : (gave : ℕ → Tagged) (t : Slot) (c : Cell) (p : ℕ) (size : Size) (v : Tagged) (x : ℕ) → v ≡ Scalar x → AreBytes c → HasSlot gave t c → IsWritten gave (bytes_over t (byte_bits p (bytes_of size))) c (p % 8) size v
-number_written gave t c p size v x e small has =
+number_written : (witness : Witness) (t : Slot) (c : Cell) (p : ℕ) (size : Size) (v : Tagged) (x : ℕ) → v ≡ Scalar x → AreBytes c → HasSlot witness t c → IsWritten witness (bytes_over t (byte_bits p (bytes_of size))) c (p % 8) size v
+number_written witness t c p size v x e small has =
     let n = bytes_of size in
     record {
       cell = written_over c (p % 8) (low_bytes n x);
       written = ap (write_cell c (p % 8) size) e;
-      has = over_has gave t c p n x has;
+      has = over_has witness t c p n x has;
       small = over_small c (p % 8) n x small;
     }
 
 absent : (v : Tagged) → AreBytes (holds v)
 absent v i b e = absurd (none-some b e)
 
-whole_written : (gave : ℕ → Tagged) (k : Kind) (c : Cell) (j : ℕ) (v : Tagged) → IsWhole v → IsOf gave k v → IsWritten gave (slot.Spill k) c j Double v
-whole_written gave k c j (Scalar n) w h = absurd w
-whole_written gave k c j (Map m) w h = record { cell = holds (Map m); written = refl; has = inl (Map m, refl, h, tt); small = absent (Map m) }
-whole_written gave k c j (Pointer o x) w h = record { cell = holds (Pointer o x); written = refl; has = inl (Pointer o x, refl, h, tt); small = absent (Pointer o x) }
+whole_written : (witness : Witness) (k : Kind) (c : Cell) (j : ℕ) (v : Tagged) → IsWhole v → IsOf witness k v → IsWritten witness (slot.Spill k) c j Double v
+whole_written witness k c j (Scalar n) w h = absurd w
+whole_written witness k c j (Map m) w h = record { cell = holds (Map m); written = refl; has = inl (Map m, refl, h, tt); small = absent (Map m) }
+whole_written witness k c j (Pointer o x) w h = record { cell = holds (Pointer o x); written = refl; has = inl (Pointer o x, refl, h, tt); small = absent (Pointer o x) }
 
-null_written : (gave : ℕ → Tagged) (m s : ℕ) (c : Cell) (j : ℕ) (v : Tagged) → j ≡ 0 → v ≡ gave s → v ≡ Scalar 0 → AreBytes c → IsWritten gave (slot.Spill (kind.MaybeValue m s)) c j Double v
-null_written gave m s c j v z e null small =
+null_written : (witness : Witness) (m s : ℕ) (c : Cell) (j : ℕ) (v : Tagged) → j ≡ 0 → v ≡ witness.gave s → v ≡ Scalar 0 → AreBytes c → IsWritten witness (slot.Spill (kind.MaybeValue m s)) c j Double v
+null_written witness m s c j v z e null small =
     record {
       cell = written_over c 0 (low_bytes 8 0);
       written = ap (λ i. write_cell c i Double v) z ∙ ap (write_cell c 0 Double) null;
@@ -64,17 +64,17 @@ null_written gave m s c j v z e null small =
       small = over_small c 0 8 0 small;
     }
 
-pointer_written : (gave : ℕ → Tagged) (k : Kind) (c : Cell) (j : ℕ) (v : Tagged) → is_pointer k ≡ true → j ≡ 0 → AreBytes c → IsOf gave k v → IsWritten gave (slot.Spill k) c j Double v
-pointer_written gave kind.Unreadable c j v t z small h = absurd (false≢true t)
-pointer_written gave (kind.Scalar r) c j v t z small h = absurd (false≢true t)
-pointer_written gave (kind.MapRef m) c j v t z small h = whole_written gave (kind.MapRef m) c j v (subst IsWhole (sym h) tt) h
-pointer_written gave (kind.Stack x) c j v t z small h = whole_written gave (kind.Stack x) c j v (subst IsWhole (sym h) tt) h
-pointer_written gave kind.Ctx c j v t z small h = whole_written gave kind.Ctx c j v (subst IsWhole (sym h) tt) h
-pointer_written gave (kind.Value p) c j v t z small h = whole_written gave (kind.Value p) c j v (subst IsWhole (sym h.2) tt) h
-pointer_written gave (kind.MaybeValue m s) c j v t z small h =
+pointer_written : (witness : Witness) (k : Kind) (c : Cell) (j : ℕ) (v : Tagged) → is_pointer k ≡ true → j ≡ 0 → AreBytes c → IsOf witness k v → IsWritten witness (slot.Spill k) c j Double v
+pointer_written witness kind.Unreadable c j v t z small h = absurd (false≢true t)
+pointer_written witness (kind.Scalar r) c j v t z small h = absurd (false≢true t)
+pointer_written witness (kind.MapRef m) c j v t z small h = whole_written witness (kind.MapRef m) c j v (subst IsWhole (sym h) tt) h
+pointer_written witness (kind.Stack x) c j v t z small h = whole_written witness (kind.Stack x) c j v (subst IsWhole (sym h) tt) h
+pointer_written witness kind.Ctx c j v t z small h = whole_written witness kind.Ctx c j v (subst IsWhole (sym h) tt) h
+pointer_written witness (kind.Value p) c j v t z small h = whole_written witness (kind.Value p) c j v (subst IsWhole (sym h.2) tt) h
+pointer_written witness (kind.MaybeValue m s) c j v t z small h =
     ⊎_elim
-    (λ null. null_written gave m s c j v z h.0 null small)
-    (λ start. whole_written gave (kind.MaybeValue m s) c j v (subst IsWhole (sym start.1) tt) h)
+    (λ null. null_written witness m s c j v z h.0 null small)
+    (λ start. whole_written witness (kind.MaybeValue m s) c j v (subst IsWhole (sym start.1) tt) h)
     h.1
 
 -- ---- what a store leaves
@@ -85,15 +85,15 @@ IsKnown kind.Unreadable = ⊥
 IsKnown k = Unit {0}
 
 -- where a pointer may be written, it is written whole
-spill_written : (gave : ℕ → Tagged) (u : Slot) (c : Cell) (p : ℕ) (size : Size) (k : Kind) (v : Tagged) → is_pointer k ≡ true → p % bytes_of size ≡ 0 → AreBytes c → IsOf gave k v → (if is_whole size then Ok (slot.Spill k) else Err PartOfSpill) ≡ Ok u → IsWritten gave u c (p % 8) size v
-spill_written gave u c p Double k v t even small h e = subst (λ u. IsWritten gave u c (p % 8) Double v) (same_ok (slot.Spill k) u e) (pointer_written gave k c (p % 8) v t even small h)
-spill_written gave u c p size k v t even small h e = absurd (refused PartOfSpill u e)
+spill_written : (witness : Witness) (u : Slot) (c : Cell) (p : ℕ) (size : Size) (k : Kind) (v : Tagged) → is_pointer k ≡ true → p % bytes_of size ≡ 0 → AreBytes c → IsOf witness k v → (if is_whole size then Ok (slot.Spill k) else Err PartOfSpill) ≡ Ok u → IsWritten witness u c (p % 8) size v
+spill_written witness u c p Double k v t even small h e = subst (λ u. IsWritten witness u c (p % 8) Double v) (same_ok (slot.Spill k) u e) (pointer_written witness k c (p % 8) v t even small h)
+spill_written witness u c p size k v t even small h e = absurd (refused PartOfSpill u e)
 
-cell_written : (gave : ℕ → Tagged) (t u : Slot) (c : Cell) (p : ℕ) (size : Size) (k : Kind) (v : Tagged) → IsKnown k → p % bytes_of size ≡ 0 → AreBytes c → HasSlot gave t c → IsOf gave k v → slot_written t (byte_bits p (bytes_of size)) size k ≡ Ok u → IsWritten gave u c (p % 8) size v
-cell_written gave t u c p size kind.Unreadable v known even small has h e = absurd known
-cell_written gave t u c p size (kind.Scalar r) v known even small has h e =
-    subst (λ u. IsWritten gave u c (p % 8) size v) (same_ok (bytes_over t (byte_bits p (bytes_of size))) u e) (number_written gave t c p size v h.0 h.1 small has)
-cell_written gave t u c p size k v known even small has h e = spill_written gave u c p size k v refl even small h e
+cell_written : (witness : Witness) (t u : Slot) (c : Cell) (p : ℕ) (size : Size) (k : Kind) (v : Tagged) → IsKnown k → p % bytes_of size ≡ 0 → AreBytes c → HasSlot witness t c → IsOf witness k v → slot_written t (byte_bits p (bytes_of size)) size k ≡ Ok u → IsWritten witness u c (p % 8) size v
+cell_written witness t u c p size kind.Unreadable v known even small has h e = absurd known
+cell_written witness t u c p size (kind.Scalar r) v known even small has h e =
+    subst (λ u. IsWritten witness u c (p % 8) size v) (same_ok (bytes_over t (byte_bits p (bytes_of size))) u e) (number_written witness t c p size v h.0 h.1 small has)
+cell_written witness t u c p size k v known even small has h e = spill_written witness u c p size k v refl even small h e
 
 -- of a register that may not be read nothing is stored
 known_stored : (f g : Facts) (offset : ℤ) (size : Size) (k : Kind) → stack_write f offset size k ≡ Ok g → IsKnown k × (given (touched offset size) (facts_written f size k) ≡ Ok g)
@@ -102,16 +102,16 @@ known_stored f g offset size k e = (tt, e)
 
 -- ---- the facts and the state after a store
 
-module _ (gave : ℕ → Tagged) (f : Facts) (s : State) (proper : IsProper s) (admits : AdmitsBy gave f s) where
-  still_admits : (i : ℕ) (t : Slot) (c : Cell) → HasSlot gave t c → AdmitsBy gave (with_slot f i t) (with_cell s i c)
+module _ (witness : Witness) (f : Facts) (s : State) (proper : IsProper s) (admits : AdmitsBy witness f s) where
+  still_admits : (i : ℕ) (t : Slot) (c : Cell) → HasSlot witness t c → AdmitsBy witness (with_slot f i t) (with_cell s i c)
   still_admits i t c has =
-      record { registers = admits.registers; slots = in_written (HasSlot gave) f.slots s.cells i t (slot.Bytes 0) c has (no_bytes c) admits.slots }
+      record { registers = admits.registers; slots = in_written (HasSlot witness) f.slots s.cells i t (slot.Bytes 0) c has (no_bytes c) admits.slots; objects = admits.objects }
 
   still_proper : (i : ℕ) (c : Cell) → AreBytes c → IsProper (with_cell s i c)
   still_proper i c small =
-      record { bytes = λ k. cond_both (k == i) c (s.cells k) AreBytes (λ _. small) (λ _. proper.bytes k); words = proper.words; count = proper.count }
+      record { bytes = λ k. cond_both (k == i) c (s.cells k) AreBytes (λ _. small) (λ _. proper.bytes k); words = proper.words; count = proper.count; values = proper.values; packet = proper.packet }
 
-  pub stack_stored : (g : Facts) (offset : ℤ) (size : Size) (k : Kind) (v : Tagged) → IsOf gave k v → stack_write f offset size k ≡ Ok g → (t : State) × (stack_store s offset size v ≡ Some t) × AdmitsBy gave g t × IsProper t
+  pub stack_stored : (g : Facts) (offset : ℤ) (size : Size) (k : Kind) (v : Tagged) → IsOf witness k v → stack_write f offset size k ≡ Ok g → (t : State) × (stack_store s offset size v ≡ Some t) × AdmitsBy witness g t × IsProper t
   stack_stored g offset size k v h e =
       let p = place offset in
       let i = place offset / 8 in
@@ -119,10 +119,10 @@ module _ (gave : ℕ → Tagged) (f : Facts) (s : State) (proper : IsProper s) (
       let known = known_stored f g offset size k e in
       let at = at_place offset size (facts_written f size k) g known.1 in
       let new = given_ok (slot_written (slot_at f i) (byte_bits p n) size k) (λ t. Ok (with_slot f i t)) g at.2 in
-      let w = cell_written gave (slot_at f i) new.0 (s.cells i) p size k v known.0 at.1 (proper.bytes i) (admits.slots i) h new.1 in (
+      let w = cell_written witness (slot_at f i) new.0 (s.cells i) p size k v known.0 at.1 (proper.bytes i) (admits.slots i) h new.1 in (
         with_cell s i w.cell,
         ap (λ o. also o (λ q. also (write_cell (s.cells (q / 8)) (q % 8) size v) (λ c. Some (with_cell s (q / 8) c)))) at.0
             ∙ ap (λ o. also o (λ c. Some (with_cell s i c))) w.written,
-        subst (λ g. AdmitsBy gave g (with_cell s i w.cell)) (same_ok (with_slot f i new.0) g new.2) (still_admits i new.0 w.cell w.has),
+        subst (λ g. AdmitsBy witness g (with_cell s i w.cell)) (same_ok (with_slot f i new.0) g new.2) (still_admits i new.0 w.cell w.has),
         still_proper i w.cell w.small,
       )

@@ -1,5 +1,5 @@
 -- Kinds and slots of which nothing is known, and facts made of what is known of each register and slot.
-use Rattle.std.proofs.Common.{◌≡◌, ℕ, Option, Some, arith}
+use Rattle.std.proofs.Common.{◌≡◌, ℕ, ◌≤◌, Option, Some, arith}
 use Rattle.std.proofs.lemmas.Nat.Bits.{bit_at-zero}
 use Rattle.reg_kinds.specs.declared.kind.Kind.{Kind}
 use Rattle.reg_kinds.specs.declared.kind.Kind.TheVariants.{Unreadable}
@@ -9,7 +9,7 @@ use Rattle.reg_kinds.specs.Kinds.{facts_of}
 use Rattle.tagged_model.specs.declared.value.Tagged.{Tagged}
 use Rattle.tagged_model.specs.Cells.{Cell}
 use Rattle.tagged_model.specs.State.{State}
-use Rattle.tagged_model.specs.Admits.{IsOf, HasKind, HasBytes, HasSlot, AdmitsBy}
+use Rattle.tagged_model.specs.Admits.{Witness, IsOf, HasKind, HasBytes, HasSlot, AdmitsBy, objects_of}
 use Rattle.tagged_model.proofs.Tables.{in_table}
 
 -- of no byte is it told that it is there
@@ -17,14 +17,15 @@ pub no_bytes : (c : Cell) → HasBytes 0 c
 no_bytes c j h e = absurd (omega (arith, bit_at-zero j, e))
 
 -- of a register that may not be read nothing is asked
-pub has_kind : (gave : ℕ → Tagged) (k : Kind) (o : Option Tagged) (v : Tagged) → o ≡ Some v → IsOf gave k v → HasKind gave k o
-has_kind gave Unreadable o v e h = tt
-has_kind gave k o v e h = (v, e, h)
+pub has_kind : (witness : Witness) (k : Kind) (o : Option Tagged) (v : Tagged) → o ≡ Some v → IsOf witness k v → HasKind witness k o
+has_kind witness Unreadable o v e h = tt
+has_kind witness k o v e h = (v, e, h)
 
 -- such facts admit a state where each of them holds of it
-pub admitted_by : (gave : ℕ → Tagged) (kinds : ℕ → Kind) (slots : ℕ → Slot) (s : State) → ((r : ℕ) → HasKind gave (kinds r) (s.registers r)) → ((i : ℕ) → HasSlot gave (slots i) (s.cells i)) → AdmitsBy gave (facts_of kinds slots) s
-admitted_by gave kinds slots s of_registers of_slots =
+pub admitted_by : (witness : Witness) (kinds : ℕ → Kind) (slots : ℕ → Slot) (s : State) → ((r : ℕ) → HasKind witness (kinds r) (s.registers r)) → ((i : ℕ) → HasSlot witness (slots i) (s.cells i)) → ((m : ℕ) → witness.objects m ≤ objects_of (s.maps m)) → AdmitsBy witness (facts_of kinds slots) s
+admitted_by witness kinds slots s of_registers of_slots of_objects =
     record {
-      registers = λ r. in_table (λ k. HasKind gave k (s.registers r)) kinds 11 r Unreadable (of_registers r) tt;
-      slots = λ i. in_table (λ t. HasSlot gave t (s.cells i)) slots 64 i (Bytes 0) (of_slots i) (no_bytes (s.cells i));
+      registers = λ r. in_table (λ k. HasKind witness k (s.registers r)) kinds 11 r Unreadable (of_registers r) tt;
+      slots = λ i. in_table (λ t. HasSlot witness t (s.cells i)) slots 64 i (Bytes 0) (of_slots i) (no_bytes (s.cells i));
+      objects = of_objects;
     }

@@ -12,7 +12,7 @@ use Rattle.tagged_model.proofs.MaskBits.{only_touched, of_either}
 
 -- ---- the bytes of a number
 
-length-low_bytes : (n x : ℕ) → length (low_bytes n x) ≡ n
+pub length-low_bytes : (n x : ℕ) → length (low_bytes n x) ≡ n
 length-low_bytes zero x = refl
 length-low_bytes (suc n) x = ap suc (length-low_bytes n (x / 256))
 

@@ -1,7 +1,8 @@
 -- What facts say of a state.
-use Rattle.std.specs.Prelude.{◌≡◌, ◌⊎◌, ℕ, ◌<◌, ◌^◌, ℤ, pos, ◌≤ℤ◌, length, Option, Some}
+use Rattle.std.specs.Prelude.{◌≡◌, ◌⊎◌, ℕ, ◌<◌, ◌≤◌, ◌^◌, ℤ, pos, ◌≤ℤ◌, List, [], ◌∷◌, length, Option, Some, None}
 use Rattle.std.specs.List.{All}
 use Rattle.std.specs.Int.{bit_at}
+use Rattle.std.specs.Map.{keys_of}
 use Rattle.interval.specs.declared.range.Range.{Range}
 use Rattle.interval.specs.Ranges.{IsMember}
 use Rattle.reg_kinds.specs.declared.kind.ValuePointer.{ValuePointer}
@@ -15,9 +16,16 @@ use Rattle.tagged_model.specs.declared.value.Object.TheVariants as object
 use Rattle.tagged_model.specs.declared.value.Tagged.{Tagged}
 use Rattle.tagged_model.specs.declared.value.Tagged.TheVariants.{Scalar, Map, Pointer}
 use Rattle.tagged_model.specs.Cells.{Cell, holds, byte_at}
-use Rattle.tagged_model.specs.State.{State}
+use Rattle.tagged_model.specs.declared.shape.MapKind.TheVariants.{Array}
+use Rattle.tagged_model.specs.declared.shape.MapShape.{MapShape}
+use Rattle.tagged_model.specs.Table.{indexed}
+use Rattle.tagged_model.specs.State.{State, RunMap, set_at}
 
--- `gave` says of each site what the look-up there gave: all that carry it are one value
+-- what is told beside the facts: of each site what the look-up there gave, so that all that carry it are one value; and of
+-- each map how many objects it has had, or fewer
+pub record Witness : Type 0 where
+  pub gave : ℕ → Tagged
+  pub objects : ℕ → ℕ
 
 -- ---- values
 
@@ -26,27 +34,27 @@ abbrev pub IsScalarOf : Range → Tagged → Type 0
 IsScalarOf r v = (n : ℕ) × (v ≡ Scalar n) × IsMember n r × (n < 2 ^ 64)
 
 -- a pointer into a value of the map, at an offset that is known
-abbrev pub IsValueOf : ValuePointer → Tagged → Type 0
-IsValueOf p v = (number : ℕ) × (x : ℤ) × (v ≡ Pointer (object.Value p.map number) x) × (p.lo ≤ℤ x) × (x ≤ℤ p.hi)
+abbrev pub IsValueOf : Witness → ValuePointer → Tagged → Type 0
+IsValueOf witness p v = (number : ℕ) × (x : ℤ) × (v ≡ Pointer (object.Value p.map number) x) × (p.lo ≤ℤ x) × (x ≤ℤ p.hi) × (number < witness.objects p.map)
 
 -- null, or a pointer to the start of a value of map m
-abbrev pub IsLookup : ℕ → Tagged → Type 0
-IsLookup m v = (v ≡ Scalar 0) ⊎ ((number : ℕ) × (v ≡ Pointer (object.Value m number) (pos 0)))
+abbrev pub IsLookup : Witness → ℕ → Tagged → Type 0
+IsLookup witness m v = (v ≡ Scalar 0) ⊎ ((number : ℕ) × (v ≡ Pointer (object.Value m number) (pos 0)) × (number < witness.objects m))
 
-abbrev pub IsOf : (ℕ → Tagged) → Kind → Tagged → Type 0
-IsOf gave kind.Unreadable v = Unit {0}
-IsOf gave (kind.Scalar r) v = IsScalarOf r v
-IsOf gave (kind.MapRef m) v = v ≡ Map m
-IsOf gave (kind.Stack x) v = v ≡ Pointer object.Stack x
-IsOf gave kind.Ctx v = v ≡ Pointer object.Context (pos 0)
-IsOf gave (kind.Value p) v = IsValueOf p v
-IsOf gave (kind.MaybeValue m site) v = (v ≡ gave site) × IsLookup m v
+abbrev pub IsOf : Witness → Kind → Tagged → Type 0
+IsOf witness kind.Unreadable v = Unit {0}
+IsOf witness (kind.Scalar r) v = IsScalarOf r v
+IsOf witness (kind.MapRef m) v = v ≡ Map m
+IsOf witness (kind.Stack x) v = v ≡ Pointer object.Stack x
+IsOf witness kind.Ctx v = v ≡ Pointer object.Context (pos 0)
+IsOf witness (kind.Value p) v = IsValueOf witness p v
+IsOf witness (kind.MaybeValue m site) v = (v ≡ witness.gave site) × IsLookup witness m v
 
 -- ---- registers: of one that may not be read nothing is known
 
-abbrev pub HasKind : (ℕ → Tagged) → Kind → Option Tagged → Type 0
-HasKind gave kind.Unreadable o = Unit {0}
-HasKind gave k o = (v : Tagged) × (o ≡ Some v) × IsOf gave k v
+abbrev pub HasKind : Witness → Kind → Option Tagged → Type 0
+HasKind witness kind.Unreadable o = Unit {0}
+HasKind witness k o = (v : Tagged) × (o ≡ Some v) × IsOf witness k v
 
 -- ---- stack slots
 
@@ -56,34 +64,81 @@ IsWhole (Scalar n) = ⊥
 IsWhole (Map m) = Unit {0}
 IsWhole (Pointer o x) = Unit {0}
 
-abbrev pub HoldsWhole : (ℕ → Tagged) → Kind → Cell → Type 0
-HoldsWhole gave k c = (v : Tagged) × (c ≡ holds v) × IsOf gave k v × IsWhole v
+abbrev pub HoldsWhole : Witness → Kind → Cell → Type 0
+HoldsWhole witness k c = (v : Tagged) × (c ≡ holds v) × IsOf witness k v × IsWhole v
 
 -- eight zero bytes stand for the null of a look-up
-abbrev pub HoldsNull : (ℕ → Tagged) → Kind → Cell → Type 0
-HoldsNull gave (kind.MaybeValue m site) c = (gave site ≡ Scalar 0) × ((j : ℕ) → j < 8 → byte_at c j ≡ Some 0)
-HoldsNull gave _ c = ⊥
+abbrev pub HoldsNull : Witness → Kind → Cell → Type 0
+HoldsNull witness (kind.MaybeValue m site) c = (witness.gave site ≡ Scalar 0) × ((j : ℕ) → j < 8 → byte_at c j ≡ Some 0)
+HoldsNull witness _ c = ⊥
 
 -- the bytes of a mask are there
 abbrev pub HasBytes : ℕ → Cell → Type 0
 HasBytes mask c = (j : ℕ) → j < 8 → bit_at mask j ≡ 1 → (b : ℕ) × (byte_at c j ≡ Some b)
 
-abbrev pub HasSlot : (ℕ → Tagged) → Slot → Cell → Type 0
-HasSlot gave (Bytes mask) c = HasBytes mask c
-HasSlot gave (Spill k) c = HoldsWhole gave k c ⊎ HoldsNull gave k c
+abbrev pub HasSlot : Witness → Slot → Cell → Type 0
+HasSlot witness (Bytes mask) c = HasBytes mask c
+HasSlot witness (Spill k) c = HoldsWhole witness k c ⊎ HoldsNull witness k c
 
 -- ---- states
 
-pub record AdmitsBy (gave : ℕ → Tagged) (f : Facts) (s : State) : Type 0 where
-  pub registers : (r : ℕ) → HasKind gave (kind_at f r) (s.registers r)
-  pub slots : (i : ℕ) → HasSlot gave (slot_at f i) (s.cells i)
+-- how many objects a map has had
+abbrev pub objects_of : Option RunMap → ℕ
+objects_of None = 0
+objects_of (Some t) = t.count
+
+pub record AdmitsBy (witness : Witness) (f : Facts) (s : State) : Type 0 where
+  pub registers : (r : ℕ) → HasKind witness (kind_at f r) (s.registers r)
+  pub slots : (i : ℕ) → HasSlot witness (slot_at f i) (s.cells i)
+  pub objects : (m : ℕ) → witness.objects m ≤ objects_of (s.maps m)
 
 -- the facts admit the state: for each look-up there is one value
 abbrev pub Admits : Facts → State → Type 0
-Admits f s = (gave : ℕ → Tagged) × AdmitsBy gave f s
+Admits f s = (witness : Witness) × AdmitsBy witness f s
 
 -- bytes are bytes, and the context has eleven words of 32 bits; each step keeps this
+abbrev pub AreBytes : List ℕ → Type 0
+AreBytes bs = All (λ b. b < 256) bs
+
 pub record IsProper (s : State) : Type 0 where
   pub bytes : (i j b : ℕ) → byte_at (s.cells i) j ≡ Some b → b < 256
   pub words : All (λ w. w < 2 ^ 32) s.words
   pub count : length s.words ≡ 11
+  pub values : (m : ℕ) (t : RunMap) → s.maps m ≡ Some t → (number : ℕ) → AreBytes (t.values number)
+  pub packet : AreBytes s.packet
+
+-- ---- the sites of facts are slots below n
+
+abbrev pub IsKindBelow : ℕ → Kind → Type 0
+IsKindBelow n (kind.MaybeValue m site) = site < n
+IsKindBelow n k = Unit {0}
+
+abbrev pub IsSlotBelow : ℕ → Slot → Type 0
+IsSlotBelow n (Bytes mask) = Unit {0}
+IsSlotBelow n (Spill k) = IsKindBelow n k
+
+pub record AreBelow (n : ℕ) (f : Facts) : Type 0 where
+  pub registers : (r : ℕ) → IsKindBelow n (kind_at f r)
+  pub slots : (i : ℕ) → IsSlotBelow n (slot_at f i)
+
+-- what is told once a look-up at a site has given a value
+abbrev pub witness_at : Witness → State → ℕ → Tagged → Witness
+witness_at witness s site v = record { gave = set_at witness.gave site v; objects = λ m. objects_of (s.maps m) }
+
+-- ---- the maps of a state
+
+-- each key has one of so many objects
+abbrev pub Owns : ℕ → List (List ℕ × ℕ) → Type 0
+Owns count [] = Unit {0}
+Owns count (e ∷ es) = (e.1 < count) × Owns count es
+
+-- a map of this shape: an array has all its indices, and each object, a deleted one too, has the size of a value
+pub record IsMapOf (shape : MapShape) (t : RunMap) : Type 0 where
+  pub shaped : t.table.shape ≡ shape
+  pub indices : shape.kind ≡ Array → keys_of t.table.entries ≡ keys_of (indexed (λ i. i) 0 shape.max_entries)
+  pub owns : Owns t.count t.table.entries
+  pub sized : (number : ℕ) → number < t.count → length (t.values number) ≡ shape.value_size
+
+-- for each descriptor that has a shape there is a map of it; each step keeps this
+abbrev pub HasMaps : (ℕ → Option MapShape) → State → Type 0
+HasMaps shapes s = (m : ℕ) (shape : MapShape) → shapes m ≡ Some shape → (t : RunMap) × (s.maps m ≡ Some t) × IsMapOf shape t

@@ -5,6 +5,7 @@ use Rattle.interval.specs.Bytes.{number_of, low_bytes}
 use Rattle.reg_kinds.specs.declared.stack.Size.{Size}
 use Rattle.reg_kinds.specs.declared.stack.Size.TheVariants.{Double}
 use Rattle.reg_kinds.specs.Stack.{bytes_of}
+use Rattle.reg_kinds.specs.Many.{touches}
 use Rattle.tagged_model.specs.declared.value.Tagged.{Tagged}
 use Rattle.tagged_model.specs.declared.value.Tagged.TheVariants.{Scalar}
 
@@ -22,10 +23,10 @@ abbrev pub byte_at : Cell → ℕ → Option ℕ
 byte_at (holds v) j = None
 byte_at (bytes b) j = b j
 
--- n bytes from the j-th on, if none of them is absent
-unfoldable pub bytes_from : Cell → ℕ → ℕ → Option (List ℕ)
-bytes_from c j zero = Some []
-bytes_from c j (suc n) = also (byte_at c j) (λ b. also (bytes_from c (suc j) n) (λ bs. Some (b ∷ bs)))
+-- n bytes from place p on, if none of them is absent
+unfoldable pub gathered : (ℕ → Option ℕ) → ℕ → ℕ → Option (List ℕ)
+gathered byte p zero = Some []
+gathered byte p (suc n) = also (byte p) (λ b. also (gathered byte (suc p) n) (λ bs. Some (b ∷ bs)))
 
 -- a number of so many bytes as a word: with its sign, or with zeros above
 abbrev pub widened : Size → Bool → ℕ → ℕ
@@ -39,7 +40,7 @@ number_from size signed o = option_map (λ bs. Scalar (widened size signed (numb
 abbrev pub read_cell : Cell → ℕ → Size → Bool → Option Tagged
 read_cell (holds v) j Double signed = Some v
 read_cell (holds v) j _ signed = None
-read_cell (bytes b) j size signed = number_from size signed (bytes_from (bytes b) j (bytes_of size))
+read_cell (bytes b) j size signed = number_from size signed (gathered b j (bytes_of size))
 
 -- these bytes from the j-th on, over what was there; of what was kept whole nothing is left
 abbrev pub written_over : Cell → ℕ → List ℕ → Cell
@@ -50,3 +51,9 @@ abbrev pub write_cell : Cell → ℕ → Size → Tagged → Option Cell
 write_cell c j size (Scalar n) = Some (written_over c j (low_bytes (bytes_of size) n))
 write_cell c j Double v = Some (holds v)
 write_cell c j _ v = None
+
+-- slot i of the stack after these bytes are written from place p of the stack on. Where they touch it, nothing is left of
+-- what was kept whole
+abbrev pub cell_over : ℕ → Cell → ℕ → List ℕ → Cell
+cell_over i c p bs =
+    if touches p (length bs) i then bytes (λ j. if nat_le p (8 * i + j) && nat_lt (8 * i + j) (p + length bs) then slice_get bs (8 * i + j - p) else byte_at c j) else c

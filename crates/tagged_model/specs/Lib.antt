@@ -1,9 +1,11 @@
 pub mod Operators
 pub mod Values
+pub mod Shape
+pub mod Named
+pub mod Table
 pub mod Cells
 pub mod State
+pub mod Helpers
 pub mod Step
 pub mod Admits
 pub mod Laws
-pub mod Shape
-pub mod Table

@@ -32,7 +32,7 @@ use Rattle.tagged_model.specs.Laws.{NullTestAdmits}
 use Rattle.tagged_model.specs.Admits.{IsLookup}
 use Rattle.transfer.specs.Branches.{Edges, with_source, with_pair, is_same, number_edges, null_edges, settled_edges, branch_edges}
 use Rattle.transfer.specs.Sound.{IsOn}
-use Rattle.transfer.proofs.Parts.{IsFound, IsKnown, IsCovered, IsCoveredIf}
+use Rattle.transfer.proofs.Parts.{Here, IsFound, IsKnown, IsCovered, IsCoveredIf}
 use Rattle.transfer.proofs.States.{scalar_of, known_more, goes_to}
 use Rattle.transfer.proofs.Values.{by_number}
 use Rattle.transfer.proofs.Words.{settled_words}
@@ -56,44 +56,44 @@ words laws false = laws.words_narrow
 -- ---- one edge
 
 -- the edge is there, and its facts hold of the state
-abbrev IsKnownOn : (ℕ → Tagged) → Option Facts → State → Type 0
-IsKnownOn gave None s = ⊥
-IsKnownOn gave (Some f) s = IsKnown gave f s
+abbrev IsKnownOn : Here → Option Facts → State → Type 0
+IsKnownOn here None s = ⊥
+IsKnownOn here (Some f) s = IsKnown here f s
 
-on_edge : (gave : ℕ → Tagged) (o : Option Facts) (s : State) (n : ℕ) → IsKnownOn gave o s → IsOn gave o (Some n) (at_slot n s)
-on_edge gave None s n h = h
-on_edge gave (Some f) s n h = goes_to gave f s n h
+on_edge : (here : Here) (o : Option Facts) (s : State) (n : ℕ) → IsKnownOn here o s → IsOn here.shapes o (Some n) (at_slot n s)
+on_edge here None s n h = h
+on_edge here (Some f) s n h = goes_to here f s n h
 
-pub jump_covered : (gave : ℕ → Tagged) (next : ℕ) (target : Option ℕ) (e : Edges) (s : State) → IsSome target → IsKnownOn gave e.jumping s → IsCovered gave next target e (need target (λ n. goes (at_slot n s)))
-jump_covered gave next None e s there h = absurd (false≢true there)
-jump_covered gave next (Some n) e s there h = inr (on_edge gave e.jumping s n h)
+pub jump_covered : (here : Here) (next : ℕ) (target : Option ℕ) (e : Edges) (s : State) → IsSome target → IsKnownOn here e.jumping s → IsCovered here next target e (need target (λ n. goes (at_slot n s)))
+jump_covered here next None e s there h = absurd (false≢true there)
+jump_covered here next (Some n) e s there h = inr (on_edge here e.jumping s n h)
 
-module _ (gave : ℕ → Tagged) (laws : Comparisons) (f : Facts) (s : State) (known : IsKnown gave f s) (off : ℤ) (there : IsSome (natural (pos (s.at + 1) +ℤ off))) where
+module _ (here : Here) (laws : Comparisons) (f : Facts) (s : State) (known : IsKnown here f s) (off : ℤ) (there : IsSome (natural (pos (s.at + 1) +ℤ off))) where
   abbrev Target : Option ℕ
   Target = natural (pos (s.at + 1) +ℤ off)
 
   -- the state after the jump, or after none, is on an edge
   abbrev Covered : Edges → Bool → Type 0
-  Covered e taken = IsCovered gave (s.at + 1) Target e (branched s off taken)
+  Covered e taken = IsCovered here (s.at + 1) Target e (branched s off taken)
 
   -- where the facts let the jump be run
   abbrev CoveredIf : Result Edges Reason → Option Bool → Type 0
-  CoveredIf r o = IsCoveredIf gave (s.at + 1) Target r (need o (branched s off))
+  CoveredIf r o = IsCoveredIf here (s.at + 1) Target r (need o (branched s off))
 
-  by_edges : (e : Edges) (taken : Bool) → (taken ≡ true → IsKnownOn gave e.jumping s) → (taken ≡ false → IsKnownOn gave e.falling s) → Covered e taken
-  by_edges e true jumps falls = jump_covered gave (s.at + 1) Target e s there (jumps refl)
-  by_edges e false jumps falls = inl (on_edge gave e.falling s (s.at + 1) (falls refl))
+  by_edges : (e : Edges) (taken : Bool) → (taken ≡ true → IsKnownOn here e.jumping s) → (taken ≡ false → IsKnownOn here e.falling s) → Covered e taken
+  by_edges e true jumps falls = jump_covered here (s.at + 1) Target e s there (jumps refl)
+  by_edges e false jumps falls = inl (on_edge here e.falling s (s.at + 1) (falls refl))
 
   -- ---- numbers
 
   module _ (wide : Bool) (cond : Condition) (dst : ℕ) (src : Operand) (x y : ℕ) (first : s.registers dst ≡ Some (Scalar x)) (second : operand s wide src ≡ Some (Scalar y)) where
-    source_known : (g : Facts) (src : Operand) (b : Range) → operand s wide src ≡ Some (Scalar y) → IsMember y b → b.hi < 2 ^ 64 → IsKnown gave g s → IsKnown gave (with_source g src b) s
+    source_known : (g : Facts) (src : Operand) (b : Range) → operand s wide src ≡ Some (Scalar y) → IsMember y b → b.hi < 2 ^ 64 → IsKnown here g s → IsKnown here (with_source g src b) s
     source_known g (Imm z) b e m h k = k
-    source_known g (Reg n) b e m h k = known_more gave g s k n (kind.Scalar b) (Scalar y) e (scalar_of gave b y m h)
+    source_known g (Reg n) b e m h k = known_more here g s k n (kind.Scalar b) (Scalar y) e (scalar_of here b y m h)
 
-    pair_known : (o : Option Pair) → IsPairOn o x y → IsPairOfWords o → IsKnownOn gave (option_map (with_pair f dst src) o) s
+    pair_known : (o : Option Pair) → IsPairOn o x y → IsPairOfWords o → IsKnownOn here (option_map (with_pair f dst src) o) s
     pair_known None m h = m
-    pair_known (Some p) m h = source_known _ src p.1 second m.1 h.1 (known_more gave f s known dst (kind.Scalar p.0) (Scalar x) first (scalar_of gave p.0 x m.0 h.0))
+    pair_known (Some p) m h = source_known _ src p.1 second m.1 h.1 (known_more here f s known dst (kind.Scalar p.0) (Scalar x) first (scalar_of here p.0 x m.0 h.0))
 
     numbers_covered : (a b : Range) → a.hi < 2 ^ 64 → b.hi < 2 ^ 64 → IsMember x a → IsMember y b → Covered (number_edges wide cond f dst src a b) (compares (width wide) (comparison_of cond) x y)
     numbers_covered a b ah bh m n =
@@ -114,15 +114,15 @@ module _ (gave : ℕ → Tagged) (laws : Comparisons) (f : Facts) (s : State) (k
   tested false e taken h = tt
 
   -- on the edge that a value takes which is not null
-  value_covered : (taken : Bool) (null value : Option Facts) → IsKnownOn gave value s → Covered (null_edges (not taken) null value) taken
+  value_covered : (taken : Bool) (null value : Option Facts) → IsKnownOn here value s → Covered (null_edges (not taken) null value) taken
   value_covered true null value h = by_edges _ true (λ _. h) (λ e. absurd (false≢true (sym e)))
   value_covered false null value h = by_edges _ false (λ e. absurd (false≢true e)) (λ _. h)
 
-  settled_null : (site : ℕ) → gave site ≡ Scalar 0 → IsKnown gave (facts_settled site true f) s
-  settled_null site e = record { admits = laws.null_tests.null gave f s site known.admits e; words = settled_words f site true known.words; proper = known.proper }
+  settled_null : (site : ℕ) → here.witness.gave site ≡ Scalar 0 → IsKnown here (facts_settled site true f) s
+  settled_null site e = record { admits = laws.null_tests.null here.witness f s site known.admits e; words = settled_words here.slot f site true known.words; proper = known.proper; maps = known.maps }
 
-  settled_value : (site : ℕ) → gave site ≢ Scalar 0 → IsKnown gave (facts_settled site false f) s
-  settled_value site e = record { admits = laws.null_tests.value gave f s site known.admits e; words = settled_words f site false known.words; proper = known.proper }
+  settled_value : (site : ℕ) → here.witness.gave site ≢ Scalar 0 → IsKnown here (facts_settled site false f) s
+  settled_value site e = record { admits = laws.null_tests.value here.witness f s site known.admits e; words = settled_words here.slot f site false known.words; proper = known.proper; maps = known.maps }
 
   -- the constant of a test for null is 0
   zero_of : (z : ℤ) (w : Tagged) → int_eq z (pos 0) ≡ true → Some (Scalar (unsigned 64 z)) ≡ Some w → w ≡ Scalar 0
@@ -138,7 +138,7 @@ module _ (gave : ℕ → Tagged) (laws : Comparisons) (f : Facts) (s : State) (k
       (λ t. subst (CoveredIf (Ok e)) (sym (ap (compared true cond (Imm z) (Scalar 0)) (zero_of z w t at) ∙ is)) h)
       (λ _. tt)
 
-  null_covered : (site : ℕ) → gave site ≡ Scalar 0 → (wide : Bool) (cond : Condition) (src : Operand) (w : Tagged) → operand s wide src ≡ Some w → CoveredIf (edges_if wide cond src (settled_edges (not (holds_of_pointers cond)) site f)) (compared wide cond src (Scalar 0) w)
+  null_covered : (site : ℕ) → here.witness.gave site ≡ Scalar 0 → (wide : Bool) (cond : Condition) (src : Operand) (w : Tagged) → operand s wide src ≡ Some w → CoveredIf (edges_if wide cond src (settled_edges (not (holds_of_pointers cond)) site f)) (compared wide cond src (Scalar 0) w)
   null_covered site null true condition.Equal (Imm z) w at =
       let e = settled_edges true site f in
       zero_covered condition.Equal z w e true at refl (by_edges e true (λ _. settled_null site null) (λ t. absurd (false≢true (sym t))))
@@ -152,11 +152,11 @@ module _ (gave : ℕ → Tagged) (laws : Comparisons) (f : Facts) (s : State) (k
     Holds k l v w = CoveredIf (branch_edges wide cond f dst src k l) (compared wide cond src v w)
 
     -- a test of what is not null, with the facts of where it is null, and of where it is not
-    pointer_covered : (null value : Option Facts) → IsKnownOn gave value s → CoveredIf (edges_if wide cond src (null_edges (not (holds_of_pointers cond)) null value)) (if is_null_test wide cond src then Some (holds_of_pointers cond) else None)
+    pointer_covered : (null value : Option Facts) → IsKnownOn here value s → CoveredIf (edges_if wide cond src (null_edges (not (holds_of_pointers cond)) null value)) (if is_null_test wide cond src then Some (holds_of_pointers cond) else None)
     pointer_covered null value h =
         let taken = holds_of_pointers cond in tested (is_null_test wide cond src) (null_edges (not taken) null value) taken (value_covered taken null value h)
 
-    lookup_covered : (m site : ℕ) (l : Kind) (v w : Tagged) → v ≡ gave site → IsLookup m v → operand s wide src ≡ Some w → Holds (kind.MaybeValue m site) l v w
+    lookup_covered : (m site : ℕ) (l : Kind) (v w : Tagged) → v ≡ here.witness.gave site → IsLookup here.witness m v → operand s wide src ≡ Some w → Holds (kind.MaybeValue m site) l v w
     lookup_covered m site l v w e (inl null) at =
         subst (λ v. Holds (kind.MaybeValue m site) l v w) (sym null) (null_covered site (sym e ∙ null) wide cond src w at)
     lookup_covered m site l v w e (inr start) at =
@@ -165,13 +165,13 @@ module _ (gave : ℕ → Tagged) (laws : Comparisons) (f : Facts) (s : State) (k
         not_null : (number : ℕ) → Pointer (object.Value m number) (pos 0) ≡ Scalar 0 → ⊥
         not_null number e = cc
 
-    numbers_held : (a b : Range) (v w : Tagged) → IsFound gave (s.registers dst) (kind.Scalar a) v → IsFound gave (operand s wide src) (kind.Scalar b) w → Holds (kind.Scalar a) (kind.Scalar b) v w
+    numbers_held : (a b : Range) (v w : Tagged) → IsFound here (s.registers dst) (kind.Scalar a) v → IsFound here (operand s wide src) (kind.Scalar b) w → Holds (kind.Scalar a) (kind.Scalar b) v w
     numbers_held a b v w h g =
-        by_number gave a v (λ v. s.registers dst ≡ Some v → Holds (kind.Scalar a) (kind.Scalar b) v w) h.kind.is
-        (λ x m from. by_number gave b w (λ w. operand s wide src ≡ Some w → Holds (kind.Scalar a) (kind.Scalar b) (Scalar x) w) g.kind.is
+        by_number here a v (λ v. s.registers dst ≡ Some v → Holds (kind.Scalar a) (kind.Scalar b) v w) h.kind.is
+        (λ x m from. by_number here b w (λ w. operand s wide src ≡ Some w → Holds (kind.Scalar a) (kind.Scalar b) (Scalar x) w) g.kind.is
         (λ y n too. numbers_covered wide cond dst src x y from too a b h.kind.words g.kind.words m n) g.from) h.from
 
-    pub branch_covered : (k l : Kind) (v w : Tagged) → IsFound gave (s.registers dst) k v → IsFound gave (operand s wide src) l w → Holds k l v w
+    pub branch_covered : (k l : Kind) (v w : Tagged) → IsFound here (s.registers dst) k v → IsFound here (operand s wide src) l w → Holds k l v w
     branch_covered kind.Unreadable l v w h g = absurd h.readable
     branch_covered (kind.Scalar a) (kind.Scalar b) v w h g = numbers_held a b v w h g
     branch_covered (kind.MapRef m) l v w h g = subst (λ v. Holds (kind.MapRef m) l v w) (sym h.kind.is) (pointer_covered None (Some f) known)

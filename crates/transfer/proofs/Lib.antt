@@ -2,10 +2,12 @@ pub mod Parts
 pub mod Tables
 pub mod Words
 pub mod States
+pub mod Rooms
+pub mod HelperCalls
 pub mod Pointers
 pub mod Values
 pub mod Memory
 pub mod Jumps
 pub mod Cover
-pub mod OfWords
+pub mod Stays
 pub mod Rules

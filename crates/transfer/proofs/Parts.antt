@@ -1,5 +1,5 @@
 -- What facts answer and what the machine does go together, one operator after the other.
-use Rattle.std.proofs.Common.{◌≡◌, ◌⊎◌, ℕ, ◌<◌, ◌^◌, Option, Some, None, Result, Ok, Err, refl, sym, subst}
+use Rattle.std.proofs.Common.{◌≡◌, ◌⊎◌, ℕ, ◌<◌, ◌^◌, Bool, Option, Some, None, Result, Ok, Err, refl, sym, subst}
 use Rattle.insn_codec.specs.declared.insn.Insn.{Insn}
 use Rattle.reg_kinds.specs.declared.kind.Kind.{Kind}
 use Rattle.reg_kinds.specs.declared.kind.Kind.TheVariants as kind
@@ -7,18 +7,20 @@ use Rattle.reg_kinds.specs.declared.facts.Facts.{Facts}
 use Rattle.reg_kinds.specs.declared.reason.Reason.{Reason}
 use Rattle.reg_kinds.specs.Reason.{given}
 use Rattle.tagged_model.specs.declared.value.Tagged.{Tagged}
-use Rattle.tagged_model.specs.State.{State}
+use Rattle.tagged_model.specs.State.{State, at_slot, with_refusal}
 use Rattle.tagged_model.specs.Step.{Step, goes, ends, faults, need}
-use Rattle.tagged_model.specs.Admits.{IsOf, AdmitsBy, IsProper}
+use Rattle.tagged_model.specs.Admits.{Witness, IsOf, AdmitsBy, IsProper, HasMaps}
+use Rattle.tagged_model.specs.Named.{Shapes}
+use Rattle.tagged_model.specs.Laws.{Describes}
 use Rattle.transfer.specs.Branches.{Edges}
-use Rattle.transfer.specs.Sound.{IsOfWordsKind, AreOfWords, falls_to, jumps_to, IsOn, Covers}
+use Rattle.transfer.specs.Sound.{IsKindAt, AreWellFormedAt, falls_to, jumps_to, IsOn, Covers}
 
 -- ---- results
 
 pub refused : {A : Type 0} (r : Reason) (y : A) → Err r ≡ Ok y → ⊥
 refused r y e = cc
 
-same_ok : {A : Type 0} (x y : A) → ◌≡◌ {A = Result A Reason} (Ok x) (Ok y) → x ≡ y
+pub same_ok : {A : Type 0} (x y : A) → ◌≡◌ {A = Result A Reason} (Ok x) (Ok y) → x ≡ y
 same_ok x y e = cc
 
 -- P holds of what is answered
@@ -51,54 +53,82 @@ pub by_law : {A B : Type 0} (P : A → B → Type 0) (r : Result A Reason) (o : 
 by_law P (Err e) o h = tt
 by_law P (Ok x) o h = let found = h x refl in subst (Agree P (Ok x)) (sym found.1) found.2
 
+-- ---- what holds where an instruction begins: the shapes of the maps, what is told beside the facts, and the slot
+pub record Here : Type 0 where
+  pub shapes : Shapes
+  pub witness : Witness
+  pub slot : ℕ
+
 -- ---- kinds of values
 
 -- the value is of the kind, which speaks of words
-pub record IsKindOf (gave : ℕ → Tagged) (k : Kind) (v : Tagged) : Type 0 where
-  pub is : IsOf gave k v
-  pub words : IsOfWordsKind k
+pub record IsKindOf (here : Here) (k : Kind) (v : Tagged) : Type 0 where
+  pub is : IsOf here.witness k v
+  pub words : IsKindAt here.slot k
 
 -- where the kind is told, the value is there, and of it
-abbrev pub Gives : (ℕ → Tagged) → Result Kind Reason → Option Tagged → Type 0
-Gives gave r o = Agree (IsKindOf gave) r o
+abbrev pub Gives : Here → Result Kind Reason → Option Tagged → Type 0
+Gives here r o = Agree (IsKindOf here) r o
 
 abbrev pub IsReadable : Kind → Type 0
 IsReadable kind.Unreadable = ⊥
 IsReadable k = Unit {0}
 
 -- it was found there, and its kind may be read
-pub record IsFound (gave : ℕ → Tagged) (o : Option Tagged) (k : Kind) (v : Tagged) : Type 0 where
-  pub kind : IsKindOf gave k v
+pub record IsFound (here : Here) (o : Option Tagged) (k : Kind) (v : Tagged) : Type 0 where
+  pub kind : IsKindOf here k v
   pub from : o ≡ Some v
   pub readable : IsReadable k
 
 -- ---- states
 
 -- what is known of a state
-pub record IsKnown (gave : ℕ → Tagged) (f : Facts) (s : State) : Type 0 where
-  pub admits : AdmitsBy gave f s
-  pub words : AreOfWords f
+pub record IsKnown (here : Here) (f : Facts) (s : State) : Type 0 where
+  pub admits : AdmitsBy here.witness f s
+  pub words : AreWellFormedAt here.slot f
   pub proper : IsProper s
+  pub maps : HasMaps here.shapes s
+
+pub still_of : (here : Here) (f : Facts) (s : State) → IsKnown here f s → Describes here.witness f here.shapes s
+still_of here f s known = record { admits = known.admits; proper = known.proper; maps = known.maps }
+
+-- all is known still at another slot, and where a refusal of memory is noted
+module _ (witness : Witness) (f : Facts) (shapes : Shapes) (s : State) (still : Describes witness f shapes s) where
+  pub still_at : (n : ℕ) → Describes witness f shapes (at_slot n s)
+  still_at n =
+      record {
+        admits = record { registers = still.admits.registers; slots = still.admits.slots; objects = still.admits.objects };
+        proper = record { bytes = still.proper.bytes; words = still.proper.words; count = still.proper.count; values = still.proper.values; packet = still.proper.packet };
+        maps = still.maps;
+      }
+
+  pub still_noted : (b : Bool) → Describes witness f shapes (with_refusal s b)
+  still_noted b =
+      record {
+        admits = record { registers = still.admits.registers; slots = still.admits.slots; objects = still.admits.objects };
+        proper = record { bytes = still.proper.bytes; words = still.proper.words; count = still.proper.count; values = still.proper.values; packet = still.proper.packet };
+        maps = still.maps;
+      }
 
 -- ---- steps, from a slot whose edges lead to `next` and `target`
 
-abbrev pub IsCovered : (ℕ → Tagged) → ℕ → Option ℕ → Edges → Step → Type 0
-IsCovered gave next target e (goes t) = IsOn gave e.falling (Some next) t ⊎ IsOn gave e.jumping target t
-IsCovered gave next target e (ends n) = n < 2 ^ 32
-IsCovered gave next target e faults = ⊥
+abbrev pub IsCovered : Here → ℕ → Option ℕ → Edges → Step → Type 0
+IsCovered here next target e (goes t) = IsOn here.shapes e.falling (Some next) t ⊎ IsOn here.shapes e.jumping target t
+IsCovered here next target e (ends n) = n < 2 ^ 32
+IsCovered here next target e faults = ⊥
 
 -- where the facts let it be run
-abbrev pub IsCoveredIf : (ℕ → Tagged) → ℕ → Option ℕ → Result Edges Reason → Step → Type 0
-IsCoveredIf gave next target (Err r) step = Unit {0}
-IsCoveredIf gave next target (Ok e) step = IsCovered gave next target e step
+abbrev pub IsCoveredIf : Here → ℕ → Option ℕ → Result Edges Reason → Step → Type 0
+IsCoveredIf here next target (Err r) step = Unit {0}
+IsCoveredIf here next target (Ok e) step = IsCovered here next target e step
 
-pub then_covered : {A B : Type 0} (gave : ℕ → Tagged) (next : ℕ) (target : Option ℕ) (P : A → B → Type 0) (r : Result A Reason) (o : Option B) (go : A → Result Edges Reason) (on : B → Step) → Agree P r o → ((x : A) (y : B) → P x y → IsCoveredIf gave next target (go x) (on y)) → IsCoveredIf gave next target (given r go) (need o on)
-then_covered gave next target P (Err e) o go on h further = tt
-then_covered gave next target P (Ok x) None go on h further = absurd h
-then_covered gave next target P (Ok x) (Some y) go on h further = further x y h
+pub then_covered : {A B : Type 0} (here : Here) (next : ℕ) (target : Option ℕ) (P : A → B → Type 0) (r : Result A Reason) (o : Option B) (go : A → Result Edges Reason) (on : B → Step) → Agree P r o → ((x : A) (y : B) → P x y → IsCoveredIf here next target (go x) (on y)) → IsCoveredIf here next target (given r go) (need o on)
+then_covered here next target P (Err e) o go on h further = tt
+then_covered here next target P (Ok x) None go on h further = absurd h
+then_covered here next target P (Ok x) (Some y) go on h further = further x y h
 
-pub covers : (gave : ℕ → Tagged) (i : Insn) (at : ℕ) (r : Result Edges Reason) (e : Edges) (step : Step) → IsCoveredIf gave (falls_to i at) (jumps_to i at) r step → r ≡ Ok e → Covers gave i at e step
-covers gave i at (Err reason) e step h q = absurd (refused reason e q)
-covers gave i at (Ok d) e (goes t) h q = subst (λ e. Covers gave i at e (goes t)) (same_ok d e q) h
-covers gave i at (Ok d) e (ends n) h q = h
-covers gave i at (Ok d) e faults h q = h
+pub covers : (here : Here) (i : Insn) (at : ℕ) (r : Result Edges Reason) (e : Edges) (step : Step) → IsCoveredIf here (falls_to i at) (jumps_to i at) r step → r ≡ Ok e → Covers here.shapes i at e step
+covers here i at (Err reason) e step h q = absurd (refused reason e q)
+covers here i at (Ok d) e (goes t) h q = subst (λ e. Covers here.shapes i at e (goes t)) (same_ok d e q) h
+covers here i at (Ok d) e (ends n) h q = h
+covers here i at (Ok d) e faults h q = h

@@ -15,14 +15,13 @@ use Rattle.reg_kinds.specs.declared.reason.Reason.TheVariants.{PointerArithmetic
 use Rattle.reg_kinds.specs.Reason.{given}
 use Rattle.reg_kinds.specs.Pointers.{value_span}
 use Rattle.tagged_model.specs.declared.value.Object.TheVariants as object
-use Rattle.tagged_model.specs.declared.value.Tagged.{Tagged}
 use Rattle.tagged_model.specs.declared.value.Tagged.TheVariants.{Pointer}
 use Rattle.tagged_model.specs.Values.{is_near, moved}
 use Rattle.tagged_model.specs.Cells.{also}
 use Rattle.transfer.specs.declared.arithmetic.Way.{Way}
 use Rattle.transfer.specs.declared.arithmetic.Way.TheVariants.{Forwards, Backwards}
 use Rattle.transfer.specs.Arithmetic.{Distance, distance, near_offset, moved_offset, near, stack_moved, spanned, value_by, pointer_moved}
-use Rattle.transfer.proofs.Parts.{SomeIs, Gives}
+use Rattle.transfer.proofs.Parts.{Here, SomeIs, Gives}
 
 abbrev pub shifted : Way → ℤ → ℤ → ℤ
 shifted Forwards x d = x +ℤ d
@@ -91,18 +90,18 @@ stack_kind o = given (near o) (λ y. Ok (kind.Stack y))
 abbrev value_kind : Option ValuePointer → Result Kind Reason
 value_kind o = given (near o) (λ q. Ok (kind.Value q))
 
-module _ (gave : ℕ → Tagged) where
-  stack_at : (y : ℤ) → Gives gave (stack_kind (near_offset y)) (moved object.Stack y)
+module _ (here : Here) where
+  stack_at : (y : ℤ) → Gives here (stack_kind (near_offset y)) (moved object.Stack y)
   stack_at y =
-      elim (is_near y) as (λ b. Gives gave (stack_kind (if b then Some y else None)) (if b then Some (Pointer object.Stack y) else None)) [
+      elim (is_near y) as (λ b. Gives here (stack_kind (if b then Some y else None)) (if b then Some (Pointer object.Stack y) else None)) [
         | true ↦ record { is = refl; words = tt }
         | false ↦ tt
       ]
 
-  stack_by : (way : Way) (x : ℤ) (o : Option Distance) (z : ℤ) → SomeIs (λ d. d.0 ≡ z) o → Gives gave (stack_kind (also o (λ d. moved_offset way x d.0))) (moved object.Stack (shifted way x z))
+  stack_by : (way : Way) (x : ℤ) (o : Option Distance) (z : ℤ) → SomeIs (λ d. d.0 ≡ z) o → Gives here (stack_kind (also o (λ d. moved_offset way x d.0))) (moved object.Stack (shifted way x z))
   stack_by way x None z h = tt
-  stack_by Forwards x (Some d) z h = subst (λ e. Gives gave (stack_kind (near_offset (x +ℤ d.0))) (moved object.Stack (x +ℤ e))) h (stack_at (x +ℤ d.0))
-  stack_by Backwards x (Some d) z h = subst (λ e. Gives gave (stack_kind (near_offset (x -ℤ d.0))) (moved object.Stack (x -ℤ e))) h (stack_at (x -ℤ d.0))
+  stack_by Forwards x (Some d) z h = subst (λ e. Gives here (stack_kind (near_offset (x +ℤ d.0))) (moved object.Stack (x +ℤ e))) h (stack_at (x +ℤ d.0))
+  stack_by Backwards x (Some d) z h = subst (λ e. Gives here (stack_kind (near_offset (x -ℤ d.0))) (moved object.Stack (x -ℤ e))) h (stack_at (x -ℤ d.0))
 
   least_is : (lo n : ℕ) (o : Option Distance) → lo ≡ n → SomeIs (IsBetween lo n) o → SomeIs (λ d. d.0 ≡ signed 64 n) o
   least_is lo n None e h = tt
@@ -111,18 +110,18 @@ module _ (gave : ℕ → Tagged) where
   same_number : (lo hi n : ℕ) → lo ≤ n → n ≤ hi → lo ≡ hi → lo ≡ n
   same_number lo hi n a b e = omega arith
 
-  pub stack_agrees : (way : Way) (x : ℤ) (r : Range) (n : ℕ) → IsMember n r → Gives gave (pointer_moved way (kind.Stack x) r) (moved object.Stack (shifted way x (signed 64 n)))
+  pub stack_agrees : (way : Way) (x : ℤ) (r : Range) (n : ℕ) → IsMember n r → Gives here (pointer_moved way (kind.Stack x) r) (moved object.Stack (shifted way x (signed 64 n)))
   stack_agrees way x r n m =
-      cond_both (is_constant r) (stack_moved way x r) (Err PointerArithmetic) (λ a. Gives gave a (moved object.Stack (shifted way x (signed 64 n))))
+      cond_both (is_constant r) (stack_moved way x r) (Err PointerArithmetic) (λ a. Gives here a (moved object.Stack (shifted way x (signed 64 n))))
       (λ e. stack_by way x (distance r) (signed 64 n) (least_is r.lo n (distance r) (same_number r.lo r.hi n m.from m.to (eqb-true r.lo r.hi e)) (distance_holds r n m)))
       (λ _. tt)
 
   -- from a near offset to a near offset
-  span_agrees : (map number : ℕ) (a b z : ℤ) → a ≤ℤ z → z ≤ℤ b → Gives gave (value_kind (spanned map (near_offset a) (near_offset b))) (moved (object.Value map number) z)
-  span_agrees map number a b z from to =
-      cond_both (is_near a) (Some a) None (λ o. Gives gave (value_kind (spanned map o (near_offset b))) (moved (object.Value map number) z))
-      (λ e. cond_both (is_near b) (Some b) None (λ o. Gives gave (value_kind (spanned map (Some a) o)) (moved (object.Value map number) z))
-      (λ f. subst (Gives gave (Ok (kind.Value (value_span map a b)))) (sym (cond-true (is_near z) (Some (Pointer (object.Value map number) z)) None (near_between a z b e f from to))) (record { is = (number, z, refl, from, at_most_max a b z to); words = tt }))
+  span_agrees : (map number : ℕ) (a b z : ℤ) → number < here.witness.objects map → a ≤ℤ z → z ≤ℤ b → Gives here (value_kind (spanned map (near_offset a) (near_offset b))) (moved (object.Value map number) z)
+  span_agrees map number a b z owned from to =
+      cond_both (is_near a) (Some a) None (λ o. Gives here (value_kind (spanned map o (near_offset b))) (moved (object.Value map number) z))
+      (λ e. cond_both (is_near b) (Some b) None (λ o. Gives here (value_kind (spanned map (Some a) o)) (moved (object.Value map number) z))
+      (λ f. subst (Gives here (Ok (kind.Value (value_span map a b)))) (sym (cond-true (is_near z) (Some (Pointer (object.Value map number) z)) None (near_between a z b e f from to))) (record { is = (number, z, refl, from, at_most_max a b z to, owned); words = tt }))
       (λ _. tt))
       (λ _. tt)
 
@@ -132,12 +131,12 @@ module _ (gave : ℕ → Tagged) where
   difference_from : (x y c d : ℤ) → x ≤ℤ y → c ≤ℤ d → (x -ℤ d) ≤ℤ (y -ℤ c)
   difference_from x y c d h g = omega (arith, ints)
 
-  value_at : (way : Way) (p : ValuePointer) (lo n number : ℕ) (o : Option Distance) (x : ℤ) → p.lo ≤ℤ x → x ≤ℤ p.hi → SomeIs (IsBetween lo n) o → Gives gave (value_kind (also o (value_by way p))) (moved (object.Value p.map number) (shifted way x (signed 64 n)))
-  value_at way p lo n number None x a b h = tt
-  value_at Forwards p lo n number (Some d) x a b h =
-      span_agrees p.map number (p.lo +ℤ d.0) (p.hi +ℤ d.1) (x +ℤ signed 64 n) (sum_from p.lo x d.0 (signed 64 n) a h.from) (sum_from x p.hi (signed 64 n) d.1 b h.to)
-  value_at Backwards p lo n number (Some d) x a b h =
-      span_agrees p.map number (p.lo -ℤ d.1) (p.hi -ℤ d.0) (x -ℤ signed 64 n) (difference_from p.lo x (signed 64 n) d.1 a h.to) (difference_from x p.hi d.0 (signed 64 n) b h.from)
+  value_at : (way : Way) (p : ValuePointer) (lo n number : ℕ) (o : Option Distance) (x : ℤ) → number < here.witness.objects p.map → p.lo ≤ℤ x → x ≤ℤ p.hi → SomeIs (IsBetween lo n) o → Gives here (value_kind (also o (value_by way p))) (moved (object.Value p.map number) (shifted way x (signed 64 n)))
+  value_at way p lo n number None x owned a b h = tt
+  value_at Forwards p lo n number (Some d) x owned a b h =
+      span_agrees p.map number (p.lo +ℤ d.0) (p.hi +ℤ d.1) (x +ℤ signed 64 n) owned (sum_from p.lo x d.0 (signed 64 n) a h.from) (sum_from x p.hi (signed 64 n) d.1 b h.to)
+  value_at Backwards p lo n number (Some d) x owned a b h =
+      span_agrees p.map number (p.lo -ℤ d.1) (p.hi -ℤ d.0) (x -ℤ signed 64 n) owned (difference_from p.lo x (signed 64 n) d.1 a h.to) (difference_from x p.hi d.0 (signed 64 n) b h.from)
 
-  pub value_agrees : (way : Way) (p : ValuePointer) (r : Range) (n number : ℕ) (x : ℤ) → IsMember n r → p.lo ≤ℤ x → x ≤ℤ p.hi → Gives gave (pointer_moved way (kind.Value p) r) (moved (object.Value p.map number) (shifted way x (signed 64 n)))
-  value_agrees way p r n number x m a b = value_at way p r.lo n number (distance r) x a b (distance_holds r n m)
+  pub value_agrees : (way : Way) (p : ValuePointer) (r : Range) (n number : ℕ) (x : ℤ) → IsMember n r → number < here.witness.objects p.map → p.lo ≤ℤ x → x ≤ℤ p.hi → Gives here (pointer_moved way (kind.Value p) r) (moved (object.Value p.map number) (shifted way x (signed 64 n)))
+  value_agrees way p r n number x m owned a b = value_at way p r.lo n number (distance r) x owned a b (distance_holds r n m)

@@ -1,6 +1,6 @@
--- No instruction is refused for want of memory: each refusal is by a rule.
-use Rattle.std.proofs.Common.{◌≡◌, ◌≢◌, ℕ, ◌==◌, ℤ, ◌+ℤ◌, Bool, true, false, not, Option, Some, None, Result, Ok, Err, subst}
-use Rattle.std.specs.Prelude.{◌||◌, bit_and}
+-- Why an instruction may be refused.
+use Rattle.std.proofs.Common.{◌≡◌, ◌≢◌, ℕ, ◌==◌, ℤ, ◌+ℤ◌, Bool, true, false, not, Option, Some, None, Result, Ok, Err, refl, subst}
+use Rattle.std.specs.Prelude.{◌||◌, ◌&&◌, ◌^◌, pos, int_le, nat_le, bit_and}
 use Rattle.std.proofs.lemmas.Bool.{cond_both}
 use Rattle.interval.specs.declared.range.Range.{Range}
 use Rattle.interval.specs.declared.operator.Operator.{Operator}
@@ -20,10 +20,10 @@ use Rattle.reg_kinds.specs.declared.facts.Facts.{Facts}
 use Rattle.reg_kinds.specs.declared.stack.Size.{Size}
 use Rattle.reg_kinds.specs.declared.stack.Size.TheVariants.{Word}
 use Rattle.reg_kinds.specs.declared.reason.Reason.{Reason}
-use Rattle.reg_kinds.specs.declared.reason.Reason.TheVariants.{PointerArithmetic, MaybeNull, ContextAccess, PointerComparison, UnwrittenStack, PartOfSpill, Memory}
+use Rattle.reg_kinds.specs.declared.reason.Reason.TheVariants.{UnknownHelper, DescriptorNotMap, PointerArithmetic, MaybeNull, ContextAccess, PointerComparison, OutsideStack, UnwrittenStack, PartOfSpill, OutsideValue, PointerStored, LengthUnbounded, Memory}
 use Rattle.reg_kinds.specs.Reason.{given}
 use Rattle.reg_kinds.specs.Kinds.{is_pointer, kind_at, slot_at, with_kind, with_slot}
-use Rattle.reg_kinds.specs.Stack.{bytes_of, is_whole, is_in_stack, is_aligned, touched, loaded, read_slot, stack_read, slot_written, facts_written, stack_write}
+use Rattle.reg_kinds.specs.Stack.{bytes_of, is_whole, is_in_stack, is_aligned, place, touched, loaded, read_slot, stack_read, slot_written, facts_written, stack_write}
 use Rattle.tagged_model.specs.Operators.{operator_of, narrow_of, order_of, kept_of, size_of}
 use Rattle.tagged_model.specs.Values.{is_null_test}
 use Rattle.tagged_model.specs.Cells.{also}
@@ -31,16 +31,22 @@ use Rattle.transfer.specs.declared.arithmetic.Way.{Way}
 use Rattle.transfer.specs.declared.arithmetic.Way.TheVariants.{Forwards, Backwards}
 use Rattle.transfer.specs.Arithmetic.{readable, near, stack_moved, value_by, distance, moved_offset, pointer_moved, is_maybe, of_scalars, of_scalar, sum_kind, difference_kind, unless_maybe, arithmetic_kind}
 use Rattle.transfer.specs.Branches.{Edges, falls, pointer_edges, branch_edges}
-use Rattle.transfer.specs.Effects.{source_kind, first_kind, assigns, is_word, context_read, load_kind, store_facts, ends_with, effect}
+use Rattle.transfer.specs.Effects.{source_kind, first_kind, assigns, is_word, context_read, load_kind, stored_outside, store_facts, map_of, known, ends_with, effect}
+use Rattle.transfer.specs.Reasons.{IsOfOperands, IsReasonOf, TransferReasons}
+use Rattle.transfer.specs.Calls.{shaped, map_kind, room_of, input_kind, output_facts, number_kind, length_kind, context_kind, call_facts}
+use Rattle.interval.specs.Words.{unsigned}
+use Rattle.reg_kinds.specs.declared.kind.ValuePointer.{ValuePointer}
+use Rattle.reg_kinds.specs.Many.{touches, bits_in, any_below, is_touched_spill, lacks, stack_input, filled}
+use Rattle.tagged_model.specs.declared.helper.Helper.{Helper}
+use Rattle.tagged_model.specs.declared.helper.Helper.TheVariants.{LookUp, Update, Delete, LoadBytes}
+use Rattle.tagged_model.specs.declared.shape.MapShape.{MapShape}
+use Rattle.tagged_model.specs.Named.{Shapes}
+use Rattle.tagged_model.specs.Helpers.{helper_of}
 
-abbrev IsRule : Reason → Type 0
-IsRule Memory = ⊥
-IsRule reason = Unit {0}
-
--- what is refused is refused by a rule
+-- what is refused is refused by a rule on operands
 abbrev ByRule : {A : Type 0} → Result A Reason → Type 0
 ByRule (Ok x) = Unit {0}
-ByRule (Err reason) = IsRule reason
+ByRule (Err reason) = IsOfOperands reason
 
 then_rule : {A B : Type 0} (r : Result A Reason) (go : A → Result B Reason) → ByRule r → ((x : A) → ByRule (go x)) → ByRule (given r go)
 then_rule (Ok x) go h next = next x
@@ -114,10 +120,15 @@ read_rule : (f : Facts) (offset : ℤ) (size : Size) (signed : Bool) → ByRule 
 read_rule f offset size signed =
     then_rule (touched offset size) (λ t. read_slot (slot_at f t.0) t.1 size signed) (touched_rule offset size) (λ t. read_slot_rule (slot_at f t.0) t.1 size signed)
 
-load_rule : (f : Facts) (size : Size) (signed : Bool) (off : ℤ) (k : Kind) → ByRule (load_kind f size signed off k)
-load_rule f size signed off (kind.Stack x) = read_rule f (x +ℤ off) size signed
-load_rule f size signed off kind.Ctx = context_rule off size signed
-load_rule f size signed off k = tt
+room_rule : (p : ValuePointer) (off : ℤ) (n : ℕ) (o : Option MapShape) → ByRule (room_of p off n o)
+room_rule p off n None = tt
+room_rule p off n (Some shape) = cond_both (int_le (pos 0) (p.lo +ℤ off) && int_le ((p.hi +ℤ off) +ℤ pos n) (pos shape.value_size)) (Ok tt) (Err OutsideValue) ByRule (λ _. tt) (λ _. tt)
+
+load_rule : (shapes : Shapes) (f : Facts) (size : Size) (signed : Bool) (off : ℤ) (k : Kind) → ByRule (load_kind shapes f size signed off k)
+load_rule shapes f size signed off (kind.Stack x) = read_rule f (x +ℤ off) size signed
+load_rule shapes f size signed off kind.Ctx = context_rule off size signed
+load_rule shapes f size signed off (kind.Value p) = then_rule (room_of p off (bytes_of size) (shapes p.map)) (λ _. Ok (loaded size signed)) (room_rule p off (bytes_of size) (shapes p.map)) (λ _. tt)
+load_rule shapes f size signed off k = tt
 
 slot_rule : (s : Slot) (bits : ℕ) (size : Size) (k : Kind) → ByRule (slot_written s bits size k)
 slot_rule s bits size k =
@@ -132,9 +143,68 @@ write_rule : (f : Facts) (offset : ℤ) (size : Size) (k : Kind) → ByRule (sta
 write_rule f offset size kind.Unreadable = tt
 write_rule f offset size k = then_rule (touched offset size) (facts_written f size k) (touched_rule offset size) (facts_rule f size k)
 
-store_rule : (f : Facts) (size : Size) (off : ℤ) (k v : Kind) → ByRule (store_facts f size off k v)
-store_rule f size off (kind.Stack x) v = write_rule f (x +ℤ off) size v
-store_rule f size off k v = tt
+store_rule : (shapes : Shapes) (f : Facts) (size : Size) (off : ℤ) (k v : Kind) → ByRule (store_facts shapes f size off k v)
+store_rule shapes f size off (kind.Stack x) v = write_rule f (x +ℤ off) size v
+store_rule shapes f size off (kind.Value p) v =
+    then_rule (room_of p off (bytes_of size) (shapes p.map)) (λ _. stored_outside f v) (room_rule p off (bytes_of size) (shapes p.map))
+    (λ _. cond_both (is_pointer v) (Err PointerStored) (Ok f) ByRule (λ _. tt) (λ _. tt))
+store_rule shapes f size off k v = tt
+
+-- ---- maps, and calls
+
+shaped_rule : (m : ℕ) (o : Option MapShape) → ByRule (shaped m o)
+shaped_rule m None = tt
+shaped_rule m (Some shape) = tt
+
+map_kind_rule : (shapes : Shapes) (k : Kind) → ByRule (map_kind shapes k)
+map_kind_rule shapes (kind.MapRef m) = shaped_rule m (shapes m)
+map_kind_rule shapes k = tt
+
+stack_input_rule : (f : Facts) (x : ℤ) (n : ℕ) → ByRule (stack_input f x n)
+stack_input_rule f x n =
+    cond_both (not (is_in_stack x n)) _ _ ByRule (λ _. tt)
+    (λ _. cond_both (any_below 64 (λ i. is_touched_spill (slot_at f i) (touches (place x) n i))) _ _ ByRule (λ _. tt)
+    (λ _. cond_both (any_below 64 (λ i. lacks (slot_at f i) (bits_in (place x) n i))) (Err UnwrittenStack) (Ok tt) ByRule (λ _. tt) (λ _. tt)))
+
+input_rule : (shapes : Shapes) (f : Facts) (n : ℕ) (k : Kind) → ByRule (input_kind shapes f n k)
+input_rule shapes f n (kind.Stack x) = stack_input_rule f x n
+input_rule shapes f n (kind.Value p) = room_rule p (pos 0) n (shapes p.map)
+input_rule shapes f n k = tt
+
+output_rule : (shapes : Shapes) (f : Facts) (r : Range) (k : Kind) → ByRule (output_facts shapes f r k)
+output_rule shapes f r (kind.Stack x) = cond_both (is_in_stack x r.hi) (Ok (filled f x r.lo r.hi)) (Err OutsideStack) ByRule (λ _. tt) (λ _. tt)
+output_rule shapes f r (kind.Value p) = then_rule (room_of p (pos 0) r.hi (shapes p.map)) (λ _. Ok f) (room_rule p (pos 0) r.hi (shapes p.map)) (λ _. tt)
+output_rule shapes f r k = tt
+
+number_rule : (k : Kind) → ByRule (number_kind k)
+number_rule (kind.Scalar r) = tt
+number_rule k = tt
+
+length_rule : (k : Kind) → ByRule (length_kind k)
+length_rule (kind.Scalar r) = cond_both (r.lo == 0 || nat_le (2 ^ 29) r.hi) (Err LengthUnbounded) (Ok r) ByRule (λ _. tt) (λ _. tt)
+length_rule k = tt
+
+context_kind_rule : (k : Kind) → ByRule (context_kind k)
+context_kind_rule kind.Ctx = tt
+context_kind_rule k = tt
+
+call_rule : (shapes : Shapes) (at : ℕ) (h : Helper) (f : Facts) → ByRule (call_facts shapes at h f)
+call_rule shapes at LookUp f =
+    then_rule (readable (kind_at f 1)) _ (readable_rule (kind_at f 1)) (λ a. then_rule (readable (kind_at f 2)) _ (readable_rule (kind_at f 2))
+    (λ b. then_rule (map_kind shapes a) _ (map_kind_rule shapes a) (λ m. then_rule (input_kind shapes f m.shape.key_size b) _ (input_rule shapes f m.shape.key_size b) (λ _. tt))))
+call_rule shapes at Update f =
+    then_rule (readable (kind_at f 1)) _ (readable_rule (kind_at f 1)) (λ a. then_rule (readable (kind_at f 2)) _ (readable_rule (kind_at f 2))
+    (λ b. then_rule (readable (kind_at f 3)) _ (readable_rule (kind_at f 3)) (λ c. then_rule (readable (kind_at f 4)) _ (readable_rule (kind_at f 4))
+    (λ d. then_rule (map_kind shapes a) _ (map_kind_rule shapes a) (λ m. then_rule (input_kind shapes f m.shape.key_size b) _ (input_rule shapes f m.shape.key_size b)
+    (λ _. then_rule (input_kind shapes f m.shape.value_size c) _ (input_rule shapes f m.shape.value_size c) (λ _. then_rule (number_kind d) _ (number_rule d) (λ _. tt))))))))
+call_rule shapes at Delete f =
+    then_rule (readable (kind_at f 1)) _ (readable_rule (kind_at f 1)) (λ a. then_rule (readable (kind_at f 2)) _ (readable_rule (kind_at f 2))
+    (λ b. then_rule (map_kind shapes a) _ (map_kind_rule shapes a) (λ m. then_rule (input_kind shapes f m.shape.key_size b) _ (input_rule shapes f m.shape.key_size b) (λ _. tt))))
+call_rule shapes at LoadBytes f =
+    then_rule (readable (kind_at f 1)) _ (readable_rule (kind_at f 1)) (λ a. then_rule (readable (kind_at f 2)) _ (readable_rule (kind_at f 2))
+    (λ b. then_rule (readable (kind_at f 3)) _ (readable_rule (kind_at f 3)) (λ c. then_rule (readable (kind_at f 4)) _ (readable_rule (kind_at f 4))
+    (λ d. then_rule (context_kind a) _ (context_kind_rule a) (λ _. then_rule (number_kind b) _ (number_rule b)
+    (λ _. then_rule (length_kind d) _ (length_rule d) (λ r. then_rule (output_facts shapes f r c) _ (output_rule shapes f r c) (λ _. tt))))))))
 
 -- ---- the edges of comparisons, and the end
 
@@ -149,7 +219,7 @@ ends_rule k = tt
 
 -- ---- each instruction
 
-module _ (f : Facts) where
+module _ (shapes : Shapes) (at : ℕ) (f : Facts) where
   assigns_rule : (dst : ℕ) (r : Result Kind Reason) → ByRule r → ByRule (assigns f dst r)
   assigns_rule dst r h = then_rule r (λ k. falls (with_kind f dst k)) h (λ k. tt)
 
@@ -163,31 +233,66 @@ module _ (f : Facts) where
   one_rule : (wide : Bool) (op : Operator) (dst src : ℕ) → ByRule (given (readable (kind_at f src)) (λ k. assigns f dst (of_scalar wide op k)))
   one_rule wide op dst src = register_rule src _ (λ k. assigns_rule dst (of_scalar wide op k) (numbers_rule wide op k k))
 
-  insn_rule : (i : Insn) → ByRule (effect i f)
-  insn_rule (Alu wide op dst src) =
+  -- an instruction that names neither a function nor a map
+  abbrev IsPlain : Insn → Type 0
+  IsPlain (Call id) = ⊥
+  IsPlain (MapFd dst fd) = ⊥
+  IsPlain i = Unit {0}
+
+  insn_rule : (i : Insn) → IsPlain i → ByRule (effect shapes at i f)
+  insn_rule (Alu wide op dst src) _ =
       then_rule (first_kind op (kind_at f dst)) _ (first_rule op (kind_at f dst))
       (λ a. operand_rule wide src _ (λ b. assigns_rule dst (arithmetic_kind wide op a b) (arithmetic_rule wide op a b)))
-  insn_rule (Movsx m) = one_rule m.wide (on_words.SignExtend (narrow_of m.bits)) m.dst m.src
-  insn_rule (Neg wide dst) = one_rule wide on_words.Neg dst dst
-  insn_rule (End how kept dst) = one_rule true (on_words.End (order_of how) (kept_of kept)) dst dst
-  insn_rule (Ja off) = tt
-  insn_rule (Jal off) = tt
-  insn_rule (Jump wide cond dst src off) = register_rule dst _ (λ a. operand_rule wide src _ (λ b. branch_rule wide cond f dst src a b))
-  insn_rule (Call id) = tt
-  insn_rule Exit = register_rule 0 ends_with ends_rule
-  insn_rule (Load l) = register_rule l.src _ (λ k. assigns_rule l.dst (load_kind f (size_of l.size) l.signed l.off k) (load_rule f (size_of l.size) l.signed l.off k))
-  insn_rule (Store size dst src off) =
+  insn_rule (Movsx m) _ = one_rule m.wide (on_words.SignExtend (narrow_of m.bits)) m.dst m.src
+  insn_rule (Neg wide dst) _ = one_rule wide on_words.Neg dst dst
+  insn_rule (End how kept dst) _ = one_rule true (on_words.End (order_of how) (kept_of kept)) dst dst
+  insn_rule (Ja off) _ = tt
+  insn_rule (Jal off) _ = tt
+  insn_rule (Jump wide cond dst src off) _ = register_rule dst _ (λ a. operand_rule wide src _ (λ b. branch_rule wide cond f dst src a b))
+  insn_rule (Call id) none = absurd none
+  insn_rule Exit _ = register_rule 0 ends_with ends_rule
+  insn_rule (Load l) _ = register_rule l.src _ (λ k. assigns_rule l.dst (load_kind shapes f (size_of l.size) l.signed l.off k) (load_rule shapes f (size_of l.size) l.signed l.off k))
+  insn_rule (Store size dst src off) _ =
       register_rule dst _ (λ k. operand_rule true src _
-      (λ v. then_rule (store_facts f (size_of size) off k v) falls (store_rule f (size_of size) off k v) (λ g. tt)))
-  insn_rule (Const dst value) = tt
-  insn_rule (MapFd dst fd) = tt
+      (λ v. then_rule (store_facts shapes f (size_of size) off k v) falls (store_rule shapes f (size_of size) off k v) (λ g. tt)))
+  insn_rule (Const dst value) _ = tt
+  insn_rule (MapFd dst fd) none = absurd none
 
-rule_is_other : (reason : Reason) → IsRule reason → reason ≢ Memory
-rule_is_other reason h same = subst IsRule same h
+  -- ---- the reasons of each instruction
 
-told : {A : Type 0} (r : Result A Reason) (reason : Reason) → ByRule r → r ≡ Err reason → IsRule reason
-told (Ok x) reason h e = absurd (let z : ⊥ = cc in z)
-told (Err other) reason h e = let same : other ≡ reason = cc in subst IsRule same h
+  abbrev Tells : Insn → Result Edges Reason → Type 0
+  Tells i (Ok edges) = Unit {0}
+  Tells i (Err reason) = IsReasonOf shapes i reason
 
-pub need_no_memory : (i : Insn) (f : Facts) (reason : Reason) → effect i f ≡ Err reason → reason ≢ Memory
-need_no_memory i f reason e = rule_is_other reason (told (effect i f) reason (insn_rule f i) e)
+  of_operands : (i : Insn) (reason : Reason) → IsOfOperands reason → IsReasonOf shapes i reason
+  of_operands i UnknownHelper h = absurd h
+  of_operands i DescriptorNotMap h = absurd h
+  of_operands i reason h = h
+
+  by_operands : (i : Insn) (r : Result Edges Reason) → ByRule r → Tells i r
+  by_operands i (Ok edges) h = tt
+  by_operands i (Err reason) h = of_operands i reason h
+
+  call_tells : (id : ℤ) (o : Option Helper) → helper_of id ≡ o → Tells (Call id) (given (known o) (λ h. given (call_facts shapes at h f) falls))
+  call_tells id None e = e
+  call_tells id (Some h) e =
+      by_operands (Call id) (given (call_facts shapes at h f) falls) (then_rule (call_facts shapes at h f) falls (call_rule shapes at h f) (λ g. tt))
+
+  map_tells : (dst : ℕ) (fd : ℤ) (o : Option MapShape) → shapes (unsigned 32 fd) ≡ o → Tells (MapFd dst fd) (assigns f dst (map_of (unsigned 32 fd) o))
+  map_tells dst fd None e = e
+  map_tells dst fd (Some shape) e = tt
+
+  insn_tells : (i : Insn) → Tells i (effect shapes at i f)
+  insn_tells (Call id) = call_tells id (helper_of id) refl
+  insn_tells (MapFd dst fd) = map_tells dst fd (shapes (unsigned 32 fd)) refl
+  insn_tells i = by_operands i (effect shapes at i f) (insn_rule i tt)
+
+  witness : (i : Insn) (r : Result Edges Reason) (reason : Reason) → Tells i r → r ≡ Err reason → IsReasonOf shapes i reason
+  witness i (Ok edges) reason h e = absurd (let z : ⊥ = cc in z)
+  witness i (Err other) reason h e = let same : other ≡ reason = cc in subst (IsReasonOf shapes i) same h
+
+pub reasons_told : TransferReasons
+reasons_told shapes at i f reason e = witness shapes at f i (effect shapes at i f) reason (insn_tells shapes at f i) e
+
+pub need_no_memory : TransferReasons → (shapes : Shapes) (at : ℕ) (i : Insn) (f : Facts) (reason : Reason) → effect shapes at i f ≡ Err reason → reason ≢ Memory
+need_no_memory law shapes at i f reason e same = subst (IsReasonOf shapes i) same (law shapes at i f reason e)

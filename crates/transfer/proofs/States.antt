@@ -23,21 +23,21 @@ use Rattle.tagged_model.specs.Admits.{IsOf, HasKind}
 use Rattle.transfer.specs.Arithmetic.{readable}
 use Rattle.transfer.specs.Branches.{falls}
 use Rattle.transfer.specs.Effects.{source_kind, first_kind}
-use Rattle.transfer.specs.Sound.{IsOfWordsKind, IsOn}
-use Rattle.transfer.proofs.Parts.{Agree, IsKindOf, IsReadable, IsFound, IsKnown, IsCoveredIf}
+use Rattle.transfer.specs.Sound.{IsKindAt, IsOn}
+use Rattle.transfer.proofs.Parts.{Here, Agree, IsKindOf, IsReadable, IsFound, IsKnown, still_of, IsCoveredIf}
 use Rattle.transfer.proofs.Tables.{in_written}
 use Rattle.transfer.proofs.Words.{kind_words}
 
 -- ---- numbers
 
-module _ (gave : ℕ → Tagged) where
-  pub scalar_of : (r : Range) (n : ℕ) → IsMember n r → r.hi < 2 ^ 64 → IsKindOf gave (kind.Scalar r) (Scalar n)
+module _ (here : Here) where
+  pub scalar_of : (r : Range) (n : ℕ) → IsMember n r → r.hi < 2 ^ 64 → IsKindOf here (kind.Scalar r) (Scalar n)
   scalar_of r n m h = record { is = (n, refl, m, below n r.hi m.to h); words = h }
     where
       below : (x y : ℕ) → x ≤ y → y < 2 ^ 64 → x < 2 ^ 64
       below x y l h = omega arith
 
-  pub constant_of : (n : ℕ) → n < 2 ^ 64 → IsKindOf gave (kind.Scalar (constant n)) (Scalar n)
+  pub constant_of : (n : ℕ) → n < 2 ^ 64 → IsKindOf here (kind.Scalar (constant n)) (Scalar n)
   constant_of n h = scalar_of (constant n) n (record { from = omega arith; to = omega arith }) h
 
 -- ---- operands
@@ -48,56 +48,60 @@ word_of true (negsuc n) = omega arith
 word_of false (pos n) = omega arith
 word_of false (negsuc n) = omega arith
 
-module _ (gave : ℕ → Tagged) where
-  some_kind : (k : Kind) (v : Tagged) → IsOf gave k v → HasKind gave k (Some v)
+module _ (here : Here) where
+  some_kind : (k : Kind) (v : Tagged) → IsOf here.witness k v → HasKind here.witness k (Some v)
   some_kind kind.Unreadable v h = tt
   some_kind k v h = (v, refl, h)
 
   -- of a kind that may be read the value is there
-  there : (o : Option Tagged) (k : Kind) (v : Tagged) → o ≡ Some v → IsReadable k → IsOf gave k v → IsOfWordsKind k → Agree (IsFound gave o) (Ok k) o
-  there o k v e r h w = subst (Agree (IsFound gave o) (Ok k)) (sym e) (record { kind = record { is = h; words = w }; from = e; readable = r })
+  there : (o : Option Tagged) (k : Kind) (v : Tagged) → o ≡ Some v → IsReadable k → IsOf here.witness k v → IsKindAt here.slot k → Agree (IsFound here o) (Ok k) o
+  there o k v e r h w = subst (Agree (IsFound here o) (Ok k)) (sym e) (record { kind = record { is = h; words = w }; from = e; readable = r })
 
-  pub found : (o : Option Tagged) (k : Kind) → HasKind gave k o → IsOfWordsKind k → Agree (IsFound gave o) (readable k) o
+  pub found : (o : Option Tagged) (k : Kind) → HasKind here.witness k o → IsKindAt here.slot k → Agree (IsFound here o) (readable k) o
   found o kind.Unreadable h w = tt
   found o k h w = there o k h.0 h.1 tt h.2 w
 
-  module _ (f : Facts) (s : State) (known : IsKnown gave f s) where
-    pub register_found : (r : ℕ) → Agree (IsFound gave (s.registers r)) (readable (kind_at f r)) (s.registers r)
+  module _ (f : Facts) (s : State) (known : IsKnown here f s) where
+    pub register_found : (r : ℕ) → Agree (IsFound here (s.registers r)) (readable (kind_at f r)) (s.registers r)
     register_found r = found (s.registers r) (kind_at f r) (known.admits.registers r) (known.words.registers r)
 
-    pub source_found : (wide : Bool) (src : Operand) → Agree (IsFound gave (operand s wide src)) (readable (source_kind f wide src)) (operand s wide src)
-    source_found wide (Imm z) = let k = constant_of gave (unsigned (width wide) z) (word_of wide z) in record { kind = k; from = refl; readable = tt }
+    pub source_found : (wide : Bool) (src : Operand) → Agree (IsFound here (operand s wide src)) (readable (source_kind f wide src)) (operand s wide src)
+    source_found wide (Imm z) = let k = constant_of here (unsigned (width wide) z) (word_of wide z) in record { kind = k; from = refl; readable = tt }
     source_found wide (Reg r) = register_found r
 
     -- a move does not read its destination
-    pub first_found : (op : AluOp) (r : ℕ) → Agree (IsFound gave (first_operand op (s.registers r))) (first_kind op (kind_at f r)) (first_operand op (s.registers r))
-    first_found alu.Mov r = let k = constant_of gave 0 (omega arith) in record { kind = k; from = refl; readable = tt }
+    pub first_found : (op : AluOp) (r : ℕ) → Agree (IsFound here (first_operand op (s.registers r))) (first_kind op (kind_at f r)) (first_operand op (s.registers r))
+    first_found alu.Mov r = let k = constant_of here 0 (omega arith) in record { kind = k; from = refl; readable = tt }
     first_found op r = register_found r
 
     -- ---- a register is given a value
 
-    pub given_value : (r : ℕ) (k : Kind) (v : Tagged) → IsKindOf gave k v → IsKnown gave (with_kind f r k) (with_register s r v)
+    pub given_value : (r : ℕ) (k : Kind) (v : Tagged) → IsKindOf here k v → IsKnown here (with_kind f r k) (with_register s r v)
     given_value r k v h =
         record {
           admits = record {
-            registers = in_written (HasKind gave) f.registers s.registers r k kind.Unreadable (Some v) (some_kind k v h.is) tt known.admits.registers;
+            registers = in_written (HasKind here.witness) f.registers s.registers r k kind.Unreadable (Some v) (some_kind k v h.is) tt known.admits.registers;
             slots = known.admits.slots;
+            objects = known.admits.objects;
           };
-          words = kind_words f r k known.words h.words;
-          proper = record { bytes = known.proper.bytes; words = known.proper.words; count = known.proper.count };
+          words = kind_words here.slot f r k known.words h.words;
+          proper = record { bytes = known.proper.bytes; words = known.proper.words; count = known.proper.count; values = known.proper.values; packet = known.proper.packet };
+          maps = known.maps;
         }
 
     -- more is known of a register
-    pub known_more : (r : ℕ) (k : Kind) (v : Tagged) → s.registers r ≡ Some v → IsKindOf gave k v → IsKnown gave (with_kind f r k) s
+    pub known_more : (r : ℕ) (k : Kind) (v : Tagged) → s.registers r ≡ Some v → IsKindOf here k v → IsKnown here (with_kind f r k) s
     known_more r k v e h =
         let after = given_value r k v h in
         record {
           admits = record {
-            registers = λ q. subst (HasKind gave (kind_at (with_kind f r k) q)) (same q) (after.admits.registers q);
+            registers = λ q. subst (HasKind here.witness (kind_at (with_kind f r k) q)) (same q) (after.admits.registers q);
             slots = known.admits.slots;
+            objects = known.admits.objects;
           };
           words = after.words;
           proper = known.proper;
+          maps = known.maps;
         }
       where
         same : (q : ℕ) → set_at s.registers r (Some v) q ≡ s.registers q
@@ -109,16 +113,17 @@ module _ (gave : ℕ → Tagged) where
 
     -- ---- the next slot
 
-    pub moved_to : (n : ℕ) → IsKnown gave f (at_slot n s)
+    pub moved_to : (n : ℕ) → IsKnown here f (at_slot n s)
     moved_to n =
         record {
-          admits = record { registers = known.admits.registers; slots = known.admits.slots };
+          admits = record { registers = known.admits.registers; slots = known.admits.slots; objects = known.admits.objects };
           words = known.words;
-          proper = record { bytes = known.proper.bytes; words = known.proper.words; count = known.proper.count };
+          proper = record { bytes = known.proper.bytes; words = known.proper.words; count = known.proper.count; values = known.proper.values; packet = known.proper.packet };
+          maps = known.maps;
         }
 
-  pub goes_to : (f : Facts) (s : State) (n : ℕ) → IsKnown gave f s → IsOn gave (Some f) (Some n) (at_slot n s)
-  goes_to f s n known = let k = moved_to f s known n in (refl, k.admits, k.words, k.proper)
+  pub goes_to : (f : Facts) (s : State) (n : ℕ) → IsKnown here f s → IsOn here.shapes (Some f) (Some n) (at_slot n s)
+  goes_to f s n known = (refl, here.witness, still_of here f (at_slot n s) (moved_to f s known n))
 
-  pub assigned_covered : (f : Facts) (s : State) (n : ℕ) (target : Option ℕ) (r : ℕ) (k : Kind) (v : Tagged) → IsKnown gave f s → IsKindOf gave k v → IsCoveredIf gave (s.at + n) target (falls (with_kind f r k)) (assigned n s r v)
+  pub assigned_covered : (f : Facts) (s : State) (n : ℕ) (target : Option ℕ) (r : ℕ) (k : Kind) (v : Tagged) → IsKnown here f s → IsKindOf here k v → IsCoveredIf here (s.at + n) target (falls (with_kind f r k)) (assigned n s r v)
   assigned_covered f s n target r k v known h = inl (goes_to (with_kind f r k) (with_register s r v) (s.at + n) (given_value f s known r k v h))

@@ -22,7 +22,7 @@ use Rattle.tagged_model.specs.Values.{of_numbers, sum, difference, arithmetic, o
 use Rattle.tagged_model.specs.Admits.{IsOf}
 use Rattle.transfer.specs.declared.arithmetic.Way.TheVariants.{Forwards, Backwards}
 use Rattle.transfer.specs.Arithmetic.{is_maybe, of_scalars, sum_kind, difference_kind, unless_maybe, arithmetic_kind, of_scalar}
-use Rattle.transfer.proofs.Parts.{Gives, IsKindOf}
+use Rattle.transfer.proofs.Parts.{Here, Gives, IsKindOf}
 use Rattle.transfer.proofs.States.{scalar_of}
 use Rattle.transfer.proofs.Pointers.{stack_agrees, value_agrees}
 
@@ -43,61 +43,61 @@ words laws false = laws.words_narrow
 
 -- ---- one number, or two
 
-pub by_number : (gave : ℕ → Tagged) (r : Range) (v : Tagged) (P : Tagged → Type 0) → IsOf gave (kind.Scalar r) v → ((n : ℕ) → IsMember n r → P (Scalar n)) → P v
-by_number gave r v P h go = subst P (sym h.1) (go h.0 h.2)
+pub by_number : (here : Here) (r : Range) (v : Tagged) (P : Tagged → Type 0) → IsOf here.witness (kind.Scalar r) v → ((n : ℕ) → IsMember n r → P (Scalar n)) → P v
+by_number here r v P h go = subst P (sym h.1) (go h.0 h.2)
 
-by_numbers : (gave : ℕ → Tagged) (a b : Range) (v w : Tagged) (P : Tagged → Tagged → Type 0) → IsOf gave (kind.Scalar a) v → IsOf gave (kind.Scalar b) w → ((m n : ℕ) → IsMember m a → IsMember n b → P (Scalar m) (Scalar n)) → P v w
-by_numbers gave a b v w P h g go = by_number gave a v (λ v. P v w) h (λ m x. by_number gave b w (P (Scalar m)) g (λ n y. go m n x y))
+by_numbers : (here : Here) (a b : Range) (v w : Tagged) (P : Tagged → Tagged → Type 0) → IsOf here.witness (kind.Scalar a) v → IsOf here.witness (kind.Scalar b) w → ((m n : ℕ) → IsMember m a → IsMember n b → P (Scalar m) (Scalar n)) → P v w
+by_numbers here a b v w P h g go = by_number here a v (λ v. P v w) h (λ m x. by_number here b w (P (Scalar m)) g (λ n y. go m n x y))
 
-module _ (gave : ℕ → Tagged) (laws : Results) where
-  result_of : (wide : Bool) (op : Operator) (a b : Range) (m n : ℕ) → a.hi < 2 ^ 64 → b.hi < 2 ^ 64 → IsMember m a → IsMember n b → IsKindOf gave (kind.Scalar (range_of (width wide) op a b)) (Scalar (operate (width wide) op m n))
+module _ (here : Here) (laws : Results) where
+  result_of : (wide : Bool) (op : Operator) (a b : Range) (m n : ℕ) → a.hi < 2 ^ 64 → b.hi < 2 ^ 64 → IsMember m a → IsMember n b → IsKindOf here (kind.Scalar (range_of (width wide) op a b)) (Scalar (operate (width wide) op m n))
   result_of wide op a b m n s t x y =
-      scalar_of gave (range_of (width wide) op a b) (operate (width wide) op m n) (members laws wide op a b m n s t x y) (words laws wide op a b s t)
+      scalar_of here (range_of (width wide) op a b) (operate (width wide) op m n) (members laws wide op a b m n s t x y) (words laws wide op a b s t)
 
-  numbers_agree : (wide : Bool) (op : Operator) (k l : Kind) (v w : Tagged) → IsKindOf gave k v → IsKindOf gave l w → Gives gave (of_scalars wide op k l) (of_numbers wide op v w)
+  numbers_agree : (wide : Bool) (op : Operator) (k l : Kind) (v w : Tagged) → IsKindOf here k v → IsKindOf here l w → Gives here (of_scalars wide op k l) (of_numbers wide op v w)
   numbers_agree wide op (kind.Scalar a) (kind.Scalar b) v w h g =
-      by_numbers gave a b v w (λ v w. Gives gave (of_scalars wide op (kind.Scalar a) (kind.Scalar b)) (of_numbers wide op v w)) h.is g.is (λ m n x y. result_of wide op a b m n h.words g.words x y)
+      by_numbers here a b v w (λ v w. Gives here (of_scalars wide op (kind.Scalar a) (kind.Scalar b)) (of_numbers wide op v w)) h.is g.is (λ m n x y. result_of wide op a b m n h.words g.words x y)
   numbers_agree wide op k l v w h g = tt
 
   -- an operator of one number, on a function of it
-  pub number_agrees : (wide : Bool) (op : Operator) (f : ℕ → ℕ) → ((n : ℕ) → operate (width wide) op n n ≡ f n) → (k : Kind) (v : Tagged) → IsKindOf gave k v → Gives gave (of_scalar wide op k) (of_number f v)
+  pub number_agrees : (wide : Bool) (op : Operator) (f : ℕ → ℕ) → ((n : ℕ) → operate (width wide) op n n ≡ f n) → (k : Kind) (v : Tagged) → IsKindOf here k v → Gives here (of_scalar wide op k) (of_number f v)
   number_agrees wide op f same (kind.Scalar a) v h =
-      by_number gave a v (λ v. Gives gave (of_scalar wide op (kind.Scalar a)) (of_number f v)) h.is
-      (λ n x. subst (λ y. IsKindOf gave (kind.Scalar (range_of (width wide) op a a)) (Scalar y)) (same n) (result_of wide op a a n n h.words h.words x x))
+      by_number here a v (λ v. Gives here (of_scalar wide op (kind.Scalar a)) (of_number f v)) h.is
+      (λ n x. subst (λ y. IsKindOf here (kind.Scalar (range_of (width wide) op a a)) (Scalar y)) (same n) (result_of wide op a a n n h.words h.words x x))
   number_agrees wide op f same k v h = tt
 
   -- ---- sums and differences of 64 bits
 
-  sum_agrees : (k l : Kind) (v w : Tagged) → IsKindOf gave k v → IsKindOf gave l w → Gives gave (sum_kind k l) (sum v w)
+  sum_agrees : (k l : Kind) (v w : Tagged) → IsKindOf here k v → IsKindOf here l w → Gives here (sum_kind k l) (sum v w)
   sum_agrees (kind.Scalar a) (kind.Scalar b) v w h g =
-      by_numbers gave a b v w (λ v w. Gives gave (sum_kind (kind.Scalar a) (kind.Scalar b)) (sum v w)) h.is g.is (λ m n x y. result_of true Add a b m n h.words g.words x y)
+      by_numbers here a b v w (λ v w. Gives here (sum_kind (kind.Scalar a) (kind.Scalar b)) (sum v w)) h.is g.is (λ m n x y. result_of true Add a b m n h.words g.words x y)
   sum_agrees (kind.Scalar a) (kind.Stack x) v w h g =
-      by_number gave a v (λ v. Gives gave (sum_kind (kind.Scalar a) (kind.Stack x)) (sum v w)) h.is
-      (λ n m. subst (λ w. Gives gave (sum_kind (kind.Scalar a) (kind.Stack x)) (sum (Scalar n) w)) (sym g.is) (stack_agrees gave Forwards x a n m))
+      by_number here a v (λ v. Gives here (sum_kind (kind.Scalar a) (kind.Stack x)) (sum v w)) h.is
+      (λ n m. subst (λ w. Gives here (sum_kind (kind.Scalar a) (kind.Stack x)) (sum (Scalar n) w)) (sym g.is) (stack_agrees here Forwards x a n m))
   sum_agrees (kind.Scalar a) (kind.Value p) v w h g =
-      by_number gave a v (λ v. Gives gave (sum_kind (kind.Scalar a) (kind.Value p)) (sum v w)) h.is
-      (λ n m. subst (λ w. Gives gave (sum_kind (kind.Scalar a) (kind.Value p)) (sum (Scalar n) w)) (sym g.is.2) (value_agrees gave Forwards p a n g.is.0 g.is.1 m g.is.3 g.is.4))
+      by_number here a v (λ v. Gives here (sum_kind (kind.Scalar a) (kind.Value p)) (sum v w)) h.is
+      (λ n m. subst (λ w. Gives here (sum_kind (kind.Scalar a) (kind.Value p)) (sum (Scalar n) w)) (sym g.is.2) (value_agrees here Forwards p a n g.is.0 g.is.1 m g.is.5 g.is.3 g.is.4))
   sum_agrees (kind.Stack x) (kind.Scalar b) v w h g =
-      by_number gave b w (λ w. Gives gave (sum_kind (kind.Stack x) (kind.Scalar b)) (sum v w)) g.is
-      (λ n m. subst (λ v. Gives gave (sum_kind (kind.Stack x) (kind.Scalar b)) (sum v (Scalar n))) (sym h.is) (stack_agrees gave Forwards x b n m))
+      by_number here b w (λ w. Gives here (sum_kind (kind.Stack x) (kind.Scalar b)) (sum v w)) g.is
+      (λ n m. subst (λ v. Gives here (sum_kind (kind.Stack x) (kind.Scalar b)) (sum v (Scalar n))) (sym h.is) (stack_agrees here Forwards x b n m))
   sum_agrees (kind.Value p) (kind.Scalar b) v w h g =
-      by_number gave b w (λ w. Gives gave (sum_kind (kind.Value p) (kind.Scalar b)) (sum v w)) g.is
-      (λ n m. subst (λ v. Gives gave (sum_kind (kind.Value p) (kind.Scalar b)) (sum v (Scalar n))) (sym h.is.2) (value_agrees gave Forwards p b n h.is.0 h.is.1 m h.is.3 h.is.4))
+      by_number here b w (λ w. Gives here (sum_kind (kind.Value p) (kind.Scalar b)) (sum v w)) g.is
+      (λ n m. subst (λ v. Gives here (sum_kind (kind.Value p) (kind.Scalar b)) (sum v (Scalar n))) (sym h.is.2) (value_agrees here Forwards p b n h.is.0 h.is.1 m h.is.5 h.is.3 h.is.4))
   sum_agrees kind.Unreadable (kind.Scalar b) v w h g = tt
   sum_agrees (kind.MapRef m) (kind.Scalar b) v w h g = tt
   sum_agrees kind.Ctx (kind.Scalar b) v w h g = tt
   sum_agrees (kind.MaybeValue m site) (kind.Scalar b) v w h g = tt
   sum_agrees k l v w h g = tt
 
-  difference_agrees : (k l : Kind) (v w : Tagged) → IsKindOf gave k v → IsKindOf gave l w → Gives gave (difference_kind k l) (difference v w)
+  difference_agrees : (k l : Kind) (v w : Tagged) → IsKindOf here k v → IsKindOf here l w → Gives here (difference_kind k l) (difference v w)
   difference_agrees (kind.Scalar a) (kind.Scalar b) v w h g =
-      by_numbers gave a b v w (λ v w. Gives gave (difference_kind (kind.Scalar a) (kind.Scalar b)) (difference v w)) h.is g.is (λ m n x y. result_of true Sub a b m n h.words g.words x y)
+      by_numbers here a b v w (λ v w. Gives here (difference_kind (kind.Scalar a) (kind.Scalar b)) (difference v w)) h.is g.is (λ m n x y. result_of true Sub a b m n h.words g.words x y)
   difference_agrees (kind.Stack x) (kind.Scalar b) v w h g =
-      by_number gave b w (λ w. Gives gave (difference_kind (kind.Stack x) (kind.Scalar b)) (difference v w)) g.is
-      (λ n m. subst (λ v. Gives gave (difference_kind (kind.Stack x) (kind.Scalar b)) (difference v (Scalar n))) (sym h.is) (stack_agrees gave Backwards x b n m))
+      by_number here b w (λ w. Gives here (difference_kind (kind.Stack x) (kind.Scalar b)) (difference v w)) g.is
+      (λ n m. subst (λ v. Gives here (difference_kind (kind.Stack x) (kind.Scalar b)) (difference v (Scalar n))) (sym h.is) (stack_agrees here Backwards x b n m))
   difference_agrees (kind.Value p) (kind.Scalar b) v w h g =
-      by_number gave b w (λ w. Gives gave (difference_kind (kind.Value p) (kind.Scalar b)) (difference v w)) g.is
-      (λ n m. subst (λ v. Gives gave (difference_kind (kind.Value p) (kind.Scalar b)) (difference v (Scalar n))) (sym h.is.2) (value_agrees gave Backwards p b n h.is.0 h.is.1 m h.is.3 h.is.4))
+      by_number here b w (λ w. Gives here (difference_kind (kind.Value p) (kind.Scalar b)) (difference v w)) g.is
+      (λ n m. subst (λ v. Gives here (difference_kind (kind.Value p) (kind.Scalar b)) (difference v (Scalar n))) (sym h.is.2) (value_agrees here Backwards p b n h.is.0 h.is.1 m h.is.5 h.is.3 h.is.4))
   difference_agrees kind.Unreadable (kind.Scalar b) v w h g = tt
   difference_agrees (kind.MapRef m) (kind.Scalar b) v w h g = tt
   difference_agrees kind.Ctx (kind.Scalar b) v w h g = tt
@@ -106,10 +106,10 @@ module _ (gave : ℕ → Tagged) (laws : Results) where
 
   -- ---- all
 
-  unless_agrees : (k l : Kind) (r : Result Kind Reason) (o : Option Tagged) → Gives gave r o → Gives gave (unless_maybe k l r) o
-  unless_agrees k l r o h = cond_both (is_maybe k || is_maybe l) (Err MaybeNull) r (λ r. Gives gave r o) (λ _. tt) (λ _. h)
+  unless_agrees : (k l : Kind) (r : Result Kind Reason) (o : Option Tagged) → Gives here r o → Gives here (unless_maybe k l r) o
+  unless_agrees k l r o h = cond_both (is_maybe k || is_maybe l) (Err MaybeNull) r (λ r. Gives here r o) (λ _. tt) (λ _. h)
 
-  pub arithmetic_agrees : (wide : Bool) (op : AluOp) (k l : Kind) (v w : Tagged) → IsKindOf gave k v → IsKindOf gave l w → Gives gave (arithmetic_kind wide op k l) (arithmetic wide op v w)
+  pub arithmetic_agrees : (wide : Bool) (op : AluOp) (k l : Kind) (v w : Tagged) → IsKindOf here k v → IsKindOf here l w → Gives here (arithmetic_kind wide op k l) (arithmetic wide op v w)
   arithmetic_agrees true alu.Mov k l v w h g = g
   arithmetic_agrees true alu.Add k l v w h g = unless_agrees k l (sum_kind k l) (sum v w) (sum_agrees k l v w h g)
   arithmetic_agrees true alu.Sub k l v w h g = unless_agrees k l (difference_kind k l) (difference v w) (difference_agrees k l v w h g)

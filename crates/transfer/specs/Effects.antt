@@ -1,6 +1,6 @@
 -- The facts on the edges out of an instruction, from those before it; or why the instruction may not be run. The
 -- conditions are tried in the order in which they stand.
-use Rattle.std.specs.Prelude.{ℕ, ◌%◌, ℤ, pos, negsuc, ◌+ℤ◌, ◌==◌, Bool, true, false, ◌&&◌, nat_lt, if◌then◌else◌, Some, None, Result, Ok, Err}
+use Rattle.std.specs.Prelude.{ℕ, ◌%◌, ℤ, pos, negsuc, ◌+ℤ◌, ◌==◌, Bool, true, false, ◌&&◌, nat_lt, if◌then◌else◌, Option, Some, None, Result, Ok, Err}
 use Rattle.interval.specs.declared.operator.Operator.TheVariants as on_words
 use Rattle.interval.specs.Ranges.{constant, full}
 use Rattle.interval.specs.Words.{unsigned}
@@ -16,13 +16,18 @@ use Rattle.reg_kinds.specs.declared.facts.Facts.{Facts}
 use Rattle.reg_kinds.specs.declared.stack.Size.{Size}
 use Rattle.reg_kinds.specs.declared.stack.Size.TheVariants.{Word}
 use Rattle.reg_kinds.specs.declared.reason.Reason.{Reason}
-use Rattle.reg_kinds.specs.declared.reason.Reason.TheVariants.{UnknownHelper, DescriptorNotMap, ResultNotScalar, NotPointer, MaybeNull, ContextAccess, OutsideValue}
+use Rattle.reg_kinds.specs.declared.reason.Reason.TheVariants.{UnknownHelper, DescriptorNotMap, ResultNotScalar, NotPointer, MaybeNull, ContextAccess, PointerStored}
 use Rattle.reg_kinds.specs.Reason.{given}
-use Rattle.reg_kinds.specs.Kinds.{kind_at, with_kind}
-use Rattle.reg_kinds.specs.Stack.{stack_read, stack_write}
+use Rattle.reg_kinds.specs.Kinds.{is_pointer, kind_at, with_kind}
+use Rattle.reg_kinds.specs.Stack.{bytes_of, loaded, stack_read, stack_write}
+use Rattle.tagged_model.specs.declared.helper.Helper.{Helper}
+use Rattle.tagged_model.specs.declared.shape.MapShape.{MapShape}
+use Rattle.tagged_model.specs.Helpers.{helper_of}
+use Rattle.tagged_model.specs.Named.{Shapes}
 use Rattle.tagged_model.specs.Operators.{width, narrow_of, order_of, kept_of, size_of}
 use Rattle.transfer.specs.Arithmetic.{readable, arithmetic_kind, of_scalar}
 use Rattle.transfer.specs.Branches.{Edges, falls, branch_edges}
+use Rattle.transfer.specs.Calls.{room_of, call_facts}
 
 -- ---- operands
 
@@ -51,19 +56,34 @@ abbrev pub context_read : ℤ → Size → Bool → Result Kind Reason
 context_read y Word false = if is_word y then Ok (kind.Scalar (full 32)) else Err ContextAccess
 context_read y size signed = Err ContextAccess
 
-abbrev pub load_kind : Facts → Size → Bool → ℤ → Kind → Result Kind Reason
-load_kind f size signed off (kind.Stack x) = stack_read f (x +ℤ off) size signed
-load_kind f size signed off kind.Ctx = context_read off size signed
-load_kind f size signed off (kind.Value p) = Err OutsideValue
-load_kind f size signed off (kind.MaybeValue m site) = Err MaybeNull
-load_kind f size signed off k = Err NotPointer
+abbrev pub load_kind : Shapes → Facts → Size → Bool → ℤ → Kind → Result Kind Reason
+load_kind shapes f size signed off (kind.Stack x) = stack_read f (x +ℤ off) size signed
+load_kind shapes f size signed off kind.Ctx = context_read off size signed
+load_kind shapes f size signed off (kind.Value p) = given (room_of p off (bytes_of size) (shapes p.map)) (λ _. Ok (loaded size signed))
+load_kind shapes f size signed off (kind.MaybeValue m site) = Err MaybeNull
+load_kind shapes f size signed off k = Err NotPointer
 
-abbrev pub store_facts : Facts → Size → ℤ → Kind → Kind → Result Facts Reason
-store_facts f size off (kind.Stack x) v = stack_write f (x +ℤ off) size v
-store_facts f size off kind.Ctx v = Err ContextAccess
-store_facts f size off (kind.Value p) v = Err OutsideValue
-store_facts f size off (kind.MaybeValue m site) v = Err MaybeNull
-store_facts f size off k v = Err NotPointer
+-- no pointer is stored outside the stack, and a store there changes no fact
+abbrev pub stored_outside : Facts → Kind → Result Facts Reason
+stored_outside f v = if is_pointer v then Err PointerStored else Ok f
+
+abbrev pub store_facts : Shapes → Facts → Size → ℤ → Kind → Kind → Result Facts Reason
+store_facts shapes f size off (kind.Stack x) v = stack_write f (x +ℤ off) size v
+store_facts shapes f size off kind.Ctx v = Err ContextAccess
+store_facts shapes f size off (kind.Value p) v = given (room_of p off (bytes_of size) (shapes p.map)) (λ _. stored_outside f v)
+store_facts shapes f size off (kind.MaybeValue m site) v = Err MaybeNull
+store_facts shapes f size off k v = Err NotPointer
+
+-- ---- maps and calls: where the descriptor names no map, the shape of the program has a fault, as it has where a helper
+-- is not known
+
+abbrev pub map_of : ℕ → Option MapShape → Result Kind Reason
+map_of m None = Err DescriptorNotMap
+map_of m (Some shape) = Ok (kind.MapRef m)
+
+abbrev pub known : Option Helper → Result Helper Reason
+known None = Err UnknownHelper
+known (Some h) = Ok h
 
 -- ---- the end
 
@@ -71,19 +91,27 @@ abbrev pub ends_with : Kind → Result Edges Reason
 ends_with (kind.Scalar r) = Ok (record { falling = None; jumping = None })
 ends_with k = Err ResultNotScalar
 
--- ---- each instruction
+abbrev pub end_edges : Facts → Result Edges Reason
+end_edges f = given (readable (kind_at f 0)) ends_with
 
-abbrev pub effect : Insn → Facts → Result Edges Reason
-effect (Alu wide op dst src) f = given (first_kind op (kind_at f dst)) (λ a. given (readable (source_kind f wide src)) (λ b. assigns f dst (arithmetic_kind wide op a b)))
-effect (Movsx m) f = given (readable (kind_at f m.src)) (λ k. assigns f m.dst (of_scalar m.wide (on_words.SignExtend (narrow_of m.bits)) k))
-effect (Neg wide dst) f = given (readable (kind_at f dst)) (λ k. assigns f dst (of_scalar wide on_words.Neg k))
-effect (End how kept dst) f = given (readable (kind_at f dst)) (λ k. assigns f dst (of_scalar true (on_words.End (order_of how) (kept_of kept)) k))
-effect (Ja off) f = Ok (record { falling = None; jumping = Some f })
-effect (Jal off) f = Ok (record { falling = None; jumping = Some f })
-effect (Jump wide cond dst src off) f = given (readable (kind_at f dst)) (λ a. given (readable (source_kind f wide src)) (λ b. branch_edges wide cond f dst src a b))
-effect (Call id) f = Err UnknownHelper
-effect Exit f = given (readable (kind_at f 0)) ends_with
-effect (Load l) f = given (readable (kind_at f l.src)) (λ k. assigns f l.dst (load_kind f (size_of l.size) l.signed l.off k))
-effect (Store size dst src off) f = given (readable (kind_at f dst)) (λ k. given (readable (source_kind f true src)) (λ v. given (store_facts f (size_of size) off k v) falls))
-effect (Const dst value) f = falls (with_kind f dst (kind.Scalar (constant value)))
-effect (MapFd dst fd) f = Err DescriptorNotMap
+-- ---- operators
+
+abbrev pub operator_edges : Bool → AluOp → ℕ → Operand → Facts → Result Edges Reason
+operator_edges wide op dst src f = given (first_kind op (kind_at f dst)) (λ a. given (readable (source_kind f wide src)) (λ b. assigns f dst (arithmetic_kind wide op a b)))
+
+-- ---- each instruction, at a slot
+
+abbrev pub effect : Shapes → ℕ → Insn → Facts → Result Edges Reason
+effect shapes at (Alu wide op dst src) f = operator_edges wide op dst src f
+effect shapes at (Movsx m) f = given (readable (kind_at f m.src)) (λ k. assigns f m.dst (of_scalar m.wide (on_words.SignExtend (narrow_of m.bits)) k))
+effect shapes at (Neg wide dst) f = given (readable (kind_at f dst)) (λ k. assigns f dst (of_scalar wide on_words.Neg k))
+effect shapes at (End how kept dst) f = given (readable (kind_at f dst)) (λ k. assigns f dst (of_scalar true (on_words.End (order_of how) (kept_of kept)) k))
+effect shapes at (Ja off) f = Ok (record { falling = None; jumping = Some f })
+effect shapes at (Jal off) f = Ok (record { falling = None; jumping = Some f })
+effect shapes at (Jump wide cond dst src off) f = given (readable (kind_at f dst)) (λ a. given (readable (source_kind f wide src)) (λ b. branch_edges wide cond f dst src a b))
+effect shapes at (Call id) f = given (known (helper_of id)) (λ h. given (call_facts shapes at h f) falls)
+effect shapes at Exit f = end_edges f
+effect shapes at (Load l) f = given (readable (kind_at f l.src)) (λ k. assigns f l.dst (load_kind shapes f (size_of l.size) l.signed l.off k))
+effect shapes at (Store size dst src off) f = given (readable (kind_at f dst)) (λ k. given (readable (source_kind f true src)) (λ v. given (store_facts shapes f (size_of size) off k v) falls))
+effect shapes at (Const dst value) f = falls (with_kind f dst (kind.Scalar (constant value)))
+effect shapes at (MapFd dst fd) f = assigns f dst (map_of (unsigned 32 fd) (shapes (unsigned 32 fd)))

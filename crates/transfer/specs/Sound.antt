@@ -4,31 +4,36 @@ use Rattle.insn_codec.specs.declared.insn.Insn.{Insn}
 use Rattle.insn_codec.specs.declared.insn.Insn.TheVariants.{Ja, Jal, Jump}
 use Rattle.insn_codec.specs.Spelling.{slots, IsInsn}
 use Rattle.reg_kinds.specs.declared.kind.Kind.{Kind}
-use Rattle.reg_kinds.specs.declared.kind.Kind.TheVariants.{Scalar}
+use Rattle.reg_kinds.specs.declared.kind.Kind.TheVariants.{Scalar, MaybeValue}
 use Rattle.reg_kinds.specs.declared.kind.Slot.{Slot}
 use Rattle.reg_kinds.specs.declared.kind.Slot.TheVariants.{Bytes, Spill}
 use Rattle.reg_kinds.specs.declared.facts.Facts.{Facts}
 use Rattle.reg_kinds.specs.Kinds.{kind_at, slot_at}
-use Rattle.tagged_model.specs.declared.value.Tagged.{Tagged}
 use Rattle.tagged_model.specs.State.{State}
 use Rattle.tagged_model.specs.Step.{Step, goes, ends, faults, act, natural}
-use Rattle.tagged_model.specs.Admits.{AdmitsBy, IsProper}
+use Rattle.tagged_model.specs.Admits.{Witness, AreBelow}
+use Rattle.tagged_model.specs.declared.helper.Helper.{Helper}
+use Rattle.tagged_model.specs.Helpers.{called}
+use Rattle.tagged_model.specs.Laws.{Describes}
 use Rattle.transfer.specs.Branches.{Edges}
+use Rattle.tagged_model.specs.Named.{Shapes}
+use Rattle.transfer.specs.Calls.{call_facts}
 use Rattle.transfer.specs.Effects.{effect}
 
--- ---- facts that speak of words: a range ends below 2 ^ 64
+-- ---- facts before slot n: a range ends below 2 ^ 64, a mask has eight bits, and a look-up was at a slot below
 
-abbrev pub IsOfWordsKind : Kind → Type 0
-IsOfWordsKind (Scalar r) = r.hi < 2 ^ 64
-IsOfWordsKind _ = Unit {0}
+abbrev pub IsKindAt : ℕ → Kind → Type 0
+IsKindAt n (Scalar r) = r.hi < 2 ^ 64
+IsKindAt n (MaybeValue m site) = site < n
+IsKindAt n k = Unit {0}
 
-abbrev pub IsOfWordsSlot : Slot → Type 0
-IsOfWordsSlot (Bytes mask) = mask < 256
-IsOfWordsSlot (Spill k) = IsOfWordsKind k
+abbrev pub IsSlotAt : ℕ → Slot → Type 0
+IsSlotAt n (Bytes mask) = mask < 256
+IsSlotAt n (Spill k) = IsKindAt n k
 
-pub record AreOfWords (f : Facts) : Type 0 where
-  pub registers : (r : ℕ) → IsOfWordsKind (kind_at f r)
-  pub slots : (i : ℕ) → IsOfWordsSlot (slot_at f i)
+pub record AreWellFormedAt (n : ℕ) (f : Facts) : Type 0 where
+  pub registers : (r : ℕ) → IsKindAt n (kind_at f r)
+  pub slots : (i : ℕ) → IsSlotAt n (slot_at f i)
 
 -- ---- where the edges lead
 
@@ -47,28 +52,43 @@ jumps_to i at = natural (pos (at + 1) +ℤ jump_offset i)
 
 -- ---- the state after a step
 
--- the edge is there, leads to the state's slot, and its facts admit the state
-abbrev pub IsOn : (ℕ → Tagged) → Option Facts → Option ℕ → State → Type 0
-IsOn gave None slot t = ⊥
-IsOn gave (Some f) slot t = (slot ≡ Some t.at) × AdmitsBy gave f t × AreOfWords f × IsProper t
+-- the edge is there, leads to the state's slot, and its facts admit the state, whatever is told there
+abbrev pub IsOn : Shapes → Option Facts → Option ℕ → State → Type 0
+IsOn shapes None slot t = ⊥
+IsOn shapes (Some f) slot t = (slot ≡ Some t.at) × (witness : Witness) × Describes witness f shapes t
 
--- the step is no fault, and the state after it is on an edge
-abbrev pub Covers : (ℕ → Tagged) → Insn → ℕ → Edges → Step → Type 0
-Covers gave i at edges (goes t) = IsOn gave edges.falling (Some (falls_to i at)) t ⊎ IsOn gave edges.jumping (jumps_to i at) t
-Covers gave i at edges (ends n) = n < 2 ^ 32
-Covers gave i at edges faults = ⊥
+-- the step is no fault, and the state after it is on the edge that it takes
+abbrev pub Covers : Shapes → Insn → ℕ → Edges → Step → Type 0
+Covers shapes i at edges (goes t) = IsOn shapes edges.falling (Some (falls_to i at)) t ⊎ IsOn shapes edges.jumping (jumps_to i at) t
+Covers shapes i at edges (ends n) = n < 2 ^ 32
+Covers shapes i at edges faults = ⊥
 
--- where facts admit a state and let an instruction be run, the facts on its edges cover the step
-abbrev pub EffectsCover : Type 0
-EffectsCover =
-    (gave : ℕ → Tagged) (refused : Bool) (i : Insn) (f : Facts) (s : State) (edges : Edges) → IsInsn i → IsSome (jumps_to i s.at) → IsProper s → AreOfWords f → AdmitsBy gave f s → effect i f ≡ Ok edges
-    → Covers gave i s.at edges (act refused i s)
+-- where facts admit a state and let an instruction be run, its step is on one of the edges, whether or not memory is refused
+-- at it. The state has a map of each shape, and so has the next one
+abbrev pub TransferIsSound : Type 0
+TransferIsSound =
+    (witness : Witness) (shapes : Shapes) (refused : Bool) (i : Insn) (f : Facts) (s : State) (edges : Edges) → IsInsn i → IsSome (jumps_to i s.at) → AreWellFormedAt s.at f → Describes witness f shapes s → effect shapes s.at i f ≡ Ok edges
+    → Covers shapes i s.at edges (act refused i s)
 
--- ---- facts that speak of words stay so
+-- ---- the facts on the edges are facts before each later slot
 
-abbrev pub AreOfWordsOn : Option Facts → Type 0
-AreOfWordsOn None = Unit {0}
-AreOfWordsOn (Some f) = AreOfWords f
+abbrev pub AreWellFormedOn : ℕ → Option Facts → Type 0
+AreWellFormedOn n None = Unit {0}
+AreWellFormedOn n (Some f) = AreWellFormedAt n f
 
-abbrev pub EffectsAreOfWords : Type 0
-EffectsAreOfWords = (i : Insn) (f : Facts) (edges : Edges) → IsInsn i → AreOfWords f → effect i f ≡ Ok edges → AreOfWordsOn edges.falling × AreOfWordsOn edges.jumping
+abbrev pub TransferKeepsWellFormed : Type 0
+TransferKeepsWellFormed = (shapes : Shapes) (at n : ℕ) (i : Insn) (f : Facts) (edges : Edges) → IsInsn i → AreWellFormedAt at f → at < n → effect shapes at i f ≡ Ok edges → AreWellFormedOn n edges.falling × AreWellFormedOn n edges.jumping
+
+-- ---- calls
+
+-- what is known after a call, which does not go on by itself. A look-up tells more than was told
+pub record IsCalled (g : Facts) (shapes : Shapes) (s u : State) : Type 0 where
+  pub witness : Witness
+  pub still : Describes witness g shapes u
+  pub at : u.at ≡ s.at
+
+-- where facts admit a state and let a call go ahead, the machine has one, and the facts after it admit the state after it
+abbrev pub CallsAreSound : Type 0
+CallsAreSound =
+    (witness : Witness) (refused : Bool) (shapes : Shapes) (h : Helper) (f g : Facts) (s : State) → AreBelow s.at f → Describes witness f shapes s → call_facts shapes s.at h f ≡ Ok g
+    → (u : State) × (called refused h s ≡ Some u) × IsCalled g shapes s u

@@ -1,24 +1,25 @@
 //! What each instruction does to what is known.
 
-ghost use Rattle.std.specs.Prelude.{◌≡◌, ℕ, ◌+ℤ◌, false, IfOk, IfErr, OnErr, OnOk, Ok, Err};
+ghost use Rattle.std.specs.Prelude.{◌≡◌, ◌<◌, ℕ, if◌then◌else◌, ◌+ℤ◌, false, IfOk, IfErr, OnErr, OnOk, Ok, Err};
 ghost use Rattle.interval.specs.Words.{unsigned};
 ghost use Rattle.tagged_model.specs.Operators.{width, size_of};
 ghost use Rattle.transfer.specs.Arithmetic.{arithmetic_kind, of_scalar};
 ghost use Rattle.transfer.specs.Branches.{branch_edges};
-ghost use Rattle.transfer.specs.Effects.{source_kind, first_kind, is_word, context_read, load_kind, store_facts, ends_with, effect};
+ghost use Rattle.transfer.specs.Effects.{source_kind, first_kind, is_word, context_read, load_kind, store_facts, map_of, end_edges, operator_edges, effect};
 ghost use Rattle.reg_kinds.specs.Stack.{is_in_stack};
-ghost use Rattle.reg_kinds.specs.declared.reason.Reason.TheVariants.{OutsideStack};
+ghost use Rattle.reg_kinds.specs.declared.reason.Reason.TheVariants.{OutsideStack, PointerStored};
+ghost use Rattle.tagged_model.specs.Named.{shapes_named};
 ghost use Rattle.transfer.specs.Flows.{edges_of};
-ghost use Rattle.reg_kinds.specs.Kinds.{with_kind};
+ghost use Rattle.reg_kinds.specs.Kinds.{is_pointer, with_kind};
 ghost use Rattle.transfer.specs.declared.branches.Flow.TheVariants.{Falls};
-ghost use Rattle.insn_codec.specs.declared.insn.Insn.TheVariants.{Alu, Exit};
 
 use crate::arithmetic::{arithmetic, of_scalar, readable};
 use crate::branches::{Flow, branch};
-use insn_codec::{AluOp, Insn, Load, Movsx, Operand, Reg, Size};
+use crate::calls::{call, room_of};
+use insn_codec::{AluOp, Insn, Load, MAX_SLOTS, Movsx, Operand, Reg, Size};
 use interval::{Operator, Range};
-use reg_kinds::{Facts, Kind, Reason, read_stack, write_stack};
-use tagged_model::{access_size, byte_order, kept_bits, narrow};
+use reg_kinds::{Facts, Kind, Reason, loaded, read_stack, write_stack};
+use tagged_model::{Named, access_size, byte_order, kept_bits, known_helper, narrow, shape_of};
 
 /// A constant as a word: of 32 bits it is read modulo 2^32.
 fn constant_word(wide: bool, imm: i32) -> u64
@@ -72,8 +73,15 @@ fn stack_offset(from: i32, offset: i16) -> Result<i32, Reason>
 }
 
 /// What a load gives.
-fn load(facts: &Facts, size: Size, signed: bool, offset: i16, base: Kind) -> Result<Kind, Reason>
-    ensures { result ≡ load_kind facts.now (size_of size) signed offset base }
+fn load(
+    facts: &Facts,
+    named: &[Named],
+    size: Size,
+    signed: bool,
+    offset: i16,
+    base: Kind,
+) -> Result<Kind, Reason>
+    ensures { result ≡ load_kind (shapes_named named.now) facts.now (size_of size) signed offset base }
 {
     match base {
         Kind::Stack(from) => {
@@ -81,16 +89,38 @@ fn load(facts: &Facts, size: Size, signed: bool, offset: i16, base: Kind) -> Res
             read_stack(facts, at, access_size(size), signed)
         }
         Kind::Ctx => context_read(offset, size, signed),
-        Kind::Value(_) => Err(Reason::OutsideValue),
+        Kind::Value(pointer) => {
+            let access = access_size(size);
+            room_of(named, pointer, offset, u32::from(access.bytes()))?;
+            Ok(loaded(access, signed))
+        }
         Kind::MaybeValue { .. } => Err(Reason::MaybeNull),
         _ => Err(Reason::NotPointer),
     }
 }
 
+/// Whether a value may be stored outside the stack.
+fn store_outside(value: Kind) -> Result<(), Reason>
+    ensures { result ≡ (if is_pointer value then Err PointerStored else Ok tt) }
+{
+    if value.is_pointer() {
+        Err(Reason::PointerStored)
+    } else {
+        Ok(())
+    }
+}
+
 /// What a store leaves.
-fn store(facts: &mut Facts, size: Size, offset: i16, base: Kind, value: Kind) -> Result<(), Reason>
-    ensures ok { OnOk result (store_facts facts.old (size_of size) offset base value ≡ Ok facts.new) }
-    ensures refused { IfErr result (λ reason. store_facts facts.old (size_of size) offset base value ≡ Err reason) }
+fn store(
+    facts: &mut Facts,
+    named: &[Named],
+    size: Size,
+    offset: i16,
+    base: Kind,
+    value: Kind,
+) -> Result<(), Reason>
+    ensures ok { OnOk result (store_facts (shapes_named named.now) facts.old (size_of size) offset base value ≡ Ok facts.new) }
+    ensures refused { IfErr result (λ reason. store_facts (shapes_named named.now) facts.old (size_of size) offset base value ≡ Err reason) }
     ensures stays { OnErr result (facts.new ≡ facts.old) }
 {
     match base {
@@ -102,9 +132,23 @@ fn store(facts: &mut Facts, size: Size, offset: i16, base: Kind, value: Kind) ->
             write_stack(facts, at, access_size(size), value)
         }
         Kind::Ctx => Err(Reason::ContextAccess),
-        Kind::Value(_) => Err(Reason::OutsideValue),
+        Kind::Value(pointer) => {
+            let access = access_size(size);
+            room_of(named, pointer, offset, u32::from(access.bytes()))?;
+            store_outside(value)
+        }
         Kind::MaybeValue { .. } => Err(Reason::MaybeNull),
         _ => Err(Reason::NotPointer),
+    }
+}
+
+/// A map by its descriptor.
+fn map_of(named: &[Named], descriptor: u32) -> Result<Kind, Reason>
+    ensures { result ≡ map_of descriptor (shapes_named named.now descriptor) }
+{
+    match shape_of(named, descriptor) {
+        Some(_) => Ok(Kind::MapRef(descriptor)),
+        None => Err(Reason::DescriptorNotMap),
     }
 }
 
@@ -119,8 +163,8 @@ fn assign(facts: &mut Facts, dst: Reg, kind: Kind) -> Flow
 
 /// An operator of two operands.
 fn operate(facts: &mut Facts, wide: bool, op: AluOp, dst: Reg, src: Operand) -> Result<Flow, Reason>
-    ensures ok { IfOk result (λ flow. effect (Alu wide op dst src) facts.old ≡ Ok (edges_of flow facts.new)) }
-    ensures refused { IfErr result (λ reason. effect (Alu wide op dst src) facts.old ≡ Err reason) }
+    ensures ok { IfOk result (λ flow. operator_edges wide op dst src facts.old ≡ Ok (edges_of flow facts.new)) }
+    ensures refused { IfErr result (λ reason. operator_edges wide op dst src facts.old ≡ Err reason) }
     ensures stays { OnErr result (facts.new ≡ facts.old) }
 {
     let a = first(op, facts.kind(usize::from(dst.number())))?;
@@ -131,8 +175,8 @@ fn operate(facts: &mut Facts, wide: bool, op: AluOp, dst: Reg, src: Operand) -> 
 
 /// The end of a run.
 fn end(facts: &Facts) -> Result<Flow, Reason>
-    ensures ok { IfOk result (λ flow. effect Exit facts.now ≡ Ok (edges_of flow facts.now)) }
-    ensures refused { IfErr result (λ reason. effect Exit facts.now ≡ Err reason) }
+    ensures ok { IfOk result (λ flow. end_edges facts.now ≡ Ok (edges_of flow facts.now)) }
+    ensures refused { IfErr result (λ reason. end_edges facts.now ≡ Err reason) }
 {
     match readable(facts.kind(0))? {
         Kind::Scalar(_) => Ok(Flow::Ends),
@@ -140,15 +184,16 @@ fn end(facts: &Facts) -> Result<Flow, Reason>
     }
 }
 
-/// The facts on the edges out of an instruction. They are changed in place where one edge is left: see `Flow`.
+/// The facts on the edges out of an instruction at a slot, where `named` says what the descriptors name. They are changed in place where one edge is left: see `Flow`.
 ///
 /// # Errors
 ///
 /// Why the instruction may not be run, and then the facts stay: the first of its conditions that fails, in the order that
 /// the definition of `effect` has.
-pub fn apply(facts: &mut Facts, insn: &Insn) -> Result<Flow, Reason>
-    ensures ok { IfOk result (λ flow. effect insn.now facts.old ≡ Ok (edges_of flow facts.new)) }
-    ensures refused { IfErr result (λ reason. effect insn.now facts.old ≡ Err reason) }
+pub fn apply(facts: &mut Facts, named: &[Named], slot: usize, insn: &Insn) -> Result<Flow, Reason>
+    requires { slot < MAX_SLOTS }
+    ensures ok { IfOk result (λ flow. effect (shapes_named named.now) slot insn.now facts.old ≡ Ok (edges_of flow facts.new)) }
+    ensures refused { IfErr result (λ reason. effect (shapes_named named.now) slot insn.now facts.old ≡ Err reason) }
     ensures stays { OnErr result (facts.new ≡ facts.old) }
 {
     match *insn {
@@ -191,7 +236,11 @@ pub fn apply(facts: &mut Facts, insn: &Insn) -> Result<Flow, Reason>
             let b = readable(source(facts, wide, &src))?;
             branch(facts, wide, cond, dst, src, a, b)
         }
-        Insn::Call { .. } => Err(Reason::UnknownHelper),
+        Insn::Call { id } => {
+            let helper = known_helper(id).ok_or(Reason::UnknownHelper)?;
+            call(facts, named, slot, helper)?;
+            Ok(Flow::Falls)
+        }
         Insn::Exit => end(facts),
         Insn::Load(
             Load {
@@ -203,7 +252,7 @@ pub fn apply(facts: &mut Facts, insn: &Insn) -> Result<Flow, Reason>
             },
         ) => {
             let base = readable(facts.kind(usize::from(src.number())))?;
-            let kind = load(facts, size, signed, off, base)?;
+            let kind = load(facts, named, size, signed, off, base)?;
             Ok(assign(facts, dst, kind))
         }
         Insn::Store {
@@ -214,10 +263,13 @@ pub fn apply(facts: &mut Facts, insn: &Insn) -> Result<Flow, Reason>
         } => {
             let base = readable(facts.kind(usize::from(dst.number())))?;
             let value = readable(source(facts, true, &src))?;
-            store(facts, size, off, base, value)?;
+            store(facts, named, size, off, base, value)?;
             Ok(Flow::Falls)
         }
         Insn::Const { dst, value } => Ok(assign(facts, dst, Kind::Scalar(Range::constant(value)))),
-        Insn::MapFd { .. } => Err(Reason::DescriptorNotMap),
+        Insn::MapFd { dst, fd } => {
+            let map = map_of(named, fd.cast_unsigned())?;
+            Ok(assign(facts, dst, map))
+        }
     }
 }

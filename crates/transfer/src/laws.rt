@@ -1,20 +1,26 @@
 //! Laws of the effects. Each is the contract of a function that does nothing.
 
-ghost use Rattle.std.specs.Prelude.{◌≡◌, ◌≢◌, Err};
+ghost use Rattle.std.specs.Prelude.{◌≡◌, ◌≢◌, ℕ, Err};
+ghost use Rattle.tagged_model.specs.Named.{Shapes};
 ghost use Rattle.insn_codec.specs.declared.insn.Insn.{Insn};
 ghost use Rattle.reg_kinds.specs.declared.facts.Facts.{Facts};
 ghost use Rattle.reg_kinds.specs.declared.reason.Reason.{Reason};
 ghost use Rattle.reg_kinds.specs.declared.reason.Reason.TheVariants.{Memory};
 ghost use Rattle.transfer.specs.Effects.{effect};
-ghost use Rattle.transfer.specs.Sound.{EffectsCover, EffectsAreOfWords};
+ghost use Rattle.transfer.specs.Reasons.{TransferReasons};
+ghost use Rattle.transfer.specs.Sound.{TransferIsSound, TransferKeepsWellFormed, CallsAreSound};
 
 use interval::{edges_are_words, edges_keep_members, results_are_members, results_are_words};
-use tagged_model::{null_test_admits, stack_read_admits, stack_write_admits};
+use tagged_model::{
+    call_admits, map_calls_keep, map_change_admits, null_test_admits, object_read_admits,
+    object_write_admits, site_admits, stack_input_admits, stack_output_admits, stack_read_admits,
+    stack_write_admits, value_load_admits, value_store_admits,
+};
 
 /// Where facts admit a state and let an instruction be run, its step on tagged values is no fault, and the facts on one of
 /// its edges admit the state after it.
-pub fn effects_cover()
-    ensures { EffectsCover }
+pub fn transfer_is_sound()
+    ensures { TransferIsSound }
 {
     edges_are_words();
     edges_keep_members();
@@ -23,17 +29,50 @@ pub fn effects_cover()
     null_test_admits();
     stack_read_admits();
     stack_write_admits();
+    value_load_admits();
+    value_store_admits();
+    stack_input_admits();
+    stack_output_admits();
+    object_read_admits();
+    object_write_admits();
+    map_calls_keep();
+    map_change_admits();
+    call_admits();
+    site_admits();
 }
 
-/// The ranges that an instruction leaves end below 2^64, where those before it do.
-pub fn effects_are_of_words()
-    ensures { EffectsAreOfWords }
+/// The facts that an instruction leaves are facts before each later slot, where those before it are facts before its own:
+/// ranges end below 2^64, and look-ups were at slots below.
+pub fn transfer_keeps_well_formed()
+    ensures { TransferKeepsWellFormed }
 {
     edges_are_words();
     results_are_words();
 }
 
+/// An instruction is refused for an unknown function only where it calls one, for what is no map only where it loads one
+/// whose descriptor has no shape, and for no other reason of a program's shape.
+pub fn transfer_reasons()
+    ensures { TransferReasons }
+{}
+
 /// No instruction is refused for want of memory.
 pub fn effects_need_no_memory()
-    ensures { (i : Insn) (f : Facts) (reason : Reason) → effect i f ≡ Err reason → reason ≢ Memory }
-{}
+    ensures { (shapes : Shapes) (at : ℕ) (i : Insn) (f : Facts) (reason : Reason) → effect shapes at i f ≡ Err reason → reason ≢ Memory }
+{
+    transfer_reasons();
+}
+
+/// Where facts admit a state and let a call go ahead, it is no fault, and the facts after it admit the state after it.
+pub fn calls_are_sound()
+    ensures { CallsAreSound }
+{
+    stack_input_admits();
+    stack_output_admits();
+    object_read_admits();
+    object_write_admits();
+    map_calls_keep();
+    map_change_admits();
+    call_admits();
+    site_admits();
+}

@@ -4,9 +4,13 @@
 
 mod arithmetic;
 mod branches;
+mod calls;
 mod effects;
 mod laws;
 
 pub use branches::Flow;
 pub use effects::apply;
-pub use laws::{effects_are_of_words, effects_cover, effects_need_no_memory};
+pub use laws::{
+    calls_are_sound, effects_need_no_memory, transfer_is_sound, transfer_keeps_well_formed,
+    transfer_reasons,
+};

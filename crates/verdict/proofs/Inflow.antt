@@ -17,6 +17,7 @@ use Rattle.reg_kinds.specs.Join.{facts_join}
 use Rattle.reg_kinds.specs.Kinds.{entry, kind_at}
 use Rattle.reg_kinds.specs.Laws.{FactsCommute, FactsAssociate}
 use Rattle.tagged_model.specs.Cells.{also}
+use Rattle.tagged_model.specs.Named.{Shapes}
 use Rattle.transfer.specs.Arithmetic.{readable}
 use Rattle.transfer.specs.Branches.{Edges}
 use Rattle.transfer.specs.Effects.{effect, ends_with}
@@ -43,195 +44,197 @@ on_none : (b : Bool) → on b None ≡ None
 on_none true = refl
 on_none false = refl
 
--- ---- the edges out of an instruction
+-- by the shapes of the maps
+module _ (shapes : Shapes) where
+  -- ---- the edges out of an instruction
 
-no_fall : (b c : Bool) (o : Option Facts) → None ≡ o → on b o ≡ on (false && c) o
-no_fall b c o none = sym (ap (on b) none) ∙ on_none b
+  no_fall : (b c : Bool) (o : Option Facts) → None ≡ o → on b o ≡ on (false && c) o
+  no_fall b c o none = sym (ap (on b) none) ∙ on_none b
 
-end_falls : (k : Kind) → falling_of (ends_with k) ≡ None
-end_falls (Scalar r) = refl
-end_falls _ = refl
+  end_falls : (k : Kind) → falling_of (ends_with k) ≡ None
+  end_falls (Scalar r) = refl
+  end_falls _ = refl
 
-given_end_falls : (r : Result Kind Reason) → falling_of (given r ends_with) ≡ None
-given_end_falls (Ok k) = end_falls k
-given_end_falls (Err e) = refl
+  given_end_falls : (r : Result Kind Reason) → falling_of (given r ends_with) ≡ None
+  given_end_falls (Ok k) = end_falls k
+  given_end_falls (Err e) = refl
 
--- what does not fall has no falling edge
-fall_is : (i : Insn) (f : Facts) (b : Bool) → on b (falling_of (effect i f)) ≡ on (falls i && b) (falling_of (effect i f))
-fall_is (Ja off) f b = on_none b
-fall_is (Jal off) f b = on_none b
-fall_is Exit f b = no_fall b b (falling_of (effect Exit f)) (sym (given_end_falls (readable (kind_at f 0))))
-fall_is (Alu wide op dst src) f b = refl
-fall_is (Movsx m) f b = refl
-fall_is (Neg wide dst) f b = refl
-fall_is (End how kept dst) f b = refl
-fall_is (Jump wide cond dst src off) f b = refl
-fall_is (Call id) f b = refl
-fall_is (Load l) f b = refl
-fall_is (Store size dst src off) f b = refl
-fall_is (Const dst value) f b = refl
-fall_is (MapFd dst fd) f b = refl
+  -- what does not fall has no falling edge
+  fall_is : (at : ℕ) (i : Insn) (f : Facts) (b : Bool) → on b (falling_of (effect shapes at i f)) ≡ on (falls i && b) (falling_of (effect shapes at i f))
+  fall_is at (Ja off) f b = on_none b
+  fall_is at (Jal off) f b = on_none b
+  fall_is at Exit f b = no_fall b b (falling_of (effect shapes at Exit f)) (sym (given_end_falls (readable (kind_at f 0))))
+  fall_is at (Alu wide op dst src) f b = refl
+  fall_is at (Movsx m) f b = refl
+  fall_is at (Neg wide dst) f b = refl
+  fall_is at (End how kept dst) f b = refl
+  fall_is at (Jump wide cond dst src off) f b = refl
+  fall_is at (Call id) f b = refl
+  fall_is at (Load l) f b = refl
+  fall_is at (Store size dst src off) f b = refl
+  fall_is at (Const dst value) f b = refl
+  fall_is at (MapFd dst fd) f b = refl
 
--- what does not jump has no target
-target_is : (b : Bool) (o : Option ℕ) (n i : ℕ) → n < i → is_slot (if b then o else None) i ≡ (b && is_slot o i && nat_lt n i)
-target_is true o n i lt = sym (ap (λ (x : Bool). is_slot o i && x) (lt-ltb n i lt) ∙ and-true (is_slot o i))
-target_is false o n i lt = refl
+  -- what does not jump has no target
+  target_is : (b : Bool) (o : Option ℕ) (n i : ℕ) → n < i → is_slot (if b then o else None) i ≡ (b && is_slot o i && nat_lt n i)
+  target_is true o n i lt = sym (ap (λ (x : Bool). is_slot o i && x) (lt-ltb n i lt) ∙ and-true (is_slot o i))
+  target_is false o n i lt = refl
 
-neither : (b c : Bool) → joined (on b None) (on c None) ≡ None
-neither b c = ap (λ (x : Option Facts). joined x (on c None)) (on_none b) ∙ on_none c
+  neither : (b c : Bool) → joined (on b None) (on c None) ≡ None
+  neither b c = ap (λ (x : Option Facts). joined x (on c None)) (on_none b) ∙ on_none c
 
-both_edges : (insn : Insn) (n i : ℕ) (r : Result Edges Reason) → joined (on (falls_into insn n i) (falling_of r)) (on (jumps_into insn n i) (jumping_of r)) ≡ edges_into insn n i r
-both_edges insn n i (Ok edges) = refl
-both_edges insn n i (Err reason) = neither (falls_into insn n i) (jumps_into insn n i)
+  both_edges : (insn : Insn) (n i : ℕ) (r : Result Edges Reason) → joined (on (falls_into insn n i) (falling_of r)) (on (jumps_into insn n i) (jumping_of r)) ≡ edges_into insn n i r
+  both_edges insn n i (Ok edges) = refl
+  both_edges insn n i (Err reason) = neither (falls_into insn n i) (jumps_into insn n i)
 
--- the edges as the pass sends them
-edges_are : (insn : Insn) (n i : ℕ) → n < i → (here : Option Facts) → joined (on (falls_to insn n == i) (falling_from insn here)) (on (is_slot (jump_target insn n) i) (jumping_from insn here)) ≡ also here (λ f. edges_into insn n i (effect insn f))
-edges_are insn n i lt None = neither (falls_to insn n == i) (is_slot (jump_target insn n) i)
-edges_are insn n i lt (Some f) =
-    ap (λ (x : Option Facts). joined x (on (is_slot (jump_target insn n) i) (jumping_of (effect insn f)))) (fall_is insn f (falls_to insn n == i))
-    ∙ ap (λ (b : Bool). joined (on (falls_into insn n i) (falling_of (effect insn f))) (on b (jumping_of (effect insn f)))) (target_is (jumps insn) (jumps_to insn n) n i lt)
-    ∙ both_edges insn n i (effect insn f)
+  -- the edges as the pass sends them
+  edges_are : (insn : Insn) (n i : ℕ) → n < i → (here : Option Facts) → joined (on (falls_to insn n == i) (falling_from shapes n insn here)) (on (is_slot (jump_target insn n) i) (jumping_from shapes n insn here)) ≡ also here (λ f. edges_into insn n i (effect shapes n insn f))
+  edges_are insn n i lt None = neither (falls_to insn n == i) (is_slot (jump_target insn n) i)
+  edges_are insn n i lt (Some f) =
+      ap (λ (x : Option Facts). joined x (on (is_slot (jump_target insn n) i) (jumping_of (effect shapes n insn f)))) (fall_is n insn f (falls_to insn n == i))
+      ∙ ap (λ (b : Bool). joined (on (falls_into insn n i) (falling_of (effect shapes n insn f))) (on b (jumping_of (effect shapes n insn f)))) (target_is (jumps insn) (jumps_to insn n) n i lt)
+      ∙ both_edges insn n i (effect shapes n insn f)
 
--- ---- what is in hand before a slot, and what is kept for those ahead
+  -- ---- what is in hand before a slot, and what is kept for those ahead
 
--- the facts in hand are due at the next instruction; with them the entry of each slot ahead is what the slots below send
-pub record IsBefore (code : List Insn) (slot : ℕ) (falling : Option Facts) (entries : List (Option Facts)) : Type 0 where
-  pub due : ℕ
-  pub ahead : slot ≤ due
-  pub adjoins : Adjoins code due
-  pub between : (k : ℕ) → slot ≤ k → k < due → begins_at code k ≡ None
-  pub long : length entries ≡ slot_count code
-  pub each : (i : ℕ) → slot ≤ i → i < slot_count code → joined (on (due == i) falling) (get_or entries i None) ≡ inflow code i slot
+  -- the facts in hand are due at the next instruction; with them the entry of each slot ahead is what the slots below send
+  pub record IsBefore (code : List Insn) (slot : ℕ) (falling : Option Facts) (entries : List (Option Facts)) : Type 0 where
+    pub due : ℕ
+    pub ahead : slot ≤ due
+    pub adjoins : Adjoins code due
+    pub between : (k : ℕ) → slot ≤ k → k < due → begins_at code k ≡ None
+    pub long : length entries ≡ slot_count code
+    pub each : (i : ℕ) → slot ≤ i → i < slot_count code → joined (on (due == i) falling) (get_or entries i None) ≡ inflow shapes code i slot
 
-begins_first : (code : List Insn) → 1 ≤ slot_count code → IsSome (begins_at code 0)
-unfolding begins_at
-begins_first [] some = absurd (omega arith)
-begins_first (i ∷ is) some = refl
+  begins_first : (code : List Insn) → 1 ≤ slot_count code → IsSome (begins_at code 0)
+  unfolding begins_at
+  begins_first [] some = absurd (omega arith)
+  begins_first (i ∷ is) some = refl
 
-inflow_first : (code : List Insn) (i : ℕ) → inflow code i 0 ≡ (if i == 0 then Some entry else None)
-unfolding inflow
-inflow_first code i = refl
+  inflow_first : (code : List Insn) (i : ℕ) → inflow shapes code i 0 ≡ (if i == 0 then Some entry else None)
+  unfolding inflow
+  inflow_first code i = refl
 
-inflow_next : (code : List Insn) (i n : ℕ) → inflow code i (n + 1) ≡ joined (inflow code i n) (sent code n i (inflow code n n))
-unfolding inflow
-inflow_next code i n = ap (λ (k : ℕ). inflow code i k) (add-one n)
+  inflow_next : (code : List Insn) (i n : ℕ) → inflow shapes code i (n + 1) ≡ joined (inflow shapes code i n) (sent shapes code n i (inflow shapes code n n))
+  unfolding inflow
+  inflow_next code i n = ap (λ (k : ℕ). inflow shapes code i k) (add-one n)
 
-pub at_start : (code : List Insn) → 1 ≤ slot_count code → IsBefore code 0 (Some entry) (replicate (slot_count code) None)
-at_start code some =
-    record {
-      due = 0;
-      ahead = omega arith;
-      adjoins = inr (omega arith, begins_first code some);
-      between = λ k above lt. absurd (omega arith);
-      long = length-replicate (slot_count code) None;
-      each = λ i above lt.
-          ap (joined (on (0 == i) (Some entry))) (get_or-replicate (slot_count code) i None None lt)
-          ∙ joined_none (on (0 == i) (Some entry))
-          ∙ elim (cases_eq i 0) [
-            | inl same ↦
-                ap (λ (b : Bool). on b (Some entry)) (eq-eqb 0 i (sym same)) ∙ sym (ap (λ (b : Bool). on b (Some entry)) (eq-eqb i 0 same))
-            | inr other ↦
-                ap (λ (b : Bool). on b (Some entry)) (ne_eqb 0 i (λ e. other (sym e))) ∙ sym (ap (λ (b : Bool). on b (Some entry)) (ne_eqb i 0 other))
-          ]
-          ∙ sym (inflow_first code i);
-    }
+  pub at_start : (code : List Insn) → 1 ≤ slot_count code → IsBefore code 0 (Some entry) (replicate (slot_count code) None)
+  at_start code some =
+      record {
+        due = 0;
+        ahead = omega arith;
+        adjoins = inr (omega arith, begins_first code some);
+        between = λ k above lt. absurd (omega arith);
+        long = length-replicate (slot_count code) None;
+        each = λ i above lt.
+            ap (joined (on (0 == i) (Some entry))) (get_or-replicate (slot_count code) i None None lt)
+            ∙ joined_none (on (0 == i) (Some entry))
+            ∙ elim (cases_eq i 0) [
+              | inl same ↦
+                  ap (λ (b : Bool). on b (Some entry)) (eq-eqb 0 i (sym same)) ∙ sym (ap (λ (b : Bool). on b (Some entry)) (eq-eqb i 0 same))
+              | inr other ↦
+                  ap (λ (b : Bool). on b (Some entry)) (ne_eqb 0 i (λ e. other (sym e))) ∙ sym (ap (λ (b : Bool). on b (Some entry)) (ne_eqb i 0 other))
+            ]
+            ∙ sym (inflow_first code i);
+      }
 
--- where an instruction begins, the facts in hand are due
-due_here : (code : List Insn) (slot : ℕ) (falling : Option Facts) (entries : List (Option Facts)) (b : IsBefore code slot falling entries) (insn : Insn) → begins_at code slot ≡ Some insn → b.due ≡ slot
-due_here code slot falling entries b insn begins =
-    elim (cases_order b.due slot) [
-      | inl same ↦ same
-      | inr (inl below) ↦ absurd (omega (arith, b.ahead))
-      | inr (inr above) ↦ absurd (not_both insn (sym begins ∙ b.between slot (omega arith) above))
-    ]
+  -- where an instruction begins, the facts in hand are due
+  due_here : (code : List Insn) (slot : ℕ) (falling : Option Facts) (entries : List (Option Facts)) (b : IsBefore code slot falling entries) (insn : Insn) → begins_at code slot ≡ Some insn → b.due ≡ slot
+  due_here code slot falling entries b insn begins =
+      elim (cases_order b.due slot) [
+        | inl same ↦ same
+        | inr (inl below) ↦ absurd (omega (arith, b.ahead))
+        | inr (inr above) ↦ absurd (not_both insn (sym begins ∙ b.between slot (omega arith) above))
+      ]
 
--- what is known before the instruction
-pub here_is : (code : List Insn) (slot : ℕ) (falling : Option Facts) (entries : List (Option Facts)) → IsBefore code slot falling entries → (insn : Insn) → begins_at code slot ≡ Some insn → slot < slot_count code → joined falling (get_or entries slot None) ≡ before code slot
-here_is code slot falling entries b insn begins lt =
-    sym (ap (λ (t : Bool). joined (on t falling) (get_or entries slot None)) (eq-eqb b.due slot (due_here code slot falling entries b insn begins)))
-    ∙ b.each slot (omega arith) lt
+  -- what is known before the instruction
+  pub here_is : (code : List Insn) (slot : ℕ) (falling : Option Facts) (entries : List (Option Facts)) → IsBefore code slot falling entries → (insn : Insn) → begins_at code slot ≡ Some insn → slot < slot_count code → joined falling (get_or entries slot None) ≡ before shapes code slot
+  here_is code slot falling entries b insn begins lt =
+      sym (ap (λ (t : Bool). joined (on t falling) (get_or entries slot None)) (eq-eqb b.due slot (due_here code slot falling entries b insn begins)))
+      ∙ b.each slot (omega arith) lt
 
-entry_is : (code : List Insn) (slot : ℕ) (falling : Option Facts) (entries : List (Option Facts)) (b : IsBefore code slot falling entries) → (i : ℕ) → slot ≤ i → i < slot_count code → (b.due ≡ i → ⊥) → get_or entries i None ≡ inflow code i slot
-entry_is code slot falling entries b i above lt other =
-    sym (ap (λ (t : Bool). joined (on t falling) (get_or entries i None)) (ne_eqb b.due i other)) ∙ b.each i above lt
+  entry_is : (code : List Insn) (slot : ℕ) (falling : Option Facts) (entries : List (Option Facts)) (b : IsBefore code slot falling entries) → (i : ℕ) → slot ≤ i → i < slot_count code → (b.due ≡ i → ⊥) → get_or entries i None ≡ inflow shapes code i slot
+  entry_is code slot falling entries b i above lt other =
+      sym (ap (λ (t : Bool). joined (on t falling) (get_or entries i None)) (ne_eqb b.due i other)) ∙ b.each i above lt
 
-sent_is : (code : List Insn) (n i : ℕ) (insn : Insn) (here : Option Facts) → begins_at code n ≡ Some insn → sent code n i here ≡ also here (λ f. edges_into insn n i (effect insn f))
-sent_is code n i insn None begins = refl
-sent_is code n i insn (Some f) begins = ap (λ (o : Option Insn). also o (λ insn. edges_into insn n i (effect insn f))) begins
+  sent_is : (code : List Insn) (n i : ℕ) (insn : Insn) (here : Option Facts) → begins_at code n ≡ Some insn → sent shapes code n i here ≡ also here (λ f. edges_into insn n i (effect shapes n insn f))
+  sent_is code n i insn None begins = refl
+  sent_is code n i insn (Some f) begins = ap (λ (o : Option Insn). also o (λ insn. edges_into insn n i (effect shapes n insn f))) begins
 
--- past an instruction that may be run
-pub after_insn : FactsCommute → FactsAssociate → (code : List Insn) → EachAdjoins code → (slot : ℕ) (falling new : Option Facts) (entries kept : List (Option Facts)) → IsBefore code slot falling entries → (insn : Insn) → begins_at code slot ≡ Some insn → slot < slot_count code
-    → (let here = joined falling (get_or entries slot None) in new ≡ falling_from insn here)
-    → (let here = joined falling (get_or entries slot None) in (i : ℕ) → slot < i → get_or kept i None ≡ joined (get_or entries i None) (on (is_slot (jump_target insn slot) i) (jumping_from insn here)))
-    → length kept ≡ length entries → IsBefore code (slot + 1) new kept
-after_insn comm assoc code adjoins slot falling new entries kept b insn begins lt fall jump long =
-    let here : Option Facts = joined falling (get_or entries slot None) in
-    let falling_edge : Option Facts = falling_from insn here in
-    let jumping_edge : Option Facts = jumping_from insn here in
-    let due = due_here code slot falling entries b insn begins in
-    record {
-      due = slot + length (slots insn);
-      ahead = omega (arith, some_slots insn);
-      adjoins = adjoins slot insn begins;
-      between = λ k above below. none_inside code slot insn begins k (omega arith) below;
-      long = long ∙ b.long;
-      each = λ i above within.
-          let old : get_or entries i None ≡ inflow code i slot = entry_is code slot falling entries b i (omega arith) within (λ e. omega arith) in
-          let known = here_is code slot falling entries b insn begins lt in
-          let fall_edge : Option Facts = on (falls_to insn slot == i) falling_edge in
-          let jump_edge : Option Facts = on (is_slot (jump_target insn slot) i) jumping_edge in
-          ap (λ (f : Option Facts). joined (on (falls_to insn slot == i) f) (get_or kept i None)) fall
-          ∙ ap (joined fall_edge) (jump i (omega arith))
-          ∙ joined_swap comm assoc fall_edge (get_or entries i None) jump_edge
-          ∙ ap (joined (get_or entries i None)) (edges_are insn slot i (omega arith) here)
-          ∙ ap (joined (get_or entries i None)) (sym (sent_is code slot i insn here begins))
-          ∙ ap (λ (f : Option Facts). joined f (sent code slot i here)) old
-          ∙ ap (λ (h : Option Facts). joined (inflow code i slot) (sent code slot i h)) known
-          ∙ sym (inflow_next code i slot);
-    }
+  -- past an instruction that may be run
+  pub after_insn : FactsCommute → FactsAssociate → (code : List Insn) → EachAdjoins code → (slot : ℕ) (falling new : Option Facts) (entries kept : List (Option Facts)) → IsBefore code slot falling entries → (insn : Insn) → begins_at code slot ≡ Some insn → slot < slot_count code
+      → (let here = joined falling (get_or entries slot None) in new ≡ falling_from shapes slot insn here)
+      → (let here = joined falling (get_or entries slot None) in (i : ℕ) → slot < i → get_or kept i None ≡ joined (get_or entries i None) (on (is_slot (jump_target insn slot) i) (jumping_from shapes slot insn here)))
+      → length kept ≡ length entries → IsBefore code (slot + 1) new kept
+  after_insn comm assoc code adjoins slot falling new entries kept b insn begins lt fall jump long =
+      let here : Option Facts = joined falling (get_or entries slot None) in
+      let falling_edge : Option Facts = falling_from shapes slot insn here in
+      let jumping_edge : Option Facts = jumping_from shapes slot insn here in
+      let due = due_here code slot falling entries b insn begins in
+      record {
+        due = slot + length (slots insn);
+        ahead = omega (arith, some_slots insn);
+        adjoins = adjoins slot insn begins;
+        between = λ k above below. none_inside code slot insn begins k (omega arith) below;
+        long = long ∙ b.long;
+        each = λ i above within.
+            let old : get_or entries i None ≡ inflow shapes code i slot = entry_is code slot falling entries b i (omega arith) within (λ e. omega arith) in
+            let known = here_is code slot falling entries b insn begins lt in
+            let fall_edge : Option Facts = on (falls_to insn slot == i) falling_edge in
+            let jump_edge : Option Facts = on (is_slot (jump_target insn slot) i) jumping_edge in
+            ap (λ (f : Option Facts). joined (on (falls_to insn slot == i) f) (get_or kept i None)) fall
+            ∙ ap (joined fall_edge) (jump i (omega arith))
+            ∙ joined_swap comm assoc fall_edge (get_or entries i None) jump_edge
+            ∙ ap (joined (get_or entries i None)) (edges_are insn slot i (omega arith) here)
+            ∙ ap (joined (get_or entries i None)) (sym (sent_is code slot i insn here begins))
+            ∙ ap (λ (f : Option Facts). joined f (sent shapes code slot i here)) old
+            ∙ ap (λ (h : Option Facts). joined (inflow shapes code i slot) (sent shapes code slot i h)) known
+            ∙ sym (inflow_next code i slot);
+      }
 
-sent_none : (code : List Insn) (n i : ℕ) (here : Option Facts) → begins_at code n ≡ None → sent code n i here ≡ None
-sent_none code n i None none = refl
-sent_none code n i (Some f) none = ap (λ (o : Option Insn). also o (λ insn. edges_into insn n i (effect insn f))) none
+  sent_none : (code : List Insn) (n i : ℕ) (here : Option Facts) → begins_at code n ≡ None → sent shapes code n i here ≡ None
+  sent_none code n i None none = refl
+  sent_none code n i (Some f) none = ap (λ (o : Option Insn). also o (λ insn. edges_into insn n i (effect shapes n insn f))) none
 
-not_first : (code : List Insn) (slot : ℕ) → Adjoins code slot → slot < slot_count code → begins_at code slot ≡ None → ⊥
-not_first code slot (inl end) lt none = omega arith
-not_first code slot (inr more) lt none = false≢true (sym (ap is_some none) ∙ more.1)
+  not_first : (code : List Insn) (slot : ℕ) → Adjoins code slot → slot < slot_count code → begins_at code slot ≡ None → ⊥
+  not_first code slot (inl end) lt none = omega arith
+  not_first code slot (inr more) lt none = false≢true (sym (ap is_some none) ∙ more.1)
 
--- past a slot where no instruction begins
-pub after_none : (code : List Insn) (slot : ℕ) (falling : Option Facts) (entries : List (Option Facts)) → IsBefore code slot falling entries → begins_at code slot ≡ None → slot < slot_count code → IsBefore code (slot + 1) falling entries
-after_none code slot falling entries b none lt =
-    let later : b.due ≡ slot → ⊥ = λ e. not_first code slot (subst (λ (n : ℕ). Adjoins code n) e b.adjoins) lt none in
-    record {
-      due = b.due;
-      ahead = omega (arith, b.ahead, later);
-      adjoins = b.adjoins;
-      between = λ k above below. b.between k (omega arith) below;
-      long = b.long;
-      each = λ i above within.
-          b.each i (omega arith) within
-          ∙ sym (joined_none (inflow code i slot))
-          ∙ sym (ap (joined (inflow code i slot)) (sent_none code slot i (inflow code slot slot) none))
-          ∙ sym (inflow_next code i slot);
-    }
+  -- past a slot where no instruction begins
+  pub after_none : (code : List Insn) (slot : ℕ) (falling : Option Facts) (entries : List (Option Facts)) → IsBefore code slot falling entries → begins_at code slot ≡ None → slot < slot_count code → IsBefore code (slot + 1) falling entries
+  after_none code slot falling entries b none lt =
+      let later : b.due ≡ slot → ⊥ = λ e. not_first code slot (subst (λ (n : ℕ). Adjoins code n) e b.adjoins) lt none in
+      record {
+        due = b.due;
+        ahead = omega (arith, b.ahead, later);
+        adjoins = b.adjoins;
+        between = λ k above below. b.between k (omega arith) below;
+        long = b.long;
+        each = λ i above within.
+            b.each i (omega arith) within
+            ∙ sym (joined_none (inflow shapes code i slot))
+            ∙ sym (ap (joined (inflow shapes code i slot)) (sent_none code slot i (inflow shapes code slot slot) none))
+            ∙ sym (inflow_next code i slot);
+      }
 
--- ---- the fault at a slot
+  -- ---- the fault at a slot
 
-pub safety_is : (code : List Insn) (slot : ℕ) (insn : Insn) (here : Option Facts) (r : Option Reason) → here ≡ before code slot → begins_at code slot ≡ Some insn → reason_from insn here ≡ r → safety_fault code slot ≡ r
-unfolding safety_fault
-safety_is code slot insn here r known begins is =
-    ap (λ (h : Option Facts). also h (λ f. also (begins_at code slot) (λ i. reason_of (effect i f)))) (sym known)
-    ∙ ap (λ (o : Option Insn). also here (λ f. also o (λ i. reason_of (effect i f)))) begins
-    ∙ is
+  pub safety_is : (code : List Insn) (slot : ℕ) (insn : Insn) (here : Option Facts) (r : Option Reason) → here ≡ before shapes code slot → begins_at code slot ≡ Some insn → reason_from shapes slot insn here ≡ r → safety_fault shapes code slot ≡ r
+  unfolding safety_fault
+  safety_is code slot insn here r known begins is =
+      ap (λ (h : Option Facts). also h (λ f. also (begins_at code slot) (λ i. reason_of (effect shapes slot i f)))) (sym known)
+      ∙ ap (λ (o : Option Insn). also here (λ f. also o (λ i. reason_of (effect shapes slot i f)))) begins
+      ∙ is
 
-no_reason : (here : Option Facts) (o : Option Insn) → o ≡ None → also here (λ f. also o (λ i. reason_of (effect i f))) ≡ None
-no_reason None o none = refl
-no_reason (Some f) o none = ap (λ (x : Option Insn). also x (λ i. reason_of (effect i f))) none
+  no_reason : (slot : ℕ) (here : Option Facts) (o : Option Insn) → o ≡ None → also here (λ f. also o (λ i. reason_of (effect shapes slot i f))) ≡ None
+  no_reason slot None o none = refl
+  no_reason slot (Some f) o none = ap (λ (x : Option Insn). also x (λ i. reason_of (effect shapes slot i f))) none
 
-pub safe_none : (code : List Insn) (slot : ℕ) → begins_at code slot ≡ None → safety_fault code slot ≡ None
-unfolding safety_fault
-safe_none code slot none = no_reason (before code slot) (begins_at code slot) none
+  pub safe_none : (code : List Insn) (slot : ℕ) → begins_at code slot ≡ None → safety_fault shapes code slot ≡ None
+  unfolding safety_fault
+  safe_none code slot none = no_reason slot (before shapes code slot) (begins_at code slot) none
 
-pub first_at : (fault_at : ℕ → Option Reason) (n slot : ℕ) (reason : Reason) → n ≡ slot → fault_at slot ≡ Some reason → ((k : ℕ) → k < slot → fault_at k ≡ None) → IsFirst fault_at n reason
-first_at fault_at n slot reason same is below =
-    record { here = ap fault_at same ∙ is; below = λ k lt. below k (omega arith) }
+  pub first_at : (fault_at : ℕ → Option Reason) (n slot : ℕ) (reason : Reason) → n ≡ slot → fault_at slot ≡ Some reason → ((k : ℕ) → k < slot → fault_at k ≡ None) → IsFirst fault_at n reason
+  first_at fault_at n slot reason same is below =
+      record { here = ap fault_at same ∙ is; below = λ k lt. below k (omega arith) }

@@ -5,6 +5,7 @@ use Rattle.insn_codec.specs.declared.insn.Insn.{Insn}
 use Rattle.reg_kinds.specs.declared.reason.Reason.{Reason}
 use Rattle.tagged_model.specs.declared.shape.Named.{Named}
 use Rattle.verdict.specs.Shape.{shape_fault}
+use Rattle.verdict.specs.Maps.{shapes_of}
 use Rattle.verdict.specs.Verdict.{IsFirst, HasNone, IsAccepted, IsRefused, safety_fault}
 
 not_both : (o : Option Reason) (a : Reason) → o ≡ Some a → o ≡ None → ⊥
@@ -28,8 +29,8 @@ pub one_verdict : (code : List Insn) (named : List Named) (m n : ℕ) (a b : Rea
 one_verdict code named m n a b (inl p) (inl q) = one_first (shape_fault code named) m n a b p q
 one_verdict code named m n a b (inl p) (inr q) = absurd (no_first (shape_fault code named) m a q.0 p)
 one_verdict code named m n a b (inr p) (inl q) = absurd (no_first (shape_fault code named) n b p.0 q)
-one_verdict code named m n a b (inr p) (inr q) = one_first (safety_fault code) m n a b p.1 q.1
+one_verdict code named m n a b (inr p) (inr q) = one_first (safety_fault (shapes_of code named) code) m n a b p.1 q.1
 
 pub not_refused : (code : List Insn) (named : List Named) (slot : ℕ) (reason : Reason) → IsAccepted code named → IsRefused code named slot reason → ⊥
 not_refused code named slot reason accepted (inl p) = no_first (shape_fault code named) slot reason accepted.0 p
-not_refused code named slot reason accepted (inr p) = no_first (safety_fault code) slot reason accepted.1 p.1
+not_refused code named slot reason accepted (inr p) = no_first (safety_fault (shapes_of code named) code) slot reason accepted.1 p.1

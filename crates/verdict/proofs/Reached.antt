@@ -9,7 +9,7 @@ use Rattle.reg_kinds.specs.declared.reason.Reason.{Reason}
 use Rattle.reg_kinds.specs.declared.reason.Reason.TheVariants.{JumpOutside, JumpBackward, FallsOff, Unreachable, UnknownHelper, FramePointerWritten, DescriptorNotOpen, DescriptorNotMap}
 use Rattle.tagged_model.specs.declared.shape.Named.{Named}
 use Rattle.transfer.specs.Sound.{falls_to, jumps_to}
-use Rattle.verdict.specs.Shape.{falls, jumps, jump_target, leads_into, leads_outside, leads_backward, reached_from, is_reachable, is_slot, is_call, written_register, descriptor, is_not_open, is_not_map, first_reason, shape_reason, shape_of, shape_fault, JumpsLand}
+use Rattle.verdict.specs.Shape.{falls, jumps, jump_target, leads_into, leads_outside, leads_backward, reached_from, is_reachable, is_slot, calls_unknown, written_register, descriptor, is_not_open, is_not_map, first_reason, shape_reason, shape_of, shape_fault, JumpsLand}
 use Rattle.verdict.specs.Verdict.{HasNone}
 use Rattle.verdict.proofs.Slots.{EachAdjoins, before_end}
 
@@ -47,33 +47,47 @@ told_early first second lines r is =
           ]
     ]
 
-pub record IsFine (code : List Insn) (i : Insn) (at : ℕ) : Type 0 where
+-- where it leads another instruction begins, it can be reached, and what it names is there
+pub record IsFine (code : List Insn) (named : List Named) (i : Insn) (at : ℕ) : Type 0 where
   pub inside : (jumps i && leads_outside code (jumps_to i at)) ≡ false
   pub forward : (jumps i && leads_backward (jumps_to i at) at) ≡ false
   pub goes_on : (falls i && nat_le (slot_count code) (falls_to i at)) ≡ false
   pub reached : is_reachable code at ≡ true
+  pub known : calls_unknown i ≡ false
+  pub is_open : is_not_open named (descriptor i) ≡ false
+  pub map : is_not_map named (descriptor i) ≡ false
 
 not_not : (b : Bool) → not b ≡ false → b ≡ true
 not_not true e = refl
 not_not false e = sym e
 
-pub fine : (code : List Insn) (named : List Named) (i : Insn) (at : ℕ) → shape_reason code named i at ≡ None → IsFine code i at
+pub fine : (code : List Insn) (named : List Named) (i : Insn) (at : ℕ) → shape_reason code named i at ≡ None → IsFine code named i at
 fine code named i at none =
-    let later : List (Bool × Reason) =
-    (is_call i, UnknownHelper)
-    ∷ (is_slot (written_register i) 10, FramePointerWritten)
-    ∷ (is_not_open named (descriptor i), DescriptorNotOpen)
-    ∷ (is_not_map named (descriptor i), DescriptorNotMap)
-    ∷ [] in
+    let eighth : Bool × Reason = (is_not_map named (descriptor i), DescriptorNotMap) in
+    let seventh : Bool × Reason = (is_not_open named (descriptor i), DescriptorNotOpen) in
+    let sixth : Bool × Reason = (is_slot (written_register i) 10, FramePointerWritten) in
+    let fifth : Bool × Reason = (calls_unknown i, UnknownHelper) in
     let fourth : Bool × Reason = (not (is_reachable code at), Unreachable) in
     let third : Bool × Reason = (falls i && nat_le (slot_count code) (falls_to i at), FallsOff) in
     let second : Bool × Reason = (jumps i && leads_backward (jumps_to i at) at, JumpBackward) in
     let first : Bool × Reason = (jumps i && leads_outside code (jumps_to i at), JumpOutside) in
-    let one = passed first (second ∷ third ∷ fourth ∷ later) none in
-    let two = passed second (third ∷ fourth ∷ later) one.1 in
-    let three = passed third (fourth ∷ later) two.1 in
-    let four = passed fourth later three.1 in
-    record { inside = one.0; forward = two.0; goes_on = three.0; reached = not_not (is_reachable code at) four.0 }
+    let one = passed first (second ∷ third ∷ fourth ∷ fifth ∷ sixth ∷ seventh ∷ eighth ∷ []) none in
+    let two = passed second (third ∷ fourth ∷ fifth ∷ sixth ∷ seventh ∷ eighth ∷ []) one.1 in
+    let three = passed third (fourth ∷ fifth ∷ sixth ∷ seventh ∷ eighth ∷ []) two.1 in
+    let four = passed fourth (fifth ∷ sixth ∷ seventh ∷ eighth ∷ []) three.1 in
+    let five = passed fifth (sixth ∷ seventh ∷ eighth ∷ []) four.1 in
+    let six = passed sixth (seventh ∷ eighth ∷ []) five.1 in
+    let seven = passed seventh (eighth ∷ []) six.1 in
+    let eight = passed eighth [] seven.1 in
+    record {
+      inside = one.0;
+      forward = two.0;
+      goes_on = three.0;
+      reached = not_not (is_reachable code at) four.0;
+      known = five.0;
+      is_open = seven.0;
+      map = eight.0;
+    }
 
 first_within : (code : List Insn) → EachAdjoins code → (n : ℕ) (o : Option Insn) → begins_at code n ≡ o → is_some o ≡ true → n < slot_count code
 first_within code adjoins n None is some = absurd (false≢true some)
@@ -85,8 +99,8 @@ within code adjoins true None inside = tt
 within code adjoins true (Some n) inside = first_within code adjoins n (begins_at code n) refl (not_not (is_some (begins_at code n)) inside)
 
 -- a jump leads to a slot of the program
-pub jump_lands : (code : List Insn) → EachAdjoins code → (i : Insn) (at : ℕ) → IsFine code i at → IfSome (jump_target i at) (λ to. to < slot_count code)
-jump_lands code adjoins i at is_fine = within code adjoins (jumps i) (jumps_to i at) is_fine.inside
+pub jump_lands : (code : List Insn) (named : List Named) → EachAdjoins code → (i : Insn) (at : ℕ) → IsFine code named i at → IfSome (jump_target i at) (λ to. to < slot_count code)
+jump_lands code named adjoins i at is_fine = within code adjoins (jumps i) (jumps_to i at) is_fine.inside
 
 -- ---- what can be reached
 
@@ -140,8 +154,12 @@ pub shape_is : (code : List Insn) (named : List Named) (at : ℕ) (o : Option In
 unfolding shape_fault
 shape_is code named at o r begins is = sym (is ∙ ap (shape_of code named at) begins)
 
--- where no slot has a fault, each jump leads to a slot of the program
-pub each_lands : (code : List Insn) (named : List Named) → EachAdjoins code → HasNone (shape_fault code named) → JumpsLand code
-unfolding shape_fault
-each_lands code named adjoins none n i begins =
-    jump_lands code adjoins i n (fine code named i n (sym (ap (shape_of code named n) begins) ∙ none n))
+-- where no slot has a fault
+module _ (code : List Insn) (named : List Named) (none : HasNone (shape_fault code named)) where
+  pub fine_at : (n : ℕ) (i : Insn) → begins_at code n ≡ Some i → IsFine code named i n
+  unfolding shape_fault
+  fine_at n i begins = fine code named i n (sym (ap (shape_of code named n) begins) ∙ none n)
+
+  -- each jump leads to a slot of the program
+  pub each_lands : EachAdjoins code → JumpsLand code
+  each_lands adjoins n i begins = jump_lands code named adjoins i n (fine_at n i begins)

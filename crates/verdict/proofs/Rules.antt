@@ -9,6 +9,8 @@ use Rattle.reg_kinds.specs.declared.reason.Reason.{Reason}
 use Rattle.reg_kinds.specs.declared.reason.Reason.TheVariants.{JumpOutside, JumpBackward, FallsOff, Unreachable, UnknownHelper, FramePointerWritten, DescriptorNotOpen, DescriptorNotMap, Memory}
 use Rattle.tagged_model.specs.declared.shape.Named.{Named}
 use Rattle.tagged_model.specs.Cells.{also}
+use Rattle.tagged_model.specs.Named.{Shapes}
+use Rattle.verdict.specs.Maps.{shapes_of}
 use Rattle.transfer.specs.Branches.{Edges}
 use Rattle.transfer.specs.Effects.{effect}
 use Rattle.verdict.specs.Shape.{shape_of, shape_fault}
@@ -26,7 +28,7 @@ ByRule told = (reason : Reason) → told ≡ Some reason → reason ≢ Memory
 
 -- what the transfer of facts says of itself
 abbrev EffectsNeedNone : Type 0
-EffectsNeedNone = (i : Insn) (f : Facts) (reason : Reason) → effect i f ≡ Err reason → reason ≢ Memory
+EffectsNeedNone = (shapes : Shapes) (at : ℕ) (i : Insn) (f : Facts) (reason : Reason) → effect shapes at i f ≡ Err reason → reason ≢ Memory
 
 rule_is_other : (reason : Reason) → IsRule reason → reason ≢ Memory
 rule_is_other reason h same = subst IsRule same h
@@ -61,22 +63,23 @@ shape_rule code named slot = shape_of_rule code named slot (begins_at code slot)
 -- ---- safety
 
 module _ (effects : EffectsNeedNone) where
-  effect_rule : (i : Insn) (f : Facts) (r : Result Edges Reason) → effect i f ≡ r → ByRule (reason_of r)
-  effect_rule i f (Ok edges) e reason same = by_none reason same
-  effect_rule i f (Err told) e reason same = effects i f reason (let z : effect i f ≡ Err reason = cc in z)
+  module _ (shapes : Shapes) where
+    effect_rule : (at : ℕ) (i : Insn) (f : Facts) (r : Result Edges Reason) → effect shapes at i f ≡ r → ByRule (reason_of r)
+    effect_rule at i f (Ok edges) e reason same = by_none reason same
+    effect_rule at i f (Err told) e reason same = effects shapes at i f reason (let z : effect shapes at i f ≡ Err reason = cc in z)
 
-  insn_rule : (f : Facts) (o : Option Insn) → ByRule (also o (λ i. reason_of (effect i f)))
-  insn_rule f None = by_none
-  insn_rule f (Some i) = effect_rule i f (effect i f) refl
+    insn_rule : (at : ℕ) (f : Facts) (o : Option Insn) → ByRule (also o (λ i. reason_of (effect shapes at i f)))
+    insn_rule at f None = by_none
+    insn_rule at f (Some i) = effect_rule at i f (effect shapes at i f) refl
 
-  facts_rule : (known : Option Facts) (o : Option Insn) → ByRule (also known (λ f. also o (λ i. reason_of (effect i f))))
-  facts_rule None o = by_none
-  facts_rule (Some f) o = insn_rule f o
+    facts_rule : (at : ℕ) (known : Option Facts) (o : Option Insn) → ByRule (also known (λ f. also o (λ i. reason_of (effect shapes at i f))))
+    facts_rule at None o = by_none
+    facts_rule at (Some f) o = insn_rule at f o
 
-  safety_rule : (code : List Insn) (slot : ℕ) → ByRule (safety_fault code slot)
-  unfolding safety_fault
-  safety_rule code slot = facts_rule (before code slot) (begins_at code slot)
+    safety_rule : (code : List Insn) (slot : ℕ) → ByRule (safety_fault shapes code slot)
+    unfolding safety_fault
+    safety_rule code slot = facts_rule slot (before shapes code slot) (begins_at code slot)
 
   pub not_for_memory : (code : List Insn) (named : List Named) (slot : ℕ) (reason : Reason) → IsRefused code named slot reason → reason ≢ Memory
   not_for_memory code named slot reason (inl first) = shape_rule code named slot reason first.here
-  not_for_memory code named slot reason (inr later) = safety_rule code slot reason later.1.here
+  not_for_memory code named slot reason (inr later) = safety_rule (shapes_of code named) code slot reason later.1.here

@@ -8,6 +8,7 @@ use Rattle.reg_kinds.specs.declared.reason.Reason.{Reason}
 use Rattle.reg_kinds.specs.Join.{facts_join}
 use Rattle.reg_kinds.specs.Kinds.{entry}
 use Rattle.tagged_model.specs.Cells.{also}
+use Rattle.tagged_model.specs.Named.{Shapes}
 use Rattle.transfer.specs.Branches.{Edges}
 use Rattle.transfer.specs.Effects.{effect}
 use Rattle.verdict.specs.Shape.{falls_into, jumps_into}
@@ -31,12 +32,12 @@ abbrev pub jumping_of : Result Edges Reason → Option Facts
 jumping_of (Err reason) = None
 jumping_of (Ok edges) = edges.jumping
 
--- the same from what is known before the instruction, which may be nothing
-abbrev pub falling_from : Insn → Option Facts → Option Facts
-falling_from insn known = also known (λ f. falling_of (effect insn f))
+-- the same from what is known before the instruction at slot n, which may be nothing
+abbrev pub falling_from : Shapes → ℕ → Insn → Option Facts → Option Facts
+falling_from shapes n insn known = also known (λ f. falling_of (effect shapes n insn f))
 
-abbrev pub jumping_from : Insn → Option Facts → Option Facts
-jumping_from insn known = also known (λ f. jumping_of (effect insn f))
+abbrev pub jumping_from : Shapes → ℕ → Insn → Option Facts → Option Facts
+jumping_from shapes n insn known = also known (λ f. jumping_of (effect shapes n insn f))
 
 -- nothing goes on from an instruction that may not be run
 abbrev pub edges_into : Insn → ℕ → ℕ → Result Edges Reason → Option Facts
@@ -44,13 +45,13 @@ edges_into insn n i (Err reason) = None
 edges_into insn n i (Ok edges) = joined (on (falls_into insn n i) edges.falling) (on (jumps_into insn n i) edges.jumping)
 
 -- the facts that slot n sends to slot i, from those before it
-abbrev pub sent : List Insn → ℕ → ℕ → Option Facts → Option Facts
-sent code n i before = also before (λ f. also (begins_at code n) (λ insn. edges_into insn n i (effect insn f)))
+abbrev pub sent : Shapes → List Insn → ℕ → ℕ → Option Facts → Option Facts
+sent shapes code n i before = also before (λ f. also (begins_at code n) (λ insn. edges_into insn n i (effect shapes n insn f)))
 
 -- the join of the facts that the slots below n send to slot i
-unfoldable pub inflow : List Insn → ℕ → ℕ → Option Facts
-inflow code i zero = if i == 0 then Some entry else None
-inflow code i (suc n) = joined (inflow code i n) (sent code n i (inflow code n n))
+unfoldable pub inflow : Shapes → List Insn → ℕ → ℕ → Option Facts
+inflow shapes code i zero = if i == 0 then Some entry else None
+inflow shapes code i (suc n) = joined (inflow shapes code i n) (sent shapes code n i (inflow shapes code n n))
 
-abbrev pub before : List Insn → ℕ → Option Facts
-before code i = inflow code i i
+abbrev pub before : Shapes → List Insn → ℕ → Option Facts
+before shapes code i = inflow shapes code i i

@@ -1,3 +1,5 @@
 pub mod Shape
+pub mod Maps
 pub mod Before
 pub mod Verdict
+pub mod Laws

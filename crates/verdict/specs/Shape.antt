@@ -11,6 +11,8 @@ use Rattle.reg_kinds.specs.declared.reason.Reason.TheVariants.{JumpOutside, Jump
 use Rattle.tagged_model.specs.declared.shape.Named.{Named}
 use Rattle.tagged_model.specs.declared.shape.Target.{Target}
 use Rattle.tagged_model.specs.declared.shape.Target.TheVariants as target
+use Rattle.tagged_model.specs.Named.{target_of}
+use Rattle.tagged_model.specs.Helpers.{helper_of}
 use Rattle.transfer.specs.Sound.{falls_to, jumps_to}
 
 -- ---- where an instruction leads
@@ -75,14 +77,10 @@ written_register (Const dst value) = Some dst
 written_register (MapFd dst fd) = Some dst
 written_register i = None
 
-abbrev pub is_call : Insn → Bool
-is_call (Call id) = true
-is_call i = false
-
--- what a descriptor names
-unfoldable pub target_of : List Named → ℕ → Option Target
-target_of [] fd = None
-target_of (n ∷ ns) fd = if n.fd == fd then Some n.target else target_of ns fd
+-- it calls a function that is not known
+abbrev pub calls_unknown : Insn → Bool
+calls_unknown (Call id) = not (is_some (helper_of id))
+calls_unknown i = false
 
 abbrev pub is_map : Target → Bool
 is_map (target.Map shape) = true
@@ -121,7 +119,7 @@ shape_reason code named i at = first_reason (
     ∷ (jumps i && leads_backward (jumps_to i at) at, JumpBackward)
     ∷ (falls i && nat_le (slot_count code) (falls_to i at), FallsOff)
     ∷ (not (is_reachable code at), Unreachable)
-    ∷ (is_call i, UnknownHelper)
+    ∷ (calls_unknown i, UnknownHelper)
     ∷ (is_slot (written_register i) 10, FramePointerWritten)
     ∷ (is_not_open named (descriptor i), DescriptorNotOpen)
     ∷ (is_not_map named (descriptor i), DescriptorNotMap)

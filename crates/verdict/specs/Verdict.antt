@@ -8,23 +8,25 @@ use Rattle.reg_kinds.specs.declared.reason.Reason.{Reason}
 use Rattle.reg_kinds.specs.declared.reason.Reason.TheVariants.{Memory}
 use Rattle.tagged_model.specs.declared.shape.Named.{Named}
 use Rattle.tagged_model.specs.Cells.{also}
+use Rattle.tagged_model.specs.Named.{Shapes}
 use Rattle.transfer.specs.Branches.{Edges}
 use Rattle.transfer.specs.Effects.{effect}
 use Rattle.verdict.specs.declared.fault.VerifyFault.{VerifyFault}
 use Rattle.verdict.specs.Shape.{shape_fault}
 use Rattle.verdict.specs.Before.{before}
+use Rattle.verdict.specs.Maps.{shapes_of}
 
 abbrev pub reason_of : Result Edges Reason → Option Reason
 reason_of (Ok edges) = None
 reason_of (Err reason) = Some reason
 
--- the first condition that fails of an instruction; none where nothing is known
-abbrev pub reason_from : Insn → Option Facts → Option Reason
-reason_from insn known = also known (λ f. reason_of (effect insn f))
+-- the first condition that fails of an instruction at slot n; none where nothing is known
+abbrev pub reason_from : Shapes → ℕ → Insn → Option Facts → Option Reason
+reason_from shapes n insn known = also known (λ f. reason_of (effect shapes n insn f))
 
 -- the first condition that fails at a slot; none where nothing is known to come there
-unfoldable pub safety_fault : List Insn → ℕ → Option Reason
-safety_fault code at = also (before code at) (λ f. also (begins_at code at) (λ i. reason_of (effect i f)))
+unfoldable pub safety_fault : Shapes → List Insn → ℕ → Option Reason
+safety_fault shapes code at = also (before shapes code at) (λ f. also (begins_at code at) (λ i. reason_of (effect shapes at i f)))
 
 -- the reason at a slot, and none at any slot below
 pub record IsFirst (fault_at : ℕ → Option Reason) (slot : ℕ) (reason : Reason) : Type 0 where
@@ -34,13 +36,13 @@ pub record IsFirst (fault_at : ℕ → Option Reason) (slot : ℕ) (reason : Rea
 abbrev pub HasNone : (ℕ → Option Reason) → Type 0
 HasNone fault_at = (n : ℕ) → fault_at n ≡ None
 
--- shape comes before safety
+-- shape comes before safety; the shapes of maps are those that the descriptors name
 abbrev pub IsRefused : List Insn → List Named → ℕ → Reason → Type 0
 IsRefused code named slot reason =
-    IsFirst (shape_fault code named) slot reason ⊎ (HasNone (shape_fault code named) × IsFirst (safety_fault code) slot reason)
+    IsFirst (shape_fault code named) slot reason ⊎ (HasNone (shape_fault code named) × IsFirst (safety_fault (shapes_of code named) code) slot reason)
 
 abbrev pub IsAccepted : List Insn → List Named → Type 0
-IsAccepted code named = HasNone (shape_fault code named) × HasNone (safety_fault code)
+IsAccepted code named = HasNone (shape_fault code named) × HasNone (safety_fault (shapes_of code named) code)
 
 -- there was no memory for the pass
 abbrev pub memory_fault : VerifyFault

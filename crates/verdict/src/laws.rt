@@ -5,9 +5,10 @@ ghost use Rattle.insn_codec.specs.declared.insn.Insn.{Insn};
 ghost use Rattle.reg_kinds.specs.declared.reason.Reason.{Reason};
 ghost use Rattle.reg_kinds.specs.declared.reason.Reason.TheVariants.{Memory};
 ghost use Rattle.tagged_model.specs.declared.shape.Named.{Named};
+ghost use Rattle.verdict.specs.Laws.{LoadedMapsHaveShapes, SafetyFollowsShape};
 ghost use Rattle.verdict.specs.Verdict.{IsAccepted, IsRefused};
 
-use transfer::effects_need_no_memory;
+use transfer::{effects_need_no_memory, transfer_reasons};
 
 /// A program is refused in one way: at one slot, for one reason.
 pub fn one_refusal()
@@ -25,3 +26,16 @@ pub fn refused_by_a_rule()
 {
     effects_need_no_memory();
 }
+
+/// In a program without a fault of its shape no instruction is refused for safety since it calls an unknown function, or
+/// loads what is no map: its shape has ruled both out.
+pub fn safety_follows_shape()
+    ensures { SafetyFollowsShape }
+{
+    transfer_reasons();
+}
+
+/// Each map that an accepted program loads has a shape.
+pub fn loaded_maps_have_shapes()
+    ensures { LoadedMapsHaveShapes }
+{}

@@ -9,10 +9,14 @@ mod entries;
 mod fault;
 mod judging;
 mod laws;
+mod maps;
 mod pass;
 mod shape;
 
 pub use fault::VerifyFault;
-pub use judging::judge;
-pub use laws::{accepted_is_not_refused, one_refusal, refused_by_a_rule};
+pub use judging::{Loaded, judge};
+pub use laws::{
+    accepted_is_not_refused, loaded_maps_have_shapes, one_refusal, refused_by_a_rule,
+    safety_follows_shape,
+};
 pub use shape::descriptor;

@@ -2,6 +2,7 @@
 
 ghost use Rattle.std.specs.Prelude.{◌≡◌, ◌⊎◌, ◌<◌, ◌≤◌, ℕ, Some, None, length, slice_index_or, IsSome, IfSome, IfErr, OnOk};
 ghost use Rattle.tagged_model.specs.Cells.{also};
+ghost use Rattle.tagged_model.specs.Named.{shapes_named};
 ghost use Rattle.transfer.specs.Flows.{edges_of};
 ghost use Rattle.verdict.specs.Before.{joined, on, falling_from, jumping_from};
 ghost use Rattle.verdict.specs.Shape.{is_slot, jump_target, JumpsLand};
@@ -13,6 +14,7 @@ use crate::fault::VerifyFault;
 use insn_codec::{Insn, MAX_SLOTS, Program};
 use reg_kinds::{Facts, joins_associate, joins_commute};
 use std::alloc::{AllocError, Global};
+use tagged_model::Named;
 use transfer::{Flow, apply};
 
 /// What is known while a program is walked through.
@@ -52,19 +54,19 @@ impl Pass {
 
     /// Goes on past the instruction at a slot, if it may be run with what is known there. Where nothing is known, no run
     /// comes there.
-    fn step(&mut self, insn: &Insn, slot: usize) -> Result<(), VerifyFault>
-        requires room { slot ≤ MAX_SLOTS }
+    fn step(&mut self, named: &[Named], insn: &Insn, slot: usize) -> Result<(), VerifyFault>
+        requires room { slot < MAX_SLOTS }
         requires within { slot < length self.old.entries }
         requires lands { IfSome (jump_target insn.now slot) (λ to. to < length self.old.entries) }
-        ensures ok { OnOk result (reason_from insn.now (joined self.old.falling (slice_index_or self.old.entries slot None)) ≡ None) }
-        ensures falling { OnOk result (self.new.falling ≡ falling_from insn.now (joined self.old.falling (slice_index_or self.old.entries slot None))) }
-        ensures sent { OnOk result ((i : ℕ) → slot < i → slice_index_or self.new.entries i None ≡ joined (slice_index_or self.old.entries i None) (on (is_slot (jump_target insn.now slot) i) (jumping_from insn.now (joined self.old.falling (slice_index_or self.old.entries slot None))))) }
+        ensures ok { OnOk result (reason_from (shapes_named named.now) slot insn.now (joined self.old.falling (slice_index_or self.old.entries slot None)) ≡ None) }
+        ensures falling { OnOk result (self.new.falling ≡ falling_from (shapes_named named.now) slot insn.now (joined self.old.falling (slice_index_or self.old.entries slot None))) }
+        ensures sent { OnOk result ((i : ℕ) → slot < i → slice_index_or self.new.entries i None ≡ joined (slice_index_or self.old.entries i None) (on (is_slot (jump_target insn.now slot) i) (jumping_from (shapes_named named.now) slot insn.now (joined self.old.falling (slice_index_or self.old.entries slot None))))) }
         ensures long { OnOk result (length self.new.entries ≡ length self.old.entries) }
-        ensures refused { IfErr result (λ e. (e ≡ memory_fault) ⊎ ((e.slot ≡ slot) × (reason_from insn.now (joined self.old.falling (slice_index_or self.old.entries slot None)) ≡ Some e.reason))) }
+        ensures refused { IfErr result (λ e. (e ≡ memory_fault) ⊎ ((e.slot ≡ slot) × (reason_from (shapes_named named.now) slot insn.now (joined self.old.falling (slice_index_or self.old.entries slot None)) ≡ Some e.reason))) }
     {
         self.entries.join_at(slot, &mut self.falling);
         if let Some(facts) = &mut self.falling {
-            match apply(facts, insn) {
+            match apply(facts, named, slot, insn) {
                 Ok(flow) => self.leave(&flow, jump_target(insn, slot))?,
                 Err(reason) => return Err(VerifyFault { slot, reason }),
             }
@@ -75,10 +77,14 @@ impl Pass {
 
 /// Looks for the first instruction that may not be run with what is known before it: one pass over the slots, with what is
 /// known by the falling edge in hand, and what jumps bring kept for the slots ahead.
-pub(crate) fn check_safety(alloc: Global, program: &Program) -> Result<(), VerifyFault>
+pub(crate) fn check_safety(
+    alloc: Global,
+    program: &Program,
+    named: &[Named],
+) -> Result<(), VerifyFault>
     requires { JumpsLand program.now }
-    ensures sound { OnOk result (HasNone (safety_fault program.now)) }
-    ensures refused { IfErr result (λ e. (e ≡ memory_fault) ⊎ IsFirst (safety_fault program.now) e.slot e.reason) }
+    ensures sound { OnOk result (HasNone (safety_fault (shapes_named named.now) program.now)) }
+    ensures refused { IfErr result (λ e. (e ≡ memory_fault) ⊎ IsFirst (safety_fault (shapes_named named.now) program.now) e.slot e.reason) }
 {
     program.insns_adjoin();
     joins_commute();
@@ -90,7 +96,7 @@ pub(crate) fn check_safety(alloc: Global, program: &Program) -> Result<(), Verif
     };
     for slot in 0..slots {
         if let Some(insn) = program.get(slot) {
-            pass.step(insn, slot)?;
+            pass.step(named, insn, slot)?;
         }
     }
     Ok(())

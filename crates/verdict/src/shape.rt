@@ -4,7 +4,7 @@ ghost use Rattle.std.specs.Prelude.{◌≡◌, ◌⊎◌, ◌+◌, ◌<◌, ◌�
 ghost use Rattle.insn_codec.specs.Program.{begins_at, slot_count};
 ghost use Rattle.reg_kinds.specs.declared.reason.Reason.TheVariants.{JumpOutside, JumpBackward, DescriptorNotOpen, DescriptorNotMap};
 ghost use Rattle.transfer.specs.Sound.{falls_to, jumps_to};
-ghost use Rattle.verdict.specs.Shape.{falls, jumps, jump_target, leads_into, is_reachable, is_slot, is_call, written_register, target_of, descriptor, is_not_open, is_not_map, leads_outside, leads_backward, first_reason, shape_reason, shape_fault, JumpsLand};
+ghost use Rattle.verdict.specs.Shape.{falls, jumps, jump_target, leads_into, is_reachable, is_slot, calls_unknown, written_register, descriptor, is_not_open, is_not_map, leads_outside, leads_backward, first_reason, shape_reason, shape_fault, JumpsLand};
 ghost use Rattle.verdict.specs.Verdict.{IsFirst, HasNone, memory_fault};
 
 use crate::edges::{falls, jump_target, jumps};
@@ -12,7 +12,7 @@ use crate::fault::VerifyFault;
 use insn_codec::{Insn, Load, MAX_SLOTS, Movsx, Program, Reg};
 use reg_kinds::Reason;
 use std::alloc::Global;
-use tagged_model::{Named, Target};
+use tagged_model::{Named, Target, known_helper, target_of};
 
 /// The frame pointer's number.
 const FRAME_POINTER: u8 = 10;
@@ -43,23 +43,14 @@ fn writes_frame_pointer(insn: &Insn) -> bool
     }
 }
 
-/// Whether it is a call.
-fn is_call(insn: &Insn) -> bool
-    ensures { result ≡ is_call insn.now }
+/// Whether it calls a function that is not known.
+fn calls_unknown(insn: &Insn) -> bool
+    ensures { result ≡ calls_unknown insn.now }
 {
-    matches!(insn, Insn::Call { .. })
-}
-
-/// What a descriptor names, if it is open.
-fn target_of(named: &[Named], fd: u32) -> Option<Target>
-    ensures { result ≡ target_of named.now fd }
-{
-    for entry in named {
-        if entry.fd == fd {
-            return Some(entry.target);
-        }
+    match *insn {
+        Insn::Call { id } => known_helper(id).is_none(),
+        _ => false,
     }
-    None
 }
 
 /// The descriptor that an instruction names: that of a load of a map.
@@ -117,7 +108,7 @@ fn shape_reason(
         Some(Reason::FallsOff)
     } else if !is_reached {
         Some(Reason::Unreachable)
-    } else if is_call(insn) {
+    } else if calls_unknown(insn) {
         Some(Reason::UnknownHelper)
     } else if writes_frame_pointer(insn) {
         Some(Reason::FramePointerWritten)

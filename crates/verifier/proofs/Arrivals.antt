@@ -8,16 +8,16 @@ use Rattle.reg_kinds.specs.declared.facts.Facts.{Facts}
 use Rattle.reg_kinds.specs.declared.reason.Reason.{Reason}
 use Rattle.reg_kinds.specs.Kinds.{entry}
 use Rattle.tagged_model.specs.declared.shape.Named.{Named}
-use Rattle.tagged_model.specs.declared.value.Tagged.{Tagged}
+use Rattle.tagged_model.specs.Named.{Shapes}
 use Rattle.tagged_model.specs.Cells.{also}
 use Rattle.tagged_model.specs.State.{State}
-use Rattle.tagged_model.specs.Admits.{AdmitsBy}
+use Rattle.tagged_model.specs.Admits.{Witness, AdmitsBy}
 use Rattle.tagged_model.specs.Laws.{JoinAdmits}
 use Rattle.transfer.specs.Branches.{Edges}
 use Rattle.transfer.specs.Effects.{effect}
-use Rattle.verdict.specs.Shape.{falls_into, jumps_into}
+use Rattle.verdict.specs.Shape.{falls_into, jumps_into, shape_fault}
 use Rattle.verdict.specs.Before.{joined, on, edges_into, sent, inflow, before}
-use Rattle.verdict.specs.Verdict.{IsAccepted}
+use Rattle.verdict.specs.Verdict.{HasNone}
 use Rattle.verifier.proofs.Slots.{begins_first}
 use Rattle.verifier.proofs.Edges.{AreThere}
 use Rattle.verifier.proofs.Leads.{IsShaped, shaped, falls_begins, jumps_begins}
@@ -31,9 +31,9 @@ either_there (Some f) b h = inl tt
 on_there : (leads : Bool) (o : Option Facts) → AreThere (on leads o) → leads ≡ true
 on_there leads o = cond_both leads o None (λ z. AreThere z → leads ≡ true) (λ t _. t) (λ _ h. absurd h)
 
-module _ (code : List Insn) (named : List Named) (program : IsProgram code) (accepted : IsAccepted code named) where
+module _ (shapes : Shapes) (code : List Insn) (named : List Named) (program : IsProgram code) (fine : HasNone (shape_fault code named)) where
   pub shape_at : (n : ℕ) (i : Insn) → begins_at code n ≡ Some i → IsShaped code i n
-  shape_at n i begins = shaped code named n i begins (accepted.0 n)
+  shape_at = shaped code named fine
 
   edges_begin : (n m : ℕ) (i : Insn) → begins_at code n ≡ Some i → (r : Result Edges Reason) → AreThere (edges_into i n m r) → IsSome (begins_at code m)
   edges_begin n m i begins (Err reason) h = absurd h
@@ -44,87 +44,87 @@ module _ (code : List Insn) (named : List Named) (program : IsProgram code) (acc
       (λ b. jumps_begins code n i shape m (on_there (jumps_into i n m) edges.jumping b))
       (either_there (on (falls_into i n m) edges.falling) (on (jumps_into i n m) edges.jumping) h)
 
-  begun_begin : (n m : ℕ) (f : Facts) (o : Option Insn) → begins_at code n ≡ o → AreThere (also o (λ i. edges_into i n m (effect i f))) → IsSome (begins_at code m)
+  begun_begin : (n m : ℕ) (f : Facts) (o : Option Insn) → begins_at code n ≡ o → AreThere (also o (λ i. edges_into i n m (effect shapes n i f))) → IsSome (begins_at code m)
   begun_begin n m f None e h = absurd h
-  begun_begin n m f (Some i) e h = edges_begin n m i e (effect i f) h
+  begun_begin n m f (Some i) e h = edges_begin n m i e (effect shapes n i f) h
 
-  sent_begin : (n m : ℕ) (before : Option Facts) → AreThere (sent code n m before) → IsSome (begins_at code m)
+  sent_begin : (n m : ℕ) (before : Option Facts) → AreThere (sent shapes code n m before) → IsSome (begins_at code m)
   sent_begin n m None h = absurd h
   sent_begin n m (Some f) h = begun_begin n m f (begins_at code n) refl h
 
   entry_begin : (m : ℕ) → m ≡ 0 → IsSome (begins_at code m)
   entry_begin m e = subst (λ n. IsSome (begins_at code n)) (sym e) (begins_first code program.some)
 
-  inflow_begin : (n m : ℕ) → AreThere (inflow code m n) → IsSome (begins_at code m)
+  inflow_begin : (n m : ℕ) → AreThere (inflow shapes code m n) → IsSome (begins_at code m)
   unfolding inflow
   inflow_begin zero m h = entry_begin m (eqb-true m 0 (on_there (m == 0) (Some entry) h))
   inflow_begin (suc n) m h =
       ⊎_elim
       (λ a. inflow_begin n m a)
-      (λ b. sent_begin n m (inflow code n n) b)
-      (either_there (inflow code m n) (sent code n m (inflow code n n)) h)
+      (λ b. sent_begin n m (inflow shapes code n n) b)
+      (either_there (inflow shapes code m n) (sent shapes code n m (inflow shapes code n n)) h)
 
-  pub begins_before : (n : ℕ) (f : Facts) → before code n ≡ Some f → IsSome (begins_at code n)
+  pub begins_before : (n : ℕ) (f : Facts) → before shapes code n ≡ Some f → IsSome (begins_at code n)
   begins_before n f e = inflow_begin n n (subst AreThere (sym e) tt)
 
 -- ---- facts that are there, and admit a state
 
-abbrev pub AdmitOn : (ℕ → Tagged) → Option Facts → State → Type 0
-AdmitOn gave None s = ⊥
-AdmitOn gave (Some f) s = AdmitsBy gave f s
+abbrev pub AdmitOn : Witness → Option Facts → State → Type 0
+AdmitOn witness None s = ⊥
+AdmitOn witness (Some f) s = AdmitsBy witness f s
 
-pub are_there : (gave : ℕ → Tagged) (o : Option Facts) (s : State) → AdmitOn gave o s → AreThere o
-are_there gave None s h = h
-are_there gave (Some f) s h = tt
+pub are_there : (witness : Witness) (o : Option Facts) (s : State) → AdmitOn witness o s → AreThere o
+are_there witness None s h = h
+are_there witness (Some f) s h = tt
 
-on_edge : (gave : ℕ → Tagged) (leads : Bool) (o : Option Facts) (s : State) → leads ≡ true → AdmitOn gave o s → AdmitOn gave (on leads o) s
-on_edge gave leads o s t h = subst (λ o. AdmitOn gave o s) (sym (cond-true leads o None t)) h
+on_edge : (witness : Witness) (leads : Bool) (o : Option Facts) (s : State) → leads ≡ true → AdmitOn witness o s → AdmitOn witness (on leads o) s
+on_edge witness leads o s t h = subst (λ o. AdmitOn witness o s) (sym (cond-true leads o None t)) h
 
-module _ (law : JoinAdmits) (gave : ℕ → Tagged) (s : State) where
-  joined_left : (a b : Option Facts) → AdmitOn gave a s → AdmitOn gave (joined a b) s
+module _ (law : JoinAdmits) (witness : Witness) (s : State) where
+  joined_left : (a b : Option Facts) → AdmitOn witness a s → AdmitOn witness (joined a b) s
   joined_left None b h = absurd h
   joined_left (Some f) None h = h
-  joined_left (Some f) (Some g) h = law gave f g s (inl h)
+  joined_left (Some f) (Some g) h = law witness f g s (inl h)
 
-  joined_right : (a b : Option Facts) → AdmitOn gave b s → AdmitOn gave (joined a b) s
+  joined_right : (a b : Option Facts) → AdmitOn witness b s → AdmitOn witness (joined a b) s
   joined_right None b h = h
   joined_right (Some f) None h = absurd h
-  joined_right (Some f) (Some g) h = law gave f g s (inr h)
+  joined_right (Some f) (Some g) h = law witness f g s (inr h)
 
   -- ---- from an edge to the facts before a slot
 
-  pub fallen : (i : Insn) (n m : ℕ) (edges : Edges) → falls_into i n m ≡ true → AdmitOn gave edges.falling s → AdmitOn gave (edges_into i n m (Ok edges)) s
+  pub fallen : (i : Insn) (n m : ℕ) (edges : Edges) → falls_into i n m ≡ true → AdmitOn witness edges.falling s → AdmitOn witness (edges_into i n m (Ok edges)) s
   fallen i n m edges t h =
-      joined_left (on (falls_into i n m) edges.falling) (on (jumps_into i n m) edges.jumping) (on_edge gave (falls_into i n m) edges.falling s t h)
+      joined_left (on (falls_into i n m) edges.falling) (on (jumps_into i n m) edges.jumping) (on_edge witness (falls_into i n m) edges.falling s t h)
 
-  pub jumped : (i : Insn) (n m : ℕ) (edges : Edges) → jumps_into i n m ≡ true → AdmitOn gave edges.jumping s → AdmitOn gave (edges_into i n m (Ok edges)) s
+  pub jumped : (i : Insn) (n m : ℕ) (edges : Edges) → jumps_into i n m ≡ true → AdmitOn witness edges.jumping s → AdmitOn witness (edges_into i n m (Ok edges)) s
   jumped i n m edges t h =
-      joined_right (on (falls_into i n m) edges.falling) (on (jumps_into i n m) edges.jumping) (on_edge gave (jumps_into i n m) edges.jumping s t h)
+      joined_right (on (falls_into i n m) edges.falling) (on (jumps_into i n m) edges.jumping) (on_edge witness (jumps_into i n m) edges.jumping s t h)
 
-  module _ (code : List Insn) where
-    sent_is : (n m : ℕ) (i : Insn) (f : Facts) (edges : Edges) → begins_at code n ≡ Some i → before code n ≡ Some f → effect i f ≡ Ok edges → sent code n m (inflow code n n) ≡ edges_into i n m (Ok edges)
+  module _ (shapes : Shapes) (code : List Insn) where
+    sent_is : (n m : ℕ) (i : Insn) (f : Facts) (edges : Edges) → begins_at code n ≡ Some i → before shapes code n ≡ Some f → effect shapes n i f ≡ Ok edges → sent shapes code n m (inflow shapes code n n) ≡ edges_into i n m (Ok edges)
     sent_is n m i f edges begins known e =
-        ap (sent code n m) known
-        ∙ ap (λ o. also o (λ i. edges_into i n m (effect i f))) begins
+        ap (sent shapes code n m) known
+        ∙ ap (λ o. also o (λ i. edges_into i n m (effect shapes n i f))) begins
         ∙ ap (edges_into i n m) e
 
-    one_more : (n m : ℕ) → AdmitOn gave (inflow code m n) s → AdmitOn gave (inflow code m (suc n)) s
+    one_more : (n m : ℕ) → AdmitOn witness (inflow shapes code m n) s → AdmitOn witness (inflow shapes code m (suc n)) s
     unfolding inflow
-    one_more n m h = joined_left (inflow code m n) (sent code n m (inflow code n n)) h
+    one_more n m h = joined_left (inflow shapes code m n) (sent shapes code n m (inflow shapes code n n)) h
 
-    sent_more : (n m : ℕ) → AdmitOn gave (sent code n m (inflow code n n)) s → AdmitOn gave (inflow code m (suc n)) s
+    sent_more : (n m : ℕ) → AdmitOn witness (sent shapes code n m (inflow shapes code n n)) s → AdmitOn witness (inflow shapes code m (suc n)) s
     unfolding inflow
-    sent_more n m h = joined_right (inflow code m n) (sent code n m (inflow code n n)) h
+    sent_more n m h = joined_right (inflow shapes code m n) (sent shapes code n m (inflow shapes code n n)) h
 
-    stays : (d n m : ℕ) → AdmitOn gave (inflow code m n) s → AdmitOn gave (inflow code m (n + d)) s
-    stays zero n m h = let e : n ≡ n + 0 = omega arith in subst (λ k. AdmitOn gave (inflow code m k) s) e h
+    stays : (d n m : ℕ) → AdmitOn witness (inflow shapes code m n) s → AdmitOn witness (inflow shapes code m (n + d)) s
+    stays zero n m h = let e : n ≡ n + 0 = omega arith in subst (λ k. AdmitOn witness (inflow shapes code m k) s) e h
     stays (suc d) n m h =
         let e : suc (n + d) ≡ n + suc d = omega arith in
-        subst (λ k. AdmitOn gave (inflow code m k) s) e (one_more (n + d) m (stays d n m h))
+        subst (λ k. AdmitOn witness (inflow shapes code m k) s) e (one_more (n + d) m (stays d n m h))
 
     -- what a slot sends to a later one is in the facts before that one
-    pub arrives : (n m : ℕ) (i : Insn) (f : Facts) (edges : Edges) → n < m → begins_at code n ≡ Some i → before code n ≡ Some f → effect i f ≡ Ok edges → AdmitOn gave (edges_into i n m (Ok edges)) s → AdmitOn gave (before code m) s
+    pub arrives : (n m : ℕ) (i : Insn) (f : Facts) (edges : Edges) → n < m → begins_at code n ≡ Some i → before shapes code n ≡ Some f → effect shapes n i f ≡ Ok edges → AdmitOn witness (edges_into i n m (Ok edges)) s → AdmitOn witness (before shapes code m) s
     arrives n m i f edges lt begins known e h =
-        let come = sent_more n m (subst (λ o. AdmitOn gave o s) (sym (sent_is n m i f edges begins known e)) h) in
+        let come = sent_more n m (subst (λ o. AdmitOn witness o s) (sym (sent_is n m i f edges begins known e)) h) in
         let end : suc n + (m - suc n) ≡ m = omega arith in
-        subst (λ k. AdmitOn gave (inflow code m k) s) end (stays (m - suc n) (suc n) m come)
+        subst (λ k. AdmitOn witness (inflow shapes code m k) s) end (stays (m - suc n) (suc n) m come)

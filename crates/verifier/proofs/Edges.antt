@@ -15,8 +15,13 @@ use Rattle.reg_kinds.specs.Reason.{given}
 use Rattle.reg_kinds.specs.Kinds.{kind_at, with_kind}
 use Rattle.tagged_model.specs.Operators.{narrow_of, order_of, kept_of, size_of}
 use Rattle.transfer.specs.Branches.{Edges}
+use Rattle.transfer.specs.Branches.{falls as falls_on}
 use Rattle.transfer.specs.Arithmetic.{readable, arithmetic_kind, of_scalar}
-use Rattle.transfer.specs.Effects.{source_kind, first_kind, assigns, load_kind, store_facts, ends_with, effect}
+use Rattle.transfer.specs.Effects.{source_kind, first_kind, assigns, load_kind, store_facts, map_of, known, ends_with, effect}
+use Rattle.transfer.specs.Calls.{call_facts}
+use Rattle.tagged_model.specs.Named.{Shapes}
+use Rattle.tagged_model.specs.Helpers.{helper_of}
+use Rattle.interval.specs.Words.{unsigned}
 use Rattle.verdict.specs.Shape.{falls, jumps}
 
 -- ---- facts are there
@@ -64,32 +69,33 @@ either_way i (Ok e) h g = record { falling = λ _. h; jumping = λ _. g }
 one_leads : (i : Insn) (f : Facts) (dst src : ℕ) (of : Kind → Result Kind Reason) → falls i ≡ true → IfOk (LeadOnly i) (given (readable (kind_at f src)) (λ k. assigns f dst (of k)))
 one_leads i f dst src of h = after_given (LeadOnly i) (readable (kind_at f src)) (λ k. assigns f dst (of k)) (λ k. assigned_alone i f dst (of k) h)
 
-alu_leads : (wide : Bool) (op : AluOp) (dst : ℕ) (src : Operand) (f : Facts) → IfOk (LeadOnly (Alu wide op dst src)) (effect (Alu wide op dst src) f)
-alu_leads wide op dst src f =
-    after_given (LeadOnly (Alu wide op dst src)) (first_kind op (kind_at f dst)) _
-    (λ a. after_given (LeadOnly (Alu wide op dst src)) (readable (source_kind f wide src)) _
-    (λ b. assigned_alone (Alu wide op dst src) f dst (arithmetic_kind wide op a b) refl))
+module _ (shapes : Shapes) (at : ℕ) where
+  alu_leads : (wide : Bool) (op : AluOp) (dst : ℕ) (src : Operand) (f : Facts) → IfOk (LeadOnly (Alu wide op dst src)) (effect shapes at (Alu wide op dst src) f)
+  alu_leads wide op dst src f =
+      after_given (LeadOnly (Alu wide op dst src)) (first_kind op (kind_at f dst)) _
+      (λ a. after_given (LeadOnly (Alu wide op dst src)) (readable (source_kind f wide src)) _
+      (λ b. assigned_alone (Alu wide op dst src) f dst (arithmetic_kind wide op a b) refl))
 
-store_leads : (size : AccessSize) (dst : ℕ) (src : Operand) (off : ℤ) (f : Facts) → IfOk (LeadOnly (Store size dst src off)) (effect (Store size dst src off) f)
-store_leads size dst src off f =
-    after_given (LeadOnly (Store size dst src off)) (readable (kind_at f dst)) _
-    (λ k. after_given (LeadOnly (Store size dst src off)) (readable (source_kind f true src)) _
-    (λ v. after_given (LeadOnly (Store size dst src off)) (store_facts f (size_of size) off k v) _ (λ g. falls_alone (Store size dst src off) g refl)))
+  store_leads : (size : AccessSize) (dst : ℕ) (src : Operand) (off : ℤ) (f : Facts) → IfOk (LeadOnly (Store size dst src off)) (effect shapes at (Store size dst src off) f)
+  store_leads size dst src off f =
+      after_given (LeadOnly (Store size dst src off)) (readable (kind_at f dst)) _
+      (λ k. after_given (LeadOnly (Store size dst src off)) (readable (source_kind f true src)) _
+      (λ v. after_given (LeadOnly (Store size dst src off)) (store_facts shapes f (size_of size) off k v) _ (λ g. falls_alone (Store size dst src off) g refl)))
 
-effect_leads : (i : Insn) (f : Facts) → IfOk (LeadOnly i) (effect i f)
-effect_leads (Alu wide op dst src) f = alu_leads wide op dst src f
-effect_leads (Movsx m) f = one_leads (Movsx m) f m.dst m.src (of_scalar m.wide (on_words.SignExtend (narrow_of m.bits))) refl
-effect_leads (Neg wide dst) f = one_leads (Neg wide dst) f dst dst (of_scalar wide on_words.Neg) refl
-effect_leads (End how kept dst) f = one_leads (End how kept dst) f dst dst (of_scalar true (on_words.End (order_of how) (kept_of kept))) refl
-effect_leads (Ja off) f = jumps_alone (Ja off) f refl
-effect_leads (Jal off) f = jumps_alone (Jal off) f refl
-effect_leads (Jump wide cond dst src off) f = either_way (Jump wide cond dst src off) (effect (Jump wide cond dst src off) f) refl refl
-effect_leads (Call id) f = tt
-effect_leads Exit f = after_given (LeadOnly Exit) (readable (kind_at f 0)) ends_with ends_nowhere
-effect_leads (Load l) f = one_leads (Load l) f l.dst l.src (load_kind f (size_of l.size) l.signed l.off) refl
-effect_leads (Store size dst src off) f = store_leads size dst src off f
-effect_leads (Const dst value) f = falls_alone (Const dst value) (with_kind f dst (kind.Scalar (constant value))) refl
-effect_leads (MapFd dst fd) f = tt
+  effect_leads : (i : Insn) (f : Facts) → IfOk (LeadOnly i) (effect shapes at i f)
+  effect_leads (Alu wide op dst src) f = alu_leads wide op dst src f
+  effect_leads (Movsx m) f = one_leads (Movsx m) f m.dst m.src (of_scalar m.wide (on_words.SignExtend (narrow_of m.bits))) refl
+  effect_leads (Neg wide dst) f = one_leads (Neg wide dst) f dst dst (of_scalar wide on_words.Neg) refl
+  effect_leads (End how kept dst) f = one_leads (End how kept dst) f dst dst (of_scalar true (on_words.End (order_of how) (kept_of kept))) refl
+  effect_leads (Ja off) f = jumps_alone (Ja off) f refl
+  effect_leads (Jal off) f = jumps_alone (Jal off) f refl
+  effect_leads (Jump wide cond dst src off) f = either_way (Jump wide cond dst src off) (effect shapes at (Jump wide cond dst src off) f) refl refl
+  effect_leads (Call id) f = after_given (LeadOnly (Call id)) (known (helper_of id)) _ (λ h. after_given (LeadOnly (Call id)) (call_facts shapes at h f) falls_on (λ g. falls_alone (Call id) g refl))
+  effect_leads Exit f = after_given (LeadOnly Exit) (readable (kind_at f 0)) ends_with ends_nowhere
+  effect_leads (Load l) f = one_leads (Load l) f l.dst l.src (load_kind shapes f (size_of l.size) l.signed l.off) refl
+  effect_leads (Store size dst src off) f = store_leads size dst src off f
+  effect_leads (Const dst value) f = falls_alone (Const dst value) (with_kind f dst (kind.Scalar (constant value))) refl
+  effect_leads (MapFd dst fd) f = assigned_alone (MapFd dst fd) f dst (map_of (unsigned 32 fd) (shapes (unsigned 32 fd))) refl
 
-pub leads_only : (i : Insn) (f : Facts) (e : Edges) → effect i f ≡ Ok e → LeadOnly i e
-leads_only i f e q = if_ok (LeadOnly i) (effect i f) e (effect_leads i f) q
+  pub leads_only : (i : Insn) (f : Facts) (e : Edges) → effect shapes at i f ≡ Ok e → LeadOnly i e
+  leads_only i f e q = if_ok (LeadOnly i) (effect shapes at i f) e (effect_leads i f) q

@@ -1,17 +1,16 @@
 -- Where an instruction of an accepted program leads, another one begins.
-use Rattle.std.proofs.Common.{◌≡◌, ℕ, ◌<◌, ◌==◌, if◌then◌else◌, Bool, true, false, not, List, [], ◌∷◌, Option, Some, None, refl, sym, ap, subst, ◌∙◌, ⊎_elim}
+use Rattle.std.proofs.Common.{◌≡◌, ℕ, ◌<◌, ◌==◌, Bool, true, false, List, Option, Some, None, refl, sym, ap, subst, ⊎_elim}
 use Rattle.std.specs.Prelude.{◌&&◌, nat_le, nat_lt}
 use Rattle.std.specs.Option.{is_some, IsSome}
 use Rattle.std.proofs.lemmas.Bool.{and_parts, and_from, and_cases, both_ways, false≢true, true≢false, not-false, eqb-true, eq-eqb, leb-false, lt-ltb}
-use Rattle.std.proofs.lemmas.Option.{none-some}
 use Rattle.insn_codec.specs.declared.insn.Insn.{Insn}
 use Rattle.insn_codec.specs.declared.insn.Insn.TheVariants.{Ja, Jal, Jump}
 use Rattle.insn_codec.specs.Program.{slot_count, begins_at}
-use Rattle.reg_kinds.specs.declared.reason.Reason.{Reason}
-use Rattle.reg_kinds.specs.declared.reason.Reason.TheVariants.{JumpOutside, JumpBackward, FallsOff, Unreachable, UnknownHelper, FramePointerWritten, DescriptorNotOpen, DescriptorNotMap}
 use Rattle.tagged_model.specs.declared.shape.Named.{Named}
 use Rattle.transfer.specs.Sound.{falls_to, jumps_to}
-use Rattle.verdict.specs.Shape.{falls, jumps, is_slot, falls_into, jumps_into, leads_outside, leads_backward, is_reachable, is_call, written_register, descriptor, is_not_open, is_not_map, first_reason, shape_of, shape_reason, shape_fault}
+use Rattle.verdict.specs.Shape.{falls, jumps, is_slot, falls_into, jumps_into, leads_outside, leads_backward, shape_fault}
+use Rattle.verdict.specs.Verdict.{HasNone}
+use Rattle.verdict.proofs.Reached.{fine_at}
 use Rattle.verifier.proofs.Slots.{begins_next}
 
 -- ---- the shape of an instruction
@@ -22,32 +21,8 @@ pub record IsShaped (code : List Insn) (i : Insn) (n : ℕ) : Type 0 where
   pub forward : (jumps i && leads_backward (jumps_to i n) n) ≡ false
   pub on : (falls i && nat_le (slot_count code) (falls_to i n)) ≡ false
 
-not_first : (b : Bool) (r : Reason) (o : Option Reason) → (if b then Some r else o) ≡ None → (b ≡ false) × (o ≡ None)
-not_first true r o e = absurd (none-some r (sym e))
-not_first false r o e = (refl, e)
-
-first_three : (a b c : Bool) (r s t : Reason) (lines : List (Bool × Reason)) → first_reason ((a, r) ∷ (b, s) ∷ (c, t) ∷ lines) ≡ None → (a ≡ false) × (b ≡ false) × (c ≡ false)
-first_three a b c r s t lines e =
-    let first = not_first a r (first_reason ((b, s) ∷ (c, t) ∷ lines)) e in
-    let second = not_first b s (first_reason ((c, t) ∷ lines)) first.1 in
-    (first.0, second.0, (not_first c t (first_reason lines) second.1).0)
-
--- the lines after those of where it leads
-abbrev further : List Insn → List Named → Insn → ℕ → List (Bool × Reason)
-further code named i n =
-    (not (is_reachable code n), Unreachable)
-    ∷ (is_call i, UnknownHelper)
-    ∷ (is_slot (written_register i) 10, FramePointerWritten)
-    ∷ (is_not_open named (descriptor i), DescriptorNotOpen)
-    ∷ (is_not_map named (descriptor i), DescriptorNotMap)
-    ∷ []
-
-pub shaped : (code : List Insn) (named : List Named) (n : ℕ) (i : Insn) → begins_at code n ≡ Some i → shape_fault code named n ≡ None → IsShaped code i n
-unfolding shape_fault
-shaped code named n i begins h =
-    let none : shape_reason code named i n ≡ None = sym (ap (shape_of code named n) begins) ∙ h in
-    let three = first_three (jumps i && leads_outside code (jumps_to i n)) (jumps i && leads_backward (jumps_to i n) n) (falls i && nat_le (slot_count code) (falls_to i n)) JumpOutside JumpBackward FallsOff (further code named i n) none in
-    record { inside = three.0; forward = three.1; on = three.2 }
+pub shaped : (code : List Insn) (named : List Named) → HasNone (shape_fault code named) → (n : ℕ) (i : Insn) → begins_at code n ≡ Some i → IsShaped code i n
+shaped code named none n i begins = let fine = fine_at code named none n i begins in record { inside = fine.inside; forward = fine.forward; on = fine.goes_on }
 
 -- ---- where its edges lead
 

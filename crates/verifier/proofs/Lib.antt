@@ -4,5 +4,5 @@ pub mod Leads
 pub mod Words
 pub mod Arrivals
 pub mod Steps
+pub mod FirstMaps
 pub mod Runs
-pub mod Loads

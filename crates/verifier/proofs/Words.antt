@@ -1,4 +1,4 @@
--- The facts before each slot speak of words, where each instruction keeps them so.
+-- The facts before each slot are facts before it: ranges of words, and look-ups at slots below.
 use Rattle.std.proofs.Common.{◌≡◌, ℕ, zero, suc, ◌<◌, ◌≤◌, ◌==◌, Bool, List, Option, Some, None, Result, Ok, Err, get_or, if◌then◌else◌, refl, sym, subst, ⊎_elim, arith}
 use Rattle.std.specs.Prelude.{◌&&◌}
 use Rattle.std.specs.List.{AllByRecursion}
@@ -19,9 +19,11 @@ use Rattle.reg_kinds.specs.Kinds.{tabulate, kind_at, slot_at, facts_of, entry_ki
 use Rattle.reg_kinds.specs.Pointers.{offsets_hull}
 use Rattle.reg_kinds.specs.Join.{kind_join, spilled, slot_join, facts_join}
 use Rattle.tagged_model.specs.Cells.{also}
+use Rattle.tagged_model.specs.Named.{Shapes}
 use Rattle.transfer.specs.Branches.{Edges}
 use Rattle.transfer.specs.Effects.{effect}
-use Rattle.transfer.specs.Sound.{IsOfWordsKind, IsOfWordsSlot, AreOfWords, AreOfWordsOn, EffectsAreOfWords}
+use Rattle.transfer.specs.Sound.{IsKindAt, IsSlotAt, AreWellFormedAt, AreWellFormedOn, TransferKeepsWellFormed}
+use Rattle.transfer.proofs.Stays.{raised}
 use Rattle.verdict.specs.Shape.{falls_into, jumps_into}
 use Rattle.verdict.specs.Before.{joined, on, edges_into, sent, inflow}
 use Rattle.verifier.proofs.Slots.{begins_one}
@@ -44,80 +46,89 @@ in_table P f n i d here past =
     (λ le. subst P (sym (past_end f n i d le)) past)
     (cases_lt i n)
 
-no_bytes : IsOfWordsSlot (Bytes 0)
-no_bytes = omega arith
+-- above the slots of the look-ups
+module _ (bound : ℕ) where
+  no_bytes : IsSlotAt bound (Bytes 0)
+  no_bytes = omega arith
 
-words_of : (kinds : ℕ → Kind) (slots : ℕ → Slot) → ((r : ℕ) → IsOfWordsKind (kinds r)) → ((i : ℕ) → IsOfWordsSlot (slots i)) → AreOfWords (facts_of kinds slots)
-words_of kinds slots h g =
-    record {
-      registers = λ r. in_table IsOfWordsKind kinds 11 r Unreadable (h r) tt;
-      slots = λ i. in_table IsOfWordsSlot slots 64 i (Bytes 0) (g i) no_bytes;
-    }
+  words_of : (kinds : ℕ → Kind) (slots : ℕ → Slot) → ((r : ℕ) → IsKindAt bound (kinds r)) → ((i : ℕ) → IsSlotAt bound (slots i)) → AreWellFormedAt bound (facts_of kinds slots)
+  words_of kinds slots h g =
+      record {
+        registers = λ r. in_table (IsKindAt bound) kinds 11 r Unreadable (h r) tt;
+        slots = λ i. in_table (IsSlotAt bound) slots 64 i (Bytes 0) (g i) no_bytes;
+      }
 
--- ---- at entry
+  -- ---- at entry
 
-entry_words : AreOfWords entry
-entry_words =
-    words_of entry_kind (λ i. Bytes 0)
-    (λ r. cond_both (r == 1) Ctx _ IsOfWordsKind (λ _. tt) (λ _. cond_both (r == 10) _ Unreadable IsOfWordsKind (λ _. tt) (λ _. tt)))
-    (λ i. no_bytes)
+  entry_words : AreWellFormedAt bound entry
+  entry_words =
+      words_of entry_kind (λ i. Bytes 0)
+      (λ r. cond_both (r == 1) Ctx _ (IsKindAt bound) (λ _. tt) (λ _. cond_both (r == 10) _ Unreadable (IsKindAt bound) (λ _. tt) (λ _. tt)))
+      (λ i. no_bytes)
 
--- ---- where two edges meet
+  -- ---- where two edges meet
 
-either_kind : (b : Bool) (k : Kind) → IsOfWordsKind k → IsOfWordsKind (if b then k else Unreadable)
-either_kind b k h = cond_both b k Unreadable IsOfWordsKind (λ _. h) (λ _. tt)
+  either_kind : (b : Bool) (k : Kind) → IsKindAt bound k → IsKindAt bound (if b then k else Unreadable)
+  either_kind b k h = cond_both b k Unreadable (IsKindAt bound) (λ _. h) (λ _. tt)
 
-kind_joined : (j k : Kind) → IsOfWordsKind j → IsOfWordsKind k → IsOfWordsKind (kind_join j k)
-kind_joined (Scalar a) (Scalar b) h g = omega arith
-kind_joined (MapRef m) (MapRef n) h g = either_kind (m == n) (MapRef m) tt
-kind_joined (Stack x) (Stack y) h g = either_kind _ (Stack x) tt
-kind_joined Ctx Ctx h g = tt
-kind_joined (Value p) (Value q) h g = either_kind (p.map == q.map) (Value (offsets_hull p q)) tt
-kind_joined (MaybeValue m s) (MaybeValue n t) h g = either_kind ((m == n) && (s == t)) (MaybeValue m s) tt
-kind_joined j k h g = tt
+  kind_joined : (j k : Kind) → IsKindAt bound j → IsKindAt bound k → IsKindAt bound (kind_join j k)
+  kind_joined (Scalar a) (Scalar b) h g = omega arith
+  kind_joined (MapRef m) (MapRef n) h g = either_kind (m == n) (MapRef m) tt
+  kind_joined (Stack x) (Stack y) h g = either_kind _ (Stack x) tt
+  kind_joined Ctx Ctx h g = tt
+  kind_joined (Value p) (Value q) h g = either_kind (p.map == q.map) (Value (offsets_hull p q)) tt
+  kind_joined (MaybeValue m s) (MaybeValue n t) h g = either_kind ((m == n) && (s == t)) (MaybeValue m s) h
+  kind_joined j k h g = tt
 
-spilled_words : (k : Kind) → IsOfWordsKind k → IsOfWordsSlot (spilled k)
-spilled_words Unreadable h = no_bytes
-spilled_words k h = h
+  spilled_words : (k : Kind) → IsKindAt bound k → IsSlotAt bound (spilled k)
+  spilled_words Unreadable h = no_bytes
+  spilled_words k h = h
 
-slot_joined : (s t : Slot) → IsOfWordsSlot s → IsOfWordsSlot t → IsOfWordsSlot (slot_join s t)
-slot_joined (Bytes x) (Bytes y) h g = omega (arith, and_le_l x y)
-slot_joined (Spill j) (Spill k) h g = spilled_words (kind_join j k) (kind_joined j k h g)
-slot_joined s t h g = no_bytes
+  slot_joined : (s t : Slot) → IsSlotAt bound s → IsSlotAt bound t → IsSlotAt bound (slot_join s t)
+  slot_joined (Bytes x) (Bytes y) h g = omega (arith, and_le_l x y)
+  slot_joined (Spill j) (Spill k) h g = spilled_words (kind_join j k) (kind_joined j k h g)
+  slot_joined s t h g = no_bytes
 
-facts_joined : (a b : Facts) → AreOfWords a → AreOfWords b → AreOfWords (facts_join a b)
-facts_joined a b h g =
-    words_of (λ r. kind_join (kind_at a r) (kind_at b r)) (λ i. slot_join (slot_at a i) (slot_at b i))
-    (λ r. kind_joined (kind_at a r) (kind_at b r) (h.registers r) (g.registers r))
-    (λ i. slot_joined (slot_at a i) (slot_at b i) (h.slots i) (g.slots i))
+  facts_joined : (a b : Facts) → AreWellFormedAt bound a → AreWellFormedAt bound b → AreWellFormedAt bound (facts_join a b)
+  facts_joined a b h g =
+      words_of (λ r. kind_join (kind_at a r) (kind_at b r)) (λ i. slot_join (slot_at a i) (slot_at b i))
+      (λ r. kind_joined (kind_at a r) (kind_at b r) (h.registers r) (g.registers r))
+      (λ i. slot_joined (slot_at a i) (slot_at b i) (h.slots i) (g.slots i))
 
-joined_words : (a b : Option Facts) → AreOfWordsOn a → AreOfWordsOn b → AreOfWordsOn (joined a b)
-joined_words None b h g = g
-joined_words (Some f) None h g = h
-joined_words (Some e) (Some f) h g = facts_joined e f h g
+  joined_words : (a b : Option Facts) → AreWellFormedOn bound a → AreWellFormedOn bound b → AreWellFormedOn bound (joined a b)
+  joined_words None b h g = g
+  joined_words (Some f) None h g = h
+  joined_words (Some e) (Some f) h g = facts_joined e f h g
 
--- ---- before each slot
+  -- ---- before each slot
 
-on_words : (leads : Bool) (o : Option Facts) → AreOfWordsOn o → AreOfWordsOn (on leads o)
-on_words leads o h = cond_both leads o None AreOfWordsOn (λ _. h) (λ _. tt)
+  on_words : (leads : Bool) (o : Option Facts) → AreWellFormedOn bound o → AreWellFormedOn bound (on leads o)
+  on_words leads o h = cond_both leads o None (AreWellFormedOn bound) (λ _. h) (λ _. tt)
 
-module _ (law : EffectsAreOfWords) (code : List Insn) (each : AllByRecursion IsInsn code) where
-  edges_words : (n m : ℕ) (i : Insn) (f : Facts) → IsInsn i → AreOfWords f → (r : Result Edges Reason) → effect i f ≡ r → AreOfWordsOn (edges_into i n m r)
+-- ---- facts before a slot are facts before the next one
+
+on_raised : (n : ℕ) (o : Option Facts) → AreWellFormedOn n o → AreWellFormedOn (suc n) o
+on_raised n None h = tt
+on_raised n (Some f) h = let farther : n < suc n = omega arith in raised n (suc n) f farther h
+
+module _ (law : TransferKeepsWellFormed) (shapes : Shapes) (code : List Insn) (each : AllByRecursion IsInsn code) where
+  edges_words : (n m : ℕ) (i : Insn) (f : Facts) → IsInsn i → AreWellFormedAt n f → (r : Result Edges Reason) → effect shapes n i f ≡ r → AreWellFormedOn (suc n) (edges_into i n m r)
   edges_words n m i f is h (Err reason) e = tt
   edges_words n m i f is h (Ok edges) e =
-      let both = law i f edges is h e in
-      joined_words (on (falls_into i n m) edges.falling) (on (jumps_into i n m) edges.jumping) (on_words (falls_into i n m) edges.falling both.0) (on_words (jumps_into i n m) edges.jumping both.1)
+      let farther : n < suc n = omega arith in
+      let both = law shapes n (suc n) i f edges is h farther e in
+      joined_words (suc n) (on (falls_into i n m) edges.falling) (on (jumps_into i n m) edges.jumping) (on_words (suc n) (falls_into i n m) edges.falling both.0) (on_words (suc n) (jumps_into i n m) edges.jumping both.1)
 
-  begun_words : (n m : ℕ) (f : Facts) → AreOfWords f → (o : Option Insn) → begins_at code n ≡ o → AreOfWordsOn (also o (λ i. edges_into i n m (effect i f)))
+  begun_words : (n m : ℕ) (f : Facts) → AreWellFormedAt n f → (o : Option Insn) → begins_at code n ≡ o → AreWellFormedOn (suc n) (also o (λ i. edges_into i n m (effect shapes n i f)))
   begun_words n m f h None e = tt
-  begun_words n m f h (Some i) e = edges_words n m i f (begins_one code n i e each) h (effect i f) refl
+  begun_words n m f h (Some i) e = edges_words n m i f (begins_one code n i e each) h (effect shapes n i f) refl
 
-  sent_words : (n m : ℕ) (before : Option Facts) → AreOfWordsOn before → AreOfWordsOn (sent code n m before)
+  sent_words : (n m : ℕ) (before : Option Facts) → AreWellFormedOn n before → AreWellFormedOn (suc n) (sent shapes code n m before)
   sent_words n m None h = tt
   sent_words n m (Some f) h = begun_words n m f h (begins_at code n) refl
 
-  pub inflow_words : (n m : ℕ) → AreOfWordsOn (inflow code m n)
+  pub inflow_words : (n m : ℕ) → AreWellFormedOn n (inflow shapes code m n)
   unfolding inflow
-  inflow_words zero m = cond_both (m == 0) (Some entry) None AreOfWordsOn (λ _. entry_words) (λ _. tt)
+  inflow_words zero m = cond_both (m == 0) (Some entry) None (AreWellFormedOn 0) (λ _. entry_words 0) (λ _. tt)
   inflow_words (suc n) m =
-      joined_words (inflow code m n) (sent code n m (inflow code n n)) (inflow_words n m) (sent_words n m (inflow code n n) (inflow_words n n))
+      joined_words (suc n) (inflow shapes code m n) (sent shapes code n m (inflow shapes code n n)) (on_raised n (inflow shapes code m n) (inflow_words n m)) (sent_words n m (inflow shapes code n n) (inflow_words n n))

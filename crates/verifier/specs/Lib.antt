@@ -1,3 +1,2 @@
 pub mod Sound
 pub mod Verified
-pub mod Maps

@@ -1,39 +1,76 @@
 -- Why an accepted program never faults.
-use Rattle.std.specs.Prelude.{◌≡◌, ◌≢◌, ℕ, ◌<◌, ◌^◌, Bool, List, length, Some}
+use Rattle.std.specs.Prelude.{◌≡◌, ◌≢◌, ℕ, ◌<◌, ◌^◌, Bool, List, length, Some, Ok}
 use Rattle.std.specs.List.{All}
+use Rattle.std.specs.Map.{keys_of, values_of}
 use Rattle.insn_codec.specs.declared.insn.Insn.{Insn}
-use Rattle.insn_codec.specs.Program.{IsProgram}
+use Rattle.insn_codec.specs.Program.{IsProgram, begins_at}
 use Rattle.reg_kinds.specs.declared.facts.Facts.{Facts}
 use Rattle.tagged_model.specs.declared.shape.Named.{Named}
-use Rattle.tagged_model.specs.declared.value.Tagged.{Tagged}
+use Rattle.tagged_model.specs.declared.shape.MapKind.TheVariants.{Array}
+use Rattle.tagged_model.specs.declared.shape.MapShape.{MapShape}
 use Rattle.tagged_model.specs.declared.value.Outcome.TheVariants.{Fault}
+use Rattle.tagged_model.specs.Named.{Shapes}
+use Rattle.tagged_model.specs.Table.{Table, indexed}
 use Rattle.tagged_model.specs.State.{State}
-use Rattle.tagged_model.specs.Step.{Step, goes, ends, faults, step, result_with}
-use Rattle.tagged_model.specs.Admits.{AdmitsBy, IsProper}
+use Rattle.tagged_model.specs.Step.{Step, goes, ends, faults, act, step, Maps, result_with}
+use Rattle.tagged_model.specs.Admits.{Witness, AreBytes}
+use Rattle.tagged_model.specs.Laws.{Describes}
+use Rattle.transfer.specs.Branches.{Edges}
+use Rattle.transfer.specs.Effects.{effect}
+use Rattle.transfer.specs.Sound.{Covers}
+use Rattle.verdict.specs.Shape.{shape_fault}
+use Rattle.verdict.specs.Maps.{shapes_of}
 use Rattle.verdict.specs.Before.{before}
-use Rattle.verdict.specs.Verdict.{IsAccepted}
+use Rattle.verdict.specs.Verdict.{HasNone, IsAccepted}
 
--- the facts before the state's slot admit it
-pub record IsAdmitted (gave : ℕ → Tagged) (code : List Insn) (s : State) : Type 0 where
+-- ---- one step
+
+-- in a program without a fault of its shape: where the facts before a slot admit a state at it that has a map of each shape,
+-- and let the instruction there be run, the machine has a step, whether or not memory is refused at it. The next state has a
+-- map of each shape again, and the facts on the edge that the step takes admit it
+abbrev pub StepIsSound : Type 0
+StepIsSound =
+    (code : List Insn) (named : List Named) (witness : Witness) (refused : Bool) (s : State) (i : Insn) (f : Facts) (edges : Edges) → IsProgram code → HasNone (shape_fault code named) → begins_at code s.at ≡ Some i
+    → before (shapes_of code named) code s.at ≡ Some f → Describes witness f (shapes_of code named) s → effect (shapes_of code named) s.at i f ≡ Ok edges
+    → Covers (shapes_of code named) i s.at edges (act refused i s)
+
+-- the facts before the state's slot admit it, and it has a map of each shape
+pub record IsAdmitted (shapes : Shapes) (code : List Insn) (s : State) : Type 0 where
+  pub witness : Witness
   pub facts : Facts
-  pub known : before code s.at ≡ Some facts
-  pub admits : AdmitsBy gave facts s
-  pub proper : IsProper s
+  pub known : before shapes code s.at ≡ Some facts
+  pub still : Describes witness facts shapes s
 
 -- a step that is no fault: the state after it lies farther on, and the facts before its slot admit it
-abbrev pub GoesOn : (ℕ → Tagged) → List Insn → ℕ → Step → Type 0
-GoesOn gave code at (goes t) = (at < t.at) × IsAdmitted gave code t
-GoesOn gave code at (ends n) = n < 2 ^ 32
-GoesOn gave code at faults = ⊥
+abbrev pub GoesOn : Shapes → List Insn → ℕ → Step → Type 0
+GoesOn shapes code at (goes t) = (at < t.at) × IsAdmitted shapes code t
+GoesOn shapes code at (ends n) = n < 2 ^ 32
+GoesOn shapes code at faults = ⊥
 
 -- each step of an accepted program goes on, whatever memory is refused
 abbrev pub StepsGoOn : Type 0
 StepsGoOn =
-    (gave : ℕ → Tagged) (code : List Insn) (named : List Named) (refused : Bool) (s : State) → IsProgram code → IsAccepted code named → IsAdmitted gave code s
-    → GoesOn gave code s.at (step refused code s)
+    (code : List Insn) (named : List Named) (refused : Bool) (s : State) → IsProgram code → IsAccepted code named → IsAdmitted (shapes_of code named) code s
+    → GoesOn (shapes_of code named) code s.at (step refused code s)
+
+-- ---- runs
+
+-- a map of this shape: an array has all its indices, and each value has its size
+pub record IsTableOf (shape : MapShape) (t : Table (List ℕ)) : Type 0 where
+  pub shaped : t.shape ≡ shape
+  pub indices : shape.kind ≡ Array → keys_of t.entries ≡ keys_of (indexed (λ i. i) 0 shape.max_entries)
+  pub sized : All (λ value. length value ≡ shape.value_size) (values_of t.entries)
+
+-- what a run may be given: a map of each shape, eleven words of 32 bits, and bytes
+pub record AreGiven (shapes : Shapes) (maps : Maps) (words packet : List ℕ) : Type 0 where
+  pub has : (m : ℕ) (shape : MapShape) → shapes m ≡ Some shape → (t : Table (List ℕ)) × (maps m ≡ Some t) × IsTableOf shape t
+  pub values : (m : ℕ) (t : Table (List ℕ)) → maps m ≡ Some t → All AreBytes (values_of t.entries)
+  pub small : All (λ w. w < 2 ^ 32) words
+  pub count : length words ≡ 11
+  pub bytes : AreBytes packet
 
 -- no run of an accepted program faults, whatever memory is refused
 abbrev pub NeverFaults : Type 0
 NeverFaults =
-    (code : List Insn) (named : List Named) (refusals : List Bool) (words packet : List ℕ) → IsProgram code → IsAccepted code named → All (λ w. w < 2 ^ 32) words → length words ≡ 11
-    → result_with refusals code words packet ≢ Fault
+    (code : List Insn) (named : List Named) (refusals : List Bool) (maps : Maps) (words packet : List ℕ) → IsProgram code → IsAccepted code named → AreGiven (shapes_of code named) maps words packet
+    → result_with refusals code maps words packet ≢ Fault

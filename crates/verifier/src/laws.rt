@@ -1,17 +1,26 @@
 //! Laws of accepted programs. A law does nothing when it runs.
 
-ghost use Rattle.verifier.specs.Sound.{StepsGoOn, NeverFaults};
+ghost use Rattle.verifier.specs.Sound.{StepIsSound, StepsGoOn, NeverFaults};
 
 use tagged_model::join_admits;
-use transfer::{effects_are_of_words, effects_cover};
+use transfer::{transfer_is_sound, transfer_keeps_well_formed};
+
+/// In a program without a fault of its shape: where the facts before a slot admit a state at it, and let the instruction
+/// there be run, the machine has a step, and the facts on the edge that it takes admit the next state.
+pub fn step_is_sound()
+    ensures { StepIsSound }
+{
+    transfer_is_sound();
+    transfer_keeps_well_formed();
+}
 
 /// Where the facts before a slot admit a state at it, the step of an accepted program is no fault, and the facts before the
 /// next slot admit the state after it.
 pub fn steps_go_on()
     ensures { StepsGoOn }
 {
-    effects_cover();
-    effects_are_of_words();
+    transfer_is_sound();
+    transfer_keeps_well_formed();
     join_admits();
 }
 

@@ -2,8 +2,7 @@
 #![tactic(auto)]
 
 mod laws;
-mod maps;
 mod verified;
 
-pub use laws::{accepted_programs_never_fault, steps_go_on};
+pub use laws::{accepted_programs_never_fault, step_is_sound, steps_go_on};
 pub use verified::{Verified, verify};

@@ -2,4 +2,4 @@ use Rattle.transfer.proofs.Rules.{need_no_memory}
 use Rattle.transfer.proofs.laws.effects_need_no_memory.Goals as goal
 
 pub returns : goal.returns
-returns c = need_no_memory
+returns c = need_no_memory c.transfer_reasons.ensures

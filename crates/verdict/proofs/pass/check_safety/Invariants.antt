@@ -1,4 +1,5 @@
 use Rattle.std.proofs.Common.{◌≡◌, ℕ, ◌<◌, None}
+use Rattle.tagged_model.specs.Named.{shapes_named}
 use Rattle.verdict.specs.Verdict.{safety_fault}
 use Rattle.verdict.proofs.Inflow.{IsBefore}
 use Rattle.verdict.proofs.pass.check_safety.Given as goal
@@ -7,6 +8,6 @@ use Rattle.verdict.proofs.pass.check_safety.Given as goal
 abbrev pub invariant-loop-slot : goal.invariant-loop-slot
 invariant-loop-slot l =
     record {
-      known : IsBefore l.program l.slot l.pass.falling l.pass.entries;
-      none_below : (n : ℕ) → n < l.slot → safety_fault l.program n ≡ None;
+      known : IsBefore (shapes_named l.named) l.program l.slot l.pass.falling l.pass.entries;
+      none_below : (n : ℕ) → n < l.slot → safety_fault (shapes_named l.named) l.program n ≡ None;
     }

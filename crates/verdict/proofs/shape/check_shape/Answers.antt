@@ -33,7 +33,7 @@ mark_edges-requires-clause-jumps c =
     let insn = c.in-Some.insn.now in
     let long : slot_count code ≡ length c.deref_mut.result.now = sym (ap length c.deref_mut.ensures.value ∙ c.loop-slot.invariant.long) in
     subst (λ (n : ℕ). IfSome (jump_target insn c.loop-slot.slot) (λ to. to < n)) long
-    (jump_lands code c.insns_adjoin.ensures insn c.loop-slot.slot (fine code c.args.named.now insn c.loop-slot.slot (sym c.in_default-shape_reason.ensures)))
+    (jump_lands code c.args.named.now c.insns_adjoin.ensures insn c.loop-slot.slot (fine code c.args.named.now insn c.loop-slot.slot (sym c.in_default-shape_reason.ensures)))
 
 pub loop-slot-preserved : goal.loop-slot-preserved
 loop-slot-preserved c =
@@ -75,4 +75,4 @@ pub returns-clause-sound : goal.returns-clause-sound
 returns-clause-sound c = sound c
 
 pub returns-clause-lands : goal.returns-clause-lands
-returns-clause-lands c = each_lands c.args.program.now c.args.named.now c.insns_adjoin.ensures (sound c)
+returns-clause-lands c = each_lands c.args.program.now c.args.named.now (sound c) c.insns_adjoin.ensures

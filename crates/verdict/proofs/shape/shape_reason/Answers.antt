@@ -4,7 +4,7 @@ use Rattle.insn_codec.specs.Program.{slot_count}
 use Rattle.reg_kinds.specs.declared.reason.Reason.{Reason}
 use Rattle.reg_kinds.specs.declared.reason.Reason.TheVariants.{JumpOutside, JumpBackward, FallsOff, Unreachable, UnknownHelper, FramePointerWritten, DescriptorNotOpen, DescriptorNotMap}
 use Rattle.transfer.specs.Sound.{falls_to, jumps_to}
-use Rattle.verdict.specs.Shape.{falls, jumps, is_reachable, is_slot, is_call, written_register, descriptor, is_not_open, is_not_map, leads_outside, leads_backward}
+use Rattle.verdict.specs.Shape.{falls, jumps, is_reachable, is_slot, calls_unknown, written_register, descriptor, is_not_open, is_not_map, leads_outside, leads_backward}
 use Rattle.verdict.proofs.Reached.{told_early}
 use Rattle.verdict.proofs.shape.shape_reason.Goals as goal
 
@@ -17,7 +17,7 @@ returns-in-Some c =
     let later : List (Bool × Reason) =
     (falls i && nat_le (slot_count code) (falls_to i at), FallsOff)
     ∷ (not (is_reachable code at), Unreachable)
-    ∷ (is_call i, UnknownHelper)
+    ∷ (calls_unknown i, UnknownHelper)
     ∷ (is_slot (written_register i) 10, FramePointerWritten)
     ∷ (is_not_open named (descriptor i), DescriptorNotOpen)
     ∷ (is_not_map named (descriptor i), DescriptorNotMap)

@@ -24,6 +24,7 @@ module _ (c : goal.After-self-2-1) where
     stride = refl;
     shape = claims_shape _ c.args.key.now _ _ c.claim-answer.result c.claim-answer.ensures.claimed;
     held = (c.self.invariant.placed c.map.inside.number old c.index_mut-entry.ensures.value).held;
+    sound = c.claim-answer.ensures.sound;
   }
 
   was : live_at c.args.self.now c.args.map ≡ Some (live_of old)

@@ -23,6 +23,7 @@ module _ (c : goal.After-self-1) where
     stride = refl;
     shape = ap (λ (t : PlaceTable). t.shape) c.end_run.ensures.ended;
     held = (c.self.invariant.placed c.map.inside.number old c.index_mut-entry.ensures.value).held;
+    sound = c.end_run.ensures.sound;
   }
 
   was : live_at c.args.self.now c.args.map ≡ Some (live_of old)

@@ -28,6 +28,7 @@ module _ (c : goal.After-self-1) where
     stride = refl;
     shape = refl;
     held = let m = c.if-entry-gt-LAST.true in omega arith;
+    sound = (c.self.invariant.placed c.map.inside.number old c.index_mut-entry.ensures.value).sound;
   }
 
   was : live_at c.args.self.now c.args.map ≡ Some (live_of old)

@@ -24,6 +24,7 @@ module _ (c : goal.After-self-1) where
     stride = refl;
     shape = removes_shape _ c.args.key.now _ _ c.remove.result c.remove.ensures.removed;
     held = (c.self.invariant.placed c.map.inside.number old c.index_mut-entry.ensures.value).held;
+    sound = c.remove.ensures.sound;
   }
 
   was : live_at c.args.self.now c.args.map ≡ Some (live_of old)

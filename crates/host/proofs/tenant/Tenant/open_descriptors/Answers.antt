@@ -2,7 +2,9 @@ use Rattle.std.proofs.Common.{◌≡◌, ◌+◌, ◌<◌, ◌++◌, List, Vec, 
 use Rattle.tagged_model.specs.declared.shape.Named.{Named}
 use Rattle.host.specs.declared.object.Object.{Object}
 use Rattle.host.specs.Machine.{first_descriptor, named_at, names_from}
+use Rattle.host.specs.Programs.{ArePrograms}
 use Rattle.host.proofs.Contexts.{named_object, names_more, names_all}
+use Rattle.host.proofs.NoMaps.{names_are_programs}
 use Rattle.host.proofs.tenant.Tenant.open_descriptors.Goals as goal
 use Rattle.host.proofs.tenant.Tenant.open_descriptors.Goals.{in-Some-Program+in_ok-push, in_default}
 
@@ -24,8 +26,11 @@ loop-place-preserved c =
       names = subst (λ (ns : List Named). names_from first_descriptor table ≡ ns ++ names_from (first_descriptor + (place + 1)) (drop (place + 1) table)) (sym joined) (names_more first_descriptor place table object before within here c.loop-place.invariant.names);
     }
 
-pub returns : goal.returns
-returns c =
+pub returns-clause-named : goal.returns-clause-named
+returns-clause-named c =
     let table = c.args.self.now.table in
     let end : c.loop-place.place ≡ length table = omega (arith, ap length c.loop-place.invariant.table) in
     names_all first_descriptor table c.loop-place.descriptors.items (subst (λ n. names_from first_descriptor table ≡ c.loop-place.descriptors.items ++ names_from (first_descriptor + n) (drop n table)) end c.loop-place.invariant.names)
+
+pub returns-clause-programs : goal.returns-clause-programs
+returns-clause-programs c = subst ArePrograms (sym (returns-clause-named c)) (names_are_programs first_descriptor c.args.self.now.table)

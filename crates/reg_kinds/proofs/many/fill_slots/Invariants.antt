@@ -1,0 +1,15 @@
+use Rattle.std.proofs.Common.{◌≡◌, ℕ, ◌<◌, ◌≤◌, length, get_or, if◌then◌else◌}
+use Rattle.reg_kinds.specs.declared.kind.Slot.TheVariants.{Bytes}
+use Rattle.reg_kinds.specs.Kinds.{slot_at}
+use Rattle.reg_kinds.specs.Stack.{bytes_over}
+use Rattle.reg_kinds.specs.Many.{touches, bits_in}
+use Rattle.reg_kinds.proofs.many.fill_slots.Given as goal
+
+abbrev pub invariant-loop-i : goal.invariant-loop-i
+invariant-loop-i l =
+    record {
+      long : length l.facts.slots ≡ 64;
+      kept : l.facts.registers ≡ l.fn.facts.registers;
+      done : (k : ℕ) → k < l.i → get_or l.facts.slots k (Bytes 0) ≡ (if touches l.place l.most k then bytes_over (slot_at l.fn.facts k) (bits_in l.place l.least k) else slot_at l.fn.facts k);
+      rest : (k : ℕ) → l.i ≤ k → get_or l.facts.slots k (Bytes 0) ≡ slot_at l.fn.facts k;
+    }

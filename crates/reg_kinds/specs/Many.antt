@@ -1,0 +1,54 @@
+-- Ranges of bytes of the stack that reach over many slots: what a helper reads, and what it writes. Places count from the
+-- lowest byte of the stack.
+use Rattle.std.specs.Prelude.{ℕ, zero, suc, ◌+◌, ◌-◌, ◌*◌, ◌^◌, ◌==◌, ℤ, min, bit_and, nat_lt, nat_le, Bool, false, not, ◌&&◌, ◌||◌, if◌then◌else◌, Result, Ok, Err}
+use Rattle.reg_kinds.specs.declared.kind.Kind.{Kind}
+use Rattle.reg_kinds.specs.declared.kind.Kind.TheVariants.{Unreadable}
+use Rattle.reg_kinds.specs.declared.kind.Slot.{Slot}
+use Rattle.reg_kinds.specs.declared.kind.Slot.TheVariants.{Bytes, Spill}
+use Rattle.reg_kinds.specs.declared.facts.Facts.{Facts}
+use Rattle.reg_kinds.specs.declared.reason.Reason.{Reason}
+use Rattle.reg_kinds.specs.declared.reason.Reason.TheVariants.{OutsideStack, UnwrittenStack, PartOfSpill}
+use Rattle.reg_kinds.specs.Kinds.{kind_at, slot_at, with_registers, with_slots}
+use Rattle.reg_kinds.specs.Stack.{is_in_stack, place, bytes_over}
+
+-- n bytes from place p on touch slot i
+abbrev pub touches : ℕ → ℕ → ℕ → Bool
+touches p n i = nat_lt p (8 * i + 8) && nat_lt (8 * i) (p + n)
+
+-- the bits of those that lie in slot i
+abbrev pub bits_in : ℕ → ℕ → ℕ → ℕ
+bits_in p n i = (2 ^ (min 8 (p + n - 8 * i) - (p - 8 * i)) - 1) * 2 ^ (p - 8 * i)
+
+-- the test holds of a number below n
+unfoldable pub any_below : ℕ → (ℕ → Bool) → Bool
+any_below zero test = false
+any_below (suc n) test = test n || any_below n test
+
+abbrev pub is_touched_spill : Slot → Bool → Bool
+is_touched_spill (Bytes mask) touched = false
+is_touched_spill (Spill k) touched = touched
+
+abbrev pub lacks : Slot → ℕ → Bool
+lacks (Bytes mask) bits = not (bit_and mask bits == bits)
+lacks (Spill k) bits = false
+
+-- n bytes are read: none of a spilled value, and none that may not be written
+abbrev pub stack_input : Facts → ℤ → ℕ → Result (Unit {0}) Reason
+stack_input f x n =
+    if not (is_in_stack x n) then Err OutsideStack else
+    (if any_below 64 (λ i. is_touched_spill (slot_at f i) (touches (place x) n i)) then Err PartOfSpill else
+    (if any_below 64 (λ i. lacks (slot_at f i) (bits_in (place x) n i)) then Err UnwrittenStack else Ok tt))
+
+-- lo to hi bytes are written: lo of them are there then, and of a spilled value that may be touched nothing else is left
+abbrev pub filled : Facts → ℤ → ℕ → ℕ → Facts
+filled f x lo hi = with_slots f (λ i. if touches (place x) hi i then bytes_over (slot_at f i) (bits_in (place x) lo i) else slot_at f i)
+
+abbrev pub stack_filled : Facts → ℤ → ℕ → ℕ → Result Facts Reason
+stack_filled f x lo hi = if is_in_stack x hi then Ok (filled f x lo hi) else Err OutsideStack
+
+-- after a call register 0 has what it gives, and registers 1 to 5 may not be read
+abbrev pub call_kind : Facts → Kind → ℕ → Kind
+call_kind f k r = if r == 0 then k else (if nat_le r 5 then Unreadable else kind_at f r)
+
+abbrev pub called_facts : Facts → Kind → Facts
+called_facts f k = with_registers f (call_kind f k)

@@ -1,0 +1,173 @@
+//! Ranges of bytes of the stack that reach over many slots, and what is known after a call.
+
+ghost use Rattle.std.specs.Prelude.{◌≡◌, ◌+◌, ◌-◌, ◌*◌, ◌^◌, ◌<◌, ◌≤◌, ◌==◌, nat_le, if◌then◌else◌, IfSome, MatchResult, Ok, Err, Some, None};
+ghost use Rattle.reg_kinds.specs.Kinds.{slot_at, with_slots};
+ghost use Rattle.reg_kinds.specs.Stack.{is_in_stack, place, bytes_over};
+ghost use Rattle.reg_kinds.specs.Many.{touches, bits_in, any_below, is_touched_spill, lacks, stack_input, stack_filled, called_facts};
+ghost use Rattle.reg_kinds.specs.declared.kind.Kind.TheVariants.{Unreadable};
+
+use crate::facts::{Facts, REGISTERS, STACK_SLOTS};
+use crate::kind::{Kind, Slot};
+use crate::reason::Reason;
+use crate::stack::bytes_over;
+
+/// Whether so many bytes from a place on touch a slot.
+fn touches(place: usize, count: usize, index: usize) -> bool
+    requires within { place + count ≤ 512 }
+    requires slot { index < 64 }
+    ensures { result ≡ touches place count index }
+{
+    place < 8 * index + 8 && 8 * index < place + count
+}
+
+/// So many bits from one on.
+fn ones(count: usize, from: usize) -> u8
+    requires { count + from ≤ 8 }
+    ensures { result ≡ (2 ^ count - 1) * 2 ^ from }
+{
+    (((1_u16 << count) - 1) << from) as u8
+}
+
+/// The bits of those that lie in a slot.
+fn bits_in(place: usize, count: usize, index: usize) -> u8
+    requires within { place + count ≤ 512 }
+    requires slot { index < 64 }
+    ensures { result ≡ bits_in place count index }
+{
+    let from = place.saturating_sub(8 * index);
+    let to = (place + count).saturating_sub(8 * index).min(8);
+    if from < to { ones(to - from, from) } else { 0 }
+}
+
+/// Where bytes of the stack begin, if all of them lie in it.
+fn place_of(offset: i32, count: u32) -> Option<usize>
+    ensures value { result ≡ (if is_in_stack offset count then Some (place offset) else None) }
+    ensures within { IfSome result (λ p. p + count ≤ 512) }
+{
+    if offset < -512 || i64::from(offset) + i64::from(count) > 0 {
+        None
+    } else {
+        Some((offset + 512) as usize)
+    }
+}
+
+/// Whether it is a spilled value that is touched.
+fn is_touched_spill(slot: Slot, touched: bool) -> bool
+    ensures { result ≡ is_touched_spill slot touched }
+{
+    match slot {
+        Slot::Bytes(_) => false,
+        Slot::Spill(_) => touched,
+    }
+}
+
+/// Whether one of these bytes may never have been written.
+fn lacks(slot: Slot, bits: u8) -> bool
+    ensures { result ≡ lacks slot bits }
+{
+    match slot {
+        Slot::Bytes(mask) => mask & bits != bits,
+        Slot::Spill(_) => false,
+    }
+}
+
+/// Whether bytes touch a spilled value.
+fn touch_a_spill(facts: &Facts, place: usize, count: usize) -> bool
+    requires { place + count ≤ 512 }
+    ensures { result ≡ any_below 64 (λ i. is_touched_spill (slot_at facts.now i) (touches place count i)) }
+{
+    for index in 0..STACK_SLOTS {
+        if is_touched_spill(facts.slot(index), touches(place, count, index)) {
+            return true;
+        }
+    }
+    false
+}
+
+/// Whether one of some bytes may never have been written.
+fn are_missing(facts: &Facts, place: usize, count: usize) -> bool
+    requires { place + count ≤ 512 }
+    ensures { result ≡ any_below 64 (λ i. lacks (slot_at facts.now i) (bits_in place count i)) }
+{
+    for index in 0..STACK_SLOTS {
+        if lacks(facts.slot(index), bits_in(place, count, index)) {
+            return true;
+        }
+    }
+    false
+}
+
+/// Whether so many bytes of the stack may be read. `offset` counts from the stack's upper end. The first of these that
+/// holds refuses it: they are not all in the stack (`OutsideStack`), they touch a spilled value (`PartOfSpill`), one may
+/// never have been written (`UnwrittenStack`).
+pub fn read_many(facts: &Facts, offset: i32, count: u32) -> Result<(), Reason>
+    ensures { result ≡ stack_input facts.now offset count }
+{
+    let Some(place) = place_of(offset, count) else {
+        return Err(Reason::OutsideStack);
+    };
+    if touch_a_spill(facts, place, count as usize) {
+        Err(Reason::PartOfSpill)
+    } else if are_missing(facts, place, count as usize) {
+        Err(Reason::UnwrittenStack)
+    } else {
+        Ok(())
+    }
+}
+
+/// Writes from `least` to `most` bytes into the stack: `least` of them are there then, and of a spilled value that may be
+/// touched nothing else is left. Refused where `most` bytes are not all in the stack, and then nothing changes.
+pub fn fill_stack(facts: &mut Facts, offset: i32, least: u32, most: u32) -> Result<(), Reason>
+    requires { least ≤ most }
+    ensures { MatchResult (stack_filled facts.old offset least most) (λ after. (result ≡ Ok tt) × (facts.new ≡ after)) (λ reason. (result ≡ Err reason) × (facts.new ≡ facts.old)) }
+{
+    let place = place_of(offset, most).ok_or(Reason::OutsideStack)?;
+    fill_slots(facts, place, least as usize, most as usize);
+    Ok(())
+}
+
+/// What a slot becomes.
+fn filled_slot(slot: Slot, place: usize, least: usize, most: usize, index: usize) -> Slot
+    requires some { least ≤ most }
+    requires within { place + most ≤ 512 }
+    requires slot { index < 64 }
+    ensures { result ≡ (if touches place most index then bytes_over slot (bits_in place least index) else slot) }
+{
+    if touches(place, most, index) {
+        bytes_over(slot, bits_in(place, least, index))
+    } else {
+        slot
+    }
+}
+
+fn fill_slots(facts: &mut Facts, place: usize, least: usize, most: usize)
+    requires some { least ≤ most }
+    requires within { place + most ≤ 512 }
+    ensures { facts.new ≡ with_slots facts.old (λ i. if touches place most i then bytes_over (slot_at facts.old i) (bits_in place least i) else slot_at facts.old i) }
+{
+    for i in 0..STACK_SLOTS {
+        facts.slots[i] = filled_slot(facts.slot(i), place, least, most, i);
+    }
+}
+
+/// What a call leaves in a register.
+fn called_kind(kind: Kind, result_kind: Kind, register: usize) -> Kind
+    ensures { result ≡ (if register == 0 then result_kind else (if nat_le register 5 then Unreadable else kind)) }
+{
+    if register == 0 {
+        result_kind
+    } else if register <= 5 {
+        Kind::Unreadable
+    } else {
+        kind
+    }
+}
+
+/// What is known after a call that gives a value of a kind: register 0 has it, and registers 1 to 5 may not be read.
+pub fn call(facts: &mut Facts, given: Kind)
+    ensures { facts.new ≡ called_facts facts.old given }
+{
+    for r in 0..REGISTERS {
+        facts.registers[r] = called_kind(facts.kind(r), given, r);
+    }
+}

@@ -1,0 +1,218 @@
+-- Runs in which memory may be refused: their states tell it.
+use Rattle.std.proofs.Common.{◌≡◌, ℕ, zero, suc, ◌+◌, ◌/◌, ◌%◌, ℤ, pos, ◌+ℤ◌, Bool, true, false, ◌||◌, List, [], length, Option, Some, None, Result, Ok, Err, refl, sym, ap, ◌∙◌}
+use Rattle.std.proofs.Math.Bool.{or-false}
+use Rattle.std.proofs.lemmas.Bool.{or_parts, or_from, true≢false, cond_both}
+use Rattle.interval.specs.Words.{unsigned}
+use Rattle.insn_codec.specs.declared.insn.Insn.{Insn}
+use Rattle.insn_codec.specs.declared.insn.Insn.TheVariants.{Alu, Movsx, Neg, End, Ja, Jal, Jump, Call, Exit, Load, Store, Const, MapFd}
+use Rattle.insn_codec.specs.Program.{begins_at, slot_count}
+use Rattle.reg_kinds.specs.declared.stack.Size.{Size}
+use Rattle.reg_kinds.specs.Stack.{is_in_stack, place}
+use Rattle.tagged_model.specs.declared.fault.MapFault.{MapFault}
+use Rattle.tagged_model.specs.declared.helper.Helper.{Helper}
+use Rattle.tagged_model.specs.declared.helper.Helper.TheVariants.{LookUp, Update, Delete, LoadBytes}
+use Rattle.tagged_model.specs.declared.value.Object.TheVariants as object
+use Rattle.tagged_model.specs.declared.value.Tagged.{Tagged}
+use Rattle.tagged_model.specs.declared.value.Tagged.TheVariants.{Scalar, Pointer}
+use Rattle.tagged_model.specs.Operators.{size_of}
+use Rattle.tagged_model.specs.Values.{arithmetic, first_operand, compared}
+use Rattle.tagged_model.specs.Table.{Verdict, Refused, Present, New, verdict, removal}
+use Rattle.tagged_model.specs.Cells.{also, write_cell, cell_over}
+use Rattle.tagged_model.specs.State.{State, RunMap, with_cells, with_register, stack_place, stack_store, stack_written, value_written, object_written, object_stored, store, input, output}
+use Rattle.tagged_model.specs.Helpers.{helper_of, Reply, put, updated, taken_out, removed, packet_bytes, packet_answer, number_given, length_given, context_given, argument, map_argument, returns, replies, called}
+use Rattle.tagged_model.specs.Step.{Step, goes, ends, faults, need, operand, natural, jumped, branched, ended, advanced, assigned, act, step, first, others, Ending, one_more, after, run, begin}
+use Rattle.tagged_model.specs.Laws.{RefusalsAreTold}
+
+-- what is told of a step from s to t: whether memory was refused at it, which needs a refusal, and is noted; where it was not,
+-- the step is the one without refusals
+record IsTold (refused : Bool) (s t : State) (Same : Type 0) : Type 0 where
+  now : Bool
+  noted : t.refused ≡ (s.refused || now)
+  same : now ≡ false → Same
+  needed : refused ≡ false → now ≡ false
+
+module _ (refused : Bool) (s : State) where
+  -- a step, and the step without refusals
+  abbrev StepTells : Step → Step → Type 0
+  StepTells (goes t) b = IsTold refused s t (goes t ≡ b)
+  StepTells (ends n) b = ends n ≡ b
+  StepTells faults b = faults ≡ b
+
+  -- a state that a call may leave, and the one without refusals
+  abbrev StateTells : Option State → Option State → Type 0
+  StateTells None p = ◌≡◌ {A = Option State} None p
+  StateTells (Some t) p = IsTold refused s t (Some t ≡ p)
+
+  -- the flag of a state that may be there
+  abbrev KeepsFlag : Option State → Type 0
+  KeepsFlag None = Unit {0}
+  KeepsFlag (Some t) = t.refused ≡ s.refused
+
+  -- ---- how parts make a step
+
+  kept : (t : State) (Same : Type 0) → t.refused ≡ s.refused → Same → IsTold refused s t Same
+  kept t Same flag same = record { now = false; noted = flag ∙ sym (or-false s.refused); same = λ _. same; needed = λ _. refl }
+
+  need_tells : {A : Type 0} (o : Option A) (f g : A → Step) → ((x : A) → StepTells (f x) (g x)) → StepTells (need o f) (need o g)
+  need_tells None f g h = refl
+  need_tells (Some x) f g h = h x
+
+  also_tells : {A : Type 0} (o : Option A) (f g : A → Option State) → ((x : A) → StateTells (f x) (g x)) → StateTells (also o f) (also o g)
+  also_tells None f g h = refl
+  also_tells (Some x) f g h = h x
+
+  also_keeps : {A : Type 0} (o : Option A) (f : A → Option State) → ((x : A) → KeepsFlag (f x)) → KeepsFlag (also o f)
+  also_keeps None f h = tt
+  also_keeps (Some x) f h = h x
+
+  abbrev next : State → Step
+  next t = goes (advanced 1 t)
+
+  next_tells : (o p : Option State) → StateTells o p → StepTells (need o next) (need p next)
+  next_tells None p h = ap (λ o. need o next) h
+  next_tells (Some t) p h = record { now = h.now; noted = h.noted; same = λ e. ap (λ o. need o next) (h.same e); needed = h.needed }
+
+  next_kept : (o : Option State) → KeepsFlag o → StepTells (need o next) (need o next)
+  next_kept None h = refl
+  next_kept (Some t) h = kept (advanced 1 t) (goes (advanced 1 t) ≡ goes (advanced 1 t)) h refl
+
+  -- ---- what is written
+
+  stack_written_keeps : (x : ℤ) (bs : List ℕ) → KeepsFlag (stack_written s x bs)
+  stack_written_keeps x bs =
+      cond_both (is_in_stack x (length bs)) (Some (with_cells s (λ i. cell_over i (s.cells i) (place x) bs))) None KeepsFlag (λ _. refl) (λ _. tt)
+
+  object_written_keeps : (m number : ℕ) (y : ℤ) (bs : List ℕ) → KeepsFlag (object_written s m number y bs)
+  object_written_keeps m number y bs = also_keeps (s.maps m) _ (λ t. also_keeps (value_written (t.values number) y bs) _ (λ value. refl))
+
+  object_stored_keeps : (size : Size) (m number : ℕ) (y : ℤ) (v : Tagged) → KeepsFlag (object_stored s size m number y v)
+  object_stored_keeps size m number y (Scalar n) = object_written_keeps m number y _
+  object_stored_keeps size m number y v = tt
+
+  stack_store_keeps : (y : ℤ) (size : Size) (v : Tagged) → KeepsFlag (stack_store s y size v)
+  stack_store_keeps y size v = also_keeps (stack_place y size) _ (λ p. also_keeps (write_cell (s.cells (p / 8)) (p % 8) size v) _ (λ c. refl))
+
+  store_keeps : (size : Size) (p : Tagged) (off : ℤ) (v : Tagged) → KeepsFlag (store s size p off v)
+  store_keeps size (Pointer object.Stack x) off v = stack_store_keeps (x +ℤ off) size v
+  store_keeps size (Pointer (object.Value m number) x) off v = object_stored_keeps size m number (x +ℤ off) v
+  store_keeps size p off v = tt
+
+  output_keeps : (p : Tagged) (bs : List ℕ) → KeepsFlag (output s p bs)
+  output_keeps (Pointer object.Stack x) bs = stack_written_keeps x bs
+  output_keeps (Pointer (object.Value m number) x) bs = object_written_keeps m number x bs
+  output_keeps p bs = tt
+
+  -- ---- the calls
+
+  put_same : (t : RunMap) (key value : List ℕ) (v : Verdict ℕ) → (put refused t key value v).refused ≡ false → put refused t key value v ≡ put false t key value v
+  put_same t key value v e = by refused v e
+    where
+      by : (r : Bool) (v : Verdict ℕ) → (put r t key value v).refused ≡ false → put r t key value v ≡ put false t key value v
+      by r (Refused fault) e = refl
+      by r (Present number) e = refl
+      by true New e = absurd (true≢false e)
+      by false New e = refl
+
+  put_needs : (t : RunMap) (key value : List ℕ) (v : Verdict ℕ) → refused ≡ false → (put refused t key value v).refused ≡ false
+  put_needs t key value v e = by refused v e
+    where
+      by : (r : Bool) (v : Verdict ℕ) → r ≡ false → (put r t key value v).refused ≡ false
+      by r (Refused fault) e = refl
+      by r (Present number) e = refl
+      by true New e = e
+      by false New e = refl
+
+  taken_clear : (t : RunMap) (key : List ℕ) (r : Result ℕ MapFault) → (taken_out t key r).refused ≡ false
+  taken_clear t key (Err fault) = refl
+  taken_clear t key (Ok number) = refl
+
+  replied : (m : ℕ) (reply without : Reply) → (reply.refused ≡ false → reply ≡ without) → (refused ≡ false → reply.refused ≡ false) → StateTells (Some (replies s m reply)) (Some (replies s m without))
+  replied m reply without same needed =
+      record { now = reply.refused; noted = refl; same = λ e. ap (λ (r : Reply). Some (replies s m r)) (same e); needed = needed }
+
+  returned : (o : Option State) (v : Tagged) → KeepsFlag o → StateTells (also o (λ t. Some (returns t v))) (also o (λ t. Some (returns t v)))
+  returned None v h = refl
+  returned (Some t) v h = kept (returns t v) (Some (returns t v) ≡ Some (returns t v)) h refl
+
+  called_tells : (h : Helper) → StateTells (called refused h s) (called false h s)
+  called_tells LookUp = also_tells (map_argument s 1) _ _ (λ g. also_tells (argument s 2 (λ p. input s p g.map.table.shape.key_size)) _ _ (λ key. kept _ _ refl refl))
+  called_tells Update =
+      also_tells (map_argument s 1) _ _ (λ g. also_tells (argument s 2 (λ p. input s p g.map.table.shape.key_size)) _ _ (λ key. also_tells (argument s 3 (λ p. input s p g.map.table.shape.value_size)) _ _ (λ value. also_tells (argument s 4 number_given) _ _
+      (λ flags. replied g.descriptor (updated refused g.map key value flags) (updated false g.map key value flags) (put_same g.map key value (verdict g.map.table key flags)) (put_needs g.map key value (verdict g.map.table key flags))))))
+  called_tells Delete =
+      also_tells (map_argument s 1) _ _ (λ g. also_tells (argument s 2 (λ p. input s p g.map.table.shape.key_size)) _ _
+      (λ key. replied g.descriptor (removed g.map key) (removed g.map key) (λ _. refl) (λ _. taken_clear g.map key (removal g.map.table key))))
+  called_tells LoadBytes =
+      also_tells (argument s 1 context_given) _ _ (λ c. also_tells (argument s 2 number_given) _ _ (λ offset. also_tells (argument s 4 length_given) _ _
+      (λ n. let bs = packet_bytes s.packet offset n in returned (argument s 3 (λ p. output s p bs)) (Scalar (packet_answer s.packet offset n)) (also_keeps (s.registers 3) _ (λ p. output_keeps p bs)))))
+
+  -- ---- each instruction
+
+  assigned_tells : (n r : ℕ) (o : Option Tagged) → StepTells (need o (assigned n s r)) (need o (assigned n s r))
+  assigned_tells n r None = refl
+  assigned_tells n r (Some v) = kept (advanced n (with_register s r v)) (assigned n s r v ≡ assigned n s r v) refl refl
+
+  jumped_tells : (off : ℤ) → StepTells (jumped s off) (jumped s off)
+  jumped_tells off = need_tells (natural (pos (s.at + 1) +ℤ off)) _ _ (λ n. kept _ _ refl refl)
+
+  branched_tells : (off : ℤ) (yes : Bool) → StepTells (branched s off yes) (branched s off yes)
+  branched_tells off true = jumped_tells off
+  branched_tells off false = kept _ _ refl refl
+
+  ended_tells : (v : Tagged) → StepTells (ended v) (ended v)
+  ended_tells (Scalar n) = refl
+  ended_tells v = refl
+
+  act_tells : (i : Insn) → StepTells (act refused i s) (act false i s)
+  act_tells (Alu wide op dst src) = need_tells (first_operand op (s.registers dst)) _ _ (λ a. need_tells (operand s wide src) _ _ (λ b. assigned_tells 1 dst (arithmetic wide op a b)))
+  act_tells (Movsx m) = need_tells (s.registers m.src) _ _ (λ b. assigned_tells 1 m.dst _)
+  act_tells (Neg wide dst) = need_tells (s.registers dst) _ _ (λ a. assigned_tells 1 dst _)
+  act_tells (End how bits dst) = need_tells (s.registers dst) _ _ (λ a. assigned_tells 1 dst _)
+  act_tells (Ja off) = jumped_tells off
+  act_tells (Jal off) = jumped_tells off
+  act_tells (Jump wide cond dst src off) = need_tells (s.registers dst) _ _ (λ a. need_tells (operand s wide src) _ _ (λ b. need_tells (compared wide cond src a b) _ _ (λ yes. branched_tells off yes)))
+  act_tells (Call id) = need_tells (helper_of id) _ _ (λ h. next_tells (called refused h s) (called false h s) (called_tells h))
+  act_tells Exit = need_tells (s.registers 0) _ _ ended_tells
+  act_tells (Load l) = need_tells (s.registers l.src) _ _ (λ p. assigned_tells 1 l.dst _)
+  act_tells (Store size dst src off) = need_tells (s.registers dst) _ _ (λ p. need_tells (operand s true src) _ _ (λ v. next_kept (store s (size_of size) p off v) (store_keeps (size_of size) p off v)))
+  act_tells (Const dst value) = kept _ _ refl refl
+  act_tells (MapFd dst fd) = need_tells (s.maps (unsigned 32 fd)) _ _ (λ t. kept _ _ refl refl)
+
+  step_tells : (code : List Insn) → StepTells (step refused code s) (step false code s)
+  step_tells code = need_tells (begins_at code s.at) _ _ act_tells
+
+  -- ---- a step, and the rest of the run
+
+  -- where the rest ends with a clear flag it is the one without refusals, and so is the whole
+  after_tells : (a b : Step) (f g : State → Ending) → StepTells a b → ((t : State) → (f t).state.refused ≡ false → (t.refused ≡ false) × (f t ≡ g t)) → (after a s f).state.refused ≡ false → (s.refused ≡ false) × (after a s f ≡ after b s g)
+  after_tells (goes t) b f g h rest e =
+      let r = rest t e in
+      let both = or_parts s.refused h.now (sym h.noted ∙ r.0) in
+      (both.0, ap one_more r.1 ∙ ap (λ (c : Step). after c s g) (h.same both.1))
+  after_tells (ends n) b f g h rest e = (e, ap (λ (c : Step). after c s g) h)
+  after_tells faults b f g h rest e = (e, ap (λ (c : Step). after c s g) h)
+
+  after_clear : (a b : Step) (f : State → Ending) → StepTells a b → refused ≡ false → s.refused ≡ false → ((t : State) → t.refused ≡ false → (f t).state.refused ≡ false) → (after a s f).state.refused ≡ false
+  after_clear (goes t) b f h none clear rest = rest t (h.noted ∙ or_from s.refused h.now clear (h.needed none))
+  after_clear (ends n) b f h none clear rest = clear
+  after_clear faults b f h none clear rest = clear
+
+-- ---- runs
+
+module _ (code : List Insn) where
+  run_tells : (n : ℕ) (refusals : List Bool) (s : State) → (run code n refusals s).state.refused ≡ false → (s.refused ≡ false) × (run code n refusals s ≡ run code n [] s)
+  unfolding run
+  run_tells zero refusals s e = (e, refl)
+  run_tells (suc n) refusals s e =
+      after_tells (first refusals) s (step (first refusals) code s) (step false code s) (run code n (others refusals)) (run code n []) (step_tells (first refusals) s code) (λ t. run_tells n (others refusals) t) e
+
+  run_clear : (n : ℕ) (s : State) → s.refused ≡ false → (run code n [] s).state.refused ≡ false
+  unfolding run
+  run_clear zero s clear = clear
+  run_clear (suc n) s clear = after_clear false s (step false code s) (step false code s) (run code n []) (step_tells false s code) refl clear (run_clear n)
+
+pub refusals_told : RefusalsAreTold
+refusals_told = record {
+  clear = λ refusals code maps words packet e. (run_tells code (slot_count code) refusals (begin maps words packet) e).1;
+  none = λ code maps words packet. run_clear code (slot_count code) (begin maps words packet) refl;
+}

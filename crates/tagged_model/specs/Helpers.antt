@@ -1,0 +1,163 @@
+-- The functions that a program may call: their numbers and arguments are the kernel's (linux/bpf.h, bpf_func_id). What maps
+-- answer is the definition of a map; that a failed load of bytes writes zeros is this project's own.
+use Rattle.std.specs.Prelude.{ℕ, ◌+◌, ◌-◌, ◌%◌, ◌^◌, ◌==◌, ℤ, pos, Bool, true, false, ◌&&◌, nat_le, if◌then◌else◌, List, [], length, replicate, find, Option, Some, None, Result, Ok, Err}
+use Rattle.std.specs.Ordering.{int_eq}
+use Rattle.interval.specs.Bytes.{bytes_at}
+use Rattle.tagged_model.specs.declared.fault.MapFault.{MapFault}
+use Rattle.tagged_model.specs.declared.fault.MapFault.TheVariants.{NoEntry, TooBig, Memory, Exists, Invalid, NoSpace}
+use Rattle.tagged_model.specs.declared.helper.Helper.{Helper}
+use Rattle.tagged_model.specs.declared.helper.Helper.TheVariants.{LookUp, Update, Delete, LoadBytes}
+use Rattle.tagged_model.specs.declared.value.Object.TheVariants as object
+use Rattle.tagged_model.specs.declared.value.Tagged.{Tagged}
+use Rattle.tagged_model.specs.declared.value.Tagged.TheVariants.{Scalar, Map, Pointer}
+use Rattle.tagged_model.specs.Table.{Verdict, Refused, Present, New, look_up, verdict, removal, with_new, with_deleted}
+use Rattle.tagged_model.specs.Cells.{also}
+use Rattle.tagged_model.specs.State.{State, RunMap, set_at, with_value, input, output, with_map, with_refusal}
+
+-- its number in bpf_func_id
+abbrev pub id_of : Helper → ℕ
+id_of LookUp = 1
+id_of Update = 2
+id_of Delete = 3
+id_of LoadBytes = 26
+
+-- the functions that a program may call: none of them is served yet. No proof rests on which they are
+unfoldable pub known_helpers : List Helper
+known_helpers = []
+
+abbrev pub helper_of : ℤ → Option Helper
+helper_of id = find (λ h. int_eq id (pos (id_of h))) known_helpers
+
+-- ---- answers
+
+-- the errors of bpf(2); a negative one is a number of 64 bits
+abbrev pub errno : MapFault → ℕ
+errno NoEntry = 2
+errno TooBig = 7
+errno Memory = 12
+errno Exists = 17
+errno Invalid = 22
+errno NoSpace = 28
+
+-- EFAULT
+abbrev pub outside : ℕ
+outside = 14
+
+abbrev pub negative : ℕ → ℕ
+negative n = 2 ^ 64 - n
+
+-- what a call gives, the map that it leaves, and whether memory was refused to a new key
+pub record Reply : Type 0 where
+  pub answer : ℕ
+  pub map : RunMap
+  pub refused : Bool
+
+abbrev pub fails_by : MapFault → RunMap → Reply
+fails_by fault t = record { answer = negative (errno fault); map = t; refused = false }
+
+abbrev pub succeeds : RunMap → Reply
+succeeds t = record { answer = 0; map = t; refused = false }
+
+-- memory is refused, and the map stays
+abbrev pub has_no_memory : RunMap → Reply
+has_no_memory t = record { answer = negative (errno Memory); map = t; refused = true }
+
+-- ---- the calls of a map
+
+-- a pointer to the value, or null
+abbrev pub looked_up : ℕ → Option ℕ → Tagged
+looked_up m None = Scalar 0
+looked_up m (Some number) = Pointer (object.Value m number) (pos 0)
+
+-- a new key has a new object
+abbrev pub with_object : RunMap → List ℕ → List ℕ → RunMap
+with_object t key value = record { table = with_new t.table key t.count; count = t.count + 1; values = set_at t.values t.count value }
+
+-- a deleted object keeps its bytes
+abbrev pub without_key : RunMap → List ℕ → RunMap
+without_key t key = record t { table = with_deleted t.table key }
+
+-- a present key's value is written in place; a new key may be refused for memory
+abbrev pub put : Bool → RunMap → List ℕ → List ℕ → Verdict ℕ → Reply
+put refused t key value (Refused fault) = fails_by fault t
+put refused t key value (Present number) = succeeds (with_value t number value)
+put true t key value New = has_no_memory t
+put false t key value New = succeeds (with_object t key value)
+
+abbrev pub updated : Bool → RunMap → List ℕ → List ℕ → ℕ → Reply
+updated refused t key value flags = put refused t key value (verdict t.table key flags)
+
+abbrev pub taken_out : RunMap → List ℕ → Result ℕ MapFault → Reply
+taken_out t key (Err fault) = fails_by fault t
+taken_out t key (Ok number) = succeeds (without_key t key)
+
+abbrev pub removed : RunMap → List ℕ → Reply
+removed t key = taken_out t key (removal t.table key)
+
+-- ---- bytes of the packet
+
+-- the offset is read in 32 bits and may not be negative
+abbrev pub is_in_packet : List ℕ → ℕ → ℕ → Bool
+is_in_packet packet offset n = nat_le (offset % 2 ^ 32) (2 ^ 31 - 1) && nat_le (offset % 2 ^ 32 + n) (length packet)
+
+abbrev pub packet_bytes : List ℕ → ℕ → ℕ → List ℕ
+packet_bytes packet offset n = if is_in_packet packet offset n then bytes_at packet (offset % 2 ^ 32) n else replicate n 0
+
+abbrev pub packet_answer : List ℕ → ℕ → ℕ → ℕ
+packet_answer packet offset n = if is_in_packet packet offset n then 0 else negative outside
+
+-- ---- arguments: what is in a register, if it is of the kind that is wanted
+
+abbrev pub number_given : Tagged → Option ℕ
+number_given (Scalar n) = Some n
+number_given _ = None
+
+abbrev pub length_given : Tagged → Option ℕ
+length_given (Scalar n) = if n == 0 then None else Some n
+length_given _ = None
+
+abbrev pub map_given : Tagged → Option ℕ
+map_given (Map m) = Some m
+map_given _ = None
+
+abbrev pub context_given : Tagged → Option (Unit {0})
+context_given (Pointer object.Context x) = if int_eq x (pos 0) then Some tt else None
+context_given _ = None
+
+-- the argument in a register
+abbrev pub argument : {A : Type 0} → State → ℕ → (Tagged → Option A) → Option A
+argument s r given = also (s.registers r) given
+
+-- a map by its descriptor
+pub record Given : Type 0 where
+  pub descriptor : ℕ
+  pub map : RunMap
+
+abbrev pub map_argument : State → ℕ → Option Given
+map_argument s r = also (argument s r map_given) (λ m. also (s.maps m) (λ t. Some (record { descriptor = m; map = t })))
+
+-- ---- the calls
+
+-- after a call register 0 has what it gives, and registers 1 to 5 are empty
+abbrev pub after_call : (ℕ → Option Tagged) → Tagged → ℕ → Option Tagged
+after_call registers v r = if r == 0 then Some v else (if nat_le r 5 then None else registers r)
+
+abbrev pub returns : State → Tagged → State
+returns s v = record s { registers = after_call s.registers v }
+
+abbrev pub replies : State → ℕ → Reply → State
+replies s m reply = returns (with_refusal (with_map s m reply.map) reply.refused) (Scalar reply.answer)
+
+abbrev pub called : Bool → Helper → State → Option State
+called refused LookUp s =
+    also (map_argument s 1) (λ g. also (argument s 2 (λ p. input s p g.map.table.shape.key_size)) (λ key.
+    Some (returns s (looked_up g.descriptor (look_up g.map.table key)))))
+called refused Update s =
+    also (map_argument s 1) (λ g. also (argument s 2 (λ p. input s p g.map.table.shape.key_size)) (λ key. also (argument s 3 (λ p. input s p g.map.table.shape.value_size)) (λ value. also (argument s 4 number_given) (λ flags.
+    Some (replies s g.descriptor (updated refused g.map key value flags))))))
+called refused Delete s =
+    also (map_argument s 1) (λ g. also (argument s 2 (λ p. input s p g.map.table.shape.key_size)) (λ key.
+    Some (replies s g.descriptor (removed g.map key))))
+called refused LoadBytes s =
+    also (argument s 1 context_given) (λ c. also (argument s 2 number_given) (λ offset. also (argument s 4 length_given) (λ n. also (argument s 3 (λ p. output s p (packet_bytes s.packet offset n))) (λ t.
+    Some (returns t (Scalar (packet_answer s.packet offset n)))))))

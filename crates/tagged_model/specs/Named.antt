@@ -1,0 +1,23 @@
+-- What descriptors name.
+use Rattle.std.specs.Prelude.{ℕ, ◌==◌, if◌then◌else◌, List, [], ◌∷◌, Option, Some, None}
+use Rattle.tagged_model.specs.declared.shape.MapShape.{MapShape}
+use Rattle.tagged_model.specs.declared.shape.Target.{Target}
+use Rattle.tagged_model.specs.declared.shape.Target.TheVariants as target
+use Rattle.tagged_model.specs.declared.shape.Named.{Named}
+
+-- the first entry of a descriptor counts
+unfoldable pub target_of : List Named → ℕ → Option Target
+target_of [] fd = None
+target_of (n ∷ ns) fd = if n.fd == fd then Some n.target else target_of ns fd
+
+abbrev pub shape_in : Option Target → Option MapShape
+shape_in (Some (target.Map shape)) = Some shape
+shape_in (Some target.Program) = None
+shape_in None = None
+
+-- the shapes of maps, by their descriptors
+abbrev pub Shapes : Type 0
+Shapes = ℕ → Option MapShape
+
+abbrev pub shapes_named : List Named → Shapes
+shapes_named named fd = shape_in (target_of named fd)

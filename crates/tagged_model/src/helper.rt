@@ -1,0 +1,44 @@
+//! The functions that a program may call (the kernel's bpf_func_id).
+
+ghost use Rattle.std.specs.Prelude.{◌≡◌, pos};
+ghost use Rattle.tagged_model.specs.Helpers.{helper_of};
+
+/// A function that a program may call.
+#[derive(Clone, Copy, Debug, PartialEq, Eq)]
+pub enum Helper {
+    /// 1, bpf_map_lookup_elem: a pointer to the value of a key, or null.
+    LookUp,
+    /// 2, bpf_map_update_elem: puts a value under a key.
+    Update,
+    /// 3, bpf_map_delete_elem: takes a key out.
+    Delete,
+    /// 26, bpf_skb_load_bytes: copies bytes of the packet.
+    LoadBytes,
+}
+
+/// The functions that programs may call: none of them is served yet.
+const SERVED: [Helper; 0] = [];
+
+impl Helper {
+    ghost use Rattle.tagged_model.specs.Helpers.{id_of};
+
+    /// Its number in bpf_func_id.
+    pub fn id(self) -> i32
+        ensures { result ≡ pos (id_of self) }
+    {
+        match self {
+            Helper::LookUp => 1,
+            Helper::Update => 2,
+            Helper::Delete => 3,
+            Helper::LoadBytes => 26,
+        }
+    }
+}
+
+/// The function with a number, if it is served.
+#[tactic(auto, unfolding(crate::specs::Helpers::known_helpers))]
+pub fn known_helper(id: i32) -> Option<Helper>
+    ensures { result ≡ helper_of id }
+{
+    SERVED.into_iter().find(|helper| helper.id() == id)
+}

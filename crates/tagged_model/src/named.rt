@@ -1,0 +1,29 @@
+//! What descriptors name.
+
+ghost use Rattle.std.specs.Prelude.{◌≡◌};
+ghost use Rattle.tagged_model.specs.Named.{target_of, shapes_named};
+
+use crate::shape::{MapShape, Named, Target};
+
+/// What a descriptor names, if it is open. The first entry of a descriptor counts.
+pub fn target_of(named: &[Named], fd: u32) -> Option<Target>
+    ensures { result ≡ target_of named.now fd }
+{
+    for entry in named {
+        if entry.fd == fd {
+            return Some(entry.target);
+        }
+    }
+    None
+}
+
+/// The shape of the map that a descriptor names, if it names one.
+pub fn shape_of(named: &[Named], fd: u32) -> Option<MapShape>
+    ensures { result ≡ shapes_named named.now fd }
+{
+    match target_of(named, fd) {
+        Some(Target::Map(shape)) => Some(shape),
+        Some(Target::Program) => None,
+        None => None,
+    }
+}

@@ -1,0 +1,294 @@
+-- The facts that an instruction leaves are facts before each later slot.
+use Rattle.std.proofs.Common.{ℕ, ◌<◌, ◌^◌, ℤ, pos, ◌+ℤ◌, Bool, true, false, not, Option, Result, Some, None, Ok, Err, arith}
+use Rattle.std.specs.Prelude.{◌||◌}
+use Rattle.std.specs.Option.{option_map}
+use Rattle.std.proofs.lemmas.Bool.{cond_both}
+use Rattle.interval.specs.declared.range.Range.{Range}
+use Rattle.interval.specs.declared.operator.Operator.{Operator}
+use Rattle.interval.specs.declared.operator.Operator.TheVariants as on_words
+use Rattle.interval.specs.Ranges.{is_constant, full}
+use Rattle.interval.specs.Refine.{Pair, refined}
+use Rattle.interval.specs.Laws.{ResultsAreWords, EdgesAreWords, IsPairOfWords}
+use Rattle.insn_codec.specs.declared.insn.AluOp.{AluOp}
+use Rattle.insn_codec.specs.declared.insn.AluOp.TheVariants as alu
+use Rattle.insn_codec.specs.declared.insn.Condition.{Condition}
+use Rattle.insn_codec.specs.declared.insn.Size.{Size as AccessSize}
+use Rattle.insn_codec.specs.declared.insn.Operand.{Operand}
+use Rattle.insn_codec.specs.declared.insn.Operand.TheVariants.{Imm, Reg}
+use Rattle.insn_codec.specs.declared.insn.Load.{Load as LoadInsn}
+use Rattle.insn_codec.specs.declared.insn.Insn.{Insn}
+use Rattle.insn_codec.specs.declared.insn.Insn.TheVariants.{Alu, Movsx, Neg, End, Ja, Jal, Jump, Call, Exit, Load, Store, Const, MapFd}
+use Rattle.insn_codec.specs.Spelling.{IsInsn}
+use Rattle.reg_kinds.specs.declared.kind.Kind.{Kind}
+use Rattle.reg_kinds.specs.declared.kind.Kind.TheVariants as kind
+use Rattle.reg_kinds.specs.declared.facts.Facts.{Facts}
+use Rattle.reg_kinds.specs.declared.stack.Size.{Size}
+use Rattle.reg_kinds.specs.declared.stack.Size.TheVariants.{Word}
+use Rattle.reg_kinds.specs.declared.reason.Reason.{Reason}
+use Rattle.reg_kinds.specs.declared.reason.Reason.TheVariants.{PointerArithmetic, MaybeNull, ContextAccess, PointerComparison, PointerStored}
+use Rattle.reg_kinds.specs.Reason.{given}
+use Rattle.reg_kinds.specs.Kinds.{is_pointer, kind_at, slot_at, with_kind}
+use Rattle.reg_kinds.specs.Stack.{bytes_of, loaded}
+use Rattle.reg_kinds.specs.declared.kind.Slot.{Slot}
+use Rattle.reg_kinds.specs.declared.kind.Slot.TheVariants.{Bytes, Spill}
+use Rattle.interval.specs.Words.{unsigned}
+use Rattle.tagged_model.specs.declared.helper.Helper.{Helper}
+use Rattle.tagged_model.specs.declared.helper.Helper.TheVariants.{LookUp, Update, Delete, LoadBytes}
+use Rattle.tagged_model.specs.declared.shape.MapShape.{MapShape}
+use Rattle.tagged_model.specs.Named.{Shapes}
+use Rattle.tagged_model.specs.Helpers.{helper_of}
+use Rattle.tagged_model.specs.Operators.{width, operator_of, narrow_of, order_of, kept_of, comparison_of, size_of}
+use Rattle.tagged_model.specs.Values.{is_null_test, holds_of_pointers}
+use Rattle.tagged_model.specs.Cells.{also}
+use Rattle.transfer.specs.declared.arithmetic.Way.{Way}
+use Rattle.transfer.specs.declared.arithmetic.Way.TheVariants.{Forwards, Backwards}
+use Rattle.transfer.specs.Arithmetic.{readable, near, stack_moved, value_by, distance, moved_offset, pointer_moved, is_maybe, of_scalars, of_scalar, sum_kind, difference_kind, unless_maybe, arithmetic_kind}
+use Rattle.transfer.specs.Branches.{Edges, falls, with_source, with_pair, is_same, number_edges, null_edges, pointer_edges, branch_edges}
+use Rattle.transfer.specs.Effects.{source_kind, first_kind, assigns, is_word, context_read, load_kind, stored_outside, store_facts, map_of, known, ends_with, effect}
+use Rattle.transfer.specs.Calls.{map_kind, room_of, input_kind, output_facts, number_kind, length_kind, context_kind, any_number, call_facts}
+use Rattle.transfer.specs.Sound.{IsKindAt, IsSlotAt, AreWellFormedAt, AreWellFormedOn, TransferKeepsWellFormed}
+use Rattle.transfer.proofs.Parts.{OkIs, then_ok, ok_is}
+use Rattle.transfer.proofs.Words.{kind_words, loaded_words, read_words, written_words, settled_words, filled_words, called_words}
+use Rattle.transfer.proofs.States.{word_of}
+
+-- what is told of the results of operators, and of the edges of comparisons
+pub record WordLaws : Type 0 where
+  pub results_wide : ResultsAreWords 64
+  pub results_narrow : ResultsAreWords 32
+  pub edges_wide : EdgesAreWords 64
+  pub edges_narrow : EdgesAreWords 32
+
+results : WordLaws → (wide : Bool) → ResultsAreWords (width wide)
+results laws true = laws.results_wide
+results laws false = laws.results_narrow
+
+refined_words : WordLaws → (wide : Bool) → EdgesAreWords (width wide)
+refined_words laws true = laws.edges_wide
+refined_words laws false = laws.edges_narrow
+
+-- `bound` is above the slot of the instruction
+module _ (bound : ℕ) (shapes : Shapes) (at : ℕ) (lt : at < bound) where
+  abbrev AreFactsBoth : Edges → Type 0
+  AreFactsBoth e = AreWellFormedOn bound e.falling × AreWellFormedOn bound e.jumping
+
+  -- ---- operands
+
+  readable_words : (k : Kind) → IsKindAt bound k → OkIs (IsKindAt bound) (readable k)
+  readable_words kind.Unreadable h = tt
+  readable_words k h = h
+
+  source_words : (f : Facts) (wide : Bool) (src : Operand) → AreWellFormedAt bound f → IsKindAt bound (source_kind f wide src)
+  source_words f wide (Imm z) h = word_of wide z
+  source_words f wide (Reg r) h = h.registers r
+
+  first_words : (op : AluOp) (k : Kind) → IsKindAt bound k → OkIs (IsKindAt bound) (first_kind op k)
+  first_words alu.Mov k h = omega arith
+  first_words op k h = readable_words k h
+
+  -- ---- operators: a pointer that is moved has no range
+
+  any_ok : {A : Type 0} (r : Result A Reason) → OkIs (λ x. Unit {0}) r
+  any_ok (Err e) = tt
+  any_ok (Ok x) = tt
+
+  past : {A B : Type 0} (Q : B → Type 0) (r : Result A Reason) (go : A → Result B Reason) → ((x : A) → OkIs Q (go x)) → OkIs Q (given r go)
+  past Q r go next = then_ok (λ x. Unit {0}) Q r go (any_ok r) (λ x _. next x)
+
+  moved_words : (way : Way) (k : Kind) (r : Range) → OkIs (IsKindAt bound) (pointer_moved way k r)
+  moved_words way (kind.Stack x) r =
+      cond_both (is_constant r) (stack_moved way x r) (Err PointerArithmetic) (OkIs (IsKindAt bound))
+      (λ _. let far = near (also (distance r) (λ d. moved_offset way x d.0)) in then_ok (λ y. Unit {0}) (IsKindAt bound) far (λ y. Ok (kind.Stack y)) (any_ok far) (λ y _. tt))
+      (λ _. tt)
+  moved_words way (kind.Value p) r =
+      let far = near (also (distance r) (value_by way p)) in
+      then_ok (λ q. Unit {0}) (IsKindAt bound) far (λ q. Ok (kind.Value q)) (any_ok far) (λ q _. tt)
+  moved_words way k r = tt
+
+  module _ (laws : WordLaws) where
+    numbers_words : (wide : Bool) (op : Operator) (k l : Kind) → IsKindAt bound k → IsKindAt bound l → OkIs (IsKindAt bound) (of_scalars wide op k l)
+    numbers_words wide op (kind.Scalar a) (kind.Scalar b) h g = results laws wide op a b h g
+    numbers_words wide op k l h g = tt
+
+    sum_words : (k l : Kind) → IsKindAt bound k → IsKindAt bound l → OkIs (IsKindAt bound) (sum_kind k l)
+    sum_words (kind.Scalar a) (kind.Scalar b) h g = numbers_words true (operator_of alu.Add) (kind.Scalar a) (kind.Scalar b) h g
+    sum_words (kind.Scalar a) l h g = moved_words Forwards l a
+    sum_words k (kind.Scalar b) h g = moved_words Forwards k b
+    sum_words k l h g = tt
+
+    difference_words : (k l : Kind) → IsKindAt bound k → IsKindAt bound l → OkIs (IsKindAt bound) (difference_kind k l)
+    difference_words (kind.Scalar a) (kind.Scalar b) h g = numbers_words true (operator_of alu.Sub) (kind.Scalar a) (kind.Scalar b) h g
+    difference_words (kind.Scalar a) l h g = tt
+    difference_words k (kind.Scalar b) h g = moved_words Backwards k b
+    difference_words k l h g = tt
+
+    unless_words : (k l : Kind) (r : Result Kind Reason) → OkIs (IsKindAt bound) r → OkIs (IsKindAt bound) (unless_maybe k l r)
+    unless_words k l r h = cond_both (is_maybe k || is_maybe l) (Err MaybeNull) r (OkIs (IsKindAt bound)) (λ _. tt) (λ _. h)
+
+    arithmetic_words : (wide : Bool) (op : AluOp) (k l : Kind) → IsKindAt bound k → IsKindAt bound l → OkIs (IsKindAt bound) (arithmetic_kind wide op k l)
+    arithmetic_words true alu.Mov k l h g = g
+    arithmetic_words true alu.Add k l h g = unless_words k l (sum_kind k l) (sum_words k l h g)
+    arithmetic_words true alu.Sub k l h g = unless_words k l (difference_kind k l) (difference_words k l h g)
+    arithmetic_words wide op k l h g = numbers_words wide (operator_of op) k l h g
+
+  -- ---- memory
+
+  context_words : (y : ℤ) (size : Size) (signed : Bool) → OkIs (IsKindAt bound) (context_read y size signed)
+  context_words y Word false = cond_both (is_word y) (Ok (kind.Scalar (full 32))) (Err ContextAccess) (OkIs (IsKindAt bound)) (λ _. omega arith) (λ _. tt)
+  context_words y size signed = tt
+
+  load_words : (f : Facts) (size : Size) (signed : Bool) (off : ℤ) (k : Kind) → AreWellFormedAt bound f → OkIs (IsKindAt bound) (load_kind shapes f size signed off k)
+  load_words f size signed off (kind.Stack x) h = read_words bound f (x +ℤ off) size signed h
+  load_words f size signed off kind.Ctx h = context_words off size signed
+  load_words f size signed off (kind.Value p) h = past (IsKindAt bound) (room_of p off (bytes_of size) (shapes p.map)) (λ _. Ok (loaded size signed)) (λ _. loaded_words bound size signed)
+  load_words f size signed off k h = tt
+
+  store_words : (f : Facts) (size : Size) (off : ℤ) (k v : Kind) → AreWellFormedAt bound f → IsKindAt bound v → OkIs (AreWellFormedAt bound) (store_facts shapes f size off k v)
+  store_words f size off (kind.Stack x) v h g = written_words bound f (x +ℤ off) size v h g
+  store_words f size off (kind.Value p) v h g =
+      past (AreWellFormedAt bound) (room_of p off (bytes_of size) (shapes p.map)) (λ _. stored_outside f v)
+      (λ _. cond_both (is_pointer v) (Err PointerStored) (Ok f) (OkIs (AreWellFormedAt bound)) (λ _. tt) (λ _. h))
+  store_words f size off k v h g = tt
+
+  -- ---- calls
+
+  output_words : (f : Facts) (r : Range) (k : Kind) → AreWellFormedAt bound f → OkIs (AreWellFormedAt bound) (output_facts shapes f r k)
+  output_words f r (kind.Stack x) h = filled_words bound f x r.lo r.hi h
+  output_words f r (kind.Value p) h = past (AreWellFormedAt bound) (room_of p (pos 0) r.hi (shapes p.map)) (λ _. Ok f) (λ _. h)
+  output_words f r k h = tt
+
+  number_words_any : IsKindAt bound any_number
+  number_words_any = omega arith
+
+  call_words : (h : Helper) (f : Facts) → AreWellFormedAt bound f → OkIs (AreWellFormedAt bound) (call_facts shapes at h f)
+  call_words LookUp f is =
+      past (AreWellFormedAt bound) (readable (kind_at f 1)) _ (λ a. past (AreWellFormedAt bound) (readable (kind_at f 2)) _
+      (λ b. past (AreWellFormedAt bound) (map_kind shapes a) _ (λ m. past (AreWellFormedAt bound) (input_kind shapes f m.shape.key_size b) _
+      (λ _. called_words bound f (kind.MaybeValue m.descriptor at) is lt))))
+  call_words Update f is =
+      past (AreWellFormedAt bound) (readable (kind_at f 1)) _ (λ a. past (AreWellFormedAt bound) (readable (kind_at f 2)) _
+      (λ b. past (AreWellFormedAt bound) (readable (kind_at f 3)) _ (λ c. past (AreWellFormedAt bound) (readable (kind_at f 4)) _
+      (λ d. past (AreWellFormedAt bound) (map_kind shapes a) _ (λ m. past (AreWellFormedAt bound) (input_kind shapes f m.shape.key_size b) _
+      (λ _. past (AreWellFormedAt bound) (input_kind shapes f m.shape.value_size c) _ (λ _. past (AreWellFormedAt bound) (number_kind d) _
+      (λ _. called_words bound f any_number is number_words_any))))))))
+  call_words Delete f is =
+      past (AreWellFormedAt bound) (readable (kind_at f 1)) _ (λ a. past (AreWellFormedAt bound) (readable (kind_at f 2)) _
+      (λ b. past (AreWellFormedAt bound) (map_kind shapes a) _ (λ m. past (AreWellFormedAt bound) (input_kind shapes f m.shape.key_size b) _
+      (λ _. called_words bound f any_number is number_words_any))))
+  call_words LoadBytes f is =
+      past (AreWellFormedAt bound) (readable (kind_at f 1)) _ (λ a. past (AreWellFormedAt bound) (readable (kind_at f 2)) _
+      (λ b. past (AreWellFormedAt bound) (readable (kind_at f 3)) _ (λ c. past (AreWellFormedAt bound) (readable (kind_at f 4)) _
+      (λ d. past (AreWellFormedAt bound) (context_kind a) _ (λ _. past (AreWellFormedAt bound) (number_kind b) _
+      (λ _. past (AreWellFormedAt bound) (length_kind d) _
+      (λ r. then_ok (AreWellFormedAt bound) (AreWellFormedAt bound) (output_facts shapes f r c) _ (output_words f r c is)
+      (λ g too. called_words bound g any_number too number_words_any))))))))
+
+  map_words : (m : ℕ) (o : Option MapShape) → OkIs (IsKindAt bound) (map_of m o)
+  map_words m None = tt
+  map_words m (Some shape) = tt
+
+  -- ---- the edges of comparisons
+
+  null_words : (jumps : Bool) (null value : Option Facts) → AreWellFormedOn bound null → AreWellFormedOn bound value → AreFactsBoth (null_edges jumps null value)
+  null_words true null value h g = (g, h)
+  null_words false null value h g = (h, g)
+
+  module _ (laws : WordLaws) (f : Facts) (h : AreWellFormedAt bound f) where
+    with_source_words : (g : Facts) (src : Operand) (r : Range) → AreWellFormedAt bound g → r.hi < 2 ^ 64 → AreWellFormedAt bound (with_source g src r)
+    with_source_words g (Imm z) r is small = is
+    with_source_words g (Reg n) r is small = kind_words bound g n (kind.Scalar r) is small
+
+    pair_words : (dst : ℕ) (src : Operand) (o : Option Pair) → IsPairOfWords o → AreWellFormedOn bound (option_map (with_pair f dst src) o)
+    pair_words dst src None is = tt
+    pair_words dst src (Some p) is = with_source_words (with_kind f dst (kind.Scalar p.0)) src p.1 (kind_words bound f dst (kind.Scalar p.0) h is.0) is.1
+
+    number_words : (wide : Bool) (cond : Condition) (dst : ℕ) (src : Operand) (a b : Range) → a.hi < 2 ^ 64 → b.hi < 2 ^ 64 → AreFactsBoth (number_edges wide cond f dst src a b)
+    number_words wide cond dst src a b small too =
+        let edges = refined (width wide) (comparison_of cond) a b in
+        let are = refined_words laws wide (comparison_of cond) a b small too in
+        let both : Edges = record { falling = Some f; jumping = Some f } in
+        let each : Edges = record { falling = option_map (with_pair f dst src) edges.1; jumping = option_map (with_pair f dst src) edges.0 } in
+        cond_both (is_same dst src) both each AreFactsBoth (λ _. (h, h)) (λ _. (pair_words dst src edges.1 are.1, pair_words dst src edges.0 are.0))
+
+    pointer_words : (cond : Condition) (k : Kind) → AreFactsBoth (pointer_edges cond f k)
+    pointer_words cond (kind.MaybeValue m site) = null_words (not (holds_of_pointers cond)) _ _ (settled_words bound f site true h) (settled_words bound f site false h)
+    pointer_words cond k = null_words (not (holds_of_pointers cond)) None (Some f) tt h
+
+    branch_words : (wide : Bool) (cond : Condition) (dst : ℕ) (src : Operand) (k l : Kind) → IsKindAt bound k → IsKindAt bound l → OkIs AreFactsBoth (branch_edges wide cond f dst src k l)
+    branch_words wide cond dst src (kind.Scalar a) (kind.Scalar b) small too = number_words wide cond dst src a b small too
+    branch_words wide cond dst src (kind.Scalar a) l small too = tt
+    branch_words wide cond dst src k l small too =
+        cond_both (is_null_test wide cond src) (Ok (pointer_edges cond f k)) (Err PointerComparison) (OkIs AreFactsBoth) (λ _. pointer_words cond k) (λ _. tt)
+
+    -- ---- each instruction
+
+    falls_words : (g : Facts) → AreWellFormedAt bound g → OkIs AreFactsBoth (falls g)
+    falls_words g is = (is, tt)
+
+    assigns_words : (dst : ℕ) (r : Result Kind Reason) → OkIs (IsKindAt bound) r → OkIs AreFactsBoth (assigns f dst r)
+    assigns_words dst r is = then_ok (IsKindAt bound) AreFactsBoth r (λ k. falls (with_kind f dst k)) is (λ k small. falls_words (with_kind f dst k) (kind_words bound f dst k h small))
+
+    -- from the kind of a register that may be read
+    register_words : (r : ℕ) (go : Kind → Result Edges Reason) → ((k : Kind) → IsKindAt bound k → OkIs AreFactsBoth (go k)) → OkIs AreFactsBoth (given (readable (kind_at f r)) go)
+    register_words r go next = then_ok (IsKindAt bound) AreFactsBoth (readable (kind_at f r)) go (readable_words (kind_at f r) (h.registers r)) next
+
+    operand_words : (wide : Bool) (src : Operand) (go : Kind → Result Edges Reason) → ((k : Kind) → IsKindAt bound k → OkIs AreFactsBoth (go k)) → OkIs AreFactsBoth (given (readable (source_kind f wide src)) go)
+    operand_words wide src go next = then_ok (IsKindAt bound) AreFactsBoth (readable (source_kind f wide src)) go (readable_words (source_kind f wide src) (source_words f wide src h)) next
+
+    ends_words : (k : Kind) → OkIs AreFactsBoth (ends_with k)
+    ends_words (kind.Scalar r) = (tt, tt)
+    ends_words k = tt
+
+    alu_words : (wide : Bool) (op : AluOp) (dst : ℕ) (src : Operand) → OkIs AreFactsBoth (effect shapes at (Alu wide op dst src) f)
+    alu_words wide op dst src =
+        then_ok (IsKindAt bound) AreFactsBoth (first_kind op (kind_at f dst)) _ (first_words op (kind_at f dst) (h.registers dst))
+        (λ a small. operand_words wide src _
+        (λ b too. assigns_words dst (arithmetic_kind wide op a b) (arithmetic_words laws wide op a b small too)))
+
+    -- an operator of one register
+    one_words : (wide : Bool) (op : Operator) (dst src : ℕ) → OkIs AreFactsBoth (given (readable (kind_at f src)) (λ k. assigns f dst (of_scalar wide op k)))
+    one_words wide op dst src = register_words src _ (λ k small. assigns_words dst (of_scalar wide op k) (numbers_words laws wide op k k small small))
+
+    jump_words : (wide : Bool) (cond : Condition) (dst : ℕ) (src : Operand) (off : ℤ) → OkIs AreFactsBoth (effect shapes at (Jump wide cond dst src off) f)
+    jump_words wide cond dst src off =
+        register_words dst _ (λ a small. operand_words wide src _ (λ b too. branch_words wide cond dst src a b small too))
+
+    loads_words : (l : LoadInsn) → OkIs AreFactsBoth (effect shapes at (Load l) f)
+    loads_words l = register_words l.src _ (λ k _. assigns_words l.dst (load_kind shapes f (size_of l.size) l.signed l.off k) (load_words f (size_of l.size) l.signed l.off k h))
+
+    stores_words : (size : AccessSize) (dst : ℕ) (src : Operand) (off : ℤ) → OkIs AreFactsBoth (effect shapes at (Store size dst src off) f)
+    stores_words size dst src off =
+        register_words dst _ (λ k _. operand_words true src _
+        (λ v small. then_ok (AreWellFormedAt bound) AreFactsBoth (store_facts shapes f (size_of size) off k v) falls (store_words f (size_of size) off k v h small) falls_words))
+
+    insn_words : (i : Insn) → IsInsn i → OkIs AreFactsBoth (effect shapes at i f)
+    insn_words (Alu wide op dst src) is = alu_words wide op dst src
+    insn_words (Movsx m) is = one_words m.wide (on_words.SignExtend (narrow_of m.bits)) m.dst m.src
+    insn_words (Neg wide dst) is = one_words wide on_words.Neg dst dst
+    insn_words (End how kept dst) is = one_words true (on_words.End (order_of how) (kept_of kept)) dst dst
+    insn_words (Ja off) is = (tt, h)
+    insn_words (Jal off) is = (tt, h)
+    insn_words (Jump wide cond dst src off) is = jump_words wide cond dst src off
+    insn_words (Call id) is = past AreFactsBoth (known (helper_of id)) _ (λ w. then_ok (AreWellFormedAt bound) AreFactsBoth (call_facts shapes at w f) falls (call_words w f h) falls_words)
+    insn_words Exit is = register_words 0 ends_with (λ k _. ends_words k)
+    insn_words (Load l) is = loads_words l
+    insn_words (Store size dst src off) is = stores_words size dst src off
+    insn_words (Const dst value) is = falls_words _ (kind_words bound f dst _ h is.1)
+    insn_words (MapFd dst fd) is = assigns_words dst (map_of (unsigned 32 fd) (shapes (unsigned 32 fd))) (map_words (unsigned 32 fd) (shapes (unsigned 32 fd)))
+
+-- ---- facts before a slot are facts before each later one
+
+kind_raised : (at n : ℕ) (k : Kind) → at < n → IsKindAt at k → IsKindAt n k
+kind_raised at n (kind.Scalar r) lt h = h
+kind_raised at n (kind.MaybeValue m site) lt h = omega arith
+kind_raised at n k lt h = tt
+
+slot_raised : (at n : ℕ) (s : Slot) → at < n → IsSlotAt at s → IsSlotAt n s
+slot_raised at n (Bytes mask) lt h = h
+slot_raised at n (Spill k) lt h = kind_raised at n k lt h
+
+pub raised : (at n : ℕ) (f : Facts) → at < n → AreWellFormedAt at f → AreWellFormedAt n f
+raised at n f lt h = record { registers = λ r. kind_raised at n (kind_at f r) lt (h.registers r); slots = λ i. slot_raised at n (slot_at f i) lt (h.slots i) }
+
+pub transfer_keeps_well_formed : WordLaws → TransferKeepsWellFormed
+transfer_keeps_well_formed laws shapes at n i f edges is h lt e =
+    ok_is (λ (e : Edges). AreWellFormedOn n e.falling × AreWellFormedOn n e.jumping) (effect shapes at i f) edges (insn_words n shapes at lt laws f (raised at n f lt h) i is) e

@@ -1,0 +1,82 @@
+-- What a call asks of the facts, and what it leaves. The conditions are tried in the order in which they stand.
+use Rattle.std.specs.Prelude.{ℕ, ◌^◌, ◌==◌, ℤ, pos, ◌+ℤ◌, int_le, nat_le, ◌&&◌, ◌||◌, if◌then◌else◌, Option, Some, None, Result, Ok, Err}
+use Rattle.interval.specs.declared.range.Range.{Range}
+use Rattle.interval.specs.Ranges.{full}
+use Rattle.reg_kinds.specs.declared.kind.ValuePointer.{ValuePointer}
+use Rattle.reg_kinds.specs.declared.kind.Kind.{Kind}
+use Rattle.reg_kinds.specs.declared.kind.Kind.TheVariants as kind
+use Rattle.reg_kinds.specs.declared.facts.Facts.{Facts}
+use Rattle.reg_kinds.specs.declared.reason.Reason.{Reason}
+use Rattle.reg_kinds.specs.declared.reason.Reason.TheVariants.{OutsideValue, MaybeNull, HelperArgument, LengthUnbounded}
+use Rattle.reg_kinds.specs.Reason.{given}
+use Rattle.reg_kinds.specs.Kinds.{kind_at}
+use Rattle.reg_kinds.specs.Many.{stack_input, stack_filled, called_facts}
+use Rattle.tagged_model.specs.declared.helper.Helper.{Helper}
+use Rattle.tagged_model.specs.declared.helper.Helper.TheVariants.{LookUp, Update, Delete, LoadBytes}
+use Rattle.tagged_model.specs.declared.shape.MapShape.{MapShape}
+use Rattle.tagged_model.specs.Named.{Shapes}
+use Rattle.transfer.specs.declared.calls.ShapedMap.{ShapedMap}
+use Rattle.transfer.specs.Arithmetic.{readable}
+
+abbrev pub shaped : ℕ → Option MapShape → Result ShapedMap Reason
+shaped m None = Err HelperArgument
+shaped m (Some shape) = Ok (record { descriptor = m; shape = shape })
+
+abbrev pub map_kind : Shapes → Kind → Result ShapedMap Reason
+map_kind shapes (kind.MapRef m) = shaped m (shapes m)
+map_kind shapes k = Err HelperArgument
+
+-- n bytes from so far behind each offset of a pointer lie in a value
+abbrev pub room_of : ValuePointer → ℤ → ℕ → Option MapShape → Result (Unit {0}) Reason
+room_of p off n None = Err OutsideValue
+room_of p off n (Some shape) = if int_le (pos 0) (p.lo +ℤ off) && int_le ((p.hi +ℤ off) +ℤ pos n) (pos shape.value_size) then Ok tt else Err OutsideValue
+
+abbrev pub input_kind : Shapes → Facts → ℕ → Kind → Result (Unit {0}) Reason
+input_kind shapes f n (kind.Stack x) = stack_input f x n
+input_kind shapes f n (kind.Value p) = room_of p (pos 0) n (shapes p.map)
+input_kind shapes f n (kind.MaybeValue m site) = Err MaybeNull
+input_kind shapes f n k = Err HelperArgument
+
+-- lo to hi bytes are written
+abbrev pub output_facts : Shapes → Facts → Range → Kind → Result Facts Reason
+output_facts shapes f r (kind.Stack x) = stack_filled f x r.lo r.hi
+output_facts shapes f r (kind.Value p) = given (room_of p (pos 0) r.hi (shapes p.map)) (λ _. Ok f)
+output_facts shapes f r (kind.MaybeValue m site) = Err MaybeNull
+output_facts shapes f r k = Err HelperArgument
+
+abbrev pub number_kind : Kind → Result Range Reason
+number_kind (kind.Scalar r) = Ok r
+number_kind k = Err HelperArgument
+
+abbrev pub length_kind : Kind → Result Range Reason
+length_kind (kind.Scalar r) = if r.lo == 0 || nat_le (2 ^ 29) r.hi then Err LengthUnbounded else Ok r
+length_kind k = Err HelperArgument
+
+abbrev pub context_kind : Kind → Result (Unit {0}) Reason
+context_kind kind.Ctx = Ok tt
+context_kind k = Err HelperArgument
+
+-- registers from 1 on that may be read
+abbrev pub readable_two : Facts → (Kind → Kind → Result Facts Reason) → Result Facts Reason
+readable_two f go = given (readable (kind_at f 1)) (λ a. given (readable (kind_at f 2)) (λ b. go a b))
+
+abbrev pub readable_four : Facts → (Kind → Kind → Kind → Kind → Result Facts Reason) → Result Facts Reason
+readable_four f go = readable_two f (λ a b. given (readable (kind_at f 3)) (λ c. given (readable (kind_at f 4)) (λ d. go a b c d)))
+
+abbrev pub any_number : Kind
+any_number = kind.Scalar (full 64)
+
+-- a call at a slot
+abbrev pub call_facts : Shapes → ℕ → Helper → Facts → Result Facts Reason
+call_facts shapes at LookUp f =
+    readable_two f (λ a b. given (map_kind shapes a) (λ m. given (input_kind shapes f m.shape.key_size b) (λ _.
+    Ok (called_facts f (kind.MaybeValue m.descriptor at)))))
+call_facts shapes at Update f =
+    readable_four f (λ a b c d. given (map_kind shapes a) (λ m. given (input_kind shapes f m.shape.key_size b) (λ _. given (input_kind shapes f m.shape.value_size c) (λ _. given (number_kind d) (λ _.
+    Ok (called_facts f any_number))))))
+call_facts shapes at Delete f =
+    readable_two f (λ a b. given (map_kind shapes a) (λ m. given (input_kind shapes f m.shape.key_size b) (λ _.
+    Ok (called_facts f any_number))))
+call_facts shapes at LoadBytes f =
+    readable_four f (λ a b c d. given (context_kind a) (λ _. given (number_kind b) (λ _. given (length_kind d) (λ r. given (output_facts shapes f r c) (λ g.
+    Ok (called_facts g any_number))))))

@@ -1,0 +1,228 @@
+//! Accesses of maps' values, and calls.
+
+ghost use Rattle.std.specs.Prelude.{◌≡◌, ◌<◌, ◌≤◌, ◌^◌, ◌+ℤ◌, pos, int_le, ◌&&◌, if◌then◌else◌, IfOk, IfErr, OnErr, OnOk, Ok, Err};
+ghost use Rattle.tagged_model.specs.Named.{shapes_named};
+ghost use Rattle.tagged_model.specs.declared.helper.Helper.TheVariants.{LookUp, Update, Delete, LoadBytes};
+ghost use Rattle.reg_kinds.specs.declared.reason.Reason.TheVariants.{OutsideValue};
+ghost use Rattle.transfer.specs.Calls.{map_kind, room_of, input_kind, output_facts, number_kind, length_kind, context_kind, any_number, call_facts};
+
+use crate::arithmetic::readable;
+use insn_codec::MAX_SLOTS;
+use interval::Range;
+use reg_kinds::{Facts, Kind, Reason, ValuePointer, fill_stack, read_many};
+use tagged_model::{Helper, MapShape, Named, shape_of};
+
+/// A map by its descriptor.
+#[derive(Clone, Copy, Debug, PartialEq, Eq)]
+pub(crate) struct ShapedMap {
+    descriptor: u32,
+    shape: MapShape,
+}
+
+/// The map that an argument is.
+fn map_kind(named: &[Named], kind: Kind) -> Result<ShapedMap, Reason>
+    ensures { result ≡ map_kind (shapes_named named.now) kind }
+{
+    let Kind::MapRef(descriptor) = kind else {
+        return Err(Reason::HelperArgument);
+    };
+    match shape_of(named, descriptor) {
+        Some(shape) => Ok(ShapedMap { descriptor, shape }),
+        None => Err(Reason::HelperArgument),
+    }
+}
+
+/// An offset that is so far behind another.
+fn behind(offset: i32, by: i16) -> i64
+    ensures { result ≡ offset +ℤ by }
+{
+    i64::from(offset) + i64::from(by)
+}
+
+/// Whether so many bytes, from each offset of a range, are among so many.
+fn room_in(low: i64, last: i64, count: u32, size: u32) -> Result<(), Reason>
+    ensures { result ≡ (if int_le (pos 0) low && int_le (last +ℤ pos count) (pos size) then Ok tt else Err OutsideValue) }
+{
+    if low < 0 {
+        return Err(Reason::OutsideValue);
+    }
+    if last > i64::from(size) - i64::from(count) {
+        return Err(Reason::OutsideValue);
+    }
+    Ok(())
+}
+
+/// Whether so many bytes, from so far behind each offset of a pointer, lie in a value.
+pub(crate) fn room_of(
+    named: &[Named],
+    pointer: ValuePointer,
+    offset: i16,
+    count: u32,
+) -> Result<(), Reason>
+    ensures { result ≡ room_of pointer offset count (shapes_named named.now pointer.map) }
+{
+    let Some(shape) = shape_of(named, pointer.map) else {
+        return Err(Reason::OutsideValue);
+    };
+    let low = behind(pointer.lo, offset);
+    let last = behind(pointer.hi, offset);
+    room_in(low, last, count, shape.value_size)
+}
+
+/// Whether an argument points to so many bytes that may be read.
+fn input(named: &[Named], facts: &Facts, count: u32, kind: Kind) -> Result<(), Reason>
+    ensures { result ≡ input_kind (shapes_named named.now) facts.now count kind }
+{
+    match kind {
+        Kind::Stack(offset) => read_many(facts, offset, count),
+        Kind::Value(pointer) => room_of(named, pointer, 0, count),
+        Kind::MaybeValue { .. } => Err(Reason::MaybeNull),
+        _ => Err(Reason::HelperArgument),
+    }
+}
+
+/// Writes a number of bytes of a range to where an argument points.
+fn output(facts: &mut Facts, named: &[Named], length: Range, kind: Kind) -> Result<(), Reason>
+    requires { length.hi < 2 ^ 29 }
+    ensures ok { OnOk result (output_facts (shapes_named named.now) facts.old length kind ≡ Ok facts.new) }
+    ensures refused { IfErr result (λ reason. output_facts (shapes_named named.now) facts.old length kind ≡ Err reason) }
+    ensures stays { OnErr result (facts.new ≡ facts.old) }
+{
+    match kind {
+        Kind::Stack(offset) => fill_stack(facts, offset, length.lo as u32, length.hi as u32),
+        Kind::Value(pointer) => room_of(named, pointer, 0, length.hi as u32),
+        Kind::MaybeValue { .. } => Err(Reason::MaybeNull),
+        _ => Err(Reason::HelperArgument),
+    }
+}
+
+/// The range of an argument that is a number.
+fn number(kind: Kind) -> Result<Range, Reason>
+    ensures { result ≡ number_kind kind }
+{
+    match kind {
+        Kind::Scalar(range) => Ok(range),
+        _ => Err(Reason::HelperArgument),
+    }
+}
+
+/// The range of an argument that is a length: it is not 0, and below 2^29.
+fn length(kind: Kind) -> Result<Range, Reason>
+    ensures value { result ≡ length_kind kind }
+    ensures bound { IfOk result (λ r. r.hi < 2 ^ 29) }
+{
+    let Kind::Scalar(range) = kind else {
+        return Err(Reason::HelperArgument);
+    };
+    if range.lo == 0 || range.hi >= 0x2000_0000 {
+        Err(Reason::LengthUnbounded)
+    } else {
+        Ok(range)
+    }
+}
+
+/// Whether an argument is the context.
+fn context(kind: Kind) -> Result<(), Reason>
+    ensures { result ≡ context_kind kind }
+{
+    match kind {
+        Kind::Ctx => Ok(()),
+        _ => Err(Reason::HelperArgument),
+    }
+}
+
+/// Any number of 64 bits.
+fn any_number() -> Kind
+    ensures { result ≡ any_number }
+{
+    Kind::Scalar(Range::full(true))
+}
+
+/// A look-up, at a slot.
+fn look_up(facts: &mut Facts, named: &[Named], slot: usize) -> Result<(), Reason>
+    requires { slot < MAX_SLOTS }
+    ensures ok { OnOk result (call_facts (shapes_named named.now) slot LookUp facts.old ≡ Ok facts.new) }
+    ensures refused { IfErr result (λ reason. call_facts (shapes_named named.now) slot LookUp facts.old ≡ Err reason) }
+    ensures stays { OnErr result (facts.new ≡ facts.old) }
+{
+    let first = readable(facts.kind(1))?;
+    let key = readable(facts.kind(2))?;
+    let map = map_kind(named, first)?;
+    input(named, facts, map.shape.key_size, key)?;
+    let found = Kind::MaybeValue {
+        map: map.descriptor,
+        site: slot as u16,
+    };
+    reg_kinds::call(facts, found);
+    Ok(())
+}
+
+/// An update, at a slot.
+fn update(facts: &mut Facts, named: &[Named], slot: usize) -> Result<(), Reason>
+    ensures ok { OnOk result (call_facts (shapes_named named.now) slot Update facts.old ≡ Ok facts.new) }
+    ensures refused { IfErr result (λ reason. call_facts (shapes_named named.now) slot Update facts.old ≡ Err reason) }
+    ensures stays { OnErr result (facts.new ≡ facts.old) }
+{
+    let first = readable(facts.kind(1))?;
+    let key = readable(facts.kind(2))?;
+    let value = readable(facts.kind(3))?;
+    let flags = readable(facts.kind(4))?;
+    let map = map_kind(named, first)?;
+    input(named, facts, map.shape.key_size, key)?;
+    input(named, facts, map.shape.value_size, value)?;
+    number(flags)?;
+    reg_kinds::call(facts, any_number());
+    Ok(())
+}
+
+/// A deletion, at a slot.
+fn delete(facts: &mut Facts, named: &[Named], slot: usize) -> Result<(), Reason>
+    ensures ok { OnOk result (call_facts (shapes_named named.now) slot Delete facts.old ≡ Ok facts.new) }
+    ensures refused { IfErr result (λ reason. call_facts (shapes_named named.now) slot Delete facts.old ≡ Err reason) }
+    ensures stays { OnErr result (facts.new ≡ facts.old) }
+{
+    let first = readable(facts.kind(1))?;
+    let key = readable(facts.kind(2))?;
+    let map = map_kind(named, first)?;
+    input(named, facts, map.shape.key_size, key)?;
+    reg_kinds::call(facts, any_number());
+    Ok(())
+}
+
+/// A copy of bytes of the packet, at a slot.
+fn load_bytes(facts: &mut Facts, named: &[Named], slot: usize) -> Result<(), Reason>
+    ensures ok { OnOk result (call_facts (shapes_named named.now) slot LoadBytes facts.old ≡ Ok facts.new) }
+    ensures refused { IfErr result (λ reason. call_facts (shapes_named named.now) slot LoadBytes facts.old ≡ Err reason) }
+    ensures stays { OnErr result (facts.new ≡ facts.old) }
+{
+    let first = readable(facts.kind(1))?;
+    let offset = readable(facts.kind(2))?;
+    let to = readable(facts.kind(3))?;
+    let count = readable(facts.kind(4))?;
+    context(first)?;
+    number(offset)?;
+    let bytes = length(count)?;
+    output(facts, named, bytes, to)?;
+    reg_kinds::call(facts, any_number());
+    Ok(())
+}
+
+/// A call at a slot, if its arguments are right.
+pub(crate) fn call(
+    facts: &mut Facts,
+    named: &[Named],
+    slot: usize,
+    helper: Helper,
+) -> Result<(), Reason>
+    requires { slot < MAX_SLOTS }
+    ensures ok { OnOk result (call_facts (shapes_named named.now) slot helper facts.old ≡ Ok facts.new) }
+    ensures refused { IfErr result (λ reason. call_facts (shapes_named named.now) slot helper facts.old ≡ Err reason) }
+    ensures stays { OnErr result (facts.new ≡ facts.old) }
+{
+    match helper {
+        Helper::LookUp => look_up(facts, named, slot),
+        Helper::Update => update(facts, named, slot),
+        Helper::Delete => delete(facts, named, slot),
+        Helper::LoadBytes => load_bytes(facts, named, slot),
+    }
+}

@@ -1,0 +1,36 @@
+-- The maps that a program loads, by their descriptors, and the shapes of those.
+use Rattle.std.specs.Prelude.{ℕ, Bool, ◌==◌, if◌then◌else◌, not, List, [], ◌∷◌, ◌++◌, Option, None, Some}
+use Rattle.std.specs.List.{list_any, filter, filter_map}
+use Rattle.insn_codec.specs.declared.insn.Insn.{Insn}
+use Rattle.tagged_model.specs.declared.shape.Named.{Named}
+use Rattle.tagged_model.specs.Named.{Shapes, shapes_named}
+use Rattle.verdict.specs.Shape.{descriptor}
+
+-- the others of these
+abbrev pub without : ℕ → List ℕ → List ℕ
+without fd fds = filter (λ other. not (other == fd)) fds
+
+-- each once, in the order in which they first stand
+unfoldable pub distinct : List ℕ → List ℕ
+distinct [] = []
+distinct (fd ∷ fds) = fd ∷ without fd (distinct fds)
+
+-- the descriptors of all loads of maps, each once, in the order of the first load of each
+abbrev pub maps_of : List Insn → List ℕ
+maps_of code = distinct (filter_map descriptor code)
+
+-- one more, behind the others, unless it is among them
+abbrev pub with_descriptor : List ℕ → Option ℕ → List ℕ
+with_descriptor known None = known
+with_descriptor known (Some fd) = if list_any (λ other. other == fd) known then known else known ++ fd ∷ []
+
+abbrev pub is_among : List ℕ → ℕ → Bool
+is_among fds fd = list_any (λ other. other == fd) fds
+
+-- what the open descriptors of these name
+abbrev pub entries_of : List ℕ → List Named → List Named
+entries_of fds named = filter (λ n. is_among fds n.fd) named
+
+-- the shapes of the maps that a program loads, as its descriptors name them
+abbrev pub shapes_of : List Insn → List Named → Shapes
+shapes_of code named = shapes_named (entries_of (maps_of code) named)

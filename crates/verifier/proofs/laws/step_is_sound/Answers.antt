@@ -1,0 +1,5 @@
+use Rattle.verifier.proofs.Steps.{slots_covered}
+use Rattle.verifier.proofs.laws.step_is_sound.Goals as goal
+
+pub returns : goal.returns
+returns c = slots_covered c.transfer_is_sound.ensures c.transfer_keeps_well_formed.ensures

@@ -1,13 +1,14 @@
 -- The words of a run's context, and the names of what is open.
-use Rattle.std.proofs.Common.{◌≡◌, ℕ, zero, suc, ◌+◌, ◌-◌, ◌*◌, ◌<◌, List, [], ◌∷◌, ◌++◌, length, take, drop, get_or, slice_range, Option, Some, refl, sym, ap, ap₂, ◌∙◌, arith, add-one, append_assoc, append-nil}
+use Rattle.std.proofs.Common.{◌≡◌, ℕ, zero, suc, ◌+◌, ◌-◌, ◌*◌, ◌<◌, List, [], ◌∷◌, ◌++◌, length, take, drop, get_or, slice_range, Option, Some, refl, sym, ap, ap₂, ◌∙◌, arith, append_assoc, append-nil}
 use Rattle.std.proofs.lemmas.List.{get_or-take, get_or-drop, drop-drop}
-use Rattle.std.proofs.Math.Seq.{drop-cons, drop-length}
 use Rattle.byteorder.specs.Endian.{little_number, IsRead}
+use Rattle.command_frames.specs.Command.{words}
 use Rattle.tagged_model.specs.declared.shape.Named.{Named}
 use Rattle.tagged_model.specs.declared.shape.Target.TheVariants as target
 use Rattle.host.specs.declared.object.Object.{Object}
 use Rattle.host.specs.declared.object.Object.TheVariants.{Program}
-use Rattle.host.specs.Machine.{context_of, named_at, names_from, words_from}
+use Rattle.host.specs.State.{State}
+use Rattle.host.specs.Machine.{context_of, named, named_at, names_from}
 
 -- ---- words
 
@@ -17,14 +18,14 @@ later k bytes =
     ap (λ n. drop n bytes) same ∙ sym (drop-drop (4 * k) 4 bytes)
 
 -- numbers that stand one after the other
-pub words_read : (n : ℕ) (bytes words : List ℕ) → length words ≡ n → ((k : ℕ) → k < n → get_or words k 0 ≡ little_number 4 (drop (4 * k) bytes)) → words ≡ words_from n bytes
-unfolding words_from
+pub words_read : (n : ℕ) (bytes found : List ℕ) → length found ≡ n → ((k : ℕ) → k < n → get_or found k 0 ≡ little_number 4 (drop (4 * k) bytes)) → found ≡ words n bytes
+unfolding words
 words_read zero bytes [] len each = refl
 words_read zero bytes (w ∷ ws) len each = absurd (omega arith)
 words_read (suc n) bytes [] len each = absurd (omega arith)
 words_read (suc n) bytes (w ∷ ws) len each =
     let first : w ≡ little_number 4 bytes = each 0 (omega arith) in
-    let rest : ws ≡ words_from n (drop 4 bytes) = words_read n (drop 4 bytes) ws (omega arith) (λ k lt. each (suc k) (omega arith) ∙ ap (little_number 4) (later k bytes)) in
+    let rest : ws ≡ words n (drop 4 bytes) = words_read n (drop 4 bytes) ws (omega arith) (λ k lt. each (suc k) (omega arith) ∙ ap (little_number 4) (later k bytes)) in
     ap₂ (λ (x : ℕ) (xs : List ℕ). x ∷ xs) first rest
 
 byte_of_front : (bytes : List ℕ) (n at j : ℕ) → at + j < n → get_or (drop at (take n bytes)) j 0 ≡ get_or (drop at bytes) j 0
@@ -40,33 +41,23 @@ word_of_front bytes n at lt =
     omega arith
 
 -- the packet's length comes before the ten words
-pub context_read : (body words : List ℕ) → length words ≡ 10 → IsRead little_number 4 (slice_range body 4 44) words → (length body - 44) ∷ (words ++ []) ≡ context_of body
-context_read body words len read =
-    let each : (k : ℕ) → k < 10 → get_or words k 0 ≡ little_number 4 (drop (4 * k) (drop 4 body)) = λ k lt. read k (omega arith) ∙ word_of_front (drop 4 body) 40 (4 * k) (omega arith) in
-    ap (λ ws. (length body - 44) ∷ ws) (append-nil words ∙ words_read 10 (drop 4 body) words len each)
+pub context_read : (body found : List ℕ) → length found ≡ 10 → IsRead little_number 4 (slice_range body 4 44) found → (length body - 44) ∷ (found ++ []) ≡ context_of body
+context_read body found len read =
+    let each : (k : ℕ) → k < 10 → get_or found k 0 ≡ little_number 4 (drop (4 * k) (drop 4 body)) = λ k lt. read k (omega arith) ∙ word_of_front (drop 4 body) 40 (4 * k) (omega arith) in
+    ap (λ ws. (length body - 44) ∷ ws) (append-nil found ∙ words_read 10 (drop 4 body) found len each)
 
 -- ---- names
 
 pub named_object : (fd : ℕ) (object : Object) → named_at fd (Some object) ≡ record { fd = fd; target = target.Program } ∷ []
 named_object fd (Program insns) = refl
 
-names_next : (fd at : ℕ) (table : List (Option Object)) (o : Option Object) → at < length table → o ≡ get_or table at o
-    → names_from (fd + at) (drop at table) ≡ named_at (fd + at) o ++ names_from (fd + (at + 1)) (drop (at + 1) table)
+-- what a descriptor names joins those before it
+pub names_more : (s : State) (fd left more : ℕ) (o : Option Object) (all before : List Named) → more ≡ suc left → o ≡ named s fd → all ≡ before ++ names_from s fd more
+    → all ≡ (before ++ named_at fd o) ++ names_from s (fd + 1) left
 unfolding names_from
-names_next fd at table o lt here =
-    let next : (fd + at) + 1 ≡ fd + (at + 1) = omega arith in
-    let front : drop at table ≡ o ∷ drop (at + 1) table = drop-cons table at o lt ∙ ap₂ (λ (x : Option Object) (n : ℕ). x ∷ drop n table) (sym here) (sym (add-one at)) in
-    ap (names_from (fd + at)) front ∙ ap (λ n. named_at (fd + at) o ++ names_from n (drop (at + 1) table)) next
+names_more s fd left more o all before one here e =
+    e ∙ ap (λ n. before ++ names_from s fd n) one ∙ ap (λ (x : Option Object). before ++ (named_at fd x ++ names_from s (fd + 1) left)) (sym here) ∙ sym (append_assoc before (named_at fd o) (names_from s (fd + 1) left))
 
--- what an entry of the table names joins those before it
-pub names_more : (fd at : ℕ) (table : List (Option Object)) (o : Option Object) (named : List Named) → at < length table → o ≡ get_or table at o
-    → names_from fd table ≡ named ++ names_from (fd + at) (drop at table)
-    → names_from fd table ≡ (named ++ named_at (fd + at) o) ++ names_from (fd + (at + 1)) (drop (at + 1) table)
-names_more fd at table o named lt here before =
-    before ∙ ap (λ (ns : List Named). named ++ ns) (names_next fd at table o lt here) ∙ sym (append_assoc named (named_at (fd + at) o) (names_from (fd + (at + 1)) (drop (at + 1) table)))
-
-pub names_all : (fd : ℕ) (table : List (Option Object)) (named : List Named) → names_from fd table ≡ named ++ names_from (fd + length table) (drop (length table) table) → named ≡ names_from fd table
+pub names_all : (s : State) (fd left : ℕ) (all before : List Named) → left ≡ 0 → all ≡ before ++ names_from s fd left → before ≡ all
 unfolding names_from
-names_all fd table named e =
-    let none : drop (length table) table ≡ [] = drop-length table in
-    sym (append-nil named) ∙ sym (e ∙ ap (λ (os : List (Option Object)). named ++ names_from (fd + length table) os) none)
+names_all s fd left all before none e = sym (e ∙ ap (λ n. before ++ names_from s fd n) none ∙ append-nil before)

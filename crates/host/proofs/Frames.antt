@@ -5,7 +5,7 @@ use Rattle.std.proofs.lemmas.Bool.{lt-ltb}
 use Rattle.host.specs.declared.errno.Errno.TheVariants.{TooBig}
 use Rattle.host.specs.declared.command.Reply.{Reply}
 use Rattle.host.specs.declared.command.Reply.TheVariants.{Refused}
-use Rattle.host.specs.Frame.{owner, command_number, reply_to, reply_bytes}
+use Rattle.command_frames.specs.Frame.{owner, command_number, reply_to, reply_bytes}
 use Rattle.host.specs.State.{State}
 use Rattle.host.specs.Reply.{status_told, payload_told, answer_of}
 use Rattle.host.specs.Alone.{AnswersFrame, MayAnswer}

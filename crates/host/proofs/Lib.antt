@@ -13,3 +13,4 @@ mod Digits
 mod Rewriting
 mod OtherFailures
 mod HexRefusals
+mod OneAnswer

@@ -1,7 +1,7 @@
 -- What a load that opens nothing is answered.
 use Rattle.std.proofs.Common.{◌≡◌, ℕ, ◌<◌, ◌≤◌, Bool, true, false, List, length, drop, Option, Some, None, refl, sym, ap, subst, inl, inr, ◌∙◌}
-use Rattle.std.specs.Prelude.{nat_lt, ◌==◌, ◌⊎◌, slice_get}
-use Rattle.std.proofs.lemmas.Bool.{le-ltb, eq-eqb}
+use Rattle.std.specs.Prelude.{nat_lt, ◌==◌, ◌⊎◌, slice_get, is_none}
+use Rattle.std.proofs.lemmas.Bool.{le-ltb, eq-eqb, true≢false}
 use Rattle.std.proofs.lemmas.Option.{none-some, slice_get_within}
 use Rattle.byteorder.specs.Endian.{little_number}
 use Rattle.insn_codec.specs.declared.insn.Insn.{Insn}
@@ -19,7 +19,7 @@ use Rattle.verdict.specs.Verdict.{IsAccepted, IsRefused, memory_fault, safety_fa
 use Rattle.host.specs.declared.command.Reply.{Reply}
 use Rattle.host.specs.declared.command.Reply.TheVariants.{Descriptor, Outcome, Refused, RefusedAt}
 use Rattle.host.specs.State.{State}
-use Rattle.host.specs.Machine.{Answer, free_place, open_descriptors, refused, opened, Loads, AnswersLoad}
+use Rattle.host.specs.Machine.{Answer, free_descriptor, open_descriptors, refused, opened, Loads, AnswersLoad}
 use Rattle.host.specs.Reply.{answer_of, verdict_refusal, verdict_reply, IsLoadRefusal}
 
 told_by : (descriptors : List Named) (slots : List ℕ) (insns : List Insn) (why : Reason) (slot : ℕ) → IsProgram insns → slots ≡ program_bytes insns → IsRefused insns descriptors slot why
@@ -32,31 +32,36 @@ pub verdict_told : (descriptors : List Named) (slots : List ℕ) (insns : List I
 verdict_told descriptors slots insns fault program spelled (inl memory) = subst (λ (f : VerifyFault). IsLoadRefusal descriptors slots (verdict_reply f)) (sym memory) refl
 verdict_told descriptors slots insns fault program spelled (inr is) = told_by descriptors slots insns fault.reason fault.slot program spelled is
 
-load_refused : (s : State) (place : ℕ) (slots : List ℕ) (reply : Reply) → IsLoadRefusal (open_descriptors s) slots reply
-    → (memory_refused : Bool) × Loads memory_refused s place slots (answer_of reply s)
-load_refused s place slots (RefusedAt errno slot number) h = (false, inl (errno, slot, number, h, refl))
-load_refused s place slots (Refused errno) h = (true, ap (λ e. refused e s) h)
-load_refused s place slots (Descriptor fd) h = absurd h
-load_refused s place slots (Outcome outcome) h = absurd h
+load_refused : (s : State) (fd : ℕ) (slots : List ℕ) (reply : Reply) → IsLoadRefusal (open_descriptors s) slots reply
+    → (memory_refused : Bool) × Loads memory_refused s fd slots (answer_of reply s)
+load_refused s fd slots (RefusedAt errno slot number) h = (false, inl (errno, slot, number, h, refl))
+load_refused s fd slots (Refused errno) h = (true, ap (λ e. refused e s) h)
+load_refused s fd slots (Descriptor new) h = absurd h
+load_refused s fd slots (Outcome outcome) h = absurd h
 
-at_place : (memory_refused : Bool) (s : State) (body : List ℕ) (place : ℕ) (answer : Answer) → 4 ≤ length body → little_number 4 body ≡ 1 → free_place s ≡ Some place
-    → Loads memory_refused s place (drop 4 body) answer → AnswersLoad memory_refused s body answer
-at_place memory_refused s body place answer long socket free loads =
+at_free : (memory_refused : Bool) (s : State) (body : List ℕ) (fd : ℕ) (answer : Answer) → 4 ≤ length body → little_number 4 body ≡ 1 → free_descriptor s ≡ Some fd
+    → Loads memory_refused s fd (drop 4 body) answer → AnswersLoad memory_refused s body answer
+at_free memory_refused s body fd answer long socket free loads =
     let short : nat_lt (length body) 4 ≡ false = le-ltb (length body) 4 long in
     let kind : (little_number 4 body == 1) ≡ true = eq-eqb (little_number 4 body) 1 socket in
     rw (short, kind, free) loads
 
-pub load_told : (s : State) (body : List ℕ) (place : ℕ) (reply : Reply) → 4 ≤ length body → little_number 4 body ≡ 1 → free_place s ≡ Some place
+pub load_told : (s : State) (body : List ℕ) (fd : ℕ) (reply : Reply) → 4 ≤ length body → little_number 4 body ≡ 1 → free_descriptor s ≡ Some fd
     → IsLoadRefusal (open_descriptors s) (drop 4 body) reply → (memory_refused : Bool) × AnswersLoad memory_refused s body (answer_of reply s)
-load_told s body place reply long socket free h =
-    let (memory_refused, loads) = load_refused s place (drop 4 body) reply h in
-    (memory_refused, at_place memory_refused s body place (answer_of reply s) long socket free loads)
+load_told s body fd reply long socket free h =
+    let (memory_refused, loads) = load_refused s fd (drop 4 body) reply h in
+    (memory_refused, at_free memory_refused s body fd (answer_of reply s) long socket free loads)
 
-pub load_opens : (s : State) (body slots : List ℕ) (place : ℕ) (insns : List Insn) (descriptors : List Named) → 4 ≤ length body → little_number 4 body ≡ 1 → free_place s ≡ Some place
+-- where the table is not full, a descriptor is free
+pub some_free : (o : Option ℕ) → is_none o ≡ false → (fd : ℕ) × (o ≡ Some fd)
+some_free (Some fd) e = (fd, refl)
+some_free None e = absurd (true≢false e)
+
+pub load_opens : (s : State) (body slots : List ℕ) (fd : ℕ) (insns : List Insn) (descriptors : List Named) → 4 ≤ length body → little_number 4 body ≡ 1 → free_descriptor s ≡ Some fd
     → slots ≡ drop 4 body → descriptors ≡ open_descriptors s → IsProgram insns → slots ≡ program_bytes insns → IsAccepted insns descriptors
-    → (memory_refused : Bool) × AnswersLoad memory_refused s body (opened s place insns)
-load_opens s body slots place insns descriptors long socket free cut listed program spelled accepted =
-    (false, at_place false s body place (opened s place insns) long socket free (inr (insns, program, sym cut ∙ spelled, subst (IsAccepted insns) listed accepted, refl)))
+    → (memory_refused : Bool) × AnswersLoad memory_refused s body (opened s fd insns)
+load_opens s body slots fd insns descriptors long socket free cut listed program spelled accepted =
+    (false, at_free false s body fd (opened s fd insns) long socket free (inr (insns, program, sym cut ∙ spelled, subst (IsAccepted insns) listed accepted, refl)))
 
 -- ---- the slot of a refusal
 

@@ -1,5 +1,5 @@
 -- Programs that are accepted where descriptors name programs alone load no map.
-use Rattle.std.proofs.Common.{◌≡◌, ℕ, ◌+◌, List, [], ◌∷◌, ◌++◌, ◌==◌, if◌then◌else◌, Bool, true, false, Option, Some, None, refl, sym, ap, subst, arith}
+use Rattle.std.proofs.Common.{◌≡◌, ℕ, zero, suc, ◌+◌, List, [], ◌∷◌, ◌++◌, ◌==◌, if◌then◌else◌, Bool, true, false, Option, Some, None, refl, sym, ap, subst, arith}
 use Rattle.std.specs.Prelude.{IsSome}
 use Rattle.std.specs.List.{AllByRecursion, All}
 use Rattle.std.proofs.lemmas.Bool.{false≢true}
@@ -13,7 +13,8 @@ use Rattle.verdict.specs.Verdict.{IsAccepted}
 use Rattle.verdict.specs.Laws.{LoadedMapsHaveShapes}
 use Rattle.host.specs.declared.object.Object.{Object}
 use Rattle.host.specs.declared.object.Object.TheVariants.{Program}
-use Rattle.host.specs.Machine.{named_at, names_from}
+use Rattle.host.specs.State.{State}
+use Rattle.host.specs.Machine.{named, named_at, names_from}
 use Rattle.host.specs.Programs.{ArePrograms}
 
 -- ---- the open descriptors
@@ -22,10 +23,10 @@ before_programs : (fd : ℕ) (o : Option Object) (named : List Named) → ArePro
 before_programs fd None named h = h
 before_programs fd (Some (Program insns)) named h = (refl, h)
 
-pub names_are_programs : (fd : ℕ) (table : List (Option Object)) → ArePrograms (names_from fd table)
+pub names_are_programs : (s : State) (fd n : ℕ) → ArePrograms (names_from s fd n)
 unfolding names_from
-names_are_programs fd [] = tt
-names_are_programs fd (o ∷ os) = before_programs fd o (names_from (fd + 1) os) (names_are_programs (fd + 1) os)
+names_are_programs s fd zero = tt
+names_are_programs s fd (suc n) = before_programs fd (named s fd) (names_from s (fd + 1) n) (names_are_programs s (fd + 1) n)
 
 -- ---- none has a shape
 

@@ -3,7 +3,7 @@ use Rattle.std.proofs.Common.{◌≡◌, ℕ, ◌<◌, ◌^◌, List, ◌++◌, 
 use Rattle.std.specs.Int.{w32, from_le_bytes}
 use Rattle.std.proofs.lemmas.Nat.{le_bytes_4}
 use Rattle.byteorder.specs.Endian.{little_number, little_bytes}
-use Rattle.host.specs.Frame.{IsPartial}
+use Rattle.command_frames.specs.Frame.{IsPartial}
 
 -- what was read is written
 pub bytes_of_number : (bytes : List ℕ) → length bytes ≡ 4 → ((i : ℕ) → get_or bytes i 0 < 256) → little_bytes 4 (little_number 4 bytes) ≡ bytes

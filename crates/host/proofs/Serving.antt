@@ -7,7 +7,7 @@ use Rattle.std.proofs.lemmas.Grind.{flat_map-append}
 use Rattle.std.proofs.KnownBytes.{Consumes-nil, Consumes-trans, Appends-nil, Appends-trans}
 use Rattle.std.specs.List.{flat_map, AllByRecursion}
 use Rattle.std.specs.Io.KnownBytes.{Consumes, Appends}
-use Rattle.host.specs.Frame.{owner, framed, IsFrame}
+use Rattle.command_frames.specs.Frame.{owner, framed, IsFrame}
 use Rattle.host.specs.Reading.{StandsFor}
 use Rattle.host.proofs.Stands.{stands_owner, stands_answers}
 use Rattle.host.specs.State.{State}

@@ -7,7 +7,7 @@ use Rattle.byteorder.specs.Endian.{little_number}
 use Rattle.host.specs.declared.errno.Errno.{Errno}
 use Rattle.host.specs.declared.errno.Errno.TheVariants.{NotPermitted, Invalid}
 use Rattle.host.specs.Errno.{status_of}
-use Rattle.host.specs.Frame.{owner, command_number, reply_to, reply_bytes}
+use Rattle.command_frames.specs.Frame.{owner, command_number, reply_to, reply_bytes}
 use Rattle.host.specs.Reading.{StandsFor}
 use Rattle.host.specs.State.{State}
 use Rattle.host.specs.Machine.{Answer}

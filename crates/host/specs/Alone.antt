@@ -1,15 +1,16 @@
 -- What one tenant is told: the machine of its own, on its own frames.
 use Rattle.std.specs.Prelude.{◌≡◌, ℕ, Bool, List, [], ◌∷◌, length, drop, filter, Option, Some, None, nat_lt, ◌==◌, if◌then◌else◌, MatchBool}
+use Rattle.command_frames.specs.Command.{longest_frame}
+use Rattle.command_frames.specs.Frame.{owner, command_number, reply_to}
 use Rattle.host.specs.declared.errno.Errno.TheVariants.{NotPermitted, TooBig, Invalid}
 use Rattle.host.specs.Errno.{status_of}
-use Rattle.host.specs.Frame.{owner, command_number, reply_to}
 use Rattle.host.specs.State.{State}
 use Rattle.host.specs.Machine.{Answer, refused, Answers}
 
 -- a frame longer than 65,536 bytes is refused, else its command is answered
 abbrev pub AnswersFrame : Bool → State → List ℕ → Answer → Type 0
 AnswersFrame memory_refused s frame answer =
-    MatchBool (nat_lt 65536 (length frame)) (answer ≡ refused TooBig s)
+    MatchBool (nat_lt longest_frame (length frame)) (answer ≡ refused TooBig s)
     (Answers memory_refused s (command_number frame) (drop 4 frame) answer)
 
 -- a frame, its reply, and the state of the tenant that it belongs to before and after it; a tenant that is not served

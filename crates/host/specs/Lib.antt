@@ -1,4 +1,3 @@
-pub mod Frame
 pub mod Stream
 pub mod Reading
 pub mod Errno
@@ -12,3 +11,4 @@ pub mod Served
 pub mod Failure
 pub mod Words
 pub mod Texts
+pub mod Laws

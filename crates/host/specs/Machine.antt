@@ -1,6 +1,8 @@
 -- The machine of one tenant: what each command answers, and what is open after it (bpf(2)).
-use Rattle.std.specs.Prelude.{◌≡◌, ℕ, zero, suc, ℤ, pos, ◌+◌, ◌-◌, Bool, not, ◌||◌, ◌==◌, nat_lt, is_none, List, [], ◌∷◌, ◌++◌, length, drop, slice_get, slice_set, Option, Some, None, option_and_then, position, if◌then◌else◌, MatchBool, MatchOption, ◌⊎◌}
+use Rattle.std.specs.Prelude.{◌≡◌, ℕ, zero, suc, ℤ, pos, ◌+◌, ◌-◌, Bool, not, ◌||◌, ◌==◌, nat_lt, List, [], ◌∷◌, ◌++◌, length, drop, Option, Some, None, if◌then◌else◌, MatchBool, MatchOption, ◌⊎◌}
 use Rattle.byteorder.specs.Endian.{little_number, little_bytes}
+use Rattle.command_frames.specs.Command.{words}
+use Rattle.fd_table.specs.Table as fds
 use Rattle.insn_codec.specs.declared.insn.Insn.{Insn}
 use Rattle.insn_codec.specs.declared.fault.CodecFault.{CodecFault}
 use Rattle.insn_codec.specs.declared.fault.FaultKind.{FaultKind}
@@ -27,35 +29,29 @@ use Rattle.host.specs.State.{State}
 
 -- ---- what a descriptor names
 
--- descriptors begin at 3
-abbrev pub first_descriptor : ℕ
-first_descriptor = 3
-
--- the lowest place that is free
-abbrev pub free_place : State → Option ℕ
-free_place s = position is_none s.table
-
-abbrev pub flattened : {X : Type 0} → Option (Option X) → Option X
-flattened o = option_and_then (λ x. x) o
+-- the lowest descriptor that is free
+abbrev pub free_descriptor : State → Option ℕ
+free_descriptor s = fds.lowest s.table
 
 -- the object that a descriptor names
 abbrev pub named : State → ℕ → Option Object
-named s fd = if nat_lt fd first_descriptor then None else flattened (slice_get s.table (fd - first_descriptor))
+named s fd = fds.named s.table fd
 
 abbrev pub with_open : State → ℕ → Object → State
-with_open s place object = record { table = slice_set s.table place (Some object) }
+with_open s fd object = record { table = fds.with_open s.table fd object }
 
 -- what each open descriptor names, for the verdict
 abbrev pub named_at : ℕ → Option Object → List Named
 named_at fd None = []
 named_at fd (Some (Program insns)) = record { fd = fd; target = target.Program } ∷ []
 
-unfoldable pub names_from : ℕ → List (Option Object) → List Named
-names_from fd [] = []
-names_from fd (o ∷ os) = named_at fd o ++ names_from (fd + 1) os
+-- of so many numbers from this one on
+unfoldable pub names_from : State → ℕ → ℕ → List Named
+names_from s fd zero = []
+names_from s fd (suc n) = named_at fd (named s fd) ++ names_from s (fd + 1) n
 
 abbrev pub open_descriptors : State → List Named
-open_descriptors s = names_from first_descriptor s.table
+open_descriptors s = names_from s fds.first fds.most
 
 -- ---- answers
 
@@ -124,37 +120,32 @@ IsLoadFault descriptors slots errno slot number = IsMalformed slots errno slot n
 
 -- an accepted program is open from then on
 abbrev pub opened : State → ℕ → List Insn → Answer
-opened s place insns = record { status = pos (first_descriptor + place); payload = []; after = with_open s place (Program insns) }
+opened s fd insns = record { status = pos fd; payload = []; after = with_open s fd (Program insns) }
 
--- a load of these slots at a free place
+-- a load of these slots under a free descriptor
 abbrev pub LoadsAt : State → ℕ → List ℕ → Answer → Type 0
-LoadsAt s place slots answer =
+LoadsAt s fd slots answer =
     ((errno : Errno) × (slot : ℕ) × (number : ℕ) × IsLoadFault (open_descriptors s) slots errno slot number × (answer ≡ refused_at errno slot number s))
-    ⊎ ((insns : List Insn) × IsProgram insns × (slots ≡ program_bytes insns) × IsAccepted insns (open_descriptors s) × (answer ≡ opened s place insns))
+    ⊎ ((insns : List Insn) × IsProgram insns × (slots ≡ program_bytes insns) × IsAccepted insns (open_descriptors s) × (answer ≡ opened s fd insns))
 
 -- where memory is refused, that is the answer
 abbrev pub Loads : Bool → State → ℕ → List ℕ → Answer → Type 0
-Loads memory_refused s place slots answer = MatchBool memory_refused (answer ≡ refused NoMemory s) (LoadsAt s place slots answer)
+Loads memory_refused s fd slots answer = MatchBool memory_refused (answer ≡ refused NoMemory s) (LoadsAt s fd slots answer)
 
 abbrev pub AnswersLoad : Bool → State → List ℕ → Answer → Type 0
 AnswersLoad memory_refused s body answer =
     MatchBool (nat_lt (length body) 4 || not (little_number 4 body == 1)) (answer ≡ refused Invalid s)
-    (MatchOption (free_place s) (answer ≡ refused TooManyOpen s) (λ place. Loads memory_refused s place (drop 4 body) answer))
+    (MatchOption (free_descriptor s) (answer ≡ refused TooManyOpen s) (λ fd. Loads memory_refused s fd (drop 4 body) answer))
 
 -- ---- PROG_TEST_RUN (bpf(2))
 
 abbrev pub program_of : Object → List Insn
 program_of (Program insns) = insns
 
--- so many words of four bytes, the lowest byte first
-unfoldable pub words_from : ℕ → List ℕ → List ℕ
-words_from zero bytes = []
-words_from (suc n) bytes = little_number 4 bytes ∷ words_from n (drop 4 bytes)
-
 -- The context of a run: the first eleven words of the kernel's __sk_buff (linux/bpf.h). Word 0 is the packet's length; the
 -- frame hands in the other ten, which follow the descriptor.
 abbrev pub context_of : List ℕ → List ℕ
-context_of body = (length body - 44) ∷ words_from 10 (drop 4 body)
+context_of body = (length body - 44) ∷ words 10 (drop 4 body)
 
 -- The descriptor and ten words of context come before the packet. The result is that of the program on tagged values.
 abbrev pub AnswersRun : State → List ℕ → Answer → Type 0

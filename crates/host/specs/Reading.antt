@@ -1,9 +1,10 @@
 -- How reading a frame may go.
 use Rattle.std.specs.Prelude.{◌≡◌, ℕ, ◌<◌, List, length, take, Option, ◌⊎◌}
 use Rattle.std.specs.Io.KnownBytes.{Consumes, IsAtEnd}
+use Rattle.command_frames.specs.Command.{longest_frame}
+use Rattle.command_frames.specs.Frame.{IsPartial}
 use Rattle.host.specs.declared.server.ServeFaultKind.{ServeFaultKind}
 use Rattle.host.specs.declared.server.ServeFaultKind.TheVariants.{Read, Write, Truncated, TooManyFrames, Memory}
-use Rattle.host.specs.Frame.{IsPartial}
 
 -- fewer than so many bytes came
 pub record ReadsShort (old new : Option (List ℕ)) (count : ℕ) : Type 0 where
@@ -29,4 +30,4 @@ StopsRead Memory left failures_before failures_after = ⊥
 -- the first bytes are the frame, or both are longer than a frame may be and begin with one head
 abbrev pub StandsFor : List ℕ → List ℕ → Type 0
 StandsFor front frame =
-    (front ≡ frame) ⊎ ((65536 < length front) × (65536 < length frame) × (take 4 front ≡ take 4 frame))
+    (front ≡ frame) ⊎ ((longest_frame < length front) × (longest_frame < length frame) × (take 4 front ≡ take 4 frame))

@@ -4,7 +4,7 @@ use Rattle.std.specs.List.{flat_map, AllByRecursion}
 use Rattle.std.specs.Io.KnownBytes.{Consumes, Appends, IsAtEnd}
 use Rattle.host.specs.declared.server.ServeFaultKind.{ServeFaultKind}
 use Rattle.host.specs.declared.server.ServeFaultKind.TheVariants.{Read, Write, Truncated, TooManyFrames, Memory}
-use Rattle.host.specs.Frame.{framed, IsFrame, IsPartial, owner}
+use Rattle.command_frames.specs.Frame.{framed, IsFrame, IsPartial, owner}
 use Rattle.host.specs.State.{State}
 use Rattle.host.specs.Alone.{frames_of, replies_of, MayAnswer, Alone}
 

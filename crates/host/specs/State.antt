@@ -1,11 +1,12 @@
 -- What a tenant has open.
-use Rattle.std.specs.Prelude.{List, Option, None, replicate}
+use Rattle.std.specs.Prelude.{List, Option}
+use Rattle.fd_table.specs.Table as fds
 use Rattle.host.specs.declared.object.Object.{Object}
 
--- the table of descriptors: what each of the 64 numbers from 3 on names
+-- what the descriptors name
 pub record State : Type 0 where
   pub table : List (Option Object)
 
 -- of a new tenant
 abbrev pub nothing_open : State
-nothing_open = record { table = replicate 64 None }
+nothing_open = record { table = fds.nothing_open }

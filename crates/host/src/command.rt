@@ -2,14 +2,14 @@
 
 ghost use Rattle.std.specs.Prelude.{◌≡◌, ◌+◌, ◌++◌, ◌<◌, ◌*◌, ◌≢◌, [], List, ℕ, length, Bool};
 ghost use Rattle.byteorder.specs.Endian.{little_bytes};
-ghost use Rattle.host.specs.Frame.{reply_bytes};
+ghost use Rattle.command_frames.specs.Frame.{reply_bytes};
 ghost use Rattle.host.specs.State.{State};
 ghost use Rattle.host.specs.Machine.{codec_errno, verdict_errno};
 ghost use Rattle.host.specs.Reply.{status_told, payload_told, codec_reply, verdict_reply};
 ghost use Rattle.insn_codec.specs.Fault.{fault_number};
 
 use crate::errno::Errno;
-use crate::reply::{Head, ReplyBuf, bytes_of_half, bytes_of_number, write_reply};
+use command_frames::{Head, ReplyBuf, write_reply};
 use insn_codec::{CodecFault, FaultKind};
 use reg_kinds::Reason;
 use verdict::VerifyFault;
@@ -60,15 +60,15 @@ impl Reply {
     {
         match self {
             Reply::Descriptor(fd) => write_reply(head, i32::from(fd), &[], room),
-            Reply::Outcome(outcome) => write_reply(head, 0, &bytes_of_number(outcome), room),
+            Reply::Outcome(outcome) => write_reply(head, 0, &outcome.to_le_bytes(), room),
             Reply::Refused(errno) => write_reply(head, errno.status(), &[], room),
             Reply::RefusedAt {
                 errno,
                 slot,
                 reason,
             } => {
-                let [a, b, c, d] = bytes_of_number(slot);
-                let [e, f] = bytes_of_half(reason);
+                let [a, b, c, d] = slot.to_le_bytes();
+                let [e, f] = reason.to_le_bytes();
                 write_reply(head, errno.status(), &[a, b, c, d, e, f], room);
             }
         }

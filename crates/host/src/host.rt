@@ -1,7 +1,7 @@
 //! The host of all tenants.
 
 ghost use Rattle.std.specs.Prelude.{◌≡◌, ◌≢◌, ℕ, ◌+◌, ◌*◌, ◌<◌, ◌≤◌, ◌^◌, length, replicate, slice_get, IfOk, Bool, List};
-ghost use Rattle.host.specs.Frame.{owner, command_number};
+ghost use Rattle.command_frames.specs.Frame.{owner, command_number};
 ghost use Rattle.host.specs.State.{State, nothing_open};
 ghost use Rattle.host.specs.Machine.{Answers};
 ghost use Rattle.host.specs.Reply.{answer_of};
@@ -10,15 +10,11 @@ ghost use Rattle.host.specs.Told.{TellsFrame};
 
 use crate::command::{Command, Reply};
 use crate::errno::Errno;
-use crate::reply::{Head, ReplyBuf};
 use crate::tenant::{RUN_MEMORY, Tenant};
 use arena::Arena;
-use byteorder::{ByteOrder, LittleEndian};
+use command_frames::{HEAD_LENGTH, Head, LONGEST_FRAME, ReplyBuf, head};
 use std::alloc::{AllocError, Global};
 use std::marker::Model;
-
-/// The bytes of the longest frame that is looked at.
-const LONGEST_FRAME: usize = 65_536;
 
 /// The states of 1 to 16 tenants. In contracts it is the list of them, by the tenants' numbers.
 #[derive(Drop)]
@@ -52,20 +48,19 @@ fn new_tenants(alloc: Global, count: usize) -> Result<Vec<Tenant>, AllocError>
     Ok(tenants)
 }
 
-/// The head of a frame: its tenant and its command, two bytes each.
-fn head_of(frame: &[u8]) -> Head
+/// The head of the reply to a frame, which is the frame's; 65535 twice where the frame has none.
+fn head_of_reply(frame: &[u8]) -> Head
     ensures tenant { result.tenant ≡ owner frame.now }
     ensures command { result.command ≡ command_number frame.now }
 {
-    if frame.len() < 4 {
-        return Head {
-            tenant: u16::MAX,
-            command: u16::MAX,
-        };
-    }
-    Head {
-        tenant: LittleEndian::read_u16(frame),
-        command: LittleEndian::read_u16(&frame[2..]),
+    match head(frame) {
+        Some(head) => head,
+        None => {
+            Head {
+                tenant: u16::MAX,
+                command: u16::MAX,
+            }
+        }
     }
 }
 
@@ -109,7 +104,7 @@ impl Host {
         ensures count { length self.new ≡ length self.old }
     {
         let tenant = usize::from(head.tenant);
-        if frame.len() < 4 {
+        if frame.len() < HEAD_LENGTH {
             return Reply::Refused(Errno::Invalid);
         }
         if tenant >= self.tenants.len() {
@@ -118,7 +113,7 @@ impl Host {
         if frame.len() > LONGEST_FRAME {
             return Reply::Refused(Errno::TooBig);
         }
-        self.command(tenant, head.command, &frame[4..])
+        self.command(tenant, head.command, &frame[HEAD_LENGTH..])
     }
 
     /// Handles a frame, which is what follows the length field; every length is allowed. The reply is left in the room
@@ -128,7 +123,7 @@ impl Host {
         ensures others { (other : ℕ) → other ≢ owner frame.now → slice_get self.new other ≡ slice_get self.old other }
         ensures count { length self.new ≡ length self.old }
     {
-        let head = head_of(frame);
+        let head = head_of_reply(frame);
         let answer = self.answer(head, frame);
         answer.write(head, reply);
     }

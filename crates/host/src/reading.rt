@@ -4,16 +4,17 @@ ghost use Rattle.std.specs.Prelude.{◌≡◌, ℕ, ◌+◌, ◌-◌, ◌<◌, �
 ghost use Rattle.std.specs.Io.KnownBytes.{Consumes, IsAtEnd};
 ghost use Rattle.byteorder.specs.Endian.{little_number};
 ghost use Rattle.byteorder.specs.Endian.{little_bytes};
-ghost use Rattle.host.specs.Frame.{framed, IsFrame, IsPartial};
+ghost use Rattle.command_frames.specs.Frame.{framed, IsFrame, IsPartial};
 ghost use Rattle.host.specs.Reading.{ReadsShort, ReadsPartial, StopsRead, StandsFor};
 
 use crate::server::ServeFaultKind;
 use crate::stream::Source;
 use byteorder::{ByteOrder, LittleEndian};
+use command_frames::LONGEST_FRAME;
 use std::alloc::{AllocError, Global};
 
 /// How many bytes of a frame are kept: one more than the longest frame that is looked at has.
-pub(crate) const KEPT: usize = 65_537;
+pub(crate) const KEPT: usize = LONGEST_FRAME + 1;
 
 /// Reads until the buffer is full or the input ends, and says how many bytes came.
 pub(crate) fn fill<S: Source>(reader: &mut S, buffer: &mut [u8]) -> Result<usize, ServeFaultKind>

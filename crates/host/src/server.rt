@@ -8,9 +8,9 @@ ghost use Rattle.host.specs.Served.{Moment, IsSound, Turns, Waits, Answered, Cut
 
 use crate::host::Host;
 use crate::reading::{KEPT, fill, read_frame};
-use crate::reply::ReplyBuf;
 use crate::stream::{Sink, Source};
 use crate::writing::write_whole;
+use command_frames::ReplyBuf;
 use std::alloc::{AllocError, Global};
 
 /// Why a stream was not served to its end.

@@ -1,13 +1,14 @@
 //! One tenant: what is open, and what its commands do.
 
-ghost use Rattle.std.specs.Prelude.{◌≡◌, ◌≢◌, ℕ, ◌<◌, ◌≤◌, Bool, length, IfOk, IfErr, IfSome};
+ghost use Rattle.std.specs.Prelude.{◌≡◌, ◌≢◌, ℕ, ◌<◌, ◌≤◌, Bool, length, IfOk, IfErr, is_none, false, Some};
 ghost use Rattle.std.specs.Option.{option_copied};
 ghost use Rattle.arena.specs.Memory.{part_bytes};
 ghost use Rattle.insn_codec.specs.Program.{IsProgram, program_bytes};
 ghost use Rattle.verdict.specs.Verdict.{IsAccepted};
 ghost use Rattle.host.specs.State.{nothing_open};
 ghost use Rattle.host.specs.Programs.{ArePrograms};
-ghost use Rattle.host.specs.Machine.{context_of, free_place, named, open_descriptors, with_open, AnswersLoad, AnswersRun};
+ghost use Rattle.host.specs.declared.object.Object.TheVariants.{Program};
+ghost use Rattle.host.specs.Machine.{context_of, free_descriptor, named, open_descriptors, with_open, AnswersLoad, AnswersRun};
 ghost use Rattle.host.specs.Reply.{answer_of, IsLoadRefusal};
 
 use crate::command::{Reply, reply_to_codec, reply_to_verdict};
@@ -15,6 +16,7 @@ use crate::errno::Errno;
 use crate::object::{Loaded, Object};
 use arena::{Arena, Trace};
 use byteorder::{ByteOrder, LittleEndian};
+use fd_table::{FIRST, FdTable, MOST};
 use flat_machine::run;
 use insn_codec::read_program;
 use std::alloc::{AllocError, Global};
@@ -22,12 +24,6 @@ use std::marker::Model;
 use tagged_model::{Named, Outcome, Target};
 use verdict::loaded_maps_have_shapes;
 use verifier::verify;
-
-/// How many descriptors a tenant has.
-const DESCRIPTORS: usize = 64;
-
-/// The number of the first descriptor.
-const FIRST_DESCRIPTOR: usize = 3;
 
 /// The type of socket filters, the only one that is loaded (BPF_PROG_TYPE_SOCKET_FILTER).
 const SOCKET_FILTER: u32 = 1;
@@ -44,29 +40,15 @@ pub(crate) const RUN_MEMORY: usize = 512 + 64;
 /// What a tenant has open.
 #[derive(Drop)]
 pub(crate) struct Tenant {
-    table: Vec<Option<Object>>,
+    table: FdTable<Object>,
 }
 
 impl Model for Tenant {
-    ghost use Rattle.std.specs.Prelude.{◌≡◌, vec_len};
     ghost use Rattle.host.specs.State.{State};
 
     ghost Value = { State };
 
-    ghost view = { λ t. record { table = t.table.items } };
-
-    ghost invariant = { λ t. vec_len t.table ≡ 64 };
-}
-
-/// A table in which each number is free.
-fn empty_table(alloc: Global) -> Result<Vec<Option<Object>>, AllocError>
-    ensures { IfOk result (λ table. record { table = table.items } ≡ nothing_open) }
-{
-    let mut table = Vec::with_capacity(alloc, DESCRIPTORS)?;
-    for _ in 0..DESCRIPTORS {
-        table.push(None)?;
-    }
-    Ok(table)
+    ghost view = { λ t. record { table = t.table } };
 }
 
 /// The program that the slots spell, if it is accepted with these descriptors open, which name programs.
@@ -107,32 +89,34 @@ impl Tenant {
         ensures { IfOk result (λ tenant. tenant ≡ nothing_open) }
     {
         Ok(Tenant {
-            table: empty_table(alloc)?,
+            table: FdTable::new(alloc)?,
         })
     }
 
-    /// The lowest place that is free.
-    fn free_place(&self) -> Option<usize>
-        ensures value { result ≡ free_place self.now }
-        ensures bound { IfSome result (λ place. place < 64) }
+    /// Whether no descriptor is free.
+    fn is_full(&self) -> bool
+        ensures { result ≡ is_none (free_descriptor self.now) }
     {
-        self.table.iter().position(Option::is_none)
+        self.table.is_full()
     }
 
-    /// Opens an object at a place.
-    fn open_at(&mut self, place: usize, object: Object)
-        requires { place < 64 }
-        ensures { self.new ≡ with_open self.old place object }
+    /// Opens a program under the lowest descriptor that is free, where one is.
+    fn open(&mut self, program: Loaded) -> u8
+        requires { is_none (free_descriptor self.old) ≡ false }
+        ensures lowest { free_descriptor self.old ≡ Some result }
+        ensures opened { self.new ≡ with_open self.old result (Program program) }
     {
-        self.table[place] = Some(object);
+        match self.table.place(Object::Program(program)) {
+            Ok(fd) => fd as u8,
+            Err(_) => unreachable!(),
+        }
     }
 
     /// What a descriptor names.
     fn named(&self, fd: u32) -> Option<&Object>
         ensures { option_copied result ≡ named self.now fd }
     {
-        let place = (fd as usize).checked_sub(FIRST_DESCRIPTOR)?;
-        self.table.get(place)?.as_ref()
+        self.table.get(fd)
     }
 
     /// What each open descriptor names.
@@ -140,11 +124,11 @@ impl Tenant {
         ensures named { IfOk result (λ descriptors. descriptors.items ≡ open_descriptors self.now) }
         ensures programs { IfOk result (λ descriptors. ArePrograms descriptors.items) }
     {
-        let mut descriptors = Vec::with_capacity(alloc, DESCRIPTORS)?;
-        for (place, object) in self.table.iter().enumerate() {
-            if let Some(Object::Program(_)) = object {
+        let mut descriptors = Vec::with_capacity(alloc, MOST)?;
+        for fd in FIRST..FIRST + MOST as u32 {
+            if let Some(Object::Program(_)) = self.named(fd) {
                 descriptors.push(Named {
-                    fd: (FIRST_DESCRIPTOR + place) as u32,
+                    fd,
                     target: Target::Program,
                 })?;
             }
@@ -160,17 +144,14 @@ impl Tenant {
         if body.len() < 4 || LittleEndian::read_u32(body) != SOCKET_FILTER {
             return Reply::Refused(Errno::Invalid);
         }
-        let Some(place) = self.free_place() else {
+        if self.is_full() {
             return Reply::Refused(Errno::TooManyOpen);
-        };
+        }
         let Ok(descriptors) = self.open_descriptors(alloc) else {
             return Reply::Refused(Errno::NoMemory);
         };
         match judged(alloc, &body[4..], &descriptors) {
-            Ok(loaded) => {
-                self.open_at(place, Object::Program(loaded));
-                Reply::Descriptor((FIRST_DESCRIPTOR + place) as u8)
-            }
+            Ok(loaded) => Reply::Descriptor(self.open(loaded)),
             Err(reply) => reply,
         }
     }

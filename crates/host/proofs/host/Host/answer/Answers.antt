@@ -1,6 +1,6 @@
 use Rattle.std.proofs.Common.{◌<◌, length, ap, arith}
 use Rattle.std.specs.Prelude.{slice_get}
-use Rattle.host.specs.Frame.{owner}
+use Rattle.command_frames.specs.Frame.{owner}
 use Rattle.host.proofs.Tenants.{slice_get_some}
 use Rattle.host.proofs.Frames.{tells_long}
 use Rattle.host.proofs.host.Host.answer.Goals as goal

@@ -1,10 +1,7 @@
--- The names so far, and those of the rest of the table.
-use Rattle.std.proofs.Common.{◌≡◌, ◌+◌, ◌++◌, drop}
-use Rattle.host.specs.Machine.{first_descriptor, names_from}
+-- The names so far, and those of the numbers that are left.
+use Rattle.std.proofs.Common.{◌≡◌, ◌-◌, ◌++◌}
+use Rattle.host.specs.Machine.{names_from, open_descriptors}
 use Rattle.host.proofs.tenant.Tenant.open_descriptors.Given as goal
 
-abbrev pub invariant-loop-place : goal.invariant-loop-place
-invariant-loop-place l = record {
-  table : l.object-items ≡ l.self.table;
-  names : names_from first_descriptor l.self.table ≡ l.descriptors.items ++ names_from (first_descriptor + l.place) (drop l.place l.self.table);
-}
+abbrev pub invariant-loop-fd : goal.invariant-loop-fd
+invariant-loop-fd l = open_descriptors l.self ≡ l.descriptors.items ++ names_from l.self l.fd (67 - l.fd)

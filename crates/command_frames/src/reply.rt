@@ -2,17 +2,20 @@
 
 ghost use Rattle.std.specs.Prelude.{◌≡◌, ◌+◌, ◌≤◌, ◌++◌, ◌^◌, ◌<◌, ℤ, [], length, IfOk, FitsSigned};
 ghost use Rattle.byteorder.specs.Endian.{little_bytes};
-ghost use Rattle.host.specs.Frame.{reply_bytes};
+ghost use Rattle.command_frames.specs.Frame.{longest_payload, longest_reply, reply_bytes};
 
-use byteorder::{ByteOrder, LittleEndian};
+use crate::command::Head;
 use std::alloc::{AllocError, Global};
 use std::marker::Model;
 
-/// The bytes of the longest reply: twelve, and a payload of 4,096.
-const LONGEST: usize = 4108;
+/// The bytes between the length of a reply and its payload: tenant, command and status.
+const REPLY_HEAD: usize = 8;
 
-/// The longest payload of a reply, in bytes.
-pub(crate) const LONGEST_PAYLOAD: usize = 4096;
+/// The bytes of the longest payload of a reply.
+pub const LONGEST_PAYLOAD: usize = 4096;
+
+/// The bytes of the longest reply.
+const LONGEST_REPLY: usize = 4 + REPLY_HEAD + LONGEST_PAYLOAD;
 
 /// Room for one reply. In contracts it is the list of the reply's bytes.
 #[derive(Drop)]
@@ -22,12 +25,13 @@ pub struct ReplyBuf {
 
 impl Model for ReplyBuf {
     ghost use Rattle.std.specs.Prelude.{List, ℕ, ◌≤◌, vec_capacity};
+    ghost use Rattle.command_frames.specs.Frame.{longest_reply};
 
     ghost Value = { List ℕ };
 
     ghost view = { λ r. r.bytes.items };
 
-    ghost invariant = { λ r. 4108 ≤ vec_capacity r.bytes };
+    ghost invariant = { λ r. longest_reply ≤ vec_capacity r.bytes };
 }
 
 impl ReplyBuf {
@@ -36,7 +40,7 @@ impl ReplyBuf {
         ensures { IfOk result (λ reply. reply ≡ []) }
     {
         Ok(ReplyBuf {
-            bytes: Vec::with_capacity(alloc, LONGEST)?,
+            bytes: Vec::with_capacity(alloc, LONGEST_REPLY)?,
         })
     }
 
@@ -47,53 +51,32 @@ impl ReplyBuf {
         &self.bytes
     }
 
+    /// Forgets the last reply.
     fn clear(&mut self)
         ensures { self.new ≡ [] }
     {
         self.bytes.clear();
     }
 
+    /// Appends bytes, for which there is room.
     fn append(&mut self, bytes: &[u8])
-        requires { length self.old + length bytes.now ≤ 4108 }
+        requires { length self.old + length bytes.now ≤ longest_reply }
         ensures { self.new ≡ self.old ++ bytes.now }
     {
         self.bytes.extend_from_slice(bytes).unwrap();
     }
 }
 
-/// Whom a reply is for: the tenant and the command of the frame.
-#[derive(Clone, Copy, Debug, PartialEq, Eq)]
-pub(crate) struct Head {
-    pub tenant: u16,
-    pub command: u16,
-}
-
-pub(crate) fn bytes_of_number(number: u32) -> [u8; 4]
-    ensures { result ≡ little_bytes 4 number }
-{
-    let mut bytes = [0; 4];
-    LittleEndian::write_u32(&mut bytes, number);
-    bytes
-}
-
-pub(crate) fn bytes_of_half(number: u16) -> [u8; 2]
-    ensures { result ≡ little_bytes 2 number }
-{
-    let mut bytes = [0; 2];
-    LittleEndian::write_u16(&mut bytes, number);
-    bytes
-}
-
 /// Leaves the bytes of a reply in the room for it.
-pub(crate) fn write_reply(head: Head, status: i32, payload: &[u8], reply: &mut ReplyBuf)
-    requires { length payload.now ≤ 4096 }
+pub fn write_reply(head: Head, status: i32, payload: &[u8], reply: &mut ReplyBuf)
+    requires { length payload.now ≤ longest_payload }
     ensures { reply.new ≡ reply_bytes head.tenant head.command status payload.now }
 {
-    let length = 8 + payload.len() as u32;
+    let length = (REPLY_HEAD + payload.len()) as u32;
     reply.clear();
-    reply.append(&bytes_of_number(length));
-    reply.append(&bytes_of_half(head.tenant));
-    reply.append(&bytes_of_half(head.command));
-    reply.append(&bytes_of_number(status.cast_unsigned()));
+    reply.append(&length.to_le_bytes());
+    reply.append(&head.tenant.to_le_bytes());
+    reply.append(&head.command.to_le_bytes());
+    reply.append(&status.to_le_bytes());
     reply.append(payload);
 }

@@ -1,0 +1,4 @@
+mod Words
+mod Parsing
+mod Spelling
+mod Vectors

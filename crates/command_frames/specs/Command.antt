@@ -1,0 +1,83 @@
+-- The commands that frames carry: their numbers and fields are those of bpf(2), and 256 closes a descriptor.
+use Rattle.std.specs.Prelude.{ℕ, zero, suc, ◌+◌, ◌==◌, nat_le, nat_lt, List, [], ◌∷◌, length, drop, Result, Ok, Err, if◌then◌else◌}
+use Rattle.byteorder.specs.Endian.{little_number}
+use Rattle.command_frames.specs.declared.command.BadFrame.{BadFrame}
+use Rattle.command_frames.specs.declared.command.BadFrame.TheVariants.{TooLong, Unknown, Body}
+use Rattle.command_frames.specs.Frame.{head_length}
+
+-- what follows the numbers is bytes
+pub data Command : Type 0 where
+  map_create : (kind key_size value_size max_entries flags : ℕ) → Command
+  map_lookup : (fd : ℕ) (key : List ℕ) → Command
+  map_update : (fd flags : ℕ) (key_and_value : List ℕ) → Command
+  map_delete : (fd : ℕ) (key : List ℕ) → Command
+  map_next_key : (fd : ℕ) (key : List ℕ) → Command
+  prog_load : (kind : ℕ) (slots : List ℕ) → Command
+  prog_test_run : (fd : ℕ) (words packet : List ℕ) → Command
+  close : (fd : ℕ) → Command
+
+-- ---- lengths in bytes
+
+-- a word: a descriptor, a type or a size
+abbrev pub word_length : ℕ
+word_length = 4
+
+-- the body of a command that makes a map: five words
+abbrev pub create_body : ℕ
+create_body = 20
+
+-- what comes before the key and the value of an update: a descriptor and eight bytes of flags
+abbrev pub before_key_and_value : ℕ
+before_key_and_value = 12
+
+-- the ten words of context
+abbrev pub context_length : ℕ
+context_length = 40
+
+-- what comes before the packet of a test run: a descriptor and the context
+abbrev pub before_packet : ℕ
+before_packet = word_length + context_length
+
+-- the longest frame that is looked at
+abbrev pub longest_frame : ℕ
+longest_frame = 65536
+
+-- ---- the body
+
+-- the number in four bytes, or in eight, the lowest first, behind so many bytes
+abbrev pub word : ℕ → List ℕ → ℕ
+word at body = little_number 4 (drop at body)
+
+abbrev pub long : ℕ → List ℕ → ℕ
+long at body = little_number 8 (drop at body)
+
+-- so many words one after the other
+unfoldable pub words : ℕ → List ℕ → List ℕ
+words zero bytes = []
+words (suc n) bytes = little_number 4 bytes ∷ words n (drop 4 bytes)
+
+-- a body of just so many bytes, and one of at least so many
+abbrev pub exactly : ℕ → List ℕ → Command → Result Command BadFrame
+exactly n body command = if length body == n then Ok command else Err Body
+
+abbrev pub at_least : ℕ → List ℕ → Command → Result Command BadFrame
+at_least n body command = if nat_le n (length body) then Ok command else Err Body
+
+-- the command of a number with this body
+abbrev pub command_in : ℕ → List ℕ → Result Command BadFrame
+command_in n body =
+    if n == 0 then exactly create_body body (map_create (word 0 body) (word 4 body) (word 8 body) (word 12 body) (word 16 body)) else
+    (if n == 1 then at_least word_length body (map_lookup (word 0 body) (drop word_length body)) else
+    (if n == 2 then at_least before_key_and_value body (map_update (word 0 body) (long word_length body) (drop before_key_and_value body)) else
+    (if n == 3 then at_least word_length body (map_delete (word 0 body) (drop word_length body)) else
+    (if n == 4 then at_least word_length body (map_next_key (word 0 body) (drop word_length body)) else
+    (if n == 5 then at_least word_length body (prog_load (word 0 body) (drop word_length body)) else
+    (if n == 10 then at_least before_packet body (prog_test_run (word 0 body) (words 10 (drop word_length body)) (drop before_packet body)) else
+    (if n == 256 then exactly word_length body (close (word 0 body)) else Err Unknown)))))))
+
+-- ---- the frame
+
+-- the command of a frame with a head
+abbrev pub parsed : List ℕ → Result Command BadFrame
+parsed frame =
+    if nat_lt longest_frame (length frame) then Err TooLong else command_in (little_number 2 (drop 2 frame)) (drop head_length frame)

@@ -1,0 +1,59 @@
+-- Frames: a stream is a list of them and a rest, and each has a reply.
+use Rattle.std.specs.Prelude.{ℕ, ℤ, ◌+◌, ◌<◌, ◌^◌, List, ◌++◌, length, drop, nat_lt, Option, Some, None, if◌then◌else◌, ◌⊎◌}
+use Rattle.std.specs.Int.{w32, cast_unsigned}
+use Rattle.byteorder.specs.Endian.{little_number, little_bytes}
+use Rattle.command_frames.specs.declared.command.Head.{Head}
+
+-- on the stream: its length in four bytes, the lowest first, and then so many bytes
+abbrev pub framed : List ℕ → List ℕ
+framed frame = little_bytes 4 (length frame) ++ frame
+
+-- its length fits in four bytes
+abbrev pub IsFrame : List ℕ → Type 0
+IsFrame frame = length frame < 2 ^ 32
+
+-- no whole frame stands at the front
+abbrev pub IsPartial : List ℕ → Type 0
+IsPartial bytes = (length bytes < 4) ⊎ (length bytes < 4 + little_number 4 bytes)
+
+-- ---- the head of a frame
+
+-- the bytes of a head: a tenant and a command, two bytes each
+abbrev pub head_length : ℕ
+head_length = 4
+
+-- there is none in fewer bytes
+abbrev pub head_of : List ℕ → Option Head
+head_of frame = if nat_lt (length frame) head_length then None else Some (record { tenant = little_number 2 frame; command = little_number 2 (drop 2 frame) })
+
+-- the tenant that it belongs to, and 65535 where it is too short for a head
+abbrev pub owner : List ℕ → ℕ
+owner frame = if nat_lt (length frame) head_length then 65535 else little_number 2 frame
+
+-- the command, by its number
+abbrev pub command_number : List ℕ → ℕ
+command_number frame = if nat_lt (length frame) head_length then 65535 else little_number 2 (drop 2 frame)
+
+-- ---- the reply
+
+-- the bytes between the length of a reply and its payload: tenant, command and status
+abbrev pub reply_head : ℕ
+reply_head = 8
+
+-- the bytes of the longest payload
+abbrev pub longest_payload : ℕ
+longest_payload = 4096
+
+-- and of the longest reply
+abbrev pub longest_reply : ℕ
+longest_reply = 4 + reply_head + longest_payload
+
+-- the length of what follows, the tenant, the command, the status and the payload
+abbrev pub reply_bytes : ℕ → ℕ → ℤ → List ℕ → List ℕ
+reply_bytes tenant command status payload =
+    little_bytes 4 (reply_head + length payload)
+    ++ (little_bytes 2 tenant ++ (little_bytes 2 command ++ (little_bytes 4 (cast_unsigned w32 status) ++ payload)))
+
+-- the reply to a frame
+abbrev pub reply_to : List ℕ → ℤ → List ℕ → List ℕ
+reply_to frame status payload = reply_bytes (owner frame) (command_number frame) status payload

@@ -1,0 +1,41 @@
+-- Bytes tell the frames, and the replies, that they are.
+use Rattle.std.specs.Prelude.{◌≡◌, ℕ, ℤ, ◌<◌, ◌≤◌, ◌^◌, List, ◌++◌, length, slice_index, FitsSigned}
+use Rattle.std.specs.Int.{w32}
+use Rattle.std.specs.List.{flat_map, AllByRecursion}
+use Rattle.command_frames.specs.Frame.{framed, IsFrame, IsPartial, longest_payload, reply_bytes}
+
+-- ---- streams
+
+-- the bytes are these frames one after another, and then a rest that is no whole frame
+pub record IsStream (bytes : List ℕ) (frames : List (List ℕ)) (rest : List ℕ) : Type 0 where
+  pub each : AllByRecursion IsFrame frames
+  pub partial : IsPartial rest
+  pub spelled : bytes ≡ flat_map framed frames ++ rest
+
+-- all bytes are, and in one way
+abbrev pub EachIsStream : Type 0
+EachIsStream =
+    (bytes : List ℕ) → ((i : ℕ) → slice_index bytes i < 256)
+    → (frames : List (List ℕ)) × (rest : List ℕ) × IsStream bytes frames rest
+
+abbrev pub OneReading : Type 0
+OneReading =
+    (bytes : List ℕ) (frames others : List (List ℕ)) (rest left : List ℕ)
+    → IsStream bytes frames rest → IsStream bytes others left → (frames ≡ others) × (rest ≡ left)
+
+-- ---- replies
+
+-- the fields of a reply are in their ranges
+pub record IsReply (tenant command : ℕ) (status : ℤ) (payload : List ℕ) : Type 0 where
+  pub tenant_fits : tenant < 2 ^ 16
+  pub command_fits : command < 2 ^ 16
+  pub status_fits : FitsSigned w32 status
+  pub short : length payload ≤ longest_payload
+
+-- bytes begin with one reply at most
+abbrev pub OneReply : Type 0
+OneReply =
+    (tenant other command number : ℕ) (status sign : ℤ) (payload load rest left : List ℕ)
+    → IsReply tenant command status payload → IsReply other number sign load
+    → reply_bytes tenant command status payload ++ rest ≡ reply_bytes other number sign load ++ left
+    → (tenant ≡ other) × (command ≡ number) × (status ≡ sign) × (payload ≡ load) × (rest ≡ left)

@@ -1,0 +1,4 @@
+pub mod Frame
+pub mod Command
+pub mod Shown
+pub mod Laws

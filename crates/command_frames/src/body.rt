@@ -1,0 +1,156 @@
+//! The bodies of commands.
+
+ghost use Rattle.std.specs.Prelude.{◌≡◌, ◌≤◌, ◌+◌, length, drop};
+ghost use Rattle.byteorder.specs.Endian.{little_number};
+ghost use Rattle.command_frames.specs.Command.{command_in, context_length, word_length, words};
+ghost use Rattle.command_frames.specs.Shown.{shown_result};
+
+use crate::command::{BadFrame, Command};
+use byteorder::{ByteOrder, LittleEndian};
+
+/// The bytes of a word: a descriptor, a type or a size.
+const WORD_LENGTH: usize = 4;
+
+/// The body of MAP_CREATE: five words.
+const CREATE_BODY: usize = 20;
+
+/// What comes before the key and the value of an update: a descriptor and eight bytes of flags.
+const BEFORE_KEY_AND_VALUE: usize = 12;
+
+/// The bytes of the ten words of context.
+const CONTEXT_LENGTH: usize = 40;
+
+/// What comes before the packet of a test run: a descriptor and the context.
+const BEFORE_PACKET: usize = WORD_LENGTH + CONTEXT_LENGTH;
+
+fn word(bytes: &[u8], at: usize) -> u32
+    requires { at + word_length ≤ length bytes.now }
+    ensures { result ≡ little_number 4 (drop at bytes.now) }
+{
+    LittleEndian::read_u32(&bytes[at..])
+}
+
+fn map_create(body: &[u8]) -> Result<Command<'_>, BadFrame>
+    ensures { shown_result result ≡ command_in 0 body.now }
+{
+    if body.len() != CREATE_BODY {
+        return Err(BadFrame::Body);
+    }
+    Ok(Command::MapCreate {
+        kind: word(body, 0),
+        key_size: word(body, 4),
+        value_size: word(body, 8),
+        max_entries: word(body, 12),
+        flags: word(body, 16),
+    })
+}
+
+fn map_lookup(body: &[u8]) -> Result<Command<'_>, BadFrame>
+    ensures { shown_result result ≡ command_in 1 body.now }
+{
+    if body.len() < WORD_LENGTH {
+        return Err(BadFrame::Body);
+    }
+    Ok(Command::MapLookup {
+        fd: word(body, 0),
+        key: &body[WORD_LENGTH..],
+    })
+}
+
+fn map_update(body: &[u8]) -> Result<Command<'_>, BadFrame>
+    ensures { shown_result result ≡ command_in 2 body.now }
+{
+    if body.len() < BEFORE_KEY_AND_VALUE {
+        return Err(BadFrame::Body);
+    }
+    Ok(Command::MapUpdate {
+        fd: word(body, 0),
+        flags: LittleEndian::read_u64(&body[WORD_LENGTH..]),
+        key_and_value: &body[BEFORE_KEY_AND_VALUE..],
+    })
+}
+
+fn map_delete(body: &[u8]) -> Result<Command<'_>, BadFrame>
+    ensures { shown_result result ≡ command_in 3 body.now }
+{
+    if body.len() < WORD_LENGTH {
+        return Err(BadFrame::Body);
+    }
+    Ok(Command::MapDelete {
+        fd: word(body, 0),
+        key: &body[WORD_LENGTH..],
+    })
+}
+
+fn map_next_key(body: &[u8]) -> Result<Command<'_>, BadFrame>
+    ensures { shown_result result ≡ command_in 4 body.now }
+{
+    if body.len() < WORD_LENGTH {
+        return Err(BadFrame::Body);
+    }
+    Ok(Command::MapNextKey {
+        fd: word(body, 0),
+        key: &body[WORD_LENGTH..],
+    })
+}
+
+fn prog_load(body: &[u8]) -> Result<Command<'_>, BadFrame>
+    ensures { shown_result result ≡ command_in 5 body.now }
+{
+    if body.len() < WORD_LENGTH {
+        return Err(BadFrame::Body);
+    }
+    Ok(Command::ProgLoad {
+        kind: word(body, 0),
+        slots: &body[WORD_LENGTH..],
+    })
+}
+
+/// Ten words one after the other.
+fn ten_words(bytes: &[u8]) -> [u32; 10]
+    requires { context_length ≤ length bytes.now }
+    ensures { result ≡ words 10 bytes.now }
+{
+    let mut words = [0; 10];
+    LittleEndian::read_u32_into(&bytes[..CONTEXT_LENGTH], &mut words);
+    words
+}
+
+fn prog_test_run(body: &[u8]) -> Result<Command<'_>, BadFrame>
+    ensures { shown_result result ≡ command_in 10 body.now }
+{
+    if body.len() < BEFORE_PACKET {
+        return Err(BadFrame::Body);
+    }
+    Ok(Command::ProgTestRun {
+        fd: word(body, 0),
+        words: ten_words(&body[WORD_LENGTH..]),
+        packet: &body[BEFORE_PACKET..],
+    })
+}
+
+fn close(body: &[u8]) -> Result<Command<'_>, BadFrame>
+    ensures { shown_result result ≡ command_in 256 body.now }
+{
+    if body.len() != WORD_LENGTH {
+        return Err(BadFrame::Body);
+    }
+    Ok(Command::Close { fd: word(body, 0) })
+}
+
+/// The command of a number, as bpf(2) numbers them, with this body.
+pub(crate) fn command_in(number: u16, body: &[u8]) -> Result<Command<'_>, BadFrame>
+    ensures { shown_result result ≡ command_in number body.now }
+{
+    match number {
+        0 => map_create(body),
+        1 => map_lookup(body),
+        2 => map_update(body),
+        3 => map_delete(body),
+        4 => map_next_key(body),
+        5 => prog_load(body),
+        10 => prog_test_run(body),
+        256 => close(body),
+        _ => Err(BadFrame::Unknown),
+    }
+}

@@ -1,0 +1,44 @@
+//! Frames as they are read. A frame is what follows the length field.
+
+ghost use Rattle.std.specs.Prelude.{◌≡◌, ◌≤◌, length};
+ghost use Rattle.command_frames.specs.Command.{parsed};
+ghost use Rattle.command_frames.specs.Frame.{head_length, head_of};
+ghost use Rattle.command_frames.specs.Shown.{shown_result};
+
+use crate::body::command_in;
+use crate::command::{BadFrame, Command, Head};
+use byteorder::{ByteOrder, LittleEndian};
+
+/// The bytes of a head: a tenant and a command.
+pub const HEAD_LENGTH: usize = 4;
+
+/// The bytes of the longest frame that is looked at.
+pub const LONGEST_FRAME: usize = 65_536;
+
+/// The head of a frame; none in fewer than four bytes.
+pub fn head(frame: &[u8]) -> Option<Head>
+    ensures { result ≡ head_of frame.now }
+{
+    if frame.len() < HEAD_LENGTH {
+        return None;
+    }
+    Some(Head {
+        tenant: LittleEndian::read_u16(frame),
+        command: LittleEndian::read_u16(&frame[2..]),
+    })
+}
+
+/// The command that a frame carries, which has a head. The frame's bytes are lent; none is copied but the numbers.
+///
+/// # Errors
+///
+/// What is wrong with the frame, the first cause in the order of `BadFrame`.
+pub fn parse(frame: &[u8]) -> Result<Command<'_>, BadFrame>
+    requires { head_length ≤ length frame.now }
+    ensures { shown_result result ≡ parsed frame.now }
+{
+    if frame.len() > LONGEST_FRAME {
+        return Err(BadFrame::TooLong);
+    }
+    command_in(LittleEndian::read_u16(&frame[2..]), &frame[HEAD_LENGTH..])
+}

@@ -1,0 +1,18 @@
+//! Laws of frames and replies. Each is the contract of a function that does nothing.
+
+ghost use Rattle.command_frames.specs.Laws.{EachIsStream, OneReading, OneReply};
+
+/// Bytes are a list of frames, and a rest that is no whole frame.
+pub fn each_is_stream()
+    ensures { EachIsStream }
+{}
+
+/// Bytes are one list of frames and one rest: a stream is read in one way.
+pub fn one_reading()
+    ensures { OneReading }
+{}
+
+/// Bytes begin with one reply at most: it tells its tenant, command, status and payload.
+pub fn one_reply()
+    ensures { OneReply }
+{}

@@ -1,0 +1,13 @@
+//! Frames: whose a frame is, the command that it carries, and the bytes of replies.
+#![tactic(auto)]
+
+mod body;
+mod command;
+mod frame;
+mod laws;
+mod reply;
+
+pub use command::{BadFrame, Command, Head};
+pub use frame::{HEAD_LENGTH, LONGEST_FRAME, head, parse};
+pub use laws::{each_is_stream, one_reading, one_reply};
+pub use reply::{LONGEST_PAYLOAD, ReplyBuf, write_reply};

@@ -1,0 +1,33 @@
+//! Worked cases of frames and descriptors: writes an answer for each line of standard input.
+//!
+//! - `head HEX`: the tenant and the command of a frame, which is what follows the length field.
+//! - `parse HEX`: the command that a frame with a head carries, with its fields, or why it carries none.
+//! - `reply TENANT COMMAND STATUS HEX`: the bytes of a reply with this payload, which may be left out.
+//! - `place NUMBER..`: opens these numbers, and tells their descriptors.
+//! - `get FD..`: what these descriptors name.
+//! - `close FD..`: closes these descriptors, and tells what they named.
+//! - `full`: whether no descriptor is free.
+//!
+//! Spaces may part the bytes, and `HEX*COUNT` stands for so many copies. Of many bytes the first are written, and how many
+//! there are. A line that is empty or begins with `#` is written as it stands.
+#![tactic(auto)]
+
+mod bytes;
+mod commands;
+mod session;
+
+use anyhow::Result;
+use session::Session;
+
+fn main(rt: HostRuntime) -> Result<()> {
+    let alloc = rt.alloc();
+    let mut session = Session::new(alloc)?;
+    for line in rt.lines(alloc) {
+        let line = line?;
+        match session.play(line.as_str()) {
+            Ok(answer) => println!(rt; "{answer}")?,
+            Err(fault) => println!(rt; "{fault}")?,
+        }
+    }
+    Ok(())
+}

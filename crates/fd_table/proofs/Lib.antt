@@ -1,0 +1,2 @@
+mod TakenBits
+mod Vectors

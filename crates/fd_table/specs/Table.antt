@@ -1,0 +1,38 @@
+-- Descriptors: the numbers from 3 to 66, and what each open one names.
+use Rattle.std.specs.Prelude.{◌≡◌, ℕ, ◌+◌, ◌-◌, nat_lt, is_none, List, Option, Some, None, option_map, option_and_then, position, replicate, slice_get, slice_set, Result, Ok, Err, if◌then◌else◌}
+
+-- the lowest number
+abbrev pub first : ℕ
+first = 3
+
+-- so many may be open
+abbrev pub most : ℕ
+most = 64
+
+module _ {A : Type 0} where
+  -- what is open at each place; a descriptor is 3 above its place
+  abbrev pub nothing_open : List (Option A)
+  nothing_open = replicate most None
+
+  abbrev pub flattened : Option (Option A) → Option A
+  flattened o = option_and_then (λ x. x) o
+
+  -- what a descriptor names, if it is open
+  abbrev pub named : List (Option A) → ℕ → Option A
+  named table fd = if nat_lt fd first then None else flattened (slice_get table (fd - first))
+
+  -- the lowest descriptor that is not open
+  abbrev pub lowest : List (Option A) → Option ℕ
+  lowest table = option_map (λ place. first + place) (position is_none table)
+
+  abbrev pub with_open : List (Option A) → ℕ → A → List (Option A)
+  with_open table fd x = slice_set table (fd - first) (Some x)
+
+  -- a descriptor that is closed. What is not open stays so
+  abbrev pub without : List (Option A) → ℕ → List (Option A)
+  without table fd = if nat_lt fd first then table else slice_set table (fd - first) None
+
+  -- the lowest one is given; where there is none, what was to be opened is handed back
+  abbrev pub Places : Option ℕ → List (Option A) → A → Result ℕ A → List (Option A) → Type 0
+  Places (Some fd) old x answer new = (answer ≡ Ok fd) × (new ≡ with_open old fd x)
+  Places None old x answer new = (answer ≡ Err x) × (new ≡ old)

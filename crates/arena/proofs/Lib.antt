@@ -2,3 +2,4 @@ mod Walks
 pub mod Parts
 pub mod Apart
 pub mod Within
+pub mod Asked

@@ -1,7 +1,8 @@
 -- What is written in one part leaves the others as they were.
-use Rattle.std.specs.Prelude.{◌≡◌, ◌≢◌, ℕ, ◌+◌, ◌*◌, ◌<◌, ◌≤◌, List, length}
-use Rattle.arena.specs.Bytes.{written_at}
-use Rattle.arena.specs.Memory.{Memory, size_of, part_start, part_bytes, with_bytes, with_part}
+use Rattle.std.specs.Prelude.{◌≡◌, ◌≢◌, ℕ, ◌+◌, ◌*◌, ◌<◌, ◌≤◌, List, length, Option, Some}
+use Rattle.interval.specs.Bytes.{number_of, low_bytes}
+use Rattle.arena.specs.Bytes.{bytes_at, written_at}
+use Rattle.arena.specs.Memory.{Memory, size_of, base, place_of, loaded, stored, copied, part_start, part_bytes, with_bytes, with_part}
 
 -- the memory is its parts, and this is one of them
 abbrev pub IsPart : Memory → ℕ → Type 0
@@ -24,3 +25,26 @@ pub record WritesAreInParts : Type 0 where
   pub bytes : (m : Memory) (t at : ℕ) (new : List ℕ) → IsPart m t → at + length new ≤ m.part → part_bytes (with_bytes m (part_start m t + at) new) t ≡ written_at (part_bytes m t) at new
   pub memory : (m : Memory) (t at : ℕ) (new : List ℕ) → IsPart m t → at + length new ≤ m.part → with_part m t (written_at (part_bytes m t) at new) ≡ with_bytes m (part_start m t + at) new
   pub size : (m : Memory) (t at : ℕ) (new : List ℕ) → IsPart m t → at + length new ≤ m.part → size_of (with_bytes m (part_start m t + at) new) ≡ size_of m
+
+-- ---- by address
+
+-- bytes are written at a place of a part, and the other parts are as they were
+pub record IsWritten (old : Memory) (t at : ℕ) (new : List ℕ) (after : Memory) : Type 0 where
+  pub own : part_bytes after t ≡ written_at (part_bytes old t) at new
+  pub others : (u : ℕ) → u ≢ t → part_bytes after u ≡ part_bytes old u
+
+-- what the memory has for n bytes at a place of a part
+abbrev pub asked_in : Memory → ℕ → ℕ → ℕ → Option ℕ
+asked_in m t n at = place_of (size_of m) n (base + (part_start m t + at))
+
+-- loads, stores and copies within a part are those of its bytes
+pub record HasAccesses (m : Memory) (t : ℕ) : Type 0 where
+  pub found : (at n : ℕ) → at + n ≤ m.part → asked_in m t n at ≡ Some (part_start m t + at)
+  pub bytes : (at n : ℕ) → at + n ≤ m.part → bytes_at m.bytes (part_start m t + at) n ≡ bytes_at (part_bytes m t) at n
+  pub load : (at n : ℕ) → at + n ≤ m.part → loaded m n (asked_in m t n at) ≡ Some (number_of (bytes_at (part_bytes m t) at n))
+  pub store : (at n value : ℕ) → at + n ≤ m.part → IsWritten m t at (low_bytes n value) (stored m n value (asked_in m t n at))
+  pub copy : (to from n : ℕ) → to + n ≤ m.part → from + n ≤ m.part
+      → IsWritten m t to (bytes_at (part_bytes m t) from n) (copied m n (asked_in m t n from) (asked_in m t n to))
+
+abbrev pub AccessesAreInParts : Type 0
+AccessesAreInParts = (m : Memory) (t : ℕ) → IsPart m t → HasAccesses m t

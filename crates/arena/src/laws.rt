@@ -1,6 +1,6 @@
 //! Laws of the parts. Each is the contract of a function that does nothing.
 
-ghost use Rattle.arena.specs.Apart.{WritesStayInside, PartsAreApart, WritesAreInParts};
+ghost use Rattle.arena.specs.Apart.{WritesStayInside, PartsAreApart, WritesAreInParts, AccessesAreInParts};
 
 /// What a store or a copy writes within a part leaves the other parts as they were.
 pub fn writes_stay_inside()
@@ -15,4 +15,9 @@ pub fn parts_are_apart()
 /// What is written within a part is written in its bytes, through the memory or through the part that is lent.
 pub fn writes_are_in_parts()
     ensures { WritesAreInParts }
+{}
+
+/// A load, a store or a copy within a part is one in its bytes, and leaves the other parts as they were.
+pub fn accesses_are_in_parts()
+    ensures { AccessesAreInParts }
 {}

@@ -6,7 +6,7 @@ use Rattle.bpf_maps.specs.declared.maps.Entry.{Entry}
 use Rattle.bpf_maps.specs.declared.maps.Maps.TheInside.{Inside}
 use Rattle.bpf_maps.specs.Places.{IsSound}
 use Rattle.bpf_maps.specs.Any.{places_of}
-use Rattle.bpf_maps.specs.Live.{Live, Tenant, live_at, live_or, holds_at, offset, value_in, IsLaid, SameAreas, SameValues, Held, without_area, held_at, one_less}
+use Rattle.bpf_maps.specs.Live.{Live, Tenant, live_at, live_or, holds_at, offset, value_in, IsLaid, SameAreas, SameValues, count, areas, SameRoom, Held, without_area, held_at, one_less}
 use Rattle.bpf_maps.specs.InMaps.{live_of, lives, seen, IsWhole}
 use Rattle.bpf_maps.proofs.Slots.{live_by, others_by, set_here, set_others, one_changed, offset_same}
 use Rattle.bpf_maps.proofs.Whole.{laid, whole_replaced}
@@ -54,6 +54,12 @@ module _ (a : Inside) (t : Tenant) (at key : ℕ) (old new : Entry) (refused : B
 
   pub laid_stays : IsLaid (seen (with_entry a at new refused))
   laid_stays = laid (with_entry a at new refused) whole_stays
+
+  pub room_stays : SameRoom t (seen (with_entry a at new refused))
+  room_stays = record {
+    maps = sym whole_stays.counted ∙ c.whole.counted ∙ ap count c.view;
+    bytes = sym whole_stays.sum ∙ c.whole.sum ∙ ap areas c.view;
+  }
 
 -- what is said of the map, of its entry
 module _ {P : Type 0} (f : Live → P) (o : Option Live) (l : Live) (is : o ≡ Some l) where

@@ -1,6 +1,7 @@
 -- A map that is new.
 use Rattle.std.proofs.Common.{◌≡◌, ◌≢◌, ℕ, ◌+◌, ◌*◌, ◌/◌, ◌<◌, ◌≤◌, ◌||◌, Bool, true, false, if◌then◌else◌, nat_le, nat_lt, List, ◌++◌, length, take, drop, replicate, Option, Some, None, Result, Ok, Err, IsSome, is_some, sym, ap, subst, ◌∙◌, arith, get_or, set, count_by, ⊎_elim, true≢false}
 use Rattle.std.proofs.lemmas.Bool.{lt-leb, le-ltb}
+use Rattle.std.proofs.lemmas.List.{length-replicate}
 use Rattle.tagged_model.specs.declared.shape.MapShape.{MapShape}
 use Rattle.tagged_model.specs.declared.fault.MapFault.{MapFault}
 use Rattle.tagged_model.specs.declared.fault.MapFault.TheVariants.{NoEntry, TooBig, Memory, Exists, Invalid, NoSpace}
@@ -11,14 +12,14 @@ use Rattle.bpf_maps.specs.declared.maps.Entry.{Entry}
 use Rattle.bpf_maps.specs.declared.maps.Maps.TheInside.{Inside}
 use Rattle.bpf_maps.specs.Places.{PlaceTable, IsSound, new_places}
 use Rattle.bpf_maps.specs.Any.{places_of}
-use Rattle.bpf_maps.specs.Live.{Live, Tenant, live_at, live_or, offset, value_in, count, areas, create_fault, Creates, IsCreated, IsLaid, SameValues}
+use Rattle.bpf_maps.specs.Live.{Live, Tenant, live_at, live_or, offset, value_in, count, areas, HasOneMore, create_fault, Creates, IsCreated, IsLaid, SameValues}
 use Rattle.bpf_maps.specs.InMaps.{live_of, seen, IsWhole}
 use Rattle.bpf_maps.proofs.Slots.{some_entry, live_by, none_by, others_by, same_or_other}
-use Rattle.bpf_maps.proofs.Totals.{times_some, count_entries}
+use Rattle.bpf_maps.proofs.Totals.{times_set, times_some, count_entries}
 use Rattle.bpf_maps.proofs.InAreas.{area_fits, value_ends, value_inside, apart_areas}
 use Rattle.bpf_maps.proofs.Arrays.{sound_new}
 use Rattle.bpf_maps.proofs.Changes.{told_of}
-use Rattle.bpf_maps.proofs.Cleared.{front_same, before_same, after_same, zeros}
+use Rattle.bpf_maps.proofs.Written.{front_same, before_same, after_same, zeros}
 use Rattle.bpf_maps.proofs.Whole.{laid, whole_added, offset_of}
 
 no_fault : (t : Tenant) (s : MapShape) → count t < MAPS → areas t + area s.value_size s.max_entries ≤ AREA → create_fault t s ≡ None
@@ -122,6 +123,21 @@ module _ (a : Inside) (t : Tenant) (shape : MapShape) (number size : ℕ) (r : I
     pub laid_one : IsLaid (seen (with_new a number size slots))
     laid_one = laid (with_new a number size slots) whole_one
 
+    pub more_one : HasOneMore t (seen (with_new a number size slots)) shape
+    more_one =
+        let all = h.all in
+        let below = r.below in
+        let marked = times_set a.taken number true (omega arith) in
+        let was = ap (λ (b : Bool). let n : ℕ = if b then 1 else 0 in n) free in
+        let maps = whole_one.counted in
+        let counted = h.counted in
+        let seen_maps = ap count view in
+        let bytes = whole_one.sum in
+        let sum = h.sum in
+        let seen_bytes = ap areas view in
+        let size_is = r.size_is in
+        record { maps = omega arith; bytes = omega arith }
+
     -- ---- the bytes
 
     module _ (bytes later : List ℕ) (long : length bytes ≡ PART) (written : later ≡ take (FRONT + number * AREA) bytes ++ (replicate size 0 ++ drop (FRONT + number * AREA + size) bytes)) where
@@ -132,7 +148,7 @@ module _ (a : Inside) (t : Tenant) (shape : MapShape) (number size : ℕ) (r : I
           less_areas n l = omega arith
 
       pub front_kept : take FRONT later ≡ take FRONT bytes
-      front_kept = ap (take FRONT) written ∙ front_same bytes (FRONT + number * AREA) size enough FRONT (omega arith)
+      front_kept = ap (take FRONT) written ∙ front_same bytes (replicate size 0) (FRONT + number * AREA) size (length-replicate size 0) enough FRONT (omega arith)
 
       pub cleared_one : (p : ℕ) → p < shape.max_entries → value_in later (seen (with_new a number size slots)) k p ≡ replicate shape.value_size 0
       cleared_one p l =
@@ -154,8 +170,8 @@ module _ (a : Inside) (t : Tenant) (shape : MapShape) (number size : ℕ) (r : I
           let ne : f.number ≢ number = λ (q : f.number ≡ number). true≢false (sym i.marked ∙ ap (λ (n : ℕ). get_or a.taken n false) q ∙ free) in
           ap (λ (b : List ℕ). take s.value_size (drop (offset (live_of f) p) b)) written
           ∙ ⊎_elim
-          (λ w. before_same bytes (FRONT + number * AREA) size enough (offset (live_of f) p) s.value_size (omega arith))
-          (λ w. after_same bytes (FRONT + number * AREA) size enough (offset (live_of f) p) s.value_size (omega arith))
+          (λ w. before_same bytes (replicate size 0) (FRONT + number * AREA) size (length-replicate size 0) enough (offset (live_of f) p) s.value_size (omega arith))
+          (λ w. after_same bytes (replicate size 0) (FRONT + number * AREA) size (length-replicate size 0) enough (offset (live_of f) p) s.value_size (omega arith))
           (apart_areas f.number number (p * f.stride) 0 s.value_size size ne x (omega arith))
 
       pub values_kept : SameValues t bytes (seen (with_new a number size slots)) later

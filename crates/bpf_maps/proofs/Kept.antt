@@ -9,12 +9,14 @@ use Rattle.bpf_maps.specs.Index.{bare, IsKept, shown}
 use Rattle.bpf_maps.specs.declared.hash_map.HashMapIx.TheInside.{Inside}
 use Rattle.bpf_maps.proofs.Counts.{times-append, times_self, values_of-append, one, times-without, length-without, sized-without, sized-with}
 use Rattle.bpf_maps.proofs.Bare.{length-bare}
+use Rattle.bpf_maps.proofs.Shapes.{hash_no_array}
 
 pub sound : (a : Inside) → IsKept a → IsSound (shown a)
 sound a h = record {
   once = λ p. let e = h.once p in omega arith;
   few = let e = h.all in let n = length-bare a.index.entries in omega arith;
   sized = h.sized;
+  indices = λ array. absurd (hash_no_array a.shape.kind h.kind array);
 }
 
 -- a key that is taken out

@@ -12,8 +12,10 @@ pub mod InAreas
 pub mod Whole
 pub mod Changes
 pub mod Along
-pub mod Cleared
+pub mod Written
 pub mod Created
 pub mod Released
 pub mod Values
-pub mod GoAlong
+pub mod Stays
+pub mod InPart
+pub mod Called

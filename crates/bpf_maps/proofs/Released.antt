@@ -1,17 +1,18 @@
 -- A map that goes.
-use Rattle.std.proofs.Common.{◌≡◌, ◌≢◌, ℕ, ◌-◌, ◌<◌, ◌≤◌, false, Some, None, option_map, refl, sym, ap, subst, ◌∙◌, arith, get_or, set}
+use Rattle.std.proofs.Common.{◌≡◌, ◌≢◌, ℕ, ◌-◌, ◌<◌, ◌≤◌, Bool, false, if◌then◌else◌, Some, None, option_map, refl, sym, ap, subst, ◌∙◌, arith, get_or, set}
 use Rattle.std.proofs.lemmas.Option.{none-some}
+use Rattle.tagged_model.specs.declared.shape.MapShape.{MapShape}
 use Rattle.tagged_model.specs.Shape.{area}
 use Rattle.slab.specs.Slab.{Slab}
 use Rattle.bpf_maps.specs.declared.part.TheConstants.{MAPS}
 use Rattle.bpf_maps.specs.declared.maps.Entry.{Entry}
 use Rattle.bpf_maps.specs.declared.maps.Maps.TheInside.{Inside}
 use Rattle.bpf_maps.specs.Any.{places_of}
-use Rattle.bpf_maps.specs.Live.{Tenant, live_at, without_area, held_at, one_less, weight, area_of, IsLaid, SameAreas}
+use Rattle.bpf_maps.specs.Live.{Live, Tenant, live_at, shape_at, count, areas, HasOneMore, without_area, held_at, one_less, weight, area_of, IsLaid, SameAreas}
 use Rattle.bpf_maps.specs.InMaps.{live_of, lives, seen, IsWhole}
 use Rattle.bpf_maps.proofs.Slots.{live_by, none_by, others_by, same_some, set_here, set_others}
-use Rattle.bpf_maps.proofs.Totals.{weight_most}
-use Rattle.bpf_maps.proofs.Changes.{live_here, none_held}
+use Rattle.bpf_maps.proofs.Totals.{weight_most, times_set}
+use Rattle.bpf_maps.proofs.Changes.{live_here, none_held, told_of}
 use Rattle.bpf_maps.proofs.Whole.{laid, whole_removed}
 
 -- the entry that was taken out is the one that was there
@@ -53,6 +54,27 @@ module _ (a : Inside) (t : Tenant) (at key : ℕ) (old gone : Entry) (c : IsTake
 
       pub laid_gone : IsLaid (seen (without_entry a gone size slots))
       laid_gone = laid (without_entry a gone size slots) whole_gone
+
+      pub freed_gone : HasOneMore (seen (without_entry a gone size slots)) t (shape_at t key)
+      freed_gone =
+          let here = live_here a t at key gone c.view c.same was in
+          let shape = told_of (λ (l : Live). l.places.shape) (live_at t key) (live_of gone) here in
+          subst (λ (s : MapShape). HasOneMore (seen (without_entry a gone size slots)) t s) (sym shape) more
+        where
+          more : HasOneMore (seen (without_entry a gone size slots)) t (places_of gone.map).shape
+          more =
+              let all = c.whole.all in
+              let below = below_maps in
+              let taken = times_set a.taken gone.number false (omega arith) in
+              let marked = ap (λ (b : Bool). let n : ℕ = if b then 1 else 0 in n) (c.whole.placed at gone was).marked in
+              let maps = whole_gone.counted in
+              let counted = c.whole.counted in
+              let seen_maps = ap count c.view in
+              let bytes = whole_gone.sum in
+              let sum = c.whole.sum in
+              let seen_bytes = ap areas c.view in
+              let most = size_most in
+              record { maps = omega arith; bytes = omega arith }
 
       pub none_now : live_at (seen (without_entry a gone size slots)) key ≡ None
       none_now = ap (λ (k : ℕ). get_or (lives slots.slots) k None) (sym c.same) ∙ none_by slots.slots slots.slots at gap

@@ -1,5 +1,5 @@
 -- The limits of a shape.
-use Rattle.std.proofs.Common.{◌≡◌, ℕ, ◌≤◌, true, IsTrue, arith, eqb-true}
+use Rattle.std.proofs.Common.{◌≡◌, ℕ, ◌≤◌, true, IsTrue, sym, ◌∙◌, arith, eqb-true}
 use Rattle.std.proofs.lemmas.Bool.{and_parts, leb-true}
 use Rattle.tagged_model.specs.declared.shape.MapKind.{MapKind}
 use Rattle.tagged_model.specs.declared.shape.MapKind.TheVariants.{Hash, Array}
@@ -28,3 +28,7 @@ key_of_array Hash key value max e h = cc
 
 pub array_key : (s : MapShape) → s.kind ≡ Array → s.key_size ≡ 4
 array_key s e = key_of_array s.kind s.key_size s.value_size s.max_entries e s.listed
+
+-- no kind is both
+pub hash_no_array : (k : MapKind) → k ≡ Hash → k ≡ Array → ⊥
+hash_no_array k hash array = let same : ◌≡◌ {A = MapKind} Hash Array = sym hash ∙ array in cc

@@ -71,7 +71,7 @@ one_most : (b : Bool) → one b ≤ 1
 one_most true = omega arith
 one_most false = omega arith
 
-times_most : (bs : List Bool) → times_true bs ≤ length bs
+pub times_most : (bs : List Bool) → times_true bs ≤ length bs
 times_most [] = omega arith
 times_most (x ∷ bs) = let r = times_most bs in let o = one_most x in omega arith
 

@@ -4,3 +4,4 @@ pub mod Laws
 pub mod Any
 pub mod Live
 pub mod InMaps
+pub mod InPart

@@ -7,7 +7,7 @@ use Rattle.tagged_model.specs.declared.fault.MapFault.TheVariants.{NoEntry, TooB
 use Rattle.tagged_model.specs.Shape.{area}
 use Rattle.bpf_maps.specs.declared.part.TheConstants.{FRONT, AREA, MAPS, PART}
 use Rattle.tagged_model.specs.Table.{Table, with_values}
-use Rattle.bpf_maps.specs.Places.{PlaceTable, table_of, new_places}
+use Rattle.bpf_maps.specs.Places.{PlaceTable, table_of, new_places, IsSound}
 
 -- a live map, where its area begins in the part, how far its values are from one another, and how many hold it
 pub record Live : Type 0 where
@@ -40,6 +40,10 @@ shape_at t k = (places_at t k).shape
 
 abbrev pub holds_at : Tenant → ℕ → ℕ
 holds_at t k = (live_or (live_at t k)).holds
+
+-- no two keys of a live map have one place
+abbrev pub AreSound : Tenant → Type 0
+AreSound t = (k : ℕ) → IsSome (live_at t k) → IsSound (places_at t k)
 
 -- ---- where the values lie
 
@@ -78,6 +82,17 @@ SameAreas old new = (k : ℕ) (l : Live) → live_at new k ≡ Some l → (m : L
 abbrev pub SameValues : Tenant → List ℕ → Tenant → List ℕ → Type 0
 SameValues old bytes new later = (k p : ℕ) → IsSome (live_at old k) → IsSome (live_at new k) → p < (shape_at new k).max_entries → value_in later new k p ≡ value_in bytes old k p
 
+-- a map that was live still is, and has the keys and the values that it had
+abbrev pub KeepsMap : ℕ → Tenant → List ℕ → Tenant → List ℕ → Type 0
+KeepsMap k old bytes new later = IsSome (live_at old k) → IsSome (live_at new k) × (map_in later new k ≡ map_in bytes old k)
+
+abbrev pub KeepsMaps : Tenant → List ℕ → Tenant → List ℕ → Type 0
+KeepsMaps old bytes new later = (k : ℕ) → KeepsMap k old bytes new later
+
+-- all but one
+abbrev pub KeepsOthers : ℕ → Tenant → List ℕ → Tenant → List ℕ → Type 0
+KeepsOthers k old bytes new later = (other : ℕ) → other ≢ k → KeepsMap other old bytes new later
+
 -- ---- how much room they take
 
 -- a number of the map in a slot, and nothing of an empty slot
@@ -99,6 +114,16 @@ count t = total (λ l. 1) t.slots
 -- the bytes of all areas
 abbrev pub areas : Tenant → ℕ
 areas t = total area_of t.slots
+
+-- as many maps, whose values take as many bytes
+pub record SameRoom (old new : Tenant) : Type 0 where
+  pub maps : count new ≡ count old
+  pub bytes : areas new ≡ areas old
+
+-- one map more, of this shape
+pub record HasOneMore (fewer more : Tenant) (shape : MapShape) : Type 0 where
+  pub maps : count more ≡ count fewer + 1
+  pub bytes : areas more ≡ areas fewer + area shape.value_size shape.max_entries
 
 -- ---- a new map
 

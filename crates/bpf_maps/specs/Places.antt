@@ -1,11 +1,12 @@
 -- A map with places for objects, and what its calls may answer and leave. The places of the keys that a run deleted are kept
 -- apart until it ends.
 use Rattle.std.specs.Prelude.{◌≡◌, ℕ, ◌+◌, ◌<◌, ◌≤◌, nat_eq, nat_lt, if◌then◌else◌, List, [], ◌∷◌, ◌++◌, drop, length, Option, Some, None, option_map, Result, Ok, Err}
-use Rattle.std.specs.Map.{values_of}
+use Rattle.std.specs.Map.{keys_of, values_of}
+use Rattle.tagged_model.specs.declared.shape.MapKind.TheVariants.{Array}
 use Rattle.tagged_model.specs.declared.shape.MapShape.{MapShape}
 use Rattle.tagged_model.specs.declared.fault.MapFault.{MapFault}
 use Rattle.tagged_model.specs.declared.fault.MapFault.TheVariants.{NoEntry, TooBig, Memory, Exists, Invalid, NoSpace}
-use Rattle.tagged_model.specs.Table.{Table, Verdict, Refused, Present, New, with_key, without, new_entries}
+use Rattle.tagged_model.specs.Table.{Table, Verdict, Refused, Present, New, with_key, without, indexed, new_entries}
 
 -- the keys with their places in order, and the places that are kept apart
 pub record PlaceTable : Type 0 where
@@ -33,11 +34,13 @@ abbrev pub IsSized : ℕ → List (List ℕ × ℕ) → Type 0
 IsSized n [] = Unit {0}
 IsSized n (e ∷ es) = (length e.0 ≡ n) × IsSized n es
 
--- each place below `max_entries` is in use at most once, and no other is. To be kept apart is a use
+-- each place below `max_entries` is in use at most once, and no other is. To be kept apart is a use. An array has all its
+-- indices
 pub record IsSound (t : PlaceTable) : Type 0 where
   pub once : (p : ℕ) → times p (values_of t.entries) + times p t.kept ≤ (if nat_lt p t.shape.max_entries then 1 else 0)
   pub few : length t.entries + length t.kept ≤ t.shape.max_entries
   pub sized : IsSized t.shape.key_size t.entries
+  pub indices : t.shape.kind ≡ Array → keys_of t.entries ≡ keys_of (indexed (λ i. i) 0 t.shape.max_entries)
 
 -- ---- the calls
 

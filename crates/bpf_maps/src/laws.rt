@@ -1,23 +1,26 @@
 //! Laws of the tables of places. Each is the contract of a function that does nothing.
 
 ghost use Rattle.std.specs.Prelude.{ℕ, List};
-ghost use Rattle.bpf_maps.specs.Laws.{CallsAreThoseOfAMap, CallsGoAlong, WritesGoAlong, AreasKeepPlaces, DeletesKeepPlaces};
+ghost use Rattle.bpf_maps.specs.Laws.{CallsAreThoseOfAMap, WritesGoAlong, ValuesAgree, PlacesAreWithin, AreasKeepPlaces, DeletesKeepPlaces};
+ghost use Rattle.bpf_maps.specs.InPart.{ValuesAreWritten, LiveMapsGoAlong};
+
+use tagged_model::{calls_go_along, map_verdicts_tell};
 
 /// A table of places changes as the definition of a map says: a new map, a new key, a delete, and the end of a run.
 pub fn calls_are_those_of_a_map()
     ensures { CallsAreThoseOfAMap }
 {}
 
-/// A map of objects, and the map of what they stand for, answer the same and change alike: where numbers stand for numbers, as
-/// objects for places, and where they stand for bytes.
-pub fn calls_go_along()
-    ensures numbers { CallsGoAlong ℕ ℕ }
-    ensures bytes { CallsGoAlong ℕ (List ℕ) }
-{}
-
 /// To write what stands at the place of a key is to give that key another object.
 pub fn writes_go_along()
     ensures { WritesGoAlong (List ℕ) }
+{}
+
+/// Values that agree on the places in use give one map, and each place in use is one of the map.
+pub fn values_agree()
+    ensures numbers { ValuesAgree ℕ }
+    ensures bytes { ValuesAgree (List ℕ) }
+    ensures within { PlacesAreWithin }
 {}
 
 /// Where the areas are the same, each value lies where it lay.
@@ -29,3 +32,17 @@ pub fn areas_keep_places()
 pub fn deletes_keep_places()
     ensures { DeletesKeepPlaces }
 {}
+
+/// The bytes of a value, written at the place of a key, are that key's value, and no other key of a live map changes.
+pub fn values_are_written()
+    ensures { ValuesAreWritten }
+{}
+
+/// A live map, seen with the bytes of its values, changes as its places do: by a delete, by the end of a run, and by a claim
+/// that is followed by the write of the value.
+pub fn live_maps_go_along()
+    ensures { LiveMapsGoAlong }
+{
+    calls_go_along();
+    map_verdicts_tell();
+}

@@ -5,7 +5,7 @@ ghost use Rattle.tagged_model.specs.declared.shape.MapKind.TheVariants.{Array};
 ghost use Rattle.tagged_model.specs.Table.{look_up, verdict, removal, next_of, new_table};
 ghost use Rattle.bpf_maps.specs.declared.part.TheConstants.{PART, FRONT, MAPS, AREA};
 ghost use Rattle.bpf_maps.specs.Places.{table_of, IsSound, Claims, Removes, GivesKey, after_run};
-ghost use Rattle.bpf_maps.specs.Live.{live_at, places_at, shape_at, holds_at, held_at, offset_at, value_in, map_in, IsInside, IsLaid, SameAreas, SameValues, create_fault, Creates, one_more, one_less, is_memory};
+ghost use Rattle.bpf_maps.specs.Live.{live_at, places_at, shape_at, holds_at, held_at, offset_at, value_in, map_in, IsInside, IsLaid, AreSound, SameAreas, SameValues, KeepsMap, KeepsMaps, KeepsOthers, count, areas, SameRoom, HasOneMore, create_fault, Creates, one_more, one_less, is_memory};
 ghost use Rattle.bpf_maps.specs.InMaps.{times_true};
 
 use crate::any_map::AnyMap;
@@ -71,6 +71,8 @@ impl Maps {
     /// No maps. Room for as many as there may be is made here. An error is want of memory.
     pub fn new(alloc: Global) -> Result<Maps, AllocError>
         ensures none { IfOk result (λ maps. (k : ℕ) → live_at maps k ≡ None) }
+        ensures maps { IfOk result (λ maps. count maps ≡ 0) }
+        ensures bytes { IfOk result (λ maps. areas maps ≡ 0) }
         ensures refused { IfOk result (λ maps. maps.refused ≡ false) }
     {
         Ok(Maps {
@@ -82,12 +84,14 @@ impl Maps {
         })
     }
 
-    /// A law: the values of all live maps lie inside and apart, and no two keys of a live map have one place. It does nothing
-    /// when it runs.
+    /// A law: the values of all live maps lie inside and apart, no two keys of a live map have one place, and there are no more
+    /// than sixteen maps, whose values take no more than 65,536 bytes. It does nothing when it runs.
     #[inline(always)]
     pub fn is_laid(&self)
         ensures laid { IsLaid self.now }
-        ensures sound { (map : ℕ) → IsSome (live_at self.now map) → IsSound (places_at self.now map) }
+        ensures sound { AreSound self.now }
+        ensures maps { count self.now ≤ MAPS }
+        ensures bytes { areas self.now ≤ AREA }
     {
         let _ = &self.slots;
     }
@@ -107,6 +111,8 @@ impl Maps {
         ensures cleared { IfOk result (λ k. shape.kind ≡ Array → (p : ℕ) → p < shape.max_entries → value_in part.new self.new k p ≡ replicate shape.value_size 0) }
         ensures fresh { IfOk result (λ k. map_in part.new self.new k ≡ new_table (λ i. replicate shape.value_size 0) shape) }
         ensures values { SameValues self.old part.old self.new part.new }
+        ensures maps { KeepsMaps self.old part.old self.new part.new }
+        ensures more { IfOk result (λ k. HasOneMore self.old self.new shape) }
         ensures front { take FRONT part.new ≡ take FRONT part.old }
         ensures length { length part.new ≡ PART }
         ensures unchanged { OnErr result (part.new ≡ part.old) }
@@ -138,9 +144,11 @@ impl Maps {
         ensures more { live_at self.new map ≡ option_map one_more (live_at self.old map) }
         ensures live { IsSome (live_at self.new map) }
         ensures holds { holds_at self.new map ≡ holds_at self.old map + 1 }
+        ensures places { places_at self.new map ≡ places_at self.old map }
         ensures shape { shape_at self.new map ≡ shape_at self.old map }
         ensures others { (other : ℕ) → other ≢ map → live_at self.new other ≡ live_at self.old other }
         ensures areas { SameAreas self.old self.new }
+        ensures room { SameRoom self.old self.new }
         ensures refused { self.new.refused ≡ self.old.refused }
         ensures laid { IsLaid self.new }
     {
@@ -160,6 +168,10 @@ impl Maps {
         ensures refused { self.new.refused ≡ self.old.refused }
         ensures laid { IsLaid self.new }
         ensures values { SameValues self.old part.old self.new part.new }
+        ensures maps { KeepsOthers map self.old part.old self.new part.new }
+        ensures kept { 1 < holds_at self.old map → KeepsMap map self.old part.old self.new part.new }
+        ensures room { 1 < holds_at self.old map → SameRoom self.old self.new }
+        ensures freed { holds_at self.old map ≤ 1 → HasOneMore self.new self.old (shape_at self.old map) }
         ensures front { take FRONT part.new ≡ take FRONT part.old }
         ensures length { length part.new ≡ PART }
     {
@@ -233,6 +245,7 @@ impl Maps {
         ensures shape { shape_at self.new map ≡ shape_at self.old map }
         ensures others { (other : ℕ) → other ≢ map → live_at self.new other ≡ live_at self.old other }
         ensures areas { SameAreas self.old self.new }
+        ensures room { SameRoom self.old self.new }
         ensures laid { IsLaid self.new }
         ensures refused { self.new.refused ≡ (self.old.refused || is_memory result) }
     {
@@ -257,6 +270,7 @@ impl Maps {
         ensures shape { shape_at self.new map ≡ shape_at self.old map }
         ensures others { (other : ℕ) → other ≢ map → live_at self.new other ≡ live_at self.old other }
         ensures areas { SameAreas self.old self.new }
+        ensures room { SameRoom self.old self.new }
         ensures laid { IsLaid self.new }
         ensures refused { self.new.refused ≡ self.old.refused }
     {
@@ -288,6 +302,7 @@ impl Maps {
         ensures shape { shape_at self.new map ≡ shape_at self.old map }
         ensures others { (other : ℕ) → other ≢ map → live_at self.new other ≡ live_at self.old other }
         ensures areas { SameAreas self.old self.new }
+        ensures room { SameRoom self.old self.new }
         ensures laid { IsLaid self.new }
         ensures refused { self.new.refused ≡ self.old.refused }
     {

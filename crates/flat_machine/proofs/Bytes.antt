@@ -2,8 +2,7 @@
 use Rattle.std.proofs.Common.{◌≡◌, ◌⊎◌, inl, inr, ℕ, zero, suc, ◌+◌, ◌-◌, ◌*◌, ◌/◌, ◌%◌, ◌<◌, ◌≤◌, ◌^◌, List, ◌++◌, length, get_or, take, drop, refl, sym, ap, ◌∙◌, arith}
 use Rattle.std.proofs.Math.Nat.{pow-suc}
 use Rattle.std.proofs.lemmas.List.{length-take, length-take-le, length-drop, length-append, get_or_append_left, get_or-append-add, get_or-append_right, get_or-take, get_or-drop, ext_get_or}
-use Rattle.interval.specs.Bytes.{number_of, low_bytes}
-use Rattle.arena.specs.Bytes.{bytes_at, written_at}
+use Rattle.interval.specs.Bytes.{number_of, low_bytes, bytes_at, written_at}
 
 -- ---- one byte
 

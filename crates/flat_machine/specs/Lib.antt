@@ -1,5 +1,2 @@
-pub mod NoMaps
-pub mod Flat
-pub mod Ranges
-pub mod Stands
-pub mod Laws
+pub mod Runs
+pub mod inside

@@ -1,8 +1,10 @@
 //! Runs of accepted programs, on words and bytes.
 #![tactic(auto)]
 
+mod calls;
 mod execution;
 mod laws;
 mod running;
 
+pub use laws::clear_runs;
 pub use running::run;

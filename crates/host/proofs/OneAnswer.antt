@@ -13,7 +13,6 @@ use Rattle.tagged_model.specs.declared.shape.Named.{Named}
 use Rattle.tagged_model.specs.declared.value.Outcome.{Outcome}
 use Rattle.tagged_model.specs.declared.value.Outcome.TheVariants.{Value}
 use Rattle.tagged_model.specs.Step.{result_of}
-use Rattle.flat_machine.specs.NoMaps.{no_maps}
 use Rattle.verdict.specs.Verdict.{IsAccepted, IsRefused}
 use Rattle.host.specs.declared.command.Command.{Command}
 use Rattle.host.specs.declared.command.Command.TheVariants.{ProgLoad, ProgTestRun}
@@ -21,7 +20,7 @@ use Rattle.host.specs.declared.errno.Errno.{Errno}
 use Rattle.host.specs.declared.errno.Errno.TheVariants.{TooBig, BadDescriptor, Invalid, TooManyOpen}
 use Rattle.host.specs.declared.object.Object.{Object}
 use Rattle.host.specs.State.{State}
-use Rattle.host.specs.Machine.{Answer, codec_errno, verdict_errno, IsMalformed, IsUnaccepted, refused, refused_at, opened, open_descriptors, named, free_descriptor, program_of, context_of, command_at, LoadsAt, Loads, AnswersCommand, Answers}
+use Rattle.host.specs.Machine.{Answer, codec_errno, verdict_errno, IsMalformed, IsUnaccepted, refused, refused_at, opened, open_descriptors, named, free_descriptor, no_maps, program_of, context_of, command_at, LoadsAt, Loads, AnswersCommand, Answers}
 use Rattle.host.specs.Laws.{TellsUnrefused, AloneUnrefused}
 
 -- what slots come to: a program, or why they are none that may run

@@ -15,8 +15,7 @@ use Rattle.reg_kinds.specs.Reason.{number as reason_number}
 use Rattle.tagged_model.specs.declared.shape.Named.{Named}
 use Rattle.tagged_model.specs.declared.shape.Target.TheVariants as target
 use Rattle.tagged_model.specs.declared.value.Outcome.TheVariants.{Value}
-use Rattle.tagged_model.specs.Step.{result_of}
-use Rattle.flat_machine.specs.NoMaps.{no_maps}
+use Rattle.tagged_model.specs.Step.{Maps, result_of}
 use Rattle.verdict.specs.Verdict.{IsAccepted, IsRefused}
 use Rattle.host.specs.declared.errno.Errno.{Errno}
 use Rattle.host.specs.declared.errno.Errno.TheVariants.{TooBig, BadDescriptor, NoMemory, AccessDenied, Invalid, TooManyOpen}
@@ -138,6 +137,10 @@ AnswersLoad memory_refused s body answer =
     (MatchOption (free_descriptor s) (answer ≡ refused TooManyOpen s) (λ fd. Loads memory_refused s fd (drop 4 body) answer))
 
 -- ---- PROG_TEST_RUN (bpf(2))
+
+-- a run is given no map: no command makes one yet
+abbrev pub no_maps : Maps
+no_maps m = None
 
 abbrev pub program_of : Object → List Insn
 program_of (Program insns) = insns

@@ -10,8 +10,9 @@ ghost use Rattle.host.specs.Told.{TellsFrame};
 
 use crate::command::{Command, Reply};
 use crate::errno::Errno;
-use crate::tenant::{RUN_MEMORY, Tenant};
+use crate::tenant::Tenant;
 use arena::Arena;
+use bpf_maps::{Maps, PART};
 use command_frames::{HEAD_LENGTH, Head, LONGEST_FRAME, ReplyBuf, head};
 use std::alloc::{AllocError, Global};
 use std::marker::Model;
@@ -22,19 +23,21 @@ pub struct Host {
     tenants: Vec<Tenant>,
     /// A part for each tenant's runs.
     arena: Arena,
+    /// The maps of all runs: none, since no command makes one yet.
+    maps: Maps,
     alloc: Global,
 }
 
 impl Model for Host {
-    ghost use Rattle.std.specs.Prelude.{◌≡◌, List, ◌≤◌, vec_len};
-    ghost use Rattle.host.specs.declared.tenant.TheConstants.{RUN_MEMORY};
+    ghost use Rattle.std.specs.Prelude.{◌≡◌, List, ◌≤◌, vec_len, false};
+    ghost use Rattle.bpf_maps.specs.declared.part.TheConstants.{PART};
     ghost use Rattle.host.specs.State.{State};
 
     ghost Value = { List State };
 
     ghost view = { λ h. h.tenants.items };
 
-    ghost invariant = { λ h. (vec_len h.tenants ≤ 16) × (h.arena.parts ≡ vec_len h.tenants) × (h.arena.part ≡ RUN_MEMORY) };
+    ghost invariant = { λ h. (vec_len h.tenants ≤ 16) × (h.arena.parts ≡ vec_len h.tenants) × (h.arena.part ≡ PART) × (h.maps.refused ≡ false) };
 }
 
 /// So many tenants with nothing open.
@@ -73,7 +76,8 @@ impl Host {
     {
         Ok(Host {
             tenants: new_tenants(alloc, tenants)?,
-            arena: Arena::new(alloc, tenants, RUN_MEMORY)?,
+            arena: Arena::new(alloc, tenants, PART)?,
+            maps: Maps::new(alloc)?,
             alloc,
         })
     }
@@ -89,7 +93,7 @@ impl Host {
         match Command::of(number) {
             Some(Command::ProgLoad) => self.tenants[tenant].load(self.alloc, body),
             Some(Command::ProgTestRun) => {
-                self.tenants[tenant].test_run(body, tenant, &mut self.arena)
+                self.tenants[tenant].test_run(body, tenant, &mut self.arena, &mut self.maps)
             }
             None => Reply::Refused(Errno::Invalid),
         }

@@ -3,6 +3,7 @@
 ghost use Rattle.std.specs.Prelude.{◌≡◌, ◌≢◌, ℕ, ◌<◌, ◌≤◌, Bool, length, IfOk, IfErr, is_none, false, Some};
 ghost use Rattle.std.specs.Option.{option_copied};
 ghost use Rattle.arena.specs.Memory.{part_bytes};
+ghost use Rattle.bpf_maps.specs.declared.part.TheConstants.{PART};
 ghost use Rattle.insn_codec.specs.Program.{IsProgram, program_bytes};
 ghost use Rattle.verdict.specs.Verdict.{IsAccepted};
 ghost use Rattle.host.specs.State.{nothing_open};
@@ -15,13 +16,14 @@ use crate::command::{Reply, reply_to_codec, reply_to_verdict};
 use crate::errno::Errno;
 use crate::object::{Loaded, Object};
 use arena::{Arena, Trace};
+use bpf_maps::Maps;
 use byteorder::{ByteOrder, LittleEndian};
 use fd_table::{FIRST, FdTable, MOST};
 use flat_machine::run;
 use insn_codec::read_program;
 use std::alloc::{AllocError, Global};
 use std::marker::Model;
-use tagged_model::{Named, Outcome, Target};
+use tagged_model::{Named, Outcome, Target, refusals_are_told};
 use verdict::loaded_maps_have_shapes;
 use verifier::verify;
 
@@ -33,9 +35,6 @@ const BEFORE_PACKET: usize = 44;
 
 /// The bytes of the longest packet.
 const LONGEST_PACKET: usize = 32_768;
-
-/// The bytes that a tenant's runs have: a stack of 512, and 64 for the context.
-pub(crate) const RUN_MEMORY: usize = 512 + 64;
 
 /// What a tenant has open.
 #[derive(Drop)]
@@ -157,15 +156,18 @@ impl Tenant {
     }
 
     /// PROG_TEST_RUN: a descriptor, ten words of context, and the packet. The program runs in this tenant's part of the
-    /// memory, and every other part stays as it is.
-    pub fn test_run(&self, body: &[u8], tenant: usize, arena: &mut Arena) -> Reply
+    /// memory, and every other part stays as it is. It loads no map, so it is refused no memory.
+    pub fn test_run(&self, body: &[u8], tenant: usize, arena: &mut Arena, maps: &mut Maps) -> Reply
         requires tenant { tenant < arena.old.parts }
-        requires part { arena.old.part ≡ RUN_MEMORY }
+        requires part { arena.old.part ≡ PART }
+        requires clear { maps.old.refused ≡ false }
         ensures answer { AnswersRun self.now body.now (answer_of result self.now) }
         ensures parts { arena.new.parts ≡ arena.old.parts }
         ensures part { arena.new.part ≡ arena.old.part }
         ensures others { (other : ℕ) → other ≢ tenant → part_bytes arena.new other ≡ part_bytes arena.old other }
+        ensures clear { maps.new.refused ≡ false }
     {
+        refusals_are_told();
         if body.len() < BEFORE_PACKET {
             return Reply::Refused(Errno::Invalid);
         }
@@ -179,7 +181,16 @@ impl Tenant {
         let program = object.program().verified();
         let context = context_words(body);
         let mut trace = Trace::new();
-        match run(program, tenant, arena, &context, packet, &mut trace) {
+        match run(
+            program,
+            &[],
+            tenant,
+            arena,
+            maps,
+            &context,
+            packet,
+            &mut trace,
+        ) {
             Outcome::Value(value) => Reply::Outcome(value),
             Outcome::Fault => unreachable!(),
         }

@@ -13,10 +13,14 @@ pub mod ManyReads
 pub mod ManyWrites
 pub mod Objects
 pub mod MapCalls
+pub mod MapValues
+pub mod MapVerdicts
 pub mod AfterCalls
 pub mod NamedTargets
 pub mod ValueAccess
+pub mod WithoutMaps
 pub mod Refusals
-mod RunVectors
+pub mod RunVectors
 mod HelperVectors
+mod CallVectors
 mod Vectors

@@ -22,6 +22,7 @@ use Rattle.tagged_model.specs.State.{State, RunMap, with_cells, with_register, s
 use Rattle.tagged_model.specs.Helpers.{helper_of, Reply, put, updated, taken_out, removed, packet_bytes, packet_answer, number_given, length_given, context_given, argument, map_argument, returns, replies, called}
 use Rattle.tagged_model.specs.Step.{Step, goes, ends, faults, need, operand, natural, jumped, branched, ended, advanced, assigned, act, step, first, others, Ending, one_more, after, run, begin}
 use Rattle.tagged_model.specs.Laws.{RefusalsAreTold}
+use Rattle.tagged_model.proofs.WithoutMaps.{not_refused}
 
 -- what is told of a step from s to t: whether memory was refused at it, which needs a refusal, and is noted; where it was not,
 -- the step is the one without refusals
@@ -215,4 +216,5 @@ pub refusals_told : RefusalsAreTold
 refusals_told = record {
   clear = λ refusals code maps words packet e. (run_tells code (slot_count code) refusals (begin maps words packet) e).1;
   none = λ code maps words packet. run_clear code (slot_count code) (begin maps words packet) refl;
+  without_maps = not_refused;
 }

@@ -17,11 +17,11 @@ use Rattle.tagged_model.specs.Cells.{gathered}
 use Rattle.tagged_model.specs.Step.{Maps, run, begin, result_of}
 
 -- minus n
-abbrev minus : ℕ → ℤ
+abbrev pub minus : ℕ → ℤ
 minus n = neg_ℤ (pos n)
 
 -- the context of a packet of so many bytes
-abbrev context : ℕ → List ℕ
+abbrev pub context : ℕ → List ℕ
 context len = len ∷ 0 ∷ 0 ∷ 0 ∷ 0 ∷ 0 ∷ 0 ∷ 0 ∷ 0 ∷ 0 ∷ 0 ∷ []
 
 -- a run that is given no map
@@ -33,21 +33,21 @@ abbrev answer : List Insn → Outcome
 answer code = result_of code no_maps (context 0) []
 
 -- dst = n, and dst = src
-abbrev set : ℕ → ℤ → Insn
+abbrev pub set : ℕ → ℤ → Insn
 set dst n = Alu true Mov dst (Imm n)
 
-abbrev copy : ℕ → ℕ → Insn
+abbrev pub copy : ℕ → ℕ → Insn
 copy dst src = Alu true Mov dst (Reg src)
 
 -- dst = *(size *)(src + off)
-abbrev get : Size → ℕ → ℕ → ℤ → Insn
+abbrev pub get : Size → ℕ → ℕ → ℤ → Insn
 get size dst src off = Load (record { size = size; signed = false; dst = dst; src = src; off = off; listed = refl })
 
 -- *(size *)(dst + off) = n, and *(size *)(dst + off) = src
-abbrev put : Size → ℕ → ℤ → ℤ → Insn
+abbrev pub put : Size → ℕ → ℤ → ℤ → Insn
 put size dst off n = Store size dst (Imm n) off
 
-abbrev put_register : Size → ℕ → ℤ → ℕ → Insn
+abbrev pub put_register : Size → ℕ → ℤ → ℕ → Insn
 put_register size dst off src = Store size dst (Reg src) off
 
 -- ---- operators

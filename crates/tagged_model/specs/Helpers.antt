@@ -1,6 +1,6 @@
 -- The functions that a program may call: their numbers and arguments are the kernel's (linux/bpf.h, bpf_func_id). What maps
 -- answer is the definition of a map; that a failed load of bytes writes zeros is this project's own.
-use Rattle.std.specs.Prelude.{ℕ, ◌+◌, ◌-◌, ◌%◌, ◌^◌, ◌==◌, ℤ, pos, Bool, true, false, ◌&&◌, nat_le, if◌then◌else◌, List, [], length, replicate, find, Option, Some, None, Result, Ok, Err}
+use Rattle.std.specs.Prelude.{ℕ, ◌+◌, ◌-◌, ◌%◌, ◌^◌, ◌==◌, ℤ, pos, Bool, true, false, ◌&&◌, nat_le, if◌then◌else◌, List, [], ◌∷◌, length, replicate, find, Option, Some, None, Result, Ok, Err}
 use Rattle.std.specs.Ordering.{int_eq}
 use Rattle.interval.specs.Bytes.{bytes_at}
 use Rattle.tagged_model.specs.declared.fault.MapFault.{MapFault}
@@ -21,9 +21,9 @@ id_of Update = 2
 id_of Delete = 3
 id_of LoadBytes = 26
 
--- the functions that a program may call: none of them is served yet. No proof rests on which they are
+-- the functions that a program may call
 unfoldable pub known_helpers : List Helper
-known_helpers = []
+known_helpers = LookUp ∷ Update ∷ Delete ∷ LoadBytes ∷ []
 
 abbrev pub helper_of : ℤ → Option Helper
 helper_of id = find (λ h. int_eq id (pos (id_of h))) known_helpers
@@ -145,8 +145,12 @@ after_call registers v r = if r == 0 then Some v else (if nat_le r 5 then None e
 abbrev pub returns : State → Tagged → State
 returns s v = record s { registers = after_call s.registers v }
 
+-- what a call of map m leaves: another map, and that memory was refused, if it was
+abbrev pub with_reply : State → ℕ → Reply → State
+with_reply s m reply = with_refusal (with_map s m reply.map) reply.refused
+
 abbrev pub replies : State → ℕ → Reply → State
-replies s m reply = returns (with_refusal (with_map s m reply.map) reply.refused) (Scalar reply.answer)
+replies s m reply = returns (with_reply s m reply) (Scalar reply.answer)
 
 abbrev pub called : Bool → Helper → State → Option State
 called refused LookUp s =

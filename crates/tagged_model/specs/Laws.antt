@@ -1,5 +1,5 @@
 -- What holds of the facts and of the states that they admit.
-use Rattle.std.specs.Prelude.{◌≡◌, ◌≢◌, ◌⊎◌, ℕ, ◌<◌, ◌≤◌, ℤ, pos, ◌+ℤ◌, ◌≤ℤ◌, Bool, true, false, List, [], length, Option, Some, Ok}
+use Rattle.std.specs.Prelude.{None, ◌≡◌, ◌≢◌, ◌⊎◌, ℕ, ◌<◌, ◌≤◌, ℤ, pos, ◌+ℤ◌, ◌≤ℤ◌, Bool, true, false, List, [], length, Option, Some, Ok}
 use Rattle.reg_kinds.specs.declared.kind.Kind.{Kind}
 use Rattle.reg_kinds.specs.declared.facts.Facts.{Facts}
 use Rattle.reg_kinds.specs.declared.stack.Size.{Size}
@@ -121,7 +121,10 @@ pub record NullTestAdmits : Type 0 where
 
 -- ---- runs in which memory may be refused
 
--- a run in which no new key was refused memory is the run without refusals, and in that one none is
+-- a run in which no new key was refused memory is the run without refusals, and in that one none is; a run without maps asks for
+-- no memory
 pub record RefusalsAreTold : Type 0 where
   pub clear : (refusals : List Bool) (code : List Insn) (maps : Maps) (words packet : List ℕ) → was_refused refusals code maps words packet ≡ false → run_with refusals code maps words packet ≡ run_with [] code maps words packet
   pub none : (code : List Insn) (maps : Maps) (words packet : List ℕ) → was_refused [] code maps words packet ≡ false
+  pub without_maps : (refusals : List Bool) (code : List Insn) (maps : Maps) (words packet : List ℕ) → ((m : ℕ) → maps m ≡ None)
+      → was_refused refusals code maps words packet ≡ false

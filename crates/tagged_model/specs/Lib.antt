@@ -3,6 +3,7 @@ pub mod Values
 pub mod Shape
 pub mod Named
 pub mod Table
+pub mod MapLaws
 pub mod Cells
 pub mod State
 pub mod Helpers

@@ -16,8 +16,13 @@ pub enum Helper {
     LoadBytes,
 }
 
-/// The functions that programs may call: none of them is served yet.
-const SERVED: [Helper; 0] = [];
+/// The functions that a program may call.
+const KNOWN: [Helper; 4] = [
+    Helper::LookUp,
+    Helper::Update,
+    Helper::Delete,
+    Helper::LoadBytes,
+];
 
 impl Helper {
     ghost use Rattle.tagged_model.specs.Helpers.{id_of};
@@ -35,10 +40,10 @@ impl Helper {
     }
 }
 
-/// The function with a number, if it is served.
+/// The function with a number, if there is one.
 #[tactic(auto, unfolding(crate::specs::Helpers::known_helpers))]
 pub fn known_helper(id: i32) -> Option<Helper>
     ensures { result ≡ helper_of id }
 {
-    SERVED.into_iter().find(|helper| helper.id() == id)
+    KNOWN.into_iter().find(|helper| helper.id() == id)
 }

@@ -1,5 +1,7 @@
-//! Laws of facts and of the states that they admit. Each is the contract of a function that does nothing.
+//! Laws of maps, of facts, and of the states that facts admit. Each is the contract of a function that does nothing.
 
+ghost use Rattle.std.specs.Prelude.{ℕ, List};
+ghost use Rattle.tagged_model.specs.MapLaws.{CallsGoAlong, VerdictsTell};
 ghost use Rattle.tagged_model.specs.Laws.{JoinAdmits, StackReadAdmits, StackWriteAdmits, StackInputAdmits, StackOutputAdmits, ObjectReadAdmits, ObjectWriteAdmits, ValueLoadAdmits, ValueStoreAdmits, MapCallsKeep, MapChangeAdmits, CallAdmits, SiteAdmits, NullTestAdmits, RefusalsAreTold};
 
 use interval::hull_is_a_join;
@@ -53,6 +55,20 @@ pub fn value_store_admits()
     ensures { ValueStoreAdmits }
 {}
 
+/// A map of objects, and the map of what they stand for, answer the same and change alike: where numbers stand for numbers, as
+/// objects for places, and where they stand for bytes.
+pub fn calls_go_along()
+    ensures numbers { CallsGoAlong ℕ ℕ }
+    ensures bytes { CallsGoAlong ℕ (List ℕ) }
+{}
+
+/// What the verdict on an update tells of its key: where it is present it is found, where it is new it is not. No verdict is
+/// want of memory.
+pub fn map_verdicts_tell()
+    ensures numbers { VerdictsTell ℕ }
+    ensures bytes { VerdictsTell (List ℕ) }
+{}
+
 /// What the calls of a map keep.
 pub fn map_calls_keep()
     ensures { MapCallsKeep }
@@ -78,7 +94,8 @@ pub fn null_test_admits()
     ensures { NullTestAdmits }
 {}
 
-/// A run in which no new key was refused memory is the run without refusals, and in that one none is.
+/// A run in which no new key was refused memory is the run without refusals, and in that one none is. A run without maps is
+/// refused nothing.
 pub fn refusals_are_told()
     ensures { RefusalsAreTold }
 {}

@@ -6,3 +6,4 @@ pub mod Slots
 pub mod Rules
 pub mod Loads
 pub mod LoadedShapes
+pub mod Listed

@@ -66,7 +66,7 @@ among_distinct fd (m ∷ fds) h = by (m == fd) refl (among_distinct fd fds)
     by true e rest = refl
     by false e rest = still_there fd m e (distinct fds) ∙ rest (sym (ap (λ b. b || is_among fds fd) e) ∙ h)
 
-among_maps : (code : List Insn) (n : ℕ) (i : Insn) → begins_at code n ≡ Some i → (fd : ℕ) → descriptor i ≡ Some fd → is_among (maps_of code) fd ≡ true
+pub among_maps : (code : List Insn) (n : ℕ) (i : Insn) → begins_at code n ≡ Some i → (fd : ℕ) → descriptor i ≡ Some fd → is_among (maps_of code) fd ≡ true
 among_maps code n i begins fd e = among_distinct fd (filter_map descriptor code) (among_loads code n i begins fd e)
 
 -- ---- a load without a fault is of a map

@@ -1,11 +1,13 @@
 -- What holds of the verdict, for what stands on it.
-use Rattle.std.specs.Prelude.{◌≢◌, ℕ, List, Some, IsSome}
+use Rattle.std.specs.Prelude.{◌≡◌, ◌≢◌, ℕ, List, slice_get, Some, IsSome}
 use Rattle.std.specs.List.{All}
 use Rattle.insn_codec.specs.declared.insn.Insn.{Insn}
+use Rattle.insn_codec.specs.Program.{begins_at}
 use Rattle.reg_kinds.specs.declared.reason.Reason.TheVariants.{UnknownHelper, DescriptorNotMap}
+use Rattle.tagged_model.specs.declared.shape.MapShape.{MapShape}
 use Rattle.tagged_model.specs.declared.shape.Named.{Named}
 use Rattle.tagged_model.specs.Named.{shapes_named}
-use Rattle.verdict.specs.Shape.{shape_fault}
+use Rattle.verdict.specs.Shape.{descriptor, shape_fault}
 use Rattle.verdict.specs.Maps.{maps_of, shapes_of}
 use Rattle.verdict.specs.Verdict.{HasNone, IsAccepted, safety_fault}
 
@@ -19,3 +21,9 @@ pub record SafetyFollowsShape : Type 0 where
 pub record LoadedMapsHaveShapes : Type 0 where
   pub named : (code : List Insn) (named : List Named) → IsAccepted code named → All (λ fd. IsSome (shapes_named named fd)) (maps_of code)
   pub kept : (code : List Insn) (named : List Named) → IsAccepted code named → All (λ fd. IsSome (shapes_of code named fd)) (maps_of code)
+
+-- the maps of a program are those that its instructions load, each once; no other descriptor has a shape
+pub record MapsAreListed : Type 0 where
+  pub each : (code : List Insn) (n : ℕ) (i : Insn) (fd : ℕ) → begins_at code n ≡ Some i → descriptor i ≡ Some fd → (place : ℕ) × (slice_get (maps_of code) place ≡ Some fd)
+  pub once : (code : List Insn) (i j fd : ℕ) → slice_get (maps_of code) i ≡ Some fd → slice_get (maps_of code) j ≡ Some fd → i ≡ j
+  pub shaped : (code : List Insn) (named : List Named) (fd : ℕ) (shape : MapShape) → shapes_of code named fd ≡ Some shape → (place : ℕ) × (slice_get (maps_of code) place ≡ Some fd)

@@ -5,7 +5,7 @@ ghost use Rattle.insn_codec.specs.declared.insn.Insn.{Insn};
 ghost use Rattle.reg_kinds.specs.declared.reason.Reason.{Reason};
 ghost use Rattle.reg_kinds.specs.declared.reason.Reason.TheVariants.{Memory};
 ghost use Rattle.tagged_model.specs.declared.shape.Named.{Named};
-ghost use Rattle.verdict.specs.Laws.{LoadedMapsHaveShapes, SafetyFollowsShape};
+ghost use Rattle.verdict.specs.Laws.{LoadedMapsHaveShapes, MapsAreListed, SafetyFollowsShape};
 ghost use Rattle.verdict.specs.Verdict.{IsAccepted, IsRefused};
 
 use transfer::{effects_need_no_memory, transfer_reasons};
@@ -38,4 +38,9 @@ pub fn safety_follows_shape()
 /// Each map that an accepted program loads has a shape.
 pub fn loaded_maps_have_shapes()
     ensures { LoadedMapsHaveShapes }
+{}
+
+/// The maps of a program are those that its instructions load, each once.
+pub fn maps_are_listed()
+    ensures { MapsAreListed }
 {}

@@ -16,7 +16,7 @@ mod shape;
 pub use fault::VerifyFault;
 pub use judging::{Loaded, judge};
 pub use laws::{
-    accepted_is_not_refused, loaded_maps_have_shapes, one_refusal, refused_by_a_rule,
-    safety_follows_shape,
+    accepted_is_not_refused, loaded_maps_have_shapes, maps_are_listed, one_refusal,
+    refused_by_a_rule, safety_follows_shape,
 };
 pub use shape::descriptor;

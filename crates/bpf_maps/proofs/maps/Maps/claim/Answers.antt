@@ -3,7 +3,7 @@ use Rattle.bpf_maps.specs.Places.{PlaceTable, IsSound}
 use Rattle.bpf_maps.specs.Live.{live_at}
 use Rattle.bpf_maps.specs.InMaps.{live_of, seen}
 use Rattle.bpf_maps.specs.declared.maps.Entry.{Entry}
-use Rattle.bpf_maps.proofs.Changes.{IsChange, with_entry, live_old, live_new, others_stay, areas_stay, whole_stays, laid_stays, told_of}
+use Rattle.bpf_maps.proofs.Changes.{IsChange, with_entry, live_old, live_new, others_stay, areas_stay, whole_stays, laid_stays, room_stays, told_of}
 use Rattle.bpf_maps.proofs.Along.{claims_shape, claims_along}
 use Rattle.bpf_maps.proofs.maps.Maps.claim.Goals as goal
 
@@ -63,3 +63,6 @@ returns-clause-laid c = laid_stays c.self.inside c.args.self.now c.map.inside.nu
 
 pub returns-clause-shape : goal.returns-clause-shape
 returns-clause-shape c = told_of (λ l. l.places.shape) _ _ (is c) ∙ (change c).shape ∙ sym (told_of (λ l. l.places.shape) _ _ (was c))
+
+pub returns-clause-room : goal.returns-clause-room
+returns-clause-room c = room_stays c.self.inside c.args.self.now c.map.inside.number c.args.map (old c) (new c) c.if-self.self (change c)

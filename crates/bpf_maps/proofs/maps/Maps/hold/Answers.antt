@@ -2,7 +2,7 @@ use Rattle.std.proofs.Common.{◌≡◌, refl, ap, sym, ◌∙◌, ◌+◌, arit
 use Rattle.bpf_maps.specs.Live.{live_at, one_more}
 use Rattle.bpf_maps.specs.InMaps.{live_of, seen}
 use Rattle.bpf_maps.specs.declared.maps.Entry.{Entry}
-use Rattle.bpf_maps.proofs.Changes.{IsChange, with_entry, live_old, live_new, others_stay, areas_stay, whole_stays, laid_stays, told_of}
+use Rattle.bpf_maps.proofs.Changes.{IsChange, with_entry, live_old, live_new, others_stay, areas_stay, whole_stays, laid_stays, room_stays, told_of}
 use Rattle.bpf_maps.proofs.maps.Maps.hold.Goals as goal
 
 module _ (c : goal.After-self-1) where
@@ -54,3 +54,9 @@ returns-clause-shape c = told_of (λ l. l.places.shape) _ _ (is c) ∙ (change c
 
 pub returns-clause-areas : goal.returns-clause-areas
 returns-clause-areas c = areas_stay c.self.inside c.args.self.now c.map.inside.number c.args.map (old c) (new c) c.self.inside.refused (change c)
+
+pub returns-clause-room : goal.returns-clause-room
+returns-clause-room c = room_stays c.self.inside c.args.self.now c.map.inside.number c.args.map (old c) (new c) c.self.inside.refused (change c)
+
+pub returns-clause-places : goal.returns-clause-places
+returns-clause-places c = told_of (λ l. l.places) _ _ (is c) ∙ sym (told_of (λ l. l.places) _ _ (was c))

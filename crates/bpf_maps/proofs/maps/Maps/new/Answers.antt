@@ -21,3 +21,11 @@ invariant_of-result c =
       sum = ap (λ (xs : List (Option Entry)). total area_of (lives xs)) (sym h);
       few = omega arith;
     }
+
+pub returns-clause-maps : goal.returns-clause-maps
+unfolding total
+returns-clause-maps c = ap (λ (xs : List (Option Entry)). total (λ l. 1) (lives xs)) c.in_ok-with_capacity.ensures.empty
+
+pub returns-clause-bytes : goal.returns-clause-bytes
+unfolding total
+returns-clause-bytes c = ap (λ (xs : List (Option Entry)). total area_of (lives xs)) c.in_ok-with_capacity.ensures.empty

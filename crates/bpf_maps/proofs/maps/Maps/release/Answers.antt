@@ -1,12 +1,15 @@
-use Rattle.std.proofs.Common.{◌≡◌, ◌-◌, Some, refl, ap, sym, is_some, ◌∙◌, option_map, arith}
+use Rattle.std.proofs.Common.{◌≡◌, ℕ, ◌-◌, ◌<◌, Some, IsSome, refl, ap, sym, subst, is_some, ◌∙◌, option_map, arith}
 use Rattle.tagged_model.specs.Shape.{area}
 use Rattle.tagged_model.specs.declared.shape.MapShape.{MapShape}
 use Rattle.bpf_maps.specs.Any.{places_of}
-use Rattle.bpf_maps.specs.Live.{live_at, without_area}
+use Rattle.bpf_maps.specs.Places.{IsSound}
+use Rattle.bpf_maps.specs.Live.{Tenant, live_at, places_at, holds_at, AreSound, SameValues, without_area}
 use Rattle.bpf_maps.specs.InMaps.{live_of, seen}
 use Rattle.bpf_maps.specs.declared.maps.Entry.{Entry}
-use Rattle.bpf_maps.proofs.Changes.{IsChange, with_entry, live_here, live_old, live_new, others_stay, areas_stay, whole_stays, laid_stays, values_along, told_of, not_more, less_held}
-use Rattle.bpf_maps.proofs.Released.{IsTaken, without_entry, below_maps, size_most, whole_gone, laid_gone, less_gone, others_gone, areas_gone, none_now}
+use Rattle.bpf_maps.proofs.Changes.{IsChange, with_entry, live_here, live_old, live_new, others_stay, areas_stay, whole_stays, laid_stays, room_stays, values_along, told_of, not_more, less_held}
+use Rattle.bpf_maps.proofs.Released.{IsTaken, without_entry, below_maps, size_most, whole_gone, laid_gone, less_gone, others_gone, areas_gone, none_now, freed_gone}
+use Rattle.bpf_maps.proofs.Stays.{keeps_live, keeps_held, keeps_places}
+use Rattle.bpf_maps.proofs.Whole.{sound_at}
 use Rattle.bpf_maps.proofs.maps.Maps.release.Goals as goal
 
 -- ---- one hold less
@@ -53,6 +56,38 @@ pub returns-then-entry-gt-LAST-clause-values : goal.returns-then-entry-gt-LAST-c
 returns-then-entry-gt-LAST-clause-values c =
     values_along c.args.self.now (seen (with_entry c.self.inside c.map.inside.number (new c) c.self.inside.refused)) c.args.part.now
     (areas_stay c.self.inside c.args.self.now c.map.inside.number c.args.map (old c) (new c) c.self.inside.refused (change c))
+
+module _ (c : goal.After-self-1) where
+  sound : (k : ℕ) → IsSome (live_at c.args.self.now k) → IsSound (places_at c.args.self.now k)
+  sound = subst AreSound c.self.view_is (sound_at c.self.inside c.self.invariant)
+
+  abbrev after : Tenant
+  after = seen (with_entry c.self.inside c.map.inside.number (new c) c.self.inside.refused)
+
+  same_values : SameValues c.args.self.now c.args.part.now after c.args.part.now
+  same_values = values_along c.args.self.now after c.args.part.now (areas_stay c.self.inside c.args.self.now c.map.inside.number c.args.map (old c) (new c) c.self.inside.refused (change c))
+
+pub returns-then-entry-gt-LAST-clause-maps : goal.returns-then-entry-gt-LAST-clause-maps
+returns-then-entry-gt-LAST-clause-maps c =
+    λ other ne live.
+    keeps_live c.args.self.now (after c) c.args.part.now c.args.part.now other (same_values c) (sound c other)
+    (others_stay c.self.inside c.args.self.now c.map.inside.number c.args.map (old c) (new c) c.self.inside.refused (change c) other ne) live
+
+pub returns-then-entry-gt-LAST-clause-kept : goal.returns-then-entry-gt-LAST-clause-kept
+returns-then-entry-gt-LAST-clause-kept c =
+    λ more live.
+    keeps_places c.args.self.now (after c) c.args.part.now c.args.part.now c.args.map (same_values c) (sound c c.args.map)
+    (ap is_some (is c)) (told_of (λ l. l.places) _ _ (is c) ∙ sym (told_of (λ l. l.places) _ _ (was c))) live
+
+pub returns-then-entry-gt-LAST-clause-room : goal.returns-then-entry-gt-LAST-clause-room
+returns-then-entry-gt-LAST-clause-room c = λ more. room_stays c.self.inside c.args.self.now c.map.inside.number c.args.map (old c) (new c) c.self.inside.refused (change c)
+
+pub returns-then-entry-gt-LAST-clause-freed : goal.returns-then-entry-gt-LAST-clause-freed
+returns-then-entry-gt-LAST-clause-freed c =
+    λ last.
+    let held = told_of (λ l. l.holds) _ _ (was c) in
+    let more = c.if-entry-gt-LAST.true in
+    absurd (omega arith)
 
 -- ---- the last
 
@@ -119,3 +154,26 @@ returns-then-entry-gt-LAST-clause-gone c =
     let held = told_of (λ l. l.holds) _ _ (was c) in
     let more = c.if-entry-gt-LAST.true in
     absurd (omega arith)
+
+-- ---- the other maps, and how much room there is
+
+-- that more than one held it is false
+no_more : (c : goal.Joined-entry) → 1 < holds_at c.args.self.now c.args.map → ⊥
+no_more c more =
+    let here = live_here c.self.inside c.args.self.now c.map.inside.number c.args.map c.index_mut-entry.result.now c.self.view_is c.map.view_is c.index_mut-entry.ensures.value in
+    not_more c.args.self.now c.args.map (live_of c.index_mut-entry.result.now) here c.if-entry-gt-LAST.false more
+
+pub returns-clause-maps : goal.returns-clause-maps
+returns-clause-maps c =
+    λ other ne live.
+    keeps_held c.args.self.now (seen (without_entry c.self.inside c.remove-entry.result c.area.result c.remove-entry.new.self)) c.args.part.now c.args.part.now other (returns-clause-values c)
+    (subst AreSound c.self.view_is (sound_at c.self.inside c.self.invariant) other) (returns-clause-others c other ne) live
+
+pub returns-clause-kept : goal.returns-clause-kept
+returns-clause-kept c = λ more. absurd (no_more c more)
+
+pub returns-clause-room : goal.returns-clause-room
+returns-clause-room c = λ more. absurd (no_more c more)
+
+pub returns-clause-freed : goal.returns-clause-freed
+returns-clause-freed c = λ last. freed_gone c.self.inside c.args.self.now c.map.inside.number c.args.map c.index_mut-entry.result.now c.remove-entry.result (gone c) c.area.result (size c) c.remove-entry.new.self c.remove-entry.ensures.updates.changed c.remove-entry.ensures.updates.others c.remove-entry.ensures.capacity

@@ -1,0 +1,10 @@
+-- Whether memory was refused, once or again.
+use Rattle.std.proofs.Common.{◌≡◌, ◌||◌, Bool, true, false, refl}
+
+pub or_none : (b : Bool) → b ≡ (b || false)
+or_none true = refl
+or_none false = refl
+
+pub or_once_more : (a b c : Bool) → ((a || b) || c) ≡ (a || (b || c))
+or_once_more true b c = refl
+or_once_more false b c = refl

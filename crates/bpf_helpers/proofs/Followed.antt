@@ -1,0 +1,224 @@
+-- A call by words does what the machine's call does.
+use Rattle.std.proofs.Common.{◌≡◌, ◌≢◌, ℕ, ◌+◌, ◌-◌, ◌*◌, ◌<◌, ◌≤◌, ◌==◌, ◌&&◌, eqb, leb, false, List, length, slice_get, Option, Some, None, Result, Ok, refl, sym, ap, subst, ◌∙◌, ⊎_elim, arith}
+use Rattle.std.specs.Prelude.{slice_index, slice_set, ok_or}
+use Rattle.std.proofs.lemmas.Bool.{cond-false, ne_eqb, false≢true, and_parts, leb-true, eqb-true, eqb-false, cases_Bool}
+use Rattle.std.proofs.lemmas.Option.{same_Some, cond_some, slice_get-get_or, slice_get_within}
+use Rattle.interval.specs.Bytes.{bytes_at}
+use Rattle.tagged_model.specs.declared.helper.Helper.TheVariants.{LookUp, Update, Delete, LoadBytes}
+use Rattle.tagged_model.specs.declared.shape.MapShape.{MapShape}
+use Rattle.tagged_model.specs.declared.value.Tagged.{Tagged}
+use Rattle.tagged_model.specs.declared.value.Tagged.TheVariants.{Scalar, Map}
+use Rattle.tagged_model.specs.Table.{Table}
+use Rattle.tagged_model.specs.Cells.{also}
+use Rattle.tagged_model.specs.State.{State, input}
+use Rattle.tagged_model.specs.Helpers.{Given, map_argument, argument, number_given, with_reply, replies, returns, updated, removed, packet_bytes, packet_answer, called}
+use Rattle.arena.specs.Memory.{Memory, base, part_start, with_bytes}
+use Rattle.bpf_helpers.specs.inside.Below.{Below}
+use Rattle.bpf_maps.specs.Live.{Tenant, Live, live_at, live_or, shape_at, holds_at, SameAreas}
+use Rattle.bpf_helpers.specs.Layout.{Layout}
+use Rattle.bpf_helpers.specs.Stands.{IsRoom, StandsFor}
+use Rattle.bpf_helpers.specs.inside.Flat.{bound_map, part_place, part_input, flat_look_up, Updates, UpdatesBy, DeletesBy, LoadsBy}
+use Rattle.bpf_helpers.specs.Calls.{AreArguments, Follows}
+use Rattle.bpf_helpers.specs.inside.Laws.{GivesWord, ReturnsStand}
+use Rattle.bpf_helpers.proofs.Bytes.{length-bytes_at}
+use Rattle.bpf_helpers.proofs.Many.{also_some}
+use Rattle.bpf_helpers.proofs.Inputs.{input_there, part_within}
+use Rattle.bpf_helpers.proofs.LookUps.{is_given, look_ups_follow}
+use Rattle.bpf_helpers.proofs.Loads.{number_word, load_stands}
+use Rattle.bpf_helpers.proofs.Wider.{extends_itself}
+use Rattle.bpf_helpers.proofs.Updates.{updates_stand}
+use Rattle.bpf_helpers.proofs.Deletes.{deletes_stand}
+
+same_areas : (tenant : Tenant) → SameAreas tenant tenant
+same_areas tenant k l e = (l, e, refl, refl, refl)
+
+-- one map has the holds that it had, and the others are as they were
+same_holds : (old new : Tenant) (k : ℕ) → holds_at new k ≡ holds_at old k → ((other : ℕ) → other ≢ k → live_at new other ≡ live_at old other) → (key : ℕ) → holds_at new key ≡ holds_at old key
+same_holds old new k own others key =
+    ⊎_elim
+    (λ b. let same : k ≡ key = sym (eqb-true key k b) in subst (λ (x : ℕ). holds_at new x ≡ holds_at old x) same own)
+    (λ b. ap (λ (o : Option Live). (live_or o).holds) (others key (eqb-false key k b)))
+    (cases_Bool (eqb key k))
+
+-- the bytes that are read are as many as were asked for
+input_long : (memory : Memory) (t n w : ℕ) (bs : List ℕ) → part_start memory t + memory.part ≤ length memory.bytes → part_input memory t n w ≡ Some bs → length bs ≡ n
+input_long memory t n w bs fits e =
+    let a = also_some (part_place (part_start memory t) memory.part n w) (λ at. Some (bytes_at memory.bytes (part_start memory t + at) n)) bs e in
+    let start = part_start memory t in
+    let c = cond_some (leb (base + start) w && leb (w + n) (base + start + memory.part)) (w - (base + start)) a.0 a.1 in
+    let p = and_parts (leb (base + start) w) (leb (w + n) (base + start + memory.part)) c.0 in
+    let from : base + start ≤ w = leb-true (base + start) w p.0 in
+    let to : w + n ≤ base + start + memory.part = leb-true (w + n) (base + start + memory.part) p.1 in
+    let place : w - (base + start) ≡ a.0 = c.1 in
+    ap length (sym (same_Some (bytes_at memory.bytes (part_start memory t + a.0) n) bs a.2)) ∙ length-bytes_at memory.bytes (part_start memory t + a.0) n (omega arith)
+
+module _ (l : Layout) (bind : List ℕ) (old : Memory) (t at : ℕ) (registers : List ℕ) (memory : Memory) (tenant : Tenant) (s : State) (room : IsRoom old t) (stands : StandsFor l bind old t at registers memory tenant s) (words : List ℕ) (args : AreArguments words registers) where
+  part_fits : part_start memory t + memory.part ≤ length memory.bytes
+  part_fits =
+      let within = part_within old t room in
+      let begin : part_start memory t ≡ part_start old t = ap (λ (n : ℕ). t * n) stands.changed.part in
+      let size = stands.changed.size in
+      let part = stands.changed.part in
+      omega arith
+
+  -- the map in register 1
+  record IsMap (g : Given) : Type 0 where
+    index : ℕ
+    within : index < length bind
+    named : slice_get l.maps index ≡ Some g.descriptor
+    bound : bound_map bind (slice_index words 0) ≡ Some (slice_index bind index)
+    there : s.maps g.descriptor ≡ Some g.map
+    shape : shape_at tenant (slice_index bind index) ≡ g.map.table.shape
+
+  map_there : (g : Given) → map_argument s 1 ≡ Some g → IsMap g
+  map_there g e =
+      let given = is_given s 1 g e in
+      let word = stands.values 1 (Map g.descriptor) (omega arith) given.register in
+      let w = slice_index registers 1 in
+      let some = word.0 in
+      let count = stands.maps.count in
+      let fits = slice_get_within l.maps (w - 1) g.descriptor word.1 in
+      let h = stands.maps.each (w - 1) g.descriptor word.1 in
+      record {
+        index = w - 1;
+        within = omega arith;
+        named = word.1;
+        bound = ap (bound_map bind) (args 0 (omega arith)) ∙ cond-false (w == 0) None (slice_get bind (w - 1)) (ne_eqb w 0 (λ z. omega arith)) ∙ slice_get-get_or bind (w - 1) 0 (omega arith);
+        there = given.there;
+        shape = ap (λ (x : Table ℕ). x.shape) h.2.table ∙ ap (λ o. o.table.shape) (same_Some h.0 g.map (sym h.1 ∙ given.there));
+      }
+
+  -- the bytes at the address in another register
+  bytes_there : (i n size : ℕ) (bs : List ℕ) → i < 5 → size ≡ n → argument s (i + 1) (λ p. input s p n) ≡ Some bs → (part_input memory t size (slice_index words i) ≡ Some bs) × (length bs ≡ n)
+  bytes_there i n size bs lt same e =
+      let a = also_some (s.registers (i + 1)) (λ p. input s p n) bs e in
+      let read = input_there l bind old t at registers memory tenant s room stands a.0 (slice_index registers (i + 1)) n bs (stands.values (i + 1) a.0 (omega arith) a.1) a.2 in (
+        ap (λ (k : ℕ). part_input memory t k (slice_index words i)) same ∙ ap (λ (w : ℕ). part_input memory t n w) (args i lt) ∙ read,
+        input_long memory t n (slice_index registers (i + 1)) bs part_fits read,
+      )
+
+  other_key : (index key : ℕ) → index < length bind → ((i : ℕ) → i < length bind → slice_index bind i ≢ key) → key ≢ slice_index bind index
+  other_key index key lt away same = away index lt (sym same)
+
+  module _ {F : Type 0} (returned : ReturnsStand) (below : Below) (answer : Result ℕ F) (o : Option ℕ) (fault : F) (is : answer ≡ ok_or o fault) where
+    answered : (w : ℕ) → o ≡ Some w → answer ≡ Ok w
+    answered w e = is ∙ ap (λ o. ok_or o fault) e
+
+    pub look_up_followed : (u : State) → o ≡ flat_look_up memory t tenant bind (slice_index words 0) (slice_index words 1) → called false LookUp s ≡ Some u → Follows l bind old t at registers tenant s LookUp answer memory tenant
+    look_up_followed u told e =
+        let f = look_ups_follow below.along l bind old t at registers memory tenant s u false room stands e in
+        let same : o ≡ flat_look_up memory t tenant bind (slice_index registers 1) (slice_index registers 2) =
+        told ∙ ap (λ (w : ℕ). flat_look_up memory t tenant bind w (slice_index words 1)) (args 0 (omega arith)) ∙ ap (λ (w : ℕ). flat_look_up memory t tenant bind (slice_index registers 1) w) (args 1 (omega arith)) in
+        by f.0 f.1 o refl (subst (λ x. GivesWord l x (Some f.0)) (sym same) f.2)
+      where
+        by : (v : Tagged) → u ≡ returns s v → (x : Option ℕ) → o ≡ x → GivesWord l x (Some v) → Follows l bind old t at registers tenant s LookUp answer memory tenant
+        by v after None f g = absurd g
+        by v after (Some w) f g = record {
+          refused = false;
+          only = λ r. absurd (false≢true r);
+          state = u;
+          goes = e;
+          layout = l;
+          extends = extends_itself l;
+          word = w;
+          answered = answered w f;
+          stands = subst (λ (x : State). StandsFor l bind old t at (slice_set registers 0 w) memory tenant x) (sym after) (returned l bind old t at registers memory tenant s v w stands g);
+          others = λ key away. refl;
+          areas = same_areas tenant;
+          holds = λ key. refl;
+        }
+
+    pub update_followed : (after : Memory) (new : Tenant) (u : State) → UpdatesBy memory t tenant bind (slice_index words 0) (slice_index words 1) (slice_index words 2) (slice_index words 3) o after new → called false Update s ≡ Some u → Follows l bind old t at registers tenant s Update answer after new
+    update_followed after new u told e =
+        let a = also_some (map_argument s 1) (λ g. also (argument s 2 (λ p. input s p g.map.table.shape.key_size)) (λ key. also (argument s 3 (λ p. input s p g.map.table.shape.value_size)) (λ value. also (argument s 4 number_given) (λ flags. Some (replies s g.descriptor (updated false g.map key value flags)))))) u e in
+        let g = a.0 in
+        let b = also_some (argument s 2 (λ p. input s p g.map.table.shape.key_size)) (λ key. also (argument s 3 (λ p. input s p g.map.table.shape.value_size)) (λ value. also (argument s 4 number_given) (λ flags. Some (replies s g.descriptor (updated false g.map key value flags))))) u a.2 in
+        let c = also_some (argument s 3 (λ p. input s p g.map.table.shape.value_size)) (λ value. also (argument s 4 number_given) (λ flags. Some (replies s g.descriptor (updated false g.map b.0 value flags)))) u b.2 in
+        let d = also_some (argument s 4 number_given) (λ flags. Some (replies s g.descriptor (updated false g.map b.0 c.0 flags))) u c.2 in
+        update_by after new told g b.0 c.0 d.0 a.1 b.1 c.1 d.1 (map_there g a.1)
+      where
+        update_by : (after : Memory) (new : Tenant) → UpdatesBy memory t tenant bind (slice_index words 0) (slice_index words 1) (slice_index words 2) (slice_index words 3) o after new → (g : Given) (key value : List ℕ) (flags : ℕ) → map_argument s 1 ≡ Some g → argument s 2 (λ p. input s p g.map.table.shape.key_size) ≡ Some key → argument s 3 (λ p. input s p g.map.table.shape.value_size) ≡ Some value → argument s 4 number_given ≡ Some flags → IsMap g → Follows l bind old t at registers tenant s Update answer after new
+        update_by after new told g key value flags first second third fourth m =
+            let k = slice_index bind m.index in
+            let keys = bytes_there 1 g.map.table.shape.key_size (shape_at tenant k).key_size key (omega arith) (ap (λ (x : MapShape). x.key_size) m.shape) second in
+            let values = bytes_there 2 g.map.table.shape.value_size (shape_at tenant k).value_size value (omega arith) (ap (λ (x : MapShape). x.value_size) m.shape) third in
+            let r = told k key value m.bound keys.0 values.0 in
+            let flags_are : slice_index words 3 ≡ flags = args 3 (omega arith) ∙ number_word l bind old t at registers memory tenant s room stands 4 flags (omega arith) fourth in
+            let st = updates_stand below l bind old t at registers memory tenant s m.index g.descriptor g.map key value flags r.0 after new room stands m.named m.there values.1 (subst (λ (f : ℕ). Updates memory t tenant k key value f r.0 after new) flags_are r.2) in
+            let reply = updated st.refused g.map key value flags in
+            record {
+              refused = st.refused;
+              only = λ x. record { given = g; key = key; flags = flags; map_is = first; key_is = second; flags_are = fourth; new = st.only x };
+              state = replies s g.descriptor reply;
+              goes = ap (λ o. also o (λ g. also (argument s 2 (λ p. input s p g.map.table.shape.key_size)) (λ key. also (argument s 3 (λ p. input s p g.map.table.shape.value_size)) (λ value. also (argument s 4 number_given) (λ flags. Some (replies s g.descriptor (updated st.refused g.map key value flags))))))) first
+                  ∙ ap (λ o. also o (λ key. also (argument s 3 (λ p. input s p g.map.table.shape.value_size)) (λ value. also (argument s 4 number_given) (λ flags. Some (replies s g.descriptor (updated st.refused g.map key value flags)))))) second
+                  ∙ ap (λ o. also o (λ value. also (argument s 4 number_given) (λ flags. Some (replies s g.descriptor (updated st.refused g.map key value flags))))) third
+                  ∙ ap (λ o. also o (λ flags. Some (replies s g.descriptor (updated st.refused g.map key value flags)))) fourth;
+              layout = st.layout;
+              extends = st.extends;
+              word = r.0;
+              answered = answered r.0 r.1;
+              stands = returned st.layout bind old t at registers after new (with_reply s g.descriptor reply) (Scalar reply.answer) r.0 st.stands st.answer;
+              others = λ x away. r.2.others x (other_key m.index x m.within away);
+              areas = r.2.areas;
+              holds = same_holds tenant new k r.2.holds r.2.others;
+            }
+
+    pub delete_followed : (new : Tenant) (u : State) → DeletesBy memory t tenant bind (slice_index words 0) (slice_index words 1) o new → called false Delete s ≡ Some u → Follows l bind old t at registers tenant s Delete answer memory new
+    delete_followed new u told e =
+        let a = also_some (map_argument s 1) (λ g. also (argument s 2 (λ p. input s p g.map.table.shape.key_size)) (λ key. Some (replies s g.descriptor (removed g.map key)))) u e in
+        let g = a.0 in
+        let b = also_some (argument s 2 (λ p. input s p g.map.table.shape.key_size)) (λ key. Some (replies s g.descriptor (removed g.map key))) u a.2 in
+        let m = map_there g a.1 in
+        let k = slice_index bind m.index in
+        let keys = bytes_there 1 g.map.table.shape.key_size (shape_at tenant k).key_size b.0 (omega arith) (ap (λ (x : MapShape). x.key_size) m.shape) b.1 in
+        let r = told k b.0 m.bound keys.0 in
+        let st = deletes_stand below l bind old t at registers memory tenant s m.index g.descriptor g.map b.0 r.0 new stands m.named m.there r.2 in
+        let reply = removed g.map b.0 in
+        record {
+          refused = false;
+          only = λ x. absurd (false≢true x);
+          state = u;
+          goes = e;
+          layout = l;
+          extends = extends_itself l;
+          word = r.0;
+          answered = answered r.0 r.1;
+          stands = subst (λ (x : State). StandsFor l bind old t at (slice_set registers 0 r.0) memory new x) (same_Some (replies s g.descriptor reply) u b.2)
+              (returned l bind old t at registers memory new (with_reply s g.descriptor reply) (Scalar reply.answer) r.0 st.1 st.0);
+          others = λ x away. r.2.others x (other_key m.index x m.within away);
+          areas = r.2.areas;
+          holds = same_holds tenant new k r.2.holds r.2.others;
+        }
+
+    pub load_followed : (packet : List ℕ) → s.packet ≡ packet → (after : Memory) (u : State) → LoadsBy memory t packet (slice_index words 1) (slice_index words 2) (slice_index words 3) o after → called false LoadBytes s ≡ Some u → Follows l bind old t at registers tenant s LoadBytes answer after tenant
+    load_followed packet same after u told e =
+        let st = load_stands l bind old t at registers memory tenant s room stands below.writes false u e in
+        let offset = args 1 (omega arith) in
+        let to = args 2 (omega arith) in
+        let count = args 3 (omega arith) in
+        let place_is : part_place (part_start memory t) memory.part (slice_index words 3) (slice_index words 2) ≡ Some st.place =
+        ap (λ (n : ℕ). part_place (part_start memory t) memory.part n (slice_index words 2)) count ∙ ap (λ (w : ℕ). part_place (part_start memory t) memory.part (slice_index registers 4) w) to ∙ st.place_is in
+        let r = told st.place place_is in
+        let bytes : packet_bytes packet (slice_index words 1) (slice_index words 3) ≡ packet_bytes s.packet (slice_index registers 2) (slice_index registers 4) =
+        ap (λ (x : List ℕ). packet_bytes x (slice_index words 1) (slice_index words 3)) (sym same) ∙ ap (λ (x : ℕ). packet_bytes s.packet x (slice_index words 3)) offset ∙ ap (λ (x : ℕ). packet_bytes s.packet (slice_index registers 2) x) count in
+        let gives : packet_answer packet (slice_index words 1) (slice_index words 3) ≡ packet_answer s.packet (slice_index registers 2) (slice_index registers 4) =
+        ap (λ (x : List ℕ). packet_answer x (slice_index words 1) (slice_index words 3)) (sym same) ∙ ap (λ (x : ℕ). packet_answer s.packet x (slice_index words 3)) offset ∙ ap (λ (x : ℕ). packet_answer s.packet (slice_index registers 2) x) count in
+        let word = packet_answer s.packet (slice_index registers 2) (slice_index registers 4) in
+        let memory_is : after ≡ with_bytes memory (part_start memory t + st.place) (packet_bytes s.packet (slice_index registers 2) (slice_index registers 4)) = r.1 ∙ ap (λ (x : List ℕ). with_bytes memory (part_start memory t + st.place) x) bytes in
+        record {
+          refused = false;
+          only = λ x. absurd (false≢true x);
+          state = u;
+          goes = e;
+          layout = l;
+          extends = extends_itself l;
+          word = word;
+          answered = answered word (r.0 ∙ ap (λ (x : ℕ). Some x) gives);
+          stands = subst (λ (x : State). StandsFor l bind old t at (slice_set registers 0 word) after tenant x) (sym st.is)
+              (subst (λ (n : Memory). StandsFor l bind old t at (slice_set registers 0 word) n tenant (returns st.written (Scalar word))) (sym memory_is)
+              (returned l bind old t at registers (with_bytes memory (part_start memory t + st.place) (packet_bytes s.packet (slice_index registers 2) (slice_index registers 4))) tenant st.written (Scalar word) word st.stands refl));
+          others = λ key away. refl;
+          areas = same_areas tenant;
+          holds = λ key. refl;
+        }

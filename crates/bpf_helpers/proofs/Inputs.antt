@@ -1,0 +1,153 @@
+-- What a helper reads through a pointer stands at the pointer's address, in the part.
+use Rattle.std.proofs.Common.{◌≡◌, ℕ, suc, ◌+◌, ◌-◌, ◌*◌, ◌<◌, ◌≤◌, ◌&&◌, leb, ℤ, pos, negsuc, ◌+ℤ◌, Bool, true, false, if◌then◌else◌, List, length, drop, get_or, Option, Some, None, refl, sym, ap, ◌∙◌, arith}
+use Rattle.std.specs.Prelude.{slice_index}
+use Rattle.std.specs.Option.{IsSome}
+use Rattle.std.proofs.lemmas.Bool.{cond-true, and_from, le-leb, leb-true, false≢true}
+use Rattle.std.proofs.lemmas.Int.{ints}
+use Rattle.std.proofs.lemmas.Nat.{mul-le}
+use Rattle.std.proofs.lemmas.Option.{none-some, same_Some, cond_some}
+use Rattle.std.proofs.lemmas.List.{length-take, length-drop}
+use Rattle.interval.specs.Bytes.{bytes_at}
+use Rattle.reg_kinds.specs.Stack.{is_in_stack, place}
+use Rattle.tagged_model.specs.declared.value.Object.TheVariants as object
+use Rattle.tagged_model.specs.declared.value.Tagged.{Tagged}
+use Rattle.tagged_model.specs.declared.value.Tagged.TheVariants.{Pointer}
+use Rattle.tagged_model.specs.Cells.{also, gathered}
+use Rattle.tagged_model.specs.State.{State, RunMap, stack_byte, stack_bytes, value_bytes, object_bytes, input}
+use Rattle.arena.specs.Memory.{Memory, base, size_of, part_start}
+use Rattle.bpf_maps.specs.declared.part.TheConstants.{PART}
+use Rattle.bpf_maps.specs.Live.{Tenant, Live, live_at, live_or, shape_at, offset, offset_at, IsInside, IsLaid}
+use Rattle.bpf_helpers.specs.Layout.{Layout, IsWord}
+use Rattle.bpf_helpers.specs.Stands.{IsRoom, HasObject, HasMaps, StandsFor}
+use Rattle.bpf_helpers.specs.inside.Flat.{part_place, part_input}
+use Rattle.bpf_helpers.proofs.Bytes.{byte_of, bytes_are}
+use Rattle.bpf_helpers.proofs.Many.{also_some, in_stack, bytes_there}
+
+-- ---- bytes of bytes
+
+pub bytes_within : (memory : List ℕ) (p size y n : ℕ) → p ≤ length memory → y + n ≤ length (bytes_at memory p size) → bytes_at memory (p + y) n ≡ bytes_at (bytes_at memory p size) y n
+bytes_within memory p size y n from h =
+    let inner = bytes_at memory p size in
+    let long : length (bytes_at inner y n) ≡ n = omega (arith, length-take n (drop y inner), length-drop y inner) in
+    let few : y + n ≤ size = omega (arith, length-take size (drop p memory)) in
+    let room : p + y + n ≤ length memory = omega (arith, length-take size (drop p memory), length-drop p memory) in
+    bytes_are memory (bytes_at inner y n) (p + y) n long room
+    (λ k lt.
+    let at : p + y + k ≡ p + (y + k) = omega arith in
+    ap (λ (q : ℕ). get_or memory q 0) at ∙ sym (byte_of inner y n k lt ∙ byte_of memory p size (y + k) (omega arith)))
+
+-- ---- parts
+
+module _ (old : Memory) (t : ℕ) (room : IsRoom old t) where
+  pub part_within : part_start old t + old.part ≤ size_of old
+  part_within =
+      let below : suc t * old.part ≤ old.parts * old.part = mul-le (suc t) old.part old.parts old.part room.is_part.1 (omega arith) in
+      let next : suc t * old.part ≡ t * old.part + old.part = omega arith in
+      let size = room.is_part.0 in
+      omega arith
+
+pub part_place_is : (start part n address at : ℕ) → address ≡ base + (start + at) → at + n ≤ part → part_place start part n address ≡ Some at
+part_place_is start part n address at e h =
+    let from : base + start ≤ address = omega arith in
+    let to : address + n ≤ base + start + part = omega arith in
+    let t = and_from (leb (base + start) address) (leb (address + n) (base + start + part)) (le-leb (base + start) address from) (le-leb (address + n) (base + start + part) to) in
+    let place : address - (base + start) ≡ at = omega arith in
+    cond-true (leb (base + start) address && leb (address + n) (base + start + part)) (Some (address - (base + start))) None t ∙ ap (λ (q : ℕ). Some q) place
+
+-- ---- maps
+
+module _ (tenant : Tenant) (laid : IsLaid tenant) where
+  pub laid_inside : (k p : ℕ) → IsSome (live_at tenant k) → p < (shape_at tenant k).max_entries → IsInside (offset_at tenant k p) (shape_at tenant k).value_size
+  laid_inside k p live lt = by (live_at tenant k) refl live lt
+    where
+      by : (o : Option Live) → live_at tenant k ≡ o → IsSome o → p < (live_or o).places.shape.max_entries → IsInside (offset (live_or o) p) (live_or o).places.shape.value_size
+      by None e some lt = absurd (false≢true some)
+      by (Some l) e some lt = laid.inside k p l e lt
+
+-- an object that is placed
+pub record Found (l : Layout) (start : ℕ) (memory : List ℕ) (bind : List ℕ) (tenant : Tenant) (maps : ℕ → Option RunMap) (m number : ℕ) : Type 0 where
+  pub map : RunMap
+  pub there : maps m ≡ Some map
+  pub key : ℕ
+  pub live : IsSome (live_at tenant key)
+  pub place : ℕ
+  pub has : HasObject l start memory tenant key m number (map.values number) place
+
+pub placed_object : (l : Layout) (start : ℕ) (memory bind : List ℕ) (tenant : Tenant) (maps : ℕ → Option RunMap) (m number : ℕ) → HasMaps l bind start memory tenant maps → number < l.counts m → Found l start memory bind tenant maps m number
+placed_object l start memory bind tenant maps m number has lt =
+    let at = has.listed m number lt in
+    let g = has.each at.0 m at.1 in
+    let same = g.2.counted in
+    record {
+      map = g.0;
+      there = g.1;
+      key = slice_index bind at.0;
+      live = g.2.live;
+      place = g.2.place number;
+      has = g.2.objects number (omega arith);
+    }
+
+-- ---- inputs
+
+module _ (l : Layout) (bind : List ℕ) (old : Memory) (t at : ℕ) (registers : List ℕ) (memory : Memory) (tenant : Tenant) (s : State) (room : IsRoom old t) (stands : StandsFor l bind old t at registers memory tenant s) where
+  start : ℕ
+  start = part_start old t
+
+  pub start_same : part_start memory t ≡ part_start old t
+  start_same = ap (λ (n : ℕ). t * n) stands.changed.part
+
+  part_same : memory.part ≡ PART
+  part_same = stands.changed.part ∙ room.room
+
+  -- n bytes that stand in the part
+  there : (w n q : ℕ) (bs : List ℕ) → w ≡ base + (part_start old t + q) → q + n ≤ PART → bytes_at memory.bytes (part_start old t + q) n ≡ bs → part_input memory t n w ≡ Some bs
+  there w n q bs e fits same =
+      let begin = start_same in
+      let part = part_same in
+      ap (λ o. also o (λ at. Some (bytes_at memory.bytes (part_start memory t + at) n))) (part_place_is (part_start memory t) memory.part n w q (e ∙ ap (λ (a : ℕ). base + (a + q)) (sym start_same)) (omega arith))
+      ∙ ap (λ (a : ℕ). Some (bytes_at memory.bytes (a + q) n)) start_same ∙ ap (λ (x : List ℕ). Some x) same
+
+  pub memory_long : part_start old t + PART ≤ length memory.bytes
+  memory_long = let within = part_within old t room in let size = stands.changed.size in let part = room.room in omega arith
+
+  stack_there : (x : ℤ) (w n : ℕ) (bs : List ℕ) → pos w ≡ pos l.front +ℤ x → stack_bytes s x n ≡ Some bs → part_input memory t n w ≡ Some bs
+  stack_there x w n bs h e =
+      let c = chosen (is_in_stack x n) (gathered (stack_byte s) (place x) n) e in
+      let is = in_stack n x c in
+      let value = is.0 in
+      let within = is.1 in
+      let front = stands.front in
+      let long = memory_long in
+      there w n (place x) bs (omega (arith, ints)) (omega arith) (bytes_there l memory.bytes (part_start old t) s x n bs stands.stack (omega arith) e)
+    where
+      chosen : (b : Bool) (o : Option (List ℕ)) → (if b then o else None) ≡ Some bs → b ≡ true
+      chosen true o e = refl
+      chosen false o e = absurd (none-some bs e)
+
+  pub object_there : (m number : ℕ) (x : ℤ) (w n : ℕ) (bs : List ℕ) → pos w ≡ pos (l.object_at m number) +ℤ x → number < l.counts m → object_bytes s m number x n ≡ Some bs → part_input memory t n w ≡ Some bs
+  object_there m number (negsuc y) w n bs h placed e =
+      let a = also_some (s.maps m) (λ t. value_bytes (t.values number) (negsuc y) n) bs e in absurd (none-some bs a.2)
+  object_there m number (pos y) w n bs h placed e =
+      let f = placed_object l (part_start old t) memory.bytes bind tenant s.maps m number stands.maps placed in
+      let a = also_some (s.maps m) (λ t. value_bytes (t.values number) (pos y) n) bs e in
+      let same : a.0 ≡ f.map = same_Some a.0 f.map (sym a.1 ∙ f.there) in
+      let off = offset_at tenant f.key f.place in
+      let size = (shape_at tenant f.key).value_size in
+      let value = f.map.values number in
+      let got : value_bytes value (pos y) n ≡ Some bs = ap (λ (t : RunMap). value_bytes (t.values number) (pos y) n) (sym same) ∙ a.2 in
+      let c = cond_some (leb (y + n) (length value)) (bytes_at value y n) bs got in
+      let few : y + n ≤ length value = leb-true (y + n) (length value) c.0 in
+      let is : bytes_at memory.bytes (part_start old t + off) size ≡ value = f.has.bytes in
+      let long : length (bytes_at memory.bytes (part_start old t + off) size) ≡ length value = ap length is in
+      let least = length-take size (drop (part_start old t + off) memory.bytes) in
+      let inside = (laid_inside tenant stands.maps.laid f.key f.place f.live f.has.within).within in
+      let address = f.has.address in
+      let whole = memory_long in
+      let at : part_start old t + off + y ≡ part_start old t + (off + y) = omega arith in
+      there w n (off + y) bs (omega (arith, ints)) (omega arith)
+      (ap (λ (p : ℕ). bytes_at memory.bytes p n) (sym at) ∙ bytes_within memory.bytes (part_start old t + off) size y n (omega arith) (omega arith) ∙ ap (λ (v : List ℕ). bytes_at v y n) is ∙ c.1)
+
+  pub input_there : (p : Tagged) (w n : ℕ) (bs : List ℕ) → IsWord l p w → input s p n ≡ Some bs → part_input memory t n w ≡ Some bs
+  input_there (Pointer object.Stack x) w n bs h e = stack_there x w n bs h.0 e
+  input_there (Pointer (object.Value m number) x) w n bs h e = object_there m number x w n bs h.0 h.2 e
+  input_there p w n bs h e = absurd (none-some bs e)

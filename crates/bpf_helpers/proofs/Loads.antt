@@ -1,0 +1,77 @@
+-- Bytes of the packet that are written through a pointer.
+use Rattle.std.proofs.Common.{◌≡◌, ℕ, ◌+◌, ◌%◌, ◌^◌, ◌-◌, ◌<◌, ◌==◌, leb, Bool, true, false, if◌then◌else◌, List, length, replicate, Some, None, sym, ap, subst, ◌∙◌, arith}
+use Rattle.std.specs.Prelude.{slice_index}
+use Rattle.std.proofs.lemmas.Bool.{cond_both, and_parts, leb-true}
+use Rattle.std.proofs.lemmas.Option.{none-some, same_Some}
+use Rattle.std.proofs.lemmas.List.{length-replicate}
+use Rattle.interval.specs.Bytes.{bytes_at}
+use Rattle.tagged_model.specs.declared.helper.Helper.TheVariants.{LoadBytes}
+use Rattle.tagged_model.specs.declared.value.Tagged.{Tagged}
+use Rattle.tagged_model.specs.declared.value.Tagged.TheVariants.{Scalar, Map, Pointer}
+use Rattle.tagged_model.specs.Cells.{also}
+use Rattle.tagged_model.specs.State.{State, output}
+use Rattle.tagged_model.specs.Helpers.{argument, number_given, length_given, context_given, packet_bytes, packet_answer, is_in_packet, returns, called}
+use Rattle.arena.specs.Memory.{Memory, part_start, with_bytes}
+use Rattle.arena.specs.Apart.{WritesStayInside}
+use Rattle.bpf_maps.specs.Live.{Tenant}
+use Rattle.bpf_helpers.specs.Layout.{Layout, IsWord}
+use Rattle.bpf_helpers.specs.Stands.{IsRoom, StandsFor}
+use Rattle.bpf_helpers.specs.inside.Flat.{part_place}
+use Rattle.bpf_helpers.specs.inside.Laws.{LoadStands}
+use Rattle.bpf_helpers.proofs.Bytes.{length-bytes_at}
+use Rattle.bpf_helpers.proofs.Many.{also_some}
+use Rattle.bpf_helpers.proofs.Outputs.{outputs_stand}
+
+pub is_number : (v : Tagged) (n : ℕ) → number_given v ≡ Some n → v ≡ Scalar n
+is_number (Scalar m) n e = ap (λ (k : ℕ). Scalar k) (same_Some m n e)
+is_number (Map m) n e = absurd (none-some n e)
+is_number (Pointer o x) n e = absurd (none-some n e)
+
+is_length : (v : Tagged) (n : ℕ) → length_given v ≡ Some n → v ≡ Scalar n
+is_length (Scalar m) n e = by (m == 0) e
+  where
+    by : (b : Bool) → (if b then None else Some m) ≡ Some n → Scalar m ≡ Scalar n
+    by true e = absurd (none-some n e)
+    by false e = ap (λ (k : ℕ). Scalar k) (same_Some m n e)
+is_length (Map m) n e = absurd (none-some n e)
+is_length (Pointer o x) n e = absurd (none-some n e)
+
+length-packet_bytes : (packet : List ℕ) (offset n : ℕ) → length (packet_bytes packet offset n) ≡ n
+length-packet_bytes packet offset n =
+    cond_both (is_in_packet packet offset n) (bytes_at packet (offset % 2 ^ 32) n) (replicate n 0) (λ (x : List ℕ). length x ≡ n)
+    (λ b. length-bytes_at packet (offset % 2 ^ 32) n (leb-true (offset % 2 ^ 32 + n) (length packet) (and_parts (leb (offset % 2 ^ 32) (2 ^ 31 - 1)) (leb (offset % 2 ^ 32 + n) (length packet)) b).1))
+    (λ b. length-replicate n 0)
+
+module _ (l : Layout) (bind : List ℕ) (old : Memory) (t at : ℕ) (registers : List ℕ) (memory : Memory) (tenant : Tenant) (s : State) (room : IsRoom old t) (stands : StandsFor l bind old t at registers memory tenant s) where
+  -- a number in a register is its word
+  pub number_word : (r n : ℕ) → r < 11 → argument s r number_given ≡ Some n → slice_index registers r ≡ n
+  number_word r n lt e =
+      let a = also_some (s.registers r) number_given n e in
+      subst (λ v. IsWord l v (slice_index registers r)) (is_number a.0 n a.2) (stands.values r a.0 lt a.1)
+
+  length_word : (r n : ℕ) → r < 11 → argument s r length_given ≡ Some n → slice_index registers r ≡ n
+  length_word r n lt e =
+      let a = also_some (s.registers r) length_given n e in
+      subst (λ v. IsWord l v (slice_index registers r)) (is_length a.0 n a.2) (stands.values r a.0 lt a.1)
+
+  module _ (writes : WritesStayInside) where
+    written : (offset n : ℕ) (u v : State) → slice_index registers 2 ≡ offset → slice_index registers 4 ≡ n → argument s 3 (λ p. output s p (packet_bytes s.packet offset n)) ≡ Some v → Some (returns v (Scalar (packet_answer s.packet offset n))) ≡ Some u → LoadStands l bind old t at registers memory tenant s u
+    written offset n u v first last e f =
+        let d = also_some (s.registers 3) (λ p. output s p (packet_bytes s.packet offset n)) v e in
+        let r = outputs_stand writes l bind old t at registers memory tenant s v d.0 (slice_index registers 3) (packet_bytes s.packet offset n) room stands (stands.values 3 d.0 (omega arith) d.1) d.2 in
+        record {
+          place = r.0;
+          place_is = ap (λ (x : ℕ). part_place (part_start memory t) memory.part x (slice_index registers 3)) (last ∙ sym (length-packet_bytes s.packet offset n)) ∙ r.1;
+          written = v;
+          stands = subst (λ (x : ℕ). StandsFor l bind old t at registers (with_bytes memory (part_start memory t + r.0) (packet_bytes s.packet (slice_index registers 2) x)) tenant v) (sym last)
+              (subst (λ (x : ℕ). StandsFor l bind old t at registers (with_bytes memory (part_start memory t + r.0) (packet_bytes s.packet x n)) tenant v) (sym first) r.2);
+          is = sym (same_Some (returns v (Scalar (packet_answer s.packet offset n))) u f) ∙ ap (λ (x : ℕ). returns v (Scalar (packet_answer s.packet x n))) (sym first) ∙ ap (λ (x : ℕ). returns v (Scalar (packet_answer s.packet (slice_index registers 2) x))) (sym last);
+        }
+
+    pub load_stands : (refused : Bool) (u : State) → called refused LoadBytes s ≡ Some u → LoadStands l bind old t at registers memory tenant s u
+    load_stands refused u e =
+        let a = also_some (argument s 1 context_given) (λ c. also (argument s 2 number_given) (λ offset. also (argument s 4 length_given) (λ n. also (argument s 3 (λ p. output s p (packet_bytes s.packet offset n))) (λ t. Some (returns t (Scalar (packet_answer s.packet offset n))))))) u e in
+        let b = also_some (argument s 2 number_given) (λ offset. also (argument s 4 length_given) (λ n. also (argument s 3 (λ p. output s p (packet_bytes s.packet offset n))) (λ t. Some (returns t (Scalar (packet_answer s.packet offset n)))))) u a.2 in
+        let c = also_some (argument s 4 length_given) (λ n. also (argument s 3 (λ p. output s p (packet_bytes s.packet b.0 n))) (λ t. Some (returns t (Scalar (packet_answer s.packet b.0 n))))) u b.2 in
+        let d = also_some (argument s 3 (λ p. output s p (packet_bytes s.packet b.0 c.0))) (λ t. Some (returns t (Scalar (packet_answer s.packet b.0 c.0)))) u c.2 in
+        written b.0 c.0 u d.0 (number_word 2 b.0 (omega arith) b.1) (length_word 4 c.0 (omega arith) c.1) d.1 d.2

@@ -1,0 +1,132 @@
+-- Bytes that are read and written across slots of the stack.
+use Rattle.std.proofs.Common.{◌≡◌, ◌⊎◌, inl, inr, ℕ, zero, suc, ◌+◌, ◌-◌, ◌*◌, ◌/◌, ◌%◌, ◌<◌, ◌≤◌, ◌&&◌, ltb, leb, int_le, ℤ, pos, negsuc, ◌+ℤ◌, ◌≤ℤ◌, unsigned_abs, Bool, true, false, if◌then◌else◌, List, [], ◌∷◌, length, get_or, slice_get, Option, Some, None, refl, sym, ap, subst, ◌∙◌, arith}
+use Rattle.std.proofs.lemmas.Bool.{cond_both, and_parts, and_cases, ltb-true, ltb-false, leb-true, leb-false}
+use Rattle.std.proofs.lemmas.Int.{ints}
+use Rattle.std.proofs.lemmas.Option.{none-some, same_Some, cond_some, get_or_from_slice_get}
+use Rattle.interval.specs.Bytes.{number_of, written_at}
+use Rattle.reg_kinds.specs.Stack.{is_in_stack, place}
+use Rattle.reg_kinds.specs.Many.{touches}
+use Rattle.tagged_model.specs.declared.value.Tagged.{Tagged}
+use Rattle.tagged_model.specs.Cells.{Cell, holds, bytes, also, byte_at, gathered, cell_over}
+use Rattle.tagged_model.specs.State.{State, with_cells, stack_byte}
+use Rattle.bpf_helpers.specs.Layout.{Layout, IsWord, HasCell, HasStack}
+use Rattle.bpf_helpers.specs.inside.Laws.{StackBytesAreThere, StackBytesAreWritten}
+use Rattle.bpf_helpers.proofs.Bytes.{written_in, written_out, bytes_are, bytes_stay}
+
+pub also_some : {A B : Type 0} (o : Option A) (f : A → Option B) (y : B) → also o f ≡ Some y → (x : A) × (o ≡ Some x) × (f x ≡ Some y)
+also_some None f y e = absurd (none-some y e)
+also_some (Some x) f y e = (x, refl, e)
+
+-- ---- bytes that are there
+
+-- a list of the bytes from place p on
+pub record AreFrom (byte : ℕ → Option ℕ) (p n : ℕ) (list : List ℕ) : Type 0 where
+  pub count : length list ≡ n
+  pub each : (k : ℕ) → k < n → byte (p + k) ≡ Some (get_or list k 0)
+
+one_more : (byte : ℕ → Option ℕ) (p n b : ℕ) (list : List ℕ) → byte p ≡ Some b → AreFrom byte (suc p) n list → AreFrom byte p (suc n) (b ∷ list)
+one_more byte p n b list e rest = record { count = ap suc rest.count; each = each }
+  where
+    each : (k : ℕ) → k < suc n → byte (p + k) ≡ Some (get_or (b ∷ list) k 0)
+    each zero lt = ap byte (omega arith) ∙ e
+    each (suc k) lt = ap byte (omega arith) ∙ rest.each k (omega arith)
+
+pub are_from : (byte : ℕ → Option ℕ) (n p : ℕ) (list : List ℕ) → gathered byte p n ≡ Some list → AreFrom byte p n list
+unfolding gathered
+are_from byte zero p list e = subst (AreFrom byte p 0) (same_Some [] list e) (record { count = refl; each = λ k lt. absurd (omega arith) })
+are_from byte (suc n) p list e =
+    let a = also_some (byte p) (λ b. also (gathered byte (suc p) n) (λ bs. Some (b ∷ bs))) list e in
+    let r = also_some (gathered byte (suc p) n) (λ bs. Some (a.0 ∷ bs)) list a.2 in
+    subst (AreFrom byte p (suc n)) (same_Some (a.0 ∷ r.0) list r.2) (one_more byte p n a.0 r.0 a.1 (are_from byte n (suc p) r.0 r.1))
+
+-- ---- places
+
+pub in_stack : (n : ℕ) (y : ℤ) → is_in_stack y n ≡ true → (pos (place y) ≡ pos 512 +ℤ y) × (place y + n ≤ 512)
+in_stack n (pos y) h =
+    let a = and_parts (int_le (negsuc 511) (pos y)) (int_le (pos y +ℤ pos n) (pos 0)) h in
+    let p = a.1 in
+    let high : (pos y +ℤ pos n) ≤ℤ pos 0 = grind (arith, ints) in
+    (omega (arith, ints), omega (arith, ints))
+in_stack n (negsuc y) h =
+    let a = and_parts (int_le (negsuc 511) (negsuc y)) (int_le (negsuc y +ℤ pos n) (pos 0)) h in
+    let p = a.0 in
+    let r = a.1 in
+    let low : negsuc 511 ≤ℤ negsuc y = grind (arith, ints) in
+    let high : (negsuc y +ℤ pos n) ≤ℤ pos 0 = grind (arith, ints) in
+    let above : negsuc y +ℤ pos 512 ≡ pos (511 - y) = omega (arith, ints) in
+    let same : place (negsuc y) ≡ 511 - y = ap unsigned_abs above in
+    (omega (arith, ints), omega (arith, ints))
+
+-- ---- reading
+
+-- a byte of the stack is the memory's
+stack_byte_there : (l : Layout) (memory : List ℕ) (start : ℕ) (s : State) (q b : ℕ) → HasStack l memory start s.cells → q < 512 → stack_byte s q ≡ Some b → get_or memory (start + q) 0 ≡ b
+stack_byte_there l memory start s q b has lt e =
+    let at : start + q ≡ start + 8 * (q / 8) + q % 8 = omega arith in
+    ap (λ (a : ℕ). get_or memory a 0) at ∙ (has (q / 8) (omega arith)).present (q % 8) b (omega arith) e
+
+pub bytes_there : StackBytesAreThere
+bytes_there l memory start s y n bs has fits e =
+    let i = chosen (is_in_stack y n) (gathered (stack_byte s) (place y) n) bs e in
+    let within = (in_stack n y i.0).1 in
+    let from = are_from (stack_byte s) n (place y) bs i.1 in
+    bytes_are memory bs (start + place y) n from.count (omega arith)
+    (λ k lt. let at : start + place y + k ≡ start + (place y + k) = omega arith in
+    ap (λ (a : ℕ). get_or memory a 0) at ∙ stack_byte_there l memory start s (place y + k) (get_or bs k 0) has (omega arith) (from.each k lt))
+  where
+    chosen : {A : Type 0} (b : Bool) (o : Option A) (y : A) → (if b then o else None) ≡ Some y → (b ≡ true) × (o ≡ Some y)
+    chosen true o y e = (refl, e)
+    chosen false o y e = absurd (none-some y e)
+
+-- ---- writing
+
+module _ (l : Layout) (memory : List ℕ) (start : ℕ) (fits : start + 512 ≤ length memory) (p : ℕ) (new : List ℕ) (room : p + length new ≤ 512) where
+  -- a cell elsewhere
+  cell_stays : (i : ℕ) (c : Cell) → i < 64 → (8 * i + 8 ≤ p) ⊎ (p + length new ≤ 8 * i) → HasCell l memory (start + 8 * i) c → HasCell l (written_at memory (start + p) new) (start + 8 * i) c
+  cell_stays i c lt away has =
+      record {
+        present = λ j b few e. written_out memory new (start + p) (start + 8 * i + j) (omega arith) (apart j few away) ∙ has.present j b few e;
+        whole = λ v e. subst (λ (list : List ℕ). IsWord l v (number_of list)) (sym (bytes_stay memory new (start + p) (start + 8 * i) 8 (omega arith) (omega arith) (beside away))) (has.whole v e);
+      }
+    where
+      apart : (j : ℕ) → j < 8 → (8 * i + 8 ≤ p) ⊎ (p + length new ≤ 8 * i) → (start + 8 * i + j < start + p) ⊎ (start + p + length new ≤ start + 8 * i + j)
+      apart j few (inl below) = inl (omega arith)
+      apart j few (inr above) = inr (omega arith)
+
+      beside : (8 * i + 8 ≤ p) ⊎ (p + length new ≤ 8 * i) → (start + 8 * i + 8 ≤ start + p) ⊎ (start + p + length new ≤ start + 8 * i)
+      beside (inl below) = inl (omega arith)
+      beside (inr above) = inr (omega arith)
+
+  -- a byte of a cell that is touched
+  over_byte : (i : ℕ) (c : Cell) (j b : ℕ) → i < 64 → j < 8 → HasCell l memory (start + 8 * i) c
+      → (if leb p (8 * i + j) && ltb (8 * i + j) (p + length new) then slice_get new (8 * i + j - p) else byte_at c j) ≡ Some b → get_or (written_at memory (start + p) new) (start + 8 * i + j) 0 ≡ b
+  over_byte i c j b lt few has =
+      cond_both (leb p (8 * i + j) && ltb (8 * i + j) (p + length new)) (slice_get new (8 * i + j - p)) (byte_at c j) (λ (o : Option ℕ). o ≡ Some b → get_or (written_at memory (start + p) new) (start + 8 * i + j) 0 ≡ b)
+      (λ t e. let h = and_parts (leb p (8 * i + j)) (ltb (8 * i + j) (p + length new)) t in let from = leb-true p (8 * i + j) h.0 in let to = ltb-true (8 * i + j) (p + length new) h.1 in
+      let at : start + 8 * i + j ≡ start + p + (8 * i + j - p) = omega arith in
+      ap (λ (q : ℕ). get_or (written_at memory (start + p) new) q 0) at ∙ written_in memory new (start + p) (8 * i + j - p) (omega arith) (omega arith) ∙ get_or_from_slice_get new (8 * i + j - p) b 0 e)
+      (λ t e. written_out memory new (start + p) (start + 8 * i + j) (omega arith) (outside (and_cases (leb p (8 * i + j)) (ltb (8 * i + j) (p + length new)) t)) ∙ has.present j b few e)
+    where
+      outside : (leb p (8 * i + j) ≡ false) ⊎ (ltb (8 * i + j) (p + length new) ≡ false) → (start + 8 * i + j < start + p) ⊎ (start + p + length new ≤ start + 8 * i + j)
+      outside (inl f) = let h = leb-false p (8 * i + j) f in inl (omega arith)
+      outside (inr f) = let h = ltb-false (8 * i + j) (p + length new) f in inr (omega arith)
+
+  not_whole : (b : ℕ → Option ℕ) (v : Tagged) → bytes b ≡ holds v → ⊥
+  not_whole b v e = cc
+
+  pub cell_after : (i : ℕ) (c : Cell) → i < 64 → HasCell l memory (start + 8 * i) c → HasCell l (written_at memory (start + p) new) (start + 8 * i) (cell_over i c p new)
+  cell_after i c lt has =
+      cond_both (touches p (length new) i) (bytes (λ j. if leb p (8 * i + j) && ltb (8 * i + j) (p + length new) then slice_get new (8 * i + j - p) else byte_at c j)) c (λ (d : Cell). HasCell l (written_at memory (start + p) new) (start + 8 * i) d)
+      (λ t. record { present = λ j b few e. over_byte i c j b lt few has e; whole = λ v e. absurd (not_whole _ v e) })
+      (λ t. cell_stays i c lt (beside (and_cases (ltb p (8 * i + 8)) (ltb (8 * i) (p + length new)) t)) has)
+    where
+      beside : (ltb p (8 * i + 8) ≡ false) ⊎ (ltb (8 * i) (p + length new) ≡ false) → (8 * i + 8 ≤ p) ⊎ (p + length new ≤ 8 * i)
+      beside (inl f) = inl (ltb-false p (8 * i + 8) f)
+      beside (inr f) = inr (ltb-false (8 * i) (p + length new) f)
+
+pub bytes_over : StackBytesAreWritten
+bytes_over l memory start s t y bs has fits e =
+    let c = cond_some (is_in_stack y (length bs)) (with_cells s (λ i. cell_over i (s.cells i) (place y) bs)) t e in
+    let within = (in_stack (length bs) y c.0).1 in
+    subst (λ (u : State). HasStack l (written_at memory (start + place y) bs) start u.cells) c.1
+    (λ i lt. cell_after l memory start fits (place y) bs within i (s.cells i) lt (has i lt))

@@ -1,0 +1,105 @@
+-- The maps of a run as they stand elsewhere, or with one of them changed.
+use Rattle.std.proofs.Common.{◌≡◌, ◌≢◌, ℕ, ◌+◌, ◌<◌, ◌≤◌, ◌==◌, eqb, List, slice_get, Option, Some, refl, sym, ap, subst, ◌∙◌, ⊎_elim, arith}
+use Rattle.std.specs.Prelude.{slice_index}
+use Rattle.std.specs.Option.{IsSome}
+use Rattle.std.specs.Map.{values_of}
+use Rattle.std.proofs.lemmas.Bool.{cond_both, eqb-true, eqb-false, cases_Bool}
+use Rattle.std.proofs.lemmas.Option.{same_Some, slice_get_within}
+use Rattle.interval.specs.Bytes.{bytes_at}
+use Rattle.tagged_model.specs.State.{RunMap, set_at}
+use Rattle.arena.specs.Memory.{base}
+use Rattle.bpf_maps.specs.Places.{PlaceTable, table_of, times}
+use Rattle.bpf_maps.specs.Live.{Tenant, Live, live_at, live_or, places_at, shape_at, offset, offset_at, SameAreas, IsLaid}
+use Rattle.bpf_maps.specs.Laws.{AreasKeepPlaces}
+use Rattle.bpf_helpers.specs.Layout.{Layout}
+use Rattle.bpf_helpers.specs.Stands.{HasMap, HasMaps}
+
+-- the maps of other descriptors have other keys
+pub other_key : (l : Layout) (bind : List ℕ) (start : ℕ) (memory : List ℕ) (tenant : Tenant) (maps : ℕ → Option RunMap) → HasMaps l bind start memory tenant maps → (i m j n : ℕ) → slice_get l.maps i ≡ Some m → slice_get l.maps j ≡ Some n → n ≢ m → slice_index bind j ≢ slice_index bind i
+other_key l bind start memory tenant maps has i m j n named e differ same =
+    let count = has.count in
+    let a = slice_get_within l.maps j n e in
+    let b = slice_get_within l.maps i m named in
+    let one : j ≡ i = has.keys j i (omega arith) (omega arith) same in
+    differ (same_Some n m (sym e ∙ ap (λ (x : ℕ). slice_get l.maps x) one ∙ named))
+
+module _ (l : Layout) (start : ℕ) (memory : List ℕ) (old new : Tenant) (k m : ℕ) (t : RunMap) where
+  -- its places are the same, and begin where they did
+  map_moved : places_at new k ≡ places_at old k → ((p : ℕ) → offset_at new k p ≡ offset_at old k p) → IsSome (live_at new k) → HasMap l start memory old k m t → HasMap l start memory new k m t
+  map_moved places offsets live h = record {
+    live = live;
+    place = h.place;
+    table = ap table_of places ∙ h.table;
+    owns = h.owns;
+    counted = h.counted;
+    objects = λ number lt.
+        let o = h.objects number lt in
+        record {
+          within = subst (λ (x : PlaceTable). h.place number < x.shape.max_entries) (sym places) o.within;
+          in_use = subst (λ (x : PlaceTable). 1 ≤ times (h.place number) (values_of x.entries) + times (h.place number) x.kept) (sym places) o.in_use;
+          address = o.address ∙ ap (λ (a : ℕ). base + (start + a)) (sym (offsets (h.place number)));
+          bytes = ap (λ (a : ℕ). bytes_at memory (start + a) (shape_at new k).value_size) (offsets (h.place number)) ∙ ap (λ (x : PlaceTable). bytes_at memory (start + offset_at old k (h.place number)) x.shape.value_size) places ∙ o.bytes;
+        };
+    apart = h.apart;
+  }
+
+live_places : (old new : Tenant) (k : ℕ) → live_at new k ≡ live_at old k → places_at new k ≡ places_at old k
+live_places old new k e = ap (λ (o : Option Live). (live_or o).places) e
+
+live_offsets : (old new : Tenant) (k p : ℕ) → live_at new k ≡ live_at old k → offset_at new k p ≡ offset_at old k p
+live_offsets old new k p e = ap (λ (o : Option Live). offset (live_or o) p) e
+
+-- the maps other than the one under key k are as they were, and so are the places of this one
+module _ (l : Layout) (bind : List ℕ) (start : ℕ) (memory : List ℕ) (old new : Tenant) (k : ℕ) (live : IsSome (live_at new k)) (others : (other : ℕ) → other ≢ k → live_at new other ≡ live_at old other) (areas : SameAreas old new) (laid : IsLaid new) where
+  pub other_moved : (j n : ℕ) (u : RunMap) → j ≢ k → HasMap l start memory old j n u → HasMap l start memory new j n u
+  other_moved j n u differ h =
+      map_moved l start memory old new j n u (live_places old new j (others j differ)) (λ p. live_offsets old new j p (others j differ)) (subst IsSome (sym (others j differ)) h.live) h
+
+  pub maps_moved : AreasKeepPlaces → (maps : ℕ → Option RunMap) → places_at new k ≡ places_at old k → HasMaps l bind start memory old maps → HasMaps l bind start memory new maps
+  maps_moved keep maps places has = record {
+    count = has.count;
+    each = λ i m e. let g = has.each i m e in (
+      g.0,
+      g.1,
+      ⊎_elim
+          (λ b. let same : slice_index bind i ≡ k = eqb-true (slice_index bind i) k b in
+          subst (λ (j : ℕ). HasMap l start memory new j m g.0) (sym same) (map_moved l start memory old new k m g.0 places (λ p. keep old new k p areas live) live (subst (λ (j : ℕ). HasMap l start memory old j m g.0) same g.2)))
+          (λ b. other_moved (slice_index bind i) m g.0 (eqb-false (slice_index bind i) k b) g.2)
+          (cases_Bool (eqb (slice_index bind i) k)),
+    );
+    listed = has.listed;
+    keys = has.keys;
+    names = has.names;
+    laid = laid;
+  }
+
+-- the same map again
+pub maps_again : (l : Layout) (bind : List ℕ) (start : ℕ) (memory : List ℕ) (tenant : Tenant) (maps : ℕ → Option RunMap) (m : ℕ) (t : RunMap) → maps m ≡ Some t → HasMaps l bind start memory tenant maps → HasMaps l bind start memory tenant (set_at maps m (Some t))
+maps_again l bind start memory tenant maps m t is has = record {
+  count = has.count;
+  each = λ i n e. let g = has.each i n e in
+      cond_both (n == m) (Some t) (maps n) (λ o. (u : RunMap) × (o ≡ Some u) × HasMap l start memory tenant (slice_index bind i) n u)
+      (λ b. (g.0, sym is ∙ ap maps (sym (eqb-true n m b)) ∙ g.1, g.2))
+      (λ _. g);
+  listed = has.listed;
+  keys = has.keys;
+  names = has.names;
+  laid = has.laid;
+}
+
+-- one map is another
+module _ (l : Layout) (bind : List ℕ) (start : ℕ) (memory : List ℕ) (old new : Tenant) (maps : ℕ → Option RunMap) (i m : ℕ) (t : RunMap) (has : HasMaps l bind start memory old maps) (named : slice_get l.maps i ≡ Some m) (live : IsSome (live_at new (slice_index bind i)))
+    (others : (other : ℕ) → other ≢ slice_index bind i → live_at new other ≡ live_at old other) (areas : SameAreas old new) (laid : IsLaid new) (own : HasMap l start memory new (slice_index bind i) m t) where
+  pub map_replaced : HasMaps l bind start memory new (set_at maps m (Some t))
+  map_replaced = record {
+    count = has.count;
+    each = λ j n e. let g = has.each j n e in
+        cond_both (n == m) (Some t) (maps n) (λ o. (v : RunMap) × (o ≡ Some v) × HasMap l start memory new (slice_index bind j) n v)
+        (λ b. let same : m ≡ n = sym (eqb-true n m b) in let one : i ≡ j = has.names i j m named (e ∙ ap (λ (x : ℕ). Some x) (sym same)) in
+        (t, refl, subst (λ (x : ℕ). HasMap l start memory new (slice_index bind x) n t) one (subst (λ (x : ℕ). HasMap l start memory new (slice_index bind i) x t) same own)))
+        (λ b. (g.0, g.1, other_moved l bind start memory old new (slice_index bind i) live others areas laid (slice_index bind j) n g.0 (other_key l bind start memory old maps has i m j n named e (eqb-false n m b)) g.2));
+    listed = has.listed;
+    keys = has.keys;
+    names = has.names;
+    laid = laid;
+  }

@@ -1,0 +1,335 @@
+-- What is written through a pointer leaves words and bytes that stand for the state after it.
+use Rattle.std.proofs.Common.{◌≡◌, ◌≢◌, ◌⊎◌, inl, inr, ℕ, ◌+◌, ◌*◌, ◌<◌, ◌≤◌, ◌==◌, leb, ℤ, pos, negsuc, ◌+ℤ◌, List, length, drop, slice_get, Option, Some, None, refl, sym, ap, subst, ◌∙◌, ⊎_elim, arith}
+use Rattle.std.specs.Prelude.{slice_index}
+use Rattle.std.specs.Option.{IsSome}
+use Rattle.std.proofs.lemmas.Bool.{cond_both, eqb-true, eqb-false, leb-true, false≢true}
+use Rattle.std.proofs.lemmas.Int.{ints}
+use Rattle.std.proofs.lemmas.Option.{none-some, same_Some, cond_some, slice_get_within}
+use Rattle.std.proofs.lemmas.List.{length-take}
+use Rattle.interval.specs.Bytes.{number_of, bytes_at, written_at}
+use Rattle.reg_kinds.specs.Stack.{is_in_stack, place}
+use Rattle.tagged_model.specs.declared.value.Object.TheVariants as object
+use Rattle.tagged_model.specs.declared.value.Tagged.{Tagged}
+use Rattle.tagged_model.specs.declared.value.Tagged.TheVariants.{Pointer}
+use Rattle.tagged_model.specs.Cells.{Cell, also, cell_over}
+use Rattle.tagged_model.specs.State.{State, RunMap, set_at, with_cells, with_value, with_map, stack_written, value_written, object_written, output}
+use Rattle.arena.specs.Memory.{Memory, base, part_start, with_bytes}
+use Rattle.arena.specs.Apart.{IsPart, WritesStayInside}
+use Rattle.bpf_maps.specs.declared.part.TheConstants.{PART}
+use Rattle.bpf_maps.specs.Live.{Tenant, Live, live_at, live_or, shape_at, offset, offset_at, IsInside, IsLaid}
+use Rattle.arena.proofs.Within.{over_within}
+use Rattle.bpf_helpers.specs.Layout.{Layout, IsWord, HasCell, HasStack, HasWords}
+use Rattle.bpf_helpers.specs.Stands.{top, IsRoom, IsOnlyChanged, HasObject, HasMap, HasMaps, KeepsOthers, StandsFor}
+use Rattle.bpf_helpers.specs.inside.Flat.{part_place}
+use Rattle.bpf_helpers.specs.inside.Laws.{OutputsStand}
+use Rattle.bpf_helpers.proofs.Bytes.{written_out, length-written_at, bytes_stay}
+use Rattle.bpf_helpers.proofs.Many.{also_some, in_stack, bytes_over}
+use Rattle.bpf_helpers.proofs.Inputs.{part_place_is, laid_inside, start_same, memory_long}
+
+-- ---- what is apart from what is written stays
+
+module _ (l : Layout) (memory new : List ℕ) (from : ℕ) (fits : from + length new ≤ length memory) where
+  abbrev IsApart : ℕ → ℕ → Type 0
+  IsApart place n = (place + n ≤ from) ⊎ (from + length new ≤ place)
+
+  pub cell_kept : (at : ℕ) (c : Cell) → at + 8 ≤ length memory → IsApart at 8 → HasCell l memory at c → HasCell l (written_at memory from new) at c
+  cell_kept at c room away has =
+      record {
+        present = λ j b few e. written_out memory new from (at + j) (omega arith) (apart j few away) ∙ has.present j b few e;
+        whole = λ v e. subst (λ (list : List ℕ). IsWord l v (number_of list)) (sym (bytes_stay memory new from at 8 fits room away)) (has.whole v e);
+      }
+    where
+      apart : (j : ℕ) → j < 8 → IsApart at 8 → (at + j < from) ⊎ (from + length new ≤ at + j)
+      apart j few (inl below) = inl (omega arith)
+      apart j few (inr above) = inr (omega arith)
+
+  pub words_kept : (at : ℕ) (words : List ℕ) → at + 44 ≤ length memory → IsApart at 44 → HasWords memory at words → HasWords (written_at memory from new) at words
+  words_kept at words room away has k lt = ap number_of (bytes_stay memory new from (at + 4 * k) 4 fits (omega arith) (apart away)) ∙ has k lt
+    where
+      apart : IsApart at 44 → IsApart (at + 4 * k) 4
+      apart (inl below) = inl (omega arith)
+      apart (inr above) = inr (omega arith)
+
+  pub object_kept : (start : ℕ) (tenant : Tenant) (key m number : ℕ) (value : List ℕ) (place : ℕ) → start + offset_at tenant key place + (shape_at tenant key).value_size ≤ length memory → IsApart (start + offset_at tenant key place) (shape_at tenant key).value_size
+      → HasObject l start memory tenant key m number value place → HasObject l start (written_at memory from new) tenant key m number value place
+  object_kept start tenant key m number value place room away has =
+      record {
+        within = has.within;
+        in_use = has.in_use;
+        address = has.address;
+        bytes = bytes_stay memory new from (start + offset_at tenant key place) (shape_at tenant key).value_size fits room away ∙ has.bytes;
+      }
+
+-- ---- the values of maps lie apart
+
+module _ (tenant : Tenant) (laid : IsLaid tenant) where
+  pub laid_apart : (k p j q : ℕ) → IsSome (live_at tenant k) → IsSome (live_at tenant j) → p < (shape_at tenant k).max_entries → q < (shape_at tenant j).max_entries → (k ≡ j → p ≢ q)
+      → (offset_at tenant k p + (shape_at tenant k).value_size ≤ offset_at tenant j q) ⊎ (offset_at tenant j q + (shape_at tenant j).value_size ≤ offset_at tenant k p)
+  laid_apart k p j q live there lt few differ = by (live_at tenant k) (live_at tenant j) refl refl live there lt few
+    where
+      by : (o u : Option Live) → live_at tenant k ≡ o → live_at tenant j ≡ u → IsSome o → IsSome u → p < (live_or o).places.shape.max_entries → q < (live_or u).places.shape.max_entries
+          → (offset (live_or o) p + (live_or o).places.shape.value_size ≤ offset (live_or u) q) ⊎ (offset (live_or u) q + (live_or u).places.shape.value_size ≤ offset (live_or o) p)
+      by None u e f some too lt few = absurd (false≢true some)
+      by (Some a) None e f some too lt few = absurd (false≢true too)
+      by (Some a) (Some b) e f some too lt few = laid.apart k p j q a b e f lt few differ
+
+-- ---- maps
+
+module _ (l : Layout) (bind : List ℕ) (start : ℕ) (memory new : List ℕ) (tenant : Tenant) (maps : ℕ → Option RunMap) (has : HasMaps l bind start memory tenant maps) (long : start + PART ≤ length memory) where
+  -- what is written lies in the front of the part
+  pub maps_behind : (q : ℕ) → q + length new ≤ 512 → HasMaps l bind start (written_at memory (start + q) new) tenant maps
+  maps_behind q low = record { count = has.count; each = each; listed = has.listed; keys = has.keys; names = has.names; laid = has.laid }
+    where
+      one : (key m : ℕ) (t : RunMap) → HasMap l start memory tenant key m t → HasMap l start (written_at memory (start + q) new) tenant key m t
+      one key m t h = record {
+        live = h.live;
+        place = h.place;
+        table = h.table;
+        owns = h.owns;
+        counted = h.counted;
+        objects = λ number lt.
+            let o = h.objects number lt in
+            let is = laid_inside tenant has.laid key (h.place number) h.live o.within in
+            let within = is.within in let behind = is.behind in
+            object_kept l memory new (start + q) (omega arith) start tenant key m number (t.values number) (h.place number) (omega arith) (inr (omega arith)) o;
+        apart = h.apart;
+      }
+
+      each : (i m : ℕ) → slice_get l.maps i ≡ Some m → (t : RunMap) × (maps m ≡ Some t) × HasMap l start (written_at memory (start + q) new) tenant (slice_index bind i) m t
+      each i m e = let g = has.each i m e in (g.0, g.1, one (slice_index bind i) m g.0 g.2)
+
+  -- it lies in an object
+  module _ (m number : ℕ) (t : RunMap) (is : maps m ≡ Some t) (i : ℕ) (at : slice_get l.maps i ≡ Some m) (h : HasMap l start memory tenant (slice_index bind i) m t) (lt : number < t.count) (y : ℕ) (room : y + length new ≤ (shape_at tenant (slice_index bind i)).value_size) where
+    abbrev key : ℕ
+    key = slice_index bind i
+
+    abbrev off : ℕ
+    off = offset_at tenant (slice_index bind i) (h.place number)
+
+    abbrev size : ℕ
+    size = (shape_at tenant (slice_index bind i)).value_size
+
+    inside : IsInside off size
+    inside = laid_inside tenant has.laid key (h.place number) h.live (h.objects number lt).within
+
+    fits : start + (off + y) + length new ≤ length memory
+    fits = let within = inside.within in omega arith
+
+    abbrev after : List ℕ
+    after = written_at memory (start + (off + y)) new
+
+    value_after : HasObject l start after tenant key m number (written_at (t.values number) y new) (h.place number)
+    value_after =
+        let o = h.objects number lt in
+        let within = inside.within in
+        let at : start + (off + y) ≡ start + off + y = omega arith in
+        record {
+          within = o.within;
+          in_use = o.in_use;
+          address = o.address;
+          bytes = ap (λ (a : ℕ). bytes_at (written_at memory a new) (start + off) size) at ∙ over_within memory new (start + off) size y (omega arith) room ∙ ap (λ (v : List ℕ). written_at v y new) o.bytes;
+        }
+
+    -- another place
+    other_after : (other n k : ℕ) (value : List ℕ) (p : ℕ) → IsSome (live_at tenant other) → (other ≡ key → p ≢ h.place number) → HasObject l start memory tenant other n k value p → HasObject l start after tenant other n k value p
+    other_after other n k value p live differ o =
+        let q = laid_inside tenant has.laid other p live o.within in
+        let within = q.within in
+        let mine = inside.within in
+        object_kept l memory new (start + (off + y)) fits start tenant other n k value p (omega arith)
+        (⊎_elim (λ below. inl (omega arith)) (λ above. inr (omega arith)) (laid_apart tenant has.laid other p key (h.place number) live h.live o.within (h.objects number lt).within differ)) o
+
+    own_after : HasMap l start after tenant key m (with_value t number (written_at (t.values number) y new))
+    own_after = record {
+      live = h.live;
+      place = h.place;
+      table = h.table;
+      owns = h.owns;
+      counted = h.counted;
+      objects = λ k few. cond_both (k == number) (written_at (t.values number) y new) (t.values k) (λ v. HasObject l start after tenant key m k v (h.place k))
+          (λ e. let same : number ≡ k = sym (eqb-true k number e) in subst (λ x. HasObject l start after tenant key m x (written_at (t.values number) y new) (h.place x)) same value_after)
+          (λ e. other_after key m k (t.values k) (h.place k) h.live (λ _ same. eqb-false k number e (h.apart k number few lt same)) (h.objects k few));
+      apart = h.apart;
+    }
+
+    others_after : (j n : ℕ) (u : RunMap) → slice_get l.maps j ≡ Some n → n ≢ m → HasMap l start memory tenant (slice_index bind j) n u → HasMap l start after tenant (slice_index bind j) n u
+    others_after j n u e differ g = record {
+      live = g.live;
+      place = g.place;
+      table = g.table;
+      owns = g.owns;
+      counted = g.counted;
+      objects = λ k few. other_after (slice_index bind j) n k (u.values k) (g.place k) g.live (λ same. absurd (other_key same)) (g.objects k few);
+      apart = g.apart;
+    }
+      where
+        other_key : slice_index bind j ≡ key → ⊥
+        other_key same =
+            let count = has.count in
+            let j_in = within j n e in
+            let i_in = within i m at in
+            let one : j ≡ i = has.keys j i (omega arith) (omega arith) same in
+            differ (same_Some n m (sym e ∙ ap (λ (x : ℕ). slice_get l.maps x) one ∙ at))
+          where
+            within : (x n : ℕ) → slice_get l.maps x ≡ Some n → x < length l.maps
+            within x n e = slice_get_within l.maps x n e
+
+    maps_over : HasMaps l bind start after tenant (set_at maps m (Some (with_value t number (written_at (t.values number) y new))))
+    maps_over = record { count = has.count; each = each; listed = has.listed; keys = has.keys; names = has.names; laid = has.laid }
+      where
+        each : (j n : ℕ) → slice_get l.maps j ≡ Some n → (u : RunMap) × (set_at maps m (Some (with_value t number (written_at (t.values number) y new))) n ≡ Some u) × HasMap l start after tenant (slice_index bind j) n u
+        each j n e =
+            cond_both (n == m) (Some (with_value t number (written_at (t.values number) y new))) (maps n) (λ o. (u : RunMap) × (o ≡ Some u) × HasMap l start after tenant (slice_index bind j) n u)
+            (λ b. let same : m ≡ n = sym (eqb-true n m b) in let one : i ≡ j = has.names i j m at (e ∙ ap (λ (x : ℕ). Some x) (sym same)) in (
+              with_value t number (written_at (t.values number) y new),
+              refl,
+              subst (λ (x : ℕ). HasMap l start after tenant (slice_index bind x) n (with_value t number (written_at (t.values number) y new))) one
+                  (subst (λ (x : ℕ). HasMap l start after tenant key x (with_value t number (written_at (t.values number) y new))) same own_after),
+            ))
+            (λ b. let g = has.each j n e in (g.0, g.1, others_after j n g.0 e (eqb-false n m b) g.2))
+
+-- ---- the maps that the run does not name
+
+module _ (bind : List ℕ) (start : ℕ) (old memory new : List ℕ) (tenant : Tenant) (laid : IsLaid tenant) (long : start + PART ≤ length memory) (has : KeepsOthers bind start old memory tenant) where
+  pub others_behind : (q : ℕ) → q + length new ≤ 512 → KeepsOthers bind start old (written_at memory (start + q) new) tenant
+  others_behind q low key p away live lt =
+      let is = laid_inside tenant laid key p live lt in
+      let within = is.within in let behind = is.behind in
+      bytes_stay memory new (start + q) (start + offset_at tenant key p) (shape_at tenant key).value_size (omega arith) (omega arith) (inr (omega arith)) ∙ has key p away live lt
+
+  -- a place of a map that it names is written
+  pub others_over : (i at y : ℕ) → i < length bind → IsSome (live_at tenant (slice_index bind i)) → at < (shape_at tenant (slice_index bind i)).max_entries → y + length new ≤ (shape_at tenant (slice_index bind i)).value_size
+      → KeepsOthers bind start old (written_at memory (start + (offset_at tenant (slice_index bind i) at + y)) new) tenant
+  others_over i at y within live lt room key p away there few =
+      let is = laid_inside tenant laid key p there few in
+      let mine = laid_inside tenant laid (slice_index bind i) at live lt in
+      let a = is.within in let b = mine.within in
+      bytes_stay memory new (start + (offset_at tenant (slice_index bind i) at + y)) (start + offset_at tenant key p) (shape_at tenant key).value_size (omega arith) (omega arith)
+      (⊎_elim (λ below. inl (omega arith)) (λ above. inr (omega arith)) (laid_apart tenant laid key p (slice_index bind i) at there live few lt (λ same. absurd (away i within (sym same)))))
+      ∙ has key p away there few
+
+-- a call of one of its maps changes no other
+pub others_moved : (bind : List ℕ) (start : ℕ) (old memory : List ℕ) (tenant new : Tenant) (i : ℕ) → i < length bind → ((other : ℕ) → other ≢ slice_index bind i → live_at new other ≡ live_at tenant other) → KeepsOthers bind start old memory tenant → KeepsOthers bind start old memory new
+others_moved bind start old memory tenant new i within others has key p away =
+    subst (λ (o : Option Live). IsSome o → p < (live_or o).places.shape.max_entries → bytes_at memory (start + offset (live_or o) p) (live_or o).places.shape.value_size ≡ bytes_at old (start + offset (live_or o) p) (live_or o).places.shape.value_size)
+    (sym (others key (λ same. away i within (sym same))))
+    (λ live lt. has key p away live lt)
+
+-- ---- states
+
+module _ (writes : WritesStayInside) (l : Layout) (bind : List ℕ) (old : Memory) (t at : ℕ) (registers : List ℕ) (memory : Memory) (tenant : Tenant) (s : State) (room : IsRoom old t) (stands : StandsFor l bind old t at registers memory tenant s) where
+  pub changed_after : (q : ℕ) (new : List ℕ) → q + length new ≤ PART → IsOnlyChanged old t (with_bytes memory (part_start old t + q) new)
+  changed_after q new h =
+      let large = room.room in
+      let start = start_same l bind old t at registers memory tenant s room stands in
+      let part = stands.changed.part in
+      let all : memory.parts * memory.part ≡ old.parts * old.part = ap (λ (n : ℕ). n * memory.part) stands.changed.parts ∙ ap (λ (n : ℕ). old.parts * n) stands.changed.part in
+      let few = stands.changed.parts in
+      let one = room.is_part.1 in
+      let long = memory_long l bind old t at registers memory tenant s room stands in
+      let is : IsPart memory t = (stands.changed.size ∙ room.is_part.0 ∙ sym all, omega arith) in
+      record {
+        size = length-written_at memory.bytes new (part_start old t + q) (omega arith) ∙ stands.changed.size;
+        parts = stands.changed.parts;
+        part = stands.changed.part;
+        others = λ u differ. writes memory t u (part_start old t + q) new is (omega arith) (omega arith) differ ∙ stands.changed.others u differ;
+      }
+
+  -- the place of what is written, and what stands then
+  Written : ℕ → List ℕ → State → Type 0
+  Written w bs u = (q : ℕ) × (part_place (part_start memory t) memory.part (length bs) w ≡ Some q) × StandsFor l bind old t at registers (with_bytes memory (part_start memory t + q) bs) tenant u
+
+  written : (w q : ℕ) (bs : List ℕ) (u : State) → w ≡ base + (part_start old t + q) → q + length bs ≤ PART → StandsFor l bind old t at registers (with_bytes memory (part_start old t + q) bs) tenant u → Written w bs u
+  unfolding Written
+  written w q bs u e fits after =
+      let part = stands.changed.part in let large = room.room in (
+        q,
+        part_place_is (part_start memory t) memory.part (length bs) w q (e ∙ ap (λ (a : ℕ). base + (a + q)) (sym (start_same l bind old t at registers memory tenant s room stands))) (omega arith),
+        subst (λ (a : ℕ). StandsFor l bind old t at registers (with_bytes memory (a + q) bs) tenant u) (sym (start_same l bind old t at registers memory tenant s room stands)) after,
+      )
+
+  stack_output : (x : ℤ) (w : ℕ) (bs : List ℕ) (u : State) → pos w ≡ pos l.front +ℤ x → stack_written s x bs ≡ Some u → Written w bs u
+  stack_output x w bs u h e =
+      let start = part_start old t in
+      let c = cond_some (is_in_stack x (length bs)) (with_cells s (λ i. cell_over i (s.cells i) (place x) bs)) u e in
+      let is = in_stack (length bs) x c.0 in
+      let value = is.0 in
+      let within = is.1 in
+      let front = stands.front in
+      let long = memory_long l bind old t at registers memory tenant s room stands in
+      let cells = bytes_over l memory.bytes start s u x bs stands.stack (omega arith) e in
+      written w (place x) bs u (omega (arith, ints)) (omega arith)
+      (subst (λ (v : State). HasStack l (written_at memory.bytes (start + place x) bs) start v.cells → StandsFor l bind old t at registers (with_bytes memory (start + place x) bs) tenant v) c.1
+      (λ cells. record {
+        slot = stands.slot;
+        count = stands.count;
+        changed = changed_after (place x) bs (omega arith);
+        front = stands.front;
+        values = stands.values;
+        stack = cells;
+        words = stands.words;
+        context = words_kept l memory.bytes bs (start + place x) (omega arith) (top old t) s.words (omega arith) (inr (omega arith)) stands.context;
+        maps = maps_behind l bind start memory.bytes bs tenant s.maps stands.maps long (place x) within;
+        elsewhere = others_behind bind start old.bytes memory.bytes bs tenant stands.maps.laid long stands.elsewhere (place x) within;
+        flag = stands.flag;
+      }) cells)
+
+  object_output : (m number : ℕ) (x : ℤ) (w : ℕ) (bs : List ℕ) (u : State) → pos w ≡ pos (l.object_at m number) +ℤ x → number < l.counts m → object_written s m number x bs ≡ Some u → Written w bs u
+  object_output m number (negsuc y) w bs u h placed e =
+      let a = also_some (s.maps m) (λ t. also (value_written (t.values number) (negsuc y) bs) (λ value. Some (with_map s m (with_value t number value)))) u e in absurd (none-some u a.2)
+  object_output m number (pos y) w bs u h placed e =
+      let start = part_start old t in
+      let listed = stands.maps.listed m number placed in
+      let i = listed.0 in
+      let g = stands.maps.each i m listed.1 in
+      let key = slice_index bind i in
+      let a = also_some (s.maps m) (λ t. also (value_written (t.values number) (pos y) bs) (λ value. Some (with_map s m (with_value t number value)))) u e in
+      let same : a.0 ≡ g.0 = same_Some a.0 g.0 (sym a.1 ∙ g.1) in
+      let got : also (value_written (g.0.values number) (pos y) bs) (λ value. Some (with_map s m (with_value g.0 number value))) ≡ Some u = ap (λ (t : RunMap). also (value_written (t.values number) (pos y) bs) (λ value. Some (with_map s m (with_value t number value)))) (sym same) ∙ a.2 in
+      let b = also_some (value_written (g.0.values number) (pos y) bs) (λ value. Some (with_map s m (with_value g.0 number value))) u got in
+      let c = cond_some (leb (y + length bs) (length (g.0.values number))) (written_at (g.0.values number) y bs) b.0 b.1 in
+      let few : y + length bs ≤ length (g.0.values number) = leb-true (y + length bs) (length (g.0.values number)) c.0 in
+      let counted = g.2.counted in
+      let lt : number < g.0.count = omega arith in
+      let o = g.2.objects number lt in
+      let off = offset_at tenant key (g.2.place number) in
+      let size = (shape_at tenant key).value_size in
+      let is : length (bytes_at memory.bytes (start + off) size) ≡ length (g.0.values number) = ap length o.bytes in
+      let least = length-take size (drop (start + off) memory.bytes) in
+      let small : y + length bs ≤ size = omega arith in
+      let inside = laid_inside tenant stands.maps.laid key (g.2.place number) g.2.live o.within in
+      let within = inside.within in
+      let behind = inside.behind in
+      let address = o.address in
+      let long = memory_long l bind old t at registers memory tenant s room stands in
+      let now = with_map s m (with_value g.0 number (written_at (g.0.values number) y bs)) in
+      let state : now ≡ u = ap (λ (v : List ℕ). with_map s m (with_value g.0 number v)) c.1 ∙ same_Some _ u b.2 in
+      written w (off + y) bs u (omega (arith, ints)) (omega arith)
+      (subst (λ (v : State). StandsFor l bind old t at registers (with_bytes memory (start + (off + y)) bs) tenant v) state
+      (record {
+        slot = stands.slot;
+        count = stands.count;
+        changed = changed_after (off + y) bs (omega arith);
+        front = stands.front;
+        values = stands.values;
+        stack = λ k few. cell_kept l memory.bytes bs (start + (off + y)) (omega arith) (start + 8 * k) (s.cells k) (omega arith) (inl (omega arith)) (stands.stack k few);
+        words = stands.words;
+        context = words_kept l memory.bytes bs (start + (off + y)) (omega arith) (top old t) s.words (omega arith) (inl (omega arith)) stands.context;
+        maps = maps_over l bind start memory.bytes bs tenant s.maps stands.maps long m number g.0 g.1 i listed.1 g.2 lt y small;
+        elsewhere = let count = stands.maps.count in let fits = slice_get_within l.maps i m listed.1 in others_over bind start old.bytes memory.bytes bs tenant stands.maps.laid long stands.elsewhere i (g.2.place number) y (omega arith) g.2.live o.within small;
+        flag = stands.flag;
+      }))
+
+  output_written : (p : Tagged) (w : ℕ) (bs : List ℕ) (u : State) → IsWord l p w → output s p bs ≡ Some u → Written w bs u
+  output_written (Pointer object.Stack x) w bs u h e = stack_output x w bs u h.0 e
+  output_written (Pointer (object.Value m number) x) w bs u h e = object_output m number x w bs u h.0 h.2 e
+  output_written p w bs u h e = absurd (none-some u e)
+
+  pub object_overwritten : (m number : ℕ) (x : ℤ) (w : ℕ) (bs : List ℕ) (u : State) → pos w ≡ pos (l.object_at m number) +ℤ x → number < l.counts m → object_written s m number x bs ≡ Some u
+      → (q : ℕ) × (part_place (part_start memory t) memory.part (length bs) w ≡ Some q) × StandsFor l bind old t at registers (with_bytes memory (part_start memory t + q) bs) tenant u
+  unfolding Written
+  object_overwritten m number x w bs u h placed e = object_output m number x w bs u h placed e
+
+pub outputs_stand : WritesStayInside → OutputsStand
+unfolding Written
+outputs_stand writes l bind old t at registers memory tenant s u p w bs room stands h e = output_written writes l bind old t at registers memory tenant s room stands p w bs u h e

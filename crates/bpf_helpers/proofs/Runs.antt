@@ -1,0 +1,221 @@
+-- How a run begins and ends on words, bytes and live maps.
+use Rattle.std.proofs.Common.{◌≡◌, ℕ, zero, suc, ◌+◌, ◌*◌, ◌<◌, ◌≤◌, ◌==◌, eqb, pos, Bool, true, false, cond, if◌then◌else◌, List, [], ◌∷◌, length, slice_get, Option, Some, None, option_map, refl, sym, ap, subst, ◌∙◌, arith}
+use Rattle.std.specs.Prelude.{slice_index}
+use Rattle.std.specs.Option.{IsSome}
+use Rattle.std.specs.Map.{values_of}
+use Rattle.std.proofs.lemmas.Bool.{eqb-true, eqb-false}
+use Rattle.std.proofs.lemmas.Int.{ints}
+use Rattle.std.proofs.lemmas.Option.{none-some, same_Some, slice_get_within}
+use Rattle.interval.specs.Bytes.{bytes_at}
+use Rattle.tagged_model.specs.declared.shape.MapShape.{MapShape}
+use Rattle.tagged_model.specs.declared.value.Object.TheVariants as object
+use Rattle.tagged_model.specs.declared.value.Tagged.{Tagged}
+use Rattle.tagged_model.specs.declared.value.Tagged.TheVariants.{Pointer}
+use Rattle.tagged_model.specs.Cells.{holds, bytes}
+use Rattle.tagged_model.specs.State.{State}
+use Rattle.tagged_model.specs.Step.{Maps, begins_with, begin, first_map, last_map}
+use Rattle.arena.specs.Memory.{Memory, base, size_of, part_start, part_bytes}
+use Rattle.bpf_maps.specs.declared.part.TheConstants.{PART}
+use Rattle.bpf_maps.specs.Places.{PlaceTable, after_run}
+use Rattle.bpf_maps.specs.Live.{Tenant, live_at, places_at, shape_at, offset_at, value_in, map_in, SameAreas}
+use Rattle.bpf_maps.specs.Laws.{AreasKeepPlaces}
+use Rattle.bpf_helpers.specs.Layout.{Layout, IsWord}
+use Rattle.bpf_helpers.specs.Stands.{top, IsRoom, HasMap, StandsFor}
+use Rattle.bpf_helpers.specs.Runs.{AreReady, HasContext, first_registers, Begins, RunsBegin, RunsEnd, OthersStay}
+use Rattle.bpf_helpers.proofs.Bytes.{length-bytes_at}
+use Rattle.bpf_helpers.proofs.Inputs.{bytes_within, part_within, laid_inside}
+use Rattle.bpf_helpers.proofs.Ends.{maps_begin, maps_end}
+use Rattle.bpf_helpers.proofs.Flags.{or_none}
+
+-- ---- where a descriptor stands
+
+-- its first place in a list
+place_in : List ℕ → ℕ → Option ℕ
+place_in [] m = None
+place_in (x ∷ xs) m = if x == m then Some 0 else option_map suc (place_in xs m)
+
+some_suc : (o : Option ℕ) (i : ℕ) → option_map suc o ≡ Some i → (j : ℕ) × (o ≡ Some j) × (suc j ≡ i)
+some_suc None i e = absurd (none-some i e)
+some_suc (Some j) i e = (j, refl, same_Some (suc j) i e)
+
+place_is_there : (xs : List ℕ) (m i : ℕ) → place_in xs m ≡ Some i → slice_get xs i ≡ Some m
+unfolding place_in
+place_is_there [] m i e = absurd (none-some i e)
+place_is_there (x ∷ xs) m i e = by (place_is_there xs m) (eqb x m) refl e
+  where
+    by : ((j : ℕ) → place_in xs m ≡ Some j → slice_get xs j ≡ Some m) → (b : Bool) → eqb x m ≡ b → cond b (Some 0) (option_map suc (place_in xs m)) ≡ Some i → slice_get (x ∷ xs) i ≡ Some m
+    by rest true t e = ap (slice_get (x ∷ xs)) (sym (same_Some 0 i e)) ∙ ap (λ (y : ℕ). Some y) (eqb-true x m t)
+    by rest false t e = let r = some_suc (place_in xs m) i e in ap (slice_get (x ∷ xs)) (sym r.2) ∙ rest r.0 r.1
+
+has_place : (xs : List ℕ) (m i : ℕ) → slice_get xs i ≡ Some m → (j : ℕ) × (place_in xs m ≡ Some j)
+unfolding place_in
+has_place [] m i e = absurd (none-some m e)
+has_place (x ∷ xs) m i e = by (has_place xs m) (eqb x m) refl i e
+  where
+    by : ((i : ℕ) → slice_get xs i ≡ Some m → (j : ℕ) × (place_in xs m ≡ Some j)) → (b : Bool) → eqb x m ≡ b → (i : ℕ) → slice_get (x ∷ xs) i ≡ Some m → (j : ℕ) × (cond b (Some 0) (option_map suc (place_in xs m)) ≡ Some j)
+    by rest true t i e = (0, refl)
+    by rest false t zero e = absurd (eqb-false x m t (same_Some x m e))
+    by rest false t (suc i) e = let r = rest i e in (suc r.0, ap (option_map suc) r.1)
+
+-- ---- the values of a part
+
+module _ (old : Memory) (t : ℕ) (room : IsRoom old t) (memory : Memory) (size : size_of memory ≡ size_of old) (parts : memory.part ≡ old.part) where
+  -- n bytes of a part are bytes of the memory
+  pub in_part : (off n : ℕ) → off + n ≤ PART → bytes_at (part_bytes memory t) off n ≡ bytes_at memory.bytes (part_start old t + off) n
+  in_part off n fits =
+      let within = part_within old t room in
+      let large = room.room in
+      let start : part_start memory t ≡ part_start old t = ap (λ (k : ℕ). t * k) parts in
+      let long = length-bytes_at memory.bytes (part_start memory t) memory.part (omega arith) in
+      sym (ap (λ (p : ℕ). bytes_at memory.bytes (p + off) n) (sym start) ∙ bytes_within memory.bytes (part_start memory t) memory.part off n (omega arith) (omega arith))
+
+-- ---- the beginning
+
+module _ (bind descriptors : List ℕ) (old : Memory) (t : ℕ) (memory : Memory) (tenant : Tenant) (maps : Maps) (words packet : List ℕ) (room : IsRoom old t) (context : HasContext old t words memory) (ready : AreReady tenant bind descriptors)
+    (given : (i m : ℕ) → slice_get descriptors i ≡ Some m → maps m ≡ Some (map_in (part_bytes old t) tenant (slice_index bind i))) where
+  -- the objects of a map are those of its keys, in order
+  count_at : Option ℕ → ℕ
+  count_at None = 0
+  count_at (Some i) = length (places_at tenant (slice_index bind i)).entries
+
+  object_at : Option ℕ → ℕ → ℕ
+  object_at None number = 0
+  object_at (Some i) number = base + (part_start old t + offset_at tenant (slice_index bind i) (slice_index (values_of (places_at tenant (slice_index bind i)).entries) number))
+
+  layout : Layout
+  layout = record {
+    front = base + top old t;
+    object_at = λ m number. object_at (place_in descriptors m) number;
+    counts = λ m. count_at (place_in descriptors m);
+    maps = descriptors;
+    refused = tenant.refused;
+  }
+
+  -- a value lies behind the context, and stays
+  value_stays : (k p : ℕ) → IsSome (live_at tenant k) → p < (shape_at tenant k).max_entries
+      → bytes_at memory.bytes (part_start old t + offset_at tenant k p) (shape_at tenant k).value_size ≡ bytes_at old.bytes (part_start old t + offset_at tenant k p) (shape_at tenant k).value_size
+  value_stays k p live lt =
+      let is = laid_inside tenant ready.laid k p live lt in
+      let behind = is.behind in
+      let within = is.within in
+      let fits = part_within old t room in
+      let large = room.room in
+      context.behind (part_start old t + offset_at tenant k p) (shape_at tenant k).value_size (omega arith) (omega arith)
+
+  value_there : (k p : ℕ) → IsSome (live_at tenant k) → p < (shape_at tenant k).max_entries → bytes_at memory.bytes (part_start old t + offset_at tenant k p) (shape_at tenant k).value_size ≡ value_in (part_bytes old t) tenant k p
+  value_there k p live lt =
+      let within = (laid_inside tenant ready.laid k p live lt).within in
+      value_stays k p live lt ∙ sym (in_part old t room old refl refl (offset_at tenant k p) (shape_at tenant k).value_size (omega arith))
+
+  index_within : (i m : ℕ) → slice_get descriptors i ≡ Some m → i < length bind
+  index_within i m e = let fits = slice_get_within descriptors i m e in let count = ready.count in omega arith
+
+  -- the place of a descriptor is the one that it has
+  place_is : (i m : ℕ) → slice_get descriptors i ≡ Some m → place_in descriptors m ≡ Some i
+  place_is i m e =
+      let r = has_place descriptors m i e in
+      let same : r.0 ≡ i = ready.names r.0 i m (place_is_there descriptors m r.0 r.1) e in
+      r.1 ∙ ap (λ (x : ℕ). Some x) same
+
+  map_begins : (i m : ℕ) → slice_get descriptors i ≡ Some m → HasMap layout (part_start old t) memory.bytes tenant (slice_index bind i) m (first_map (map_in (part_bytes old t) tenant (slice_index bind i)))
+  unfolding layout count_at object_at
+  map_begins i m e =
+      let lt = index_within i m e in
+      let k = slice_index bind i in
+      maps_begin layout (part_start old t) memory.bytes tenant k m (value_in (part_bytes old t) tenant k) (ready.live i lt) (ready.sound i lt) (ready.free i lt) (λ p few. value_there k p (ready.live i lt) few)
+      (ap count_at (place_is i m e))
+      (λ number few. ap (λ (o : Option ℕ). object_at o number) (place_is i m e))
+
+  listed : (m number : ℕ) → number < layout.counts m → (i : ℕ) × (slice_get descriptors i ≡ Some m)
+  unfolding layout count_at
+  listed m number = by (place_in descriptors m) refl
+    where
+      by : (o : Option ℕ) → place_in descriptors m ≡ o → number < count_at o → (i : ℕ) × (slice_get descriptors i ≡ Some m)
+      by None e lt = absurd (omega arith)
+      by (Some i) e lt = (i, place_is_there descriptors m i e)
+
+  context_first : IsWord layout (Pointer object.Context (pos 0)) (base + top old t)
+  unfolding layout
+  context_first = (omega (arith, ints), refl, tt)
+
+  stack_first : IsWord layout (Pointer object.Stack (pos 0)) (base + top old t)
+  unfolding layout
+  stack_first = (omega (arith, ints), refl, tt)
+
+  first_words : (r : ℕ) (v : Tagged) → r < 11 → begins_with r ≡ Some v → IsWord layout v (slice_index (first_registers old t) r)
+  first_words r v lt e = context_word context_first stack_first (eqb r 1) refl e
+    where
+      stack_word : IsWord layout (Pointer object.Stack (pos 0)) (base + top old t) → (b : Bool) → eqb r 10 ≡ b → cond b (Some (Pointer object.Stack (pos 0))) None ≡ Some v → IsWord layout v (slice_index (first_registers old t) r)
+      stack_word h true k e = subst (λ (x : ℕ). IsWord layout v (slice_index (first_registers old t) x)) (sym (eqb-true r 10 k))
+          (subst (λ (x : Tagged). IsWord layout x (base + top old t)) (same_Some (Pointer object.Stack (pos 0)) v e) h)
+      stack_word h false k e = absurd (none-some v e)
+
+      context_word : IsWord layout (Pointer object.Context (pos 0)) (base + top old t) → IsWord layout (Pointer object.Stack (pos 0)) (base + top old t) → (b : Bool) → eqb r 1 ≡ b
+          → cond b (Some (Pointer object.Context (pos 0))) (cond (eqb r 10) (Some (Pointer object.Stack (pos 0))) None) ≡ Some v → IsWord layout v (slice_index (first_registers old t) r)
+      context_word h g true k e = subst (λ (x : ℕ). IsWord layout v (slice_index (first_registers old t) x)) (sym (eqb-true r 1 k))
+          (subst (λ (x : Tagged). IsWord layout x (base + top old t)) (same_Some (Pointer object.Context (pos 0)) v e) h)
+      context_word h g false k e = stack_word g (eqb r 10) refl e
+
+  not_whole : (b : ℕ → Option ℕ) (v : Tagged) → bytes b ≡ holds v → ⊥
+  not_whole b v e = cc
+
+  begins : Begins bind descriptors old t memory tenant (begin maps words packet)
+  unfolding layout
+  begins = record {
+    layout = layout;
+    maps_are = refl;
+    flag_is = refl;
+    stands = record {
+      slot = refl;
+      count = refl;
+      changed = context.changed;
+      front = refl;
+      values = first_words;
+      stack = λ i lt. record { present = λ j b few e. absurd (none-some b e); whole = λ v e. absurd (not_whole _ v e) };
+      words = context.count;
+      context = context.words_are;
+      maps = record {
+        count = ready.count;
+        each = λ i m e. (first_map (map_in (part_bytes old t) tenant (slice_index bind i)), ap (option_map first_map) (given i m e), map_begins i m e);
+        listed = listed;
+        keys = ready.keys;
+        names = ready.names;
+        laid = ready.laid;
+      };
+      elsewhere = λ key p away live lt. value_stays key p live lt;
+      flag = or_none tenant.refused;
+    };
+  }
+
+pub runs_begin : RunsBegin
+runs_begin bind descriptors old t memory tenant maps words packet room context ready given = begins bind descriptors old t memory tenant maps words packet room context ready given
+
+-- ---- the end
+
+module _ (l : Layout) (bind : List ℕ) (old : Memory) (t at : ℕ) (registers : List ℕ) (memory : Memory) (tenant : Tenant) (s : State) (room : IsRoom old t) (stands : StandsFor l bind old t at registers memory tenant s) where
+  map_ends : AreasKeepPlaces → (new : Tenant) (i m : ℕ) → slice_get l.maps i ≡ Some m → IsSome (live_at new (slice_index bind i)) → places_at new (slice_index bind i) ≡ after_run (places_at tenant (slice_index bind i)) → SameAreas tenant new
+      → option_map last_map (s.maps m) ≡ Some (map_in (part_bytes memory t) new (slice_index bind i))
+  map_ends keep new i m named live ended areas =
+      let g = stands.maps.each i m named in
+      let k = slice_index bind i in
+      let shape : shape_at new k ≡ shape_at tenant k = ap (λ (x : PlaceTable). x.shape) ended in
+      ap (option_map last_map) g.1
+      ∙ ap (λ x. Some x) (sym (maps_end l (part_start old t) memory.bytes tenant new k m g.0 (value_in (part_bytes memory t) new k) g.2 ended
+      (λ p lt.
+      let within = (laid_inside tenant stands.maps.laid k p g.2.live lt).within in
+      ap (λ (x : MapShape). bytes_at (part_bytes memory t) (offset_at new k p) x.value_size) shape
+      ∙ ap (λ (x : ℕ). bytes_at (part_bytes memory t) x (shape_at tenant k).value_size) (keep tenant new k p areas live)
+      ∙ in_part old t room memory stands.changed.size stands.changed.part (offset_at tenant k p) (shape_at tenant k).value_size (omega arith))))
+
+  other_stays : (key p : ℕ) → ((i : ℕ) → i < length bind → slice_index bind i ≡ key → ⊥) → IsSome (live_at tenant key) → p < (shape_at tenant key).max_entries → value_in (part_bytes memory t) tenant key p ≡ value_in (part_bytes old t) tenant key p
+  other_stays key p away live lt =
+      let within = (laid_inside tenant stands.maps.laid key p live lt).within in
+      in_part old t room memory stands.changed.size stands.changed.part (offset_at tenant key p) (shape_at tenant key).value_size (omega arith)
+      ∙ stands.elsewhere key p away live lt
+      ∙ sym (in_part old t room old refl refl (offset_at tenant key p) (shape_at tenant key).value_size (omega arith))
+
+pub runs_end : AreasKeepPlaces → RunsEnd
+runs_end keep l bind old t at registers memory tenant s new i m room stands named live ended areas = map_ends l bind old t at registers memory tenant s room stands keep new i m named live ended areas
+
+pub others_stay : OthersStay
+others_stay l bind old t at registers memory tenant s key p room stands away live lt = other_stays l bind old t at registers memory tenant s room stands key p away live lt

@@ -1,0 +1,74 @@
+-- A layout with more objects.
+use Rattle.std.proofs.Common.{◌≡◌, ◌≢◌, ℕ, ◌+◌, ◌-◌, ◌≤◌, ◌==◌, ◌&&◌, pos, ◌+ℤ◌, if◌then◌else◌, List, slice_get, eq-eqb, refl, sym, ap, subst, ◌∙◌, ⊎_elim, arith}
+use Rattle.std.proofs.lemmas.Bool.{cond_both, cond-true, cond-false, eqb-true, and_parts, and_from, cases_Bool, ne_eqb}
+use Rattle.tagged_model.specs.declared.value.Object.{Object}
+use Rattle.tagged_model.specs.declared.value.Object.TheVariants as object
+use Rattle.tagged_model.specs.declared.value.Tagged.{Tagged}
+use Rattle.tagged_model.specs.declared.value.Tagged.TheVariants.{Scalar, Map, Pointer}
+use Rattle.tagged_model.specs.Cells.{Cell}
+use Rattle.tagged_model.specs.State.{RunMap, set_at}
+use Rattle.bpf_maps.specs.Live.{Tenant}
+use Rattle.bpf_helpers.specs.Layout.{Layout, address, IsPlaced, IsWord, HasCell}
+use Rattle.bpf_helpers.specs.Stands.{HasMap}
+use Rattle.bpf_helpers.specs.Calls.{Extends}
+
+pub extends_itself : (l : Layout) → Extends l l
+extends_itself l = record { front = refl; maps = refl; refused = refl; more = λ k. omega arith; same = λ k number lt. refl }
+
+module _ (l m : Layout) (e : Extends l m) where
+  placed_more : (o : Object) → IsPlaced l o → (IsPlaced m o) × (address m o ≡ address l o)
+  placed_more object.Stack h = (tt, e.front)
+  placed_more object.Context h = (tt, e.front)
+  placed_more (object.Value k number) h = (let more = e.more k in omega arith, e.same k number h)
+
+  pub word_more : (v : Tagged) (w : ℕ) → IsWord l v w → IsWord m v w
+  word_more (Scalar n) w h = h
+  word_more (Map k) w h = (h.0, ap (λ (ms : List ℕ). slice_get ms (w - 1)) e.maps ∙ h.1)
+  word_more (Pointer o x) w h = let p = placed_more o h.2 in (subst (λ (a : ℕ). pos w ≡ pos a +ℤ x) (sym p.1) h.0, h.1, p.0)
+
+  pub cell_more : (memory : List ℕ) (place : ℕ) (c : Cell) → HasCell l memory place c → HasCell m memory place c
+  cell_more memory place c h = record { present = h.present; whole = λ v k. word_more v _ (h.whole v k) }
+
+-- object `l.counts m` of map m is at this address
+abbrev pub extended : Layout → ℕ → ℕ → Layout
+extended l m a = record {
+  front = l.front;
+  object_at = λ k number. if (k == m) && (number == l.counts m) then a else l.object_at k number;
+  counts = set_at l.counts m (l.counts m + 1);
+  maps = l.maps;
+  refused = l.refused;
+}
+
+module _ (l : Layout) (m a : ℕ) where
+  extended_counts : (k : ℕ) → l.counts k ≤ set_at l.counts m (l.counts m + 1) k
+  extended_counts k =
+      cond_both (k == m) (l.counts m + 1) (l.counts k) (λ n. l.counts k ≤ n) (λ b. let same = ap l.counts (eqb-true k m b) in omega arith) (λ _. omega arith)
+
+  pub extended_same : (k number : ℕ) → (k ≡ m → number ≡ l.counts m → ⊥) → (extended l m a).object_at k number ≡ l.object_at k number
+  extended_same k number other =
+      cond-false ((k == m) && (number == l.counts m)) a (l.object_at k number)
+      (⊎_elim (λ t. absurd (let h = and_parts (k == m) (number == l.counts m) t in other (eqb-true k m h.0) (eqb-true number (l.counts m) h.1))) (λ f. f) (cases_Bool ((k == m) && (number == l.counts m))))
+
+  pub extended_here : (extended l m a).object_at m (l.counts m) ≡ a
+  extended_here = cond-true ((m == m) && (l.counts m == l.counts m)) a (l.object_at m (l.counts m)) (and_from (m == m) (l.counts m == l.counts m) (eq-eqb m m refl) (eq-eqb (l.counts m) (l.counts m) refl))
+
+  pub extends : Extends l (extended l m a)
+  extends = record {
+    front = refl;
+    maps = refl;
+    refused = refl;
+    more = extended_counts;
+    same = λ k number lt. extended_same k number (λ e f. let same = ap l.counts e in omega arith);
+  }
+
+-- a map of which nothing is written, in a layout with more
+pub map_extended : (l : Layout) (start : ℕ) (memory : List ℕ) (tenant : Tenant) (m a key n : ℕ) (u : RunMap) → n ≢ m → HasMap l start memory tenant key n u → HasMap (extended l m a) start memory tenant key n u
+map_extended l start memory tenant m a key n u differ h = record {
+  live = h.live;
+  place = h.place;
+  table = h.table;
+  owns = h.owns;
+  counted = cond-false (n == m) (l.counts m + 1) (l.counts n) (ne_eqb n m differ) ∙ h.counted;
+  objects = λ number lt. let o = h.objects number lt in record { within = o.within; in_use = o.in_use; address = extended_same l m a n number (λ e _. differ e) ∙ o.address; bytes = o.bytes };
+  apart = h.apart;
+}

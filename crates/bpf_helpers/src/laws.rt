@@ -1,0 +1,60 @@
+//! Laws of the words and bytes that stand for a state. Each is the contract of a function that does nothing.
+
+ghost use Rattle.bpf_helpers.specs.Accesses.{LoadsGiveWords, StoresStand, PointersAreLow};
+ghost use Rattle.bpf_helpers.specs.Runs.{RunsBegin, RunsEnd, OthersStay};
+ghost use Rattle.bpf_helpers.specs.inside.Below.{Below};
+ghost use Rattle.bpf_helpers.specs.inside.Laws.{ReturnsStand};
+
+use arena::writes_stay_inside;
+use bpf_maps::{areas_keep_places, calls_go_along, deletes_keep_places};
+
+/// The laws of the memory and of maps that the laws of calls rest on.
+pub(crate) fn laws_below()
+    ensures { Below }
+{
+    writes_stay_inside();
+    calls_go_along();
+    areas_keep_places();
+    deletes_keep_places();
+}
+
+/// Where the machine loads a value, the bytes at the address of the load are a word that stands for it, and lie in the part.
+pub fn loads_give_words()
+    ensures { LoadsGiveWords }
+{}
+
+/// Where the machine stores a value, its word at the address of the store, which lies in the part, leaves words and bytes that
+/// stand for the state after it.
+pub fn stores_stand()
+    ensures { StoresStand }
+{
+    writes_stay_inside();
+}
+
+/// The address of an object is at least 2^32, and at most 2^28 more.
+pub fn pointers_are_low()
+    ensures { PointersAreLow }
+{}
+
+/// With what a call gives in register 0, the words stand for the state after the call.
+pub(crate) fn returns_stand()
+    ensures { ReturnsStand }
+{}
+
+/// Where a run begins, with its context in the part, words, bytes and live maps stand for the state in which the machine
+/// begins.
+pub fn runs_begin()
+    ensures { RunsBegin }
+{}
+
+/// Where a run ends, each of its maps has the pairs that the machine leaves.
+pub fn runs_end()
+    ensures { RunsEnd }
+{
+    areas_keep_places();
+}
+
+/// The values of maps that a run does not name have the bytes that they had.
+pub fn others_stay()
+    ensures { OthersStay }
+{}

@@ -1,0 +1,88 @@
+//! The look-up of a key, on words and bytes.
+
+ghost use Rattle.std.specs.Prelude.{◌≡◌, ℕ, ◌+◌, ◌-◌, ◌<◌, ◌≤◌, length, slice_index, IfSome, IsSome};
+ghost use Rattle.arena.specs.Memory.{part_start};
+ghost use Rattle.arena.specs.Ranges.{IsInside, AddsInside};
+ghost use Rattle.bpf_maps.specs.declared.part.TheConstants.{PART};
+ghost use Rattle.bpf_maps.specs.Live.{live_at};
+ghost use Rattle.bpf_helpers.specs.Calls.{AreLive};
+ghost use Rattle.bpf_helpers.specs.inside.Flat.{bound_map, part_place, flat_look_up};
+
+use arena::{Arena, Trace};
+use bpf_maps::{MapKey, Maps};
+
+/// The map that a word names.
+pub(crate) fn bound(bind: &[MapKey], word: u64) -> Option<MapKey>
+    ensures value { result ≡ bound_map bind.now word }
+    ensures listed { IfSome result (λ key.
+        (word - 1 < length bind.now) × (key ≡ slice_index bind.now (word - 1))) }
+{
+    let index = word.checked_sub(1)?;
+    if index >= bind.len() as u64 {
+        return None;
+    }
+    Some(bind[index as usize])
+}
+
+/// The place in a tenant's part of so many bytes at an address, if they lie in it.
+pub(crate) fn place_in(arena: &Arena, tenant: usize, size: usize, address: u64) -> Option<usize>
+    requires { tenant < arena.now.parts }
+    ensures value { result ≡ part_place (part_start arena.now tenant) arena.now.part size address }
+    ensures within { IfSome result (λ at. at + size ≤ arena.now.part) }
+    ensures inside { IfSome result (λ at. IsInside arena.now tenant (address, size)) }
+{
+    arena.is_its_parts();
+    let part = arena.part(tenant).len();
+    let at = address.checked_sub(arena.address(tenant))?;
+    if size > part || at > (part - size) as u64 {
+        return None;
+    }
+    Some(at as usize)
+}
+
+/// The place of bytes that are asked for, which is noted.
+pub(crate) fn asked_place(
+    arena: &Arena,
+    tenant: usize,
+    size: usize,
+    address: u64,
+    trace: &mut Trace,
+) -> Option<usize>
+    requires { tenant < arena.now.parts }
+    ensures value { result ≡ part_place (part_start arena.now tenant) arena.now.part size address }
+    ensures within { IfSome result (λ at. at + size ≤ arena.now.part) }
+    ensures inside { AddsInside arena.now tenant trace.old.ranges trace.new.ranges }
+    ensures steps { trace.new.steps ≡ trace.old.steps }
+{
+    let at = place_in(arena, tenant, size, address)?;
+    trace.range(address, size as u64);
+    Some(at)
+}
+
+/// The address of the value of a key, or 0: helper 1. The words name the map and the address of the key.
+pub(crate) fn look_up(
+    map: u64,
+    key: u64,
+    bind: &[MapKey],
+    tenant: usize,
+    arena: &Arena,
+    maps: &Maps,
+    trace: &mut Trace,
+) -> Option<u64>
+    requires tenant { tenant < arena.now.parts }
+    requires part { arena.now.part ≡ PART }
+    requires live { AreLive maps.now bind.now }
+    ensures value { result ≡ flat_look_up arena.now tenant maps.now bind.now map key }
+    ensures inside { AddsInside arena.now tenant trace.old.ranges trace.new.ranges }
+    ensures steps { trace.new.steps ≡ trace.old.steps }
+{
+    arena.is_its_parts();
+    let map = bound(bind, map)?;
+    let size = maps.shape(map).key_size as usize;
+    let at = asked_place(arena, tenant, size, key, trace)?;
+    let part = arena.part(tenant);
+    match maps.find(map, &part[at..at + size]) {
+        Some(place) => Some(arena.address(tenant) + maps.value_at(map, place) as u64),
+        None => Some(0),
+    }
+}

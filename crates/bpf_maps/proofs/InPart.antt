@@ -1,0 +1,178 @@
+-- Live maps with the bytes of their values, as writes and calls change them.
+use Rattle.std.proofs.Common.{◌≡◌, ◌≢◌, ◌⊎◌, ℕ, ◌+◌, ◌<◌, ◌≤◌, ◌==◌, Bool, true≢false, if◌then◌else◌, List, [], ◌∷◌, length, take, drop, Option, Some, None, IsSome, Result, Ok, Err, refl, sym, ap, ◌∙◌, ⊎_elim, arith, length-append}
+use Rattle.std.specs.Map.{values_of}
+use Rattle.std.proofs.lemmas.Bool.{cases_Bool, eqb-true, eqb-false}
+use Rattle.std.proofs.lemmas.List.{take_all}
+use Rattle.tagged_model.specs.declared.fault.MapFault.{MapFault}
+use Rattle.tagged_model.specs.Table as map
+use Rattle.tagged_model.specs.MapLaws.{CallsGoAlong, VerdictsTell}
+use Rattle.bpf_maps.specs.declared.part.TheConstants.{FRONT}
+use Rattle.bpf_maps.specs.Places.{PlaceTable, table_of, times, IsFree, Claims, with_place, with_kept, after_run}
+use Rattle.bpf_maps.specs.Live.{Live, Tenant, live_at, live_or, places_at, shape_at, offset_at, value_in, map_in, IsInside, IsLaid, SameAreas}
+use Rattle.bpf_maps.specs.InPart.{IsValueAt, with_value, ValueIsWritten, updated, GoesAlong}
+use Rattle.bpf_maps.proofs.Counts.{times-append, values_of-append}
+use Rattle.bpf_maps.proofs.Slots.{offsets_stay}
+use Rattle.bpf_maps.proofs.Values.{written, table_written, agreeing_tables, used_in_entries}
+use Rattle.bpf_maps.proofs.Written.{length_same, front_same, before_same, after_same, own}
+
+-- ---- where values are
+
+live_is : (t : Tenant) (k : ℕ) → IsSome (live_at t k) → live_at t k ≡ Some (live_or (live_at t k))
+live_is t k live = by (live_at t k) live
+  where
+    by : (o : Option Live) → IsSome o → o ≡ Some (live_or o)
+    by None h = absurd (true≢false (sym h))
+    by (Some l) h = refl
+
+inside_at : (t : Tenant) → IsLaid t → (k p : ℕ) → IsSome (live_at t k) → p < (shape_at t k).max_entries → IsInside (offset_at t k p) (shape_at t k).value_size
+inside_at t laid k p live lt = laid.inside k p (live_or (live_at t k)) (live_is t k live) lt
+
+apart_at : (t : Tenant) → IsLaid t → (k p j q : ℕ) → IsSome (live_at t k) → IsSome (live_at t j) → p < (shape_at t k).max_entries → q < (shape_at t j).max_entries → (k ≡ j → p ≢ q)
+    → (offset_at t k p + (shape_at t k).value_size ≤ offset_at t j q) ⊎ (offset_at t j q + (shape_at t j).value_size ≤ offset_at t k p)
+apart_at t laid k p j q live other lt below differ = laid.apart k p j q (live_or (live_at t k)) (live_or (live_at t j)) (live_is t k live) (live_is t j other) lt below differ
+
+-- ---- a value is written
+
+module _ (part : List ℕ) (t : Tenant) (k p : ℕ) (bytes : List ℕ) (is : IsValueAt part t k p bytes) where
+  abbrev start : ℕ
+  start = offset_at t k p
+
+  abbrev later : List ℕ
+  later = with_value part t k p bytes
+
+  inside : IsInside start (shape_at t k).value_size
+  inside = inside_at t is.laid k p is.live is.within
+
+  room : start + length bytes ≤ length part
+  room = let within = inside.within in let size = is.size in let whole = is.whole in omega arith
+
+  here : value_in later t k p ≡ bytes
+  here =
+      let size = is.size in
+      let first : start + 0 ≡ start = omega arith in
+      ap (λ (n : ℕ). take (shape_at t k).value_size (drop n later)) (sym first)
+      ∙ own part bytes start (length bytes) refl room 0 (shape_at t k).value_size (omega arith)
+      ∙ take_all (shape_at t k).value_size bytes (omega arith)
+
+  elsewhere : (j q : ℕ) → IsSome (live_at t j) → q < (shape_at t j).max_entries → (j ≡ k → q ≢ p) → value_in later t j q ≡ value_in part t j q
+  elsewhere j q live lt differ =
+      let size = is.size in
+      ⊎_elim
+      (λ below. before_same part bytes start (length bytes) refl room (offset_at t j q) (shape_at t j).value_size below)
+      (λ above. after_same part bytes start (length bytes) refl room (offset_at t j q) (shape_at t j).value_size (omega arith))
+      (apart_at t is.laid j q k p live is.live lt is.within differ)
+
+  -- each value in use of this map
+  each : (q : ℕ) → 1 ≤ times q (values_of (places_at t k).entries) → value_in later t k q ≡ written (value_in part t k) p bytes q
+  each q used = ⊎_elim
+      (λ b. ap (value_in later t k) (eqb-true q p b) ∙ here ∙ sym (ap (λ (c : Bool). if c then bytes else value_in part t k q) b))
+      (λ b. elsewhere k q is.live (used_in_entries (places_at t k) q (is.sound k is.live) used) (λ _. eqb-false q p b) ∙ sym (ap (λ (c : Bool). if c then bytes else value_in part t k q) b))
+      (cases_Bool (q == p))
+
+  pub value_is_written : ValueIsWritten part t k p bytes
+  value_is_written = record {
+    here = here;
+    elsewhere = elsewhere;
+    key = λ key found.
+        agreeing_tables (value_in later t k) (written (value_in part t k) p bytes) (places_at t k) each
+        ∙ table_written (value_in part t k) (places_at t k) key p bytes (is.sound k is.live) found;
+    others = λ other differ live.
+        agreeing_tables (value_in later t other) (value_in part t other) (places_at t other)
+        (λ q used. elsewhere other q live (used_in_entries (places_at t other) q (is.sound other live) used) (λ same. absurd (differ same)));
+    front = let behind = inside.behind in front_same part bytes start (length bytes) refl room FRONT behind;
+    size = length_same part bytes start (length bytes) refl room ∙ is.whole;
+  }
+
+pub value_written : (part : List ℕ) (t : Tenant) (k p : ℕ) (bytes : List ℕ) → IsValueAt part t k p bytes → ValueIsWritten part t k p bytes
+value_written = value_is_written
+
+-- ---- a map changes, and its area stays
+
+module _ (old new : Tenant) (k : ℕ) (areas : SameAreas old new) (live : IsSome (live_at new k)) where
+  shape_stays : shape_at new k ≡ shape_at old k
+  shape_stays = let m = areas k (live_or (live_at new k)) (live_is new k live) in m.2 ∙ ap (λ (o : Option Live). (live_or o).places.shape) (sym m.1)
+
+  value_stays : (part : List ℕ) (p : ℕ) → value_in part new k p ≡ value_in part old k p
+  value_stays part p =
+      ap (λ (n : ℕ). take (shape_at new k).value_size (drop n part)) (offsets_stay old new k p areas live)
+      ∙ ap (λ s. take s.value_size (drop (offset_at old k p) part)) shape_stays
+
+module _ (along : CallsGoAlong ℕ (List ℕ)) (tell : VerdictsTell ℕ) (part : List ℕ) (old new : Tenant) (k : ℕ) (areas : SameAreas old new) (live : IsSome (live_at new k)) where
+  abbrev value : ℕ → List ℕ
+  value = value_in part old k
+
+  -- the values lie where they lay
+  moved : (t : PlaceTable) → map.with_values (value_in part new k) (table_of t) ≡ map.with_values value (table_of t)
+  moved t = agreeing_tables (value_in part new k) value t (λ p used. value_stays old new k areas live part p)
+
+  same : places_at new k ≡ places_at old k → map_in part new k ≡ map_in part old k
+  same places = ap (λ (t : PlaceTable). map.with_values (value_in part new k) (table_of t)) places ∙ moved (places_at old k)
+
+  one_deleted : (t : PlaceTable) (key : List ℕ) (place : ℕ) → table_of (with_kept t key place) ≡ map.with_deleted (table_of t) key
+  one_deleted t key place = ap (λ (n : ℕ). let m : map.Table ℕ = record { shape = t.shape; entries = map.without key t.entries; deleted = n } in m) (length-append t.kept (place ∷ []))
+
+  delete : (key : List ℕ) (place : ℕ) → places_at new k ≡ with_kept (places_at old k) key place → map_in part new k ≡ map.with_deleted (map_in part old k) key
+  delete key place places =
+      ap (λ (t : PlaceTable). map.with_values (value_in part new k) (table_of t)) places
+      ∙ moved (with_kept (places_at old k) key place)
+      ∙ ap (map.with_values value) (one_deleted (places_at old k) key place)
+      ∙ along.delete value (table_of (places_at old k)) key
+
+  end : places_at new k ≡ after_run (places_at old k) → map_in part new k ≡ map.after_run (map_in part old k)
+  end places = ap (λ (t : PlaceTable). map.with_values (value_in part new k) (table_of t)) places ∙ moved (after_run (places_at old k)) ∙ along.end value (table_of (places_at old k))
+
+  -- ---- a claim and the write of its value
+
+  module _ (flags p : ℕ) (key bytes : List ℕ) (is : IsValueAt part new k p bytes) where
+    abbrev after : List ℕ
+    after = with_value part new k p bytes
+
+    present : map.verdict (table_of (places_at old k)) key flags ≡ map.Present p → places_at new k ≡ places_at old k → map_in after new k ≡ map.with_object (map_in part old k) key bytes
+    present v places =
+        (value_is_written part new k p bytes is).key key (ap (λ (t : PlaceTable). map.look_up (table_of t) key) places ∙ tell.present (table_of (places_at old k)) key flags p v)
+        ∙ ap (λ (t : map.Table (List ℕ)). map.with_object t key bytes) (same places)
+
+    -- no value that was there lies at a free place
+    others_stay : IsFree (places_at old k) p → places_at new k ≡ with_place (places_at old k) key p → (q : ℕ) → 1 ≤ times q (values_of (places_at old k).entries) → value_in after new k q ≡ value q
+    others_stay free places q used =
+        elsewhere part new k p bytes is k q live (used_in_entries (places_at new k) q (is.sound k live) still) (λ _. differ) ∙ value_stays old new k areas live part q
+      where
+        still : 1 ≤ times q (values_of (places_at new k).entries)
+        still =
+            let es = (places_at old k).entries in
+            let more = ap (λ (t : PlaceTable). times q (values_of t.entries)) places ∙ ap (times q) (values_of-append es ((key, p) ∷ [])) ∙ times-append q (values_of es) (p ∷ []) in
+            omega arith
+
+        differ : q ≢ p
+        differ e = let none = free.entries in let there = ap (λ (n : ℕ). times n (values_of (places_at old k).entries)) e in omega arith
+
+    new_key : IsFree (places_at old k) p → places_at new k ≡ with_place (places_at old k) key p → map_in after new k ≡ map.with_new (map_in part old k) key bytes
+    new_key free places =
+        ap (λ (t : PlaceTable). map.with_values (value_in after new k) (table_of t)) places
+        ∙ along.update (value_in after new k) (table_of (places_at old k)) key p
+        ∙ ap (map.with_new (map.with_values (value_in after new k) (table_of (places_at old k))) key) (here part new k p bytes is)
+        ∙ ap (λ (t : map.Table (List ℕ)). map.with_new t key bytes) (agreeing_tables (value_in after new k) value (places_at old k) (others_stay free places))
+
+    by_verdict : (v : map.Verdict ℕ) → map.verdict (table_of (places_at old k)) key flags ≡ v → Claims v key (places_at old k) (Ok p) (places_at new k) → map_in after new k ≡ updated (map.verdict_with value v) (map_in part old k) key bytes
+    by_verdict (map.Refused fault) v claims = absurd (no_fault claims.0)
+      where
+        no_fault : ◌≡◌ {A = Result ℕ MapFault} (Ok p) (Err fault) → ⊥
+        no_fault e = cc
+    by_verdict (map.Present q) v claims = present (v ∙ ap (λ (n : ℕ). map.Present n) (sym (same_place claims.0))) claims.1
+      where
+        same_place : ◌≡◌ {A = Result ℕ MapFault} (Ok p) (Ok q) → p ≡ q
+        same_place e = cc
+    by_verdict map.New v claims = new_key claims.0 claims.1
+
+    update : Claims (map.verdict (table_of (places_at old k)) key flags) key (places_at old k) (Ok p) (places_at new k) → map_in after new k ≡ updated (map.verdict (map_in part old k) key flags) (map_in part old k) key bytes
+    update claims =
+        by_verdict (map.verdict (table_of (places_at old k)) key flags) refl claims
+        ∙ ap (λ v. updated v (map_in part old k) key bytes) (sym (along.verdict value (table_of (places_at old k)) key flags))
+
+pub goes_along : CallsGoAlong ℕ (List ℕ) → VerdictsTell ℕ → (part : List ℕ) (old new : Tenant) (k : ℕ) → SameAreas old new → IsSome (live_at new k) → GoesAlong part old new k
+goes_along along tell part old new k areas live = record {
+  same = same along tell part old new k areas live;
+  delete = delete along tell part old new k areas live;
+  end = end along tell part old new k areas live;
+  update = update along tell part old new k areas live;
+}

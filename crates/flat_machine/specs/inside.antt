@@ -1,0 +1,5 @@
+pub mod Flat
+pub mod Ranges
+pub mod Steps
+pub mod Ends
+pub mod Laws

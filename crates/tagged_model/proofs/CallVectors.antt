@@ -1,0 +1,165 @@
+-- Known answers of runs with maps and calls, worked out by hand from the kernel's documentation of helpers and maps and from
+-- this project's rules. The comments spell the programs.
+use Rattle.std.proofs.Common.{◌≡◌, ℕ, ◌==◌, pos, if◌then◌else◌, Bool, true, false, replicate, List, [], ◌∷◌, ◌++◌, Option, Some, None, refl}
+use Rattle.insn_codec.specs.declared.insn.AluOp.TheVariants.{Add}
+use Rattle.insn_codec.specs.declared.insn.Condition.TheVariants.{Equal, NotEqual, Above}
+use Rattle.insn_codec.specs.declared.insn.Size.TheVariants.{Byte, Word, Double}
+use Rattle.insn_codec.specs.declared.insn.Operand.TheVariants.{Imm, Reg}
+use Rattle.insn_codec.specs.declared.insn.Insn.{Insn}
+use Rattle.insn_codec.specs.declared.insn.Insn.TheVariants.{Alu, Jump, Call, Exit, Const, MapFd}
+use Rattle.insn_codec.specs.Program.{begins_at}
+use Rattle.tagged_model.specs.declared.shape.MapKind.TheVariants.{Array, Hash}
+use Rattle.tagged_model.specs.declared.value.Outcome.{Outcome}
+use Rattle.tagged_model.specs.declared.value.Outcome.TheVariants.{Value}
+use Rattle.tagged_model.specs.Cells.{gathered}
+use Rattle.tagged_model.specs.Helpers.{known_helpers}
+use Rattle.tagged_model.specs.Table.{Table}
+use Rattle.tagged_model.specs.Step.{Maps, run, numbered, result_of, result_with, left_with, was_refused}
+use Rattle.tagged_model.proofs.RunVectors.{minus, context, set, copy, get, put, put_register}
+
+abbrev less : ℕ → ℕ → Insn
+less dst n = Alu true Add dst (Imm (minus n))
+
+-- a map under descriptor 3
+abbrev only : Table (List ℕ) → Maps
+only t m = if m == 3 then Some t else None
+
+-- ---- an array of one value of eight bytes
+
+abbrev array : List ℕ → Table (List ℕ)
+array value = record {
+  shape = record { kind = Array; key_size = 4; value_size = 8; max_entries = 1; listed = refl };
+  entries = (0 ∷ 0 ∷ 0 ∷ 0 ∷ [], value) ∷ [];
+  deleted = 0;
+}
+
+-- *(u32 *)(r10 - 4) = 0; r2 = r10; r2 += -4; r1 = map_fd 3 ll; call 1
+abbrev look_up_first : List Insn
+look_up_first = put Word 10 (minus 4) (pos 0) ∷ copy 2 10 ∷ less 2 4 ∷ MapFd 1 (pos 3) ∷ Call (pos 1) ∷ []
+
+-- ..; if r0 != 0 goto +2; r0 = 0; exit; r0 = *(u64 *)(r0 + 0); exit
+abbrev first_value : List Insn
+first_value = look_up_first ++ (Jump true NotEqual 0 (Imm (pos 0)) (pos 2) ∷ set 0 (pos 0) ∷ Exit ∷ get Double 0 0 (pos 0) ∷ Exit ∷ [])
+
+value_is_read : result_of first_value (only (array (5 ∷ 0 ∷ 0 ∷ 0 ∷ 0 ∷ 0 ∷ 0 ∷ 0 ∷ []))) (context 0) [] ≡ Value 5
+unfolding run begins_at gathered known_helpers numbered
+value_is_read = refl
+
+-- *(u32 *)(r10 - 4) = 0; ..; if r6 > 7 goto +3; r0 += r6; r0 = *(u8 *)(r0 + 0): a byte of the packet chooses the byte of the value
+abbrev chosen_byte : List Insn
+chosen_byte =
+    (set 2 (pos 0) ∷ copy 3 10 ∷ less 3 1 ∷ set 4 (pos 1) ∷ Call (pos 26) ∷ get Byte 6 10 (minus 1) ∷ put Word 10 (minus 8) (pos 0) ∷ copy 2 10 ∷ less 2 8 ∷ MapFd 1 (pos 3) ∷ Call (pos 1) ∷ [])
+    ++ (Jump true Equal 0 (Imm (pos 0)) (pos 4) ∷ Jump true Above 6 (Imm (pos 7)) (pos 3) ∷ Alu true Add 0 (Reg 6) ∷ get Byte 0 0 (pos 0) ∷ Exit ∷ set 0 (pos 9) ∷ Exit ∷ [])
+
+abbrev eight_bytes : Maps
+eight_bytes = only (array (10 ∷ 11 ∷ 12 ∷ 13 ∷ 14 ∷ 15 ∷ 16 ∷ 17 ∷ []))
+
+byte_3 : result_of chosen_byte eight_bytes (context 1) (3 ∷ []) ≡ Value 13
+unfolding run begins_at gathered known_helpers numbered
+byte_3 = refl
+
+no_byte_8 : result_of chosen_byte eight_bytes (context 1) (8 ∷ []) ≡ Value 9
+unfolding run begins_at gathered known_helpers numbered
+no_byte_8 = refl
+
+-- past the packet's end a zero is written
+byte_0 : result_of chosen_byte eight_bytes (context 0) [] ≡ Value 10
+unfolding run begins_at gathered known_helpers numbered
+byte_0 = refl
+
+-- ---- bytes of the packet
+
+abbrev packet : List ℕ
+packet = 1 ∷ 2 ∷ 3 ∷ 4 ∷ []
+
+-- *(u32 *)(r10 - 8) = -1; r2 = n; r3 = r10; r3 += -8; r4 = 4; call 26
+abbrev four_bytes : Insn → List Insn
+four_bytes offset = put Word 10 (minus 8) (minus 1) ∷ offset ∷ copy 3 10 ∷ less 3 8 ∷ set 4 (pos 4) ∷ Call (pos 26) ∷ []
+
+abbrev loaded : Insn → Outcome
+loaded offset = result_of (four_bytes offset ++ (Exit ∷ [])) (λ m. None) (context 4) packet
+
+abbrev loaded_bytes : Insn → Outcome
+loaded_bytes offset = result_of (four_bytes offset ++ (get Word 0 10 (minus 8) ∷ Exit ∷ [])) (λ m. None) (context 4) packet
+
+whole_packet : loaded (set 2 (pos 0)) ≡ Value 0
+unfolding run begins_at gathered known_helpers
+whole_packet = refl
+
+whole_packet_bytes : loaded_bytes (set 2 (pos 0)) ≡ Value 67305985
+unfolding run begins_at gathered known_helpers
+whole_packet_bytes = refl
+
+-- past the end it answers -14 and leaves zeros
+past_the_end : loaded (set 2 (pos 1)) ≡ Value 4294967282
+unfolding run begins_at gathered known_helpers
+past_the_end = refl
+
+past_the_end_bytes : loaded_bytes (set 2 (pos 1)) ≡ Value 0
+unfolding run begins_at gathered known_helpers
+past_the_end_bytes = refl
+
+offset_of_31_bits : loaded (Const 2 0x8000_0000) ≡ Value 4294967282
+unfolding run begins_at gathered known_helpers
+offset_of_31_bits = refl
+
+-- ---- the grace period, in a hash map of one entry: the deleted value stays until the run ends, and counts
+
+abbrev hash : List (List ℕ × List ℕ) → Table (List ℕ)
+hash entries = record {
+  shape = record { kind = Hash; key_size = 4; value_size = 8; max_entries = 1; listed = refl };
+  entries = entries;
+  deleted = 0;
+}
+
+abbrev key_1 : Maps
+key_1 = only (hash ((1 ∷ 0 ∷ 0 ∷ 0 ∷ [], 5 ∷ 0 ∷ 0 ∷ 0 ∷ 0 ∷ 0 ∷ 0 ∷ 0 ∷ []) ∷ []))
+
+-- looks up key 1, deletes it, puts key 2 and writes through the pointer to the deleted value; 1 where key 1 is absent
+abbrev replaces_the_key : List Insn
+replaces_the_key =
+    (put Word 10 (minus 4) (pos 1) ∷ copy 2 10 ∷ less 2 4 ∷ MapFd 1 (pos 3) ∷ Call (pos 1) ∷ Jump true Equal 0 (Imm (pos 0)) (pos 18) ∷ copy 6 0 ∷ [])
+    ++ (copy 2 10 ∷ less 2 4 ∷ MapFd 1 (pos 3) ∷ Call (pos 3) ∷ put Word 10 (minus 4) (pos 2) ∷ put Double 10 (minus 16) (pos 6) ∷ [])
+    ++ (copy 2 10 ∷ less 2 4 ∷ copy 3 10 ∷ less 3 16 ∷ MapFd 1 (pos 3) ∷ set 4 (pos 0) ∷ Call (pos 2) ∷ put Double 6 (pos 0) (pos 7) ∷ Exit ∷ set 0 (pos 1) ∷ Exit ∷ [])
+
+-- -7, too big
+full_with_the_deleted_key : result_of replaces_the_key key_1 (context 0) [] ≡ Value 4294967289
+unfolding run begins_at gathered known_helpers numbered
+full_with_the_deleted_key = refl
+
+-- after the run the map is empty
+gone_after_the_run : left_with [] replaces_the_key key_1 (context 0) [] 3 ≡ Some (hash [])
+unfolding run begins_at gathered known_helpers numbered
+gone_after_the_run = refl
+
+absent_key : result_of replaces_the_key (only (hash [])) (context 0) [] ≡ Value 1
+unfolding run begins_at gathered known_helpers numbered
+absent_key = refl
+
+-- ---- a new key that is refused memory
+
+-- *(u32 *)(r10 - 4) = 1; *(u64 *)(r10 - 16) = 6; r2 = r10; r2 += -4; r3 = r10; r3 += -16; r1 = map_fd 3 ll; r4 = 0; call 2; exit
+abbrev puts_a_key : List Insn
+puts_a_key =
+    (put Word 10 (minus 4) (pos 1) ∷ put Double 10 (minus 16) (pos 6) ∷ copy 2 10 ∷ less 2 4 ∷ copy 3 10 ∷ less 3 16 ∷ MapFd 1 (pos 3) ∷ set 4 (pos 0) ∷ [])
+    ++ (Call (pos 2) ∷ Exit ∷ [])
+
+key_is_put : left_with [] puts_a_key (only (hash [])) (context 0) [] 3 ≡ Some (hash ((1 ∷ 0 ∷ 0 ∷ 0 ∷ [], 6 ∷ 0 ∷ 0 ∷ 0 ∷ 0 ∷ 0 ∷ 0 ∷ 0 ∷ []) ∷ []))
+unfolding run begins_at gathered known_helpers numbered
+key_is_put = refl
+
+-- -12, out of memory: at the ninth step
+abbrev at_the_call : List Bool
+at_the_call = replicate 8 false ++ (true ∷ [])
+
+refused_key : result_with at_the_call puts_a_key (only (hash [])) (context 0) [] ≡ Value 4294967284
+unfolding run begins_at gathered known_helpers numbered
+refused_key = refl
+
+refusal_is_noted : was_refused at_the_call puts_a_key (only (hash [])) (context 0) [] ≡ true
+unfolding run begins_at gathered known_helpers numbered
+refusal_is_noted = refl
+
+refused_map_stays : left_with at_the_call puts_a_key (only (hash [])) (context 0) [] 3 ≡ Some (hash [])
+unfolding run begins_at gathered known_helpers numbered
+refused_map_stays = refl

@@ -28,8 +28,8 @@ use Rattle.bpf_text.specs.declared.fault.TextFault.{TextFault}
 use Rattle.bpf_text.specs.declared.fault.TextFaultKind.{TextFaultKind}
 use Rattle.bpf_text.specs.declared.fault.TextFaultKind.TheVariants.{Range, UnknownLabel, LabelTwice, TooLong, Memory}
 use Rattle.bpf_text.specs.Fault.{NoneBelow, IsFirst, fault_on, memory_fault, empty_fault}
-use Rattle.bpf_text.specs.Labels.{Labels, place_of, place_at, FindsLabels, kept_line, kept_slot, kept_distance, code_fault, label_fault, kept_fault, kept_form, kept_forms, IsFormed}
-use Rattle.bpf_text.specs.Assembly.{AreRead, line_slots, slots_on, label_line, label_slot, distance, passes, is_known, is_twice, line_fault, line_fault_of, fault_at, forms_from, IsAssembled, IsFaultOf}
+use Rattle.bpf_text.specs.inside.Labels.{Labels, place_of, place_at, FindsLabels, kept_line, kept_slot, kept_distance, code_fault, label_fault, kept_fault, kept_form, kept_forms, IsFormed}
+use Rattle.bpf_text.specs.Assembly.{AreRead, line_slots, slots_on, label_line, label_slot, distance, passes, is_known, is_twice, line_fault, line_fault_of, fault_at, forms_from, IsAssembled, IsOwnFault}
 use Rattle.bpf_text.specs.Lines.{text_lines}
 use Rattle.bpf_text.proofs.Faults.{fault_on_line}
 use Rattle.bpf_text.proofs.LabelLines.{slots_on-append}
@@ -333,11 +333,11 @@ assembled text read lines insns e are none forms count some = record {
   some = omega arith;
 }
 
-pub own_fault : (text : List ℕ) (read : List (List ℕ)) (lines : List (Option Line)) (fault : TextFault) → read ≡ text_lines text → AreRead read lines → (fault ≡ memory_fault) ⊎ IsFirst (fault_at lines) fault → IsFaultOf text fault
+pub own_fault : (text : List ℕ) (read : List (List ℕ)) (lines : List (Option Line)) (fault : TextFault) → read ≡ text_lines text → AreRead read lines → (fault ≡ memory_fault) ⊎ IsFirst (fault_at lines) fault → (fault ≡ memory_fault) ⊎ IsOwnFault text fault
 own_fault text read lines fault e are (inl memory) = inl memory
 own_fault text read lines fault e are (inr first) = inr (record { lines = lines; read = subst (λ (ls : List (List ℕ)). AreRead ls lines) e are; first = inl first })
 
-pub no_slot_fault : (text : List ℕ) (read : List (List ℕ)) (lines : List (Option Line)) (insns : List Insn) (fault : TextFault) → read ≡ text_lines text → AreRead read lines → ((i : ℕ) → fault_at lines i ≡ None) → slot_count insns ≡ slots_on lines → (fault ≡ memory_fault) ⊎ ((fault ≡ empty_fault) × (slot_count insns ≡ 0)) → IsFaultOf text fault
+pub no_slot_fault : (text : List ℕ) (read : List (List ℕ)) (lines : List (Option Line)) (insns : List Insn) (fault : TextFault) → read ≡ text_lines text → AreRead read lines → ((i : ℕ) → fault_at lines i ≡ None) → slot_count insns ≡ slots_on lines → (fault ≡ memory_fault) ⊎ ((fault ≡ empty_fault) × (slot_count insns ≡ 0)) → (fault ≡ memory_fault) ⊎ IsOwnFault text fault
 no_slot_fault text read lines insns fault e are none count (inl memory) = inl memory
 no_slot_fault text read lines insns fault e are none count (inr empty) = inr (record {
   lines = lines;

@@ -1,5 +1,5 @@
 -- What texts are programs: one program for a text, no fault beside it, and the printed text is one.
-use Rattle.std.proofs.Common.{◌≡◌, ◌≢◌, ℕ, zero, suc, ◌+◌, ◌<◌, ◌≤◌, Bool, true, false, cond, eqb, ltb, not, List, [], ◌∷◌, ◌++◌, length, take, map, Option, Some, None, Result, Ok, Err, leb, lit<, refl, sym, ap, ◌∙◌, arith, subst, inl, inr, append_assoc}
+use Rattle.std.proofs.Common.{◌≡◌, ◌≢◌, ℕ, zero, suc, ◌+◌, ◌≤◌, Bool, true, false, cond, eqb, ltb, not, List, [], ◌∷◌, ◌++◌, length, take, map, Option, Some, None, Result, Ok, Err, leb, lit<, refl, sym, ap, ◌∙◌, arith, subst, inl, inr, append_assoc}
 use Rattle.std.specs.Prelude.{slice_get, is_some, ◌⊎◌, ◌||◌, ◌&&◌, IfOk, IfErr, IsErrAnd, MatchResult}
 use Rattle.std.specs.List.{All, AllByRecursion}
 use Rattle.std.proofs.lemmas.Bool.{false_from_ne_true, le-ltb}
@@ -18,13 +18,14 @@ use Rattle.text_line.specs.Written.{written, printed_insn}
 use Rattle.text_line.specs.Law.{OneReading, OneInsn, IsWritten, IsPrinted}
 use Rattle.bpf_text.specs.declared.fault.TextFault.{TextFault}
 use Rattle.bpf_text.specs.declared.fault.TextFaultKind.{TextFaultKind}
-use Rattle.bpf_text.specs.declared.fault.TextFaultKind.TheVariants.{Range, UnknownLabel, TooLong, Empty, Memory}
-use Rattle.bpf_text.specs.Fault.{memory_fault, IsFirst, IsEmpty}
+use Rattle.bpf_text.specs.declared.fault.TextFaultKind.TheVariants.{Range, UnknownLabel, TooLong}
+use Rattle.bpf_text.specs.Fault.{memory_fault, IsFaultBy}
 use Rattle.bpf_text.specs.Lines.{text_lines}
 use Rattle.bpf_text.specs.Printed.{printed}
-use Rattle.bpf_text.specs.Assembly.{AreRead, slots_on, label_line, line_fault, line_fault_of, fault_at, forms_from, distance, passes, IsAssembled, IsOwnFault, IsFaultOf}
+use Rattle.bpf_text.specs.Assembly.{AreRead, slots_on, label_line, line_fault, line_fault_of, fault_at, forms_from, distance, passes, IsAssembled, IsOwnFault}
 use Rattle.bpf_text.specs.Law.{OneProgram, ProgramHasNoFault, OneFault, PrintedIsAssembled}
 use Rattle.bpf_text.proofs.Assembling.{count_is}
+use Rattle.bpf_text.proofs.OneFault.{one_fault}
 
 -- ---- one program, or one fault
 
@@ -60,55 +61,24 @@ no_own_fault reading text insns fault h own =
     ]
 
 pub no_fault_is : OneReading → ProgramHasNoFault
-no_fault_is reading text insns fault h (inl memory) = memory
-no_fault_is reading text insns fault h (inr own) = absurd (no_own_fault reading text insns fault h own)
-
-line_before : (lines : List (Option Line)) (a b : TextFault) (h : IsFirst (fault_at lines) a) (k : IsFirst (fault_at lines) b) → h.index < k.index → ⊥
-line_before lines a b h k less = let no : Some a.kind ≡ None = sym h.here ∙ k.below h.index less in cc no
-
-fault_of : ℕ → TextFaultKind → TextFault
-fault_of line kind = record { line = line; kind = kind }
-
-same_fault : (a b : TextFault) → a.line ≡ b.line → a.kind ≡ b.kind → a ≡ b
-unfolding fault_of
-same_fault a b line kind = ap (λ (l : ℕ). fault_of l a.kind) line ∙ ap (fault_of b.line) kind
-
-first_same : (lines : List (Option Line)) (a b : TextFault) → IsFirst (fault_at lines) a → IsFirst (fault_at lines) b → a ≡ b
-first_same lines a b h k =
-    let not_less : h.index < k.index → ⊥ = line_before lines a b h k in
-    let not_more : k.index < h.index → ⊥ = line_before lines b a k h in
-    let index : h.index ≡ k.index = omega arith in
-    let kind : Some a.kind ≡ Some b.kind = sym h.here ∙ ap (fault_at lines) index ∙ k.here in
-    same_fault a b (omega (arith, h.line, k.line)) (cc kind)
-
-first_or_empty : (lines : List (Option Line)) (slots : ℕ) (a b : TextFault) → IsFirst (fault_at lines) a ⊎ IsEmpty (fault_at lines) slots a → IsFirst (fault_at lines) b ⊎ IsEmpty (fault_at lines) slots b → a ≡ b
-first_or_empty lines slots a b (inl h) (inl k) = first_same lines a b h k
-first_or_empty lines slots a b (inl h) (inr k) = absurd (let no : Some a.kind ≡ None = sym h.here ∙ k.none h.index in cc no)
-first_or_empty lines slots a b (inr h) (inl k) = absurd (let no : Some b.kind ≡ None = sym k.here ∙ h.none k.index in cc no)
-first_or_empty lines slots a b (inr h) (inr k) = h.fault_is ∙ sym k.fault_is
+no_fault_is reading text insns fault h own = no_own_fault reading text insns fault h own
 
 pub one_fault_is : OneReading → OneFault
 one_fault_is reading text a b h k =
     let same : h.lines ≡ k.lines = lines_same reading (text_lines text) h.lines k.lines h.read k.read in
-    first_or_empty k.lines (slots_on k.lines) a b (subst (λ (ls : List (Option Line)). IsFirst (fault_at ls) a ⊎ IsEmpty (fault_at ls) (slots_on ls) a) same h.first) k.first
-
-not_memory : (text : List ℕ) (fault : TextFault) → IsOwnFault text fault → fault ≡ memory_fault → ⊥
-not_memory text fault own e =
-    elim own.first [
-      | inl first ↦ omega (arith, first.line, ap (λ (f : TextFault). f.line) e)
-      | inr empty ↦ let no : Empty ≡ Memory = ap (λ (f : TextFault). f.kind) (sym empty.fault_is ∙ e) in cc no
-    ]
+    one_fault (fault_at k.lines) (slots_on k.lines) a b (subst (λ (ls : List (Option Line)). IsFaultBy (fault_at ls) (slots_on ls) a) same h.first) k.first
 
 -- a fault of the text is told
-pub faulty_is : ProgramHasNoFault → OneFault → (text : List ℕ) (answer : Result (List Insn) TextFault) → IfOk answer (λ program. IsAssembled text program) → IfErr answer (λ e. IsFaultOf text e) → (fault : TextFault) → IsOwnFault text fault → IsErrAnd answer (λ e. (e ≡ fault) ⊎ (e ≡ memory_fault))
-faulty_is none one text (Ok program) ok told fault own = absurd (not_memory text fault own (none text program fault ok (inr own)))
+pub faulty_is : ProgramHasNoFault → OneFault → (text : List ℕ) (answer : Result (List Insn) TextFault) → IfOk answer (λ program. IsAssembled text program) → IfErr answer (λ e. (e ≡ memory_fault) ⊎ IsOwnFault text e) → (fault : TextFault) → IsOwnFault text fault → IsErrAnd answer (λ e. (e ≡ fault) ⊎ (e ≡ memory_fault))
+faulty_is none one text (Ok program) ok told fault own = absurd (none text program fault ok own)
 faulty_is none one text (Err e) ok (inl memory) fault own = inr memory
 faulty_is none one text (Err e) ok (inr told) fault own = inl (one text e fault told own)
 
 -- what a text says is answered
-pub only_is : OneProgram → ProgramHasNoFault → (text : List ℕ) (answer : Result (List Insn) TextFault) → IfOk answer (λ program. IsAssembled text program) → IfErr answer (λ fault. IsFaultOf text fault) → (insns : List Insn) → IsAssembled text insns → MatchResult answer (λ program. program ≡ insns) (λ fault. fault ≡ memory_fault)
-only_is one none text (Ok program) ok fault insns h = one text program insns ok h
-only_is one none text (Err e) ok fault insns h = none text insns e h fault
+pub only_is : OneProgram → ProgramHasNoFault → (text : List ℕ) (answer : Result (List Insn) TextFault) → IfOk answer (λ program. IsAssembled text program) → IfErr answer (λ e. (e ≡ memory_fault) ⊎ IsOwnFault text e) → (insns : List Insn) → IsAssembled text insns → MatchResult answer (λ program. program ≡ insns) (λ e. e ≡ memory_fault)
+only_is one none text (Ok program) ok told insns h = one text program insns ok h
+only_is one none text (Err e) ok (inl memory) insns h = memory
+only_is one none text (Err e) ok (inr told) insns h = absurd (none text insns e h told)
 
 -- ---- the printed text
 

@@ -1,11 +1,11 @@
 -- From the lines of a text to a program, or to the first fault.
-use Rattle.std.specs.Prelude.{◌≡◌, ◌⊎◌, ℕ, suc, ◌+◌, ◌<◌, Bool, false, ◌&&◌, ◌||◌, not, ℤ, pos, ◌-ℤ◌, List, [], ◌∷◌, take, map, slice_get, Option, Some, None, is_some, option_map, unwrap_or, nat_lt, nat_le, if◌then◌else◌}
+use Rattle.std.specs.Prelude.{◌≡◌, ℕ, suc, ◌+◌, ◌<◌, Bool, false, ◌&&◌, ◌||◌, not, ℤ, pos, ◌-ℤ◌, List, [], ◌∷◌, take, map, slice_get, Option, Some, None, is_some, option_map, unwrap_or, nat_lt, nat_le, if◌then◌else◌}
 use Rattle.std.specs.Str.{bytes_eq}
 use Rattle.insn_codec.specs.declared.TheConstants.{MAX_SLOTS}
 use Rattle.insn_codec.specs.declared.insn.Insn.{Insn}
 use Rattle.bpf_text.specs.declared.fault.TextFault.{TextFault}
 use Rattle.bpf_text.specs.declared.fault.TextFaultKind.{TextFaultKind}
-use Rattle.bpf_text.specs.Fault.{IsFirst, IsEmpty, memory_fault}
+use Rattle.bpf_text.specs.Fault.{IsFaultBy}
 use Rattle.bpf_text.specs.declared.fault.TextFaultKind.TheVariants.{Syntax, Range, UnknownLabel, LabelTwice, TooLong}
 use Rattle.text_line.specs.declared.form.Form.{Form}
 use Rattle.text_line.specs.Form.{names_label}
@@ -108,8 +108,4 @@ pub record IsAssembled (text : List ℕ) (insns : List Insn) : Type 0 where
 pub record IsOwnFault (text : List ℕ) (fault : TextFault) : Type 0 where
   pub lines : List (Option Line)
   pub read : AreRead (text_lines text) lines
-  pub first : IsFirst (fault_at lines) fault ⊎ IsEmpty (fault_at lines) (slots_on lines) fault
-
--- the fault that is told: the text's own, or that a growth was refused
-abbrev pub IsFaultOf : List ℕ → TextFault → Type 0
-IsFaultOf text fault = (fault ≡ memory_fault) ⊎ IsOwnFault text fault
+  pub first : IsFaultBy (fault_at lines) (slots_on lines) fault

@@ -44,6 +44,6 @@ pub record IsEmpty (fault_at : ℕ → Option TextFaultKind) (slots : ℕ) (faul
   pub none : (i : ℕ) → fault_at i ≡ None
   pub slots_is : slots ≡ 0
 
--- the fault of a text, by the faults of its lines and its number of slots
-abbrev pub IsTextFault : (ℕ → Option TextFaultKind) → ℕ → TextFault → Type 0
-IsTextFault fault_at slots fault = (fault ≡ memory_fault) ⊎ (IsFirst fault_at fault ⊎ IsEmpty fault_at slots fault)
+-- a text's own fault, by the faults of its lines and its number of slots
+abbrev pub IsFaultBy : (ℕ → Option TextFaultKind) → ℕ → TextFault → Type 0
+IsFaultBy fault_at slots fault = IsFirst fault_at fault ⊎ IsEmpty fault_at slots fault

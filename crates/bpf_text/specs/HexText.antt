@@ -4,9 +4,11 @@ use Rattle.std.specs.List.{flat_map}
 use Rattle.std.specs.Result.{result_ok}
 use Rattle.hex.specs.Hex.{encode_lower, decode_sized}
 use Rattle.insn_codec.specs.declared.TheConstants.{MAX_SLOTS}
+use Rattle.bpf_text.specs.declared.fault.TextFault.{TextFault}
 use Rattle.bpf_text.specs.declared.fault.TextFaultKind.{TextFaultKind}
 use Rattle.bpf_text.specs.declared.fault.TextFaultKind.TheVariants.{Syntax, TooLong}
 use Rattle.text_line.specs.Blanks.{stripped}
+use Rattle.bpf_text.specs.Fault.{IsFaultBy}
 use Rattle.bpf_text.specs.Lines.{text_lines}
 
 -- each eight bytes as a line of sixteen lower-case digits
@@ -42,3 +44,7 @@ pub record IsHexText (text bytes : List ℕ) : Type 0 where
   pub none : (i : ℕ) → hex_fault_at (text_lines text) i ≡ None
   pub bytes_are : bytes ≡ hex_bytes (text_lines text)
   pub some : 0 < length bytes
+
+-- the fault of the text itself: of its first line that has one, or that it has no slot
+abbrev pub IsHexFault : List ℕ → TextFault → Type 0
+IsHexFault text fault = let lines = text_lines text in IsFaultBy (hex_fault_at lines) (length (hex_bytes lines)) fault

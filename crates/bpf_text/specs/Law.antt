@@ -3,8 +3,7 @@ use Rattle.std.specs.Prelude.{◌≡◌, ℕ, List}
 use Rattle.insn_codec.specs.declared.insn.Insn.{Insn}
 use Rattle.insn_codec.specs.Program.{program_bytes, IsProgram}
 use Rattle.bpf_text.specs.declared.fault.TextFault.{TextFault}
-use Rattle.bpf_text.specs.Assembly.{IsAssembled, IsOwnFault, IsFaultOf}
-use Rattle.bpf_text.specs.Fault.{memory_fault}
+use Rattle.bpf_text.specs.Assembly.{IsAssembled, IsOwnFault}
 use Rattle.bpf_text.specs.HexText.{hex_text, IsHexText}
 use Rattle.bpf_text.specs.Printed.{printed}
 
@@ -14,7 +13,7 @@ OneProgram = (text : List ℕ) (a b : List Insn) → IsAssembled text a → IsAs
 
 -- a text that is a program has no fault of its own
 abbrev pub ProgramHasNoFault : Type 0
-ProgramHasNoFault = (text : List ℕ) (insns : List Insn) (fault : TextFault) → IsAssembled text insns → IsFaultOf text fault → fault ≡ memory_fault
+ProgramHasNoFault = (text : List ℕ) (insns : List Insn) (fault : TextFault) → IsAssembled text insns → ¬ IsOwnFault text fault
 
 -- a text has at most one fault of its own
 abbrev pub OneFault : Type 0

@@ -3,5 +3,5 @@ pub mod Fault
 pub mod HexText
 pub mod Printed
 pub mod Assembly
-pub mod Labels
+pub mod inside
 pub mod Law

@@ -9,12 +9,11 @@ ghost use Rattle.text_line.specs.Line.{ReadAs};
 ghost use Rattle.text_line.specs.Shown.{seen_line, seen_option, seen_lines};
 ghost use Rattle.bpf_text.specs.declared.fault.TextFault.{TextFault as AnyFault};
 ghost use Rattle.bpf_text.specs.Fault.{IsFirst, memory_fault, empty_fault};
-ghost use Rattle.bpf_text.specs.Assembly.{AreRead, IsAssembled, IsOwnFault, IsFaultOf, line_slots, slots_on, label_defined, defines, fault_at, forms_from};
+ghost use Rattle.bpf_text.specs.Assembly.{AreRead, IsAssembled, IsOwnFault, line_slots, slots_on, label_defined, defines, fault_at, forms_from};
 ghost use Rattle.text_line.specs.Form.{IsForm};
 ghost use Rattle.text_line.specs.Ranges.{resolved};
 ghost use Rattle.text_line.specs.Written.{written};
-ghost use Rattle.text_line.specs.Token.{or_else};
-ghost use Rattle.bpf_text.specs.Labels.{place_of, FindsLabels, kept_distance, code_fault, kept_fault, kept_form, IsFormed};
+ghost use Rattle.bpf_text.specs.inside.Labels.{or_else, place_of, FindsLabels, kept_distance, code_fault, kept_fault, kept_form, IsFormed};
 
 use crate::fault::{TextFault, TextFaultKind};
 use crate::laws::{one_fault, one_program, program_has_no_fault};
@@ -220,7 +219,7 @@ fn program(alloc: Global, insns: &[Insn]) -> Result<Program, TextFault>
 /// The program that a text says.
 fn program_of(alloc: Global, text: &str) -> Result<Program, TextFault>
     ensures ok { IfOk result (λ program. IsAssembled text.now program) }
-    ensures fault { IfErr result (λ fault. IsFaultOf text.now fault) }
+    ensures fault { IfErr result (λ e. (e ≡ memory_fault) ⊎ IsOwnFault text.now e) }
 {
     let text = split_lines(alloc, text)?;
     let lines = read_lines(alloc, &text)?;
@@ -246,7 +245,7 @@ pub fn assemble(alloc: Global, text: &str) -> Result<Program, TextFault>
     // What the text says is answered, unless memory runs out.
     ensures only { (insns : List AnyInsn) → IsAssembled text.now insns → MatchResult result (λ program. program ≡ insns) (λ e. e ≡ memory_fault) }
     // A refusal tells the fault, unless memory runs out.
-    ensures fault { IfErr result (λ e. IsFaultOf text.now e) }
+    ensures fault { IfErr result (λ e. (e ≡ memory_fault) ⊎ IsOwnFault text.now e) }
     // A fault is refused so, unless memory runs out.
     ensures faulty { (fault : AnyFault) → IsOwnFault text.now fault → IsErrAnd result (λ e. (e ≡ fault) ⊎ (e ≡ memory_fault)) }
 {

@@ -1,12 +1,13 @@
 //! Slots as lines of hex digits.
 
-ghost use Rattle.std.specs.Prelude.{◌≡◌, ◌≢◌, ◌+◌, ◌*◌, ◌<◌, ◌≤◌, ◌++◌, [], ◌⊎◌, ℕ, List, length, map, vec_len, IfOk, OnOk, IfErr, MatchResult, Some, None, unwrap_or};
+ghost use Rattle.std.specs.Prelude.{◌≡◌, ◌≢◌, ◌+◌, ◌*◌, ◌<◌, ◌≤◌, ◌++◌, [], ◌⊎◌, ℕ, List, length, map, vec_len, IfOk, OnOk, IfErr, IsErrAnd, MatchResult, Some, None, unwrap_or};
 ghost use Rattle.bpf_text.specs.declared.fault.TextFaultKind.TheVariants.{Memory};
 ghost use Rattle.std.specs.String.{string_bytes};
 ghost use Rattle.insn_codec.specs.Program.{program_bytes};
 ghost use Rattle.bpf_text.specs.Lines.{text_lines};
-ghost use Rattle.bpf_text.specs.Fault.{IsTextFault, IsFirst, NoneBelow, memory_fault};
-ghost use Rattle.bpf_text.specs.HexText.{hex_text, hex_line, hex_bytes, hex_fault, hex_fault_at, IsHexText};
+ghost use Rattle.bpf_text.specs.Fault.{IsFirst, NoneBelow, memory_fault};
+ghost use Rattle.bpf_text.specs.declared.fault.TextFault.{TextFault as AnyFault};
+ghost use Rattle.bpf_text.specs.HexText.{hex_text, hex_line, hex_bytes, hex_fault, hex_fault_at, IsHexText, IsHexFault};
 
 use crate::fault::{TextFault, TextFaultKind};
 use crate::laws::hex_lines_are_read;
@@ -50,8 +51,10 @@ pub fn from_hex_lines(alloc: Global, text: &str) -> Result<Vec<u8>, TextFault>
     ensures found { IfOk result (λ bytes. IsHexText text.now bytes.items) }
     // What the text has is answered, unless memory runs out.
     ensures only { (slots : List ℕ) → IsHexText text.now slots → MatchResult result (λ bytes. bytes.items ≡ slots) (λ e. e ≡ memory_fault) }
-    // Which fault it is.
-    ensures fault { IfErr result (λ e. let lines = text_lines text.now in IsTextFault (hex_fault_at lines) (length (hex_bytes lines)) e) }
+    // A refusal tells the fault, unless memory runs out.
+    ensures fault { IfErr result (λ e. (e ≡ memory_fault) ⊎ IsHexFault text.now e) }
+    // A fault is refused so, unless memory runs out.
+    ensures faulty { (fault : AnyFault) → IsHexFault text.now fault → IsErrAnd result (λ e. (e ≡ fault) ⊎ (e ≡ memory_fault)) }
 {
     let lines = split_lines(alloc, text)?;
     let bytes = slots_on(alloc, &lines)?;

@@ -4,6 +4,7 @@
 mod calls;
 mod execution;
 mod laws;
+mod map_words;
 mod running;
 
 pub use laws::clear_runs;

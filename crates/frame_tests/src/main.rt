@@ -2,7 +2,8 @@
 //!
 //! - `new TENANTS`: a new host, for the lines that follow.
 //! - `frame HEX`: the reply to a frame, which is what follows the length field.
-//! - `load TENANT TEXT`: the reply to PROG_LOAD of a program's text, where `;` ends a line.
+//! - `load TENANT TEXT`: the reply to PROG_LOAD of a program's text, where `;` ends a line and `COUNT times LINE` is so
+//!   many lines.
 //! - `slots TENANT HEX`: the reply to PROG_LOAD of these slots.
 //! - `words HEX`: the words of context of the runs that follow; zeros at first.
 //! - `run TENANT FD HEX`: the reply to PROG_TEST_RUN with this packet, which may be left out.

@@ -45,9 +45,25 @@ fn frame(
     Ok(frame)
 }
 
-/// The slots of a program's text, where `;` ends a line.
+/// The lines of a program's text, where `;` ends a line and `COUNT times LINE` is so many lines.
+fn lines_of(alloc: Global, text: &str) -> Result<String> {
+    let mut lines = String::new(alloc);
+    for part in text.split(';') {
+        let (count, line) = match part.split_once(" times ") {
+            Some((count, line)) => (count.trim().parse()?, line),
+            None => (1_usize, part),
+        };
+        for _ in 0..count {
+            lines.push_str(line)?;
+            lines.push_str("\n")?;
+        }
+    }
+    Ok(lines)
+}
+
+/// The slots of a program's text.
 fn slots_of(alloc: Global, text: &str) -> Result<Vec<u8>> {
-    let lines = text.replace(alloc, ';', "\n")?;
+    let lines = lines_of(alloc, text)?;
     let Ok(program) = assemble(alloc, lines.as_str()) else {
         bail!("no program's text");
     };

@@ -13,4 +13,9 @@ mod Digits
 mod Rewriting
 mod OtherFailures
 mod HexRefusals
+mod MapWords
+mod KnownInputs
+mod Judgements
+mod MapLists
 mod OneAnswer
+mod Vectors

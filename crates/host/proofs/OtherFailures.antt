@@ -1,47 +1,72 @@
--- Where a text is read, no failure is that the words are wrong.
-use Rattle.std.proofs.Common.{◌≢◌, ◌∙◌, ℕ, List, subst, sym, inl, inr}
+-- No failure of a run over streams is that the words are wrong.
+use Rattle.std.proofs.Common.{◌≡◌, ◌≢◌, ◌∙◌, ℕ, List, ap, subst, sym, inl, inr, arith}
 use Rattle.bpf_text.specs.declared.fault.TextFaultKind.{TextFaultKind}
 use Rattle.bpf_text.specs.declared.fault.TextFaultKind.TheVariants as text
 use Rattle.insn_codec.specs.declared.fault.FaultKind.{FaultKind}
 use Rattle.insn_codec.specs.declared.fault.FaultKind.TheVariants as codec
-use Rattle.host.specs.Failure.{failure_at, failure_on}
-use Rattle.host.specs.Texts.{IsRefused, IsUnread, Streams, StopsText}
+use Rattle.host.specs.Failure.{exit_status, failure_at, failure_on}
+use Rattle.host.specs.Texts.{IsRefused, IsUnread, Streams, Stops}
 use Rattle.host.specs.declared.failure.Failure.{Failure}
-use Rattle.host.specs.declared.failure.Failure.TheVariants.{WrongWords}
+use Rattle.host.specs.declared.failure.Failure.TheVariants.{WrongWords, MapWord, Truncated, TooManyFrames, TooLong, Line, Slot, Read, Write, Memory}
 use Rattle.host.specs.declared.texts.TextTask.{TextTask}
 use Rattle.host.specs.declared.texts.TextTask.TheVariants.{Assemble, Disassemble}
 
-on_line : (line : ℕ) (kind : TextFaultKind) → failure_on line kind ≢ WrongWords
-on_line line text.Syntax = λ e. cc
-on_line line text.Range = λ e. cc
-on_line line text.UnknownLabel = λ e. cc
-on_line line text.LabelTwice = λ e. cc
-on_line line text.TooLong = λ e. cc
-on_line line text.Empty = λ e. cc
-on_line line text.Memory = λ e. cc
+-- the failure is not that the words are wrong
+abbrev pub IsOther : Failure → Type 0
+IsOther failure = exit_status failure ≢ 2
 
-at_slot : (slot : ℕ) (kind : FaultKind) → failure_at slot kind ≢ WrongWords
-at_slot slot codec.Opcode = λ e. cc
-at_slot slot codec.Reserved = λ e. cc
-at_slot slot codec.Register = λ e. cc
-at_slot slot codec.SecondSlot = λ e. cc
-at_slot slot codec.Ragged = λ e. cc
-at_slot slot codec.Empty = λ e. cc
-at_slot slot codec.TooLong = λ e. cc
-at_slot slot codec.Memory = λ e. cc
+-- ---- faults of a text and of slots
 
-refused : (task : TextTask) (input : List ℕ) (failure : Failure) → IsRefused task input failure → failure ≢ WrongWords
-refused Assemble input failure (inl none) = λ e. let f = none.1 in cc
-refused Assemble input failure (inr of_text) = λ e. on_line of_text.fault.line of_text.fault.kind (sym of_text.failure_is ∙ e)
-refused Disassemble input failure (inl none) = λ e. let f = none.1 in cc
-refused Disassemble input failure (inr (inl of_hex)) = λ e. on_line of_hex.fault.line of_hex.fault.kind (sym of_hex.failure_is ∙ e)
-refused Disassemble input failure (inr (inr of_program)) = λ e. at_slot of_program.fault.slot of_program.fault.kind (sym of_program.failure_is ∙ e)
+on_line : (line : ℕ) (kind : TextFaultKind) → IsOther (failure_on line kind)
+on_line line text.Syntax = λ e. omega (arith, e)
+on_line line text.Range = λ e. omega (arith, e)
+on_line line text.UnknownLabel = λ e. omega (arith, e)
+on_line line text.LabelTwice = λ e. omega (arith, e)
+on_line line text.TooLong = λ e. omega (arith, e)
+on_line line text.Empty = λ e. omega (arith, e)
+on_line line text.Memory = λ e. omega (arith, e)
 
-pub stops_otherwise : (task : TextTask) (old new : Streams) (failure : Failure) → StopsText task old new failure → failure ≢ WrongWords
-stops_otherwise task old new failure (inl unread) = λ e. subst (λ f. IsUnread f old.input new.input old.read_failures new.read_failures) e unread.0
-stops_otherwise task old new failure (inr (inl unmade)) =
+at_slot : (slot : ℕ) (kind : FaultKind) → IsOther (failure_at slot kind)
+at_slot slot codec.Opcode = λ e. omega (arith, e)
+at_slot slot codec.Reserved = λ e. omega (arith, e)
+at_slot slot codec.Register = λ e. omega (arith, e)
+at_slot slot codec.SecondSlot = λ e. omega (arith, e)
+at_slot slot codec.Ragged = λ e. omega (arith, e)
+at_slot slot codec.Empty = λ e. omega (arith, e)
+at_slot slot codec.TooLong = λ e. omega (arith, e)
+at_slot slot codec.Memory = λ e. omega (arith, e)
+
+-- ---- refused inputs
+
+pub refused_otherwise : (task : TextTask) (input : List ℕ) (failure : Failure) → IsRefused task input failure → IsOther failure
+refused_otherwise Assemble input failure (inl none) = λ e. omega (arith, sym (ap exit_status none.1) ∙ e)
+refused_otherwise Assemble input failure (inr of_text) = subst IsOther (sym of_text.failure_is) (on_line of_text.fault.line of_text.fault.kind)
+refused_otherwise Disassemble input failure (inl none) = λ e. omega (arith, sym (ap exit_status none.1) ∙ e)
+refused_otherwise Disassemble input failure (inr (inl of_hex)) = subst IsOther (sym of_hex.failure_is) (on_line of_hex.fault.line of_hex.fault.kind)
+refused_otherwise Disassemble input failure (inr (inr of_program)) =
+    subst IsOther (sym of_program.failure_is) (at_slot of_program.fault.slot of_program.fault.kind)
+
+-- ---- runs
+
+unread : (failure : Failure) (old new : Streams) → IsUnread failure old.input new.input old.read_failures new.read_failures → IsOther failure
+unread TooLong old new is = λ e. omega (arith, e)
+unread Read old new is = λ e. omega (arith, e)
+unread Memory old new is = λ e. omega (arith, e)
+unread WrongWords old new is = absurd is
+unread (MapWord number) old new is = absurd is
+unread (Truncated frames) old new is = absurd is
+unread TooManyFrames old new is = absurd is
+unread (Line line kind) old new is = absurd is
+unread (Slot slot kind) old new is = absurd is
+unread Write old new is = absurd is
+
+pub stops_otherwise : (made : List ℕ → List ℕ → Type 0) (refused : List ℕ → Failure → Type 0)
+    → ((input : List ℕ) (failure : Failure) → refused input failure → IsOther failure)
+    → (old new : Streams) (failure : Failure) → Stops made refused old new failure → IsOther failure
+stops_otherwise made refused otherwise old new failure (inl is) = unread failure old new is.0
+stops_otherwise made refused otherwise old new failure (inr (inl unmade)) =
     elim unmade.why [
-      | inl memory ↦ (λ e. cc)
-      | inr why ↦ refused task unmade.input failure why
+      | inl memory ↦ (λ e. omega (arith, sym (ap exit_status memory) ∙ e))
+      | inr why ↦ otherwise unmade.input failure why
     ]
-stops_otherwise task old new failure (inr (inr unwritten)) = λ e. let f = unwritten.failure_is in cc
+stops_otherwise made refused otherwise old new failure (inr (inr unwritten)) = λ e. omega (arith, sym (ap exit_status unwritten.failure_is) ∙ e)

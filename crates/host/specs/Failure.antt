@@ -14,7 +14,7 @@ use Rattle.host.specs.declared.server.ServeFault.{ServeFault}
 use Rattle.host.specs.declared.server.ServeFaultKind.{ServeFaultKind}
 use Rattle.host.specs.declared.server.ServeFaultKind.TheVariants as fault
 use Rattle.host.specs.declared.failure.Failure.{Failure}
-use Rattle.host.specs.declared.failure.Failure.TheVariants.{WrongWords, Truncated, TooManyFrames, TooLong, Line, Slot, Read, Write, Memory}
+use Rattle.host.specs.declared.failure.Failure.TheVariants.{WrongWords, MapWord, Truncated, TooManyFrames, TooLong, Line, Slot, Read, Write, Memory}
 
 -- The status, by the failure: 1 where the input is refused, 2 at wrong words, 3 where input or output failed, 4 at want
 -- of memory.
@@ -25,6 +25,7 @@ exit_status TooLong = 1
 exit_status (Line line kind) = 1
 exit_status (Slot slot kind) = 1
 exit_status WrongWords = 2
+exit_status (MapWord number) = 2
 exit_status Read = 3
 exit_status Write = 3
 exit_status Memory = 4

@@ -9,6 +9,9 @@ pub mod Alone
 pub mod Told
 pub mod Served
 pub mod Failure
+pub mod Decimal
+pub mod Shapes
 pub mod Words
 pub mod Texts
+pub mod Judging
 pub mod Laws

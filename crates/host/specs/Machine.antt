@@ -150,12 +150,16 @@ program_of (Program insns) = insns
 abbrev pub context_of : List ℕ → List ℕ
 context_of body = (length body - 44) ∷ words 10 (drop 4 body)
 
+-- the bytes of the longest packet
+abbrev pub longest_packet : ℕ
+longest_packet = 32768
+
 -- The descriptor and ten words of context come before the packet. The result is that of the program on tagged values.
 abbrev pub AnswersRun : State → List ℕ → Answer → Type 0
 AnswersRun s body answer =
     MatchBool (nat_lt (length body) 44) (answer ≡ refused Invalid s)
     (MatchOption (named s (little_number 4 body)) (answer ≡ refused BadDescriptor s)
-    (λ object. MatchBool (nat_lt 32768 (length body - 44)) (answer ≡ refused TooBig s)
+    (λ object. MatchBool (nat_lt longest_packet (length body - 44)) (answer ≡ refused TooBig s)
     ((outcome : ℕ) × (result_of (program_of object) no_maps (context_of body) (drop 44 body) ≡ Value outcome) × (answer ≡ record { status = pos 0; payload = little_bytes 4 outcome; after = s }))))
 
 -- ---- every command

@@ -2,9 +2,7 @@
 use Rattle.std.specs.Prelude.{◌≡◌, ◌⊎◌, ℕ, ◌+◌, ◌<◌, ◌≤◌, List, length, take, Option, IsUtf8}
 use Rattle.std.specs.Io.KnownBytes.{Appends, Consumes, IsAtEnd}
 use Rattle.bpf_text.specs.Assembly.{IsAssembled, IsOwnFault}
-use Rattle.bpf_text.specs.Fault.{IsFirst, IsEmpty}
-use Rattle.bpf_text.specs.HexText.{IsHexText, hex_bytes, hex_fault_at, hex_text}
-use Rattle.bpf_text.specs.Lines.{text_lines}
+use Rattle.bpf_text.specs.HexText.{IsHexText, IsHexFault, hex_text}
 use Rattle.bpf_text.specs.Printed.{printed}
 use Rattle.bpf_text.specs.declared.fault.TextFault.{TextFault}
 use Rattle.insn_codec.specs.Program.{IsProgram, IsProgramFault, program_bytes}
@@ -13,7 +11,7 @@ use Rattle.insn_codec.specs.declared.insn.Insn.{Insn}
 use Rattle.host.specs.Failure.{codec_failure, text_failure}
 use Rattle.host.specs.declared.texts.TheConstants.{LONGEST_INPUT}
 use Rattle.host.specs.declared.failure.Failure.{Failure}
-use Rattle.host.specs.declared.failure.Failure.TheVariants.{WrongWords, Truncated, TooManyFrames, TooLong, Line, Slot, Read, Write, Memory}
+use Rattle.host.specs.declared.failure.Failure.TheVariants.{WrongWords, MapWord, Truncated, TooManyFrames, TooLong, Line, Slot, Read, Write, Memory}
 use Rattle.host.specs.declared.texts.TextTask.{TextTask}
 use Rattle.host.specs.declared.texts.TextTask.TheVariants.{Assemble, Disassemble}
 
@@ -24,12 +22,16 @@ pub record IsAssembly (input output : List ℕ) : Type 0 where
   pub program : IsAssembled input insns
   pub lines : output ≡ hex_text (program_bytes insns)
 
--- the input has a program's slots as hex lines, and the output is the program's text
-pub record IsDisassembly (input output : List ℕ) : Type 0 where
-  pub insns : List Insn
+-- the input has a program's slots as hex lines
+pub record IsProgramText (input : List ℕ) (insns : List Insn) : Type 0 where
   pub utf8 : IsUtf8 input
   pub slots : IsHexText input (program_bytes insns)
   pub program : IsProgram insns
+
+-- the input has a program's slots as hex lines, and the output is the program's text
+pub record IsDisassembly (input output : List ℕ) : Type 0 where
+  pub insns : List Insn
+  pub read : IsProgramText input insns
   pub text : output ≡ printed insns
 
 abbrev pub IsRewritten : TextTask → List ℕ → List ℕ → Type 0
@@ -51,7 +53,7 @@ pub record IsTextRefused (input : List ℕ) (failure : Failure) : Type 0 where
 pub record IsHexRefused (input : List ℕ) (failure : Failure) : Type 0 where
   pub fault : TextFault
   pub utf8 : IsUtf8 input
-  pub own : IsFirst (hex_fault_at (text_lines input)) fault ⊎ IsEmpty (hex_fault_at (text_lines input)) (length (hex_bytes (text_lines input))) fault
+  pub own : IsHexFault input fault
   pub failure_is : failure ≡ text_failure fault
 
 -- the lines have slots that are no program
@@ -63,9 +65,13 @@ pub record IsProgramRefused (input : List ℕ) (failure : Failure) : Type 0 wher
   pub own : IsProgramFault bytes fault
   pub failure_is : failure ≡ codec_failure fault
 
+-- why the input has no program's slots
+abbrev pub IsNoProgramText : List ℕ → Failure → Type 0
+IsNoProgramText input failure = IsNoText input failure ⊎ (IsHexRefused input failure ⊎ IsProgramRefused input failure)
+
 abbrev pub IsRefused : TextTask → List ℕ → Failure → Type 0
 IsRefused Assemble input failure = IsNoText input failure ⊎ IsTextRefused input failure
-IsRefused Disassemble input failure = IsNoText input failure ⊎ (IsHexRefused input failure ⊎ IsProgramRefused input failure)
+IsRefused Disassemble input failure = IsNoProgramText input failure
 
 -- ---- the streams
 
@@ -92,6 +98,7 @@ IsUnread Read before after failures_before failures_after =
     ((bytes : List ℕ) × (length bytes ≤ LONGEST_INPUT) × Consumes before after bytes) × (failures_before < failures_after)
 IsUnread Memory before after failures_before failures_after = (after ≡ before) × (failures_after ≡ failures_before)
 IsUnread WrongWords before after failures_before failures_after = ⊥
+IsUnread (MapWord number) before after failures_before failures_after = ⊥
 IsUnread (Truncated frames) before after failures_before failures_after = ⊥
 IsUnread TooManyFrames before after failures_before failures_after = ⊥
 IsUnread (Line line kind) before after failures_before failures_after = ⊥
@@ -102,37 +109,39 @@ IsUnread Write before after failures_before failures_after = ⊥
 abbrev pub IsSilent : Streams → Streams → Type 0
 IsSilent old new = (new.output ≡ old.output) × (new.write_failures ≡ old.write_failures)
 
+-- Below, `made` relates an input to what stands for it, and `refused` to its refusal.
+
 -- the input was read, and what stands for it went out; no call failed
-pub record EndsText (task : TextTask) (old new : Streams) : Type 0 where
+pub record Ends (made : List ℕ → List ℕ → Type 0) (old new : Streams) : Type 0 where
   pub input : List ℕ
   pub output : List ℕ
   pub whole : IsReadWhole old.input new.input input
-  pub made : IsRewritten task input output
+  pub made_so : made input output
   pub written : Appends old.output new.output output
   pub sound : (new.read_failures ≡ old.read_failures) × (new.write_failures ≡ old.write_failures)
 
 -- the input was read, and is refused, or memory ran out
-pub record IsUnmade (task : TextTask) (old new : Streams) (failure : Failure) : Type 0 where
+pub record IsUnmade (refused : List ℕ → Failure → Type 0) (old new : Streams) (failure : Failure) : Type 0 where
   pub input : List ℕ
   pub whole : IsReadWhole old.input new.input input
-  pub why : (failure ≡ Memory) ⊎ IsRefused task input failure
+  pub why : (failure ≡ Memory) ⊎ refused input failure
   pub silent : IsSilent old new
   pub sound : new.read_failures ≡ old.read_failures
 
 -- some of what stands for the input went out, and a call failed
-pub record IsUnwritten (task : TextTask) (old new : Streams) (failure : Failure) : Type 0 where
+pub record IsUnwritten (made : List ℕ → List ℕ → Type 0) (old new : Streams) (failure : Failure) : Type 0 where
   pub input : List ℕ
   pub output : List ℕ
   pub count : ℕ
   pub whole : IsReadWhole old.input new.input input
-  pub made : IsRewritten task input output
+  pub made_so : made input output
   pub part : count ≤ length output
   pub written : Appends old.output new.output (take count output)
   pub failure_is : failure ≡ Write
   pub failed : old.write_failures < new.write_failures
   pub sound : new.read_failures ≡ old.read_failures
 
-abbrev pub StopsText : TextTask → Streams → Streams → Failure → Type 0
-StopsText task old new failure =
+abbrev pub Stops : (List ℕ → List ℕ → Type 0) → (List ℕ → Failure → Type 0) → Streams → Streams → Failure → Type 0
+Stops made refused old new failure =
     (IsUnread failure old.input new.input old.read_failures new.read_failures × IsSilent old new)
-    ⊎ (IsUnmade task old new failure ⊎ IsUnwritten task old new failure)
+    ⊎ (IsUnmade refused old new failure ⊎ IsUnwritten made old new failure)

@@ -6,7 +6,7 @@ use crate::server::{ServeFault, ServeFaultKind};
 use bpf_text::{TextFault, TextFaultKind};
 use clap::error::ErrorKind;
 use insn_codec::{CodecFault, FaultKind};
-use std::alloc::AllocError;
+use std::alloc::{AllocError, AllocFailed};
 use thiserror::Error;
 
 /// Why a run ends with another status than 0. Its text is the fault line.
@@ -14,6 +14,8 @@ use thiserror::Error;
 pub(crate) enum Failure {
     #[error("wrong words")]
     WrongWords,
+    #[error("map word {0} is wrong")]
+    MapWord(usize),
     #[error("truncated after {0} frames")]
     Truncated(u32),
     #[error("too many frames")]
@@ -42,7 +44,7 @@ impl Failure {
         match self {
             Failure::Truncated(_) | Failure::TooManyFrames => 1,
             Failure::TooLong | Failure::Line { .. } | Failure::Slot { .. } => 1,
-            Failure::WrongWords => 2,
+            Failure::WrongWords | Failure::MapWord(_) => 2,
             Failure::Read | Failure::Write => 3,
             Failure::Memory => 4,
         }
@@ -55,6 +57,16 @@ impl From<AllocError> for Failure {
     ghost from_gives = { λ _ failure. failure ≡ Memory };
 
     fn from(_error: AllocError) -> Failure {
+        Failure::Memory
+    }
+}
+
+impl<T: Drop> From<AllocFailed<T>> for Failure {
+    ghost use Rattle.host.specs.declared.failure.Failure.TheVariants.{Memory};
+
+    ghost from_gives = { λ _ failure. failure ≡ Memory };
+
+    fn from(_error: AllocFailed<T>) -> Failure {
         Failure::Memory
     }
 }

@@ -2,15 +2,16 @@
 
 ghost use Rattle.std.specs.Prelude.{◌≡◌, ◌⊎◌, ◌<◌, ◌-◌, ◌^◌, List, ℕ, length, IfErr, IfOk, IsErrAnd, IsUtf8, MatchResult, OnOk};
 ghost use Rattle.std.specs.String.{string_bytes};
-ghost use Rattle.host.specs.Texts.{EndsText, IsAssembly, IsDisassembly, IsNoText, IsReadWhole, IsRefused, IsRewritten, IsUnread, StopsText};
+ghost use Rattle.host.specs.Texts.{Ends, IsAssembly, IsDisassembly, IsNoProgramText, IsNoText, IsProgramText, IsReadWhole, IsRefused, IsRewritten, IsUnread, Stops};
 ghost use Rattle.host.specs.declared.failure.Failure.{Failure as AnyFailure};
+ghost use Rattle.insn_codec.specs.declared.insn.Insn.{Insn as AnyInsn};
 
 use crate::failure::Failure;
 use crate::reading::fill;
 use crate::stream::{Sink, Source};
 use crate::writing::write_whole;
 use bpf_text::{assemble, disassemble, from_hex_lines, hex_lines};
-use insn_codec::read_program;
+use insn_codec::{Program, read_program};
 use std::alloc::{AllocError, Global};
 
 /// The longest input of a text, in bytes.
@@ -47,6 +48,18 @@ fn assembled(alloc: Global, input: &[u8]) -> Result<String, Failure>
     Ok(lines)
 }
 
+/// The program whose slots stand on the lines of the input.
+pub(crate) fn program_on(alloc: Global, input: &[u8]) -> Result<Program, Failure>
+    ensures read { IfOk result (λ program. IsProgramText input.now program) }
+    ensures only { (insns : List AnyInsn) → IsProgramText input.now insns → MatchResult result (λ program. program ≡ insns) (λ failure. failure ≡ Failure.Memory) }
+    ensures fault { IfErr result (λ failure. (failure ≡ Failure.Memory) ⊎ IsNoProgramText input.now failure) }
+    ensures faulty { (refusal : AnyFailure) → IsNoProgramText input.now refusal → IsErrAnd result (λ failure. (failure ≡ refusal) ⊎ (failure ≡ Failure.Memory)) }
+{
+    let slots = from_hex_lines(alloc, text_in(input)?)?;
+    let program = read_program(alloc, &slots)?;
+    Ok(program)
+}
+
 /// The text of the program whose hex lines are the input.
 fn disassembled(alloc: Global, input: &[u8]) -> Result<String, Failure>
     ensures made { IfOk result (λ text. IsDisassembly input.now (string_bytes text)) }
@@ -54,8 +67,7 @@ fn disassembled(alloc: Global, input: &[u8]) -> Result<String, Failure>
     ensures fault { IfErr result (λ failure. (failure ≡ Failure.Memory) ⊎ IsRefused TextTask.Disassemble input.now failure) }
     ensures faulty { (refusal : AnyFailure) → IsRefused TextTask.Disassemble input.now refusal → IsErrAnd result (λ failure. (failure ≡ refusal) ⊎ (failure ≡ Failure.Memory)) }
 {
-    let slots = from_hex_lines(alloc, text_in(input)?)?;
-    let program = read_program(alloc, &slots)?;
+    let program = program_on(alloc, input)?;
     let text = disassemble(alloc, &program)?;
     Ok(text)
 }
@@ -81,7 +93,7 @@ fn buffer(alloc: Global, size: usize) -> Result<Vec<u8>, AllocError>
 }
 
 /// Reads the input to its end, where it is not too long.
-fn read_input<S: Source>(alloc: Global, reader: &mut S) -> Result<Vec<u8>, Failure>
+pub(crate) fn read_input<S: Source>(alloc: Global, reader: &mut S) -> Result<Vec<u8>, Failure>
     requires { S.failures reader.old < 2 ^ 64 - 1 }
     ensures input { IfOk result (λ input. IsReadWhole (S.remaining reader.old) (S.remaining reader.new) input.items) }
     ensures sound { OnOk result (S.failures reader.new ≡ S.failures reader.old) }
@@ -107,10 +119,10 @@ pub(crate) fn rewrite<S: Source, O: Sink>(
 ) -> Result<(), Failure>
     requires reads { S.failures reader.old < 2 ^ 64 - 1 }
     requires writes { O.failures writer.old < 2 ^ 64 - 1 }
-    ensures done { OnOk result (EndsText task
+    ensures done { OnOk result (Ends (IsRewritten task)
         (record { input = S.remaining reader.old; output = O.contents writer.old; read_failures = S.failures reader.old; write_failures = O.failures writer.old })
         (record { input = S.remaining reader.new; output = O.contents writer.new; read_failures = S.failures reader.new; write_failures = O.failures writer.new })) }
-    ensures fault { IfErr result (λ failure. StopsText task
+    ensures fault { IfErr result (λ failure. Stops (IsRewritten task) (IsRefused task)
         (record { input = S.remaining reader.old; output = O.contents writer.old; read_failures = S.failures reader.old; write_failures = O.failures writer.old })
         (record { input = S.remaining reader.new; output = O.contents writer.new; read_failures = S.failures reader.new; write_failures = O.failures writer.new })
         failure) }

@@ -1,71 +1,83 @@
 //! The program's words, and what it does at them.
 
-ghost use Rattle.std.specs.Prelude.{◌≡◌, ◌≢◌, ◌≤◌, ◌⊎◌, Err, IfErr, IfOk, None, Some, option_and_then};
-ghost use Rattle.std.specs.Char.{is_ascii_digit};
-ghost use Rattle.std.specs.List.{list_all};
-ghost use Rattle.clap.specs.Words.{FailsBy, found_of, rows_of, subcommand_rows_of};
+ghost use Rattle.std.specs.Prelude.{◌≡◌, ◌≢◌, ◌≤◌, ◌⊎◌, List, Some, Err, IfErr, IfOk, IfSome, IsErrAnd, option_and_then, option_map};
+ghost use Rattle.clap.specs.Words.{FailsBy, Text, app_of, found_of, rows_of, subcommand_rows_of};
 ghost use Rattle.clap.specs.Walk.{texts};
-ghost use Rattle.host.specs.Words.{asked_task, chosen_subcommand, refusal_kinds, task_chosen, task_named, tenant_number, tenants_value, HasTenants};
+ghost use Rattle.host.specs.Failure.{exit_status};
+ghost use Rattle.host.specs.Shapes.{AreMaps, IsWrongMap};
+ghost use Rattle.host.specs.Judging.{AcceptsIfKnown};
+ghost use Rattle.host.specs.Words.{Verifies, asked, asked_by, asked_of, asked_with, chosen_subcommand, refusal_kinds, serve_command, tenant_number, tenants_value, texts_given, verify_command, AreWrong, HasTenants, HasWrongMap};
 
+use crate::decimal::decimal;
 use crate::failure::Failure;
 use crate::host::Host;
+use crate::judging::judge;
 use crate::server::serve;
+use crate::shapes::named_maps;
 use crate::stream::Counted;
 use crate::texts::{TextTask, rewrite};
 use clap::{Arg, ArgAction, ArgMatches, Command};
-use std::alloc::Global;
+use std::alloc::{AllocError, Global};
 use std::io::{BufReader, Read, Write};
+use tagged_model::Named;
 
 /// The most frames that are served in one run.
 const LIMIT: u32 = 16_777_216;
 
 /// What the words ask for.
-#[derive(Clone, Copy, Debug, PartialEq, Eq)]
-enum Task {
+#[derive(Clone, Copy, Debug)]
+enum Task<'m, 'a> {
     /// Frames are served to so many tenants.
     Serve { tenants: usize },
     /// A text is read, and another one written.
     Rewrite(TextTask),
-}
-
-/// Whether each byte of a text is a decimal digit.
-fn is_digits(text: &str) -> bool
-    ensures { result ≡ list_all is_ascii_digit text.now }
-{
-    text.bytes().all(|byte| byte.is_ascii_digit())
+    /// A program is judged, with the maps that these words name, where some are given.
+    Verify { maps: Option<&'m [&'a str]> },
 }
 
 /// The number of tenants that decimal digits name, 1 to 16.
 fn tenant_count(digits: &str) -> Option<usize>
     ensures { result ≡ tenant_number digits.now }
 {
-    if !is_digits(digits) {
-        return None;
-    }
-    let count: usize = digits.parse().ok()?;
+    let count = decimal(digits)?;
     if count >= 1 && count <= 16 {
-        Some(count)
+        Some(count as usize)
     } else {
         None
     }
 }
 
-/// What clap makes of the words: the subcommand `serve` with its option `--tenants`, `asm` or `dis`.
-fn parse_words<'a>(alloc: Global, words: &'a [&'a str]) -> Result<ArgMatches<'a>, clap::Error>
-    ensures given { IfOk result (λ matches. subcommand_rows_of matches ≡ chosen_subcommand (texts words.now)) }
-    ensures kinds { FailsBy (refusal_kinds (texts words.now)) result }
+/// The subcommand `serve`: the option `--tenants` has to be given.
+fn serve_word<'a>(alloc: Global) -> Result<Command<'a>, AllocError>
+    ensures { IfOk result (λ command. app_of command ≡ serve_command) }
 {
     let tenants = Arg::new(alloc, "tenants")
         .long("tenants")
         .required(true)
         .action(ArgAction::Set);
-    let serve = Command::new(alloc, "serve").arg(tenants)?;
+    Command::new(alloc, "serve").arg(tenants)
+}
+
+/// The subcommand `verify`: each word behind it is one for a map.
+fn verify_word<'a>(alloc: Global) -> Result<Command<'a>, AllocError>
+    ensures { IfOk result (λ command. app_of command ≡ verify_command) }
+{
+    let maps = Arg::new(alloc, "map").action(ArgAction::Append);
+    Command::new(alloc, "verify").arg(maps)
+}
+
+/// What clap makes of the words.
+fn parse_words<'a>(alloc: Global, words: &'a [&'a str]) -> Result<ArgMatches<'a>, clap::Error>
+    ensures given { IfOk result (λ matches. subcommand_rows_of matches ≡ chosen_subcommand (texts words.now)) }
+    ensures kinds { FailsBy (refusal_kinds (texts words.now)) result }
+{
     let program = Command::new(alloc, "bpfhost")
         .no_binary_name(true)
         .subcommand_required(true)
-        .subcommand(serve)?
+        .subcommand(serve_word(alloc)?)?
         .subcommand(Command::new(alloc, "asm"))?
-        .subcommand(Command::new(alloc, "dis"))?;
+        .subcommand(Command::new(alloc, "dis"))?
+        .subcommand(verify_word(alloc)?)?;
     program.try_get_matches_from(words)
 }
 
@@ -77,8 +89,9 @@ fn tenants_given(serve: &ArgMatches<'_>) -> Option<usize>
 }
 
 /// What a subcommand asks for: none where its options are wrong.
-fn task_named(name: &str, options: &ArgMatches<'_>) -> Option<Task>
-    ensures { result ≡ task_named name.now (rows_of (found_of options.now)) }
+fn task_named<'m, 'a>(name: &str, options: &'m ArgMatches<'a>) -> Option<Task<'m, 'a>>
+    ensures tenants { IfSome result HasTenants }
+    ensures asked { option_map asked_by result ≡ asked_with name.now (rows_of (found_of options.now)) }
 {
     match name {
         "serve" => {
@@ -87,27 +100,21 @@ fn task_named(name: &str, options: &ArgMatches<'_>) -> Option<Task>
         }
         "asm" => Some(Task::Rewrite(TextTask::Assemble)),
         "dis" => Some(Task::Rewrite(TextTask::Disassemble)),
+        "verify" => {
+            let maps = options.get_strs("map");
+            Some(Task::Verify { maps })
+        }
         _ => None,
     }
 }
 
 /// What the chosen subcommand asks for: none where its options are wrong.
-fn chosen_task(matches: &ArgMatches<'_>) -> Option<Task>
-    ensures { result ≡ task_chosen (subcommand_rows_of matches.now) }
+fn chosen_task<'m, 'a>(matches: &'m ArgMatches<'a>) -> Option<Task<'m, 'a>>
+    ensures tenants { IfSome result HasTenants }
+    ensures asked { option_map asked_by result ≡ asked_of (subcommand_rows_of matches.now) }
 {
     let (name, options) = matches.subcommand()?;
     task_named(name, options)
-}
-
-/// What the words ask for; they are those after the program's name.
-fn read_words(alloc: Global, words: &[&str]) -> Result<Task, Failure>
-    ensures tenants { IfOk result HasTenants }
-    ensures task { IfOk result (λ task. asked_task (texts words.now) ≡ Some task) }
-    ensures wrong { result ≡ Err Failure.WrongWords → asked_task (texts words.now) ≡ None }
-    ensures failure { IfErr result (λ failure. (failure ≡ Failure.WrongWords) ⊎ (failure ≡ Failure.Memory)) }
-{
-    let matches = parse_words(alloc, words)?;
-    chosen_task(&matches).ok_or(Failure::WrongWords)
 }
 
 /// Serves the input's frames, and writes the replies. The streams are given away, so the contract of `serve` alone says
@@ -120,7 +127,7 @@ fn serve_streams<I: Read + Drop, O: Write + Drop>(
 ) -> Result<(), Failure>
     requires some { 1 ≤ tenants }
     requires few { tenants ≤ 16 }
-    ensures { IfErr result (λ failure. failure ≢ Failure.WrongWords) }
+    ensures { IfErr result (λ failure. exit_status failure ≢ 2) }
 {
     let mut host = Host::new(alloc, tenants)?;
     let Ok(buffered) = BufReader::new(alloc, input) else {
@@ -140,32 +147,73 @@ fn rewrite_streams<I: Read + Drop, O: Write + Drop>(
     input: I,
     output: O,
 ) -> Result<(), Failure>
-    ensures { IfErr result (λ failure. failure ≢ Failure.WrongWords) }
+    ensures { IfErr result (λ failure. exit_status failure ≢ 2) }
 {
     let mut reader = Counted::new(input);
     let mut writer = Counted::new(output);
     rewrite(alloc, task, &mut reader, &mut writer)
 }
 
-/// Does what the words ask for.
+/// The maps that the words name, where some are given.
+fn maps_given(alloc: Global, words: Option<&[&str]>) -> Result<Vec<Named>, Failure>
+    ensures named { IfOk result (λ maps. AreMaps (texts_given words.entry) maps.items) }
+    ensures wrong { IfErr result (λ failure. (failure ≡ Failure.Memory) ⊎ IsWrongMap (texts_given words.entry) failure) }
+{
+    match words {
+        Some(words) => named_maps(alloc, words),
+        None => Ok(Vec::new(alloc)),
+    }
+}
+
+/// Judges the input's program, and says the status that tells the verdict. The words for maps are read first. The streams
+/// are given away, so the contract of `judge` alone says what was read and written, and which fault came.
+fn judge_streams<I: Read + Drop, O: Write + Drop>(
+    alloc: Global,
+    words: Option<&[&str]>,
+    input: I,
+    output: O,
+) -> Result<u8, Failure>
+    ensures status { IfOk result (λ status. status ≤ 1) }
+    ensures wrong { IfErr result (λ failure. exit_status failure ≡ 2 → HasWrongMap (texts_given words.entry)) }
+    ensures refused { HasWrongMap (texts_given words.entry) → IsErrAnd result (λ failure. (exit_status failure ≡ 2) ⊎ (failure ≡ Failure.Memory)) }
+    ensures accepted { IfOk result (λ status. status ≡ 0 → AcceptsIfKnown (texts_given words.entry) (I.Read.remaining input)) }
+{
+    let maps = maps_given(alloc, words)?;
+    let mut reader = Counted::new(input);
+    let mut writer = Counted::new(output);
+    let judgement = judge(alloc, &maps, &mut reader, &mut writer)?;
+    Ok(judgement.status())
+}
+
+/// Does what the words ask for, and says the status that the program ends with; they are those after its name.
 fn run<I: Read + Drop, O: Write + Drop>(
     alloc: Global,
     words: &[&str],
     input: I,
     output: O,
-) -> Result<(), Failure>
-    ensures wrong { result ≡ Err Failure.WrongWords → asked_task (texts words.now) ≡ None }
-    ensures refused { asked_task (texts words.now) ≡ None → (result ≡ Err Failure.WrongWords) ⊎ (result ≡ Err Failure.Memory) }
+) -> Result<u8, Failure>
+    ensures status { IfOk result (λ status. status ≤ 1) }
+    ensures wrong { IfErr result (λ failure. exit_status failure ≡ 2 → AreWrong (texts words.now)) }
+    ensures refused { AreWrong (texts words.now) → IsErrAnd result (λ failure. (exit_status failure ≡ 2) ⊎ (failure ≡ Failure.Memory)) }
+    ensures accepted { IfOk result (λ status. status ≡ 0 → (maps : List Text) → asked (texts words.now) ≡ Some (Verifies maps) → AcceptsIfKnown maps (I.Read.remaining input)) }
 {
-    match read_words(alloc, words)? {
-        Task::Serve { tenants } => serve_streams(alloc, tenants, input, output),
-        Task::Rewrite(task) => rewrite_streams(alloc, task, input, output),
+    let matches = parse_words(alloc, words)?;
+    match chosen_task(&matches).ok_or(Failure::WrongWords)? {
+        Task::Serve { tenants } => {
+            serve_streams(alloc, tenants, input, output)?;
+            Ok(0)
+        }
+        Task::Rewrite(task) => {
+            rewrite_streams(alloc, task, input, output)?;
+            Ok(0)
+        }
+        Task::Verify { maps } => judge_streams(alloc, maps, input, output),
     }
 }
 
 /// Runs the program on its words, which are those after its name, and says the status that it ends with: 0, 1 where the
-/// input is refused, 2 at wrong words, 3 where input or output failed, 4 at want of memory. A fault is one line on
-/// `faults`; where that line can't be written the status stays.
+/// input or its program is refused, 2 at wrong words, 3 where input or output failed, 4 at want of memory. A fault is one
+/// line on `faults`; where that line can't be written the status stays.
 pub fn run_words<I: Read + Drop, O: Write + Drop, F: Write + Drop>(
     alloc: Global,
     words: &[&str],
@@ -174,11 +222,12 @@ pub fn run_words<I: Read + Drop, O: Write + Drop, F: Write + Drop>(
     mut faults: F,
 ) -> u8
     ensures range { result ≤ 4 }
-    ensures wrong { result ≡ 2 → asked_task (texts words.now) ≡ None }
-    ensures refused { asked_task (texts words.now) ≡ None → (result ≡ 2) ⊎ (result ≡ 4) }
+    ensures wrong { result ≡ 2 → AreWrong (texts words.now) }
+    ensures refused { AreWrong (texts words.now) → (result ≡ 2) ⊎ (result ≡ 4) }
+    ensures accepted { result ≡ 0 → (maps : List Text) → asked (texts words.now) ≡ Some (Verifies maps) → AcceptsIfKnown maps (I.Read.remaining input) }
 {
     match run(alloc, words, input, output) {
-        Ok(()) => 0,
+        Ok(status) => status,
         Err(failure) => {
             let _ = writeln!(faults, "{failure}");
             failure.status()

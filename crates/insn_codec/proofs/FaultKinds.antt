@@ -1,47 +1,114 @@
--- No bytes have want of memory as their fault.
-use Rattle.std.proofs.Common.{◌≡◌, ℕ, ◌/◌, ◌%◌, ◌*◌, Bool, true, false, List, length, drop, Option, Some, None, ap, ◌∙◌, inl, inr}
-use Rattle.std.specs.Prelude.{not, nat_lt, nat_le, ◌&&◌, ◌==◌, if◌then◌else◌}
-use Rattle.insn_codec.specs.declared.slot.Slot.{Slot}
-use Rattle.insn_codec.specs.declared.form.Form.{Form}
-use Rattle.insn_codec.specs.declared.form.Form.TheVariants as form
-use Rattle.insn_codec.specs.declared.opcode.WideKind.{WideKind}
+-- The fault at the front of bytes is one, and none where an instruction begins.
+use Rattle.std.proofs.Common.{◌≡◌, ℕ, ◌/◌, ◌%◌, ◌*◌, ◌≤◌, Bool, true, false, List, ◌++◌, length, take, drop, Option, Some, None, refl, sym, ap, ◌∙◌, append_assoc, arith, subst, inl, inr}
+use Rattle.std.specs.Prelude.{not, nat_lt, ◌==◌, if◌then◌else◌, slice_index}
+use Rattle.std.specs.List.{flat_map}
+use Rattle.std.proofs.lemmas.List.{take-append-drop, length-take}
+use Rattle.std.proofs.Math.Seq.{take-append_seam}
+use Rattle.insn_codec.specs.declared.insn.Operand.{Operand}
+use Rattle.insn_codec.specs.declared.insn.Operand.TheVariants.{Imm, Reg}
+use Rattle.insn_codec.specs.declared.insn.Insn.{Insn}
+use Rattle.insn_codec.specs.declared.insn.Insn.TheVariants.{Alu, Movsx, Neg, End, Ja, Jal, Jump, Call, Exit, Load, Store, Const, MapFd}
 use Rattle.insn_codec.specs.declared.fault.CodecFault.{CodecFault}
 use Rattle.insn_codec.specs.declared.fault.FaultKind.{FaultKind}
-use Rattle.insn_codec.specs.declared.fault.FaultKind.TheVariants.{Reserved, Register, SecondSlot, Ragged, Memory}
+use Rattle.insn_codec.specs.declared.fault.FaultKind.TheVariants.{Opcode, Reserved, Register, SecondSlot, Ragged, Empty, TooLong, Memory}
 use Rattle.insn_codec.specs.declared.TheConstants.{MAX_SLOTS}
-use Rattle.insn_codec.specs.Slot.{slot_of}
-use Rattle.insn_codec.specs.Form.{form_at, listed, wide_at}
-use Rattle.insn_codec.specs.Fault.{is_second, next_fault, second_fault, fault_in_form, fault_by_form, first_fault}
+use Rattle.insn_codec.specs.Slot.{slot_bytes}
+use Rattle.insn_codec.specs.Spelling.{first, second, spelling, IsOperandUpTo, IsInsnUpTo, Begins}
+use Rattle.insn_codec.specs.Fault.{HasFirstSlot, HasInsn, HasOpcode, HasFault}
 use Rattle.insn_codec.specs.Program.{empty_fault, too_long_fault, length_fault, IsProgramFault}
+use Rattle.insn_codec.proofs.KnownOpcodes.{known_first}
 
-either : (b : Bool) (x y : Option FaultKind) → (x ≡ Some Memory → ⊥) → (y ≡ Some Memory → ⊥) → (if b then x else y) ≡ Some Memory → ⊥
-either true x y h k = h
-either false x y h k = k
+-- ---- what follows from what
 
-not_next : (kind : Option WideKind) (next : Slot) → next_fault kind next ≡ Some Memory → ⊥
-not_next None next e = cc
-not_next (Some kind) next e = either (is_second kind next) None (Some SecondSlot) (λ h. cc) (λ h. cc) e
+first_slot_long : (top : ℕ) (bytes : List ℕ) → HasFirstSlot top bytes → 8 ≤ length bytes
+first_slot_long top bytes h = omega (arith, ap length h.2, length-take 8 bytes)
 
-not_second : (f : Form) (src : ℕ) (rest : List ℕ) → second_fault f src rest ≡ Some Memory → ⊥
-not_second form.Wide src rest e =
-    either (nat_lt (length rest) 8) (Some SecondSlot) (next_fault (wide_at src) (slot_of rest)) (λ h. cc) (not_next (wide_at src) (slot_of rest)) e
-not_second _ src rest e = cc
+first_slot_opcode : (top : ℕ) (bytes : List ℕ) → HasFirstSlot top bytes → HasOpcode bytes
+first_slot_opcode top bytes h =
+    let whole : bytes ≡ slot_bytes (first h.0) ++ drop 8 bytes = sym (take-append-drop 8 bytes) ∙ ap (λ (x : List ℕ). x ++ drop 8 bytes) h.2 in
+    known_first h.0 bytes (ap (λ (x : List ℕ). slice_index x 0) whole)
 
-not_in_form : (f : Form) (s : Slot) (rest : List ℕ) → fault_in_form f s rest ≡ Some Memory → ⊥
-unfolding fault_in_form
-not_in_form f s rest e =
-    either (listed f s) (if nat_le s.dst 10 && nat_le s.src 10 then second_fault f s.src rest else Some Register) (Some Reserved)
-    (either (nat_le s.dst 10 && nat_le s.src 10) (second_fault f s.src rest) (Some Register) (not_second f s.src rest) (λ h. cc)) (λ h. cc) e
+more_operands : (o : Operand) → IsOperandUpTo 10 o → IsOperandUpTo 15 o
+more_operands (Imm n) h = h
+more_operands (Reg r) h = omega arith
 
-not_by_form : (f : Option Form) (s : Slot) (rest : List ℕ) → fault_by_form f s rest ≡ Some Memory → ⊥
-not_by_form None s rest e = cc
-not_by_form (Some f) s rest e = not_in_form f s rest e
+more_insns : (i : Insn) → IsInsnUpTo 10 i → IsInsnUpTo 15 i
+more_insns (Alu wide op dst src) h = (omega (arith, h.0), more_operands src h.1)
+more_insns (Movsx m) h = (omega (arith, h.0), omega (arith, h.1))
+more_insns (Neg wide dst) h = omega arith
+more_insns (End how width dst) h = omega arith
+more_insns (Ja off) h = h
+more_insns (Jal off) h = h
+more_insns (Jump wide cond dst src off) h = (omega (arith, h.0), more_operands src h.1, h.2)
+more_insns (Call id) h = h
+more_insns Exit h = tt
+more_insns (Load l) h = (omega (arith, h.0), omega (arith, h.1), h.2)
+more_insns (Store s dst src off) h = (omega (arith, h.0), more_operands src h.1, h.2)
+more_insns (Const dst value) h = (omega (arith, h.0), h.1)
+more_insns (MapFd dst fd) h = (omega (arith, h.0), h.1)
 
-not_first : (bytes : List ℕ) → first_fault bytes ≡ Some Memory → ⊥
-unfolding first_fault
-not_first bytes e =
-    either (nat_lt (length bytes) 8) (Some Ragged) (fault_by_form (form_at (slot_of bytes).opcode) (slot_of bytes) (drop 8 bytes)) (λ h. cc)
-    (not_by_form (form_at (slot_of bytes).opcode) (slot_of bytes) (drop 8 bytes)) e
+more_first_slots : (bytes : List ℕ) → HasFirstSlot 10 bytes → HasFirstSlot 15 bytes
+more_first_slots bytes h = (h.0, more_insns h.0 h.1, h.2)
+
+begins_first : (i : Insn) (bytes : List ℕ) → Begins i bytes → take 8 bytes ≡ slot_bytes (first i)
+unfolding spelling
+begins_first i bytes h =
+    let rest = drop (length (spelling i)) bytes in
+    let others = flat_map slot_bytes (second i) in
+    let whole : bytes ≡ slot_bytes (first i) ++ (others ++ rest) =
+    sym (take-append-drop (length (spelling i)) bytes) ∙ ap (λ (x : List ℕ). x ++ rest) h ∙ append_assoc (slot_bytes (first i)) others rest in
+    ap (take 8) whole ∙ take-append_seam (slot_bytes (first i)) (others ++ rest)
+
+insn_first_slot : (bytes : List ℕ) → HasInsn bytes → HasFirstSlot 10 bytes
+insn_first_slot bytes h = (h.0, h.1, begins_first h.0 bytes h.2)
+
+-- ---- one fault at most
+
+pub insn_has_no_fault : (bytes : List ℕ) (kind : FaultKind) → HasInsn bytes → HasFault bytes kind → ⊥
+insn_has_no_fault bytes Ragged has fault = omega (arith, first_slot_long 10 bytes (insn_first_slot bytes has))
+insn_has_no_fault bytes Opcode has fault = fault.1 (first_slot_opcode 10 bytes (insn_first_slot bytes has))
+insn_has_no_fault bytes Reserved has fault = fault.2 (more_first_slots bytes (insn_first_slot bytes has))
+insn_has_no_fault bytes Register has fault = fault.1 (insn_first_slot bytes has)
+insn_has_no_fault bytes SecondSlot has fault = fault.1 has
+insn_has_no_fault bytes _ has fault = fault
+
+not_ragged : (top : ℕ) (bytes : List ℕ) → HasFault bytes Ragged → HasFirstSlot top bytes → ⊥
+not_ragged top bytes short has = omega (arith, first_slot_long top bytes has)
+
+pub one_kind : (bytes : List ℕ) (a b : FaultKind) → HasFault bytes a → HasFault bytes b → a ≡ b
+one_kind bytes Ragged Ragged x y = refl
+one_kind bytes Ragged Opcode x y = absurd (omega (arith, x, y.0))
+one_kind bytes Ragged Reserved x y = absurd (omega (arith, x, y.0))
+one_kind bytes Ragged Register x y = absurd (not_ragged 15 bytes x y.0)
+one_kind bytes Ragged SecondSlot x y = absurd (not_ragged 10 bytes x y.0)
+one_kind bytes Opcode Ragged x y = absurd (omega (arith, x.0, y))
+one_kind bytes Opcode Opcode x y = refl
+one_kind bytes Opcode Reserved x y = absurd (x.1 y.1)
+one_kind bytes Opcode Register x y = absurd (x.1 (first_slot_opcode 15 bytes y.0))
+one_kind bytes Opcode SecondSlot x y = absurd (x.1 (first_slot_opcode 10 bytes y.0))
+one_kind bytes Reserved Ragged x y = absurd (omega (arith, x.0, y))
+one_kind bytes Reserved Opcode x y = absurd (y.1 x.1)
+one_kind bytes Reserved Reserved x y = refl
+one_kind bytes Reserved Register x y = absurd (x.2 y.0)
+one_kind bytes Reserved SecondSlot x y = absurd (x.2 (more_first_slots bytes y.0))
+one_kind bytes Register Ragged x y = absurd (not_ragged 15 bytes y x.0)
+one_kind bytes Register Opcode x y = absurd (y.1 (first_slot_opcode 15 bytes x.0))
+one_kind bytes Register Reserved x y = absurd (y.2 x.0)
+one_kind bytes Register Register x y = refl
+one_kind bytes Register SecondSlot x y = absurd (x.1 y.0)
+one_kind bytes SecondSlot Ragged x y = absurd (not_ragged 10 bytes y x.0)
+one_kind bytes SecondSlot Opcode x y = absurd (y.1 (first_slot_opcode 10 bytes x.0))
+one_kind bytes SecondSlot Reserved x y = absurd (y.2 (more_first_slots bytes x.0))
+one_kind bytes SecondSlot Register x y = absurd (y.1 x.0)
+one_kind bytes SecondSlot SecondSlot x y = refl
+one_kind bytes Empty b x y = absurd x
+one_kind bytes TooLong b x y = absurd x
+one_kind bytes Memory b x y = absurd x
+one_kind bytes a Empty x y = absurd y
+one_kind bytes a TooLong x y = absurd y
+one_kind bytes a Memory x y = absurd y
+
+-- ---- no fault is want of memory
 
 abbrev IsOther : Option CodecFault → Type 0
 IsOther o = (fault : CodecFault) → o ≡ Some fault → fault.kind ≡ Memory → ⊥
@@ -63,6 +130,9 @@ not_length len =
     (either_fault (not (len % 8 == 0)) (Some ragged) (if nat_lt (8 * MAX_SLOTS) len then Some too_long_fault else None) (of_kind ragged (λ h. cc))
     (either_fault (nat_lt (8 * MAX_SLOTS) len) (Some too_long_fault) None (of_kind too_long_fault (λ h. cc)) (λ fault h k. cc)))
 
+not_at_front : (bytes : List ℕ) (kind : FaultKind) → kind ≡ Memory → HasFault bytes kind → ⊥
+not_at_front bytes kind e h = subst (HasFault bytes) e h
+
 pub not_memory : (bytes : List ℕ) (fault : CodecFault) → IsProgramFault bytes fault → fault.kind ≡ Memory → ⊥
 not_memory bytes fault (inl of_length) memory = not_length (length bytes) fault of_length memory
-not_memory bytes fault (inr after) memory = not_first after.rest (after.kind ∙ ap Some memory)
+not_memory bytes fault (inr after) memory = not_at_front after.rest fault.kind memory after.kind

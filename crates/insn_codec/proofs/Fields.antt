@@ -20,9 +20,10 @@ use Rattle.insn_codec.specs.declared.opcode.AluCode.TheVariants as code
 use Rattle.insn_codec.specs.declared.form.Form.TheVariants as form
 use Rattle.insn_codec.specs.Sizes.{is_short}
 use Rattle.insn_codec.specs.Numbers.{opcode, alu_class, jump_class, alu_number, alu_offset, condition_number, narrow_number, bits_number, end_opcode, memory_opcode, offset_bits, imm_bits}
-use Rattle.insn_codec.specs.Form.{listed, one_operand, offset_listed}
-use Rattle.insn_codec.specs.Slot.{slot, IsSlot}
-use Rattle.insn_codec.specs.Spelling.{first, source_bit, src_field, imm_field, IsOperand, IsInsn}
+use Rattle.insn_codec.specs.inside.Form.{listed, one_operand, offset_listed}
+use Rattle.insn_codec.specs.Slot.{slot}
+use Rattle.insn_codec.proofs.Slots.{IsSlot}
+use Rattle.insn_codec.specs.Spelling.{first, source_bit, src_field, imm_field, IsOperandUpTo, IsInsnUpTo}
 use Rattle.insn_codec.proofs.Opcodes.{code_of, source_of, form_of}
 
 -- ---- which the form lists
@@ -76,6 +77,9 @@ listed-first (MapFd dst fd) = refl
 
 -- ---- each field of the first slot fits its bits
 
+zero_le : (n : ℕ) → 0 ≤ n
+zero_le n = omega arith
+
 alu_offset_le : (o : AluOp) → alu_offset o ≤ 1
 alu_offset_le op.Add = lit≤ tt
 alu_offset_le op.Sub = lit≤ tt
@@ -108,35 +112,35 @@ offset_bits_lt z h = omega (arith, ints)
 imm_bits_lt : (z : ℤ) → FitsSigned w32 z → imm_bits z < 2 ^ 32
 imm_bits_lt z h = omega (arith, ints)
 
-src_field_le : (o : Operand) → IsOperand o → src_field o ≤ 10
-src_field_le (operand.Imm n) h = lit≤ tt
-src_field_le (operand.Reg r) h = h
+src_field_le : (top : ℕ) (o : Operand) → IsOperandUpTo top o → src_field o ≤ top
+src_field_le top (operand.Imm n) h = zero_le top
+src_field_le top (operand.Reg r) h = h
 
-imm_field_lt : (o : Operand) → IsOperand o → imm_field o < 2 ^ 32
-imm_field_lt (operand.Imm n) h = imm_bits_lt n h
-imm_field_lt (operand.Reg r) h = lit< tt
+imm_field_lt : (top : ℕ) (o : Operand) → IsOperandUpTo top o → imm_field o < 2 ^ 32
+imm_field_lt top (operand.Imm n) h = imm_bits_lt n h
+imm_field_lt top (operand.Reg r) h = lit< tt
 
--- the registers exist
-pub record IsFront (s : Slot) : Type 0 where
-  pub dst : s.dst ≤ 10
-  pub src : s.src ≤ 10
+-- registers up to a number, and fields that fit their bits
+pub record IsFront (top : ℕ) (s : Slot) : Type 0 where
+  pub dst : s.dst ≤ top
+  pub src : s.src ≤ top
   pub offset : s.offset < 2 ^ 16
   pub imm : s.imm < 2 ^ 32
 
-pub IsFront-first : (i : Insn) → IsInsn i → IsFront (first i)
-IsFront-first (Alu wide o dst src) h = record { dst = h.0; src = src_field_le src h.1; offset = omega (arith, alu_offset_le o); imm = imm_field_lt src h.1 }
-IsFront-first (Movsx m) h = record { dst = h.0; src = h.1; offset = omega (arith, narrow_number_le m.bits); imm = lit< tt }
-IsFront-first (Neg wide dst) h = record { dst = h; src = lit≤ tt; offset = lit< tt; imm = lit< tt }
-IsFront-first (End how width dst) h = record { dst = h; src = lit≤ tt; offset = lit< tt; imm = omega (arith, bits_number_le width) }
-IsFront-first (Ja off) h = record { dst = lit≤ tt; src = lit≤ tt; offset = offset_bits_lt off h; imm = lit< tt }
-IsFront-first (Jal off) h = record { dst = lit≤ tt; src = lit≤ tt; offset = lit< tt; imm = imm_bits_lt off h }
-IsFront-first (Jump wide condition dst src off) h = record { dst = h.0; src = src_field_le src h.1; offset = offset_bits_lt off h.2; imm = imm_field_lt src h.1 }
-IsFront-first (Call id) h = record { dst = lit≤ tt; src = lit≤ tt; offset = lit< tt; imm = imm_bits_lt id h }
-IsFront-first Exit h = record { dst = lit≤ tt; src = lit≤ tt; offset = lit< tt; imm = lit< tt }
-IsFront-first (Load l) h = record { dst = h.0; src = h.1; offset = offset_bits_lt l.off h.2; imm = lit< tt }
-IsFront-first (Store s dst src off) h = record { dst = h.0; src = src_field_le src h.1; offset = offset_bits_lt off h.2; imm = imm_field_lt src h.1 }
-IsFront-first (Const dst value) h = record { dst = h.0; src = lit≤ tt; offset = lit< tt; imm = omega arith }
-IsFront-first (MapFd dst fd) h = record { dst = h.0; src = lit≤ tt; offset = lit< tt; imm = imm_bits_lt fd h.1 }
+pub IsFront-first : (top : ℕ) (i : Insn) → 1 ≤ top → IsInsnUpTo top i → IsFront top (first i)
+IsFront-first top (Alu wide o dst src) some h = record { dst = h.0; src = src_field_le top src h.1; offset = omega (arith, alu_offset_le o); imm = imm_field_lt top src h.1 }
+IsFront-first top (Movsx m) some h = record { dst = h.0; src = h.1; offset = omega (arith, narrow_number_le m.bits); imm = lit< tt }
+IsFront-first top (Neg wide dst) some h = record { dst = h; src = zero_le top; offset = lit< tt; imm = lit< tt }
+IsFront-first top (End how width dst) some h = record { dst = h; src = zero_le top; offset = lit< tt; imm = omega (arith, bits_number_le width) }
+IsFront-first top (Ja off) some h = record { dst = zero_le top; src = zero_le top; offset = offset_bits_lt off h; imm = lit< tt }
+IsFront-first top (Jal off) some h = record { dst = zero_le top; src = zero_le top; offset = lit< tt; imm = imm_bits_lt off h }
+IsFront-first top (Jump wide condition dst src off) some h = record { dst = h.0; src = src_field_le top src h.1; offset = offset_bits_lt off h.2; imm = imm_field_lt top src h.1 }
+IsFront-first top (Call id) some h = record { dst = zero_le top; src = zero_le top; offset = lit< tt; imm = imm_bits_lt id h }
+IsFront-first top Exit some h = record { dst = zero_le top; src = zero_le top; offset = lit< tt; imm = lit< tt }
+IsFront-first top (Load l) some h = record { dst = h.0; src = h.1; offset = offset_bits_lt l.off h.2; imm = lit< tt }
+IsFront-first top (Store s dst src off) some h = record { dst = h.0; src = src_field_le top src h.1; offset = offset_bits_lt off h.2; imm = imm_field_lt top src h.1 }
+IsFront-first top (Const dst value) some h = record { dst = h.0; src = zero_le top; offset = lit< tt; imm = omega arith }
+IsFront-first top (MapFd dst fd) some h = record { dst = h.0; src = some; offset = lit< tt; imm = imm_bits_lt fd h.1 }
 
-pub IsSlot-front : (s : Slot) → IsFront s → IsSlot s
-IsSlot-front s h = record { dst = omega arith; src = omega arith; offset = h.offset; imm = h.imm }
+pub IsSlot-front : (top : ℕ) (s : Slot) → top ≤ 15 → IsFront top s → IsSlot s
+IsSlot-front top s few h = record { dst = omega (arith, h.dst, few); src = omega (arith, h.src, few); offset = h.offset; imm = h.imm }

@@ -3,7 +3,10 @@ pub mod BySlot
 pub mod Opcodes
 pub mod Fields
 pub mod ReadBack
-pub mod UnknownOpcode
+pub mod FromSlot
+pub mod KnownOpcodes
 pub mod Laws
 pub mod FaultKinds
-mod Vectors
+pub mod FirstFault
+pub mod ProgramFaults
+pub mod Vectors

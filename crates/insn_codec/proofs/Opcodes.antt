@@ -21,8 +21,9 @@ use Rattle.insn_codec.specs.declared.opcode.LoadKind.TheVariants as load
 use Rattle.insn_codec.specs.declared.form.Form.{Form}
 use Rattle.insn_codec.specs.declared.form.Form.TheVariants as form
 use Rattle.insn_codec.specs.Sizes.{is_double}
-use Rattle.insn_codec.specs.Numbers.{alu_number, load_mode, memory_opcode, source_number, code_number, load_opcode, opcode_of}
-use Rattle.insn_codec.specs.Form.{form_at}
+use Rattle.insn_codec.specs.Numbers.{alu_number, load_mode, memory_opcode}
+use Rattle.insn_codec.specs.inside.Opcodes.{source_number, code_number, load_opcode, opcode_of}
+use Rattle.insn_codec.specs.inside.Form.{form_at}
 use Rattle.insn_codec.specs.Spelling.{first, source_bit}
 
 -- ---- the form of an instruction
@@ -237,7 +238,7 @@ opcode_of-load size.Byte false h = refl
 opcode_of-load size.Double true h = absurd cc
 opcode_of-load size.Double false h = refl
 
-opcode_of-form_of : (i : Insn) → opcode_of (form_of i) ≡ (first i).opcode
+pub opcode_of-form_of : (i : Insn) → opcode_of (form_of i) ≡ (first i).opcode
 opcode_of-form_of (Alu wide o dst src) = rw (code_number-code_of o, source_number-source_of src) refl
 opcode_of-form_of (Movsx m) = refl
 opcode_of-form_of (Neg wide dst) = refl

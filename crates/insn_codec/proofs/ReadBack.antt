@@ -27,7 +27,7 @@ use Rattle.insn_codec.specs.declared.form.Form.{Form}
 use Rattle.insn_codec.specs.declared.form.Form.TheVariants as form
 use Rattle.insn_codec.specs.Sizes.{is_double, is_short}
 use Rattle.insn_codec.specs.Numbers.{opcode, alu_class, jump_class, alu_number, alu_offset, condition_number, narrow_number, bits_number, memory_opcode, offset_bits, imm_bits}
-use Rattle.insn_codec.specs.Form.{wide_at}
+use Rattle.insn_codec.specs.inside.Form.{wide_at}
 use Rattle.insn_codec.specs.Slot.{slot}
 use Rattle.insn_codec.specs.Spelling.{first, source_bit, src_field, imm_field, IsOperand, IsInsn}
 use Rattle.insn_codec.specs.declared.opcode.WideKind.{WideKind}

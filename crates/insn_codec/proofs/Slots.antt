@@ -1,5 +1,5 @@
 -- The fields of a slot and its eight bytes.
-use Rattle.std.proofs.Common.{◌≡◌, ℕ, ◌+◌, ◌*◌, ◌/◌, ◌%◌, ◌<◌, ◌≤◌, List, [], ◌∷◌, ◌++◌, length, get_or, take, drop, refl, sym, ap, ◌∙◌, append_assoc, arith, inl, inr}
+use Rattle.std.proofs.Common.{◌≡◌, ℕ, ◌+◌, ◌*◌, ◌/◌, ◌%◌, ◌^◌, ◌<◌, ◌≤◌, List, [], ◌∷◌, ◌++◌, length, get_or, take, drop, refl, sym, ap, ◌∙◌, append_assoc, arith, inl, inr}
 use Rattle.std.specs.Int.{w16, w32, from_le_bytes, to_le_bytes}
 use Rattle.std.specs.List.{flat_map}
 use Rattle.std.proofs.lemmas.Bool.{cases_lt}
@@ -8,7 +8,7 @@ use Rattle.std.proofs.lemmas.Nat.{le_bytes_2, le_bytes_4, from_le_bytes-to_le_by
 use Rattle.std.proofs.Math.Seq.{take-add}
 use Rattle.insn_codec.specs.declared.slot.Slot.{Slot}
 use Rattle.insn_codec.specs.declared.insn.Insn.{Insn}
-use Rattle.insn_codec.specs.Slot.{slot_of, slot_bytes, IsSlot}
+use Rattle.insn_codec.specs.Slot.{slot_of, slot_bytes}
 use Rattle.insn_codec.specs.Spelling.{slots, spelling, Begins}
 
 abbrev pub IsBytes : List ℕ → Type 0
@@ -23,6 +23,13 @@ IsBytes-take n bytes h i =
       | inl lt ↦ rw (get_or-take n bytes i 0 lt) (h i)
       | inr le ↦ rw (get_or_past (take n bytes) i 0 (omega (arith, length-take n bytes))) (omega arith)
     ]
+
+-- the fields after the opcode fit their bits
+pub record IsSlot (s : Slot) : Type 0 where
+  pub dst : s.dst < 16
+  pub src : s.src < 16
+  pub offset : s.offset < 2 ^ 16
+  pub imm : s.imm < 2 ^ 32
 
 -- what was written is read
 pub slot_of-append : (s : Slot) (rest : List ℕ) → IsSlot s → slot_of (slot_bytes s ++ rest) ≡ s
@@ -44,6 +51,16 @@ slot_bytes-slot_of (a ∷ b ∷ c ∷ d ∷ e ∷ f ∷ g ∷ h ∷ rest) fits l
     ∙ ap (λ (x : List ℕ). a ∷ b ∷ (x ++ to_le_bytes w32 (from_le_bytes w32 (e ∷ f ∷ g ∷ h ∷ [])))) offset
     ∙ ap (λ (x : List ℕ). a ∷ b ∷ c ∷ d ∷ x) imm
 slot_bytes-slot_of _ fits long = absurd (omega arith)
+
+-- what was read fits its bits
+pub IsSlot-slot_of : (bytes : List ℕ) → IsBytes bytes → 8 ≤ length bytes → IsSlot (slot_of bytes)
+unfolding slot_of
+IsSlot-slot_of bytes fits long = record {
+  dst = omega arith;
+  src = omega (arith, fits 1);
+  offset = omega (arith, fits 2, fits 3);
+  imm = omega (arith, fits 4, fits 5, fits 6, fits 7);
+}
 
 -- the bytes begin with one slot, or with two
 one_slot : (ss : List Slot) (bytes : List ℕ) → IsBytes bytes → 8 ≤ length bytes → ss ≡ slot_of bytes ∷ [] → take (length (flat_map slot_bytes ss)) bytes ≡ flat_map slot_bytes ss

@@ -1,60 +1,32 @@
--- What is wrong with bytes that begin no instruction: the fault of the lowest kind.
+-- What is wrong with bytes that begin no instruction: the fault of the lowest kind, told by the grammar.
 -- RFC 9669 leaves it open what a machine does with such bytes; the kinds and their order are this project's own.
-use Rattle.std.specs.Prelude.{ℕ, ◌≤◌, ◌≢◌, Bool, true, ◌&&◌, List, slice_index, length, drop, Option, Some, None, nat_lt, nat_le, ◌==◌, if◌then◌else◌}
-use Rattle.insn_codec.specs.declared.slot.Slot.{Slot}
-use Rattle.insn_codec.specs.declared.form.Form.{Form}
-use Rattle.insn_codec.specs.declared.form.Form.TheVariants as form
+use Rattle.std.specs.Prelude.{◌≡◌, ℕ, ◌≤◌, ◌<◌, List, slice_index, length, take}
 use Rattle.insn_codec.specs.declared.fault.FaultKind.{FaultKind}
 use Rattle.insn_codec.specs.declared.fault.FaultKind.TheVariants.{Opcode, Reserved, Register, SecondSlot, Ragged, Empty, TooLong, Memory}
-use Rattle.insn_codec.specs.declared.fault.CodecFault.{CodecFault}
 use Rattle.insn_codec.specs.declared.insn.Insn.{Insn}
-use Rattle.insn_codec.specs.declared.opcode.WideKind.{WideKind}
-use Rattle.insn_codec.specs.declared.opcode.WideKind.TheVariants.{Number, Map}
-use Rattle.insn_codec.specs.Spelling.{spelling, IsInsn}
-use Rattle.insn_codec.specs.Slot.{slot_of}
-use Rattle.insn_codec.specs.Form.{form_at, listed, wide_at}
+use Rattle.insn_codec.specs.Slot.{slot_bytes}
+use Rattle.insn_codec.specs.Spelling.{first, spelling, IsInsn, IsInsnUpTo, Begins}
 
--- ---- the second slot of a wide instruction: RFC 9669, sections 3.2 and 5.4
+-- the first byte is that of an instruction
+abbrev pub HasOpcode : List ℕ → Type 0
+HasOpcode bytes = (i : Insn) × IsInsn i × (slice_index bytes 0 ≡ slice_index (spelling i) 0)
 
--- the number in the second slot is zero where the load does not use it
-abbrev pub next_listed : WideKind → ℕ → Bool
-next_listed Number imm = true
-next_listed Map imm = imm == 0
+-- the first eight bytes are the first slot of an instruction, with registers up to a number
+abbrev pub HasFirstSlot : ℕ → List ℕ → Type 0
+HasFirstSlot top bytes = (i : Insn) × IsInsnUpTo top i × (take 8 bytes ≡ slot_bytes (first i))
 
-abbrev pub is_second : WideKind → Slot → Bool
-is_second kind next = next.opcode == 0 && next.dst == 0 && next.src == 0 && next.offset == 0 && next_listed kind next.imm
+-- the bytes begin with an instruction
+abbrev pub HasInsn : List ℕ → Type 0
+HasInsn bytes = (i : Insn) × IsInsn i × Begins i bytes
 
-abbrev pub next_fault : Option WideKind → Slot → Option FaultKind
-next_fault None next = None
-next_fault (Some kind) next = if is_second kind next then None else Some SecondSlot
-
-abbrev pub second_fault : Form → ℕ → List ℕ → Option FaultKind
-second_fault form.Wide src rest = if nat_lt (length rest) 8 then Some SecondSlot else next_fault (wide_at src) (slot_of rest)
-second_fault _ src rest = None
-
--- ---- the first slot
-
--- of a slot that begins a form
-unfoldable pub fault_in_form : Form → Slot → List ℕ → Option FaultKind
-fault_in_form f s rest =
-    if listed f s then (if nat_le s.dst 10 && nat_le s.src 10 then second_fault f s.src rest else Some Register) else Some Reserved
-
-abbrev pub fault_by_form : Option Form → Slot → List ℕ → Option FaultKind
-fault_by_form None s rest = Some Opcode
-fault_by_form (Some f) s rest = fault_in_form f s rest
-
--- of the instruction at the front
-unfoldable pub first_fault : List ℕ → Option FaultKind
-first_fault bytes = if nat_lt (length bytes) 8 then Some Ragged else fault_by_form (form_at (slot_of bytes).opcode) (slot_of bytes) (drop 8 bytes)
-
--- ---- the lowest kind, by the grammar alone
-
--- there is a slot, and its first byte is the first byte of no instruction
-abbrev pub IsUnknownOpcode : List ℕ → Type 0
-IsUnknownOpcode bytes = (8 ≤ length bytes) × ((i : Insn) → IsInsn i → slice_index (spelling i) 0 ≢ slice_index bytes 0)
-
-abbrev pub opcode_fault : CodecFault
-opcode_fault = record { slot = 0; kind = Opcode }
+-- the fault at the front; the field of a register has room for 0 to 15, section 3.1, of which 10 is the last register
+abbrev pub HasFault : List ℕ → FaultKind → Type 0
+HasFault bytes Ragged = length bytes < 8
+HasFault bytes Opcode = (8 ≤ length bytes) × ¬ HasOpcode bytes
+HasFault bytes Reserved = (8 ≤ length bytes) × HasOpcode bytes × ¬ HasFirstSlot 15 bytes
+HasFault bytes Register = HasFirstSlot 15 bytes × ¬ HasFirstSlot 10 bytes
+HasFault bytes SecondSlot = HasFirstSlot 10 bytes × ¬ HasInsn bytes
+HasFault bytes _ = ⊥
 
 -- ---- the kinds' numbers
 

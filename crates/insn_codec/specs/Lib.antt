@@ -1,8 +1,7 @@
 pub mod Sizes
 pub mod Numbers
 pub mod Slot
-pub mod Form
 pub mod Spelling
 pub mod Fault
 pub mod Program
-pub mod Code
+pub mod inside

@@ -61,24 +61,32 @@ is_wide i = length (slots i) == 2
 
 -- ---- the values of the type: numbers in the ranges of their fields, section 3.1
 
+-- with registers up to a number: there are eleven, and a field of four bits has room for sixteen
+abbrev pub IsOperandUpTo : ℕ → Operand → Type 0
+IsOperandUpTo top (Imm n) = FitsSigned w32 n
+IsOperandUpTo top (Reg r) = r ≤ top
+
+abbrev pub IsInsnUpTo : ℕ → Insn → Type 0
+IsInsnUpTo top (Alu wide op dst src) = (dst ≤ top) × IsOperandUpTo top src
+IsInsnUpTo top (Movsx m) = (m.dst ≤ top) × (m.src ≤ top)
+IsInsnUpTo top (Neg wide dst) = dst ≤ top
+IsInsnUpTo top (End how width dst) = dst ≤ top
+IsInsnUpTo top (Ja off) = FitsSigned w16 off
+IsInsnUpTo top (Jal off) = FitsSigned w32 off
+IsInsnUpTo top (Jump wide cond dst src off) = (dst ≤ top) × IsOperandUpTo top src × FitsSigned w16 off
+IsInsnUpTo top (Call id) = FitsSigned w32 id
+IsInsnUpTo top Exit = Unit {0}
+IsInsnUpTo top (Load l) = (l.dst ≤ top) × (l.src ≤ top) × FitsSigned w16 l.off
+IsInsnUpTo top (Store s dst src off) = (dst ≤ top) × IsOperandUpTo top src × FitsSigned w16 off
+IsInsnUpTo top (Const dst value) = (dst ≤ top) × (value < 2 ^ 64)
+IsInsnUpTo top (MapFd dst fd) = (dst ≤ top) × FitsSigned w32 fd
+
+-- the registers that there are: 0 to 10, section 2
 abbrev pub IsOperand : Operand → Type 0
-IsOperand (Imm n) = FitsSigned w32 n
-IsOperand (Reg r) = r ≤ 10
+IsOperand o = IsOperandUpTo 10 o
 
 abbrev pub IsInsn : Insn → Type 0
-IsInsn (Alu wide op dst src) = (dst ≤ 10) × IsOperand src
-IsInsn (Movsx m) = (m.dst ≤ 10) × (m.src ≤ 10)
-IsInsn (Neg wide dst) = dst ≤ 10
-IsInsn (End how width dst) = dst ≤ 10
-IsInsn (Ja off) = FitsSigned w16 off
-IsInsn (Jal off) = FitsSigned w32 off
-IsInsn (Jump wide cond dst src off) = (dst ≤ 10) × IsOperand src × FitsSigned w16 off
-IsInsn (Call id) = FitsSigned w32 id
-IsInsn Exit = Unit {0}
-IsInsn (Load l) = (l.dst ≤ 10) × (l.src ≤ 10) × FitsSigned w16 l.off
-IsInsn (Store s dst src off) = (dst ≤ 10) × IsOperand src × FitsSigned w16 off
-IsInsn (Const dst value) = (dst ≤ 10) × (value < 2 ^ 64)
-IsInsn (MapFd dst fd) = (dst ≤ 10) × FitsSigned w32 fd
+IsInsn i = IsInsnUpTo 10 i
 
 -- the bytes begin with the spelling
 abbrev pub Begins : Insn → List ℕ → Type 0

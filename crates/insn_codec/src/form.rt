@@ -40,8 +40,9 @@ pub enum Form {
 }
 
 impl Form {
-    ghost use Rattle.insn_codec.specs.Form.{form_at, alu_at, jump_at, load_at, store_at, listed};
-    ghost use Rattle.insn_codec.specs.Numbers.{opcode as opcode_from, opcode_of, alu_class, jump_class, source_number};
+    ghost use Rattle.insn_codec.specs.inside.Form.{form_at, alu_at, jump_at, load_at, store_at, listed};
+    ghost use Rattle.insn_codec.specs.Numbers.{opcode as opcode_from, alu_class, jump_class};
+    ghost use Rattle.insn_codec.specs.inside.Opcodes.{opcode_of, source_number};
     ghost use Rattle.insn_codec.specs.Spelling.{slots, IsInsn};
     ghost use Rattle.insn_codec.specs.declared.form.Form.TheVariants.{Wide, Alu, Jump, Load as LoadForm, Store, End};
 
@@ -121,7 +122,7 @@ impl Form {
     }
 
     /// The form that an opcode begins.
-    #[tactic(auto, unfolding(crate::specs::Form::form_at))]
+    #[tactic(auto, unfolding(crate::specs::inside::Form::form_at))]
     pub fn of(opcode: u8) -> Option<Form>
         ensures value { result ≡ form_at opcode }
         ensures number { IfSome result (λ f. opcode_of f ≡ opcode) }

@@ -1,6 +1,8 @@
 //! Known answers of the public calls, proved from their contracts alone. Nothing calls these functions.
 
-ghost use Rattle.std.specs.Prelude.{◌≡◌};
+ghost use Rattle.std.specs.Prelude.{◌≡◌, Some};
+ghost use Rattle.insn_codec.specs.Fault.{HasFault};
+ghost use Rattle.insn_codec.specs.declared.fault.FaultKind.{FaultKind as AnyKind};
 
 use crate::{
     CodecFault, FaultKind, Insn, Program, Reg, decode, encode, read_program, write_program,
@@ -57,6 +59,28 @@ fn read_instruction() {
     let found = decode(&[0x95, 0, 0, 0, 0, 0, 0, 0]);
     let is_exit = found == Ok((Insn::Exit, 1));
     prove!(is_exit);
+}
+
+/// The kind of the fault at the front, by what `decode` promises.
+fn kind_at_front(bytes: &[u8]) -> Option<FaultKind>
+    ensures { (kind : AnyKind) → HasFault bytes.now kind → result ≡ Some kind }
+{
+    match decode(bytes) {
+        Ok(_) => None,
+        Err(fault) => Some(fault.kind),
+    }
+}
+
+fn kinds_at_front() {
+    let number_in_exit = kind_at_front(&[0x95, 0, 0, 0, 1, 0, 0, 0]);
+    let is_reserved = number_in_exit == Some(FaultKind::Reserved);
+    prove!(is_reserved);
+    let register_eleven = kind_at_front(&[0xb7, 0x0b, 0, 0, 0, 0, 0, 0]);
+    let is_register = register_eleven == Some(FaultKind::Register);
+    prove!(is_register);
+    let half_a_load = kind_at_front(&[0x18, 0, 0, 0, 0, 0, 0, 0]);
+    let is_second_slot = half_a_load == Some(FaultKind::SecondSlot);
+    prove!(is_second_slot);
 }
 
 #[tactic(auto, unfolding(crate::specs::Program::begins_at))]

@@ -53,8 +53,9 @@ pub enum WideKind {
 
 impl AluCode {
     ghost use Rattle.insn_codec.specs.declared.opcode.Source.TheVariants as source_variant;
-    ghost use Rattle.insn_codec.specs.Form.{alu_code_at, offset_listed};
-    ghost use Rattle.insn_codec.specs.Numbers.{alu_number, alu_offset, code_number};
+    ghost use Rattle.insn_codec.specs.inside.Form.{alu_code_at, offset_listed};
+    ghost use Rattle.insn_codec.specs.Numbers.{alu_number, alu_offset};
+    ghost use Rattle.insn_codec.specs.inside.Opcodes.{code_number};
 
     /// The operation with this code.
     pub fn of(code: u8) -> Option<AluCode>
@@ -117,8 +118,8 @@ impl AluCode {
 }
 
 impl Source {
-    ghost use Rattle.insn_codec.specs.Form.{one_operand};
-    ghost use Rattle.insn_codec.specs.Numbers.{source_number};
+    ghost use Rattle.insn_codec.specs.inside.Form.{one_operand};
+    ghost use Rattle.insn_codec.specs.inside.Opcodes.{source_number};
     ghost use Rattle.insn_codec.specs.Spelling.{source_bit, src_field, imm_field, IsOperand};
 
     /// Whether the operand that is not used is zero.
@@ -149,7 +150,7 @@ impl Source {
 }
 
 impl Condition {
-    ghost use Rattle.insn_codec.specs.Form.{condition_at};
+    ghost use Rattle.insn_codec.specs.inside.Form.{condition_at};
     ghost use Rattle.insn_codec.specs.Numbers.{condition_number};
 
     /// The condition with this code.
@@ -175,7 +176,7 @@ impl Condition {
 }
 
 impl Size {
-    ghost use Rattle.insn_codec.specs.Form.{size_at};
+    ghost use Rattle.insn_codec.specs.inside.Form.{size_at};
     ghost use Rattle.insn_codec.specs.Numbers.{size_number};
 
     /// The size with this code.
@@ -194,7 +195,8 @@ impl Size {
 }
 
 impl LoadKind {
-    ghost use Rattle.insn_codec.specs.Numbers.{load_opcode, load_mode, memory_opcode};
+    ghost use Rattle.insn_codec.specs.Numbers.{load_mode, memory_opcode};
+    ghost use Rattle.insn_codec.specs.inside.Opcodes.{load_opcode};
     ghost use Rattle.insn_codec.specs.Sizes.{is_double};
 
     /// How many bytes are loaded, and whether with sign extension.
@@ -215,8 +217,8 @@ impl LoadKind {
 }
 
 impl WideKind {
-    ghost use Rattle.insn_codec.specs.Form.{wide_at};
-    ghost use Rattle.insn_codec.specs.Fault.{is_second};
+    ghost use Rattle.insn_codec.specs.inside.Form.{wide_at};
+    ghost use Rattle.insn_codec.specs.inside.FirstFault.{is_second};
 
     /// The kind that the source field of the first slot names.
     pub fn of(src: u8) -> Option<WideKind>

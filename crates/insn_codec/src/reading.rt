@@ -1,11 +1,13 @@
 //! Bytes to instructions.
 
-ghost use Rattle.std.specs.Prelude.{◌++◌, ◌↔◌, List, ℕ, ◌≡◌, ◌≢◌, ◌+◌, ◌*◌, ◌≤◌, ◌<◌, [], ◌∷◌, length, drop, IfOk, IfErr, Ok, Err, Some, None, IsTrue};
+ghost use Rattle.std.specs.Prelude.{◌++◌, List, ℕ, ◌≡◌, ◌+◌, ◌*◌, ◌≤◌, [], ◌∷◌, length, IfOk, IfErr, IsErrAnd, Ok, Some, None, IsTrue};
 ghost use Rattle.insn_codec.specs.Slot.{slot_of};
-ghost use Rattle.insn_codec.specs.Form.{listed};
+ghost use Rattle.insn_codec.specs.inside.Form.{listed};
 ghost use Rattle.insn_codec.specs.Spelling.{slots, spelling, IsInsn, Begins};
-ghost use Rattle.insn_codec.specs.Fault.{first_fault, second_fault, opcode_fault, IsUnknownOpcode};
+ghost use Rattle.insn_codec.specs.Fault.{HasFault};
+ghost use Rattle.insn_codec.specs.inside.FirstFault.{first_fault, second_fault};
 ghost use Rattle.insn_codec.specs.declared.insn.Insn.{Insn as AnyInsn};
+ghost use Rattle.insn_codec.specs.declared.fault.FaultKind.{FaultKind as AnyKind};
 ghost use Rattle.insn_codec.specs.declared.form.Form.TheVariants.{Wide};
 
 use crate::fault::{CodecFault, FaultKind};
@@ -47,7 +49,7 @@ fn wide(slot: Slot, dst: Reg, rest: &[u8]) -> Result<Insn, FaultKind>
 }
 
 /// The instruction at the front.
-#[tactic(auto, unfolding(crate::specs::Fault::first_fault, crate::specs::Fault::fault_in_form))]
+#[tactic(auto, unfolding(crate::specs::inside::FirstFault::first_fault, crate::specs::inside::FirstFault::fault_in_form))]
 pub(crate) fn instruction(bytes: &[u8]) -> Result<Insn, FaultKind>
     ensures found { IfOk result (λ i. IsInsn i × Begins i bytes.now) }
     ensures fault { IfErr result (λ kind. first_fault bytes.now ≡ Some kind) }
@@ -86,10 +88,10 @@ pub fn decode(bytes: &[u8]) -> Result<(Insn, usize), CodecFault>
     ensures found { IfOk result (λ found. IsInsn found.0 × Begins found.0 bytes.now × (found.1 ≡ length (slots found.0))) }
     // What is spelled at the front is answered.
     ensures only { (insn : Insn) → IsInsn insn → Begins insn bytes.now → result ≡ Ok (insn, length (slots insn)) }
-    // Else it is the fault of the lowest kind.
-    ensures fault { IfErr result (λ e. (e.slot ≡ 0) × (first_fault bytes.now ≡ Some e.kind)) }
-    // An unknown opcode is the first byte of no instruction.
-    ensures opcode { (result ≡ Err opcode_fault) ↔ IsUnknownOpcode bytes.now }
+    // Else it is the fault at the front.
+    ensures fault { IfErr result (λ e. (e.slot ≡ 0) × HasFault bytes.now e.kind) }
+    // The fault at the front is told.
+    ensures faulty { (kind : AnyKind) → HasFault bytes.now kind → IsErrAnd result (λ e. e.kind ≡ kind) }
 {
     match instruction(bytes) {
         Ok(insn) => Ok((insn, insn.slots())),

@@ -13,7 +13,7 @@ pub struct Slot {
 }
 
 impl Slot {
-    ghost use Rattle.insn_codec.specs.Slot.{slot_of, slot_bytes, IsSlot};
+    ghost use Rattle.insn_codec.specs.Slot.{slot_of, slot_bytes};
 
     /// The slot at the front of the bytes.
     #[tactic(auto, unfolding(crate::specs::Slot::slot_of))]

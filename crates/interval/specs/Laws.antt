@@ -42,6 +42,12 @@ EdgesAreWords n =
 abbrev pub HullHoldsBoth : Type 0
 HullHoldsBoth = (a b : Range) (x : ℕ) → (IsMember x a → IsMember x (hull a b)) × (IsMember x b → IsMember x (hull a b))
 
+-- and so does no smaller range
+abbrev pub HullIsLeast : Type 0
+HullIsLeast =
+    (a b c : Range) → ((x : ℕ) → IsMember x a → IsMember x c) → ((x : ℕ) → IsMember x b → IsMember x c) →
+    (x : ℕ) → IsMember x (hull a b) → IsMember x c
+
 abbrev pub HullCommutes : Type 0
 HullCommutes = (a b : Range) → hull a b ≡ hull b a
 

@@ -7,3 +7,4 @@ pub mod Ranges
 pub mod Table
 pub mod Refine
 pub mod Laws
+pub mod inside

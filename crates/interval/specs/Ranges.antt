@@ -1,24 +1,12 @@
 -- Ranges of numbers, and where a number of one lies.
 use Rattle.std.specs.Prelude.{ℕ, ◌-◌, ◌^◌, ◌≤◌, ◌==◌, min, max, Bool}
-use Rattle.std.proofs.Common.{arith}
 use Rattle.interval.specs.declared.range.Range.{Range}
+use Rattle.interval.specs.inside.Ordered.{at_most_max, at_most_itself, at_least_zero, hull_ordered}
 
 -- x is one of the numbers of r
 pub record IsMember (x : ℕ) (r : Range) : Type 0 where
   pub from : r.lo ≤ x
   pub to : x ≤ r.hi
-
-pub at_most_max : (lo hi : ℕ) → lo ≤ max lo hi
-at_most_max lo hi = omega arith
-
-pub at_most_itself : (v : ℕ) → v ≤ v
-at_most_itself v = omega arith
-
-pub at_least_zero : (v : ℕ) → 0 ≤ v
-at_least_zero v = omega arith
-
-pub hull_ordered : (a b : Range) → min a.lo b.lo ≤ max a.hi b.hi
-hull_ordered a b = omega (arith, a.ordered, b.ordered)
 
 -- the numbers from lo to hi, or lo alone where hi is below it
 abbrev pub span : ℕ → ℕ → Range
@@ -35,6 +23,6 @@ is_constant r = r.lo == r.hi
 abbrev pub full : ℕ → Range
 full n = record { lo = 0; hi = 2 ^ n - 1; ordered = at_least_zero (2 ^ n - 1) }
 
--- the least range that holds the numbers of both
+-- from the lesser low end to the greater high end
 abbrev pub hull : Range → Range → Range
 hull a b = record { lo = min a.lo b.lo; hi = max a.hi b.hi; ordered = hull_ordered a b }

@@ -4,7 +4,7 @@ use Rattle.std.specs.Int.{w64, leading_zeros}
 use Rattle.interval.specs.declared.range.Range.{Range}
 use Rattle.interval.specs.declared.operator.Operator.{Operator}
 use Rattle.interval.specs.declared.operator.Operator.TheVariants.{Add, Sub, Mul, Div, SignedDiv, Or, And, ShiftLeft, ShiftRight, Mod, SignedMod, Xor, Mov, SignedShiftRight, Neg, SignExtend, End}
-use Rattle.interval.specs.Operate.{combined, kept_bits, narrow_bits}
+use Rattle.interval.specs.Operate.{bits_read, combined, kept_bits, narrow_bits}
 use Rattle.interval.specs.Ranges.{span, constant, is_constant, full}
 
 -- ---- one row for each operator, on operands below 2 ^ n
@@ -101,7 +101,5 @@ cut n r = if nat_lt r.hi (2 ^ n) then r else (if is_constant r then constant (r.
 abbrev pub seen : ℕ → Range → Range
 seen n r = if nat_lt n 64 then cut n r else r
 
--- A change of byte order sees the whole word, on 32 bits too
 abbrev pub range_of : ℕ → Operator → Range → Range → Range
-range_of n (End how kept) a b = result_range n (End how kept) a b
-range_of n op a b = result_range n op (seen n a) (seen n b)
+range_of n op a b = result_range n op (seen (bits_read n op) a) (seen (bits_read n op) b)

@@ -1,6 +1,6 @@
 //! Laws of the definitions, for proofs that stand on them. Each is the contract of a function that does nothing.
 
-ghost use Rattle.interval.specs.Laws.{ResultsAreMembers, ResultsAreWords, EdgesKeepMembers, EdgesAreWords, HullHoldsBoth, HullCommutes, HullAssociates};
+ghost use Rattle.interval.specs.Laws.{ResultsAreMembers, ResultsAreWords, EdgesKeepMembers, EdgesAreWords, HullHoldsBoth, HullIsLeast, HullCommutes, HullAssociates};
 
 /// The result of two members is a member of the range that the table gives.
 pub fn results_are_members()
@@ -26,9 +26,10 @@ pub fn edges_are_words()
     ensures narrow { EdgesAreWords 32 }
 {}
 
-/// The hull holds the members of both ranges, in whatever order they come.
+/// The hull is the least range that holds the members of both ranges, in whatever order they come.
 pub fn hull_is_a_join()
     ensures holds_both { HullHoldsBoth }
+    ensures least { HullIsLeast }
     ensures commutes { HullCommutes }
     ensures associates { HullAssociates }
 {}

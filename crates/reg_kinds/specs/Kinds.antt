@@ -1,5 +1,5 @@
 -- Kinds of values, and facts as tables of them.
-use Rattle.std.specs.Prelude.{ℕ, pos, ◌==◌, if◌then◌else◌, Bool, true, false, List, map, slice_index_or, slice_set}
+use Rattle.std.specs.Prelude.{ℕ, ◌/◌, pos, ◌==◌, if◌then◌else◌, Bool, true, false, List, map, slice_index_or, slice_set}
 use Rattle.std.specs.List.{range_with_len}
 use Rattle.reg_kinds.specs.declared.kind.Kind.{Kind}
 use Rattle.reg_kinds.specs.declared.kind.Kind.TheVariants.{Unreadable, Scalar, Stack, Ctx}
@@ -27,6 +27,13 @@ with_kind f r k = record { registers = slice_set f.registers r k; slots = f.slot
 abbrev pub with_slot : Facts → ℕ → Slot → Facts
 with_slot f i s = record { registers = f.registers; slots = slice_set f.slots i s }
 
+-- the stack: its bytes (MAX_BPF_STACK of linux/filter.h), and its slots of eight
+abbrev pub stack_size : ℕ
+stack_size = 512
+
+abbrev pub stack_slots : ℕ
+stack_slots = stack_size / 8
+
 -- the list of f's values at the first n numbers
 unfoldable pub tabulate : {X : Type 0} → ℕ → (ℕ → X) → List X
 tabulate n f = map f (range_with_len 0 n)
@@ -36,10 +43,10 @@ abbrev pub with_registers : Facts → (ℕ → Kind) → Facts
 with_registers f k = record { registers = tabulate 11 k; slots = f.slots }
 
 abbrev pub with_slots : Facts → (ℕ → Slot) → Facts
-with_slots f s = record { registers = f.registers; slots = tabulate 64 s }
+with_slots f s = record { registers = f.registers; slots = tabulate stack_slots s }
 
 abbrev pub facts_of : (ℕ → Kind) → (ℕ → Slot) → Facts
-facts_of k s = record { registers = tabulate 11 k; slots = tabulate 64 s }
+facts_of k s = record { registers = tabulate 11 k; slots = tabulate stack_slots s }
 
 -- at the start of a program: the context in register 1, the frame pointer in register 10, nothing written
 abbrev pub entry_kind : ℕ → Kind

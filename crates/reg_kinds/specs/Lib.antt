@@ -6,3 +6,4 @@ pub mod Pointers
 pub mod Reason
 pub mod Settle
 pub mod Stack
+pub mod inside

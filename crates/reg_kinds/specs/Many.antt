@@ -8,7 +8,7 @@ use Rattle.reg_kinds.specs.declared.kind.Slot.TheVariants.{Bytes, Spill}
 use Rattle.reg_kinds.specs.declared.facts.Facts.{Facts}
 use Rattle.reg_kinds.specs.declared.reason.Reason.{Reason}
 use Rattle.reg_kinds.specs.declared.reason.Reason.TheVariants.{OutsideStack, UnwrittenStack, PartOfSpill}
-use Rattle.reg_kinds.specs.Kinds.{kind_at, slot_at, with_registers, with_slots}
+use Rattle.reg_kinds.specs.Kinds.{kind_at, slot_at, stack_slots, with_registers, with_slots}
 use Rattle.reg_kinds.specs.Stack.{is_in_stack, place, bytes_over}
 
 -- n bytes from place p on touch slot i
@@ -36,8 +36,8 @@ lacks (Spill k) bits = false
 abbrev pub stack_input : Facts → ℤ → ℕ → Result (Unit {0}) Reason
 stack_input f x n =
     if not (is_in_stack x n) then Err OutsideStack else
-    (if any_below 64 (λ i. is_touched_spill (slot_at f i) (touches (place x) n i)) then Err PartOfSpill else
-    (if any_below 64 (λ i. lacks (slot_at f i) (bits_in (place x) n i)) then Err UnwrittenStack else Ok tt))
+    (if any_below stack_slots (λ i. is_touched_spill (slot_at f i) (touches (place x) n i)) then Err PartOfSpill else
+    (if any_below stack_slots (λ i. lacks (slot_at f i) (bits_in (place x) n i)) then Err UnwrittenStack else Ok tt))
 
 -- lo to hi bytes are written: lo of them are there then, and of a spilled value that may be touched nothing else is left
 abbrev pub filled : Facts → ℤ → ℕ → ℕ → Facts

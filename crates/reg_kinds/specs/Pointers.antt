@@ -1,15 +1,8 @@
 -- Pointers into values of a map.
-use Rattle.std.specs.Prelude.{ℕ, ℤ, ◌≤ℤ◌}
+use Rattle.std.specs.Prelude.{ℕ, ℤ}
 use Rattle.std.specs.Int.{int_min, int_max}
-use Rattle.std.proofs.Common.{arith}
-use Rattle.std.proofs.lemmas.Int.{ints, clamps}
 use Rattle.reg_kinds.specs.declared.kind.ValuePointer.{ValuePointer}
-
-pub at_most_max : (lo hi : ℤ) → lo ≤ℤ int_max lo hi
-at_most_max lo hi = omega (arith, ints, clamps)
-
-pub offsets_ordered : (p q : ValuePointer) → int_min p.lo q.lo ≤ℤ int_max p.hi q.hi
-offsets_ordered p q = omega (arith, ints, clamps, p.ordered, q.ordered)
+use Rattle.reg_kinds.specs.inside.Offsets.{at_most_max, offsets_ordered}
 
 -- at an offset from lo to hi, or at lo alone where hi is below it
 abbrev pub value_span : ℕ → ℤ → ℤ → ValuePointer

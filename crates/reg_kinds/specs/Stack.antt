@@ -11,7 +11,7 @@ use Rattle.reg_kinds.specs.declared.stack.Size.TheVariants.{Byte, Half, Word, Do
 use Rattle.reg_kinds.specs.declared.reason.Reason.{Reason}
 use Rattle.reg_kinds.specs.declared.reason.Reason.TheVariants.{UnreadableRegister, OutsideStack, UnalignedStack, UnwrittenStack, PartOfSpill}
 use Rattle.reg_kinds.specs.Reason.{given}
-use Rattle.reg_kinds.specs.Kinds.{is_pointer, slot_at, with_slot}
+use Rattle.reg_kinds.specs.Kinds.{is_pointer, slot_at, stack_size, with_slot}
 
 abbrev pub bytes_of : Size → ℕ
 bytes_of Byte = 1
@@ -25,11 +25,11 @@ is_whole _ = false
 
 -- so many bytes from this offset on lie in the stack
 abbrev pub is_in_stack : ℤ → ℕ → Bool
-is_in_stack offset n = int_le (negsuc 511) offset && int_le (offset +ℤ pos n) (pos 0)
+is_in_stack offset n = int_le (negsuc (stack_size - 1)) offset && int_le (offset +ℤ pos n) (pos 0)
 
 -- how far an offset in the stack is above the lowest byte
 abbrev pub place : ℤ → ℕ
-place offset = unsigned_abs (offset +ℤ pos 512)
+place offset = unsigned_abs (offset +ℤ pos stack_size)
 
 -- the stack has a multiple of each size, so an offset is one where its place is
 abbrev pub is_aligned : ℤ → ℕ → Bool

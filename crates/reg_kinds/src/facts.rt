@@ -5,8 +5,11 @@ use crate::kind::{Kind, Slot};
 /// How many registers there are: 0 to 10.
 pub const REGISTERS: usize = 11;
 
+/// How many bytes the stack has (MAX_BPF_STACK of linux/filter.h).
+pub const STACK_SIZE: usize = 512;
+
 /// How many slots of eight bytes the stack has.
-pub const STACK_SLOTS: usize = 64;
+pub const STACK_SLOTS: usize = STACK_SIZE / 8;
 
 /// What is known of each register, and of each slot of the stack. Slot i is the eight bytes at 8 * i above the stack's
 /// lowest.
@@ -36,7 +39,7 @@ impl Facts {
 
     /// The kind of a register.
     pub fn kind(&self, register: usize) -> Kind
-        requires { register < 11 }
+        requires { register < REGISTERS }
         ensures { result ≡ kind_at self.now register }
     {
         self.registers[register]
@@ -44,7 +47,7 @@ impl Facts {
 
     /// Sets the kind of the register of a number.
     pub fn set_kind(&mut self, number: usize, kind: Kind)
-        requires { number < 11 }
+        requires { number < REGISTERS }
         ensures { self.new ≡ with_kind self.old number kind }
     {
         self.registers[number] = kind;
@@ -52,7 +55,7 @@ impl Facts {
 
     /// What is known of a stack slot.
     pub fn slot(&self, index: usize) -> Slot
-        requires { index < 64 }
+        requires { index < STACK_SLOTS }
         ensures { result ≡ slot_at self.now index }
     {
         self.slots[index]
@@ -60,7 +63,7 @@ impl Facts {
 
     /// Sets what is known of a stack slot.
     pub fn set_slot(&mut self, number: usize, slot: Slot)
-        requires { number < 64 }
+        requires { number < STACK_SLOTS }
         ensures { self.new ≡ with_slot self.old number slot }
     {
         self.slots[number] = slot;

@@ -49,7 +49,7 @@ pub enum Kind {
         /// The descriptor of the map.
         map: u32,
         /// The slot of the look-up: all that carry it are one value.
-        site: u16,
+        site: usize,
     },
 }
 

@@ -11,7 +11,7 @@ mod null_tests;
 mod reason;
 mod stack;
 
-pub use facts::{Facts, REGISTERS, STACK_SLOTS};
+pub use facts::{Facts, REGISTERS, STACK_SIZE, STACK_SLOTS};
 pub use joins::{join, join_into};
 pub use kind::{Kind, Slot, ValuePointer};
 pub use laws::{joins_associate, joins_commute};

@@ -1,7 +1,7 @@
 //! Ranges of bytes of the stack that reach over many slots, and what is known after a call.
 
 ghost use Rattle.std.specs.Prelude.{◌≡◌, ◌+◌, ◌-◌, ◌*◌, ◌^◌, ◌<◌, ◌≤◌, ◌==◌, nat_le, if◌then◌else◌, IfSome, MatchResult, Ok, Err, Some, None};
-ghost use Rattle.reg_kinds.specs.Kinds.{slot_at, with_slots};
+ghost use Rattle.reg_kinds.specs.Kinds.{slot_at, stack_size, stack_slots, with_slots};
 ghost use Rattle.reg_kinds.specs.Stack.{is_in_stack, place, bytes_over};
 ghost use Rattle.reg_kinds.specs.Many.{touches, bits_in, any_below, is_touched_spill, lacks, stack_input, stack_filled, called_facts};
 ghost use Rattle.reg_kinds.specs.declared.kind.Kind.TheVariants.{Unreadable};
@@ -9,12 +9,12 @@ ghost use Rattle.reg_kinds.specs.declared.kind.Kind.TheVariants.{Unreadable};
 use crate::facts::{Facts, REGISTERS, STACK_SLOTS};
 use crate::kind::{Kind, Slot};
 use crate::reason::Reason;
-use crate::stack::bytes_over;
+use crate::stack::{LOWEST, bytes_over};
 
 /// Whether so many bytes from a place on touch a slot.
 fn touches(place: usize, count: usize, index: usize) -> bool
-    requires within { place + count ≤ 512 }
-    requires slot { index < 64 }
+    requires within { place + count ≤ stack_size }
+    requires slot { index < stack_slots }
     ensures { result ≡ touches place count index }
 {
     place < 8 * index + 8 && 8 * index < place + count
@@ -30,8 +30,9 @@ fn ones(count: usize, from: usize) -> u8
 
 /// The bits of those that lie in a slot.
 fn bits_in(place: usize, count: usize, index: usize) -> u8
-    requires within { place + count ≤ 512 }
-    requires slot { index < 64 }
+    requires place { place ≤ stack_size }
+    requires count { count < 2 ^ 32 }
+    requires slot { index < stack_slots }
     ensures { result ≡ bits_in place count index }
 {
     let from = place.saturating_sub(8 * index);
@@ -42,12 +43,12 @@ fn bits_in(place: usize, count: usize, index: usize) -> u8
 /// Where bytes of the stack begin, if all of them lie in it.
 fn place_of(offset: i32, count: u32) -> Option<usize>
     ensures value { result ≡ (if is_in_stack offset count then Some (place offset) else None) }
-    ensures within { IfSome result (λ p. p + count ≤ 512) }
+    ensures within { IfSome result (λ p. p + count ≤ stack_size) }
 {
-    if offset < -512 || i64::from(offset) + i64::from(count) > 0 {
+    if offset < LOWEST || i64::from(offset) + i64::from(count) > 0 {
         None
     } else {
-        Some((offset + 512) as usize)
+        Some((offset - LOWEST) as usize)
     }
 }
 
@@ -73,8 +74,8 @@ fn lacks(slot: Slot, bits: u8) -> bool
 
 /// Whether bytes touch a spilled value.
 fn touch_a_spill(facts: &Facts, place: usize, count: usize) -> bool
-    requires { place + count ≤ 512 }
-    ensures { result ≡ any_below 64 (λ i. is_touched_spill (slot_at facts.now i) (touches place count i)) }
+    requires { place + count ≤ stack_size }
+    ensures { result ≡ any_below stack_slots (λ i. is_touched_spill (slot_at facts.now i) (touches place count i)) }
 {
     for index in 0..STACK_SLOTS {
         if is_touched_spill(facts.slot(index), touches(place, count, index)) {
@@ -86,8 +87,8 @@ fn touch_a_spill(facts: &Facts, place: usize, count: usize) -> bool
 
 /// Whether one of some bytes may never have been written.
 fn are_missing(facts: &Facts, place: usize, count: usize) -> bool
-    requires { place + count ≤ 512 }
-    ensures { result ≡ any_below 64 (λ i. lacks (slot_at facts.now i) (bits_in place count i)) }
+    requires { place + count ≤ stack_size }
+    ensures { result ≡ any_below stack_slots (λ i. lacks (slot_at facts.now i) (bits_in place count i)) }
 {
     for index in 0..STACK_SLOTS {
         if lacks(facts.slot(index), bits_in(place, count, index)) {
@@ -117,8 +118,8 @@ pub fn read_many(facts: &Facts, offset: i32, count: u32) -> Result<(), Reason>
 
 /// Writes from `least` to `most` bytes into the stack: `least` of them are there then, and of a spilled value that may be
 /// touched nothing else is left. Refused where `most` bytes are not all in the stack, and then nothing changes.
+/// Where `least` is above `most` there is no such number of bytes, and what is told then speaks of no run.
 pub fn fill_stack(facts: &mut Facts, offset: i32, least: u32, most: u32) -> Result<(), Reason>
-    requires { least ≤ most }
     ensures { MatchResult (stack_filled facts.old offset least most) (λ after. (result ≡ Ok tt) × (facts.new ≡ after)) (λ reason. (result ≡ Err reason) × (facts.new ≡ facts.old)) }
 {
     let place = place_of(offset, most).ok_or(Reason::OutsideStack)?;
@@ -128,9 +129,9 @@ pub fn fill_stack(facts: &mut Facts, offset: i32, least: u32, most: u32) -> Resu
 
 /// What a slot becomes.
 fn filled_slot(slot: Slot, place: usize, least: usize, most: usize, index: usize) -> Slot
-    requires some { least ≤ most }
-    requires within { place + most ≤ 512 }
-    requires slot { index < 64 }
+    requires least { least < 2 ^ 32 }
+    requires within { place + most ≤ stack_size }
+    requires slot { index < stack_slots }
     ensures { result ≡ (if touches place most index then bytes_over slot (bits_in place least index) else slot) }
 {
     if touches(place, most, index) {
@@ -141,8 +142,8 @@ fn filled_slot(slot: Slot, place: usize, least: usize, most: usize, index: usize
 }
 
 fn fill_slots(facts: &mut Facts, place: usize, least: usize, most: usize)
-    requires some { least ≤ most }
-    requires within { place + most ≤ 512 }
+    requires least { least < 2 ^ 32 }
+    requires within { place + most ≤ stack_size }
     ensures { facts.new ≡ with_slots facts.old (λ i. if touches place most i then bytes_over (slot_at facts.old i) (bits_in place least i) else slot_at facts.old i) }
 {
     for i in 0..STACK_SLOTS {

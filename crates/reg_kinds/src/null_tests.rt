@@ -10,14 +10,14 @@ use interval::Range;
 
 /// Settles each copy of what a look-up gave, in registers and in the stack: where it is null, copies are the number 0, and
 /// eight written bytes; else they are pointers to the start of a value. `site` is the slot of the look-up.
-pub fn settle(facts: &mut Facts, site: u16, null: bool)
+pub fn settle(facts: &mut Facts, site: usize, null: bool)
     ensures { facts.new ≡ facts_settled site null facts.old }
 {
     settle_registers(facts, site, null);
     settle_stack(facts, site, null);
 }
 
-fn settle_registers(facts: &mut Facts, site: u16, null: bool)
+fn settle_registers(facts: &mut Facts, site: usize, null: bool)
     ensures { facts.new ≡ with_registers facts.old (λ r. kind_settled site null (kind_at facts.old r)) }
 {
     for r in 0..REGISTERS {
@@ -25,7 +25,7 @@ fn settle_registers(facts: &mut Facts, site: u16, null: bool)
     }
 }
 
-fn settle_stack(facts: &mut Facts, site: u16, null: bool)
+fn settle_stack(facts: &mut Facts, site: usize, null: bool)
     ensures { facts.new ≡ with_slots facts.old (λ i. slot_settled site null (slot_at facts.old i)) }
 {
     for i in 0..STACK_SLOTS {
@@ -34,7 +34,7 @@ fn settle_stack(facts: &mut Facts, site: u16, null: bool)
 }
 
 /// What a register's kind becomes.
-fn settled_kind(kind: Kind, site: u16, null: bool) -> Kind
+fn settled_kind(kind: Kind, site: usize, null: bool) -> Kind
     ensures { result ≡ kind_settled site null kind }
 {
     match kind {
@@ -50,7 +50,7 @@ fn settled_kind(kind: Kind, site: u16, null: bool) -> Kind
 }
 
 /// What becomes of eight bytes of the stack.
-fn settled_slot(slot: Slot, site: u16, null: bool) -> Slot
+fn settled_slot(slot: Slot, site: usize, null: bool) -> Slot
     ensures { result ≡ slot_settled site null slot }
 {
     match slot {

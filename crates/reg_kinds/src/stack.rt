@@ -2,12 +2,16 @@
 
 ghost use Rattle.std.specs.Prelude.{◌≡◌, ◌<◌, ◌*◌, ◌%◌, MatchResult, IfOk};
 ghost use Rattle.interval.specs.Ranges.{full};
+ghost use Rattle.reg_kinds.specs.Kinds.{stack_slots};
 ghost use Rattle.reg_kinds.specs.Stack.{bytes_of, is_whole, byte_bits, touched, loaded, read_slot, stack_read, bytes_over, slot_written, stack_write};
 
-use crate::facts::Facts;
+use crate::facts::{Facts, STACK_SIZE};
 use crate::kind::{Kind, Slot};
 use crate::reason::Reason;
 use interval::Range;
+
+/// The offset of the stack's lowest byte.
+pub(crate) const LOWEST: i32 = -(STACK_SIZE as i32);
 
 /// How many bytes a load or a store moves.
 #[derive(Clone, Copy, Debug, PartialEq, Eq)]
@@ -85,13 +89,13 @@ pub fn write_stack(facts: &mut Facts, offset: i32, size: Size, value: Kind) -> R
 /// The slot that an access touches, and the bits of its bytes.
 fn touched(offset: i32, size: Size) -> Result<(usize, u8), Reason>
     ensures value { result ≡ touched offset size }
-    ensures bound { IfOk result (λ t. t.0 < 64) }
+    ensures bound { IfOk result (λ t. t.0 < stack_slots) }
 {
     let bytes = i32::from(size.bytes());
-    if offset < -512 || offset > -bytes {
+    if offset < LOWEST || offset > -bytes {
         return Err(Reason::OutsideStack);
     }
-    let place = (offset + 512) as usize;
+    let place = (offset - LOWEST) as usize;
     if place % usize::from(size.bytes()) != 0 {
         return Err(Reason::UnalignedStack);
     }

@@ -19,7 +19,7 @@ use Rattle.tagged_model.specs.Cells.{Cell, holds, byte_at}
 use Rattle.tagged_model.specs.declared.shape.MapKind.TheVariants.{Array}
 use Rattle.tagged_model.specs.declared.shape.MapShape.{MapShape}
 use Rattle.tagged_model.specs.Table.{indexed}
-use Rattle.tagged_model.specs.State.{State, RunMap, set_at}
+use Rattle.tagged_model.specs.State.{State, RunMap, context_words, set_at}
 
 -- what is told beside the facts: of each site what the look-up there gave, so that all that carry it are one value; and of
 -- each map how many objects it has had, or fewer
@@ -96,14 +96,14 @@ pub record AdmitsBy (witness : Witness) (f : Facts) (s : State) : Type 0 where
 abbrev pub Admits : Facts → State → Type 0
 Admits f s = (witness : Witness) × AdmitsBy witness f s
 
--- bytes are bytes, and the context has eleven words of 32 bits; each step keeps this
+-- bytes are bytes, and the context has its words of 32 bits; each step keeps this
 abbrev pub AreBytes : List ℕ → Type 0
 AreBytes bs = All (λ b. b < 256) bs
 
 pub record IsProper (s : State) : Type 0 where
   pub bytes : (i j b : ℕ) → byte_at (s.cells i) j ≡ Some b → b < 256
   pub words : All (λ w. w < 2 ^ 32) s.words
-  pub count : length s.words ≡ 11
+  pub count : length s.words ≡ context_words
   pub values : (m : ℕ) (t : RunMap) → s.maps m ≡ Some t → (number : ℕ) → AreBytes (t.values number)
   pub packet : AreBytes s.packet
 

@@ -5,13 +5,26 @@ use Rattle.tagged_model.specs.declared.shape.MapKind.TheVariants.{Hash, Array}
 use Rattle.tagged_model.specs.declared.shape.ShapeFault.{ShapeFault}
 use Rattle.tagged_model.specs.declared.shape.ShapeFault.TheVariants.{Invalid, TooBig}
 
+-- the bytes of the longest key and of the longest value, the most entries, and the bytes of the largest area
+abbrev pub longest_key : ℕ
+longest_key = 64
+
+abbrev pub longest_value : ℕ
+longest_value = 4096
+
+abbrev pub most_entries : ℕ
+most_entries = 4096
+
+abbrev pub largest_area : ℕ
+largest_area = 65536
+
 abbrev pub is_from_to : ℕ → ℕ → ℕ → Bool
 is_from_to low high n = nat_le low n && nat_le n high
 
 -- a key of an array is a word of four bytes
 abbrev pub has_key : MapKind → ℕ → Bool
 has_key Array key = key == 4
-has_key Hash key = is_from_to 1 64 key
+has_key Hash key = is_from_to 1 longest_key key
 
 -- the bytes that the values take, each rounded up to a multiple of eight
 abbrev pub area : ℕ → ℕ → ℕ
@@ -19,10 +32,10 @@ area value max = max * ((value + 7) / 8 * 8)
 
 -- each field is in its limits
 abbrev pub is_valid : MapKind → ℕ → ℕ → ℕ → ℕ → Bool
-is_valid kind key value max flags = has_key kind key && is_from_to 1 4096 value && is_from_to 1 4096 max && (flags == 0)
+is_valid kind key value max flags = has_key kind key && is_from_to 1 longest_value value && is_from_to 1 most_entries max && (flags == 0)
 
 abbrev pub fits : ℕ → ℕ → Bool
-fits value max = nat_le (area value max) 65536
+fits value max = nat_le (area value max) largest_area
 
 abbrev pub is_shape : MapKind → ℕ → ℕ → ℕ → Bool
 is_shape kind key value max = is_valid kind key value max 0 && fits value max

@@ -21,5 +21,8 @@ pub use laws::{
 };
 pub use named::{shape_of, target_of};
 pub use operators::{access_size, byte_order, comparison, kept_bits, narrow, operator};
-pub use shape::{MapKind, MapShape, Named, ShapeFault, Target};
-pub use value::{Object, Outcome, Tagged};
+pub use shape::{
+    LARGEST_AREA, LONGEST_KEY, LONGEST_VALUE, MOST_ENTRIES, MapKind, MapShape, Named, ShapeFault,
+    Target,
+};
+pub use value::{CONTEXT_WORDS, Object, Outcome, Tagged};

@@ -1,7 +1,19 @@
 //! The shapes of maps, and what a descriptor names.
 
 ghost use Rattle.std.specs.Prelude.{◌≡◌, ◌≤◌, IsTrue, IfOk, OnOk, IfErr, Some, None};
-ghost use Rattle.tagged_model.specs.Shape.{area, is_shape, shape_fault};
+ghost use Rattle.tagged_model.specs.Shape.{area, is_shape, largest_area, shape_fault};
+
+/// The bytes of the longest key of a hash map, a limit of this project.
+pub const LONGEST_KEY: u32 = 64;
+
+/// The bytes of the longest value, a limit of this project.
+pub const LONGEST_VALUE: u32 = 4096;
+
+/// The most entries that a map may have, a limit of this project.
+pub const MOST_ENTRIES: u32 = 4096;
+
+/// The bytes of the largest area, which the values of one map take. A limit of this project.
+pub const LARGEST_AREA: u32 = 65_536;
 
 /// How a map finds its values.
 #[derive(Clone, Copy, Debug, PartialEq, Eq)]
@@ -17,19 +29,19 @@ pub enum MapKind {
 pub enum ShapeFault {
     /// A field is out of its limits.
     Invalid,
-    /// The values take more than 65,536 bytes.
+    /// The values take more than `LARGEST_AREA` bytes.
     TooBig,
 }
 
-/// The shape of a map: its fields are within their limits, and its values take at most 65,536 bytes.
+/// The shape of a map: its fields are within their limits, and its values take at most `LARGEST_AREA` bytes.
 #[derive(Clone, Copy, Debug, PartialEq, Eq)]
 pub struct MapShape {
     pub kind: MapKind,
-    /// In bytes: 4 of an array, and 1 to 64 of a hash map.
+    /// In bytes: 4 of an array, and 1 to `LONGEST_KEY` of a hash map.
     pub key_size: u32,
-    /// In bytes, 1 to 4,096.
+    /// In bytes, 1 to `LONGEST_VALUE`.
     pub value_size: u32,
-    /// 1 to 4,096.
+    /// 1 to `MOST_ENTRIES`.
     pub max_entries: u32,
     pub ghost listed: { IsTrue (is_shape kind key_size value_size max_entries) },
 }
@@ -54,7 +66,7 @@ impl MapShape {
     /// # Errors
     ///
     /// `Invalid` where a field is out of its limits or a flag is set, and else `TooBig` where the values, each rounded up
-    /// to a multiple of eight bytes, take more than 65,536 bytes.
+    /// to a multiple of eight bytes, take more than `LARGEST_AREA` bytes.
     pub fn new(
         kind: MapKind,
         key_size: u32,
@@ -67,17 +79,17 @@ impl MapShape {
         ensures fault { IfErr result (λ e. shape_fault kind key_size value_size max_entries flags ≡ Some e) }
     {
         let has_key = match kind {
-            MapKind::Hash => key_size >= 1 && key_size <= 64,
+            MapKind::Hash => key_size >= 1 && key_size <= LONGEST_KEY,
             MapKind::Array => key_size == 4,
         };
         let in_limits = value_size >= 1
-            && value_size <= 4096
+            && value_size <= LONGEST_VALUE
             && max_entries >= 1
-            && max_entries <= 4096;
+            && max_entries <= MOST_ENTRIES;
         if !has_key || !in_limits || flags != 0 {
             return Err(ShapeFault::Invalid);
         }
-        if max_entries * value_size.next_multiple_of(8) > 65_536 {
+        if max_entries * value_size.next_multiple_of(8) > LARGEST_AREA {
             return Err(ShapeFault::TooBig);
         }
         Ok(MapShape {
@@ -88,10 +100,10 @@ impl MapShape {
         })
     }
 
-    /// The bytes that the values take, each rounded up to a multiple of eight: at most 65,536.
+    /// The bytes that the values take, each rounded up to a multiple of eight: at most `LARGEST_AREA`.
     pub fn area(&self) -> u32
         ensures value { result ≡ area self.now.value_size self.now.max_entries }
-        ensures bound { result ≤ 65536 }
+        ensures bound { result ≤ largest_area }
     {
         self.max_entries * self.value_size.next_multiple_of(8)
     }

@@ -1,9 +1,12 @@
 //! Values that know what they are, and how a run on them ends.
 
+/// How many words the context of a run has, the first ones of `__sk_buff` (linux/bpf.h).
+pub const CONTEXT_WORDS: usize = 11;
+
 /// What a pointer points into.
 #[derive(Clone, Copy, Debug, PartialEq, Eq)]
 pub enum Object {
-    /// The 512 bytes of the stack. Offsets count from its upper end.
+    /// The bytes of the stack. Offsets count from its upper end.
     Stack,
     /// The context of the run.
     Context,

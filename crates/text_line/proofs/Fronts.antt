@@ -12,7 +12,8 @@ use Rattle.std.proofs.lemmas.Slice.Eq.{bytes_eq-Decides}
 use Rattle.std.proofs.lemmas.Str.Parse.{IsNumeralModel, numerals_by_value, tells_all_ascii_digits}
 use Rattle.std.proofs.lemmas.Fmt.{decimal_nonempty, digits_decimal, digits_value-decimal}
 use Rattle.std.proofs.Math.Seq.{take-append_seam, drop-append_seam}
-use Rattle.text_line.specs.Token.{name, number, symbol, symbols, symbol_at, name_at, number_at, token_at, value_of, is_name_start, is_name_byte, is_hex_digit, is_hexadecimal}
+use Rattle.text_line.specs.Token.{name, number, symbol, symbols, value_of, is_name_start, is_name_byte, is_hex_digit}
+use Rattle.text_line.specs.inside.Tokens.{symbol_at, name_at, number_at, token_at, is_hexadecimal}
 
 -- ---- bytes
 
@@ -28,7 +29,7 @@ start_in_name b h = grind (arith, nat_tests)
 digit_in_name : (b : ℕ) → is_ascii_digit b ≡ true → is_name_byte b ≡ true
 digit_in_name b h = grind (arith, nat_tests)
 
-digit_no_start : (b : ℕ) → is_ascii_digit b ≡ true → is_name_start b ≡ false
+pub digit_no_start : (b : ℕ) → is_ascii_digit b ≡ true → is_name_start b ≡ false
 digit_no_start b h = grind (arith, nat_tests)
 
 pub name_graphic : (b : ℕ) → is_name_byte b ≡ true → is_ascii_graphic b ≡ true
@@ -74,7 +75,7 @@ none_found p q [] f each = refl
 none_found p q (x ∷ xs) f each = rw (f x each.0) (none_found p q xs f each.1)
 
 -- the symbol's first byte stands in no name, or its second does not
-abbrev begins_no_name : List ℕ → Bool
+abbrev pub begins_no_name : List ℕ → Bool
 begins_no_name [] = false
 begins_no_name (x ∷ []) = not (is_name_byte x)
 begins_no_name (x ∷ y ∷ z) = not (is_name_byte x) || not (is_name_byte y)
@@ -88,14 +89,14 @@ no_name_begins a b t (x ∷ y ∷ z) p q h =
       | inr second ↦ rw (differ_back y b is_name_byte (not-true (is_name_byte y) second) q) (and_right (eqb x a) false refl)
     ]
 
-symbols_no_name : AllByRecursion (λ (z : List ℕ). begins_no_name z ≡ true) symbols
+pub symbols_no_name : AllByRecursion (λ (z : List ℕ). begins_no_name z ≡ true) symbols
 symbols_no_name = search rules
 
 name_no_symbol : (a b : ℕ) (t : List ℕ) → is_name_byte a ≡ true → is_name_byte b ≡ true → symbol_at (a ∷ b ∷ t) ≡ None
 unfolding symbol_at
 name_no_symbol a b t p q = none_found (λ z. starts_with nat_eq (a ∷ b ∷ t) z) begins_no_name symbols (λ z h. no_name_begins a b t z p q h) symbols_no_name
 
-abbrev begins_no_digit : List ℕ → Bool
+abbrev pub begins_no_digit : List ℕ → Bool
 begins_no_digit [] = false
 begins_no_digit (x ∷ z) = not (is_ascii_digit x)
 
@@ -103,7 +104,7 @@ no_digit_begins : (a : ℕ) (t z : List ℕ) → is_ascii_digit a ≡ true → b
 no_digit_begins a t [] p h = absurd (false≢true h)
 no_digit_begins a t (x ∷ z) p h = rw (differ_back x a is_ascii_digit (not-true (is_ascii_digit x) h) p) refl
 
-symbols_no_digit : AllByRecursion (λ (z : List ℕ). begins_no_digit z ≡ true) symbols
+pub symbols_no_digit : AllByRecursion (λ (z : List ℕ). begins_no_digit z ≡ true) symbols
 symbols_no_digit = search rules
 
 digit_no_symbol : (a : ℕ) (t : List ℕ) → is_ascii_digit a ≡ true → symbol_at (a ∷ t) ≡ None
@@ -138,7 +139,7 @@ begins_no_other (a ∷ y) (b ∷ z) s h stop =
       | inr later ↦ and_right (eqb b a) (starts_with nat_eq (y ++ s) z) (begins_no_other y z s later stop)
     ]
 
-begins_itself : (y s : List ℕ) → starts_with nat_eq (y ++ s) y ≡ true
+pub begins_itself : (y s : List ℕ) → starts_with nat_eq (y ++ s) y ≡ true
 begins_itself y s = (bytes_eq-Decides y (take (length y) (y ++ s))).1 (sym (take-append_seam y s))
 
 -- it is one of these, and a text that begins with it begins with none of those before it
@@ -173,16 +174,16 @@ symbol_front y s h stop = token_of_symbol (y ++ s) y s (symbol_first y s h stop)
 -- ---- names
 
 -- a name of two bytes or more, so that no symbol begins it
-abbrev pub is_name : List ℕ → Bool
-is_name [] = false
-is_name (a ∷ []) = false
-is_name (a ∷ b ∷ n) = is_name_start a && passes is_name_byte (b ∷ n)
+abbrev pub is_long_name : List ℕ → Bool
+is_long_name [] = false
+is_long_name (a ∷ []) = false
+is_long_name (a ∷ b ∷ n) = is_name_start a && passes is_name_byte (b ∷ n)
 
 token_of_name : (text n rest : List ℕ) → symbol_at text ≡ None → is_name_start (get_or text 0 0) ≡ true → take (prefix_len is_name_byte text) text ≡ n → drop (prefix_len is_name_byte text) text ≡ rest → token_at text ≡ Some (name n, rest)
 unfolding token_at name_at
 token_of_name text n rest none start taken after = rw (none, start, taken, after) refl
 
-pub name_front : (n s : List ℕ) → is_name n ≡ true → is_name_byte (get_or s 0 0) ≡ false → token_at (n ++ s) ≡ Some (name n, s)
+pub name_front : (n s : List ℕ) → is_long_name n ≡ true → is_name_byte (get_or s 0 0) ≡ false → token_at (n ++ s) ≡ Some (name n, s)
 name_front [] s h stop = absurd (false≢true h)
 name_front (a ∷ []) s h stop = absurd (false≢true h)
 name_front (a ∷ b ∷ n) s h stop =

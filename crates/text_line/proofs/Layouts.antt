@@ -8,10 +8,12 @@ use Rattle.std.proofs.lemmas.Bool.Decides.{nat_tests}
 use Rattle.std.proofs.lemmas.Fmt.{decimal_nonempty}
 use Rattle.std.proofs.lemmas.Str.Ascii.{IsAscii-nil, IsAscii-cons}
 use Rattle.text_line.specs.Blanks.{is_blank, skip_blanks}
-use Rattle.text_line.specs.Token.{Token, name, number, symbol, symbols, token_at, is_name_start, is_name_byte, HasTokens}
+use Rattle.text_line.specs.Token.{Token, name, number, symbol, symbols, is_name_start, is_name_byte, HasTokens}
+use Rattle.text_line.specs.inside.Tokens.{token_at}
 use Rattle.text_line.specs.Form.{Layout, tokens_of}
 use Rattle.text_line.specs.Written.{lexeme, laid_out}
-use Rattle.text_line.proofs.Fronts.{passes, passes-append, passes_more, is_name, is_picked, prolongs, start_in_name, start_prolongs_none, digit_prolongs_none, name_graphic, digit_graphic, decimal_digits, name_front, number_front, symbol_front}
+use Rattle.text_line.proofs.Fronts.{passes, passes-append, passes_more, is_long_name, is_picked, prolongs, start_in_name, start_prolongs_none, digit_prolongs_none, name_graphic, digit_graphic, decimal_digits, name_front, number_front, symbol_front}
+use Rattle.text_line.proofs.Longest.{taken}
 
 -- ---- layouts whose tokens stay apart
 
@@ -37,7 +39,7 @@ ends_sign (Some (symbol y) ∷ rest) = not (prolongs (get_or y 0 0))
 abbrev pub IsApart : Layout → Type 0
 IsApart [] = Unit {0}
 IsApart (None ∷ rest) = IsApart rest
-IsApart (Some (name n) ∷ rest) = (is_name n ≡ true) × (ends_word rest ≡ true) × IsApart rest
+IsApart (Some (name n) ∷ rest) = (is_long_name n ≡ true) × (ends_word rest ≡ true) × IsApart rest
 IsApart (Some (number None) ∷ rest) = ⊥
 IsApart (Some (number (Some n)) ∷ rest) = (n < 2 ^ 64) × (ends_word rest ≡ true) × IsApart rest
 IsApart (Some (symbol y) ∷ rest) = (is_sign y ≡ true) × (ends_sign rest ≡ true) × IsApart rest
@@ -57,12 +59,12 @@ digits_first (d ∷ ds) some p = (and_parts (is_ascii_digit d) (passes is_ascii_
 decimal_first : (n : ℕ) → n < 2 ^ 64 → is_ascii_digit (get_or (decimal n) 0 0) ≡ true
 decimal_first n fits = digits_first (decimal n) (decimal_nonempty n fits) (decimal_digits n fits)
 
-name_first : (n : List ℕ) → is_name n ≡ true → is_name_start (get_or n 0 0) ≡ true
+name_first : (n : List ℕ) → is_long_name n ≡ true → is_name_start (get_or n 0 0) ≡ true
 name_first [] h = absurd (false≢true h)
 name_first (a ∷ []) h = absurd (false≢true h)
 name_first (a ∷ b ∷ n) h = (and_parts (is_name_start a) (passes is_name_byte (b ∷ n)) h).0
 
-name_bytes : (n : List ℕ) → is_name n ≡ true → passes is_name_byte n ≡ true
+name_bytes : (n : List ℕ) → is_long_name n ≡ true → passes is_name_byte n ≡ true
 name_bytes [] h = refl
 name_bytes (a ∷ []) h = absurd (false≢true h)
 name_bytes (a ∷ b ∷ n) h =
@@ -141,7 +143,7 @@ laid_tokens [] h = refl
 laid_tokens (None ∷ rest) h = space_before (laid_out rest) (tokens_of rest) (laid_tokens rest h)
 laid_tokens (Some t ∷ rest) h =
     let skipped : skip_blanks (lexeme t ++ laid_out rest) ≡ lexeme t ++ laid_out rest = none_skipped (lexeme t) (laid_out rest) (seen t rest h).first in
-    (laid_out rest, ap token_at skipped ∙ front t rest h, laid_tokens rest (apart_rest t rest h))
+    (laid_out rest, taken (skip_blanks (laid_out (Some t ∷ rest))) t (laid_out rest) (ap token_at skipped ∙ front t rest h), laid_tokens rest (apart_rest t rest h))
 
 -- ---- bytes
 

@@ -1,8 +1,10 @@
+pub mod Fronts
+pub mod Longest
+pub mod OneToken
 pub mod Tokens
 pub mod Grammar
 pub mod Spelled
 pub mod Read
-pub mod Fronts
 pub mod Layouts
 pub mod Printed
 pub mod Written

@@ -25,7 +25,7 @@ use Rattle.text_line.specs.Line.{code, IsWellFormed}
 use Rattle.text_line.specs.Token.{number}
 use Rattle.text_line.specs.Written.{number_of, source_of, written, printed_insn}
 use Rattle.text_line.specs.Law.{IsPrinted}
-use Rattle.text_line.proofs.Fronts.{is_name}
+use Rattle.text_line.proofs.Fronts.{is_long_name}
 use Rattle.text_line.proofs.Layouts.{IsApart, is_sign, ends_word, ends_sign, laid_tokens, laid_ascii, laid_one_line}
 use Rattle.text_line.proofs.Spelled.{below_eleven}
 
@@ -64,7 +64,7 @@ sign_sign : (negative : Bool) → is_sign (sign_name negative) ≡ true
 sign_sign true = refl
 sign_sign false = refl
 
-order_word : (how : ByteOrder) (b : Bits) → is_name (order_name how b) ≡ true
+order_word : (how : ByteOrder) (b : Bits) → is_long_name (order_name how b) ≡ true
 order_word Little bits.Bits16 = refl
 order_word Little bits.Bits32 = refl
 order_word Little bits.Bits64 = refl
@@ -75,12 +75,12 @@ order_word Swap bits.Bits16 = refl
 order_word Swap bits.Bits32 = refl
 order_word Swap bits.Bits64 = refl
 
-narrow_word : (b : Narrow) → is_name (narrow_name b) ≡ true
+narrow_word : (b : Narrow) → is_long_name (narrow_name b) ≡ true
 narrow_word narrow.Bits8 = refl
 narrow_word narrow.Bits16 = refl
 narrow_word narrow.Bits32 = refl
 
-size_word : (signed : Bool) (s : Size) → is_name (size_name signed s) ≡ true
+size_word : (signed : Bool) (s : Size) → is_long_name (size_name signed s) ≡ true
 size_word false size.Byte = refl
 size_word false size.Half = refl
 size_word false size.Word = refl
@@ -90,9 +90,9 @@ size_word true size.Half = refl
 size_word true size.Word = refl
 size_word true size.Double = refl
 
-register_word : (wide : Bool) (r : ℕ) → r ≤ 10 → is_name (register_name wide r) ≡ true
-register_word true = below_eleven (λ r. is_name (register_name true r) ≡ true) refl refl refl refl refl refl refl refl refl refl refl
-register_word false = below_eleven (λ r. is_name (register_name false r) ≡ true) refl refl refl refl refl refl refl refl refl refl refl
+register_word : (wide : Bool) (r : ℕ) → r ≤ 10 → is_long_name (register_name wide r) ≡ true
+register_word true = below_eleven (λ r. is_long_name (register_name true r) ≡ true) refl refl refl refl refl refl refl refl refl refl refl
+register_word false = below_eleven (λ r. is_long_name (register_name false r) ≡ true) refl refl refl refl refl refl refl refl refl refl refl
 
 -- ---- parts of a line
 

@@ -7,12 +7,14 @@ use Rattle.std.proofs.lemmas.Bool.Decides.{nat_tests}
 use Rattle.std.proofs.lemmas.List.{take-append-drop}
 use Rattle.std.proofs.lemmas.Slice.Eq.{bytes_eq-Decides}
 use Rattle.text_line.specs.Blanks.{skip_blanks}
-use Rattle.text_line.specs.Token.{Token, HasTokens, IsTokens, token_at, symbol_at, name_at, number_at, is_over}
+use Rattle.text_line.specs.Token.{Token, HasTokens, IsTokens, is_over}
+use Rattle.text_line.specs.inside.Tokens.{token_at, symbol_at, name_at, number_at}
 use Rattle.text_line.specs.Line.{Line, spelled, ReadAs}
-use Rattle.text_line.specs.Reading.{line_of}
+use Rattle.text_line.specs.inside.Reading.{line_of}
 use Rattle.text_line.proofs.Grammar.{line_is}
 use Rattle.text_line.proofs.Spelled.{line_read}
-use Rattle.text_line.proofs.Tokens.{same_front, none_front}
+use Rattle.text_line.proofs.Tokens.{none_front}
+use Rattle.text_line.proofs.OneToken.{same_begin, found}
 
 empty_none : token_at [] ≡ None
 unfolding token_at symbol_at name_at number_at
@@ -42,10 +44,10 @@ over_none text e =
 -- a line has one list of tokens
 pub same_tokens : (text : List ℕ) (ts us : List Token) → HasTokens text ts → HasTokens text us → ts ≡ us
 same_tokens text [] [] h k = refl
-same_tokens text [] (u ∷ us) h k = absurd (none_front u k.0 (token_at (skip_blanks text)) k.1 (over_none (skip_blanks text) h))
-same_tokens text (t ∷ ts) [] h k = absurd (none_front t h.0 (token_at (skip_blanks text)) h.1 (over_none (skip_blanks text) k))
+same_tokens text [] (u ∷ us) h k = absurd (none_front u k.0 (token_at (skip_blanks text)) (found (skip_blanks text) u k.0 k.1) (over_none (skip_blanks text) h))
+same_tokens text (t ∷ ts) [] h k = absurd (none_front t h.0 (token_at (skip_blanks text)) (found (skip_blanks text) t h.0 h.1) (over_none (skip_blanks text) k))
 same_tokens text (t ∷ ts) (u ∷ us) h k =
-    let f = same_front t u h.0 k.0 (token_at (skip_blanks text)) h.1 k.1 in
+    let f = same_begin (skip_blanks text) t u h.0 k.0 h.1 k.1 in
     let more = same_tokens h.0 ts us h.2 (subst (λ (r : List ℕ). HasTokens r us) (sym f.1) k.2) in
     ap (λ (x : Token). x ∷ ts) f.0 ∙ ap (λ (l : List Token). u ∷ l) more
 

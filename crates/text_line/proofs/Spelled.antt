@@ -28,7 +28,7 @@ use Rattle.text_line.specs.Token.{Token, name, number, symbol}
 use Rattle.text_line.specs.Names.{operator_name, condition_name, order_name, narrow_name, size_name, register_name, sign_name}
 use Rattle.text_line.specs.Form.{Layout, layout, sign, word, space, tokens_of, minus, to_label, constant, operand, destination, address, IsForm, IsSource, names_label}
 use Rattle.text_line.specs.Line.{Line, blank, label, code, spelled, IsWellFormed, NoLabel}
-use Rattle.text_line.specs.Reading.{named, operators, conditions, orders, narrows, sizes, registers, after_symbol, after_word, register_then, constant_then, signed_then, operand_then, destination_of, address_then, jump_of, load_of, store_of, movsx_of, neg_of, end_of, const_of, map_fd_of, wide_of, moved_of, alu_of, assignment_of, assigned_of, goto_of, gotol_of, call_of, form_of, label_of, line_of}
+use Rattle.text_line.specs.inside.Reading.{named, operators, conditions, orders, narrows, sizes, registers, after_symbol, after_word, register_then, constant_then, signed_then, operand_then, destination_of, address_then, jump_of, load_of, store_of, movsx_of, neg_of, end_of, const_of, map_fd_of, wide_of, moved_of, alu_of, assignment_of, assigned_of, goto_of, gotol_of, call_of, form_of, label_of, line_of}
 
 -- ---- names
 

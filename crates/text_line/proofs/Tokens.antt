@@ -1,23 +1,24 @@
 -- The tokens of a line.
-use Rattle.std.proofs.Common.{◌≡◌, ℕ, ◌+◌, ◌<◌, ◌^◌, Bool, true, false, ltb, cond, List, [], ◌∷◌, ◌++◌, length, take, drop, get_or, Option, Some, None, Result, Ok, Err, refl, sym, ap, ◌∙◌, arith, option_map, rules, subst, append_assoc, inl, inr}
-use Rattle.std.specs.Prelude.{find, nat_eq}
-use Rattle.std.specs.List.{prefix_len, starts_with, AllByRecursion}
+use Rattle.std.proofs.Common.{◌≡◌, ℕ, ◌+◌, ◌<◌, ◌^◌, Bool, true, false, ltb, cond, List, [], ◌∷◌, ◌++◌, length, take, drop, get_or, Option, Some, None, Result, Ok, Err, refl, sym, ap, ◌∙◌, arith, option_map, subst, append_assoc, inl, inr}
+use Rattle.std.specs.List.{prefix_len}
 use Rattle.std.specs.Option.{option_map_or}
 use Rattle.std.specs.Result.{result_ok, OkIff}
 use Rattle.std.specs.Str.Parse.{digits_value, AllDigits, IsNumeral, ParsesUnsigned, without_leading_plus}
 use Rattle.std.specs.Char.{digit_value, is_ascii_digit}
 use Rattle.std.proofs.lemmas.Bool.{false≢true, lt-ltb, le-ltb, cases_lt}
 use Rattle.std.proofs.lemmas.Bool.Decides.{nat_tests}
-use Rattle.std.proofs.lemmas.Slice.Eq.{bytes_eq-Decides}
 use Rattle.std.proofs.lemmas.Str.Parse.{without_leading_plus_none}
 use Rattle.text_line.specs.declared.token.ByteClass.{ByteClass}
 use Rattle.text_line.specs.declared.token.ByteClass.TheVariants.{Blank, Name, Digit, HexDigit}
 use Rattle.std.proofs.lemmas.List.{map-append}
 use Rattle.text_line.specs.declared.token.Token.{Token as CodeToken}
 use Rattle.text_line.specs.Shown.{shown, shown_tokens}
-use Rattle.text_line.specs.Class.{in_class, IsDigits}
+use Rattle.text_line.specs.inside.Class.{in_class, IsDigits}
 use Rattle.text_line.specs.Blanks.{is_blank, skip_blanks}
-use Rattle.text_line.specs.Token.{Token, symbol, symbols, symbol_at, value_of, is_hex_digit, HasTokens, token_at, is_over}
+use Rattle.text_line.specs.Token.{Token, symbol, value_of, is_hex_digit, HasTokens, is_over}
+use Rattle.text_line.specs.inside.Tokens.{symbol_at, token_at}
+use Rattle.text_line.proofs.Longest.{symbol_is, taken}
+use Rattle.text_line.proofs.OneToken.{found}
 
 -- skipping blanks is leaving out the run of them
 pub skip_blanks-run : (bs : List ℕ) → drop (prefix_len is_blank bs) bs ≡ skip_blanks bs
@@ -30,24 +31,6 @@ skip_blanks-run (b ∷ bs) =
     ]
 
 -- ---- symbols
-
-found_step : {A : Type 0} (Q : A → Type 0) (p : A → Bool) (x : A) (rest : Option A) (s : A) (b : Bool) → p x ≡ b → Q x → (rest ≡ Some s → Q s × (p s ≡ true)) → cond b (Some x) rest ≡ Some s → Q s × (p s ≡ true)
-found_step Q p x rest s true here q more e = let same : x ≡ s = cc in (subst Q same q, ap p (sym same) ∙ here)
-found_step Q p x rest s false here q more e = more e
-
--- what is found passes the test, and has what each element has
-pub found_is : {A : Type 0} (Q : A → Type 0) (p : A → Bool) (xs : List A) (s : A) → AllByRecursion Q xs → find p xs ≡ Some s → Q s × (p s ≡ true)
-found_is Q p [] s each e = absurd (let no : Some s ≡ None = sym e in cc no)
-found_is Q p (x ∷ xs) s each e = found_step Q p x (find p xs) s (p x) refl each.0 (found_is Q p xs s each.1) e
-
-symbols_some : AllByRecursion (λ (s : List ℕ). 0 < length s) symbols
-symbols_some = search rules
-
-symbol_is : (text s : List ℕ) → symbol_at text ≡ Some s → (0 < length s) × (take (length s) text ≡ s)
-unfolding symbol_at
-symbol_is text s e =
-    let f = found_is (λ (s : List ℕ). 0 < length s) (λ s. starts_with nat_eq text s) symbols s symbols_some e in
-    (f.0, sym ((bytes_eq-Decides s (take (length s) text)).0 f.1))
 
 none_of_zero : (o : Option (List ℕ)) → ((s : List ℕ) → o ≡ Some s → 0 < length s) → option_map_or length o 0 ≡ 0 → o ≡ None
 none_of_zero None some e = refl
@@ -144,15 +127,15 @@ none_front t r o e f = cc
 
 -- the tokens begin with the one at the front
 pub first_is : (text : List ℕ) (t : Token) (rest : List ℕ) (ts : List Token) → is_over (skip_blanks text) ≡ false → token_at (skip_blanks text) ≡ Some (t, rest) → HasTokens text ts → (us : List Token) × (ts ≡ t ∷ us) × HasTokens rest us
-first_is text t rest [] some found h = absurd (false≢true (sym some ∙ h))
-first_is text t rest (u ∷ us) some found h =
-    let same = same_front u t h.0 rest (token_at (skip_blanks text)) h.1 found in
+first_is text t rest [] some at_front h = absurd (false≢true (sym some ∙ h))
+first_is text t rest (u ∷ us) some at_front h =
+    let same = same_front u t h.0 rest (token_at (skip_blanks text)) (found (skip_blanks text) u h.0 h.1) at_front in
     (us, ap (λ (x : Token). x ∷ us) same.0, subst (λ (r : List ℕ). HasTokens r us) same.1 h.2)
 
 -- where there is no token, and more than a comment, there are no tokens
 pub no_tokens : (text : List ℕ) (ts : List Token) → is_over (skip_blanks text) ≡ false → token_at (skip_blanks text) ≡ None → HasTokens text ts → ⊥
 no_tokens text [] some none h = false≢true (sym some ∙ h)
-no_tokens text (t ∷ ts) some none h = none_front t h.0 (token_at (skip_blanks text)) h.1 none
+no_tokens text (t ∷ ts) some none h = none_front t h.0 (token_at (skip_blanks text)) (found (skip_blanks text) t h.0 h.1) none
 
 -- one more token
 abbrev pub Whole : List ℕ → List ℕ → List Token → Type 0
@@ -162,14 +145,14 @@ abbrev pub Only : List ℕ → List ℕ → List Token → Type 0
 Only line rest before = (ts : List Token) → HasTokens line ts → (us : List Token) × (ts ≡ before ++ us) × HasTokens rest us
 
 pub whole_more : (line rest text after : List ℕ) (t : Token) (before new : List Token) → text ≡ skip_blanks rest → Some (t, after) ≡ token_at text → new ≡ before ++ t ∷ [] → Whole line rest before → Whole line after new
-whole_more line rest text after t before new skipped found more whole = λ ts h.
-    let here : HasTokens line (before ++ t ∷ ts) = whole (t ∷ ts) (after, sym (ap token_at skipped) ∙ sym found, h) in
+whole_more line rest text after t before new skipped at_front more whole = λ ts h.
+    let here : HasTokens line (before ++ t ∷ ts) = whole (t ∷ ts) (after, taken (skip_blanks rest) t after (sym (ap token_at skipped) ∙ sym at_front), h) in
     subst (λ (us : List Token). HasTokens line us) (sym (append_assoc before (t ∷ []) ts) ∙ ap (λ (us : List Token). us ++ ts) (sym more)) here
 
 pub only_more : (line rest text after : List ℕ) (t : Token) (before new : List Token) → text ≡ skip_blanks rest → is_over text ≡ false → Some (t, after) ≡ token_at text → new ≡ before ++ t ∷ [] → Only line rest before → Only line after new
-only_more line rest text after t before new skipped some found more only = λ ts h.
+only_more line rest text after t before new skipped some at_front more only = λ ts h.
     let u = only ts h in
-    let f = first_is rest t after u.0 (sym (ap is_over skipped) ∙ some) (sym (ap token_at skipped) ∙ sym found) u.2 in
+    let f = first_is rest t after u.0 (sym (ap is_over skipped) ∙ some) (sym (ap token_at skipped) ∙ sym at_front) u.2 in
     (f.0, u.1 ∙ ap (λ (us : List Token). before ++ us) f.1 ∙ sym (append_assoc before (t ∷ []) f.0) ∙ ap (λ (us : List Token). us ++ f.0) (sym more), f.2)
 
 pub shown_more : (ts new : List CodeToken) (t : CodeToken) → new ≡ ts ++ t ∷ [] → shown_tokens new ≡ shown_tokens ts ++ shown t ∷ []

@@ -1,11 +1,10 @@
 pub mod Blanks
 pub mod Token
-pub mod Class
 pub mod Names
 pub mod Form
 pub mod Line
 pub mod Shown
-pub mod Reading
 pub mod Written
 pub mod Ranges
 pub mod Law
+pub mod inside

@@ -1,6 +1,6 @@
--- The tokens of a line, each as long as it can be.
-use Rattle.std.specs.Prelude.{◌≡◌, ℕ, ◌^◌, ◌==◌, Bool, ◌&&◌, ◌||◌, List, [], ◌∷◌, length, take, drop, slice_index, codes, nat_eq, nat_lt, Option, Some, None, option_map, if◌then◌else◌, find, IsTrue}
-use Rattle.std.specs.List.{starts_with, prefix_len}
+-- The tokens of a line: the text begins with each in turn, and with none that is longer.
+use Rattle.std.specs.Prelude.{◌≡◌, ℕ, ◌≤◌, ◌^◌, ◌==◌, Bool, ◌&&◌, ◌||◌, ◌⊎◌, List, [], ◌∷◌, ◌++◌, length, slice_index, codes, nat_eq, nat_lt, Option, Some, None, if◌then◌else◌, IsTrue}
+use Rattle.std.specs.List.{starts_with, list_all, Contains}
 use Rattle.std.specs.Char.{is_ascii_alphabetic, is_ascii_digit}
 use Rattle.std.specs.Str.{IsAscii}
 use Rattle.std.specs.Str.Parse.{digits_value}
@@ -12,16 +12,12 @@ pub data Token : Type 0 where
   number : Option ℕ → Token
   symbol : List ℕ → Token
 
--- the symbols, the longer ones first
+-- the symbols
 abbrev pub symbols : List (List ℕ)
 symbols =
     codes "s>>=" ∷ codes "s/=" ∷ codes "s%=" ∷ codes "s>=" ∷ codes "s<=" ∷ codes "<<=" ∷ codes ">>=" ∷ codes "s>" ∷ codes "s<"
     ∷ codes "+=" ∷ codes "-=" ∷ codes "*=" ∷ codes "/=" ∷ codes "|=" ∷ codes "&=" ∷ codes "%=" ∷ codes "^=" ∷ codes "==" ∷ codes ">=" ∷ codes "!=" ∷ codes "<="
     ∷ codes "=" ∷ codes ">" ∷ codes "<" ∷ codes "&" ∷ codes "+" ∷ codes "-" ∷ codes "*" ∷ codes "(" ∷ codes ")" ∷ codes ":" ∷ []
-
--- the longest symbol at the front
-unfoldable pub symbol_at : List ℕ → Option (List ℕ)
-symbol_at text = find (λ s. starts_with nat_eq text s) symbols
 
 abbrev pub is_name_start : ℕ → Bool
 is_name_start b = is_ascii_alphabetic b || b == 95
@@ -32,34 +28,36 @@ is_name_byte b = is_name_start b || is_ascii_digit b
 abbrev pub is_hex_digit : ℕ → Bool
 is_hex_digit b = is_ascii_digit b || (nat_lt 64 b && nat_lt b 71) || (nat_lt 96 b && nat_lt b 103)
 
--- `0x` and a hexadecimal digit
-abbrev pub is_hexadecimal : List ℕ → Bool
-is_hexadecimal text = slice_index text 0 == 48 && slice_index text 1 == 120 && is_hex_digit (slice_index text 2)
-
 -- a number's value
 abbrev pub value_of : ℕ → Option ℕ
 value_of n = if nat_lt n (2 ^ 64) then Some n else None
 
--- the bytes at the front that pass a test
-abbrev pub run : (ℕ → Bool) → List ℕ → List ℕ
-run test text = take (prefix_len test text) text
+-- the bytes of a name, and of a number: decimal digits, or `0x` and hexadecimal ones
+abbrev pub is_name : List ℕ → Bool
+is_name bytes = is_name_start (slice_index bytes 0) && list_all is_name_byte bytes
 
--- A token and the bytes after it. A symbol that begins with a letter is longer than the name that it begins.
-unfoldable pub name_at : List ℕ → Option (Token × List ℕ)
-name_at text = if is_name_start (slice_index text 0) then Some (name (run is_name_byte text), drop (prefix_len is_name_byte text) text) else None
+abbrev pub are_digits : (ℕ → Bool) → List ℕ → Bool
+are_digits is_digit bytes = nat_lt 0 (length bytes) && list_all is_digit bytes
 
-unfoldable pub number_at : List ℕ → Option (Token × List ℕ)
-number_at text =
-    if is_hexadecimal text then (let digits = drop 2 text in Some (number (value_of (digits_value 16 (run is_hex_digit digits))), drop (prefix_len is_hex_digit digits) digits))
-    else (if is_ascii_digit (slice_index text 0) then Some (number (value_of (digits_value 10 (run is_ascii_digit text))), drop (prefix_len is_ascii_digit text) text) else None)
+abbrev pub IsDecimal : List ℕ → Option ℕ → Type 0
+IsDecimal bytes value = IsTrue (are_digits is_ascii_digit bytes) × (value ≡ value_of (digits_value 10 bytes))
 
-abbrev pub or_else : {A : Type 0} → Option A → Option A → Option A
-or_else (Some x) y = Some x
-or_else None y = y
+abbrev pub IsHexadecimal : List ℕ → Option ℕ → Type 0
+IsHexadecimal bytes value =
+    (digits : List ℕ) × (bytes ≡ codes "0x" ++ digits) × IsTrue (are_digits is_hex_digit digits) × (value ≡ value_of (digits_value 16 digits))
 
--- the longest token at the front
-unfoldable pub token_at : List ℕ → Option (Token × List ℕ)
-token_at text = or_else (option_map (λ s. (symbol s, drop (length s) text)) (symbol_at text)) (or_else (name_at text) (number_at text))
+-- the bytes are this token
+abbrev pub IsToken : List ℕ → Token → Type 0
+IsToken bytes (name n) = (bytes ≡ n) × IsTrue (is_name bytes)
+IsToken bytes (number value) = IsDecimal bytes value ⊎ IsHexadecimal bytes value
+IsToken bytes (symbol s) = (bytes ≡ s) × Contains symbols s
+
+-- the text begins with this token, and with none that is longer; the rest comes after it
+pub record BeginsWith (text : List ℕ) (token : Token) (rest : List ℕ) : Type 0 where
+  pub bytes : List ℕ
+  pub parts : text ≡ bytes ++ rest
+  pub is_token : IsToken bytes token
+  pub longest : (other : Token) (front back : List ℕ) → text ≡ front ++ back → IsToken front other → length front ≤ length bytes
 
 -- nothing but a comment
 abbrev pub is_over : List ℕ → Bool
@@ -68,7 +66,7 @@ is_over text = length text == 0 || starts_with nat_eq text (codes "//")
 -- The text from here on has these tokens: after spaces, tabs and carriage returns comes the first of them, and then the others.
 abbrev pub HasTokens : List ℕ → List Token → Type 0
 HasTokens text [] = IsTrue (is_over (skip_blanks text))
-HasTokens text (t ∷ ts) = (rest : List ℕ) × (token_at (skip_blanks text) ≡ Some (t, rest)) × HasTokens rest ts
+HasTokens text (t ∷ ts) = (rest : List ℕ) × BeginsWith (skip_blanks text) t rest × HasTokens rest ts
 
 -- each byte of a line is ASCII, those of its comment too
 abbrev pub IsTokens : List ℕ → List Token → Type 0

@@ -3,7 +3,7 @@
 ghost use Rattle.std.specs.Prelude.{◌≡◌, option_map};
 ghost use Rattle.text_line.specs.Shown.{shown_tokens};
 ghost use Rattle.text_line.specs.Shown.{seen_line};
-ghost use Rattle.text_line.specs.Reading.{jump_of, load_of, store_of, movsx_of, neg_of, end_of, const_of, map_fd_of, wide_of, moved_of, is_move, alu_of, assignment_of, assigned_of, goto_of, gotol_of, call_of, form_of, label_of, line_of, seen_destination};
+ghost use Rattle.text_line.specs.inside.Reading.{jump_of, load_of, store_of, movsx_of, neg_of, end_of, const_of, map_fd_of, wide_of, moved_of, is_move, alu_of, assignment_of, assigned_of, goto_of, gotol_of, call_of, form_of, label_of, line_of, seen_destination};
 
 use crate::form::{Form, Line};
 use crate::names::{byte_order, condition, narrow, operator, register_named};
@@ -15,7 +15,7 @@ use crate::token::Token;
 use insn_codec::{AluOp, Narrow, Reg};
 
 /// A conditional jump, after `if`.
-#[tactic(auto, unfolding(crate::specs::Reading::jump_of))]
+#[tactic(auto, unfolding(crate::specs::inside::Reading::jump_of))]
 fn jump<'a>(tokens: &[Token<'a>]) -> Option<(Form, &'a str)>
     ensures { seen_destination result ≡ jump_of (shown_tokens tokens.now) }
 {
@@ -41,7 +41,7 @@ fn jump<'a>(tokens: &[Token<'a>]) -> Option<(Form, &'a str)>
 }
 
 /// A load, after `=`.
-#[tactic(auto, unfolding(crate::specs::Reading::load_of))]
+#[tactic(auto, unfolding(crate::specs::inside::Reading::load_of))]
 fn load(dst: Reg, tokens: &[Token<'_>]) -> Option<Form>
     ensures { result ≡ load_of dst (shown_tokens tokens.now) }
 {
@@ -61,7 +61,7 @@ fn load(dst: Reg, tokens: &[Token<'_>]) -> Option<Form>
 }
 
 /// A store.
-#[tactic(auto, unfolding(crate::specs::Reading::store_of))]
+#[tactic(auto, unfolding(crate::specs::inside::Reading::store_of))]
 fn store(tokens: &[Token<'_>]) -> Option<Form>
     ensures { result ≡ store_of (shown_tokens tokens.now) }
 {
@@ -84,7 +84,7 @@ fn store(tokens: &[Token<'_>]) -> Option<Form>
 }
 
 /// A move with sign extension, after `(`.
-#[tactic(auto, unfolding(crate::specs::Reading::movsx_of))]
+#[tactic(auto, unfolding(crate::specs::inside::Reading::movsx_of))]
 fn movsx(wide: bool, dst: Reg, tokens: &[Token<'_>]) -> Option<Form>
     ensures { result ≡ movsx_of wide dst (shown_tokens tokens.now) }
 {
@@ -109,7 +109,7 @@ fn movsx(wide: bool, dst: Reg, tokens: &[Token<'_>]) -> Option<Form>
 }
 
 /// A negation, after `-`.
-#[tactic(auto, unfolding(crate::specs::Reading::neg_of))]
+#[tactic(auto, unfolding(crate::specs::inside::Reading::neg_of))]
 fn neg(wide: bool, dst: Reg, tokens: &[Token<'_>]) -> Option<Form>
     ensures { result ≡ neg_of wide dst (shown_tokens tokens.now) }
 {
@@ -127,7 +127,7 @@ fn neg(wide: bool, dst: Reg, tokens: &[Token<'_>]) -> Option<Form>
 }
 
 /// A change of byte order, after `=`.
-#[tactic(auto, unfolding(crate::specs::Reading::end_of))]
+#[tactic(auto, unfolding(crate::specs::inside::Reading::end_of))]
 fn end(dst: Reg, tokens: &[Token<'_>]) -> Option<Form>
     ensures { result ≡ end_of dst (shown_tokens tokens.now) }
 {
@@ -147,7 +147,7 @@ fn end(dst: Reg, tokens: &[Token<'_>]) -> Option<Form>
 }
 
 /// A wide constant, after `=`.
-#[tactic(auto, unfolding(crate::specs::Reading::const_of))]
+#[tactic(auto, unfolding(crate::specs::inside::Reading::const_of))]
 fn constant_load(dst: Reg, tokens: &[Token<'_>]) -> Option<Form>
     ensures { result ≡ const_of dst (shown_tokens tokens.now) }
 {
@@ -161,7 +161,7 @@ fn constant_load(dst: Reg, tokens: &[Token<'_>]) -> Option<Form>
 }
 
 /// A map's descriptor, after `map_fd`.
-#[tactic(auto, unfolding(crate::specs::Reading::map_fd_of))]
+#[tactic(auto, unfolding(crate::specs::inside::Reading::map_fd_of))]
 fn map_fd(dst: Reg, tokens: &[Token<'_>]) -> Option<Form>
     ensures { result ≡ map_fd_of dst (shown_tokens tokens.now) }
 {
@@ -175,7 +175,7 @@ fn map_fd(dst: Reg, tokens: &[Token<'_>]) -> Option<Form>
 }
 
 /// What only a wide register can be given, after `=`.
-#[tactic(auto, unfolding(crate::specs::Reading::wide_of))]
+#[tactic(auto, unfolding(crate::specs::inside::Reading::wide_of))]
 fn wide_move(dst: Reg, tokens: &[Token<'_>]) -> Option<Form>
     ensures { result ≡ wide_of dst (shown_tokens tokens.now) }
 {
@@ -192,7 +192,7 @@ fn wide_move(dst: Reg, tokens: &[Token<'_>]) -> Option<Form>
 }
 
 /// What is no plain operand, after `=`.
-#[tactic(auto, unfolding(crate::specs::Reading::moved_of))]
+#[tactic(auto, unfolding(crate::specs::inside::Reading::moved_of))]
 fn special_move(wide: bool, dst: Reg, tokens: &[Token<'_>]) -> Option<Form>
     ensures { result ≡ moved_of wide dst (shown_tokens tokens.now) }
 {
@@ -206,7 +206,7 @@ fn special_move(wide: bool, dst: Reg, tokens: &[Token<'_>]) -> Option<Form>
 }
 
 /// An operator and one operand.
-#[tactic(auto, unfolding(crate::specs::Reading::alu_of))]
+#[tactic(auto, unfolding(crate::specs::inside::Reading::alu_of))]
 fn alu(wide: bool, op: AluOp, dst: Reg, tokens: &[Token<'_>]) -> Option<Form>
     ensures { result ≡ alu_of wide op dst (shown_tokens tokens.now) }
 {
@@ -227,7 +227,7 @@ fn is_move(op: AluOp) -> bool
 }
 
 /// What follows the register that is written.
-#[tactic(auto, unfolding(crate::specs::Reading::assignment_of))]
+#[tactic(auto, unfolding(crate::specs::inside::Reading::assignment_of))]
 fn assignment(wide: bool, dst: Reg, tokens: &[Token<'_>]) -> Option<Form>
     ensures { result ≡ assignment_of wide dst (shown_tokens tokens.now) }
 {
@@ -243,7 +243,7 @@ fn assignment(wide: bool, dst: Reg, tokens: &[Token<'_>]) -> Option<Form>
     }
 }
 
-#[tactic(auto, unfolding(crate::specs::Reading::assigned_of))]
+#[tactic(auto, unfolding(crate::specs::inside::Reading::assigned_of))]
 fn assigned(tokens: &[Token<'_>]) -> Option<Form>
     ensures { result ≡ assigned_of (shown_tokens tokens.now) }
 {
@@ -253,7 +253,7 @@ fn assigned(tokens: &[Token<'_>]) -> Option<Form>
 }
 
 /// A jump, after `goto`.
-#[tactic(auto, unfolding(crate::specs::Reading::goto_of))]
+#[tactic(auto, unfolding(crate::specs::inside::Reading::goto_of))]
 fn goto<'a>(tokens: &[Token<'a>]) -> Option<(Form, &'a str)>
     ensures { seen_destination result ≡ goto_of (shown_tokens tokens.now) }
 {
@@ -262,7 +262,7 @@ fn goto<'a>(tokens: &[Token<'a>]) -> Option<(Form, &'a str)>
 }
 
 /// A long jump, after `gotol`.
-#[tactic(auto, unfolding(crate::specs::Reading::gotol_of))]
+#[tactic(auto, unfolding(crate::specs::inside::Reading::gotol_of))]
 fn gotol<'a>(tokens: &[Token<'a>]) -> Option<(Form, &'a str)>
     ensures { seen_destination result ≡ gotol_of (shown_tokens tokens.now) }
 {
@@ -271,7 +271,7 @@ fn gotol<'a>(tokens: &[Token<'a>]) -> Option<(Form, &'a str)>
 }
 
 /// A call, after `call`.
-#[tactic(auto, unfolding(crate::specs::Reading::call_of))]
+#[tactic(auto, unfolding(crate::specs::inside::Reading::call_of))]
 fn call(tokens: &[Token<'_>]) -> Option<Form>
     ensures { result ≡ call_of (shown_tokens tokens.now) }
 {
@@ -284,7 +284,7 @@ fn call(tokens: &[Token<'_>]) -> Option<Form>
 }
 
 /// An instruction, and the label that its jump names.
-#[tactic(auto, unfolding(crate::specs::Reading::form_of))]
+#[tactic(auto, unfolding(crate::specs::inside::Reading::form_of))]
 fn form<'a>(tokens: &[Token<'a>]) -> Option<(Form, &'a str)>
     ensures { seen_destination result ≡ form_of (shown_tokens tokens.now) }
 {
@@ -316,7 +316,7 @@ fn form<'a>(tokens: &[Token<'a>]) -> Option<(Form, &'a str)>
 }
 
 /// The name of the label that the line defines.
-#[tactic(auto, unfolding(crate::specs::Reading::label_of))]
+#[tactic(auto, unfolding(crate::specs::inside::Reading::label_of))]
 fn label<'a>(tokens: &[Token<'a>]) -> Option<&'a str>
     ensures { option_map (λ n. n.now) result ≡ label_of (shown_tokens tokens.now) }
 {
@@ -326,7 +326,7 @@ fn label<'a>(tokens: &[Token<'a>]) -> Option<&'a str>
 }
 
 /// The line of these tokens, if they are one of the forms.
-#[tactic(auto, unfolding(crate::specs::Reading::line_of))]
+#[tactic(auto, unfolding(crate::specs::inside::Reading::line_of))]
 pub(crate) fn line_of<'a>(tokens: &[Token<'a>]) -> Option<Line<'a>>
     ensures { option_map seen_line result ≡ line_of (shown_tokens tokens.now) }
 {

@@ -1,7 +1,7 @@
 //! Names and symbols, as they are read.
 
 ghost use Rattle.std.specs.Prelude.{◌≡◌};
-ghost use Rattle.text_line.specs.Reading.{named, operators, conditions, orders, narrows, sizes, registers};
+ghost use Rattle.text_line.specs.inside.Reading.{named, operators, conditions, orders, narrows, sizes, registers};
 
 use insn_codec::{AluOp, Bits, ByteOrder, Condition, Narrow, Reg, Size};
 

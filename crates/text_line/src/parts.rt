@@ -2,7 +2,7 @@
 
 ghost use Rattle.std.specs.Prelude.{◌≡◌};
 ghost use Rattle.text_line.specs.Shown.{shown_tokens};
-ghost use Rattle.text_line.specs.Reading.{symbol_then, name_then, number_then, after_symbol, after_word, register_then, constant_then, signed_then, operand_then, destination_of, address_then, is_ended, seen, seen_pair, seen_label, seen_destination};
+ghost use Rattle.text_line.specs.inside.Reading.{symbol_then, name_then, number_then, after_symbol, after_word, register_then, constant_then, signed_then, operand_then, destination_of, address_then, is_ended, seen, seen_pair, seen_label, seen_destination};
 
 use crate::form::{Address, Number, Source, Target};
 use crate::names::{register_named, size};
@@ -39,7 +39,7 @@ pub(crate) fn number<'t, 'a>(tokens: &'t [Token<'a>]) -> Option<(Option<u64>, &'
 }
 
 /// The tokens after this symbol.
-#[tactic(auto, unfolding(crate::specs::Reading::after_symbol))]
+#[tactic(auto, unfolding(crate::specs::inside::Reading::after_symbol))]
 pub(crate) fn after_symbol<'t, 'a>(
     tokens: &'t [Token<'a>],
     expected: &str,
@@ -51,7 +51,7 @@ pub(crate) fn after_symbol<'t, 'a>(
 }
 
 /// The tokens after this name.
-#[tactic(auto, unfolding(crate::specs::Reading::after_word))]
+#[tactic(auto, unfolding(crate::specs::inside::Reading::after_word))]
 pub(crate) fn after_word<'t, 'a>(tokens: &'t [Token<'a>], expected: &str) -> Option<&'t [Token<'a>]>
     ensures { seen result ≡ after_word expected.now (shown_tokens tokens.now) }
 {
@@ -62,7 +62,7 @@ pub(crate) fn after_word<'t, 'a>(tokens: &'t [Token<'a>], expected: &str) -> Opt
 // ---- parts of a line
 
 /// A register, 64 bits wide or its low half.
-#[tactic(auto, unfolding(crate::specs::Reading::register_then))]
+#[tactic(auto, unfolding(crate::specs::inside::Reading::register_then))]
 pub(crate) fn register<'t, 'a>(
     wide: bool,
     tokens: &'t [Token<'a>],
@@ -79,7 +79,7 @@ pub(crate) fn register<'t, 'a>(
 }
 
 /// A number, behind a minus where there is one.
-#[tactic(auto, unfolding(crate::specs::Reading::constant_then))]
+#[tactic(auto, unfolding(crate::specs::inside::Reading::constant_then))]
 pub(crate) fn constant<'t, 'a>(tokens: &'t [Token<'a>]) -> Option<(Number, &'t [Token<'a>])>
     ensures { seen_pair result ≡ constant_then (shown_tokens tokens.now) }
 {
@@ -108,7 +108,7 @@ pub(crate) fn constant<'t, 'a>(tokens: &'t [Token<'a>]) -> Option<(Number, &'t [
 }
 
 /// A number behind its sign.
-#[tactic(auto, unfolding(crate::specs::Reading::signed_then))]
+#[tactic(auto, unfolding(crate::specs::inside::Reading::signed_then))]
 pub(crate) fn signed<'t, 'a>(tokens: &'t [Token<'a>]) -> Option<(Number, &'t [Token<'a>])>
     ensures { seen_pair result ≡ signed_then (shown_tokens tokens.now) }
 {
@@ -138,7 +138,7 @@ pub(crate) fn signed<'t, 'a>(tokens: &'t [Token<'a>]) -> Option<(Number, &'t [To
 }
 
 /// A register or a constant.
-#[tactic(auto, unfolding(crate::specs::Reading::operand_then))]
+#[tactic(auto, unfolding(crate::specs::inside::Reading::operand_then))]
 pub(crate) fn operand<'t, 'a>(
     wide: bool,
     tokens: &'t [Token<'a>],
@@ -165,7 +165,7 @@ pub(crate) fn ended(tokens: &[Token<'_>]) -> bool
 }
 
 /// Where a jump leads, and the label's name if it names one. Nothing follows it.
-#[tactic(auto, unfolding(crate::specs::Reading::destination_of))]
+#[tactic(auto, unfolding(crate::specs::inside::Reading::destination_of))]
 pub(crate) fn destination<'a>(tokens: &[Token<'a>]) -> Option<(Target, &'a str)>
     ensures { seen_destination result ≡ destination_of (shown_tokens tokens.now) }
 {
@@ -185,7 +185,7 @@ pub(crate) fn destination<'a>(tokens: &[Token<'a>]) -> Option<(Target, &'a str)>
 }
 
 /// A place in memory.
-#[tactic(auto, unfolding(crate::specs::Reading::address_then))]
+#[tactic(auto, unfolding(crate::specs::inside::Reading::address_then))]
 pub(crate) fn address<'t, 'a>(tokens: &'t [Token<'a>]) -> Option<(Address, &'t [Token<'a>])>
     ensures { seen_pair result ≡ address_then (shown_tokens tokens.now) }
 {

@@ -6,9 +6,10 @@ ghost use Rattle.std.specs.Option.{option_map_or};
 ghost use Rattle.std.specs.Str.{IsAscii};
 ghost use Rattle.std.specs.Str.Parse.{digits_value};
 ghost use Rattle.text_line.specs.Blanks.{skip_blanks};
-ghost use Rattle.text_line.specs.Token.{Token as AnyToken, number as Number, symbol as Symbol, symbol_at, name_at, number_at, token_at, value_of, run, is_name_start, is_hex_digit, is_over, IsTokens};
+ghost use Rattle.text_line.specs.Token.{Token as AnyToken, number as Number, symbol as Symbol, value_of, is_name_start, is_hex_digit, is_over, IsTokens};
+ghost use Rattle.text_line.specs.inside.Tokens.{symbol_at, name_at, number_at, token_at, run};
 ghost use Rattle.text_line.specs.Shown.{shown, shown_front, shown_tokens};
-ghost use Rattle.text_line.specs.Class.{in_class, IsDigits};
+ghost use Rattle.text_line.specs.inside.Class.{in_class, IsDigits};
 
 use crate::blanks::is_blank;
 use std::alloc::{AllocError, Global};
@@ -29,7 +30,7 @@ const SYMBOLS: [&str; 31] = [
 ];
 
 /// How many bytes the longest symbol at the front has, or 0.
-#[tactic(auto, unfolding(crate::specs::Token::symbol_at))]
+#[tactic(auto, unfolding(crate::specs::inside::Tokens::symbol_at))]
 fn symbol_len(text: &[u8]) -> usize
     ensures bound { result ≤ length text.now }
     ensures value { result ≡ option_map_or length (symbol_at text.now) 0 }
@@ -60,7 +61,7 @@ enum ByteClass {
 }
 
 impl ByteClass {
-    ghost use Rattle.text_line.specs.Class.{in_class};
+    ghost use Rattle.text_line.specs.inside.Class.{in_class};
 
     fn contains(self, byte: u8) -> bool
         ensures { result ≡ in_class self byte }
@@ -132,7 +133,7 @@ fn symbol(text: &str) -> Option<(Token<'_>, &str)>
 }
 
 /// The name at the front, and the text after it.
-#[tactic(auto, unfolding(crate::specs::Token::name_at))]
+#[tactic(auto, unfolding(crate::specs::inside::Tokens::name_at))]
 fn name(text: &str) -> Option<(Token<'_>, &str)>
     requires { IsAscii text.now }
     ensures value { shown_front result ≡ name_at text.now }
@@ -148,7 +149,7 @@ fn name(text: &str) -> Option<(Token<'_>, &str)>
 }
 
 /// The number at the front, and the text after it.
-#[tactic(auto, unfolding(crate::specs::Token::number_at))]
+#[tactic(auto, unfolding(crate::specs::inside::Tokens::number_at))]
 fn number(text: &str) -> Option<(Token<'_>, &str)>
     requires { IsAscii text.now }
     ensures value { shown_front result ≡ number_at text.now }
@@ -182,7 +183,7 @@ fn value(text: &str, class: ByteClass, radix: u32) -> (Token<'_>, &str)
 }
 
 /// The longest token at the front, and the text after it.
-#[tactic(auto, unfolding(crate::specs::Token::token_at))]
+#[tactic(auto, unfolding(crate::specs::inside::Tokens::token_at))]
 fn first_token(text: &str) -> Option<(Token<'_>, &str)>
     requires { IsAscii text.now }
     ensures value { shown_front result ≡ token_at text.now }

@@ -3,7 +3,7 @@
 use crate::bytes::{decoded, disassembled, known_opcodes, made_of_exits, places};
 use crate::refusal::Refusal;
 use crate::texts::{assembled, printed, read_hex_lines};
-use crate::words::ran;
+use crate::words::{map_named, ran};
 use std::alloc::{AllocError, Global};
 
 /// What a case gives: its first word says what is done with the rest of the line.
@@ -19,6 +19,7 @@ fn outcome(alloc: Global, case: &str) -> Result<String, Refusal> {
         "round" => printed(alloc, rest),
         "hex" => read_hex_lines(alloc, rest),
         "program" => ran(alloc, rest),
+        "map" => map_named(alloc, rest),
         _ => Err(Refusal::UnknownWord),
     }
 }

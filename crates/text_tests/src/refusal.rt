@@ -2,6 +2,7 @@
 
 use bpf_text::TextFault;
 use hex::FromHexError;
+use host::BadShape;
 use insn_codec::CodecFault;
 use std::alloc::{AllocError, AllocFailed};
 use thiserror::Error;
@@ -21,6 +22,9 @@ pub enum Refusal {
     /// What is printed of a program is read as another one.
     #[error("another program")]
     AnotherProgram,
+    /// The word names no map.
+    #[error(transparent)]
+    Shape(#[from] BadShape),
     /// The case is not written as it has to be.
     #[error("wrong notation")]
     Notation,

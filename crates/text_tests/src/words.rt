@@ -2,7 +2,7 @@
 
 use crate::notation::{shown, text_of, written};
 use crate::refusal::Refusal;
-use host::run_words;
+use host::{read_shape, run_words};
 use std::alloc::Global;
 
 /// `program`: the status, the output and the fault line of a run on words, with the text after `<` as its input.
@@ -16,5 +16,12 @@ pub fn ran(alloc: Global, case: &str) -> Result<String, Refusal> {
     let output = shown(alloc, text_of(&output)?)?;
     let faults = shown(alloc, text_of(&faults)?)?;
     let answer = format!(in alloc; "{status} <{output}> <{faults}>")?;
+    Ok(answer)
+}
+
+/// `map`: the map that a word names.
+pub fn map_named(alloc: Global, word: &str) -> Result<String, Refusal> {
+    let map = read_shape(word)?;
+    let answer = format!(in alloc; "{map:?}")?;
     Ok(answer)
 }

@@ -1,6 +1,6 @@
 -- The facts on the edges out of an instruction, from those before it; or why the instruction may not be run. The
 -- conditions are tried in the order in which they stand.
-use Rattle.std.specs.Prelude.{ℕ, ◌%◌, ℤ, pos, negsuc, ◌+ℤ◌, ◌==◌, Bool, true, false, ◌&&◌, nat_lt, if◌then◌else◌, Option, Some, None, Result, Ok, Err}
+use Rattle.std.specs.Prelude.{ℕ, ◌*◌, ◌%◌, ℤ, pos, negsuc, ◌+ℤ◌, ◌==◌, Bool, true, false, ◌&&◌, nat_lt, if◌then◌else◌, Option, Some, None, Result, Ok, Err}
 use Rattle.interval.specs.declared.operator.Operator.TheVariants as on_words
 use Rattle.interval.specs.Ranges.{constant, full}
 use Rattle.interval.specs.Words.{unsigned}
@@ -25,6 +25,7 @@ use Rattle.tagged_model.specs.declared.shape.MapShape.{MapShape}
 use Rattle.tagged_model.specs.Helpers.{helper_of}
 use Rattle.tagged_model.specs.Named.{Shapes}
 use Rattle.tagged_model.specs.Operators.{width, narrow_of, order_of, kept_of, size_of}
+use Rattle.tagged_model.specs.State.{context_words}
 use Rattle.transfer.specs.Arithmetic.{readable, arithmetic_kind, of_scalar}
 use Rattle.transfer.specs.Branches.{Edges, falls, branch_edges}
 use Rattle.transfer.specs.Calls.{room_of, call_facts}
@@ -47,9 +48,9 @@ assigns f dst r = given r (λ k. falls (with_kind f dst k))
 
 -- ---- memory
 
--- the context: eleven words of four bytes, each loaded whole
+-- the context: words of four bytes, each loaded whole
 abbrev pub is_word : ℤ → Bool
-is_word (pos y) = (y % 4 == 0) && nat_lt y 44
+is_word (pos y) = (y % 4 == 0) && nat_lt y (4 * context_words)
 is_word (negsuc y) = false
 
 abbrev pub context_read : ℤ → Size → Bool → Result Kind Reason

@@ -78,7 +78,7 @@ fn compare_numbers(
 }
 
 /// The edges of a test of a look-up for null, which `site` made.
-fn settle_edges(facts: &mut Facts, site: u16, jumps_on_null: bool) -> Flow
+fn settle_edges(facts: &mut Facts, site: usize, jumps_on_null: bool) -> Flow
     ensures { edges_of result facts.new ≡ settled_edges jumps_on_null site facts.old }
 {
     let mut taken = *facts;

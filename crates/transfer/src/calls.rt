@@ -7,7 +7,6 @@ ghost use Rattle.reg_kinds.specs.declared.reason.Reason.TheVariants.{OutsideValu
 ghost use Rattle.transfer.specs.Calls.{map_kind, room_of, input_kind, output_facts, number_kind, length_kind, context_kind, any_number, call_facts};
 
 use crate::arithmetic::readable;
-use insn_codec::MAX_SLOTS;
 use interval::Range;
 use reg_kinds::{Facts, Kind, Reason, ValuePointer, fill_stack, read_many};
 use tagged_model::{Helper, MapShape, Named, shape_of};
@@ -140,7 +139,6 @@ fn any_number() -> Kind
 
 /// A look-up, at a slot.
 fn look_up(facts: &mut Facts, named: &[Named], slot: usize) -> Result<(), Reason>
-    requires { slot < MAX_SLOTS }
     ensures ok { OnOk result (call_facts (shapes_named named.now) slot LookUp facts.old ≡ Ok facts.new) }
     ensures refused { IfErr result (λ reason. call_facts (shapes_named named.now) slot LookUp facts.old ≡ Err reason) }
     ensures stays { OnErr result (facts.new ≡ facts.old) }
@@ -151,7 +149,7 @@ fn look_up(facts: &mut Facts, named: &[Named], slot: usize) -> Result<(), Reason
     input(named, facts, map.shape.key_size, key)?;
     let found = Kind::MaybeValue {
         map: map.descriptor,
-        site: slot as u16,
+        site: slot,
     };
     reg_kinds::call(facts, found);
     Ok(())
@@ -214,7 +212,6 @@ pub(crate) fn call(
     slot: usize,
     helper: Helper,
 ) -> Result<(), Reason>
-    requires { slot < MAX_SLOTS }
     ensures ok { OnOk result (call_facts (shapes_named named.now) slot helper facts.old ≡ Ok facts.new) }
     ensures refused { IfErr result (λ reason. call_facts (shapes_named named.now) slot helper facts.old ≡ Err reason) }
     ensures stays { OnErr result (facts.new ≡ facts.old) }

@@ -16,10 +16,15 @@ ghost use Rattle.transfer.specs.declared.branches.Flow.TheVariants.{Falls};
 use crate::arithmetic::{arithmetic, of_scalar, readable};
 use crate::branches::{Flow, branch};
 use crate::calls::{call, room_of};
-use insn_codec::{AluOp, Insn, Load, MAX_SLOTS, Movsx, Operand, Reg, Size};
+use insn_codec::{AluOp, Insn, Load, Movsx, Operand, Reg, Size};
 use interval::{Operator, Range};
 use reg_kinds::{Facts, Kind, Reason, loaded, read_stack, write_stack};
-use tagged_model::{Named, access_size, byte_order, kept_bits, known_helper, narrow, shape_of};
+use tagged_model::{
+    CONTEXT_WORDS, Named, access_size, byte_order, kept_bits, known_helper, narrow, shape_of,
+};
+
+/// The bytes of the context.
+const CONTEXT_SIZE: i16 = 4 * CONTEXT_WORDS as i16;
 
 /// A constant as a word: of 32 bits it is read modulo 2^32.
 fn constant_word(wide: bool, imm: i32) -> u64
@@ -56,7 +61,7 @@ fn first(op: AluOp, kind: Kind) -> Result<Kind, Reason>
 fn context_read(offset: i16, size: Size, signed: bool) -> Result<Kind, Reason>
     ensures { result ≡ context_read offset (size_of size) signed }
 {
-    if size == Size::Word && !signed && offset >= 0 && offset < 44 && offset % 4 == 0 {
+    if size == Size::Word && !signed && offset >= 0 && offset < CONTEXT_SIZE && offset % 4 == 0 {
         Ok(Kind::Scalar(Range::full(false)))
     } else {
         Err(Reason::ContextAccess)
@@ -191,7 +196,6 @@ fn end(facts: &Facts) -> Result<Flow, Reason>
 /// Why the instruction may not be run, and then the facts stay: the first of its conditions that fails, in the order that
 /// the definition of `effect` has.
 pub fn apply(facts: &mut Facts, named: &[Named], slot: usize, insn: &Insn) -> Result<Flow, Reason>
-    requires { slot < MAX_SLOTS }
     ensures ok { IfOk result (λ flow. effect (shapes_named named.now) slot insn.now facts.old ≡ Ok (edges_of flow facts.new)) }
     ensures refused { IfErr result (λ reason. effect (shapes_named named.now) slot insn.now facts.old ≡ Err reason) }
     ensures stays { OnErr result (facts.new ≡ facts.old) }

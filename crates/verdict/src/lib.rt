@@ -8,6 +8,7 @@ mod edges;
 mod entries;
 mod fault;
 mod judging;
+mod known_answers;
 mod laws;
 mod maps;
 mod pass;

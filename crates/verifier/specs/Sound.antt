@@ -11,7 +11,7 @@ use Rattle.tagged_model.specs.declared.shape.MapShape.{MapShape}
 use Rattle.tagged_model.specs.declared.value.Outcome.TheVariants.{Fault}
 use Rattle.tagged_model.specs.Named.{Shapes}
 use Rattle.tagged_model.specs.Table.{Table, indexed}
-use Rattle.tagged_model.specs.State.{State}
+use Rattle.tagged_model.specs.State.{State, context_words}
 use Rattle.tagged_model.specs.Step.{Step, goes, ends, faults, act, step, Maps, result_with}
 use Rattle.tagged_model.specs.Admits.{Witness, AreBytes}
 use Rattle.tagged_model.specs.Laws.{Describes}
@@ -61,12 +61,12 @@ pub record IsTableOf (shape : MapShape) (t : Table (List ℕ)) : Type 0 where
   pub indices : shape.kind ≡ Array → keys_of t.entries ≡ keys_of (indexed (λ i. i) 0 shape.max_entries)
   pub sized : All (λ value. length value ≡ shape.value_size) (values_of t.entries)
 
--- what a run may be given: a map of each shape, eleven words of 32 bits, and bytes
+-- what a run may be given: a map of each shape, the words of a context, and bytes
 pub record AreGiven (shapes : Shapes) (maps : Maps) (words packet : List ℕ) : Type 0 where
   pub has : (m : ℕ) (shape : MapShape) → shapes m ≡ Some shape → (t : Table (List ℕ)) × (maps m ≡ Some t) × IsTableOf shape t
   pub values : (m : ℕ) (t : Table (List ℕ)) → maps m ≡ Some t → All AreBytes (values_of t.entries)
   pub small : All (λ w. w < 2 ^ 32) words
-  pub count : length words ≡ 11
+  pub count : length words ≡ context_words
   pub bytes : AreBytes packet
 
 -- no run of an accepted program faults, whatever memory is refused

@@ -3,14 +3,14 @@
 use crate::descriptors::{named_map, named_program};
 use crate::error::CaseError;
 use crate::jumps::jumping;
+use crate::lines::lines_of;
 use bpf_text::assemble;
 use std::alloc::Global;
-use tagged_model::Named;
-use verifier::{Verified, verify};
+use verifier::{Named, Verified, verify};
 
-/// The program of a text, where `;` ends a line, once it is accepted.
+/// The program of a text once it is accepted.
 fn accepted(alloc: Global, text: &str, named: &[Named]) -> Result<Verified, CaseError> {
-    let lines = text.replace(alloc, ';', "\n")?;
+    let lines = lines_of(alloc, text)?;
     let program = assemble(alloc, lines.as_str())?;
     Ok(verify(alloc, &program, named)?)
 }

@@ -5,7 +5,7 @@ use std::alloc::AllocError;
 use std::num::ParseIntError;
 use tagged_model::ShapeFault;
 use thiserror::Error;
-use verdict::VerifyFault;
+use verifier::VerifyFault;
 
 /// Why a line has no other answer.
 #[derive(Debug, Drop, Error)]

@@ -2,7 +2,7 @@
 //!
 //! | Line | Answer |
 //! |---|---|
-//! | `verify TEXT` | the verdict on a program's text, where `;` ends a line |
+//! | `verify TEXT` | the verdict on a program's text, where `;` ends a line and `COUNT times LINE` is so many lines |
 //! | `start TEXT` | the verdict on a program that begins so, and then ends with `r0 = 0; exit` |
 //! | `map FD KIND KEY_SIZE VALUE_SIZE MAX_ENTRIES` | from here on this descriptor names a map |
 //! | `program FD` | from here on this descriptor names a program |
@@ -17,6 +17,7 @@ mod answers;
 mod descriptors;
 mod error;
 mod jumps;
+mod lines;
 
 use answers::answer;
 use std::io;

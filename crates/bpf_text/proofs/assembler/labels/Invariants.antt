@@ -1,7 +1,7 @@
 use Rattle.std.proofs.Common.{◌≡◌, ◌*◌, ◌≤◌, take}
 use Rattle.text_line.specs.Shown.{seen_lines}
 use Rattle.bpf_text.specs.Assembly.{slots_on}
-use Rattle.bpf_text.specs.Labels.{FindsLabels}
+use Rattle.bpf_text.specs.inside.Labels.{FindsLabels}
 use Rattle.bpf_text.proofs.assembler.labels.Given as goal
 
 -- the labels of the lines so far

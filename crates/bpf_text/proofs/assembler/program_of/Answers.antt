@@ -6,7 +6,7 @@ use Rattle.text_line.specs.declared.form.Line.{Line as CodeLine}
 use Rattle.text_line.specs.Shown.{seen_lines}
 use Rattle.bpf_text.specs.Assembly.{AreRead}
 use Rattle.bpf_text.specs.Lines.{text_lines}
-use Rattle.bpf_text.specs.Labels.{IsFormed}
+use Rattle.bpf_text.specs.inside.Labels.{IsFormed}
 use Rattle.bpf_text.proofs.Assembling.{all_formed, no_slot_fault}
 use Rattle.bpf_text.proofs.assembler.program_of.Goals as goal
 

@@ -3,6 +3,8 @@ use Rattle.bpf_text.specs.Lines.{text_lines}
 use Rattle.bpf_text.specs.HexText.{hex_bytes, hex_fault_at}
 use Rattle.std.proofs.lemmas.Bool.Decides.{nat_tests}
 use Rattle.bpf_text.proofs.HexLines.{none_at_all}
+use Rattle.bpf_text.proofs.OneFault.{told, faultless}
+use Rattle.bpf_text.specs.Fault.{empty_fault}
 use Rattle.bpf_text.proofs.hexadecimal.from_hex_lines.Goals as goal
 
 pub returns-then-is_empty-clause-fault : goal.returns-then-is_empty-clause-fault
@@ -16,6 +18,9 @@ returns-then-is_empty-clause-fault c =
       slots_is = grind (arith, nat_tests, ap (λ (ls : List (List ℕ)). length (hex_bytes ls)) same, ap (λ (bs : List ℕ). length bs) c.in_ok-bytes.ensures.found);
     }))
 
+pub returns-then-is_empty-clause-faulty : goal.returns-then-is_empty-clause-faulty
+returns-then-is_empty-clause-faulty c = λ fault has. told c.args.text.now empty_fault fault (returns-then-is_empty-clause-fault c) has
+
 pub returns-clause-found : goal.returns-clause-found
 returns-clause-found c =
     let lines : List (List ℕ) = map (λ (line : Bor (List ℕ)). line.now) c.deref.result.now in
@@ -26,3 +31,6 @@ returns-clause-found c =
       bytes_are = c.in_ok-bytes.ensures.found ∙ ap hex_bytes same;
       some = grind (arith, nat_tests);
     }
+
+pub returns-clause-faulty : goal.returns-clause-faulty
+returns-clause-faulty c = λ fault has. faultless c.args.text.now c.in_ok-bytes.bytes.items fault (returns-clause-found c) has

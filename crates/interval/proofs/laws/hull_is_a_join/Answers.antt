@@ -1,5 +1,5 @@
-use Rattle.interval.proofs.HullLemmas.{hull_holds, hull_commutes, hull_associates}
+use Rattle.interval.proofs.HullLemmas.{hull_holds, hull_is_least, hull_commutes, hull_associates}
 use Rattle.interval.proofs.laws.hull_is_a_join.Goals as goal
 
 pub returns : goal.returns
-returns c = record { holds_both = hull_holds; commutes = hull_commutes; associates = hull_associates }
+returns c = record { holds_both = hull_holds; least = hull_is_least; commutes = hull_commutes; associates = hull_associates }

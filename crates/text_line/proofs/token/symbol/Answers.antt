@@ -1,6 +1,7 @@
 use Rattle.std.proofs.Common.{◌≡◌, List, ℕ, drop, arith, ap, sym, Option, option_map, length}
 use Rattle.std.specs.Option.{option_map_or}
-use Rattle.text_line.specs.Token.{symbol, symbol_at}
+use Rattle.text_line.specs.Token.{symbol}
+use Rattle.text_line.specs.inside.Tokens.{symbol_at}
 use Rattle.text_line.proofs.Tokens.{no_symbol, symbol_found}
 use Rattle.text_line.proofs.token.symbol.Goals as goal
 

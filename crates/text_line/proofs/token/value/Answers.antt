@@ -1,6 +1,6 @@
 use Rattle.std.proofs.Common.{◌≡◌, List, ℕ, take, ap, ◌∙◌, Option}
 use Rattle.std.specs.List.{prefix_len}
-use Rattle.text_line.specs.Class.{in_class}
+use Rattle.text_line.specs.inside.Class.{in_class}
 use Rattle.text_line.specs.Token.{number}
 use Rattle.text_line.proofs.Tokens.{value_is}
 use Rattle.text_line.proofs.token.value.Goals as goal

@@ -1,6 +1,6 @@
 use Rattle.std.proofs.Common.{◌≡◌, ◌+◌, ◌-◌, ◌≤◌, length, drop}
 use Rattle.std.specs.List.{prefix_len}
-use Rattle.text_line.specs.Class.{in_class}
+use Rattle.text_line.specs.inside.Class.{in_class}
 use Rattle.text_line.proofs.token.ByteClass.run_len.Given as goal
 
 abbrev pub invariant-loop-len : goal.invariant-loop-len

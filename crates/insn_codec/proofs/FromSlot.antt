@@ -1,0 +1,309 @@
+-- A slot whose fields its form lists is the first slot of an instruction.
+use Rattle.std.proofs.Common.{◌≡◌, ℕ, ◌+◌, ◌*◌, ◌%◌, ◌^◌, ◌<◌, ◌≤◌, Bool, true, false, cond, ◌&&◌, ◌||◌, ltb, leb, eqb, Option, Some, None, refl, sym, ap, ◌∙◌, arith, inl, inr, ◌⊎◌}
+use Rattle.std.specs.Prelude.{IsTrue, FitsSigned, is_some}
+use Rattle.std.specs.Int.{w16, w32, cast_signed}
+use Rattle.std.proofs.Math.Facts.{sfits_to_z}
+use Rattle.std.proofs.lemmas.Bool.{and_parts, or_cases, or_left, or_right, cond_both, eqb-true, eqb-false, leb-true, ltb-true, ltb-false}
+use Rattle.std.proofs.lemmas.Int.{of_z-to_z}
+use Rattle.insn_codec.specs.declared.slot.Slot.{Slot}
+use Rattle.insn_codec.specs.declared.insn.AluOp.TheVariants as op
+use Rattle.insn_codec.specs.declared.insn.Narrow.{Narrow}
+use Rattle.insn_codec.specs.declared.insn.Narrow.TheVariants as narrow
+use Rattle.insn_codec.specs.declared.insn.Insn.TheVariants.{Alu}
+use Rattle.insn_codec.specs.declared.opcode.Source.{Source}
+use Rattle.insn_codec.specs.declared.opcode.Source.TheVariants as source
+use Rattle.insn_codec.specs.declared.opcode.AluCode.{AluCode}
+use Rattle.insn_codec.specs.declared.opcode.AluCode.TheVariants as code
+use Rattle.insn_codec.specs.declared.opcode.LoadKind.{LoadKind}
+use Rattle.insn_codec.specs.declared.opcode.LoadKind.TheVariants as load
+use Rattle.insn_codec.specs.declared.opcode.WideKind.{WideKind}
+use Rattle.insn_codec.specs.declared.opcode.WideKind.TheVariants.{Number, Map}
+use Rattle.insn_codec.specs.declared.form.Form.{Form}
+use Rattle.insn_codec.specs.declared.form.Form.TheVariants as form
+use Rattle.insn_codec.specs.Sizes.{is_short}
+use Rattle.insn_codec.specs.Numbers.{opcode, alu_class, jump_class, alu_number, alu_offset, condition_number, narrow_number, bits_number, end_opcode, memory_opcode, offset_bits, imm_bits}
+use Rattle.insn_codec.specs.inside.Opcodes.{code_number, source_number, load_opcode, opcode_of}
+use Rattle.insn_codec.specs.inside.Form.{listed, one_operand, offset_listed, wide_at}
+use Rattle.insn_codec.specs.Slot.{slot}
+use Rattle.insn_codec.specs.Spelling.{first, source_bit, src_field, imm_field, IsOperandUpTo, IsInsnUpTo}
+use Rattle.insn_codec.proofs.ReadBack.{op_at, operand_at, narrow_at, bits_at, movsx_at, load_insn, wide_insn, insn_at}
+
+slot_same : (s : Slot) (op dst src offset imm : ℕ) → op ≡ s.opcode → dst ≡ s.dst → src ≡ s.src → offset ≡ s.offset → imm ≡ s.imm → slot op dst src offset imm ≡ s
+slot_same s op dst src offset imm a b c d e = rw (a, b, c, d, e) refl
+
+half_fits : (n : ℕ) → n < 2 ^ 16 → FitsSigned w16 (cast_signed w16 n)
+half_fits n h = sfits_to_z {w = w16} record { fits = h }
+
+word_fits : (n : ℕ) → n < 2 ^ 32 → FitsSigned w32 (cast_signed w32 n)
+word_fits n h = sfits_to_z {w = w32} record { fits = h }
+
+-- ---- the second operand
+
+pub source_bit-operand_at : (z : Source) (s : Slot) → source_bit (operand_at z s) ≡ source_number z
+source_bit-operand_at source.Imm s = refl
+source_bit-operand_at source.Reg s = refl
+
+src_field-operand_at : (z : Source) (s : Slot) → one_operand z s ≡ true → src_field (operand_at z s) ≡ s.src
+src_field-operand_at source.Imm s h = sym (eqb-true s.src 0 h)
+src_field-operand_at source.Reg s h = refl
+
+imm_field-operand_at : (z : Source) (s : Slot) → one_operand z s ≡ true → s.imm < 2 ^ 32 → imm_field (operand_at z s) ≡ s.imm
+imm_field-operand_at source.Imm s h fits = of_z-to_z w32 s.imm fits
+imm_field-operand_at source.Reg s h fits = sym (eqb-true s.imm 0 h)
+
+operand_up_to : (top : ℕ) (z : Source) (s : Slot) → s.src ≤ top → s.imm < 2 ^ 32 → IsOperandUpTo top (operand_at z s)
+operand_up_to top source.Imm s src fits = word_fits s.imm fits
+operand_up_to top source.Reg s src fits = src
+
+-- ---- operations
+
+pub alu_number-op_at : (c : AluCode) (offset : ℕ) → alu_number (op_at c offset) ≡ code_number c
+alu_number-op_at code.Add offset = refl
+alu_number-op_at code.Sub offset = refl
+alu_number-op_at code.Mul offset = refl
+alu_number-op_at code.Div offset = cond_both (eqb offset 0) op.Div op.SignedDiv (λ o. alu_number o ≡ 3) (λ e. refl) (λ e. refl)
+alu_number-op_at code.Or offset = refl
+alu_number-op_at code.And offset = refl
+alu_number-op_at code.ShiftLeft offset = refl
+alu_number-op_at code.ShiftRight offset = refl
+alu_number-op_at code.Mod offset = cond_both (eqb offset 0) op.Mod op.SignedMod (λ o. alu_number o ≡ 9) (λ e. refl) (λ e. refl)
+alu_number-op_at code.Xor offset = refl
+alu_number-op_at code.Mov offset = refl
+alu_number-op_at code.SignedShiftRight offset = refl
+
+one_or_none : (offset : ℕ) → offset ≤ 1 → eqb offset 0 ≡ false → 1 ≡ offset
+one_or_none offset few e =
+    let some : offset ≡ 0 → ⊥ = eqb-false offset 0 e in
+    omega arith
+
+-- a move from a register that has an offset is one with sign extension
+mov_offset : (wide : Bool) (offset : ℕ) → offset_listed wide code.Mov source.Reg offset ≡ true → offset < 8 → 0 ≡ offset
+mov_offset wide offset h few =
+    elim (or_cases (eqb offset 0 || eqb offset 8 || eqb offset 16) (wide && eqb offset 32) h) [
+      | inr long ↦ absurd (omega (arith, eqb-true offset 32 (and_parts wide (eqb offset 32) long).1))
+      | inl short ↦
+          elim (or_cases (eqb offset 0 || eqb offset 8) (eqb offset 16) short) [
+            | inr e ↦ absurd (omega (arith, eqb-true offset 16 e))
+            | inl low ↦
+                elim (or_cases (eqb offset 0) (eqb offset 8) low) [
+                  | inr e ↦ absurd (omega (arith, eqb-true offset 8 e))
+                  | inl e ↦ sym (eqb-true offset 0 e)
+                ]
+          ]
+    ]
+
+alu_offset-op_at : (wide : Bool) (c : AluCode) (z : Source) (offset : ℕ) → offset_listed wide c z offset ≡ true → offset < 8 → alu_offset (op_at c offset) ≡ offset
+alu_offset-op_at wide code.Add z offset h few = sym (eqb-true offset 0 h)
+alu_offset-op_at wide code.Sub z offset h few = sym (eqb-true offset 0 h)
+alu_offset-op_at wide code.Mul z offset h few = sym (eqb-true offset 0 h)
+alu_offset-op_at wide code.Div z offset h few =
+    cond_both (eqb offset 0) op.Div op.SignedDiv (λ o. alu_offset o ≡ offset) (λ e. sym (eqb-true offset 0 e)) (λ e. one_or_none offset (leb-true offset 1 h) e)
+alu_offset-op_at wide code.Or z offset h few = sym (eqb-true offset 0 h)
+alu_offset-op_at wide code.And z offset h few = sym (eqb-true offset 0 h)
+alu_offset-op_at wide code.ShiftLeft z offset h few = sym (eqb-true offset 0 h)
+alu_offset-op_at wide code.ShiftRight z offset h few = sym (eqb-true offset 0 h)
+alu_offset-op_at wide code.Mod z offset h few =
+    cond_both (eqb offset 0) op.Mod op.SignedMod (λ o. alu_offset o ≡ offset) (λ e. sym (eqb-true offset 0 e)) (λ e. one_or_none offset (leb-true offset 1 h) e)
+alu_offset-op_at wide code.Xor z offset h few = sym (eqb-true offset 0 h)
+alu_offset-op_at wide code.Mov source.Imm offset h few = sym (eqb-true offset 0 h)
+alu_offset-op_at wide code.Mov source.Reg offset h few = mov_offset wide offset h few
+alu_offset-op_at wide code.SignedShiftRight z offset h few = sym (eqb-true offset 0 h)
+
+-- ---- moves with sign extension
+
+abbrev IsMovsx : Bool → AluCode → Source → ℕ → Type 0
+IsMovsx wide c z offset =
+    (c ≡ code.Mov) × (z ≡ source.Reg) × (narrow_number (narrow_at offset) ≡ offset) × IsTrue (wide || is_short (narrow_at offset))
+
+movsx_offset : (wide : Bool) (offset : ℕ) → offset_listed wide code.Mov source.Reg offset ≡ true → 8 ≤ offset → IsMovsx wide code.Mov source.Reg offset
+movsx_offset wide offset h many =
+    elim (or_cases (eqb offset 0 || eqb offset 8 || eqb offset 16) (wide && eqb offset 32) h) [
+      | inr long ↦
+          let parts = and_parts wide (eqb offset 32) long in
+          let e : offset ≡ 32 = eqb-true offset 32 parts.1 in
+          (refl, refl, rw e refl, or_left wide (is_short (narrow_at offset)) parts.0)
+      | inl short ↦
+          elim (or_cases (eqb offset 0 || eqb offset 8) (eqb offset 16) short) [
+            | inr is ↦
+                let e : offset ≡ 16 = eqb-true offset 16 is in
+                (refl, refl, rw e refl, or_right wide (is_short (narrow_at offset)) (rw e refl))
+            | inl low ↦
+                elim (or_cases (eqb offset 0) (eqb offset 8) low) [
+                  | inr is ↦
+                      let e : offset ≡ 8 = eqb-true offset 8 is in
+                      (refl, refl, rw e refl, or_right wide (is_short (narrow_at offset)) (rw e refl))
+                  | inl e ↦ absurd (omega (arith, eqb-true offset 0 e))
+                ]
+          ]
+    ]
+
+not_many : {A : Type 0} (offset : ℕ) → eqb offset 0 ≡ true → 8 ≤ offset → A
+not_many offset e many = absurd (omega (arith, eqb-true offset 0 e))
+
+not_many_signed : {A : Type 0} (offset : ℕ) → ◌≡◌ {A = Bool} (leb offset 1) true → 8 ≤ offset → A
+not_many_signed offset e many = absurd (omega (arith, leb-true offset 1 e))
+
+is_movsx : (wide : Bool) (c : AluCode) (z : Source) (offset : ℕ) → offset_listed wide c z offset ≡ true → 8 ≤ offset → IsMovsx wide c z offset
+is_movsx wide code.Add z offset h many = not_many offset h many
+is_movsx wide code.Sub z offset h many = not_many offset h many
+is_movsx wide code.Mul z offset h many = not_many offset h many
+is_movsx wide code.Div z offset h many = not_many_signed offset h many
+is_movsx wide code.Or z offset h many = not_many offset h many
+is_movsx wide code.And z offset h many = not_many offset h many
+is_movsx wide code.ShiftLeft z offset h many = not_many offset h many
+is_movsx wide code.ShiftRight z offset h many = not_many offset h many
+is_movsx wide code.Mod z offset h many = not_many_signed offset h many
+is_movsx wide code.Xor z offset h many = not_many offset h many
+is_movsx wide code.Mov source.Imm offset h many = not_many offset h many
+is_movsx wide code.Mov source.Reg offset h many = movsx_offset wide offset h many
+is_movsx wide code.SignedShiftRight z offset h many = not_many offset h many
+
+first-movsx_at : (wide : Bool) (b : Narrow) (dst src : ℕ) → IsTrue (wide || is_short b) → first (movsx_at wide b dst src) ≡ slot (opcode 11 1 (alu_class wide)) dst src (narrow_number b) 0
+first-movsx_at true b dst src h = refl
+first-movsx_at false narrow.Bits8 dst src h = refl
+first-movsx_at false narrow.Bits16 dst src h = refl
+first-movsx_at false narrow.Bits32 dst src h = absurd cc
+
+movsx_up_to : (top : ℕ) (wide : Bool) (b : Narrow) (dst src : ℕ) → dst ≤ top → src ≤ top → IsInsnUpTo top (movsx_at wide b dst src)
+movsx_up_to top true b dst src d s = (d, s)
+movsx_up_to top false narrow.Bits8 dst src d s = (d, s)
+movsx_up_to top false narrow.Bits16 dst src d s = (d, s)
+movsx_up_to top false narrow.Bits32 dst src d s = tt
+
+-- ---- each form
+
+-- the fields of a slot that begins the form
+pub record IsOf (f : Form) (s : Slot) : Type 0 where
+  pub opcode : s.opcode ≡ opcode_of f
+  pub listed : listed f s ≡ true
+  pub offset : s.offset < 2 ^ 16
+  pub imm : s.imm < 2 ^ 32
+
+first-alu : (wide : Bool) (c : AluCode) (z : Source) (s : Slot) → IsOf (form.Alu wide c z) s → s.offset < 8 → first (Alu wide (op_at c s.offset) s.dst (operand_at z s)) ≡ s
+first-alu wide c z s h few =
+    let parts = and_parts (one_operand z s) (offset_listed wide c z s.offset) h.listed in
+    slot_same s (opcode (alu_number (op_at c s.offset)) (source_bit (operand_at z s)) (alu_class wide)) s.dst (src_field (operand_at z s)) (alu_offset (op_at c s.offset)) (imm_field (operand_at z s))
+    (rw (alu_number-op_at c s.offset, source_bit-operand_at z s) (sym h.opcode)) refl (src_field-operand_at z s parts.0) (alu_offset-op_at wide c z s.offset parts.1 few) (imm_field-operand_at z s parts.0 h.imm)
+
+first-movsx : (wide : Bool) (c : AluCode) (z : Source) (s : Slot) → IsOf (form.Alu wide c z) s → 8 ≤ s.offset → first (movsx_at wide (narrow_at s.offset) s.dst s.src) ≡ s
+first-movsx wide c z s h many =
+    let parts = and_parts (one_operand z s) (offset_listed wide c z s.offset) h.listed in
+    let m = is_movsx wide c z s.offset parts.1 many in
+    let code_is : code_number c ≡ 11 = ap code_number m.0 in
+    let source_is : source_number z ≡ 1 = ap source_number m.1 in
+    let imm : s.imm ≡ 0 = eqb-true s.imm 0 (rw m.1 at parts.0) in
+    first-movsx_at wide (narrow_at s.offset) s.dst s.src m.3
+    ∙ slot_same s (opcode 11 1 (alu_class wide)) s.dst s.src (narrow_number (narrow_at s.offset)) 0 (omega (arith, h.opcode, code_is, source_is)) refl refl m.2 (sym imm)
+
+bits_number-bits_at : (imm : ℕ) → (eqb imm 16 || eqb imm 32 || eqb imm 64) ≡ true → bits_number (bits_at imm) ≡ imm
+bits_number-bits_at imm h =
+    elim (or_cases (eqb imm 16 || eqb imm 32) (eqb imm 64) h) [
+      | inr is ↦ let e : imm ≡ 64 = eqb-true imm 64 is in rw e refl
+      | inl low ↦
+          elim (or_cases (eqb imm 16) (eqb imm 32) low) [
+            | inr is ↦ let e : imm ≡ 32 = eqb-true imm 32 is in rw e refl
+            | inl is ↦ let e : imm ≡ 16 = eqb-true imm 16 is in rw e refl
+          ]
+    ]
+
+first-load_insn : (kind : LoadKind) (dst src offset : ℕ) → offset < 2 ^ 16 → first (load_insn kind dst src (cast_signed w16 offset)) ≡ slot (load_opcode kind) dst src offset 0
+first-load_insn load.Word dst src offset h = rw (of_z-to_z w16 offset h) refl
+first-load_insn load.Half dst src offset h = rw (of_z-to_z w16 offset h) refl
+first-load_insn load.Byte dst src offset h = rw (of_z-to_z w16 offset h) refl
+first-load_insn load.Double dst src offset h = rw (of_z-to_z w16 offset h) refl
+first-load_insn load.SignedWord dst src offset h = rw (of_z-to_z w16 offset h) refl
+first-load_insn load.SignedHalf dst src offset h = rw (of_z-to_z w16 offset h) refl
+first-load_insn load.SignedByte dst src offset h = rw (of_z-to_z w16 offset h) refl
+
+load_up_to : (top : ℕ) (kind : LoadKind) (dst src offset : ℕ) → dst ≤ top → src ≤ top → offset < 2 ^ 16 → IsInsnUpTo top (load_insn kind dst src (cast_signed w16 offset))
+load_up_to top load.Word dst src offset d s h = (d, s, half_fits offset h)
+load_up_to top load.Half dst src offset d s h = (d, s, half_fits offset h)
+load_up_to top load.Byte dst src offset d s h = (d, s, half_fits offset h)
+load_up_to top load.Double dst src offset d s h = (d, s, half_fits offset h)
+load_up_to top load.SignedWord dst src offset d s h = (d, s, half_fits offset h)
+load_up_to top load.SignedHalf dst src offset d s h = (d, s, half_fits offset h)
+load_up_to top load.SignedByte dst src offset d s h = (d, s, half_fits offset h)
+
+-- the source field of a wide load
+wide_src : (src : ℕ) → is_some (wide_at src) ≡ true → (src ≡ 0) ⊎ (src ≡ 1)
+wide_src src h =
+    cond_both (eqb src 0) (Some Number) (cond (eqb src 1) (Some Map) None) (λ o. is_some o ≡ true → (src ≡ 0) ⊎ (src ≡ 1)) (λ e some. inl (eqb-true src 0 e))
+    (λ e. cond_both (eqb src 1) (Some Map) None (λ o. is_some o ≡ true → (src ≡ 0) ⊎ (src ≡ 1)) (λ e some. inr (eqb-true src 1 e)) (λ e some. absurd cc)) h
+
+is_zero : (n : ℕ) → eqb n 0 ≡ true → 0 ≡ n
+is_zero n h = sym (eqb-true n 0 h)
+
+first-wide : (s : Slot) → IsOf form.Wide s → first (wide_insn (wide_at s.src) s 0) ≡ s
+first-wide s h =
+    let parts = and_parts (eqb s.offset 0) (is_some (wide_at s.src)) h.listed in
+    elim (wide_src s.src parts.1) [
+      | inl e ↦
+          let kind : wide_at s.src ≡ Some Number = rw e refl in
+          ap (λ k. first (wide_insn k s 0)) kind ∙ slot_same s 0x18 s.dst 0 0 ((s.imm + 2 ^ 32 * 0) % 2 ^ 32) (sym h.opcode) refl (sym e) (is_zero s.offset parts.0) (omega (arith, h.imm))
+      | inr e ↦
+          let kind : wide_at s.src ≡ Some Map = rw e refl in
+          ap (λ k. first (wide_insn k s 0)) kind ∙ slot_same s 0x18 s.dst 1 0 (imm_bits (cast_signed w32 s.imm)) (sym h.opcode) refl (sym e) (is_zero s.offset parts.0) (of_z-to_z w32 s.imm h.imm)
+    ]
+
+wide_up_to : (top : ℕ) (kind : Option WideKind) (s : Slot) → s.dst ≤ top → s.imm < 2 ^ 32 → IsInsnUpTo top (wide_insn kind s 0)
+wide_up_to top None s dst h = tt
+wide_up_to top (Some Number) s dst h = (dst, omega (arith, h))
+wide_up_to top (Some Map) s dst h = (dst, word_fits s.imm h)
+
+-- no register is named
+abbrev no_operands : Slot → Bool
+no_operands s = eqb s.dst 0 && eqb s.src 0
+
+pub first-insn_at : (f : Form) (s : Slot) → IsOf f s → first (insn_at f s 0) ≡ s
+first-insn_at (form.Alu wide c z) s h =
+    cond_both (ltb s.offset 8) (Alu wide (op_at c s.offset) s.dst (operand_at z s)) (movsx_at wide (narrow_at s.offset) s.dst s.src) (λ i. first i ≡ s)
+    (λ e. first-alu wide c z s h (ltb-true s.offset 8 e)) (λ e. first-movsx wide c z s h (ltb-false s.offset 8 e))
+first-insn_at (form.Neg wide) s h =
+    let parts = and_parts (eqb s.src 0 && eqb s.offset 0) (eqb s.imm 0) h.listed in
+    let fields = and_parts (eqb s.src 0) (eqb s.offset 0) parts.0 in
+    slot_same s (opcode 8 0 (alu_class wide)) s.dst 0 0 0 (sym h.opcode) refl (is_zero s.src fields.0) (is_zero s.offset fields.1) (is_zero s.imm parts.1)
+first-insn_at (form.End how) s h =
+    let parts = and_parts (eqb s.src 0 && eqb s.offset 0) (eqb s.imm 16 || eqb s.imm 32 || eqb s.imm 64) h.listed in
+    let fields = and_parts (eqb s.src 0) (eqb s.offset 0) parts.0 in
+    slot_same s (end_opcode how) s.dst 0 0 (bits_number (bits_at s.imm)) (sym h.opcode) refl (is_zero s.src fields.0) (is_zero s.offset fields.1) (bits_number-bits_at s.imm parts.1)
+first-insn_at form.Ja s h =
+    let parts = and_parts (no_operands s) (eqb s.imm 0) h.listed in
+    let fields = and_parts (eqb s.dst 0) (eqb s.src 0) parts.0 in
+    slot_same s (opcode 0 0 5) 0 0 (offset_bits (cast_signed w16 s.offset)) 0 (sym h.opcode) (is_zero s.dst fields.0) (is_zero s.src fields.1) (of_z-to_z w16 s.offset h.offset) (is_zero s.imm parts.1)
+first-insn_at form.Jal s h =
+    let parts = and_parts (no_operands s) (eqb s.offset 0) h.listed in
+    let fields = and_parts (eqb s.dst 0) (eqb s.src 0) parts.0 in
+    slot_same s (opcode 0 0 6) 0 0 0 (imm_bits (cast_signed w32 s.imm)) (sym h.opcode) (is_zero s.dst fields.0) (is_zero s.src fields.1) (is_zero s.offset parts.1) (of_z-to_z w32 s.imm h.imm)
+first-insn_at (form.Jump wide cond z) s h =
+    slot_same s (opcode (condition_number cond) (source_bit (operand_at z s)) (jump_class wide)) s.dst (src_field (operand_at z s)) (offset_bits (cast_signed w16 s.offset)) (imm_field (operand_at z s))
+    (rw (source_bit-operand_at z s) (sym h.opcode)) refl (src_field-operand_at z s h.listed) (of_z-to_z w16 s.offset h.offset) (imm_field-operand_at z s h.listed h.imm)
+first-insn_at form.Call s h =
+    let parts = and_parts (no_operands s) (eqb s.offset 0) h.listed in
+    let fields = and_parts (eqb s.dst 0) (eqb s.src 0) parts.0 in
+    slot_same s (opcode 8 0 5) 0 0 0 (imm_bits (cast_signed w32 s.imm)) (sym h.opcode) (is_zero s.dst fields.0) (is_zero s.src fields.1) (is_zero s.offset parts.1) (of_z-to_z w32 s.imm h.imm)
+first-insn_at form.Exit s h =
+    let parts = and_parts (no_operands s && eqb s.offset 0) (eqb s.imm 0) h.listed in
+    let front = and_parts (no_operands s) (eqb s.offset 0) parts.0 in
+    let fields = and_parts (eqb s.dst 0) (eqb s.src 0) front.0 in
+    slot_same s (opcode 9 0 5) 0 0 0 0 (sym h.opcode) (is_zero s.dst fields.0) (is_zero s.src fields.1) (is_zero s.offset front.1) (is_zero s.imm parts.1)
+first-insn_at (form.Load kind) s h =
+    first-load_insn kind s.dst s.src s.offset h.offset ∙ slot_same s (load_opcode kind) s.dst s.src s.offset 0 (sym h.opcode) refl refl refl (is_zero s.imm h.listed)
+first-insn_at (form.Store size z) s h =
+    slot_same s (memory_opcode 3 size (2 + source_bit (operand_at z s))) s.dst (src_field (operand_at z s)) (offset_bits (cast_signed w16 s.offset)) (imm_field (operand_at z s))
+    (rw (source_bit-operand_at z s) (sym h.opcode)) refl (src_field-operand_at z s h.listed) (of_z-to_z w16 s.offset h.offset) (imm_field-operand_at z s h.listed h.imm)
+first-insn_at form.Wide s h = first-wide s h
+
+pub insn_at_up_to : (top : ℕ) (f : Form) (s : Slot) → IsOf f s → s.dst ≤ top → s.src ≤ top → IsInsnUpTo top (insn_at f s 0)
+insn_at_up_to top (form.Alu wide c z) s h dst src =
+    cond_both (ltb s.offset 8) (Alu wide (op_at c s.offset) s.dst (operand_at z s)) (movsx_at wide (narrow_at s.offset) s.dst s.src) (λ i. IsInsnUpTo top i)
+    (λ e. (dst, operand_up_to top z s src h.imm)) (λ e. movsx_up_to top wide (narrow_at s.offset) s.dst s.src dst src)
+insn_at_up_to top (form.Neg wide) s h dst src = dst
+insn_at_up_to top (form.End how) s h dst src = dst
+insn_at_up_to top form.Ja s h dst src = half_fits s.offset h.offset
+insn_at_up_to top form.Jal s h dst src = word_fits s.imm h.imm
+insn_at_up_to top (form.Jump wide cond z) s h dst src = (dst, operand_up_to top z s src h.imm, half_fits s.offset h.offset)
+insn_at_up_to top form.Call s h dst src = word_fits s.imm h.imm
+insn_at_up_to top form.Exit s h dst src = tt
+insn_at_up_to top (form.Load kind) s h dst src = load_up_to top kind s.dst s.src s.offset dst src h.offset
+insn_at_up_to top (form.Store size z) s h dst src = (dst, operand_up_to top z s src h.imm, half_fits s.offset h.offset)
+insn_at_up_to top form.Wide s h dst src = wide_up_to top (wide_at s.src) s dst h.imm

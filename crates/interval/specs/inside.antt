@@ -1,0 +1,2 @@
+-- What the definitions need to be made. No public contract names it.
+pub mod Ordered

@@ -1,0 +1,16 @@
+-- The ends of the ranges that are defined come in order.
+use Rattle.std.proofs.Common.{ℕ, ◌≤◌, arith}
+use Rattle.std.specs.Prelude.{min, max}
+use Rattle.interval.specs.declared.range.Range.{Range}
+
+pub at_most_max : (lo hi : ℕ) → lo ≤ max lo hi
+at_most_max lo hi = omega arith
+
+pub at_most_itself : (v : ℕ) → v ≤ v
+at_most_itself v = omega arith
+
+pub at_least_zero : (v : ℕ) → 0 ≤ v
+at_least_zero v = omega arith
+
+pub hull_ordered : (a b : Range) → min a.lo b.lo ≤ max a.hi b.hi
+hull_ordered a b = omega (arith, a.ordered, b.ordered)

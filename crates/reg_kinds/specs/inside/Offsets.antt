@@ -1,0 +1,12 @@
+-- The ends of the ranges of offsets that are defined come in order.
+use Rattle.std.specs.Prelude.{ℤ, ◌≤ℤ◌}
+use Rattle.std.specs.Int.{int_min, int_max}
+use Rattle.std.proofs.Common.{arith}
+use Rattle.std.proofs.lemmas.Int.{ints, clamps}
+use Rattle.reg_kinds.specs.declared.kind.ValuePointer.{ValuePointer}
+
+pub at_most_max : (lo hi : ℤ) → lo ≤ℤ int_max lo hi
+at_most_max lo hi = omega (arith, ints, clamps)
+
+pub offsets_ordered : (p q : ValuePointer) → int_min p.lo q.lo ≤ℤ int_max p.hi q.hi
+offsets_ordered p q = omega (arith, ints, clamps, p.ordered, q.ordered)

@@ -192,6 +192,15 @@ impl Maps {
         self.refused
     }
 
+    /// How many hold a map.
+    pub fn holds(&self, map: MapKey) -> u32
+        requires { IsSome (live_at self.now map) }
+        ensures { result ≡ holds_at self.now map }
+    {
+        let entry = &self.slots[map.number];
+        entry.holds
+    }
+
     /// The shape of a map.
     pub fn shape(&self, map: MapKey) -> MapShape
         requires { IsSome (live_at self.now map) }

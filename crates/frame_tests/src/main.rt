@@ -2,6 +2,11 @@
 //!
 //! - `new TENANTS`: a new host, for the lines that follow.
 //! - `frame HEX`: the reply to a frame, which is what follows the length field.
+//! - `create TENANT TYPE KEY VALUE MAX FLAGS`: the reply to MAP_CREATE.
+//! - `lookup TENANT FD HEX`, `delete TENANT FD HEX`, `next TENANT FD HEX`: the reply to MAP_LOOKUP_ELEM,
+//!   MAP_DELETE_ELEM and MAP_GET_NEXT_KEY with this key, which may be left out.
+//! - `update TENANT FD FLAGS HEX`: the reply to MAP_UPDATE_ELEM with this key and value.
+//! - `close TENANT FD`: the reply to CLOSE.
 //! - `load TENANT TEXT`: the reply to PROG_LOAD of a program's text, where `;` ends a line and `COUNT times LINE` is so
 //!   many lines.
 //! - `slots TENANT HEX`: the reply to PROG_LOAD of these slots.

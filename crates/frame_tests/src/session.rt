@@ -8,11 +8,22 @@ use host::{Host, ReplyBuf};
 use insn_codec::write_program;
 use std::alloc::{AllocError, Global};
 
-/// The command PROG_LOAD.
+/// The numbers of the commands.
+const MAP_CREATE: u16 = 0;
+
+const MAP_LOOKUP_ELEM: u16 = 1;
+
+const MAP_UPDATE_ELEM: u16 = 2;
+
+const MAP_DELETE_ELEM: u16 = 3;
+
+const MAP_GET_NEXT_KEY: u16 = 4;
+
 const PROG_LOAD: u16 = 5;
 
-/// The command PROG_TEST_RUN.
 const PROG_TEST_RUN: u16 = 10;
+
+const CLOSE: u16 = 256;
 
 /// A program type of PROG_LOAD: a socket filter.
 const SOCKET_FILTER: u32 = 1;
@@ -95,6 +106,59 @@ impl Session {
         groups(self.alloc, room.bytes())
     }
 
+    /// The reply to a command on a descriptor: a tenant, the descriptor, and the bytes that follow it.
+    fn on_descriptor(&mut self, command: u16, rest: &str) -> Result<String> {
+        let (tenant, rest) = first_word(rest);
+        let (descriptor, digits) = first_word(rest);
+        let bytes = bytes_of(self.alloc, digits)?;
+        let frame = frame(
+            self.alloc,
+            tenant.parse()?,
+            command,
+            descriptor.parse()?,
+            &bytes,
+        )?;
+        Ok(self.reply(&frame)?)
+    }
+
+    /// The reply to a new map: a tenant, and the five numbers of the body.
+    fn create(&mut self, rest: &str) -> Result<String> {
+        let (tenant, rest) = first_word(rest);
+        let (kind, sizes) = first_word(rest);
+        let mut bytes = Vec::new(self.alloc);
+        for number in sizes.split_whitespace() {
+            let number: u32 = number.parse()?;
+            bytes.extend_from_slice(&number.to_le_bytes())?;
+        }
+        let frame = frame(
+            self.alloc,
+            tenant.parse()?,
+            MAP_CREATE,
+            kind.parse()?,
+            &bytes,
+        )?;
+        Ok(self.reply(&frame)?)
+    }
+
+    /// The reply to an update: a tenant, a descriptor, the flags, and the bytes of the key and the value.
+    fn update(&mut self, rest: &str) -> Result<String> {
+        let (tenant, rest) = first_word(rest);
+        let (descriptor, rest) = first_word(rest);
+        let (flags, digits) = first_word(rest);
+        let flags: u64 = flags.parse()?;
+        let mut bytes = Vec::new(self.alloc);
+        bytes.extend_from_slice(&flags.to_le_bytes())?;
+        bytes.extend_from_slice(&bytes_of(self.alloc, digits)?)?;
+        let frame = frame(
+            self.alloc,
+            tenant.parse()?,
+            MAP_UPDATE_ELEM,
+            descriptor.parse()?,
+            &bytes,
+        )?;
+        Ok(self.reply(&frame)?)
+    }
+
     /// The reply to a load of these slots.
     fn load(&mut self, tenant: u16, slots: &[u8]) -> Result<String, AllocError> {
         let frame = frame(self.alloc, tenant, PROG_LOAD, SOCKET_FILTER, slots)?;
@@ -130,6 +194,12 @@ impl Session {
                 return Ok(None);
             }
             "frame" => self.reply(&bytes_of(alloc, rest)?)?,
+            "create" => self.create(rest)?,
+            "lookup" => self.on_descriptor(MAP_LOOKUP_ELEM, rest)?,
+            "update" => self.update(rest)?,
+            "delete" => self.on_descriptor(MAP_DELETE_ELEM, rest)?,
+            "next" => self.on_descriptor(MAP_GET_NEXT_KEY, rest)?,
+            "close" => self.on_descriptor(CLOSE, rest)?,
             "load" => {
                 let (tenant, text) = first_word(rest);
                 self.load(tenant.parse()?, &slots_of(alloc, text)?)?

@@ -1,14 +1,12 @@
 pub mod Buffers
 pub mod Numbers
 pub mod Results
-pub mod Loads
-pub mod Contexts
-pub mod NoMaps
-pub mod Runs
 pub mod Tenants
-pub mod Frames
+pub mod Heads
+pub mod Faults
 pub mod Stands
 pub mod Serving
+pub mod ToldAlone
 mod Digits
 mod Rewriting
 mod OtherFailures
@@ -17,5 +15,4 @@ mod MapWords
 mod KnownInputs
 mod Judgements
 mod MapLists
-mod OneAnswer
 mod Vectors

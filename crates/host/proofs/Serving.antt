@@ -6,18 +6,19 @@ use Rattle.std.proofs.lemmas.List.Elements.{filter-append}
 use Rattle.std.proofs.lemmas.Grind.{flat_map-append}
 use Rattle.std.proofs.KnownBytes.{Consumes-nil, Consumes-trans, Appends-nil, Appends-trans}
 use Rattle.std.specs.List.{flat_map, AllByRecursion}
-use Rattle.std.specs.Io.KnownBytes.{Consumes, Appends}
+use Rattle.std.specs.Io.KnownBytes.{Consumes, Appends, IsAtEnd}
 use Rattle.command_frames.specs.Frame.{owner, framed, IsFrame}
 use Rattle.host.specs.Reading.{StandsFor}
-use Rattle.host.proofs.Stands.{stands_owner, stands_answers}
-use Rattle.host.specs.State.{State}
-use Rattle.host.specs.Alone.{frames_of, replies_of, MayAnswer, Alone}
+use Rattle.host.proofs.Stands.{stands_owner, stands_tells}
+use Rattle.tenant.specs.State.{State}
+use Rattle.tenant.specs.Alone.{frames_of, replies_of, MayTell, IsFault, AloneWithRefusals}
 use Rattle.host.specs.declared.server.ServeFaultKind.{ServeFaultKind}
 use Rattle.host.specs.declared.server.ServeFaultKind.TheVariants.{Read, Write, Truncated, TooManyFrames, Memory}
-use Rattle.host.specs.Served.{IsServed, Handles, Moment, IsSound, Serves, Turns, Waits, Answered, CutOff, joined, Finishes, Stops, EndsFrame, StopsFrame}
+use Rattle.host.specs.Laws.{UnrefusedAreToldAlone}
+use Rattle.host.specs.Served.{IsServed, Handles, Moment, IsSound, Serves, ServesAlone, Turns, Waits, Answered, CutOff, joined, Finishes, Stops, EndsFrame, StopsFrame}
 
-alone_more : (a b c : Option State) (frames others replies more : List (List ℕ)) → Alone a frames replies b → Alone b others more c → Alone a (frames ++ others) (replies ++ more) c
-alone_more a b c [] others [] more h k = subst (λ (x : Option State). Alone x others more c) h k
+alone_more : (a b c : Option State) (frames others replies more : List (List ℕ)) → AloneWithRefusals a frames replies b → AloneWithRefusals b others more c → AloneWithRefusals a (frames ++ others) (replies ++ more) c
+alone_more a b c [] others [] more h k = subst (λ (x : Option State). AloneWithRefusals x others more c) h k
 alone_more a b c (frame ∷ frames) others (reply ∷ replies) more (between, answered, rest) k = (between, answered, alone_more between b c frames others replies more rest k)
 alone_more a b c [] others (reply ∷ replies) more h k = absurd h
 alone_more a b c (frame ∷ frames) others [] more h k = absurd h
@@ -34,16 +35,16 @@ replies_of-push t (f ∷ fs) [] frame reply len = absurd (omega arith)
 replies_of-push t (f ∷ fs) (r ∷ rs) frame reply len =
     pushed (owner f == t) r (replies_of t (fs ++ frame ∷ []) (rs ++ reply ∷ [])) (replies_of t fs rs) (replies_of t (frame ∷ []) (reply ∷ [])) (replies_of-push t fs rs frame reply (omega arith))
 
-one_by : (same : Bool) (frame reply : List ℕ) (before after : Option State) → (same ≡ true → MayAnswer frame reply before after) → (same ≡ false → after ≡ before)
-    → Alone before (if same then frame ∷ [] else []) (if same then reply ∷ [] else []) after
+one_by : (same : Bool) (frame reply : List ℕ) (before after : Option State) → (same ≡ true → MayTell frame reply before after) → (same ≡ false → after ≡ before)
+    → AloneWithRefusals before (if same then frame ∷ [] else []) (if same then reply ∷ [] else []) after
 one_by true frame reply before after own other = (after, own refl, refl)
 one_by false frame reply before after own other = other refl
 
 one_alone : (t : ℕ) (frame reply : List ℕ) (before after : List State) → Handles before frame reply after
-    → Alone (slice_get before t) (frames_of t (frame ∷ [])) (replies_of t (frame ∷ []) (reply ∷ [])) (slice_get after t)
+    → AloneWithRefusals (slice_get before t) (frames_of t (frame ∷ [])) (replies_of t (frame ∷ []) (reply ∷ [])) (slice_get after t)
 one_alone t frame reply before after h =
     one_by (owner frame == t) frame reply (slice_get before t) (slice_get after t)
-    (λ e. subst (λ (n : ℕ). MayAnswer frame reply (slice_get before n) (slice_get after n)) (eqb-true (owner frame) t e) h.own)
+    (λ e. subst (λ (n : ℕ). MayTell frame reply (slice_get before n) (slice_get after n)) (eqb-true (owner frame) t e) h.own)
     (λ e. h.others t (λ k. eqb-false (owner frame) t e (sym k)))
 
 pub served_none : (states : List State) → IsServed states [] [] states
@@ -93,10 +94,11 @@ serves_more old mid new frames replies frame reply out s h = record {
   read = read_more old.input mid.input new.input frames frame [] s.read (subst (Consumes mid.input new.input) (sym (append-nil (framed frame))) h.read);
   written = Appends-trans old.output mid.output new.output (joined replies) out s.written h.written;
   served = served_more old.states mid.states new.states frames replies frame reply s.paired s.served h.handled;
+  no_fault = all_push (λ (r : List ℕ). ¬ IsFault r) replies reply s.no_fault h.handled.no_fault;
 }
 
 pub answered_none : (m : Moment) → Answered m m 0 []
-answered_none m = ([], [], refl, record { each = tt; paired = refl; read = Consumes-nil m.input; written = Appends-nil m.output; served = served_none m.states })
+answered_none m = ([], [], refl, record { each = tt; paired = refl; read = Consumes-nil m.input; written = Appends-nil m.output; served = served_none m.states; no_fault = tt })
 
 pub answered_more : (old mid new : Moment) (count : ℕ) (frame reply : List ℕ) → Answered old mid count [] → Turns mid new frame reply reply → Answered old new (count + 1) []
 answered_more old mid new count frame reply (frames, replies, len, s) h =
@@ -117,22 +119,24 @@ answered_rest old mid new count rest (frames, replies, len, s) h = (
     read = read_rest old.input mid.input new.input frames rest s.read h.read;
     written = subst (λ (o : Option (List ℕ)). Appends old.output o (joined replies)) (sym h.written) s.written;
     served = subst (λ (x : List State). IsServed old.states frames replies x) (sym h.states) s.served;
+    no_fault = s.no_fault;
   },
 )
 
 -- the room held as much of the frame as its answer depends on
 pub turns : (old new : Moment) (frame front reply out : List ℕ) → IsFrame frame → Consumes old.input new.input (framed frame) → StandsFor front frame
-    → Appends old.output new.output out → MayAnswer front reply (slice_get old.states (owner front)) (slice_get new.states (owner front))
-    → ((other : ℕ) → other ≢ owner front → slice_get new.states other ≡ slice_get old.states other) → Turns old new frame reply out
-turns old new frame front reply out is_frame read stands written own others =
+    → Appends old.output new.output out → MayTell front reply (slice_get old.states (owner front)) (slice_get new.states (owner front))
+    → ((other : ℕ) → other ≢ owner front → slice_get new.states other ≡ slice_get old.states other) → ¬ IsFault reply → Turns old new frame reply out
+turns old new frame front reply out is_frame read stands written own others no_fault =
     let same = stands_owner front frame stands in
     record {
       is_frame = is_frame;
       read = read;
       written = written;
       handled = record {
-        own = subst (λ (n : ℕ). MayAnswer frame reply (slice_get old.states n) (slice_get new.states n)) same (stands_answers front frame reply _ _ stands own);
+        own = subst (λ (n : ℕ). MayTell frame reply (slice_get old.states n) (slice_get new.states n)) same (stands_tells front frame reply _ _ stands own);
         others = λ other ne. others other (λ e. ne (e ∙ same));
+        no_fault = no_fault;
       };
     }
 
@@ -155,6 +159,25 @@ frame_stops old mid new Memory count answered sound h = absurd h
 -- the input is at its end
 pub frame_done : (old mid new : Moment) (count : ℕ) → Answered old mid count [] → IsSound old mid → EndsFrame mid new false → Finishes old new count
 frame_done old mid new count answered sound (waits, end, more) = (answered_rest old mid new count [] answered waits, end, sound_both old mid new sound more)
+
+-- as many frames are answered as the limit allows, and the input is at its end
+pub end_done : (old mid new : Moment) (count limit : ℕ) → count ≡ limit → Answered old mid count [] → IsSound old mid → Consumes mid.input new.input []
+    → new.output ≡ mid.output → new.states ≡ mid.states → IsAtEnd new.input → IsSound mid new → Finishes old new limit
+end_done old mid new count limit same answered sound read written states end more =
+    let rest = answered_rest old mid new count [] answered (record { read = read; written = written; states = states }) in
+    (subst (λ (n : ℕ). Answered old new n []) same rest, end, sound_both old mid new sound more)
+
+-- each tenant was told what its machine alone tells it
+pub serves_alone : UnrefusedAreToldAlone → (old new : Moment) (count : ℕ) → Finishes old new count → ServesAlone old new count
+serves_alone law old new count ((frames, replies, many, s), end, sound) = record {
+  frames = frames;
+  replies = replies;
+  many = (many, s.paired ∙ many);
+  read = subst (Consumes old.input new.input) (append-nil (flat_map framed frames)) s.read;
+  written = s.written;
+  alone = law old.states new.states frames replies s.served;
+  no_fault = s.no_fault;
+}
 
 pub frame_more : (old mid new : Moment) (count : ℕ) → Answered old mid count [] → IsSound old mid → EndsFrame mid new true → Answered old new (count + 1) [] × IsSound old new
 frame_more old mid new count answered sound ((frame, reply, turn), more) = (answered_more old mid new count frame reply answered turn, sound_both old mid new sound more)

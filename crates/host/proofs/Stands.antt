@@ -1,17 +1,18 @@
 -- A frame that was cut to the room for it is answered as the whole one.
-use Rattle.std.proofs.Common.{◌≡◌, ℕ, ◌<◌, Bool, true, false, List, [], length, take, drop, get_or, Option, Some, None, refl, sym, ap, subst, ◌∙◌, arith, inl, inr}
+use Rattle.std.proofs.Common.{◌≡◌, ℕ, ◌<◌, true, false, List, [], length, take, drop, get_or, Option, Some, None, Result, refl, sym, ap, subst, ◌∙◌, arith, inl, inr}
 use Rattle.std.specs.Prelude.{ℤ, nat_lt, if◌then◌else◌}
 use Rattle.std.proofs.lemmas.Bool.{lt-ltb, le-ltb}
 use Rattle.std.proofs.lemmas.List.{get_or-take, get_or-drop}
 use Rattle.byteorder.specs.Endian.{little_number}
-use Rattle.host.specs.declared.errno.Errno.{Errno}
-use Rattle.host.specs.declared.errno.Errno.TheVariants.{NotPermitted, Invalid}
-use Rattle.host.specs.Errno.{status_of}
+use Rattle.command_frames.specs.declared.command.BadFrame.{BadFrame}
+use Rattle.command_frames.specs.Command.{Command, parsed}
 use Rattle.command_frames.specs.Frame.{owner, command_number, reply_to, reply_bytes}
 use Rattle.host.specs.Reading.{StandsFor}
-use Rattle.host.specs.State.{State}
-use Rattle.host.specs.Machine.{Answer}
-use Rattle.host.specs.Alone.{AnswersFrame, MayAnswer}
+use Rattle.tenant.specs.declared.errno.Errno.{Errno}
+use Rattle.tenant.specs.declared.errno.Errno.TheVariants.{NotPermitted, Invalid}
+use Rattle.tenant.specs.Errno.{status_of}
+use Rattle.tenant.specs.State.{State}
+use Rattle.tenant.specs.Alone.{AnswersFrame, MayTell}
 
 same_byte : (xs ys : List ℕ) (k : ℕ) → k < 4 → take 4 xs ≡ take 4 ys → get_or xs k 0 ≡ get_or ys k 0
 same_byte xs ys k lt e = sym (get_or-take 4 xs k 0 lt) ∙ ap (λ (l : List ℕ). get_or l k 0) e ∙ get_or-take 4 ys k 0 lt
@@ -44,15 +45,12 @@ pub stands_owner : (front frame : List ℕ) → StandsFor front frame → owner 
 stands_owner front frame (inl same) = ap owner same
 stands_owner front frame (inr h) = same_owner front frame h.0 h.1 h.2
 
-too_long : (frame : List ℕ) → 65536 < length frame → nat_lt 65536 (length frame) ≡ true
-too_long frame long = lt-ltb 65536 (length frame) long
-
-long_answers : (memory_refused : Bool) (s : State) (front frame : List ℕ) → 65536 < length front → 65536 < length frame
-    → (answer : Answer) → AnswersFrame memory_refused s front answer → AnswersFrame memory_refused s frame answer
-long_answers memory_refused s front frame long_front long_frame answer h =
-    let front_long = too_long front long_front in
-    let frame_long = too_long frame long_frame in
-    rw frame_long (rw front_long at h)
+-- neither frame is looked at
+same_parsed : (front frame : List ℕ) → 65536 < length front → 65536 < length frame → parsed front ≡ parsed frame
+same_parsed front frame long_front long_frame =
+    let front_long : nat_lt 65536 (length front) ≡ true = lt-ltb 65536 (length front) long_front in
+    let frame_long : nat_lt 65536 (length frame) ≡ true = lt-ltb 65536 (length frame) long_frame in
+    rw (front_long, frame_long) refl
 
 same_head : (front frame : List ℕ) (status : ℤ) (payload : List ℕ) → owner front ≡ owner frame → command_number front ≡ command_number frame → reply_to front status payload ≡ reply_to frame status payload
 same_head front frame status payload o c =
@@ -69,13 +67,14 @@ none_status front frame o c long_front long_frame =
     same_head front frame (status_of (if nat_lt (length front) 4 then Invalid else NotPermitted)) [] o c
     ∙ ap (λ (e : Errno). reply_to frame (status_of e) []) (headed front long_front ∙ sym (headed frame long_frame))
 
-pub stands_answers : (front frame reply : List ℕ) (before after : Option State) → StandsFor front frame → MayAnswer front reply before after → MayAnswer frame reply before after
-stands_answers front frame reply before after (inl same) h = subst (λ (f : List ℕ). MayAnswer f reply before after) same h
-stands_answers front frame reply None after (inr (long_front, long_frame, e)) h =
+pub stands_tells : (front frame reply : List ℕ) (before after : Option State) → StandsFor front frame → MayTell front reply before after → MayTell frame reply before after
+stands_tells front frame reply before after (inl same) h = subst (λ (f : List ℕ). MayTell f reply before after) same h
+stands_tells front frame reply None after (inr (long_front, long_frame, e)) (refusals, h) =
     let o = same_owner front frame long_front long_frame e in
     let c = same_command front frame long_front long_frame e in
-    (h.0, h.1 ∙ none_status front frame o c long_front long_frame)
-stands_answers front frame reply (Some s) after (inr (long_front, long_frame, e)) (memory_refused, answer, answers, told, goes) =
+    (refusals, (h.0, h.1 ∙ none_status front frame o c long_front long_frame))
+stands_tells front frame reply (Some s) after (inr (long_front, long_frame, e)) (refusals, (a, answers, told, goes)) =
     let o = same_owner front frame long_front long_frame e in
     let c = same_command front frame long_front long_frame e in
-    (memory_refused, answer, long_answers memory_refused s front frame long_front long_frame answer answers, told ∙ same_head front frame answer.status answer.payload o c, goes)
+    let same = same_parsed front frame long_front long_frame in
+    (refusals, (a, subst (λ (r : Result Command BadFrame). AnswersFrame refusals s r a) same answers, told ∙ same_head front frame a.status a.payload o c, goes))

@@ -1,31 +1,20 @@
--- While no memory is refused the machine has one answer to a command, and one list of replies to a list of frames.
-use Rattle.std.specs.Prelude.{◌≡◌, ℕ, false, List, [], ◌∷◌, length, Option, Some, None, nat_lt, if◌then◌else◌}
-use Rattle.command_frames.specs.Frame.{reply_to}
-use Rattle.host.specs.declared.errno.Errno.TheVariants.{NotPermitted, Invalid}
-use Rattle.host.specs.Errno.{status_of}
-use Rattle.host.specs.State.{State}
-use Rattle.host.specs.Machine.{Answer, Answers}
-use Rattle.host.specs.Alone.{AnswersFrame}
+-- What follows for a tenant from what all are told.
+use Rattle.std.specs.Prelude.{◌≡◌, ℕ, List, slice_get}
+use Rattle.tenant.specs.State.{State}
+use Rattle.tenant.specs.Alone.{frames_of, replies_of}
+use Rattle.host.specs.Served.{IsServed, IsUnrefused, EachIsToldAlone}
 
-abbrev pub OneAnswer : Type 0
-OneAnswer = (s : State) (number : ℕ) (body : List ℕ) (a b : Answer) → Answers false s number body a → Answers false s number body b → a ≡ b
+-- whatever is refused to others
+abbrev pub UnrefusedAreToldAlone : Type 0
+UnrefusedAreToldAlone =
+    (before after : List State) (frames replies : List (List ℕ)) → IsServed before frames replies after → EachIsToldAlone before frames replies after
 
--- as `MayAnswer`, where no memory is refused
-abbrev pub TellsUnrefused : List ℕ → List ℕ → Option State → Option State → Type 0
-TellsUnrefused frame reply None after =
-    (after ≡ None) × (reply ≡ reply_to frame (status_of (if nat_lt (length frame) 4 then Invalid else NotPermitted)) [])
-TellsUnrefused frame reply (Some s) after =
-    (answer : Answer) × AnswersFrame false s frame answer × (reply ≡ reply_to frame answer.status answer.payload) × (after ≡ Some answer.after)
-
--- as `Alone`, where no memory is refused
-abbrev pub AloneUnrefused : Option State → List (List ℕ) → List (List ℕ) → Option State → Type 0
-AloneUnrefused before [] [] after = after ≡ before
-AloneUnrefused before (frame ∷ frames) (reply ∷ replies) after =
-    (between : Option State) × TellsUnrefused frame reply before between × AloneUnrefused between frames replies after
-AloneUnrefused before [] (reply ∷ replies) after = ⊥
-AloneUnrefused before (frame ∷ frames) [] after = ⊥
-
-abbrev pub OneAlone : Type 0
-OneAlone =
-    (before a b : Option State) (frames xs ys : List (List ℕ)) → AloneUnrefused before frames xs a → AloneUnrefused before frames ys b
-    → (xs ≡ ys) × (a ≡ b)
+-- Two streams that agree on a tenant's frames give it the same replies: neither the frames of others nor the order in which
+-- they come between its own can be told.
+abbrev pub SameFramesSameReplies : Type 0
+SameFramesSameReplies =
+    (t : ℕ) (before after before_too after_too : List State) (frames replies frames_too replies_too : List (List ℕ))
+    → EachIsToldAlone before frames replies after → EachIsToldAlone before_too frames_too replies_too after_too
+    → IsUnrefused (slice_get after t) → IsUnrefused (slice_get after_too t)
+    → slice_get before t ≡ slice_get before_too t → frames_of t frames ≡ frames_of t frames_too
+    → replies_of t frames replies ≡ replies_of t frames_too replies_too

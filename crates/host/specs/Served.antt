@@ -1,17 +1,37 @@
 -- What a call of `serve` did: the frames that it read, the replies to them, and where it stopped.
-use Rattle.std.specs.Prelude.{◌≡◌, ◌≢◌, Bool, true, false, ℕ, ◌+◌, ◌<◌, List, [], ◌∷◌, ◌++◌, length, take, slice_get, Option}
+use Rattle.std.specs.Prelude.{◌≡◌, ◌≢◌, Bool, true, false, ℕ, ◌+◌, ◌<◌, List, [], ◌∷◌, ◌++◌, length, take, slice_get, Option, Some, None}
 use Rattle.std.specs.List.{flat_map, AllByRecursion}
 use Rattle.std.specs.Io.KnownBytes.{Consumes, Appends, IsAtEnd}
 use Rattle.host.specs.declared.server.ServeFaultKind.{ServeFaultKind}
 use Rattle.host.specs.declared.server.ServeFaultKind.TheVariants.{Read, Write, Truncated, TooManyFrames, Memory}
 use Rattle.command_frames.specs.Frame.{framed, IsFrame, IsPartial, owner}
-use Rattle.host.specs.State.{State}
-use Rattle.host.specs.Alone.{frames_of, replies_of, MayAnswer, Alone}
+use Rattle.tenant.specs.State.{State}
+use Rattle.tenant.specs.Alone.{frames_of, replies_of, MayTell, IsFault, Alone, AloneWithRefusals}
 
--- each tenant is told what its own machine tells it on its own frames
+-- ---- what the tenants are told
+
+-- each tenant is told what its own machine may tell it on its own frames
 abbrev pub IsServed : List State → List (List ℕ) → List (List ℕ) → List State → Type 0
 IsServed before frames replies after =
-    (t : ℕ) → Alone (slice_get before t) (frames_of t frames) (replies_of t frames replies) (slice_get after t)
+    (t : ℕ) → AloneWithRefusals (slice_get before t) (frames_of t frames) (replies_of t frames replies) (slice_get after t)
+
+-- no memory was ever refused to a tenant: one that is not served takes none
+abbrev pub IsUnrefused : Option State → Type 0
+IsUnrefused None = Unit {0}
+IsUnrefused (Some s) = s.refused ≡ false
+
+-- Each tenant to which no memory was refused is told just what its own machine, which knows of nobody else, tells it on its
+-- own frames where no memory is refused; and so is each number that is not served.
+abbrev pub EachIsToldAlone : List State → List (List ℕ) → List (List ℕ) → List State → Type 0
+EachIsToldAlone before frames replies after =
+    (t : ℕ) → IsUnrefused (slice_get after t)
+    → Alone (slice_get before t) (frames_of t frames) (replies_of t frames replies) (slice_get after t)
+
+-- no test run faulted
+abbrev pub NoneFaults : List (List ℕ) → Type 0
+NoneFaults replies = AllByRecursion (λ reply. ¬ IsFault reply) replies
+
+-- ---- calls of `serve`
 
 -- the states; the bytes that the reader has left and those that the writer holds, where they are known; and how many
 -- calls of the two failed so far
@@ -33,11 +53,13 @@ pub record Serves (old new : Moment) (frames replies : List (List ℕ)) (rest ou
   pub read : Consumes old.input new.input (flat_map framed frames ++ rest)
   pub written : Appends old.output new.output out
   pub served : IsServed old.states frames replies new.states
+  pub no_fault : NoneFaults replies
 
 -- the states before and after one frame, with its reply
 pub record Handles (before : List State) (frame reply : List ℕ) (after : List State) : Type 0 where
-  pub own : MayAnswer frame reply (slice_get before (owner frame)) (slice_get after (owner frame))
+  pub own : MayTell frame reply (slice_get before (owner frame)) (slice_get after (owner frame))
   pub others : (other : ℕ) → other ≢ owner frame → slice_get after other ≡ slice_get before other
+  pub no_fault : ¬ IsFault reply
 
 -- a frame was read, answered, and its reply written as far as `out`
 pub record Turns (old new : Moment) (frame reply out : List ℕ) : Type 0 where
@@ -61,6 +83,17 @@ abbrev pub Answered : Moment → Moment → ℕ → List ℕ → Type 0
 Answered old new count rest =
     (frames : List (List ℕ)) × (replies : List (List ℕ)) × (length frames ≡ count)
     × Serves old new frames replies rest (joined replies)
+
+-- So many frames came in, and the replies to them went out, one after another. Each tenant was told what its machine alone
+-- tells it, and no test run faulted.
+pub record ServesAlone (old new : Moment) (count : ℕ) : Type 0 where
+  pub frames : List (List ℕ)
+  pub replies : List (List ℕ)
+  pub many : (length frames ≡ count) × (length replies ≡ count)
+  pub read : Consumes old.input new.input (flat_map framed frames)
+  pub written : Appends old.output new.output (joined replies)
+  pub alone : EachIsToldAlone old.states frames replies new.states
+  pub no_fault : NoneFaults replies
 
 -- one frame more is answered, and its reply is not written whole, or not sent on
 abbrev pub CutOff : Moment → Moment → ℕ → Type 0

@@ -1,48 +1,53 @@
 //! The host of all tenants.
 
-ghost use Rattle.std.specs.Prelude.{◌≡◌, ◌≢◌, ℕ, ◌+◌, ◌*◌, ◌<◌, ◌≤◌, ◌^◌, length, replicate, slice_get, IfOk, Bool, List};
-ghost use Rattle.command_frames.specs.Frame.{owner, command_number};
-ghost use Rattle.host.specs.State.{State, nothing_open};
-ghost use Rattle.host.specs.Machine.{Answers};
-ghost use Rattle.host.specs.Reply.{answer_of};
-ghost use Rattle.host.specs.Alone.{MayAnswer};
-ghost use Rattle.host.specs.Told.{TellsFrame};
+ghost use Rattle.std.specs.Prelude.{◌≡◌, ◌≢◌, ℕ, ◌+◌, ◌*◌, ◌<◌, ◌≤◌, ◌^◌, [], length, replicate, slice_get, nat_lt, if◌then◌else◌, IfOk, IfSome, None};
+ghost use Rattle.arena.specs.Memory.{Memory};
+ghost use Rattle.command_frames.specs.Frame.{owner, reply_to};
+ghost use Rattle.tenant.specs.Alone.{MayTell, IsFault};
+ghost use Rattle.tenant.specs.Errno.{status_of};
+ghost use Rattle.tenant.specs.State.{new_tenant};
+ghost use Rattle.tenant.specs.declared.errno.Errno.TheVariants.{NotPermitted, Invalid};
+ghost use Rattle.host.specs.States.{states_from};
 
-use crate::command::{Command, Reply};
-use crate::errno::Errno;
-use crate::tenant::Tenant;
 use arena::Arena;
-use bpf_maps::{Maps, PART};
-use command_frames::{HEAD_LENGTH, Head, LONGEST_FRAME, ReplyBuf, head};
+use bpf_maps::PART;
+use command_frames::{Head, ReplyBuf, head, write_reply};
 use std::alloc::{AllocError, Global};
 use std::marker::Model;
+use tenant::{Errno, Tenant, faults_have_no_payload};
+
+/// The head of a reply to a frame that has none.
+const NO_HEAD: Head = Head {
+    tenant: u16::MAX,
+    command: u16::MAX,
+};
 
 /// The states of 1 to 16 tenants. In contracts it is the list of them, by the tenants' numbers.
 #[derive(Drop)]
 pub struct Host {
     tenants: Vec<Tenant>,
-    /// A part for each tenant's runs.
+    /// A part for each tenant: the values of its maps, and the stack and the context of its runs.
     arena: Arena,
-    /// The maps of all runs: none, since no command makes one yet.
-    maps: Maps,
     alloc: Global,
 }
 
 impl Model for Host {
-    ghost use Rattle.std.specs.Prelude.{◌≡◌, List, ◌≤◌, vec_len, false};
+    ghost use Rattle.std.specs.Prelude.{◌≡◌, List, ◌≤◌, vec_len};
     ghost use Rattle.bpf_maps.specs.declared.part.TheConstants.{PART};
-    ghost use Rattle.host.specs.State.{State};
+    ghost use Rattle.host.specs.States.{states_in};
+    ghost use Rattle.tenant.specs.State.{State};
 
     ghost Value = { List State };
 
-    ghost view = { λ h. h.tenants.items };
+    ghost view = { λ h. states_in h.arena h.tenants.items };
 
-    ghost invariant = { λ h. (vec_len h.tenants ≤ 16) × (h.arena.parts ≡ vec_len h.tenants) × (h.arena.part ≡ PART) × (h.maps.refused ≡ false) };
+    ghost invariant = { λ h. (vec_len h.tenants ≤ 16) × (h.arena.parts ≡ vec_len h.tenants) × (h.arena.part ≡ PART) };
 }
 
-/// So many tenants with nothing open.
+/// So many new tenants.
 fn new_tenants(alloc: Global, count: usize) -> Result<Vec<Tenant>, AllocError>
-    ensures { IfOk result (λ tenants. tenants.items ≡ replicate count nothing_open) }
+    ensures new { IfOk result (λ tenants. (m : Memory) (first : ℕ) → states_from m first tenants.items ≡ replicate count new_tenant) }
+    ensures count { IfOk result (λ tenants. length tenants.items ≡ count) }
 {
     let mut tenants = Vec::with_capacity(alloc, count)?;
     for _ in 0..count {
@@ -51,19 +56,13 @@ fn new_tenants(alloc: Global, count: usize) -> Result<Vec<Tenant>, AllocError>
     Ok(tenants)
 }
 
-/// The head of the reply to a frame, which is the frame's; 65535 twice where the frame has none.
-fn head_of_reply(frame: &[u8]) -> Head
-    ensures tenant { result.tenant ≡ owner frame.now }
-    ensures command { result.command ≡ command_number frame.now }
+/// The reply to a frame that belongs to no tenant that is served: it has no head, or it names another number.
+fn write_unserved(frame: &[u8], reply: &mut ReplyBuf)
+    ensures { reply.new ≡ reply_to frame.now (status_of (if nat_lt (length frame.now) 4 then Invalid else NotPermitted)) [] }
 {
     match head(frame) {
-        Some(head) => head,
-        None => {
-            Head {
-                tenant: u16::MAX,
-                command: u16::MAX,
-            }
-        }
+        Some(head) => write_reply(head, Errno::NotPermitted.status(), &[], reply),
+        None => write_reply(NO_HEAD, Errno::Invalid.status(), &[], reply),
     }
 }
 
@@ -72,63 +71,40 @@ impl Host {
     pub fn new(alloc: Global, tenants: usize) -> Result<Host, AllocError>
         requires some { 1 ≤ tenants }
         requires few { tenants ≤ 16 }
-        ensures { IfOk result (λ host. host ≡ replicate tenants nothing_open) }
+        ensures { IfOk result (λ host. host ≡ replicate tenants new_tenant) }
     {
         Ok(Host {
             tenants: new_tenants(alloc, tenants)?,
             arena: Arena::new(alloc, tenants, PART)?,
-            maps: Maps::new(alloc)?,
             alloc,
         })
     }
 
-    /// A command of a tenant that is served.
-    fn command(&mut self, tenant: usize, number: u16, body: &[u8]) -> Reply
-        requires served { tenant < length self.old }
-        requires short { length body.now < 65536 }
-        ensures own { (memory_refused : Bool) × (before : State) × (after : State) × (slice_get self.old tenant ≡ Some before) × (slice_get self.new tenant ≡ Some after) × Answers memory_refused before number body.now (answer_of result after) }
-        ensures others { (other : ℕ) → other ≢ tenant → slice_get self.new other ≡ slice_get self.old other }
-        ensures count { length self.new ≡ length self.old }
+    /// The number of the tenant that a frame belongs to, if it is served.
+    fn served_tenant(&self, frame: &[u8]) -> Option<usize>
+        ensures served { IfSome result (λ tenant. (4 ≤ length frame.now) × (tenant ≡ owner frame.now) × (tenant < length self.now)) }
+        ensures none { result ≡ None → slice_get self.now (owner frame.now) ≡ None }
     {
-        match Command::of(number) {
-            Some(Command::ProgLoad) => self.tenants[tenant].load(self.alloc, body),
-            Some(Command::ProgTestRun) => {
-                self.tenants[tenant].test_run(body, tenant, &mut self.arena, &mut self.maps)
-            }
-            None => Reply::Refused(Errno::Invalid),
-        }
-    }
-
-    /// What a frame is answered, whose head is this.
-    fn answer(&mut self, head: Head, frame: &[u8]) -> Reply
-        requires tenant { head.tenant ≡ owner frame.now }
-        requires command { head.command ≡ command_number frame.now }
-        ensures own { TellsFrame frame.now result (slice_get self.old (owner frame.now)) (slice_get self.new (owner frame.now)) }
-        ensures others { (other : ℕ) → other ≢ owner frame.now → slice_get self.new other ≡ slice_get self.old other }
-        ensures count { length self.new ≡ length self.old }
-    {
-        let tenant = usize::from(head.tenant);
-        if frame.len() < HEAD_LENGTH {
-            return Reply::Refused(Errno::Invalid);
-        }
-        if tenant >= self.tenants.len() {
-            return Reply::Refused(Errno::NotPermitted);
-        }
-        if frame.len() > LONGEST_FRAME {
-            return Reply::Refused(Errno::TooBig);
-        }
-        self.command(tenant, head.command, &frame[HEAD_LENGTH..])
+        let served = self.tenants.len();
+        let tenant = usize::from(head(frame)?.tenant);
+        if tenant < served { Some(tenant) } else { None }
     }
 
     /// Handles a frame, which is what follows the length field; every length is allowed. The reply is left in the room
     /// for it, and the state of the frame's tenant goes on. Every other tenant stays as it is.
     pub fn handle(&mut self, frame: &[u8], reply: &mut ReplyBuf)
-        ensures own { MayAnswer frame.now reply.new (slice_get self.old (owner frame.now)) (slice_get self.new (owner frame.now)) }
+        ensures own { MayTell frame.now reply.new (slice_get self.old (owner frame.now)) (slice_get self.new (owner frame.now)) }
         ensures others { (other : ℕ) → other ≢ owner frame.now → slice_get self.new other ≡ slice_get self.old other }
         ensures count { length self.new ≡ length self.old }
+        ensures no_fault { ¬ IsFault reply.new }
     {
-        let head = head_of_reply(frame);
-        let answer = self.answer(head, frame);
-        answer.write(head, reply);
+        faults_have_no_payload();
+        match self.served_tenant(frame) {
+            Some(tenant) => {
+                let arena = &mut self.arena;
+                self.tenants[tenant].handle(self.alloc, frame, tenant, arena, reply);
+            }
+            None => write_unserved(frame, reply),
+        }
     }
 }

@@ -1,23 +1,19 @@
-//! Laws of a tenant's machine. Each is the contract of a function that does nothing.
+//! Laws of streams. Each is the contract of a function that does nothing.
 
-ghost use Rattle.host.specs.Laws.{OneAnswer, OneAlone};
+ghost use Rattle.host.specs.Laws.{UnrefusedAreToldAlone, SameFramesSameReplies};
 
-use insn_codec::{one_fault, one_program};
-use verdict::{accepted_is_not_refused, one_refusal};
+use tenant::{clear_alone, one_alone};
 
-/// A command has one answer, while no memory is refused.
-pub fn one_answer()
-    ensures { OneAnswer }
+/// Each tenant to which no memory was refused is told what its machine alone tells it, whatever was refused to others.
+pub fn unrefused_are_told_alone()
+    ensures { UnrefusedAreToldAlone }
 {
-    one_program();
-    one_fault();
-    one_refusal();
-    accepted_is_not_refused();
+    clear_alone();
 }
 
-/// A tenant's frames have one list of replies, while no memory is refused.
-pub fn one_alone()
-    ensures { OneAlone }
+/// Two streams that agree on a tenant's frames give it the same replies.
+pub fn same_frames_same_replies()
+    ensures { SameFramesSameReplies }
 {
-    one_answer();
+    one_alone();
 }

@@ -4,9 +4,10 @@ ghost use Rattle.std.specs.Prelude.{◌≡◌, ◌≢◌, ℕ, ◌+◌, ◌-◌,
 ghost use Rattle.std.specs.Prelude.{◌∷◌};
 ghost use Rattle.std.specs.Io.KnownBytes.{Consumes, IsAtEnd};
 ghost use Rattle.host.specs.Reading.{ReadsPartial, StopsRead};
-ghost use Rattle.host.specs.Served.{Moment, IsSound, Turns, Waits, Answered, CutOff, Finishes, Stops, EndsFrame, StopsFrame};
+ghost use Rattle.host.specs.Served.{Moment, IsSound, Turns, Waits, Answered, CutOff, Finishes, Stops, ServesAlone, EndsFrame, StopsFrame};
 
 use crate::host::Host;
+use crate::laws::unrefused_are_told_alone;
 use crate::reading::{KEPT, fill, read_frame};
 use crate::stream::{Sink, Source};
 use crate::writing::write_whole;
@@ -114,6 +115,10 @@ pub fn serve<R: Source, W: Sink>(
         (record { states = host.old; input = R.remaining reader.old; output = W.contents writer.old; read_failures = R.failures reader.old; write_failures = W.failures writer.old })
         (record { states = host.new; input = R.remaining reader.new; output = W.contents writer.new; read_failures = R.failures reader.new; write_failures = W.failures writer.new })
         count) }
+    ensures alone { IfOk result (λ count. ServesAlone
+        (record { states = host.old; input = R.remaining reader.old; output = W.contents writer.old; read_failures = R.failures reader.old; write_failures = W.failures writer.old })
+        (record { states = host.new; input = R.remaining reader.new; output = W.contents writer.new; read_failures = R.failures reader.new; write_failures = W.failures writer.new })
+        count) }
     ensures few { IfOk result (λ count. count ≤ limit) }
     ensures fault { IfErr result (λ fault. Stops
         (record { states = host.old; input = R.remaining reader.old; output = W.contents writer.old; read_failures = R.failures reader.old; write_failures = W.failures writer.old })
@@ -128,6 +133,7 @@ pub fn serve<R: Source, W: Sink>(
             frames: 0,
         });
     };
+    unrefused_are_told_alone();
     for frames in 0..limit {
         match serve_frame(host, reader, writer, &mut rooms) {
             Ok(true) => {}

@@ -1,8 +1,13 @@
--- So many tenants are made so far, and none has anything open.
-use Rattle.std.proofs.Common.{◌≡◌}
+-- So many new tenants are made so far.
+use Rattle.std.proofs.Common.{◌≡◌, ℕ, length}
 use Rattle.std.specs.Prelude.{replicate}
-use Rattle.host.specs.State.{nothing_open}
+use Rattle.arena.specs.Memory.{Memory}
+use Rattle.tenant.specs.State.{new_tenant}
+use Rattle.host.specs.States.{states_from}
 use Rattle.host.proofs.host.new_tenants.Given as goal
 
 abbrev pub invariant-loop : goal.invariant-loop
-invariant-loop l = l.tenants.items ≡ replicate l.counter nothing_open
+invariant-loop l = record {
+  new : (m : Memory) (first : ℕ) → states_from m first l.tenants.items ≡ replicate l.counter new_tenant;
+  count : length l.tenants.items ≡ l.counter;
+}

@@ -1,6 +1,6 @@
 use Rattle.std.proofs.Common.{◌≡◌, refl, subst, arith}
 use Rattle.host.specs.Served.{EndsFrame}
-use Rattle.host.proofs.Serving.{answered_none, frame_more, frame_stops, end_more, end_fails}
+use Rattle.host.proofs.Serving.{answered_none, frame_done, end_done, serves_alone, frame_more, frame_stops, end_more, end_fails}
 use Rattle.host.proofs.server.serve.Goals as goal
 
 pub loop-frames-init : goal.loop-frames-init
@@ -24,3 +24,15 @@ pub returns-clause-fault : goal.returns-clause-fault
 returns-clause-fault g c =
     let same : c.loop-frames.frames ≡ c.args.limit = omega arith in
     end_fails _ _ _ c.loop-frames.frames c.args.limit c.in-Err-is_at_end.kind c.in-Err-is_at_end.ensures.kind same c.loop-frames.invariant.answered c.loop-frames.invariant.sound c.in-Err-is_at_end.ensures.failed.0 refl refl c.in-Err-is_at_end.ensures.failed.1
+
+pub returns-in-Ok-false-clause-alone : goal.returns-in-Ok-false-clause-alone
+returns-in-Ok-false-clause-alone g c =
+    serves_alone c.unrefused_are_told_alone.ensures _ _ _
+    (frame_done _ _ _ c.loop-frames.frames c.loop-frames.invariant.answered c.loop-frames.invariant.sound (subst (EndsFrame _ _) c.in-Ok-false.field-0-test c.in-Ok-false.ensures.done))
+
+pub returns-in-Ok-true-is_at_end-clause-alone : goal.returns-in-Ok-true-is_at_end-clause-alone
+returns-in-Ok-true-is_at_end-clause-alone g c =
+    let same : c.loop-frames.frames ≡ c.args.limit = omega arith in
+    let (read, end) = c.in-Ok-true-is_at_end.ensures.end c.in-Ok-true-is_at_end.field-0-test in
+    serves_alone c.unrefused_are_told_alone.ensures _ _ _
+    (end_done _ _ _ c.loop-frames.frames c.args.limit same c.loop-frames.invariant.answered c.loop-frames.invariant.sound read refl refl end (c.in-Ok-true-is_at_end.ensures.sound, refl))

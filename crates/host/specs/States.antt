@@ -1,0 +1,13 @@
+-- The states of all tenants.
+use Rattle.std.specs.Prelude.{ℕ, ◌+◌, List, [], ◌∷◌}
+use Rattle.arena.specs.Memory.{Memory, part_bytes}
+use Rattle.tenant.specs.Kept.{Kept, state_in}
+use Rattle.tenant.specs.State.{State}
+
+-- of the tenants from this number on: the values of a tenant's maps lie in its part of the memory
+unfoldable pub states_from : Memory → ℕ → List Kept → List State
+states_from m t [] = []
+states_from m t (k ∷ ks) = state_in (part_bytes m t) k ∷ states_from m (t + 1) ks
+
+abbrev pub states_in : Memory → List Kept → List State
+states_in m tenants = states_from m 0 tenants

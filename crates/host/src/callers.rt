@@ -1,0 +1,30 @@
+//! What a caller can tell of a stream from the contracts alone.
+
+ghost use Rattle.std.specs.Prelude.{◌≡◌, ◌≤◌, ◌<◌, ◌-◌, ◌^◌, ℕ, List, replicate, IfSome};
+ghost use Rattle.tenant.specs.State.{State, new_tenant};
+ghost use Rattle.host.specs.Served.{ServesAlone};
+
+use crate::host::Host;
+use crate::server::serve;
+use crate::stream::{Sink, Source};
+use std::alloc::Global;
+
+/// A stream that a new host serves to its end: each tenant is told what the machine of a new tenant alone tells it.
+fn serve_from_the_beginning<R: Source, W: Sink>(
+    alloc: Global,
+    tenants: usize,
+    reader: &mut R,
+    writer: &mut W,
+) -> Option<u32>
+    requires some { 1 ≤ tenants }
+    requires few { tenants ≤ 16 }
+    requires reader { R.failures reader.old < 2 ^ 64 - 1 }
+    requires writer { W.failures writer.old < 2 ^ 64 - 1 }
+    ensures { IfSome result (λ count. (after : List State) × ServesAlone
+        (record { states = replicate tenants new_tenant; input = R.remaining reader.old; output = W.contents writer.old; read_failures = R.failures reader.old; write_failures = W.failures writer.old })
+        (record { states = after; input = R.remaining reader.new; output = W.contents writer.new; read_failures = R.failures reader.new; write_failures = W.failures writer.new })
+        count) }
+{
+    let mut host = Host::new(alloc, tenants).ok()?;
+    serve(alloc, &mut host, reader, writer, 100).ok()
+}

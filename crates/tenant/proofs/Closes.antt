@@ -1,0 +1,221 @@
+-- What closing a descriptor leaves.
+use Rattle.std.proofs.Common.{◌≡◌, ℕ, zero, suc, ◌+◌, ◌-◌, ◌≤◌, Bool, true, false, List, [], ◌∷◌, length, set, get_or, Option, Some, None, refl, sym, ap, ap₂, subst, ◌∙◌, inl, inr, arith, length-set}
+use Rattle.std.specs.Prelude.{◌==◌, ◌||◌, ◌⊎◌, nat_lt, slice_get, option_map, if◌then◌else◌}
+use Rattle.std.specs.Map.{lookup}
+use Rattle.std.specs.List.{list_any}
+use Rattle.std.specs.Option.{option_map_or}
+use Rattle.std.proofs.lemmas.Bool.{eq-eqb}
+use Rattle.std.proofs.lemmas.List.{ext_get_or}
+use Rattle.std.proofs.lemmas.Option.{none-some, get_or_from_slice_get}
+use Rattle.bpf_maps.specs.Live.{Tenant, holds_at, shape_at, map_in}
+use Rattle.fd_table.specs.Table.{first, named, without, flattened}
+use Rattle.tenant.specs.declared.object.Object.{Object}
+use Rattle.tenant.specs.declared.object.Object.TheVariants as object
+use Rattle.tenant.specs.Loaded.{Loaded}
+use Rattle.tenant.specs.State.{Map, total, names, is_named, named_from, with_objects}
+use Rattle.tenant.specs.Kept.{Kept, IsKept, IsPlaced, IsBound, holds_in, times, weight, by_descriptor, holders, maps_in, state_in}
+use Rattle.tenant.specs.Leaves.{Leaves}
+use Rattle.tenant.proofs.Sums.{total-unset, total-part}
+use Rattle.tenant.proofs.Opened.{unset_cases}
+use Rattle.tenant.proofs.LookUps.{get_or-map_some}
+
+-- ---- a test that is true where a number is not 0
+
+abbrev Tells : Bool → ℕ → Type 0
+Tells b n = ((b ≡ true) × (1 ≤ n)) ⊎ ((b ≡ false) × (n ≡ 0))
+
+tells_if : (b : Bool) → Tells b (if b then 1 else 0)
+tells_if true = inl (refl, omega arith)
+tells_if false = inr (refl, refl)
+
+tells_or : (a b : Bool) (m n : ℕ) → Tells a m → Tells b n → Tells (a || b) (m + n)
+tells_or a b m n (inl (a_is, some)) h = inl (ap (λ (x : Bool). x || b) a_is ∙ true_or b, omega arith)
+  where
+    true_or : (b : Bool) → (true || b) ≡ true
+    true_or true = refl
+    true_or false = refl
+tells_or a b m n (inr (a_is, none)) (inl (b_is, some)) = inl (ap₂ (λ (x y : Bool). x || y) a_is b_is, omega arith)
+tells_or a b m n (inr (a_is, none)) (inr (b_is, too)) = inr (ap₂ (λ (x y : Bool). x || y) a_is b_is, omega arith)
+
+tells_times : (place : ℕ) (ms : List (ℕ × ℕ)) → Tells (list_any (λ m. m.1 == place) ms) (times place ms)
+unfolding times
+tells_times place [] = inr (refl, refl)
+tells_times place (m ∷ ms) =
+    tells_or (m.1 == place) (list_any (λ m. m.1 == place) ms) (if m.1 == place then 1 else 0) (times place ms) (tells_if (m.1 == place)) (tells_times place ms)
+
+tells_names : (place : ℕ) (o : Object) → Tells (names place o) (weight place o)
+tells_names place (object.Map p) = tells_if (p == place)
+tells_names place (object.Program l) = tells_times place l.maps
+
+tells_first : (place : ℕ) (o : Option Object) → Tells (option_map_or (names place) o false) (option_map_or (weight place) o 0)
+tells_first place None = inr (refl, refl)
+tells_first place (Some o) = tells_names place o
+
+-- a map is named where some hold it
+tells_named : (place : ℕ) (objects : List (Option Object)) → Tells (is_named objects place) (holders place objects)
+unfolding total
+tells_named place [] = inr (refl, refl)
+tells_named place (o ∷ os) =
+    tells_or (option_map_or (names place) o false) (is_named os place) (option_map_or (weight place) o 0) (holders place os) (tells_first place o) (tells_named place os)
+
+-- ---- the maps that are still named
+
+length-named : (objects : List (Option Object)) (place : ℕ) (ms : List (Option Map)) → length (named_from objects place ms) ≡ length ms
+unfolding named_from
+length-named objects place [] = refl
+length-named objects place (m ∷ ms) = let rest = length-named objects (place + 1) ms in omega arith
+
+nothing : (b : Bool) → let none : Option Map = None in (if b then none else none) ≡ none
+nothing true = refl
+nothing false = refl
+
+get_or-named : (objects : List (Option Object)) (place i : ℕ) (ms : List (Option Map)) → get_or (named_from objects place ms) i None ≡ (if is_named objects (place + i) then get_or ms i None else None)
+unfolding named_from
+get_or-named objects place i [] = sym (nothing (is_named objects (place + i)))
+get_or-named objects place zero (m ∷ ms) = let e : place ≡ place + 0 = omega arith in ap (λ (p : ℕ). if is_named objects p then m else None) e
+get_or-named objects place (suc i) (m ∷ ms) =
+    let e : place + 1 + i ≡ place + suc i = omega arith in
+    get_or-named objects (place + 1) i ms ∙ ap (λ (p : ℕ). if is_named objects p then get_or ms i None else None) e
+
+length-maps : (part : List ℕ) (live : Tenant) (keys : List (Option ℕ)) → length (maps_in part live keys) ≡ length keys
+length-maps part live [] = refl
+length-maps part live (k ∷ ks) = let rest = length-maps part live ks in omega arith
+
+-- what is left are the maps that something names
+still_named : (objects : List (Option Object)) (keys after : List (Option ℕ)) (live t : Tenant) (part later : List ℕ) → IsPlaced keys live
+    → Leaves (record { keys = keys; live = live; part = part }) (record { keys = after; live = t; part = later }) → ((q : ℕ) → holds_in after t q ≡ holders q objects)
+    → maps_in later t after ≡ named_from objects 0 (maps_in part live keys)
+still_named objects keys after live t part later is left held =
+    ext_get_or None (maps_in later t after) (named_from objects 0 (maps_in part live keys))
+    (length-maps later t after ∙ left.placed.all ∙ sym is.all ∙ sym (length-maps part live keys) ∙ sym (length-named objects 0 (maps_in part live keys)))
+    (λ i within. get_or-map_some (map_in later t) after i ∙ at_place i (get_or after i None) refl ∙ sym (named_at i))
+  where
+    named_at : (i : ℕ) → get_or (named_from objects 0 (maps_in part live keys)) i None ≡ (if is_named objects i then option_map (map_in part live) (get_or keys i None) else None)
+    named_at i =
+        let e : 0 + i ≡ i = omega arith in
+        get_or-named objects 0 i (maps_in part live keys)
+        ∙ ap₂ (λ (p : ℕ) (o : Option Map). if is_named objects p then o else None) e (get_or-map_some (map_in part live) keys i)
+
+    at_place : (i : ℕ) (o : Option ℕ) → get_or after i None ≡ o → option_map (map_in later t) o ≡ (if is_named objects i then option_map (map_in part live) (get_or keys i None) else None)
+    at_place i None e = by_name (tells_named i objects)
+      where
+        none_hold : holders i objects ≡ 0
+        none_hold = sym (held i) ∙ ap (λ (o : Option ℕ). option_map_or (holds_at t) o 0) e
+
+        by_name : Tells (is_named objects i) (holders i objects) → None ≡ (if is_named objects i then option_map (map_in part live) (get_or keys i None) else None)
+        by_name (inl (is, some)) = absurd (let none = none_hold in omega arith)
+        by_name (inr (isnt, none)) = sym (ap (λ (b : Bool). if b then option_map (map_in part live) (get_or keys i None) else None) isnt)
+    at_place i (Some key) e = by_name (tells_named i objects)
+      where
+        some_hold : 1 ≤ holders i objects
+        some_hold = subst (λ (n : ℕ). 1 ≤ n) (sym (ap (λ (o : Option ℕ). option_map_or (holds_at t) o 0) e) ∙ held i) (left.placed.each i key e).some
+
+        by_name : Tells (is_named objects i) (holders i objects) → Some (map_in later t key) ≡ (if is_named objects i then option_map (map_in part live) (get_or keys i None) else None)
+        by_name (inl (is_named_so, some)) =
+            let (was, same) = left.stays i key e in
+            ap Some same ∙ sym (ap (option_map (map_in part live)) was) ∙ sym (ap (λ (b : Bool). if b then option_map (map_in part live) (get_or keys i None) else None) is_named_so)
+        by_name (inr (isnt, none)) = absurd (let some = some_hold in omega arith)
+
+-- ---- a descriptor that is closed
+
+abbrev pub kept_closed : Kept → Tenant → List (Option ℕ) → ℕ → Kept
+kept_closed k t after fd = record { objects = without k.objects fd; keys = after; live = t; refused = k.refused }
+
+-- what it named stood at its place
+pub closed_at : (objects : List (Option Object)) (fd : ℕ) (o : Object) → named objects fd ≡ Some o → (without objects fd ≡ set objects (fd - first) None) × (get_or objects (fd - first) None ≡ Some o)
+closed_at objects fd o opened = by_test (nat_lt fd first) opened
+  where
+    at : (x : Option (Option Object)) → slice_get objects (fd - first) ≡ x → flattened x ≡ Some o → get_or objects (fd - first) None ≡ Some o
+    at None e opened = absurd (none-some o opened)
+    at (Some x) e opened = get_or_from_slice_get objects (fd - first) x None e ∙ opened
+
+    by_test : (low : Bool) → (if low then None else flattened (slice_get objects (fd - first))) ≡ Some o
+        → ((if low then objects else set objects (fd - first) None) ≡ set objects (fd - first) None) × (get_or objects (fd - first) None ≡ Some o)
+    by_test true e = absurd (none-some o e)
+    by_test false e = (refl, at (slice_get objects (fd - first)) refl e)
+
+bound_times : (ms : List (ℕ × ℕ)) (fd p : ℕ) → lookup (λ m. m == fd) ms ≡ Some p → 1 ≤ times p ms
+unfolding times
+bound_times [] fd p e = absurd (none-some p e)
+bound_times (m ∷ ms) fd p e = by_test (m.0 == fd) (λ found. bound_times ms fd p found) e
+  where
+    inside : (a b : ℕ) → Some a ≡ Some b → a ≡ b
+    inside a b e = cc
+
+    one_if : (b : Bool) → b ≡ true → 1 ≤ (if b then 1 else 0)
+    one_if true e = omega arith
+    one_if false e = absurd (let wrong : false ≡ true = e in cc wrong)
+
+    rest : (a b : ℕ) → 1 ≤ b → 1 ≤ a + b
+    rest a b h = omega arith
+
+    begins : (a b : ℕ) → 1 ≤ a → 1 ≤ a + b
+    begins a b h = omega arith
+
+    by_test : (here : Bool) → (lookup (λ m. m == fd) ms ≡ Some p → 1 ≤ times p ms) → (if here then Some m.1 else lookup (λ m. m == fd) ms) ≡ Some p → 1 ≤ (if m.1 == p then 1 else 0) + times p ms
+    by_test true later e = begins (if m.1 == p then 1 else 0) (times p ms) (one_if (m.1 == p) (eq-eqb m.1 p (inside m.1 p e)))
+    by_test false later e = rest (if m.1 == p then 1 else 0) (times p ms) (later e)
+
+pub closed_kept : (k : Kept) (t : Tenant) (after : List (Option ℕ)) (part later : List ℕ) (fd : ℕ) (o : Object) → IsKept k → named k.objects fd ≡ Some o
+    → Leaves (record { keys = k.keys; live = k.live; part = part }) (record { keys = after; live = t; part = later }) → ((q : ℕ) → holds_in after t q + weight q o ≡ holds_in k.keys k.live q)
+    → IsKept (kept_closed k t after fd)
+closed_kept k t after part later fd o is opened left fewer =
+    let (gone, there) = closed_at k.objects fd o opened in
+    let n = fd - first in
+    let objects = set k.objects n None in
+    let held : (q : ℕ) → holds_in after t q ≡ holders q objects = λ q.
+    let now = fewer q in
+    let was = is.held q in
+    let sum = total-unset (weight q) k.objects n o there in
+    omega arith in
+    let kept : IsKept (record { objects = objects; keys = after; live = t; refused = k.refused }) = record {
+      all = length-set {A = Option Object} k.objects n None ∙ is.all;
+      placed = left.placed;
+      held = held;
+      single = λ q. let was = is.single q in let sum = total-unset (by_descriptor q) k.objects n o there in omega arith;
+      bound = λ i l at. still_bound objects held i l at (unset_cases k.objects n i (object.Program l) at).1;
+    } in
+    subst (λ (os : List (Option Object)). IsKept (record { objects = os; keys = after; live = t; refused = k.refused })) (sym gone) kept
+  where
+    inside : (a b : ℕ) → Some a ≡ Some b → a ≡ b
+    inside a b e = cc
+
+    key_of : (q : ℕ) (o : Option ℕ) → get_or after q None ≡ o → 1 ≤ holds_in after t q → (key : ℕ) × (get_or after q None ≡ Some key)
+    key_of q None e some = absurd (let none : holds_in after t q ≡ 0 = ap (λ (o : Option ℕ). option_map_or (holds_at t) o 0) e in omega arith)
+    key_of q (Some key) e some = (key, e)
+
+    still_bound : (objects : List (Option Object)) → ((q : ℕ) → holds_in after t q ≡ holders q objects) → (i : ℕ) (l : Loaded) → get_or objects i None ≡ Some (object.Program l) → get_or k.objects i None ≡ Some (object.Program l)
+        → IsBound (record { objects = objects; keys = after; live = t; refused = k.refused }) l
+    still_bound objects held i l at stood = let was = is.bound i l stood in record {
+      each = was.each;
+      once = was.once;
+      shaped = λ f p found.
+          let (key, key_is, shaped) = was.shaped f p found in
+          let some = bound_times l.maps f p found in
+          let most = total-part (weight p) objects i (object.Program l) at in
+          let all = held p in
+          let (now, there) = key_of p (get_or after p None) refl (omega arith) in
+          let (was_there, same) = left.stays p now there in
+          let one : key ≡ now = inside key now (sym key_is ∙ was_there) in
+          (now, there, shaped ∙ ap Some (ap (λ (n : ℕ). shape_at k.live n) one ∙ sym (ap (λ (m : Map). m.shape) same)));
+    }
+
+pub closed_state : (k : Kept) (t : Tenant) (after : List (Option ℕ)) (part later : List ℕ) (fd : ℕ) (o : Object) → IsKept k → named k.objects fd ≡ Some o
+    → Leaves (record { keys = k.keys; live = k.live; part = part }) (record { keys = after; live = t; part = later }) → IsKept (kept_closed k t after fd)
+    → state_in later (kept_closed k t after fd) ≡ with_objects (state_in part k) (without k.objects fd)
+closed_state k t after part later fd o is opened left now =
+    ap₂ (λ (ms : List (Option Map)) (refused : Bool). record { objects = without k.objects fd; maps = ms; refused = k.refused || refused })
+    (still_named (without k.objects fd) k.keys after k.live t part later is.placed left now.held) left.refused
+
+-- a descriptor that is not open
+pub nothing_closed : (objects : List (Option Object)) (fd : ℕ) → named objects fd ≡ None → without objects fd ≡ objects
+nothing_closed objects fd e = by_test (nat_lt fd first) e
+  where
+    same : (xs : List (Option Object)) (n : ℕ) → flattened (slice_get xs n) ≡ None → set xs n None ≡ xs
+    same [] n e = refl
+    same (x ∷ xs) zero e = ap (λ (y : Option Object). y ∷ xs) (sym e)
+    same (x ∷ xs) (suc n) e = ap (λ (ys : List (Option Object)). x ∷ ys) (same xs n e)
+
+    by_test : (low : Bool) → (if low then None else flattened (slice_get objects (fd - first))) ≡ None → (if low then objects else set objects (fd - first) None) ≡ objects
+    by_test true e = refl
+    by_test false e = same objects (fd - first) e

@@ -1,0 +1,140 @@
+-- The maps that a run is given, and those that it leaves.
+use Rattle.std.proofs.Common.{◌≡◌, ℕ, suc, ◌+◌, ◌<◌, Bool, true, false, cond, not, List, [], ◌∷◌, length, set, get_or, Option, Some, None, IsSome, refl, sym, ap, subst, ◌∙◌, inl, inr, arith, length-set, get_or-set_same, get_or-set_other}
+use Rattle.std.specs.Prelude.{◌⊎◌, ◌==◌, nat_lt, option_map, slice_index, if◌then◌else◌}
+use Rattle.std.specs.List.{position, position_or_len}
+use Rattle.std.specs.Map.{lookup, keys_of}
+use Rattle.std.proofs.Math.Path.{fun_ext}
+use Rattle.std.proofs.lemmas.Bool.{cases_eq, ne_eqb, lt-ltb, ltb-true, ltb-false}
+use Rattle.std.proofs.lemmas.List.{ext_get_or}
+use Rattle.std.proofs.lemmas.List.Quantifiers.{position-Some}
+use Rattle.bpf_maps.specs.declared.part.TheConstants.{MAPS}
+use Rattle.bpf_maps.specs.Live.{Tenant, live_at, map_in}
+use Rattle.flat_machine.specs.Runs.{given_maps, bound_key, KeepsMaps, KeepsValues}
+use Rattle.tagged_model.specs.Cells.{also}
+use Rattle.tagged_model.specs.Step.{Maps}
+use Rattle.verdict.specs.Maps.{maps_of}
+use Rattle.tenant.specs.Kept.{Kept, IsKept, IsBound, key_at, times, maps_in, state_in}
+use Rattle.tenant.specs.Loaded.{Loaded}
+use Rattle.tenant.specs.Machine.{maps_given, maps_left}
+use Rattle.tenant.specs.State.{Map, live}
+use Rattle.tenant.specs.TestRun.{place_at, HasKeys}
+use Rattle.tenant.proofs.LookUps.{get_or-map_some, live_is}
+use Rattle.tenant.proofs.Releases.{one_at}
+use Rattle.tenant.proofs.TestRunPlaces.{times_here}
+use Rattle.tenant.proofs.TestRunKept.{IsElsewhere}
+use Rattle.tenant.proofs.TestRunKeys.{descriptor_at, length-keys}
+use Rattle.tenant.proofs.Places.{length-mapped}
+
+-- ---- the maps that it is given
+
+module _ (p : ℕ → Bool) where
+  found_first : (x : ℕ) (xs : List ℕ) → p x ≡ true → position p (x ∷ xs) ≡ Some 0
+  found_first x xs passes =
+      let first : position_or_len p (x ∷ xs) ≡ 0 = ap (λ (b : Bool). cond (not b) (1 + position_or_len p xs) 0) passes in
+      ap (λ (n : ℕ). cond (nat_lt n (length (x ∷ xs))) (Some n) None) first ∙ ap (λ (b : Bool). cond b (Some 0) None) (lt-ltb 0 (length (x ∷ xs)) (omega arith))
+
+  found_later : (x : ℕ) (xs : List ℕ) → p x ≡ false → position p (x ∷ xs) ≡ option_map (λ i. suc i) (position p xs)
+  found_later x xs fails =
+      let n = position_or_len p xs in
+      let first : position_or_len p (x ∷ xs) ≡ 1 + n = ap (λ (b : Bool). cond (not b) (1 + position_or_len p xs) 0) fails in
+      ap (λ (m : ℕ). cond (nat_lt m (length (x ∷ xs))) (Some m) None) first ∙ by (nat_lt n (length xs)) (nat_lt (1 + n) (length (x ∷ xs))) refl refl
+    where
+      by : (b c : Bool) → nat_lt (position_or_len p xs) (length xs) ≡ b → nat_lt (1 + position_or_len p xs) (length (x ∷ xs)) ≡ c
+          → cond c (Some (1 + position_or_len p xs)) None ≡ option_map (λ i. suc i) (cond b (Some (position_or_len p xs)) None)
+      by true true e f = let next : 1 + position_or_len p xs ≡ suc (position_or_len p xs) = omega arith in ap (λ (m : ℕ). Some m) next
+      by false false e f = refl
+      by true false e f = absurd (let lt = ltb-true (position_or_len p xs) (length xs) e in let ge = ltb-false (1 + position_or_len p xs) (length (x ∷ xs)) f in omega arith)
+      by false true e f = absurd (let ge = ltb-false (position_or_len p xs) (length xs) e in let lt = ltb-true (1 + position_or_len p xs) (length (x ∷ xs)) f in omega arith)
+
+-- the entry of a descriptor is at the place where it stands
+lookup_is : (maps : List (ℕ × ℕ)) (fd : ℕ) → lookup (λ m. m == fd) maps ≡ option_map (λ i. place_at maps i) (position (λ m. m == fd) (keys_of maps))
+lookup_is [] fd = refl
+lookup_is (m ∷ ms) fd = by (m.0 == fd) refl (lookup_is ms fd)
+  where
+    later : (o : Option ℕ) → option_map (λ i. place_at ms i) o ≡ option_map (λ i. place_at (m ∷ ms) i) (option_map (λ i. suc i) o)
+    later None = refl
+    later (Some i) = refl
+
+    by : (b : Bool) → (m.0 == fd) ≡ b → lookup (λ k. k == fd) ms ≡ option_map (λ i. place_at ms i) (position (λ k. k == fd) (keys_of ms))
+        → cond (m.0 == fd) (Some m.1) (lookup (λ k. k == fd) ms) ≡ option_map (λ i. place_at (m ∷ ms) i) (position (λ k. k == fd) (m.0 ∷ keys_of ms))
+    by true e rest =
+        ap (λ (b : Bool). cond b (Some m.1) (lookup (λ k. k == fd) ms)) e
+        ∙ sym (ap (option_map (λ i. place_at (m ∷ ms) i)) (found_first (λ k. k == fd) m.0 (keys_of ms) e))
+    by false e rest =
+        ap (λ (b : Bool). cond b (Some m.1) (lookup (λ k. k == fd) ms)) e
+        ∙ rest
+        ∙ later (position (λ k. k == fd) (keys_of ms))
+        ∙ sym (ap (option_map (λ i. place_at (m ∷ ms) i)) (found_later (λ k. k == fd) m.0 (keys_of ms) e))
+
+module _ (part : List ℕ) (k : Kept) (l : Loaded) (bind : List ℕ) (each : keys_of l.maps ≡ maps_of l.insns) (count : length bind ≡ length l.maps) (keys : HasKeys k.keys l.maps bind) where
+  given_at : (o : Option ℕ) → ((i : ℕ) → o ≡ Some i → i < length l.maps)
+      → option_map (map_in part k.live) (option_map (λ i. slice_index bind i) o) ≡ also (option_map (λ i. place_at l.maps i) o) (λ place. live (state_in part k) place)
+  given_at None within = refl
+  given_at (Some i) within = sym (live_is part k (place_at l.maps i) (slice_index bind i) (keys i (within i refl)))
+
+  stands_within : (fd i : ℕ) → position (λ m. m == fd) (keys_of l.maps) ≡ Some i → i < length l.maps
+  stands_within fd i e = let there = position-Some (λ m. m == fd) (keys_of l.maps) i 0 e in let long = length-keys l.maps in let within = there.0 in omega arith
+
+  -- the run is given the machine's
+  pub given_is : given_maps l.insns bind k.live part ≡ maps_given (state_in part k) l
+  given_is = fun_ext (λ fd.
+      ap (λ (fds : List ℕ). option_map (λ key. map_in part k.live key) (bound_key fds bind fd)) (sym each)
+      ∙ given_at (position (λ m. m == fd) (keys_of l.maps)) (stands_within fd)
+      ∙ ap (λ (o : Option ℕ). also o (λ place. live (state_in part k) place)) (sym (lookup_is l.maps fd)))
+
+-- ---- the maps that it leaves
+
+-- where each map that is left is another list's at its place, and the other places are that list's, all are
+left_all : (left : Maps) (target : List (Option Map)) (ms : List (ℕ × ℕ)) (maps : List (Option Map)) → length maps ≡ length target
+    → ((i : ℕ) → i < length ms → (place_at ms i < length target) × (left (descriptor_at ms i) ≡ get_or target (place_at ms i) None))
+    → ((place : ℕ) → times place ms ≡ 0 → get_or maps place None ≡ get_or target place None)
+    → maps_left left ms maps ≡ target
+unfolding maps_left times
+left_all left target [] maps long h rest = ext_get_or None maps target long (λ i lt. rest i refl)
+left_all left target (m ∷ ms) maps long h rest =
+    left_all left target ms (set maps m.1 (left m.0)) (length-set maps m.1 (left m.0) ∙ long) (λ i lt. h (suc i) (omega arith)) (λ place none. by place none (cases_eq place m.1))
+  where
+    by : (place : ℕ) → times place ms ≡ 0 → (place ≡ m.1) ⊎ (place ≡ m.1 → ⊥) → get_or (set maps m.1 (left m.0)) place None ≡ get_or target place None
+    by place none (inl same) =
+        let (within, is) = h 0 (omega arith) in
+        ap (λ (p : ℕ). get_or (set maps m.1 (left m.0)) p None) same
+        ∙ get_or-set_same maps m.1 (left m.0) None (omega arith)
+        ∙ is
+        ∙ ap (λ (p : ℕ). get_or target p None) (sym same)
+    by place none (inr other) =
+        let apart : one_at m.1 place ≡ 0 = ap (λ (b : Bool). if b then 1 else 0) (ne_eqb m.1 place (λ e. other (sym e))) in
+        get_or-set_other maps m.1 place (left m.0) None other ∙ rest place (omega arith)
+
+module _ (part later : List ℕ) (k : Kept) (new : Tenant) (l : Loaded) (bind : List ℕ) (is : IsKept k) (bound : IsBound k l) (count : length bind ≡ length l.maps) (keys : HasKeys k.keys l.maps bind)
+    (kept : KeepsMaps bind k.live new) (values : KeepsValues bind k.live part new later) where
+  -- a map that is not bound is what it was
+  other_map : (place key : ℕ) → key_at k place ≡ Some key → times place l.maps ≡ 0 → map_in part k.live key ≡ map_in later new key
+  other_map place key there none =
+      let away : IsElsewhere bind key = λ i lt same.
+      let at : place ≡ place_at l.maps i = is.placed.apart place (place_at l.maps i) key there (keys i (omega arith) ∙ ap (λ (n : ℕ). Some n) same) in
+      let here = times_here l.maps i (omega arith) in
+      let same_times : times (place_at l.maps i) l.maps ≡ 0 = subst (λ (p : ℕ). times p l.maps ≡ 0) at none in
+      omega arith in
+      let stays : IsSome (live_at new key) = subst IsSome (sym (kept.others key away)) (is.placed.each place key there).there in
+      sym (values.pairs key away stays)
+
+  other_place : (place : ℕ) (o : Option ℕ) → key_at k place ≡ o → times place l.maps ≡ 0 → option_map (map_in part k.live) o ≡ option_map (map_in later new) o
+  other_place place None there none = refl
+  other_place place (Some key) there none = ap (λ (t : Map). Some t) (other_map place key there none)
+
+  pub left_is : (left : Maps) → ((i : ℕ) → i < length bind → left (slice_index (maps_of l.insns) i) ≡ Some (map_in later new (slice_index bind i)))
+      → ((i : ℕ) → i < length l.maps → place_at l.maps i < MAPS) → maps_left left l.maps (maps_in part k.live k.keys) ≡ maps_in later new k.keys
+  left_is left each within =
+      let long = length-mapped (map_in later new) k.keys in
+      let all = is.placed.all in
+      left_all left (maps_in later new k.keys) l.maps (maps_in part k.live k.keys) (length-mapped (map_in part k.live) k.keys ∙ sym long)
+      (λ i lt. let here = within i lt in (
+        omega arith,
+        ap (λ (fds : List ℕ). left (slice_index fds i)) bound.each
+            ∙ each i (omega arith)
+            ∙ sym (get_or-map_some (map_in later new) k.keys (place_at l.maps i) ∙ ap (option_map (map_in later new)) (keys i lt)),
+      ))
+      (λ place none.
+      get_or-map_some (map_in part k.live) k.keys place
+      ∙ other_place place (key_at k place) refl none
+      ∙ sym (get_or-map_some (map_in later new) k.keys place))

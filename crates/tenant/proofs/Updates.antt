@@ -1,0 +1,218 @@
+-- What an update leaves.
+use Rattle.std.proofs.Common.{◌≡◌, ◌≢◌, ℕ, ◌+◌, Bool, true, false, List, [], length, take, drop, Option, Some, IsSome, Result, Ok, Err, refl, sym, ap, subst, ◌∙◌}
+use Rattle.std.specs.Prelude.{◌==◌, ◌||◌, if◌then◌else◌}
+use Rattle.std.proofs.lemmas.Bool.{eq-eqb}
+use Rattle.bpf_maps.specs.Live.{Tenant, live_at, holds_at, places_at, shape_at, map_in, value_in, SameAreas, SameRoom, is_memory}
+use Rattle.bpf_maps.specs.Places.{PlaceTable, table_of, Claims}
+use Rattle.bpf_maps.specs.InPart.{updated as change, IsValueAt, with_value, ValuesAreWritten, LiveMapsGoAlong}
+use Rattle.fd_table.specs.Table.{named}
+use Rattle.tagged_model.specs.MapLaws.{CallsGoAlong, VerdictsTell}
+use Rattle.tagged_model.specs.declared.fault.MapFault.{MapFault}
+use Rattle.tagged_model.specs.declared.fault.MapFault.TheVariants as fault
+use Rattle.tagged_model.specs.Table.{Verdict, Refused, Present, New, verdict, verdict_with}
+use Rattle.tenant.specs.declared.errno.Errno.TheVariants.{Invalid}
+use Rattle.tenant.specs.declared.object.Object.TheVariants as object
+use Rattle.tenant.specs.Errno.{map_errno}
+use Rattle.tenant.specs.State.{Map, State, with_map}
+use Rattle.tenant.specs.Machine.{Answer, refuses, gives, put, updated}
+use Rattle.tenant.specs.Kept.{Kept, IsKept, key_at, state_in}
+use Rattle.tenant.proofs.LookUps.{on_map_is}
+use Rattle.tenant.proofs.StillKept.{with_live, IsLiveStill, each_still, still_kept}
+use Rattle.tenant.proofs.OneMap.{one_map, all_maps, each_same, others_keep}
+
+abbrev put_of : Bool → State → ℕ → Map → List ℕ → ℕ → Answer
+put_of refused s place t bytes flags =
+    put refused s place t (take t.shape.key_size bytes) (drop t.shape.key_size bytes) (verdict t (take t.shape.key_size bytes) flags)
+
+abbrev answer_to : Bool → State → ℕ → List ℕ → ℕ → Map → Answer
+answer_to refused s flags bytes place t =
+    if length bytes == t.shape.key_size + t.shape.value_size then put_of refused s place t bytes flags else refuses Invalid s
+
+-- the answer is what the verdict comes to
+pub update_is : (refused : Bool) (part : List ℕ) (k : Kept) (fd place m flags : ℕ) (bytes : List ℕ) → named k.objects fd ≡ Some (object.Map place) → key_at k place ≡ Some m
+    → length bytes ≡ (shape_at k.live m).key_size + (shape_at k.live m).value_size
+    → let key = take (shape_at k.live m).key_size bytes in
+    updated refused (state_in part k) fd flags bytes
+    ≡ put refused (state_in part k) place (map_in part k.live m) key (drop (shape_at k.live m).key_size bytes) (verdict (map_in part k.live m) key flags)
+update_is refused part k fd place m flags bytes opened there size =
+    let s = state_in part k in
+    let T = map_in part k.live m in
+    let key = take (shape_at k.live m).key_size bytes in
+    let right : (length bytes == (shape_at k.live m).key_size + (shape_at k.live m).value_size) ≡ true = eq-eqb (length bytes) ((shape_at k.live m).key_size + (shape_at k.live m).value_size) size in
+    on_map_is part k fd place m (λ p t. answer_to refused s flags bytes p t) opened there
+    ∙ ap (λ (b : Bool). if b then put_of refused s place T bytes flags else refuses Invalid s) right
+
+-- a key and a value of other sizes
+pub refused_sizes : (part : List ℕ) (k : Kept) (fd place m flags : ℕ) (bytes : List ℕ) → named k.objects fd ≡ Some (object.Map place) → key_at k place ≡ Some m
+    → (length bytes == (shape_at k.live m).key_size + (shape_at k.live m).value_size) ≡ false → updated false (state_in part k) fd flags bytes ≡ refuses Invalid (state_in part k)
+refused_sizes part k fd place m flags bytes opened there other =
+    let s = state_in part k in
+    let T = map_in part k.live m in
+    on_map_is part k fd place m (λ p t. answer_to false s flags bytes p t) opened there
+    ∙ ap (λ (b : Bool). if b then put_of false s place T bytes flags else refuses Invalid s) other
+
+-- ---- what a claim answers
+
+abbrev Claim : Type 0
+Claim = Result ℕ MapFault
+
+not_ok : (f : MapFault) (p : ℕ) → let a : Claim = Err f in let b : Claim = Ok p in a ≢ b
+not_ok f p e = cc
+
+same_fault : (f g : MapFault) → let a : Claim = Err f in let b : Claim = Err g in a ≡ b → f ≡ g
+same_fault f g e = cc
+
+-- a claim keeps what is kept apart
+pub claimed_kept : (v : Verdict ℕ) (key : List ℕ) (old : PlaceTable) (r : Claim) (new : PlaceTable) → Claims v key old r new → new.kept ≡ old.kept
+claimed_kept (Refused f) key old r new (is, same) = ap (λ (t : PlaceTable). t.kept) same
+claimed_kept (Present p) key old r new (is, same) = ap (λ (t : PlaceTable). t.kept) same
+claimed_kept New key old (Ok p) new (free, is) = ap (λ (t : PlaceTable). t.kept) is
+claimed_kept New key old (Err fault.Memory) new same = ap (λ (t : PlaceTable). t.kept) same
+claimed_kept New key old (Err fault.NoEntry) new h = absurd h
+claimed_kept New key old (Err fault.TooBig) new h = absurd h
+claimed_kept New key old (Err fault.Exists) new h = absurd h
+claimed_kept New key old (Err fault.Invalid) new h = absurd h
+claimed_kept New key old (Err fault.NoSpace) new h = absurd h
+
+-- and a refused one all
+pub refused_claim : (v : Verdict ℕ) (key : List ℕ) (old : PlaceTable) (f : MapFault) (new : PlaceTable) → Claims v key old (Err f) new → new ≡ old
+refused_claim (Refused g) key old f new (is, same) = same
+refused_claim (Present p) key old f new (is, same) = same
+refused_claim New key old fault.Memory new same = same
+refused_claim New key old fault.NoEntry new h = absurd h
+refused_claim New key old fault.TooBig new h = absurd h
+refused_claim New key old fault.Exists new h = absurd h
+refused_claim New key old fault.Invalid new h = absurd h
+refused_claim New key old fault.NoSpace new h = absurd h
+
+-- a key that was claimed is put
+done_by : (v : Verdict ℕ) (key : List ℕ) (old : PlaceTable) (p : ℕ) (new : PlaceTable) → Claims v key old (Ok p) new → (f : ℕ → List ℕ) (s : State) (place : ℕ) (T : Map) (value : List ℕ)
+    → put false s place T key value (verdict_with f v) ≡ gives [] (with_map s place (change (verdict_with f v) T key value))
+done_by (Refused g) key old p new (is, same) f s place T value = absurd (not_ok g p (sym is))
+done_by (Present q) key old p new h f s place T value = refl
+done_by New key old p new h f s place T value = refl
+
+pub done_put : (v : Verdict ℕ) (w : Verdict (List ℕ)) (key : List ℕ) (old : PlaceTable) (p : ℕ) (new : PlaceTable) → Claims v key old (Ok p) new → (f : ℕ → List ℕ) → w ≡ verdict_with f v
+    → (s : State) (place : ℕ) (T : Map) (value : List ℕ) → put false s place T key value w ≡ gives [] (with_map s place (change w T key value))
+done_put v w key old p new claimed f same s place T value =
+    subst (λ (x : Verdict (List ℕ)). put false s place T key value x ≡ gives [] (with_map s place (change x T key value))) (sym same) (done_by v key old p new claimed f s place T value)
+
+-- ---- a refused claim
+
+-- the state with the flag, where memory was refused
+abbrev pub flagged : Bool → State → State
+flagged true s = record s { refused = true }
+flagged false s = s
+
+-- the refusal is memory's, or not
+abbrev pub Fails : Verdict (List ℕ) → MapFault → List ℕ → State → ℕ → Map → List ℕ → Type 0
+Fails w f key s place T value = (refused : Bool) × (is_memory (Err f) ≡ refused) × (put refused s place T key value w ≡ refuses (map_errno f) (flagged refused s))
+
+no_memory : (f : MapFault) → f ≢ fault.Memory → is_memory (Err f) ≡ false
+no_memory fault.Memory other = absurd (other refl)
+no_memory fault.NoEntry other = refl
+no_memory fault.TooBig other = refl
+no_memory fault.Exists other = refl
+no_memory fault.Invalid other = refl
+no_memory fault.NoSpace other = refl
+
+failed_by : (v : Verdict ℕ) (key : List ℕ) (old : PlaceTable) (f : MapFault) (new : PlaceTable) → v ≢ Refused fault.Memory → Claims v key old (Err f) new
+    → (g : ℕ → List ℕ) (s : State) (place : ℕ) (T : Map) (value : List ℕ) → Fails (verdict_with g v) f key s place T value
+failed_by (Refused other) key old f new some (is, same) g s place T value =
+    let which : f ≡ other = same_fault f other is in
+    (false, no_memory f (λ memory. some (ap Refused (sym which ∙ memory))), ap (λ (x : MapFault). refuses (map_errno x) s) (sym which))
+failed_by (Present p) key old f new some (is, same) g s place T value = absurd (not_ok f p is)
+failed_by New key old fault.Memory new some same g s place T value = (true, refl, refl)
+failed_by New key old fault.NoEntry new some h g s place T value = absurd h
+failed_by New key old fault.TooBig new some h g s place T value = absurd h
+failed_by New key old fault.Exists new some h g s place T value = absurd h
+failed_by New key old fault.Invalid new some h g s place T value = absurd h
+failed_by New key old fault.NoSpace new some h g s place T value = absurd h
+
+pub failed_put : (v : Verdict ℕ) (w : Verdict (List ℕ)) (key : List ℕ) (old : PlaceTable) (f : MapFault) (new : PlaceTable) → v ≢ Refused fault.Memory → Claims v key old (Err f) new
+    → (g : ℕ → List ℕ) → w ≡ verdict_with g v → (s : State) (place : ℕ) (T : Map) (value : List ℕ) → Fails w f key s place T value
+failed_put v w key old f new some claimed g same s place T value =
+    subst (λ (x : Verdict (List ℕ)). Fails x f key s place T value) (sym same) (failed_by v key old f new some claimed g s place T value)
+
+or_false : (x : Bool) → (x || false) ≡ x
+or_false true = refl
+or_false false = refl
+
+pub flag_of : (a b r t : Bool) → t ≡ (b || r) → (s : State) (refused : Bool) → r ≡ refused → s.refused ≡ (a || b) → record s { refused = a || t } ≡ flagged refused s
+flag_of a b r t is s refused same was = by_choice refused (same)
+  where
+    or_true : (x y : Bool) → (x || (y || true)) ≡ true
+    or_true true y = refl
+    or_true false true = refl
+    or_true false false = refl
+
+    by_choice : (refused : Bool) → r ≡ refused → record s { refused = a || t } ≡ flagged refused s
+    by_choice true e = ap (λ (x : Bool). record s { refused = x }) (ap (λ (x : Bool). a || x) (is ∙ ap (λ (x : Bool). b || x) e) ∙ or_true a b)
+    by_choice false e = ap (λ (x : Bool). record s { refused = x }) (ap (λ (x : Bool). a || x) (is ∙ ap (λ (x : Bool). b || x) e ∙ or_false b) ∙ sym was)
+
+-- ---- the whole command
+
+-- what a claim for a key of the map under m leaves of the live maps
+pub record IsClaimed (k : Kept) (t : Tenant) (m flags : ℕ) (key : List ℕ) (r : Claim) : Type 0 where
+  pub claimed : Claims (verdict (table_of (places_at k.live m)) key flags) key (places_at k.live m) r (places_at t m)
+  pub live : IsSome (live_at t m)
+  pub holds : holds_at t m ≡ holds_at k.live m
+  pub shape : shape_at t m ≡ shape_at k.live m
+  pub others : (other : ℕ) → other ≢ m → live_at t other ≡ live_at k.live other
+  pub areas : SameAreas k.live t
+  pub room : SameRoom k.live t
+  pub refused : t.refused ≡ (k.live.refused || is_memory r)
+
+pub still_claimed : (k : Kept) (t : Tenant) (place m flags : ℕ) (key : List ℕ) (r : Claim) → IsKept k → key_at k place ≡ Some m → IsClaimed k t m flags key r → IsKept (with_live k t)
+still_claimed k t place m flags key r is there c =
+    let here : IsLiveStill k.live t m = record {
+      live = c.live;
+      holds = c.holds;
+      shape = c.shape;
+      ended = claimed_kept (verdict (table_of (places_at k.live m)) key flags) key (places_at k.live m) r (places_at t m) c.claimed ∙ (is.placed.each place m there).ended;
+    } in
+    still_kept k t is (each_still k t m is here c.others) c.room
+
+pub updated_at : LiveMapsGoAlong → ValuesAreWritten → CallsGoAlong ℕ (List ℕ) → (part : List ℕ) (k : Kept) (t : Tenant) (fd place m flags p : ℕ) (bytes : List ℕ) → IsKept k
+    → named k.objects fd ≡ Some (object.Map place) → key_at k place ≡ Some m → length bytes ≡ (shape_at k.live m).key_size + (shape_at k.live m).value_size
+    → let key = take (shape_at k.live m).key_size bytes in
+    let value = drop (shape_at k.live m).key_size bytes in
+    IsClaimed k t m flags key (Ok p) → IsValueAt part t m p value
+    → gives [] (state_in (with_value part t m p value) (with_live k t)) ≡ updated false (state_in part k) fd flags bytes
+updated_at along written calls part k t fd place m flags p bytes is opened there size c at =
+    let key = take (shape_at k.live m).key_size bytes in
+    let value = drop (shape_at k.live m).key_size bytes in
+    let s = state_in part k in
+    let T = map_in part k.live m in
+    let later = with_value part t m p value in
+    let v = verdict (table_of (places_at k.live m)) key flags in
+    let w = verdict T key flags in
+    let whole = written part t m p value at in
+    let others : (i other : ℕ) → key_at k i ≡ Some other → other ≢ m → map_in later t other ≡ map_in part k.live other =
+    λ i other stands apart.
+    whole.others other apart (subst IsSome (sym (c.others other apart)) (is.placed.each i other stands).there) ∙ others_keep part k.live t m c.others other apart in
+    let state : state_in later (with_live k t) ≡ with_map s place (change w T key value) =
+    one_map part later k t place m (change w T key value) is there others ((along part k.live t m c.areas c.live).update flags p key value at c.claimed) (c.refused ∙ or_false k.live.refused) in
+    ap (gives []) state
+    ∙ sym (done_put v w key (places_at k.live m) p (places_at t m) c.claimed (value_in part k.live m) (calls.verdict (value_in part k.live m) (table_of (places_at k.live m)) key flags) s place T value)
+    ∙ sym (update_is false part k fd place m flags bytes opened there size)
+
+pub update_refused : LiveMapsGoAlong → CallsGoAlong ℕ (List ℕ) → VerdictsTell ℕ → (part : List ℕ) (k : Kept) (t : Tenant) (fd place m flags : ℕ) (f : MapFault) (bytes : List ℕ) → IsKept k
+    → named k.objects fd ≡ Some (object.Map place) → key_at k place ≡ Some m → length bytes ≡ (shape_at k.live m).key_size + (shape_at k.live m).value_size
+    → IsClaimed k t m flags (take (shape_at k.live m).key_size bytes) (Err f)
+    → (refused : Bool) × (refuses (map_errno f) (state_in part (with_live k t)) ≡ updated refused (state_in part k) fd flags bytes)
+update_refused along calls tell part k t fd place m flags f bytes is opened there size c =
+    let key = take (shape_at k.live m).key_size bytes in
+    let value = drop (shape_at k.live m).key_size bytes in
+    let s = state_in part k in
+    let T = map_in part k.live m in
+    let v = verdict (table_of (places_at k.live m)) key flags in
+    let w = verdict T key flags in
+    let same = refused_claim v key (places_at k.live m) f (places_at t m) c.claimed in
+    let here : map_in part t m ≡ T = (along part k.live t m c.areas c.live).same same in
+    let maps = all_maps part part k t (λ i other stands. each_same part part k.live t m here (others_keep part k.live t m c.others) other) in
+    let (refused, memory, put_is) = failed_put v w key (places_at k.live m) f (places_at t m) (tell.memory (table_of (places_at k.live m)) key flags) c.claimed (value_in part k.live m) (calls.verdict (value_in part k.live m) (table_of (places_at k.live m)) key flags) s place T value in
+    let state : state_in part (with_live k t) ≡ flagged refused s =
+    ap (λ (ms : List (Option Map)). record { objects = k.objects; maps = ms; refused = k.refused || t.refused }) maps
+    ∙ flag_of k.refused k.live.refused (is_memory (Err f)) t.refused c.refused s refused memory refl in
+    (refused, ap (refuses (map_errno f)) state ∙ sym put_is ∙ sym (update_is refused part k fd place m flags bytes opened there size))

@@ -1,0 +1,5 @@
+use Rattle.tenant.proofs.OneAnswer.{one_alone_is}
+use Rattle.tenant.proofs.laws.one_alone.Goals as goal
+
+pub returns : goal.returns
+returns c = one_alone_is c.one_reply.ensures

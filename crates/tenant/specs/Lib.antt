@@ -1,0 +1,12 @@
+pub mod Errno
+pub mod Loaded
+pub mod State
+pub mod Machine
+pub mod Alone
+pub mod Laws
+pub mod Kept
+pub mod Replies
+pub mod Leaves
+pub mod Loading
+pub mod inside
+pub mod TestRun

@@ -1,0 +1,42 @@
+-- Replies to the frames of one tenant, one command at a time.
+use Rattle.std.specs.Prelude.{◌≡◌, ◌≢◌, ℕ, ◌≤◌, Bool, List, []}
+use Rattle.arena.specs.Memory.{Memory, part_bytes}
+use Rattle.command_frames.specs.declared.command.Head.{Head}
+use Rattle.command_frames.specs.Command.{Command}
+use Rattle.command_frames.specs.Frame.{reply_bytes}
+use Rattle.tenant.specs.declared.errno.Errno.TheVariants.{BadAddress}
+use Rattle.tenant.specs.declared.loading.LoadReply.{LoadReply}
+use Rattle.tenant.specs.declared.loading.LoadReply.TheVariants.{Opened, Refused, RefusedAt}
+use Rattle.tenant.specs.Errno.{status_of}
+use Rattle.tenant.specs.State.{State}
+use Rattle.tenant.specs.Machine.{Answer, Answers}
+
+-- the highest descriptor
+abbrev pub last_descriptor : ℕ
+last_descriptor = 66
+
+-- what a load opens has a descriptor
+abbrev pub OpensBelow : LoadReply → Type 0
+OpensBelow (Opened fd) = fd ≤ last_descriptor
+OpensBelow (Refused errno) = Unit {0}
+OpensBelow (RefusedAt errno slot reason) = Unit {0}
+
+-- the reply to a frame with this head tells an answer
+abbrev pub Writes : Head → List ℕ → Answer → Type 0
+Writes head reply a = reply ≡ reply_bytes head.tenant head.command a.status a.payload
+
+-- The reply to a command tells what the machine answers, with some refusals of memory, and is not that to a run which faults.
+-- The state after it is the machine's.
+pub record Told (command : Command) (head : Head) (reply : List ℕ) (before after : State) : Type 0 where
+  pub refusals : List Bool
+  pub answer : Answer
+  pub answers : Answers refusals before command answer
+  pub written : Writes head reply answer
+  pub left : after ≡ answer.after
+  pub no_fault : reply ≢ reply_bytes head.tenant head.command (status_of BadAddress) []
+
+-- the memory changes in one part alone
+pub record ChangesPart (tenant : ℕ) (old new : Memory) : Type 0 where
+  pub parts : new.parts ≡ old.parts
+  pub part : new.part ≡ old.part
+  pub others : (other : ℕ) → other ≢ tenant → part_bytes new other ≡ part_bytes old other

@@ -1,0 +1,352 @@
+//! One tenant.
+
+ghost use Rattle.std.specs.Prelude.{◌≡◌, ◌≢◌, ◌+◌, ◌<◌, ◌≤◌, ◌==◌, if◌then◌else◌, slice_index_or, ℕ, Bool, false, List, [], is_none, position, None, Ok, length, IfOk, IfErr, Some, IsSome};
+ghost use Rattle.interval.specs.Bytes.{written_at};
+ghost use Rattle.bpf_maps.specs.declared.part.TheConstants.{MAPS, PART};
+ghost use Rattle.bpf_maps.specs.Live.{live_at};
+ghost use Rattle.tagged_model.specs.Cells.{also};
+ghost use Rattle.fd_table.specs.Table.{most, named, lowest, with_open};
+ghost use Rattle.tenant.specs.declared.object.Object.TheVariants as object;
+ghost use Rattle.tenant.specs.Errno.{status_of};
+ghost use Rattle.tenant.specs.State.{new_tenant};
+ghost use Rattle.command_frames.specs.Frame.{head_of, reply_bytes};
+ghost use Rattle.command_frames.specs.Command.{parsed, map_lookup};
+ghost use Rattle.tenant.specs.Machine.{created, looked_up, updated, deleted, given_next, closed, target_of, targets};
+ghost use Rattle.tenant.specs.Alone.{Tells};
+ghost use Rattle.tenant.specs.Kept.{key_at, times, filled, holds_in, IsPlaced, state_in};
+ghost use Rattle.tenant.specs.Leaves.{Leaves};
+ghost use Rattle.tenant.specs.Replies.{map_fault, lent_answer, front_answer, done_answer, opened_answer};
+
+use crate::errno::Errno;
+use crate::object::Object;
+use bpf_maps::{
+    MAPS, MapKey, Maps, areas_keep_places, calls_are_those_of_a_map, live_maps_go_along,
+    values_are_written,
+};
+use command_frames::{Command, Head, ReplyBuf, head, parse, write_reply};
+use fd_table::{FIRST, FdTable, MOST};
+use std::alloc::{AllocError, Global};
+use std::marker::Model;
+use tagged_model::{MapShape, Named, Target, calls_go_along, map_verdicts_tell};
+
+/// What a tenant has open, and its live maps. The values of the maps lie in the tenant's part of the memory.
+#[derive(Drop)]
+pub struct Tenant {
+    pub(crate) objects: FdTable<Object>,
+    /// The key of the map at each place.
+    pub(crate) keys: [Option<MapKey>; MAPS],
+    pub(crate) maps: Maps,
+    /// Whether memory was ever refused to a load.
+    pub(crate) refused: bool,
+}
+
+impl Model for Tenant {
+    ghost use Rattle.tenant.specs.Kept.{Kept, IsKept};
+
+    ghost Value = { Kept };
+
+    ghost view = { λ t. record { objects = t.objects; keys = t.keys; live = t.maps; refused = t.refused } };
+
+    ghost invariant = { λ t. IsKept (record { objects = t.objects; keys = t.keys; live = t.maps; refused = t.refused }) };
+}
+
+/// The reply to a command that is refused.
+pub(crate) fn write_refusal(head: Head, errno: Errno, room: &mut ReplyBuf)
+    ensures { room.new ≡ reply_bytes head.tenant head.command (status_of errno) [] }
+{
+    write_reply(head, errno.status(), &[], room);
+}
+
+/// Writes bytes into a part from a place on.
+fn write_at(part: &mut [u8], start: usize, bytes: &[u8])
+    requires { start + length bytes.now ≤ length part.old }
+    ensures { part.new ≡ written_at part.old start bytes.now }
+{
+    part[start..start + bytes.len()].copy_from_slice(bytes);
+}
+
+/// The lowest place where no map is, if there is one.
+fn lowest_place(keys: &[Option<MapKey>; MAPS]) -> Option<usize>
+    ensures { result ≡ position is_none keys.now }
+{
+    keys.iter().position(|key| key.is_none())
+}
+
+/// The lowest place where no map is, where not all have one.
+fn free_place(keys: &[Option<MapKey>; MAPS]) -> u8
+    requires { filled keys.now < MAPS }
+    ensures { position is_none keys.now ≡ Some result }
+{
+    match lowest_place(keys) {
+        Some(place) => place as u8,
+        None => unreachable!(),
+    }
+}
+
+/// Opens an object under the lowest descriptor that is free, where one is.
+pub(crate) fn open(objects: &mut FdTable<Object>, object: Object) -> u32
+    requires { is_none (lowest objects.old) ≡ false }
+    ensures lowest { lowest objects.old ≡ Some result }
+    ensures opened { objects.new ≡ with_open objects.old result object }
+{
+    match objects.place(object) {
+        Ok(fd) => fd,
+        Err(_) => unreachable!(),
+    }
+}
+
+/// One less holds the map at a place. At the last it is gone, and its place is free.
+fn release(keys: &mut [Option<MapKey>; MAPS], maps: &mut Maps, place: u8, part: &mut [u8])
+    requires placed { IsPlaced keys.old maps.old }
+    requires there { IsSome (slice_index_or keys.old place None) }
+    requires whole { length part.old ≡ PART }
+    ensures left { Leaves (record { keys = keys.old; live = maps.old; part = part.old }) (record { keys = keys.new; live = maps.new; part = part.new }) }
+    ensures holds { (other : ℕ) → holds_in keys.new maps.new other + (if place == other then 1 else 0) ≡ holds_in keys.old maps.old other }
+{
+    let Some(key) = keys[usize::from(place)] else {
+        unreachable!();
+    };
+    let is_last = maps.holds(key) <= 1;
+    maps.release(key, part);
+    if is_last {
+        keys[usize::from(place)] = None;
+    }
+}
+
+/// One less holds each of these maps, which are told by their places.
+fn release_all(
+    keys: &mut [Option<MapKey>; MAPS],
+    maps: &mut Maps,
+    held: &[(u32, u8)],
+    part: &mut [u8],
+)
+    requires placed { IsPlaced keys.old maps.old }
+    requires held { (place : ℕ) → times place held.now ≤ holds_in keys.old maps.old place }
+    requires whole { length part.old ≡ PART }
+    ensures left { Leaves (record { keys = keys.old; live = maps.old; part = part.old }) (record { keys = keys.new; live = maps.new; part = part.new }) }
+    ensures holds { (place : ℕ) → holds_in keys.new maps.new place + times place held.now ≡ holds_in keys.old maps.old place }
+{
+    for map in held {
+        release(keys, maps, map.1, part);
+    }
+}
+
+impl Tenant {
+    /// A tenant with nothing open and no map. The room for its descriptors and maps is made here. An error is want of
+    /// memory.
+    pub fn new(alloc: Global) -> Result<Tenant, AllocError>
+        ensures { IfOk result (λ tenant. (part : List ℕ) → state_in part tenant ≡ new_tenant) }
+    {
+        Ok(Tenant {
+            objects: FdTable::new(alloc)?,
+            keys: [None; MAPS],
+            maps: Maps::new(alloc)?,
+            refused: false,
+        })
+    }
+
+    /// The key of the map at a place that something names.
+    fn key_at(&self, place: u8) -> MapKey
+        requires { IsSome (key_at self.now place) }
+        ensures found { key_at self.now place ≡ Some result }
+        ensures live { IsSome (live_at self.now.live result) }
+    {
+        let key = self.keys[usize::from(place)];
+        match key {
+            Some(key) => key,
+            None => unreachable!(),
+        }
+    }
+
+    /// The map that a descriptor names.
+    fn map_named(&self, fd: u32) -> Result<MapKey, Errno>
+        ensures found { IfOk result (λ key. (place : ℕ) × (named self.now.objects fd ≡ Some (object.Map place)) × (key_at self.now place ≡ Some key)) }
+        ensures live { IfOk result (λ key. IsSome (live_at self.now.live key)) }
+        ensures fault { IfErr result (λ errno. map_fault (named self.now.objects fd) ≡ Some errno) }
+    {
+        match self.objects.get(fd) {
+            None => Err(Errno::BadDescriptor),
+            Some(Object::Program(_)) => Err(Errno::Invalid),
+            Some(Object::Map(place)) => Ok(self.key_at(*place)),
+        }
+    }
+
+    /// What a descriptor names, for the verdict.
+    fn target(&self, fd: u32) -> Option<Target>
+        ensures { (part : List ℕ) → result ≡ also (named self.now.objects fd) (target_of (state_in part self.now)) }
+    {
+        match self.objects.get(fd)? {
+            Object::Map(place) => Some(Target::Map(self.maps.shape(self.key_at(*place)))),
+            Object::Program(_) => Some(Target::Program),
+        }
+    }
+
+    /// What each open descriptor names.
+    pub(crate) fn targets(&self, alloc: Global) -> Result<Vec<Named>, AllocError>
+        ensures { IfOk result (λ found. (part : List ℕ) → found.items ≡ targets (state_in part self.now)) }
+    {
+        // There are as many places as descriptors.
+        let _ = &self.objects;
+        let mut found = Vec::with_capacity(alloc, MOST)?;
+        for fd in FIRST..FIRST + MOST as u32 {
+            if let Some(target) = self.target(fd) {
+                found.push(Named { fd, target })?;
+            }
+        }
+        Ok(found)
+    }
+
+    /// MAP_LOOKUP_ELEM: the bytes of a key's value, which lie in the tenant's part and are lent from there.
+    pub fn look_up<'a>(&self, fd: u32, key: &[u8], part: &'a [u8]) -> Result<&'a [u8], Errno>
+        requires { length part.now ≡ PART }
+        ensures answer { lent_answer result (state_in part.now self.now) ≡ looked_up (state_in part.now self.now) fd key.now }
+        ensures bound { IfOk result (λ value. length value.now ≤ 4096) }
+    {
+        calls_go_along();
+        let map = self.map_named(fd)?;
+        let shape = self.maps.shape(map);
+        if key.len() != shape.key_size as usize {
+            return Err(Errno::Invalid);
+        }
+        let Some(place) = self.maps.find(map, key) else {
+            return Err(Errno::NoEntry);
+        };
+        let start = self.maps.value_at(map, place);
+        Ok(&part[start..start + shape.value_size as usize])
+    }
+
+    /// MAP_CREATE: makes a map of a shape, and opens it.
+    pub fn create(&mut self, shape: MapShape, part: &mut [u8]) -> Result<u32, Errno>
+        requires { length part.old ≡ PART }
+        ensures answer { (refused : Bool) × (opened_answer result (state_in part.new self.new) ≡ created refused (state_in part.old self.old) (Ok shape)) }
+        ensures length { length part.new ≡ PART }
+    {
+        if self.objects.is_full() {
+            return Err(Errno::TooManyOpen);
+        }
+        let map = match self.maps.create(shape, part) {
+            Ok(map) => map,
+            Err(fault) => return Err(Errno::of_map(fault)),
+        };
+        let place = free_place(&self.keys);
+        self.keys[usize::from(place)] = Some(map);
+        Ok(open(&mut self.objects, Object::Map(place)))
+    }
+
+    /// MAP_UPDATE_ELEM: writes the value of a key. A present key's value is written in place, and a new key goes last. Only a new
+    /// key of a hash map takes memory.
+    pub fn update(
+        &mut self,
+        fd: u32,
+        flags: u64,
+        key_and_value: &[u8],
+        part: &mut [u8],
+    ) -> Result<(), Errno>
+        requires { length part.old ≡ PART }
+        ensures answer { (refused : Bool) × (done_answer result (state_in part.new self.new) ≡ updated refused (state_in part.old self.old) fd flags key_and_value.now) }
+        ensures length { length part.new ≡ PART }
+    {
+        calls_go_along();
+        live_maps_go_along();
+        values_are_written();
+        map_verdicts_tell();
+        let map = self.map_named(fd)?;
+        let shape = self.maps.shape(map);
+        let key_size = shape.key_size as usize;
+        let value_size = shape.value_size as usize;
+        if key_and_value.len() != key_size + value_size {
+            return Err(Errno::Invalid);
+        }
+        let (key, value) = key_and_value.split_at(key_size);
+        let place = match self.maps.claim(map, key, flags) {
+            Ok(place) => place,
+            Err(fault) => return Err(Errno::of_map(fault)),
+        };
+        self.maps.is_laid();
+        let start = self.maps.value_at(map, place);
+        write_at(part, start, value);
+        Ok(())
+    }
+
+    /// MAP_DELETE_ELEM: takes a key and its value out.
+    pub fn delete(&mut self, fd: u32, key: &[u8]) -> Result<(), Errno>
+        ensures { (part : List ℕ) → done_answer result (state_in part self.new) ≡ deleted (state_in part self.old) fd key.now }
+    {
+        calls_go_along();
+        calls_are_those_of_a_map();
+        areas_keep_places();
+        let map = self.map_named(fd)?;
+        if key.len() != self.maps.shape(map).key_size as usize {
+            return Err(Errno::Invalid);
+        }
+        if let Err(fault) = self.maps.remove(map, key) {
+            return Err(Errno::of_map(fault));
+        }
+        self.maps.end_run(map);
+        Ok(())
+    }
+
+    /// MAP_GET_NEXT_KEY: the key that follows is written at the front of `next`, and its length is answered.
+    pub fn next_key(&self, fd: u32, key: &[u8], next: &mut [u8; 64]) -> Result<usize, Errno>
+        ensures answer { (part : List ℕ) → front_answer result next.new (state_in part self.now) ≡ given_next (state_in part self.now) fd key.now }
+        ensures bound { IfOk result (λ size. size ≤ 64) }
+    {
+        calls_go_along();
+        let map = self.map_named(fd)?;
+        let size = self.maps.shape(map).key_size as usize;
+        if !key.is_empty() && key.len() != size {
+            return Err(Errno::Invalid);
+        }
+        self.maps.is_laid();
+        match self.maps.next_key(map, key, next) {
+            Ok(()) => Ok(size),
+            Err(_) => Err(Errno::NoEntry),
+        }
+    }
+
+    /// CLOSE: closes a descriptor. A map that no other descriptor and no program names is gone.
+    pub fn close(&mut self, fd: u32, part: &mut [u8]) -> Result<(), Errno>
+        requires { length part.old ≡ PART }
+        ensures answer { done_answer result (state_in part.new self.new) ≡ closed (state_in part.old self.old) fd (named self.old.objects fd) }
+        ensures length { length part.new ≡ PART }
+    {
+        let Some(object) = self.objects.close(fd) else {
+            return Err(Errno::BadDescriptor);
+        };
+        let place = match object {
+            Object::Map(place) => place,
+            Object::Program(program) => {
+                release_all(&mut self.keys, &mut self.maps, program.maps(), part);
+                return Ok(());
+            }
+        };
+        release(&mut self.keys, &mut self.maps, place, part);
+        Ok(())
+    }
+
+    /// A law: there are as many places for objects as descriptors. It does nothing when it runs.
+    pub(crate) fn has_all_places(&self)
+        ensures { length self.now.objects ≡ most }
+    {
+        let _ = &self.objects;
+    }
+
+    /// The reply to a frame with MAP_LOOKUP_ELEM, left in the room for it. The value goes there from the tenant's part, and
+    /// is copied nowhere else.
+    pub fn reply_to_look_up(&self, frame: &[u8], part: &[u8], room: &mut ReplyBuf)
+        requires { length part.now ≡ PART }
+        ensures { (fd : ℕ) (key : List ℕ) → head_of frame.now ≢ None → parsed frame.now ≡ Ok (map_lookup fd key)
+            → Tells [] frame.now room.new (Some (state_in part.now self.now)) (Some (state_in part.now self.now)) }
+    {
+        let Some(head) = head(frame) else {
+            return;
+        };
+        let Ok(Command::MapLookup { fd, key }) = parse(frame) else {
+            return;
+        };
+        match self.look_up(fd, key, part) {
+            Ok(value) => write_reply(head, 0, value, room),
+            Err(errno) => write_refusal(head, errno, room),
+        }
+    }
+}

@@ -6,7 +6,7 @@ use Rattle.std.proofs.lemmas.List.{drop-drop, drop-take, length-take, length-dro
 use Rattle.interval.specs.Bytes.{number_of, low_bytes}
 use Rattle.arena.specs.Bytes.{bytes_at}
 use Rattle.arena.specs.Memory.{Memory, size_of, base, place_of, loaded, stored, copied, part_start, part_bytes, with_bytes}
-use Rattle.arena.specs.Apart.{IsPart, IsWritten, asked_in, HasAccesses, AccessesAreInParts}
+use Rattle.arena.specs.Apart.{IsPart, IsWrittenAt, asked_in, HasAccesses, AccessesAreInParts}
 use Rattle.arena.proofs.Apart.{within, stays}
 use Rattle.arena.proofs.Within.{part_over}
 
@@ -44,7 +44,7 @@ module _ (m : Memory) (t : ℕ) (is : IsPart m t) where
       let fits = within m t is in
       ap length (sym (in_part at n room)) ∙ omega (arith, length-take n (drop (part_start m t + at) m.bytes), length-drop (part_start m t + at) m.bytes)
 
-  written : (at n : ℕ) (new : List ℕ) (after : Memory) → length new ≡ n → at + n ≤ m.part → after ≡ with_bytes m (part_start m t + at) new → IsWritten m t at new after
+  written : (at n : ℕ) (new : List ℕ) (after : Memory) → length new ≡ n → at + n ≤ m.part → after ≡ with_bytes m (part_start m t + at) new → IsWrittenAt m t at new after
   written at n new after count room e = record {
     own = ap (λ (k : Memory). part_bytes k t) e ∙ part_over m t at new is (omega arith);
     others = λ u differ. ap (λ (k : Memory). part_bytes k u) e ∙ stays m t u (part_start m t + at) new is (omega arith) (omega arith) differ;

@@ -1,4 +1,4 @@
--- What is written in one part leaves the others as they were.
+-- What is written in one part leaves the others as they were. Parts are this project's own.
 use Rattle.std.specs.Prelude.{◌≡◌, ◌≢◌, ℕ, ◌+◌, ◌*◌, ◌<◌, ◌≤◌, List, length, Option, Some}
 use Rattle.interval.specs.Bytes.{number_of, low_bytes}
 use Rattle.arena.specs.Bytes.{bytes_at, written_at}
@@ -29,7 +29,7 @@ pub record WritesAreInParts : Type 0 where
 -- ---- by address
 
 -- bytes are written at a place of a part, and the other parts are as they were
-pub record IsWritten (old : Memory) (t at : ℕ) (new : List ℕ) (after : Memory) : Type 0 where
+pub record IsWrittenAt (old : Memory) (t at : ℕ) (new : List ℕ) (after : Memory) : Type 0 where
   pub own : part_bytes after t ≡ written_at (part_bytes old t) at new
   pub others : (u : ℕ) → u ≢ t → part_bytes after u ≡ part_bytes old u
 
@@ -42,9 +42,9 @@ pub record HasAccesses (m : Memory) (t : ℕ) : Type 0 where
   pub found : (at n : ℕ) → at + n ≤ m.part → asked_in m t n at ≡ Some (part_start m t + at)
   pub bytes : (at n : ℕ) → at + n ≤ m.part → bytes_at m.bytes (part_start m t + at) n ≡ bytes_at (part_bytes m t) at n
   pub load : (at n : ℕ) → at + n ≤ m.part → loaded m n (asked_in m t n at) ≡ Some (number_of (bytes_at (part_bytes m t) at n))
-  pub store : (at n value : ℕ) → at + n ≤ m.part → IsWritten m t at (low_bytes n value) (stored m n value (asked_in m t n at))
+  pub store : (at n value : ℕ) → at + n ≤ m.part → IsWrittenAt m t at (low_bytes n value) (stored m n value (asked_in m t n at))
   pub copy : (to from n : ℕ) → to + n ≤ m.part → from + n ≤ m.part
-      → IsWritten m t to (bytes_at (part_bytes m t) from n) (copied m n (asked_in m t n from) (asked_in m t n to))
+      → IsWrittenAt m t to (bytes_at (part_bytes m t) from n) (copied m n (asked_in m t n from) (asked_in m t n to))
 
 abbrev pub AccessesAreInParts : Type 0
 AccessesAreInParts = (m : Memory) (t : ℕ) → IsPart m t → HasAccesses m t

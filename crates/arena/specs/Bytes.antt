@@ -1,4 +1,4 @@
--- Bytes of a list.
+-- Bytes of a list, and the sizes of loads and stores (RFC 9669, section 5).
 use Rattle.std.specs.Prelude.{◌≡◌, ℕ, ◌⊎◌}
 pub use Rattle.interval.specs.Bytes.{bytes_at, written_at}
 

@@ -1,4 +1,4 @@
--- A part that is lent.
+-- A part that is lent. This project's own.
 use Rattle.std.specs.Prelude.{ℕ, List}
 use Rattle.std.specs.Borrow.{Lends, MutBor, Fml, Array, u8}
 use Rattle.arena.specs.Memory.{Memory, with_part}

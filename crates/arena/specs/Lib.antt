@@ -4,3 +4,4 @@ pub mod Memory
 pub mod Apart
 pub mod Ranges
 pub mod Lending
+pub mod inside

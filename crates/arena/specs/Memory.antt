@@ -1,4 +1,5 @@
--- The memory of all tenants, and what is asked of it.
+-- The memory of all tenants, and what is asked of it. Loads and stores are those of RFC 9669, section 5.1, on a
+-- little-endian machine; addresses from 2 ^ 32 on and a part for each tenant are this project's own.
 use Rattle.std.specs.Prelude.{ℕ, ◌+◌, ◌-◌, ◌*◌, ◌&&◌, List, length, Option, Some, None, nat_le, if◌then◌else◌, refl, take, drop, ◌++◌}
 use Rattle.std.specs.Coded.{Coded, code_by, coded×, coded_ℕ, coded_list}
 use Rattle.interval.specs.Bytes.{number_of, low_bytes}

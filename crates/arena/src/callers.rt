@@ -4,7 +4,7 @@ ghost use Rattle.std.specs.Prelude.{◌+◌, ◌<◌, ◌≤◌};
 ghost use Rattle.interval.specs.Bytes.{low_bytes};
 ghost use Rattle.arena.specs.Bytes.{bytes_at};
 ghost use Rattle.arena.specs.Memory.{part_bytes};
-ghost use Rattle.arena.specs.Apart.{IsWritten};
+ghost use Rattle.arena.specs.Apart.{IsWrittenAt};
 
 use crate::laws::accesses_are_in_parts;
 use crate::memory::Arena;
@@ -14,9 +14,9 @@ use crate::trace::Trace;
 fn store_within(arena: &mut Arena, tenant: usize, at: usize, value: u64, trace: &mut Trace)
     requires tenant { tenant < arena.old.parts }
     requires room { at + 8 ≤ arena.old.part }
-    ensures { IsWritten arena.old tenant at (low_bytes 8 value) arena.new }
+    ensures { IsWrittenAt arena.old tenant at (low_bytes 8 value) arena.new }
 {
-    arena.is_its_parts();
+    arena.memory_is_its_parts();
     accesses_are_in_parts();
     let address = arena.address(tenant) + at as u64;
     let _ = arena.store(address, 8, value, trace);
@@ -27,9 +27,10 @@ fn copy_within(arena: &mut Arena, tenant: usize, to: usize, from: usize, trace: 
     requires tenant { tenant < arena.old.parts }
     requires to { to + 8 ≤ arena.old.part }
     requires from { from + 8 ≤ arena.old.part }
-    ensures { IsWritten arena.old tenant to (bytes_at (part_bytes arena.old tenant) from 8) arena.new }
+    ensures { IsWrittenAt arena.old tenant to (bytes_at (part_bytes arena.old tenant) from 8)
+        arena.new }
 {
-    arena.is_its_parts();
+    arena.memory_is_its_parts();
     accesses_are_in_parts();
     let start = arena.address(tenant);
     let _ = arena.copy(start + to as u64, start + from as u64, 8, trace);

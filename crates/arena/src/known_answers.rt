@@ -21,6 +21,21 @@ fn number_stored_and_loaded(alloc: Global) -> Result<(), AllocError> {
     Ok(())
 }
 
+/// The same where the bytes are known to lie in the memory.
+fn number_stored_and_loaded_inside(alloc: Global) -> Result<(), AllocError> {
+    let mut arena = Arena::new(alloc, 2, 16)?;
+    let mut trace = Trace::new();
+    arena.store_inside(BASE + 24, 8, 0x0102_0304_0506_0708, &mut trace);
+    let double = arena.load_inside(BASE + 24, 8, &mut trace);
+    prove!(double == 0x0102_0304_0506_0708);
+    arena.store_inside(BASE, 2, 0x0203_0405, &mut trace);
+    let word = arena.load_inside(BASE, 4, &mut trace);
+    prove!(word == 0x0405);
+    let byte = arena.load_inside(BASE + 31, 1, &mut trace);
+    prove!(byte == 1);
+    Ok(())
+}
+
 /// Nothing is loaded from a range that leaves the memory.
 fn loads_outside(alloc: Global) -> Result<(), AllocError> {
     let arena = Arena::new(alloc, 2, 16)?;

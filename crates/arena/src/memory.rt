@@ -1,6 +1,6 @@
 //! The arena.
 
-ghost use Rattle.std.specs.Prelude.{◌≡◌, ℕ, ◌+◌, ◌*◌, ◌^◌, ◌<◌, ◌≤◌, ◌++◌, ◌∷◌, [], length, replicate, IfOk, is_some, ◌&&◌};
+ghost use Rattle.std.specs.Prelude.{◌≡◌, ℕ, ◌+◌, ◌*◌, ◌^◌, ◌<◌, ◌≤◌, ◌++◌, ◌∷◌, [], length, replicate, Some, IfOk, IsSome, is_some, ◌&&◌};
 ghost use Rattle.std.specs.Borrow.{sem};
 ghost use Rattle.arena.specs.Bytes.{IsSize};
 ghost use Rattle.arena.specs.Memory.{base, place_of, loaded, stored, copied, part_start, part_bytes, size_of};
@@ -32,6 +32,17 @@ impl Model for Arena {
     ghost view = { λ a. record { bytes = a.bytes.items; parts = a.parts; part = a.part_size } };
 
     ghost invariant = { λ a. (vec_len a.bytes ≤ 2 ^ 28) × (vec_len a.bytes ≡ a.parts * a.part_size) };
+}
+
+/// The place of so many bytes at an address. They lie in a memory of this size.
+#[inline(always)]
+fn place_inside(memory_size: usize, size: usize, address: u64) -> usize
+    requires small { memory_size ≤ 2 ^ 28 }
+    requires inside { IsSome (place_of memory_size size address) }
+    ensures value { place_of memory_size size address ≡ Some result }
+    ensures within { result + size ≤ memory_size }
+{
+    (address - BASE) as usize
 }
 
 /// The place of so many bytes at an address, if they lie in a memory of this size.
@@ -67,7 +78,7 @@ impl Arena {
     }
 
     /// A law: the memory is its parts, and no more than 2^28 bytes. It does nothing when it runs.
-    pub fn is_its_parts(&self)
+    pub fn memory_is_its_parts(&self)
         ensures parts { size_of self.now ≡ self.now.parts * self.now.part }
         ensures bound { size_of self.now ≤ 2 ^ 28 }
     {
@@ -122,7 +133,8 @@ impl Arena {
     pub fn store(&mut self, address: u64, size: usize, value: u64, trace: &mut Trace) -> Option<()>
         requires { IsSize size }
         ensures found { is_some result ≡ is_some (place_of (size_of self.old) size address) }
-        ensures bytes { self.new ≡ stored self.old size value (place_of (size_of self.old) size address) }
+        ensures bytes { self.new ≡ stored self.old size value
+            (place_of (size_of self.old) size address) }
         ensures steps { trace.new.steps ≡ trace.old.steps }
         ensures ranges { trace.new.ranges ≡ trace.old.ranges ++ (address, size) ∷ [] }
     {
@@ -132,14 +144,47 @@ impl Arena {
         Some(())
     }
 
+    /// The number that so many bytes at an address make, the lowest first, where they are known to lie in the memory.
+    #[inline(always)]
+    pub fn load_inside(&self, address: u64, size: usize, trace: &mut Trace) -> u64
+        requires size { IsSize size }
+        requires inside { IsSome (place_of (size_of self.now) size address) }
+        ensures value { loaded self.now size (place_of (size_of self.now) size address)
+            ≡ Some result }
+        ensures steps { trace.new.steps ≡ trace.old.steps }
+        ensures ranges { trace.new.ranges ≡ trace.old.ranges ++ (address, size) ∷ [] }
+    {
+        trace.range(address, size as u64);
+        let start = place_inside(self.bytes.len(), size, address);
+        read(&self.bytes, start, size)
+    }
+
+    /// Writes the low bytes of a number at an address, the lowest first, where as many bytes are known to lie in the memory.
+    #[inline(always)]
+    pub fn store_inside(&mut self, address: u64, size: usize, value: u64, trace: &mut Trace)
+        requires size { IsSize size }
+        requires inside { IsSome (place_of (size_of self.old) size address) }
+        ensures bytes { self.new ≡ stored self.old size value
+            (place_of (size_of self.old) size address) }
+        ensures steps { trace.new.steps ≡ trace.old.steps }
+        ensures ranges { trace.new.ranges ≡ trace.old.ranges ++ (address, size) ∷ [] }
+    {
+        trace.range(address, size as u64);
+        let start = place_inside(self.bytes.len(), size, address);
+        write(&mut self.bytes, start, size, value);
+    }
+
     /// Writes the bytes at one address over those at another, as if through a buffer. It answers nothing, and changes
     /// nothing, exactly where either leave the memory.
     pub fn copy(&mut self, to: u64, from: u64, length: usize, trace: &mut Trace) -> Option<()>
         requires { 1 ≤ length }
-        ensures found { is_some result ≡ (is_some (place_of (size_of self.old) length from) && is_some (place_of (size_of self.old) length to)) }
-        ensures bytes { self.new ≡ copied self.old length (place_of (size_of self.old) length from) (place_of (size_of self.old) length to) }
+        ensures found { is_some result ≡ (is_some (place_of (size_of self.old) length from)
+            && is_some (place_of (size_of self.old) length to)) }
+        ensures bytes { self.new ≡ copied self.old length (place_of (size_of self.old) length from)
+            (place_of (size_of self.old) length to) }
         ensures steps { trace.new.steps ≡ trace.old.steps }
-        ensures ranges { trace.new.ranges ≡ trace.old.ranges ++ (from, length) ∷ [] ++ (to, length) ∷ [] }
+        ensures ranges { trace.new.ranges ≡ trace.old.ranges ++ (from, length) ∷ [] ++ (to, length)
+            ∷ [] }
     {
         trace.range(from, length as u64);
         trace.range(to, length as u64);

@@ -7,12 +7,12 @@ use Rattle.interval.specs.Bytes.{bytes_at}
 use Rattle.tagged_model.specs.declared.shape.MapShape.{MapShape}
 use Rattle.tagged_model.specs.Table.{Table, with_key, with_values, with_new}
 use Rattle.tagged_model.specs.State.{RunMap, set_at}
-use Rattle.tagged_model.specs.Admits.{Owns}
+use Rattle.tagged_model.specs.Admits.{KeysHaveObjects}
 use Rattle.tagged_model.specs.Helpers.{with_object}
 use Rattle.arena.specs.Memory.{base}
 use Rattle.bpf_maps.specs.Places.{PlaceTable, table_of, times, IsFree, with_place}
-use Rattle.bpf_maps.specs.Live.{Tenant, live_at, places_at, shape_at, offset_at}
-use Rattle.bpf_maps.specs.Laws.{CallsGoAlong}
+use Rattle.bpf_maps.specs.Live.{LiveMaps, live_at, places_at, shape_at, offset_at}
+use Rattle.bpf_maps.specs.Laws.{CallsRefineValues}
 use Rattle.bpf_helpers.specs.Layout.{Layout}
 use Rattle.bpf_helpers.specs.Stands.{HasObject, HasMap}
 use Rattle.bpf_helpers.proofs.Owned.{owns_more, owns_with, times_with, counted_once}
@@ -23,12 +23,12 @@ module _ (place : ℕ → ℕ) where
   placed es = map (λ e. (e.0, place e.1)) es
 
 -- places that differ past the objects alone
-placed_same : (f g : ℕ → ℕ) (count : ℕ) (es : List (List ℕ × ℕ)) → Owns count es → ((k : ℕ) → k < count → f k ≡ g k) → placed f es ≡ placed g es
+placed_same : (f g : ℕ → ℕ) (count : ℕ) (es : List (List ℕ × ℕ)) → KeysHaveObjects count es → ((k : ℕ) → k < count → f k ≡ g k) → placed f es ≡ placed g es
 placed_same f g count [] owns same = refl
 placed_same f g count (e ∷ es) owns same =
     ap (λ (p : ℕ). let head : List ℕ × ℕ = (e.0, p) in head ∷ placed f es) (same e.1 owns.0) ∙ ap (λ fs. (e.0, g e.1) ∷ fs) (placed_same f g count es owns.1 same)
 
-module _ (l : Layout) (start : ℕ) (memory after : List ℕ) (old new : Tenant) (k m : ℕ) (t : RunMap) (key value : List ℕ) (p : ℕ) (h : HasMap l start memory old k m t) (free : IsFree (places_at old k) p) (places : places_at new k ≡ with_place (places_at old k) key p) (live : IsSome (live_at new k)) (offsets : (q : ℕ) → offset_at new k q ≡ offset_at old k q)
+module _ (l : Layout) (start : ℕ) (memory after : List ℕ) (old new : LiveMaps) (k m : ℕ) (t : RunMap) (key value : List ℕ) (p : ℕ) (h : HasMap l start memory old k m t) (free : IsFree (places_at old k) p) (places : places_at new k ≡ with_place (places_at old k) key p) (live : IsSome (live_at new k)) (offsets : (q : ℕ) → offset_at new k q ≡ offset_at old k q)
     (kept : (q : ℕ) → q < (shape_at old k).max_entries → q ≢ p → bytes_at after (start + offset_at old k q) (shape_at old k).value_size ≡ bytes_at memory (start + offset_at old k q) (shape_at old k).value_size)
     (written : bytes_at after (start + offset_at old k p) (shape_at old k).value_size ≡ value) where
   -- no object has the place that was free
@@ -104,7 +104,7 @@ module _ (l : Layout) (start : ℕ) (memory after : List ℕ) (old new : Tenant)
       (either b few))
       (either a lt)
 
-  table_after : CallsGoAlong ℕ ℕ → table_of (places_at new k) ≡ with_values place (with_new t.table key t.count)
+  table_after : CallsRefineValues ℕ ℕ → table_of (places_at new k) ≡ with_values place (with_new t.table key t.count)
   table_after along =
       ap table_of places
       ∙ ap (λ (x : Table ℕ). let y : Table ℕ = record { shape = x.shape; entries = with_key key p x.entries; deleted = x.deleted } in y) h.table
@@ -112,7 +112,7 @@ module _ (l : Layout) (start : ℕ) (memory after : List ℕ) (old new : Tenant)
       ∙ ap (λ (q : ℕ). let y : Table ℕ = record { shape = t.table.shape; entries = with_key key q (placed place t.table.entries); deleted = t.table.deleted } in y) (sym place_new)
       ∙ sym (along.update place t.table key t.count)
 
-  pub map_with_new : CallsGoAlong ℕ ℕ → HasMap layout start after new k m (with_object t key value)
+  pub map_with_new : CallsRefineValues ℕ ℕ → HasMap layout start after new k m (with_object t key value)
   map_with_new along = record {
     live = live;
     place = place;

@@ -9,14 +9,14 @@ use Rattle.interval.specs.Bytes.{bytes_at}
 use Rattle.tagged_model.specs.declared.fault.MapFault.{MapFault}
 use Rattle.tagged_model.specs.declared.shape.MapShape.{MapShape}
 use Rattle.tagged_model.specs.Table.{Table, look_up, removal, without, with_values, with_deleted}
-use Rattle.tagged_model.specs.State.{State, RunMap, set_at, with_map, with_refusal}
+use Rattle.tagged_model.specs.State.{RunState, RunMap, set_at, with_map, with_refusal}
 use Rattle.tagged_model.specs.Helpers.{taken_out, removed, without_key, with_reply}
 use Rattle.arena.specs.Memory.{Memory, base, part_start}
 use Rattle.bpf_maps.specs.Places.{PlaceTable, table_of, times, with_kept, Removes}
-use Rattle.bpf_maps.specs.Live.{Tenant, live_at, places_at, shape_at, offset_at, SameAreas}
-use Rattle.bpf_helpers.specs.inside.Below.{Below}
+use Rattle.bpf_maps.specs.Live.{LiveMaps, live_at, places_at, shape_at, offset_at, SameAreas}
+use Rattle.bpf_helpers.specs.inside.Below.{LawsBelow}
 use Rattle.bpf_helpers.specs.Layout.{Layout}
-use Rattle.bpf_helpers.specs.Stands.{HasObject, HasMap, HasMaps, StandsFor}
+use Rattle.bpf_helpers.specs.Stands.{HasObject, HasMap, MapsStandFor, StandsFor}
 use Rattle.bpf_helpers.specs.inside.Flat.{removal_word, Deletes}
 use Rattle.bpf_helpers.specs.inside.Laws.{DeletesStand}
 use Rattle.bpf_helpers.proofs.Outputs.{others_moved}
@@ -30,7 +30,7 @@ table_kept t key p = ap (λ (n : ℕ). let m : Table ℕ = record { shape = t.sh
 
 -- ---- the map without the key
 
-module _ (below : Below) (l : Layout) (start : ℕ) (memory : List ℕ) (old new : Tenant) (k m : ℕ) (t : RunMap) (key : List ℕ) (p : ℕ) (h : HasMap l start memory old k m t) (found : look_up (table_of (places_at old k)) key ≡ Some p) (places : places_at new k ≡ with_kept (places_at old k) key p) (live : IsSome (live_at new k)) (areas : SameAreas old new) where
+module _ (below : LawsBelow) (l : Layout) (start : ℕ) (memory : List ℕ) (old new : LiveMaps) (k m : ℕ) (t : RunMap) (key : List ℕ) (p : ℕ) (h : HasMap l start memory old k m t) (found : look_up (table_of (places_at old k)) key ≡ Some p) (places : places_at new k ≡ with_kept (places_at old k) key p) (live : IsSome (live_at new k)) (areas : SameAreas old new) where
   shape_stays : shape_at new k ≡ shape_at old k
   shape_stays = ap (λ (x : PlaceTable). x.shape) places
 
@@ -64,7 +64,7 @@ module _ (below : Below) (l : Layout) (start : ℕ) (memory : List ℕ) (old new
 
 -- ---- by the reply
 
-module _ (below : Below) (l : Layout) (bind : List ℕ) (old : Memory) (t at : ℕ) (registers : List ℕ) (memory : Memory) (tenant : Tenant) (s : State) (i m : ℕ) (map : RunMap) (key : List ℕ) (word : ℕ) (new : Tenant)
+module _ (below : LawsBelow) (l : Layout) (bind : List ℕ) (old : Memory) (t at : ℕ) (registers : List ℕ) (memory : Memory) (tenant : LiveMaps) (s : RunState) (i m : ℕ) (map : RunMap) (key : List ℕ) (word : ℕ) (new : LiveMaps)
     (stands : StandsFor l bind old t at registers memory tenant s) (named : slice_get l.maps i ≡ Some m) (is : s.maps m ≡ Some map) (d : Deletes tenant (slice_index bind i) key word new) where
   abbrev k : ℕ
   k = slice_index bind i
@@ -77,7 +77,7 @@ module _ (below : Below) (l : Layout) (bind : List ℕ) (old : Memory) (t at : �
       let g = stands.maps.each i m named in
       subst (HasMap l (part_start old t) memory.bytes tenant k m) (same_Some g.0 map (sym g.1 ∙ is)) g.2
 
-  with_maps : (u : RunMap) → HasMaps l bind (part_start old t) memory.bytes new (set_at s.maps m (Some u)) → StandsFor l bind old t at registers memory new (with_refusal (with_map s m u) false)
+  with_maps : (u : RunMap) → MapsStandFor l bind (part_start old t) memory.bytes new (set_at s.maps m (Some u)) → StandsFor l bind old t at registers memory new (with_refusal (with_map s m u) false)
   with_maps u maps = record {
     slot = stands.slot;
     count = stands.count;
@@ -114,5 +114,5 @@ module _ (below : Below) (l : Layout) (bind : List ℕ) (old : Memory) (t at : �
       let same : removal (table_of (places_at tenant k)) key ≡ result_map_both has.place (λ fault. fault) (removal map.table key) = ap (λ (x : Table ℕ). removal x key) has.table ∙ below.along.removal has.place map.table key in
       done (removal map.table key) refl (subst (λ r. Removes r key (places_at tenant k) d.answer (places_at new k)) same d.removed)
 
-pub deletes_stand : Below → DeletesStand
+pub deletes_stand : LawsBelow → DeletesStand
 deletes_stand below l bind old t at registers memory tenant s i m map key word new stands named is d = delete_stands below l bind old t at registers memory tenant s i m map key word new stands named is d

@@ -6,10 +6,10 @@ use Rattle.std.proofs.lemmas.Bool.{cond-true, ltb-true}
 use Rattle.interval.specs.Bytes.{bytes_at}
 use Rattle.tagged_model.specs.Table.{Table, with_values}
 use Rattle.tagged_model.specs.Step.{numbered}
-use Rattle.tagged_model.specs.Admits.{Owns}
+use Rattle.tagged_model.specs.Admits.{KeysHaveObjects}
 use Rattle.arena.specs.Memory.{base}
 use Rattle.bpf_maps.specs.Places.{PlaceTable, table_of, times, IsSound}
-use Rattle.bpf_maps.specs.Live.{Tenant, places_at, offset_at}
+use Rattle.bpf_maps.specs.Live.{LiveMaps, places_at, offset_at}
 use Rattle.bpf_helpers.specs.Layout.{Layout}
 use Rattle.bpf_helpers.specs.Stands.{HasObject}
 use Rattle.bpf_helpers.specs.inside.Laws.{MapsBegin, MapsEnd}
@@ -17,7 +17,7 @@ use Rattle.bpf_helpers.specs.inside.Laws.{MapsBegin, MapsEnd}
 -- ---- numbers in order
 
 module _ {A : Type 0} where
-  owned_from : (n count : ℕ) (es : List (List ℕ × A)) → n + length es ≤ count → Owns count (numbered n es)
+  owned_from : (n count : ℕ) (es : List (List ℕ × A)) → n + length es ≤ count → KeysHaveObjects count (numbered n es)
   unfolding numbered
   owned_from n count [] h = tt
   owned_from n count (e ∷ es) h = (omega arith, owned_from (n + 1) count es (omega arith))
@@ -80,7 +80,7 @@ only_within n false h g = absurd (omega arith)
 
 -- ---- the beginning
 
-module _ (l : Layout) (start : ℕ) (memory : List ℕ) (tenant : Tenant) (k m : ℕ) (value : ℕ → List ℕ) (places : PlaceTable) (is : places_at tenant k ≡ places) (sound : IsSound places)
+module _ (l : Layout) (start : ℕ) (memory : List ℕ) (tenant : LiveMaps) (k m : ℕ) (value : ℕ → List ℕ) (places : PlaceTable) (is : places_at tenant k ≡ places) (sound : IsSound places)
     (bytes : (p : ℕ) → p < places.shape.max_entries → bytes_at memory (start + offset_at tenant k p) places.shape.value_size ≡ value p)
     (addresses : (number : ℕ) → number < length places.entries → l.object_at m number ≡ base + (start + offset_at tenant k (slice_index (values_of places.entries) number))) where
   within : (number : ℕ) → number < length (valued value places.entries) → number < length places.entries
@@ -125,7 +125,7 @@ maps_begin l start memory tenant k m value live sound none bytes counts addresse
 
 -- ---- the end
 
-values_same : (value : ℕ → List ℕ) (place : ℕ → ℕ) (values : ℕ → List ℕ) (count : ℕ) (es : List (List ℕ × ℕ)) → Owns count es → ((number : ℕ) → number < count → value (place number) ≡ values number) → valued value (map (λ e. let pair : List ℕ × ℕ = (e.0, place e.1) in pair) es) ≡ valued values es
+values_same : (value : ℕ → List ℕ) (place : ℕ → ℕ) (values : ℕ → List ℕ) (count : ℕ) (es : List (List ℕ × ℕ)) → KeysHaveObjects count es → ((number : ℕ) → number < count → value (place number) ≡ values number) → valued value (map (λ e. let pair : List ℕ × ℕ = (e.0, place e.1) in pair) es) ≡ valued values es
 values_same value place values count [] owns same = refl
 values_same value place values count (e ∷ es) owns same =
     ap (λ (v : List ℕ). let head : List ℕ × List ℕ = (e.0, v) in head ∷ valued value (map (λ e. let pair : List ℕ × ℕ = (e.0, place e.1) in pair) es)) (same e.1 owns.0)

@@ -6,7 +6,7 @@ use Rattle.tagged_model.specs.Cells.{also}
 use Rattle.tagged_model.specs.Table.{look_up}
 use Rattle.arena.specs.Memory.{Memory, size_of, part_start, part_bytes}
 use Rattle.bpf_maps.specs.Places.{table_of}
-use Rattle.bpf_maps.specs.Live.{Tenant, places_at, shape_at}
+use Rattle.bpf_maps.specs.Live.{LiveMaps, places_at, shape_at}
 use Rattle.bpf_helpers.specs.inside.Flat.{bound_map, part_place, part_input, value_word, flat_look_up}
 use Rattle.bpf_helpers.proofs.Inputs.{bytes_within}
 
@@ -25,7 +25,7 @@ part_range memory t at n part is long from fits =
     ∙ ap (λ (x : List ℕ). bytes_at x at n) is
     ∙ sym (bytes_within memory.bytes (part_start memory t) memory.part at n from (omega arith))
 
-module _ (memory : Memory) (t : ℕ) (tenant : Tenant) (bind : List ℕ) (map key k at n : ℕ) (bound : Some k ≡ bound_map bind map) (size : n ≡ (shape_at tenant k).key_size) (place : Some at ≡ part_place (part_start memory t) memory.part n key) where
+module _ (memory : Memory) (t : ℕ) (tenant : LiveMaps) (bind : List ℕ) (map key k at n : ℕ) (bound : Some k ≡ bound_map bind map) (size : n ≡ (shape_at tenant k).key_size) (place : Some at ≡ part_place (part_start memory t) memory.part n key) where
   pub answers : (bytes : List ℕ) (o : Option ℕ) → bytes ≡ bytes_at memory.bytes (part_start memory t + at) n → o ≡ look_up (table_of (places_at tenant k)) bytes → flat_look_up memory t tenant bind map key ≡ Some (value_word memory t tenant k o)
   answers bytes o same found =
       ap (λ o. also o (λ k. also (part_input memory t (shape_at tenant k).key_size key) (λ bytes. Some (value_word memory t tenant k (look_up (table_of (places_at tenant k)) bytes))))) (sym bound)

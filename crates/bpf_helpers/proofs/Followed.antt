@@ -10,15 +10,15 @@ use Rattle.tagged_model.specs.declared.value.Tagged.{Tagged}
 use Rattle.tagged_model.specs.declared.value.Tagged.TheVariants.{Scalar, Map}
 use Rattle.tagged_model.specs.Table.{Table}
 use Rattle.tagged_model.specs.Cells.{also}
-use Rattle.tagged_model.specs.State.{State, input}
-use Rattle.tagged_model.specs.Helpers.{Given, map_argument, argument, number_given, with_reply, replies, returns, updated, removed, packet_bytes, packet_answer, called}
+use Rattle.tagged_model.specs.State.{RunState, input}
+use Rattle.tagged_model.specs.Helpers.{GivenMap, map_argument, argument, number_given, with_reply, replies, returns, updated, removed, packet_bytes, packet_answer, called}
 use Rattle.arena.specs.Memory.{Memory, base, part_start, with_bytes}
-use Rattle.bpf_helpers.specs.inside.Below.{Below}
-use Rattle.bpf_maps.specs.Live.{Tenant, Live, live_at, live_or, shape_at, holds_at, SameAreas}
+use Rattle.bpf_helpers.specs.inside.Below.{LawsBelow}
+use Rattle.bpf_maps.specs.Live.{LiveMaps, LiveMap, live_at, live_or, shape_at, holds_at, SameAreas}
 use Rattle.bpf_helpers.specs.Layout.{Layout}
 use Rattle.bpf_helpers.specs.Stands.{IsRoom, StandsFor}
 use Rattle.bpf_helpers.specs.inside.Flat.{bound_map, part_place, part_input, flat_look_up, Updates, UpdatesBy, DeletesBy, LoadsBy}
-use Rattle.bpf_helpers.specs.Calls.{AreArguments, Follows}
+use Rattle.bpf_helpers.specs.Calls.{AreArguments, ResultFollows}
 use Rattle.bpf_helpers.specs.inside.Laws.{GivesWord, ReturnsStand}
 use Rattle.bpf_helpers.proofs.Bytes.{length-bytes_at}
 use Rattle.bpf_helpers.proofs.Many.{also_some}
@@ -29,15 +29,15 @@ use Rattle.bpf_helpers.proofs.Wider.{extends_itself}
 use Rattle.bpf_helpers.proofs.Updates.{updates_stand}
 use Rattle.bpf_helpers.proofs.Deletes.{deletes_stand}
 
-same_areas : (tenant : Tenant) → SameAreas tenant tenant
+same_areas : (tenant : LiveMaps) → SameAreas tenant tenant
 same_areas tenant k l e = (l, e, refl, refl, refl)
 
 -- one map has the holds that it had, and the others are as they were
-same_holds : (old new : Tenant) (k : ℕ) → holds_at new k ≡ holds_at old k → ((other : ℕ) → other ≢ k → live_at new other ≡ live_at old other) → (key : ℕ) → holds_at new key ≡ holds_at old key
+same_holds : (old new : LiveMaps) (k : ℕ) → holds_at new k ≡ holds_at old k → ((other : ℕ) → other ≢ k → live_at new other ≡ live_at old other) → (key : ℕ) → holds_at new key ≡ holds_at old key
 same_holds old new k own others key =
     ⊎_elim
     (λ b. let same : k ≡ key = sym (eqb-true key k b) in subst (λ (x : ℕ). holds_at new x ≡ holds_at old x) same own)
-    (λ b. ap (λ (o : Option Live). (live_or o).holds) (others key (eqb-false key k b)))
+    (λ b. ap (λ (o : Option LiveMap). (live_or o).holds) (others key (eqb-false key k b)))
     (cases_Bool (eqb key k))
 
 -- the bytes that are read are as many as were asked for
@@ -52,7 +52,7 @@ input_long memory t n w bs fits e =
     let place : w - (base + start) ≡ a.0 = c.1 in
     ap length (sym (same_Some (bytes_at memory.bytes (part_start memory t + a.0) n) bs a.2)) ∙ length-bytes_at memory.bytes (part_start memory t + a.0) n (omega arith)
 
-module _ (l : Layout) (bind : List ℕ) (old : Memory) (t at : ℕ) (registers : List ℕ) (memory : Memory) (tenant : Tenant) (s : State) (room : IsRoom old t) (stands : StandsFor l bind old t at registers memory tenant s) (words : List ℕ) (args : AreArguments words registers) where
+module _ (l : Layout) (bind : List ℕ) (old : Memory) (t at : ℕ) (registers : List ℕ) (memory : Memory) (tenant : LiveMaps) (s : RunState) (room : IsRoom old t) (stands : StandsFor l bind old t at registers memory tenant s) (words : List ℕ) (args : AreArguments words registers) where
   part_fits : part_start memory t + memory.part ≤ length memory.bytes
   part_fits =
       let within = part_within old t room in
@@ -62,7 +62,7 @@ module _ (l : Layout) (bind : List ℕ) (old : Memory) (t at : ℕ) (registers :
       omega arith
 
   -- the map in register 1
-  record IsMap (g : Given) : Type 0 where
+  record IsMap (g : GivenMap) : Type 0 where
     index : ℕ
     within : index < length bind
     named : slice_get l.maps index ≡ Some g.descriptor
@@ -70,7 +70,7 @@ module _ (l : Layout) (bind : List ℕ) (old : Memory) (t at : ℕ) (registers :
     there : s.maps g.descriptor ≡ Some g.map
     shape : shape_at tenant (slice_index bind index) ≡ g.map.table.shape
 
-  map_there : (g : Given) → map_argument s 1 ≡ Some g → IsMap g
+  map_there : (g : GivenMap) → map_argument s 1 ≡ Some g → IsMap g
   map_there g e =
       let given = is_given s 1 g e in
       let word = stands.values 1 (Map g.descriptor) (omega arith) given.register in
@@ -100,18 +100,18 @@ module _ (l : Layout) (bind : List ℕ) (old : Memory) (t at : ℕ) (registers :
   other_key : (index key : ℕ) → index < length bind → ((i : ℕ) → i < length bind → slice_index bind i ≢ key) → key ≢ slice_index bind index
   other_key index key lt away same = away index lt (sym same)
 
-  module _ {F : Type 0} (returned : ReturnsStand) (below : Below) (answer : Result ℕ F) (o : Option ℕ) (fault : F) (is : answer ≡ ok_or o fault) where
+  module _ {F : Type 0} (returned : ReturnsStand) (below : LawsBelow) (answer : Result ℕ F) (o : Option ℕ) (fault : F) (is : answer ≡ ok_or o fault) where
     answered : (w : ℕ) → o ≡ Some w → answer ≡ Ok w
     answered w e = is ∙ ap (λ o. ok_or o fault) e
 
-    pub look_up_followed : (u : State) → o ≡ flat_look_up memory t tenant bind (slice_index words 0) (slice_index words 1) → called false LookUp s ≡ Some u → Follows l bind old t at registers tenant s LookUp answer memory tenant
+    pub look_up_followed : (u : RunState) → o ≡ flat_look_up memory t tenant bind (slice_index words 0) (slice_index words 1) → called false LookUp s ≡ Some u → ResultFollows l bind old t at registers tenant s LookUp answer memory tenant
     look_up_followed u told e =
         let f = look_ups_follow below.along l bind old t at registers memory tenant s u false room stands e in
         let same : o ≡ flat_look_up memory t tenant bind (slice_index registers 1) (slice_index registers 2) =
         told ∙ ap (λ (w : ℕ). flat_look_up memory t tenant bind w (slice_index words 1)) (args 0 (omega arith)) ∙ ap (λ (w : ℕ). flat_look_up memory t tenant bind (slice_index registers 1) w) (args 1 (omega arith)) in
         by f.0 f.1 o refl (subst (λ x. GivesWord l x (Some f.0)) (sym same) f.2)
       where
-        by : (v : Tagged) → u ≡ returns s v → (x : Option ℕ) → o ≡ x → GivesWord l x (Some v) → Follows l bind old t at registers tenant s LookUp answer memory tenant
+        by : (v : Tagged) → u ≡ returns s v → (x : Option ℕ) → o ≡ x → GivesWord l x (Some v) → ResultFollows l bind old t at registers tenant s LookUp answer memory tenant
         by v after None f g = absurd g
         by v after (Some w) f g = record {
           refused = false;
@@ -122,13 +122,13 @@ module _ (l : Layout) (bind : List ℕ) (old : Memory) (t at : ℕ) (registers :
           extends = extends_itself l;
           word = w;
           answered = answered w f;
-          stands = subst (λ (x : State). StandsFor l bind old t at (slice_set registers 0 w) memory tenant x) (sym after) (returned l bind old t at registers memory tenant s v w stands g);
+          stands = subst (λ (x : RunState). StandsFor l bind old t at (slice_set registers 0 w) memory tenant x) (sym after) (returned l bind old t at registers memory tenant s v w stands g);
           others = λ key away. refl;
           areas = same_areas tenant;
           holds = λ key. refl;
         }
 
-    pub update_followed : (after : Memory) (new : Tenant) (u : State) → UpdatesBy memory t tenant bind (slice_index words 0) (slice_index words 1) (slice_index words 2) (slice_index words 3) o after new → called false Update s ≡ Some u → Follows l bind old t at registers tenant s Update answer after new
+    pub update_followed : (after : Memory) (new : LiveMaps) (u : RunState) → UpdatesBy memory t tenant bind (slice_index words 0) (slice_index words 1) (slice_index words 2) (slice_index words 3) o after new → called false Update s ≡ Some u → ResultFollows l bind old t at registers tenant s Update answer after new
     update_followed after new u told e =
         let a = also_some (map_argument s 1) (λ g. also (argument s 2 (λ p. input s p g.map.table.shape.key_size)) (λ key. also (argument s 3 (λ p. input s p g.map.table.shape.value_size)) (λ value. also (argument s 4 number_given) (λ flags. Some (replies s g.descriptor (updated false g.map key value flags)))))) u e in
         let g = a.0 in
@@ -137,7 +137,7 @@ module _ (l : Layout) (bind : List ℕ) (old : Memory) (t at : ℕ) (registers :
         let d = also_some (argument s 4 number_given) (λ flags. Some (replies s g.descriptor (updated false g.map b.0 c.0 flags))) u c.2 in
         update_by after new told g b.0 c.0 d.0 a.1 b.1 c.1 d.1 (map_there g a.1)
       where
-        update_by : (after : Memory) (new : Tenant) → UpdatesBy memory t tenant bind (slice_index words 0) (slice_index words 1) (slice_index words 2) (slice_index words 3) o after new → (g : Given) (key value : List ℕ) (flags : ℕ) → map_argument s 1 ≡ Some g → argument s 2 (λ p. input s p g.map.table.shape.key_size) ≡ Some key → argument s 3 (λ p. input s p g.map.table.shape.value_size) ≡ Some value → argument s 4 number_given ≡ Some flags → IsMap g → Follows l bind old t at registers tenant s Update answer after new
+        update_by : (after : Memory) (new : LiveMaps) → UpdatesBy memory t tenant bind (slice_index words 0) (slice_index words 1) (slice_index words 2) (slice_index words 3) o after new → (g : GivenMap) (key value : List ℕ) (flags : ℕ) → map_argument s 1 ≡ Some g → argument s 2 (λ p. input s p g.map.table.shape.key_size) ≡ Some key → argument s 3 (λ p. input s p g.map.table.shape.value_size) ≡ Some value → argument s 4 number_given ≡ Some flags → IsMap g → ResultFollows l bind old t at registers tenant s Update answer after new
         update_by after new told g key value flags first second third fourth m =
             let k = slice_index bind m.index in
             let keys = bytes_there 1 g.map.table.shape.key_size (shape_at tenant k).key_size key (omega arith) (ap (λ (x : MapShape). x.key_size) m.shape) second in
@@ -164,7 +164,7 @@ module _ (l : Layout) (bind : List ℕ) (old : Memory) (t at : ℕ) (registers :
               holds = same_holds tenant new k r.2.holds r.2.others;
             }
 
-    pub delete_followed : (new : Tenant) (u : State) → DeletesBy memory t tenant bind (slice_index words 0) (slice_index words 1) o new → called false Delete s ≡ Some u → Follows l bind old t at registers tenant s Delete answer memory new
+    pub delete_followed : (new : LiveMaps) (u : RunState) → DeletesBy memory t tenant bind (slice_index words 0) (slice_index words 1) o new → called false Delete s ≡ Some u → ResultFollows l bind old t at registers tenant s Delete answer memory new
     delete_followed new u told e =
         let a = also_some (map_argument s 1) (λ g. also (argument s 2 (λ p. input s p g.map.table.shape.key_size)) (λ key. Some (replies s g.descriptor (removed g.map key)))) u e in
         let g = a.0 in
@@ -184,14 +184,14 @@ module _ (l : Layout) (bind : List ℕ) (old : Memory) (t at : ℕ) (registers :
           extends = extends_itself l;
           word = r.0;
           answered = answered r.0 r.1;
-          stands = subst (λ (x : State). StandsFor l bind old t at (slice_set registers 0 r.0) memory new x) (same_Some (replies s g.descriptor reply) u b.2)
+          stands = subst (λ (x : RunState). StandsFor l bind old t at (slice_set registers 0 r.0) memory new x) (same_Some (replies s g.descriptor reply) u b.2)
               (returned l bind old t at registers memory new (with_reply s g.descriptor reply) (Scalar reply.answer) r.0 st.1 st.0);
           others = λ x away. r.2.others x (other_key m.index x m.within away);
           areas = r.2.areas;
           holds = same_holds tenant new k r.2.holds r.2.others;
         }
 
-    pub load_followed : (packet : List ℕ) → s.packet ≡ packet → (after : Memory) (u : State) → LoadsBy memory t packet (slice_index words 1) (slice_index words 2) (slice_index words 3) o after → called false LoadBytes s ≡ Some u → Follows l bind old t at registers tenant s LoadBytes answer after tenant
+    pub load_followed : (packet : List ℕ) → s.packet ≡ packet → (after : Memory) (u : RunState) → LoadsBy memory t packet (slice_index words 1) (slice_index words 2) (slice_index words 3) o after → called false LoadBytes s ≡ Some u → ResultFollows l bind old t at registers tenant s LoadBytes answer after tenant
     load_followed packet same after u told e =
         let st = load_stands l bind old t at registers memory tenant s room stands below.writes false u e in
         let offset = args 1 (omega arith) in
@@ -215,7 +215,7 @@ module _ (l : Layout) (bind : List ℕ) (old : Memory) (t at : ℕ) (registers :
           extends = extends_itself l;
           word = word;
           answered = answered word (r.0 ∙ ap (λ (x : ℕ). Some x) gives);
-          stands = subst (λ (x : State). StandsFor l bind old t at (slice_set registers 0 word) after tenant x) (sym st.is)
+          stands = subst (λ (x : RunState). StandsFor l bind old t at (slice_set registers 0 word) after tenant x) (sym st.is)
               (subst (λ (n : Memory). StandsFor l bind old t at (slice_set registers 0 word) n tenant (returns st.written (Scalar word))) (sym memory_is)
               (returned l bind old t at registers (with_bytes memory (part_start memory t + st.place) (packet_bytes s.packet (slice_index registers 2) (slice_index registers 4))) tenant st.written (Scalar word) word st.stands refl));
           others = λ key away. refl;

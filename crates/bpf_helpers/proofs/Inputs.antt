@@ -13,12 +13,12 @@ use Rattle.tagged_model.specs.declared.value.Object.TheVariants as object
 use Rattle.tagged_model.specs.declared.value.Tagged.{Tagged}
 use Rattle.tagged_model.specs.declared.value.Tagged.TheVariants.{Pointer}
 use Rattle.tagged_model.specs.Cells.{also, gathered}
-use Rattle.tagged_model.specs.State.{State, RunMap, stack_byte, stack_bytes, value_bytes, object_bytes, input}
+use Rattle.tagged_model.specs.State.{RunState, RunMap, stack_byte, stack_bytes, value_bytes, object_bytes, input}
 use Rattle.arena.specs.Memory.{Memory, base, size_of, part_start}
 use Rattle.bpf_maps.specs.declared.part.TheConstants.{PART}
-use Rattle.bpf_maps.specs.Live.{Tenant, Live, live_at, live_or, shape_at, offset, offset_at, IsInside, IsLaid}
+use Rattle.bpf_maps.specs.Live.{LiveMaps, LiveMap, live_at, live_or, shape_at, offset, offset_at, LiesInPart, IsLaid}
 use Rattle.bpf_helpers.specs.Layout.{Layout, IsWord}
-use Rattle.bpf_helpers.specs.Stands.{IsRoom, HasObject, HasMaps, StandsFor}
+use Rattle.bpf_helpers.specs.Stands.{IsRoom, HasObject, MapsStandFor, StandsFor}
 use Rattle.bpf_helpers.specs.inside.Flat.{part_place, part_input}
 use Rattle.bpf_helpers.proofs.Bytes.{byte_of, bytes_are}
 use Rattle.bpf_helpers.proofs.Many.{also_some, in_stack, bytes_there}
@@ -56,16 +56,16 @@ part_place_is start part n address at e h =
 
 -- ---- maps
 
-module _ (tenant : Tenant) (laid : IsLaid tenant) where
-  pub laid_inside : (k p : ℕ) → IsSome (live_at tenant k) → p < (shape_at tenant k).max_entries → IsInside (offset_at tenant k p) (shape_at tenant k).value_size
+module _ (tenant : LiveMaps) (laid : IsLaid tenant) where
+  pub laid_inside : (k p : ℕ) → IsSome (live_at tenant k) → p < (shape_at tenant k).max_entries → LiesInPart (offset_at tenant k p) (shape_at tenant k).value_size
   laid_inside k p live lt = by (live_at tenant k) refl live lt
     where
-      by : (o : Option Live) → live_at tenant k ≡ o → IsSome o → p < (live_or o).places.shape.max_entries → IsInside (offset (live_or o) p) (live_or o).places.shape.value_size
+      by : (o : Option LiveMap) → live_at tenant k ≡ o → IsSome o → p < (live_or o).places.shape.max_entries → LiesInPart (offset (live_or o) p) (live_or o).places.shape.value_size
       by None e some lt = absurd (false≢true some)
       by (Some l) e some lt = laid.inside k p l e lt
 
 -- an object that is placed
-pub record Found (l : Layout) (start : ℕ) (memory : List ℕ) (bind : List ℕ) (tenant : Tenant) (maps : ℕ → Option RunMap) (m number : ℕ) : Type 0 where
+pub record Found (l : Layout) (start : ℕ) (memory : List ℕ) (bind : List ℕ) (tenant : LiveMaps) (maps : ℕ → Option RunMap) (m number : ℕ) : Type 0 where
   pub map : RunMap
   pub there : maps m ≡ Some map
   pub key : ℕ
@@ -73,7 +73,7 @@ pub record Found (l : Layout) (start : ℕ) (memory : List ℕ) (bind : List ℕ
   pub place : ℕ
   pub has : HasObject l start memory tenant key m number (map.values number) place
 
-pub placed_object : (l : Layout) (start : ℕ) (memory bind : List ℕ) (tenant : Tenant) (maps : ℕ → Option RunMap) (m number : ℕ) → HasMaps l bind start memory tenant maps → number < l.counts m → Found l start memory bind tenant maps m number
+pub placed_object : (l : Layout) (start : ℕ) (memory bind : List ℕ) (tenant : LiveMaps) (maps : ℕ → Option RunMap) (m number : ℕ) → MapsStandFor l bind start memory tenant maps → number < l.counts m → Found l start memory bind tenant maps m number
 placed_object l start memory bind tenant maps m number has lt =
     let at = has.listed m number lt in
     let g = has.each at.0 m at.1 in
@@ -89,7 +89,7 @@ placed_object l start memory bind tenant maps m number has lt =
 
 -- ---- inputs
 
-module _ (l : Layout) (bind : List ℕ) (old : Memory) (t at : ℕ) (registers : List ℕ) (memory : Memory) (tenant : Tenant) (s : State) (room : IsRoom old t) (stands : StandsFor l bind old t at registers memory tenant s) where
+module _ (l : Layout) (bind : List ℕ) (old : Memory) (t at : ℕ) (registers : List ℕ) (memory : Memory) (tenant : LiveMaps) (s : RunState) (room : IsRoom old t) (stands : StandsFor l bind old t at registers memory tenant s) where
   start : ℕ
   start = part_start old t
 

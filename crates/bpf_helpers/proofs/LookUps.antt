@@ -10,12 +10,12 @@ use Rattle.tagged_model.specs.declared.value.Tagged.{Tagged}
 use Rattle.tagged_model.specs.declared.value.Tagged.TheVariants.{Scalar, Map, Pointer}
 use Rattle.tagged_model.specs.Table.{Table, look_up}
 use Rattle.tagged_model.specs.Cells.{also}
-use Rattle.tagged_model.specs.State.{State, RunMap, input}
-use Rattle.tagged_model.specs.Helpers.{Given, map_given, argument, map_argument, looked_up, called, returns}
+use Rattle.tagged_model.specs.State.{RunState, RunMap, input}
+use Rattle.tagged_model.specs.Helpers.{GivenMap, map_given, argument, map_argument, looked_up, called, returns}
 use Rattle.arena.specs.Memory.{Memory, part_start}
 use Rattle.bpf_maps.specs.Places.{table_of}
-use Rattle.bpf_maps.specs.Live.{Tenant, places_at, shape_at}
-use Rattle.bpf_maps.specs.Laws.{CallsGoAlong}
+use Rattle.bpf_maps.specs.Live.{LiveMaps, places_at, shape_at}
+use Rattle.bpf_maps.specs.Laws.{CallsRefineValues}
 use Rattle.bpf_helpers.specs.Layout.{Layout, IsWord}
 use Rattle.bpf_helpers.specs.Stands.{IsRoom, HasMap, StandsFor}
 use Rattle.bpf_helpers.specs.inside.Flat.{bound_map, part_input, value_word, flat_look_up}
@@ -32,11 +32,11 @@ is_map (Scalar n) m e = absurd (none-some m e)
 is_map (Pointer o x) m e = absurd (none-some m e)
 
 -- the map in a register
-pub record IsGiven (s : State) (r : ℕ) (g : Given) : Type 0 where
+pub record IsGiven (s : RunState) (r : ℕ) (g : GivenMap) : Type 0 where
   pub register : s.registers r ≡ Some (Map g.descriptor)
   pub there : s.maps g.descriptor ≡ Some g.map
 
-pub is_given : (s : State) (r : ℕ) (g : Given) → map_argument s r ≡ Some g → IsGiven s r g
+pub is_given : (s : RunState) (r : ℕ) (g : GivenMap) → map_argument s r ≡ Some g → IsGiven s r g
 is_given s r g e =
     let a = also_some (argument s r map_given) (λ m. also (s.maps m) (λ t. Some (record { descriptor = m; map = t }))) g e in
     let b = also_some (s.registers r) map_given a.0 a.1 in
@@ -44,7 +44,7 @@ is_given s r g e =
     let same = same_Some (record { descriptor = a.0; map = c.0 }) g c.2 in
     subst (IsGiven s r) same (record { register = b.1 ∙ ap (λ (v : Tagged). Some v) (is_map b.0 a.0 b.2); there = c.1 })
 
-module _ (l : Layout) (bind : List ℕ) (old : Memory) (t at : ℕ) (registers : List ℕ) (memory : Memory) (tenant : Tenant) (s : State) (room : IsRoom old t) (stands : StandsFor l bind old t at registers memory tenant s) where
+module _ (l : Layout) (bind : List ℕ) (old : Memory) (t at : ℕ) (registers : List ℕ) (memory : Memory) (tenant : LiveMaps) (s : RunState) (room : IsRoom old t) (stands : StandsFor l bind old t at registers memory tenant s) where
   -- the map that a word names, and what stands for it
   pub record IsBound (w m : ℕ) (map : RunMap) : Type 0 where
     pub key : ℕ
@@ -67,7 +67,7 @@ module _ (l : Layout) (bind : List ℕ) (old : Memory) (t at : ℕ) (registers :
 
   -- ---- what is found
 
-  module _ (along : CallsGoAlong ℕ ℕ) (m key : ℕ) (map : RunMap) (has : HasMap l (part_start old t) memory.bytes tenant key m map) where
+  module _ (along : CallsRefineValues ℕ ℕ) (m key : ℕ) (map : RunMap) (has : HasMap l (part_start old t) memory.bytes tenant key m map) where
     shape_same : shape_at tenant key ≡ map.table.shape
     shape_same = ap (λ (x : Table ℕ). x.shape) has.table
 
@@ -88,7 +88,7 @@ module _ (l : Layout) (bind : List ℕ) (old : Memory) (t at : ℕ) (registers :
         subst (λ (o : Option ℕ). IsWord l (looked_up m (look_up map.table bytes)) (value_word memory t tenant key o)) (sym (found_place bytes))
         (found_word (look_up map.table bytes) (λ number e. found_owned map.count bytes map.table.entries number has.owns e))
 
-  pub follows : CallsGoAlong ℕ ℕ → (refused : Bool) (u : State) → called refused LookUp s ≡ Some u
+  pub follows : CallsRefineValues ℕ ℕ → (refused : Bool) (u : RunState) → called refused LookUp s ≡ Some u
       → (v : Tagged) × (u ≡ returns s v) × GivesWord l (flat_look_up memory t tenant bind (slice_index registers 1) (slice_index registers 2)) (Some v)
   follows along refused u e =
       let a = also_some (map_argument s 1) (λ g. also (argument s 2 (λ p. input s p g.map.table.shape.key_size)) (λ key. Some (returns s (looked_up g.descriptor (look_up g.map.table key))))) u e in
@@ -108,5 +108,5 @@ module _ (l : Layout) (bind : List ℕ) (old : Memory) (t at : ℕ) (registers :
         subst (λ (o : Option ℕ). GivesWord l o (Some (looked_up g.descriptor (look_up g.map.table b.0)))) (sym flat) (look_up_follows along g.descriptor bound.key g.map bound.has b.0),
       )
 
-pub look_ups_follow : CallsGoAlong ℕ ℕ → LookUpsFollow
+pub look_ups_follow : CallsRefineValues ℕ ℕ → LookUpsFollow
 look_ups_follow along l bind old t at registers memory tenant s u refused room stands e = follows l bind old t at registers memory tenant s room stands along refused u e

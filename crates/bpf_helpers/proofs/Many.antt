@@ -8,7 +8,7 @@ use Rattle.reg_kinds.specs.Stack.{is_in_stack, place}
 use Rattle.reg_kinds.specs.Many.{touches}
 use Rattle.tagged_model.specs.declared.value.Tagged.{Tagged}
 use Rattle.tagged_model.specs.Cells.{Cell, holds, bytes, also, byte_at, gathered, cell_over}
-use Rattle.tagged_model.specs.State.{State, with_cells, stack_byte}
+use Rattle.tagged_model.specs.State.{RunState, with_cells, stack_byte}
 use Rattle.bpf_helpers.specs.Layout.{Layout, IsWord, HasCell, HasStack}
 use Rattle.bpf_helpers.specs.inside.Laws.{StackBytesAreThere, StackBytesAreWritten}
 use Rattle.bpf_helpers.proofs.Bytes.{written_in, written_out, bytes_are, bytes_stay}
@@ -60,7 +60,7 @@ in_stack n (negsuc y) h =
 -- ---- reading
 
 -- a byte of the stack is the memory's
-stack_byte_there : (l : Layout) (memory : List ℕ) (start : ℕ) (s : State) (q b : ℕ) → HasStack l memory start s.cells → q < 512 → stack_byte s q ≡ Some b → get_or memory (start + q) 0 ≡ b
+stack_byte_there : (l : Layout) (memory : List ℕ) (start : ℕ) (s : RunState) (q b : ℕ) → HasStack l memory start s.cells → q < 512 → stack_byte s q ≡ Some b → get_or memory (start + q) 0 ≡ b
 stack_byte_there l memory start s q b has lt e =
     let at : start + q ≡ start + 8 * (q / 8) + q % 8 = omega arith in
     ap (λ (a : ℕ). get_or memory a 0) at ∙ (has (q / 8) (omega arith)).present (q % 8) b (omega arith) e
@@ -128,5 +128,5 @@ pub bytes_over : StackBytesAreWritten
 bytes_over l memory start s t y bs has fits e =
     let c = cond_some (is_in_stack y (length bs)) (with_cells s (λ i. cell_over i (s.cells i) (place y) bs)) t e in
     let within = (in_stack (length bs) y c.0).1 in
-    subst (λ (u : State). HasStack l (written_at memory (start + place y) bs) start u.cells) c.1
+    subst (λ (u : RunState). HasStack l (written_at memory (start + place y) bs) start u.cells) c.1
     (λ i lt. cell_after l memory start fits (place y) bs within i (s.cells i) lt (has i lt))

@@ -9,13 +9,13 @@ use Rattle.interval.specs.Bytes.{bytes_at}
 use Rattle.tagged_model.specs.State.{RunMap, set_at}
 use Rattle.arena.specs.Memory.{base}
 use Rattle.bpf_maps.specs.Places.{PlaceTable, table_of, times}
-use Rattle.bpf_maps.specs.Live.{Tenant, Live, live_at, live_or, places_at, shape_at, offset, offset_at, SameAreas, IsLaid}
+use Rattle.bpf_maps.specs.Live.{LiveMaps, LiveMap, live_at, live_or, places_at, shape_at, offset, offset_at, SameAreas, IsLaid}
 use Rattle.bpf_maps.specs.Laws.{AreasKeepPlaces}
 use Rattle.bpf_helpers.specs.Layout.{Layout}
-use Rattle.bpf_helpers.specs.Stands.{HasMap, HasMaps}
+use Rattle.bpf_helpers.specs.Stands.{HasMap, MapsStandFor}
 
 -- the maps of other descriptors have other keys
-pub other_key : (l : Layout) (bind : List ℕ) (start : ℕ) (memory : List ℕ) (tenant : Tenant) (maps : ℕ → Option RunMap) → HasMaps l bind start memory tenant maps → (i m j n : ℕ) → slice_get l.maps i ≡ Some m → slice_get l.maps j ≡ Some n → n ≢ m → slice_index bind j ≢ slice_index bind i
+pub other_key : (l : Layout) (bind : List ℕ) (start : ℕ) (memory : List ℕ) (tenant : LiveMaps) (maps : ℕ → Option RunMap) → MapsStandFor l bind start memory tenant maps → (i m j n : ℕ) → slice_get l.maps i ≡ Some m → slice_get l.maps j ≡ Some n → n ≢ m → slice_index bind j ≢ slice_index bind i
 other_key l bind start memory tenant maps has i m j n named e differ same =
     let count = has.count in
     let a = slice_get_within l.maps j n e in
@@ -23,7 +23,7 @@ other_key l bind start memory tenant maps has i m j n named e differ same =
     let one : j ≡ i = has.keys j i (omega arith) (omega arith) same in
     differ (same_Some n m (sym e ∙ ap (λ (x : ℕ). slice_get l.maps x) one ∙ named))
 
-module _ (l : Layout) (start : ℕ) (memory : List ℕ) (old new : Tenant) (k m : ℕ) (t : RunMap) where
+module _ (l : Layout) (start : ℕ) (memory : List ℕ) (old new : LiveMaps) (k m : ℕ) (t : RunMap) where
   -- its places are the same, and begin where they did
   map_moved : places_at new k ≡ places_at old k → ((p : ℕ) → offset_at new k p ≡ offset_at old k p) → IsSome (live_at new k) → HasMap l start memory old k m t → HasMap l start memory new k m t
   map_moved places offsets live h = record {
@@ -43,19 +43,19 @@ module _ (l : Layout) (start : ℕ) (memory : List ℕ) (old new : Tenant) (k m 
     apart = h.apart;
   }
 
-live_places : (old new : Tenant) (k : ℕ) → live_at new k ≡ live_at old k → places_at new k ≡ places_at old k
-live_places old new k e = ap (λ (o : Option Live). (live_or o).places) e
+live_places : (old new : LiveMaps) (k : ℕ) → live_at new k ≡ live_at old k → places_at new k ≡ places_at old k
+live_places old new k e = ap (λ (o : Option LiveMap). (live_or o).places) e
 
-live_offsets : (old new : Tenant) (k p : ℕ) → live_at new k ≡ live_at old k → offset_at new k p ≡ offset_at old k p
-live_offsets old new k p e = ap (λ (o : Option Live). offset (live_or o) p) e
+live_offsets : (old new : LiveMaps) (k p : ℕ) → live_at new k ≡ live_at old k → offset_at new k p ≡ offset_at old k p
+live_offsets old new k p e = ap (λ (o : Option LiveMap). offset (live_or o) p) e
 
 -- the maps other than the one under key k are as they were, and so are the places of this one
-module _ (l : Layout) (bind : List ℕ) (start : ℕ) (memory : List ℕ) (old new : Tenant) (k : ℕ) (live : IsSome (live_at new k)) (others : (other : ℕ) → other ≢ k → live_at new other ≡ live_at old other) (areas : SameAreas old new) (laid : IsLaid new) where
+module _ (l : Layout) (bind : List ℕ) (start : ℕ) (memory : List ℕ) (old new : LiveMaps) (k : ℕ) (live : IsSome (live_at new k)) (others : (other : ℕ) → other ≢ k → live_at new other ≡ live_at old other) (areas : SameAreas old new) (laid : IsLaid new) where
   pub other_moved : (j n : ℕ) (u : RunMap) → j ≢ k → HasMap l start memory old j n u → HasMap l start memory new j n u
   other_moved j n u differ h =
       map_moved l start memory old new j n u (live_places old new j (others j differ)) (λ p. live_offsets old new j p (others j differ)) (subst IsSome (sym (others j differ)) h.live) h
 
-  pub maps_moved : AreasKeepPlaces → (maps : ℕ → Option RunMap) → places_at new k ≡ places_at old k → HasMaps l bind start memory old maps → HasMaps l bind start memory new maps
+  pub maps_moved : AreasKeepPlaces → (maps : ℕ → Option RunMap) → places_at new k ≡ places_at old k → MapsStandFor l bind start memory old maps → MapsStandFor l bind start memory new maps
   maps_moved keep maps places has = record {
     count = has.count;
     each = λ i m e. let g = has.each i m e in (
@@ -74,7 +74,7 @@ module _ (l : Layout) (bind : List ℕ) (start : ℕ) (memory : List ℕ) (old n
   }
 
 -- the same map again
-pub maps_again : (l : Layout) (bind : List ℕ) (start : ℕ) (memory : List ℕ) (tenant : Tenant) (maps : ℕ → Option RunMap) (m : ℕ) (t : RunMap) → maps m ≡ Some t → HasMaps l bind start memory tenant maps → HasMaps l bind start memory tenant (set_at maps m (Some t))
+pub maps_again : (l : Layout) (bind : List ℕ) (start : ℕ) (memory : List ℕ) (tenant : LiveMaps) (maps : ℕ → Option RunMap) (m : ℕ) (t : RunMap) → maps m ≡ Some t → MapsStandFor l bind start memory tenant maps → MapsStandFor l bind start memory tenant (set_at maps m (Some t))
 maps_again l bind start memory tenant maps m t is has = record {
   count = has.count;
   each = λ i n e. let g = has.each i n e in
@@ -88,9 +88,9 @@ maps_again l bind start memory tenant maps m t is has = record {
 }
 
 -- one map is another
-module _ (l : Layout) (bind : List ℕ) (start : ℕ) (memory : List ℕ) (old new : Tenant) (maps : ℕ → Option RunMap) (i m : ℕ) (t : RunMap) (has : HasMaps l bind start memory old maps) (named : slice_get l.maps i ≡ Some m) (live : IsSome (live_at new (slice_index bind i)))
+module _ (l : Layout) (bind : List ℕ) (start : ℕ) (memory : List ℕ) (old new : LiveMaps) (maps : ℕ → Option RunMap) (i m : ℕ) (t : RunMap) (has : MapsStandFor l bind start memory old maps) (named : slice_get l.maps i ≡ Some m) (live : IsSome (live_at new (slice_index bind i)))
     (others : (other : ℕ) → other ≢ slice_index bind i → live_at new other ≡ live_at old other) (areas : SameAreas old new) (laid : IsLaid new) (own : HasMap l start memory new (slice_index bind i) m t) where
-  pub map_replaced : HasMaps l bind start memory new (set_at maps m (Some t))
+  pub map_replaced : MapsStandFor l bind start memory new (set_at maps m (Some t))
   map_replaced = record {
     count = has.count;
     each = λ j n e. let g = has.each j n e in

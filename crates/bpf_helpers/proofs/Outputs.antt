@@ -12,14 +12,14 @@ use Rattle.tagged_model.specs.declared.value.Object.TheVariants as object
 use Rattle.tagged_model.specs.declared.value.Tagged.{Tagged}
 use Rattle.tagged_model.specs.declared.value.Tagged.TheVariants.{Pointer}
 use Rattle.tagged_model.specs.Cells.{Cell, also, cell_over}
-use Rattle.tagged_model.specs.State.{State, RunMap, set_at, with_cells, with_value, with_map, stack_written, value_written, object_written, output}
+use Rattle.tagged_model.specs.State.{RunState, RunMap, set_at, with_cells, with_value, with_map, stack_written, value_written, object_written, output}
 use Rattle.arena.specs.Memory.{Memory, base, part_start, with_bytes}
 use Rattle.arena.specs.Apart.{IsPart, WritesStayInside}
 use Rattle.bpf_maps.specs.declared.part.TheConstants.{PART}
-use Rattle.bpf_maps.specs.Live.{Tenant, Live, live_at, live_or, shape_at, offset, offset_at, IsInside, IsLaid}
+use Rattle.bpf_maps.specs.Live.{LiveMaps, LiveMap, live_at, live_or, shape_at, offset, offset_at, LiesInPart, IsLaid}
 use Rattle.arena.proofs.Within.{over_within}
 use Rattle.bpf_helpers.specs.Layout.{Layout, IsWord, HasCell, HasStack, HasWords}
-use Rattle.bpf_helpers.specs.Stands.{top, IsRoom, IsOnlyChanged, HasObject, HasMap, HasMaps, KeepsOthers, StandsFor}
+use Rattle.bpf_helpers.specs.Stands.{top, IsRoom, IsOnlyChanged, HasObject, HasMap, MapsStandFor, KeepsUnboundValues, StandsFor}
 use Rattle.bpf_helpers.specs.inside.Flat.{part_place}
 use Rattle.bpf_helpers.specs.inside.Laws.{OutputsStand}
 use Rattle.bpf_helpers.proofs.Bytes.{written_out, length-written_at, bytes_stay}
@@ -50,7 +50,7 @@ module _ (l : Layout) (memory new : List ℕ) (from : ℕ) (fits : from + length
       apart (inl below) = inl (omega arith)
       apart (inr above) = inr (omega arith)
 
-  pub object_kept : (start : ℕ) (tenant : Tenant) (key m number : ℕ) (value : List ℕ) (place : ℕ) → start + offset_at tenant key place + (shape_at tenant key).value_size ≤ length memory → IsApart (start + offset_at tenant key place) (shape_at tenant key).value_size
+  pub object_kept : (start : ℕ) (tenant : LiveMaps) (key m number : ℕ) (value : List ℕ) (place : ℕ) → start + offset_at tenant key place + (shape_at tenant key).value_size ≤ length memory → IsApart (start + offset_at tenant key place) (shape_at tenant key).value_size
       → HasObject l start memory tenant key m number value place → HasObject l start (written_at memory from new) tenant key m number value place
   object_kept start tenant key m number value place room away has =
       record {
@@ -62,12 +62,12 @@ module _ (l : Layout) (memory new : List ℕ) (from : ℕ) (fits : from + length
 
 -- ---- the values of maps lie apart
 
-module _ (tenant : Tenant) (laid : IsLaid tenant) where
+module _ (tenant : LiveMaps) (laid : IsLaid tenant) where
   pub laid_apart : (k p j q : ℕ) → IsSome (live_at tenant k) → IsSome (live_at tenant j) → p < (shape_at tenant k).max_entries → q < (shape_at tenant j).max_entries → (k ≡ j → p ≢ q)
       → (offset_at tenant k p + (shape_at tenant k).value_size ≤ offset_at tenant j q) ⊎ (offset_at tenant j q + (shape_at tenant j).value_size ≤ offset_at tenant k p)
   laid_apart k p j q live there lt few differ = by (live_at tenant k) (live_at tenant j) refl refl live there lt few
     where
-      by : (o u : Option Live) → live_at tenant k ≡ o → live_at tenant j ≡ u → IsSome o → IsSome u → p < (live_or o).places.shape.max_entries → q < (live_or u).places.shape.max_entries
+      by : (o u : Option LiveMap) → live_at tenant k ≡ o → live_at tenant j ≡ u → IsSome o → IsSome u → p < (live_or o).places.shape.max_entries → q < (live_or u).places.shape.max_entries
           → (offset (live_or o) p + (live_or o).places.shape.value_size ≤ offset (live_or u) q) ⊎ (offset (live_or u) q + (live_or u).places.shape.value_size ≤ offset (live_or o) p)
       by None u e f some too lt few = absurd (false≢true some)
       by (Some a) None e f some too lt few = absurd (false≢true too)
@@ -75,9 +75,9 @@ module _ (tenant : Tenant) (laid : IsLaid tenant) where
 
 -- ---- maps
 
-module _ (l : Layout) (bind : List ℕ) (start : ℕ) (memory new : List ℕ) (tenant : Tenant) (maps : ℕ → Option RunMap) (has : HasMaps l bind start memory tenant maps) (long : start + PART ≤ length memory) where
+module _ (l : Layout) (bind : List ℕ) (start : ℕ) (memory new : List ℕ) (tenant : LiveMaps) (maps : ℕ → Option RunMap) (has : MapsStandFor l bind start memory tenant maps) (long : start + PART ≤ length memory) where
   -- what is written lies in the front of the part
-  pub maps_behind : (q : ℕ) → q + length new ≤ 512 → HasMaps l bind start (written_at memory (start + q) new) tenant maps
+  pub maps_behind : (q : ℕ) → q + length new ≤ 512 → MapsStandFor l bind start (written_at memory (start + q) new) tenant maps
   maps_behind q low = record { count = has.count; each = each; listed = has.listed; keys = has.keys; names = has.names; laid = has.laid }
     where
       one : (key m : ℕ) (t : RunMap) → HasMap l start memory tenant key m t → HasMap l start (written_at memory (start + q) new) tenant key m t
@@ -109,7 +109,7 @@ module _ (l : Layout) (bind : List ℕ) (start : ℕ) (memory new : List ℕ) (t
     abbrev size : ℕ
     size = (shape_at tenant (slice_index bind i)).value_size
 
-    inside : IsInside off size
+    inside : LiesInPart off size
     inside = laid_inside tenant has.laid key (h.place number) h.live (h.objects number lt).within
 
     fits : start + (off + y) + length new ≤ length memory
@@ -174,7 +174,7 @@ module _ (l : Layout) (bind : List ℕ) (start : ℕ) (memory new : List ℕ) (t
             within : (x n : ℕ) → slice_get l.maps x ≡ Some n → x < length l.maps
             within x n e = slice_get_within l.maps x n e
 
-    maps_over : HasMaps l bind start after tenant (set_at maps m (Some (with_value t number (written_at (t.values number) y new))))
+    maps_over : MapsStandFor l bind start after tenant (set_at maps m (Some (with_value t number (written_at (t.values number) y new))))
     maps_over = record { count = has.count; each = each; listed = has.listed; keys = has.keys; names = has.names; laid = has.laid }
       where
         each : (j n : ℕ) → slice_get l.maps j ≡ Some n → (u : RunMap) × (set_at maps m (Some (with_value t number (written_at (t.values number) y new))) n ≡ Some u) × HasMap l start after tenant (slice_index bind j) n u
@@ -190,8 +190,8 @@ module _ (l : Layout) (bind : List ℕ) (start : ℕ) (memory new : List ℕ) (t
 
 -- ---- the maps that the run does not name
 
-module _ (bind : List ℕ) (start : ℕ) (old memory new : List ℕ) (tenant : Tenant) (laid : IsLaid tenant) (long : start + PART ≤ length memory) (has : KeepsOthers bind start old memory tenant) where
-  pub others_behind : (q : ℕ) → q + length new ≤ 512 → KeepsOthers bind start old (written_at memory (start + q) new) tenant
+module _ (bind : List ℕ) (start : ℕ) (old memory new : List ℕ) (tenant : LiveMaps) (laid : IsLaid tenant) (long : start + PART ≤ length memory) (has : KeepsUnboundValues bind start old memory tenant) where
+  pub others_behind : (q : ℕ) → q + length new ≤ 512 → KeepsUnboundValues bind start old (written_at memory (start + q) new) tenant
   others_behind q low key p away live lt =
       let is = laid_inside tenant laid key p live lt in
       let within = is.within in let behind = is.behind in
@@ -199,7 +199,7 @@ module _ (bind : List ℕ) (start : ℕ) (old memory new : List ℕ) (tenant : T
 
   -- a place of a map that it names is written
   pub others_over : (i at y : ℕ) → i < length bind → IsSome (live_at tenant (slice_index bind i)) → at < (shape_at tenant (slice_index bind i)).max_entries → y + length new ≤ (shape_at tenant (slice_index bind i)).value_size
-      → KeepsOthers bind start old (written_at memory (start + (offset_at tenant (slice_index bind i) at + y)) new) tenant
+      → KeepsUnboundValues bind start old (written_at memory (start + (offset_at tenant (slice_index bind i) at + y)) new) tenant
   others_over i at y within live lt room key p away there few =
       let is = laid_inside tenant laid key p there few in
       let mine = laid_inside tenant laid (slice_index bind i) at live lt in
@@ -209,15 +209,15 @@ module _ (bind : List ℕ) (start : ℕ) (old memory new : List ℕ) (tenant : T
       ∙ has key p away there few
 
 -- a call of one of its maps changes no other
-pub others_moved : (bind : List ℕ) (start : ℕ) (old memory : List ℕ) (tenant new : Tenant) (i : ℕ) → i < length bind → ((other : ℕ) → other ≢ slice_index bind i → live_at new other ≡ live_at tenant other) → KeepsOthers bind start old memory tenant → KeepsOthers bind start old memory new
+pub others_moved : (bind : List ℕ) (start : ℕ) (old memory : List ℕ) (tenant new : LiveMaps) (i : ℕ) → i < length bind → ((other : ℕ) → other ≢ slice_index bind i → live_at new other ≡ live_at tenant other) → KeepsUnboundValues bind start old memory tenant → KeepsUnboundValues bind start old memory new
 others_moved bind start old memory tenant new i within others has key p away =
-    subst (λ (o : Option Live). IsSome o → p < (live_or o).places.shape.max_entries → bytes_at memory (start + offset (live_or o) p) (live_or o).places.shape.value_size ≡ bytes_at old (start + offset (live_or o) p) (live_or o).places.shape.value_size)
+    subst (λ (o : Option LiveMap). IsSome o → p < (live_or o).places.shape.max_entries → bytes_at memory (start + offset (live_or o) p) (live_or o).places.shape.value_size ≡ bytes_at old (start + offset (live_or o) p) (live_or o).places.shape.value_size)
     (sym (others key (λ same. away i within (sym same))))
     (λ live lt. has key p away live lt)
 
 -- ---- states
 
-module _ (writes : WritesStayInside) (l : Layout) (bind : List ℕ) (old : Memory) (t at : ℕ) (registers : List ℕ) (memory : Memory) (tenant : Tenant) (s : State) (room : IsRoom old t) (stands : StandsFor l bind old t at registers memory tenant s) where
+module _ (writes : WritesStayInside) (l : Layout) (bind : List ℕ) (old : Memory) (t at : ℕ) (registers : List ℕ) (memory : Memory) (tenant : LiveMaps) (s : RunState) (room : IsRoom old t) (stands : StandsFor l bind old t at registers memory tenant s) where
   pub changed_after : (q : ℕ) (new : List ℕ) → q + length new ≤ PART → IsOnlyChanged old t (with_bytes memory (part_start old t + q) new)
   changed_after q new h =
       let large = room.room in
@@ -236,10 +236,10 @@ module _ (writes : WritesStayInside) (l : Layout) (bind : List ℕ) (old : Memor
       }
 
   -- the place of what is written, and what stands then
-  Written : ℕ → List ℕ → State → Type 0
+  Written : ℕ → List ℕ → RunState → Type 0
   Written w bs u = (q : ℕ) × (part_place (part_start memory t) memory.part (length bs) w ≡ Some q) × StandsFor l bind old t at registers (with_bytes memory (part_start memory t + q) bs) tenant u
 
-  written : (w q : ℕ) (bs : List ℕ) (u : State) → w ≡ base + (part_start old t + q) → q + length bs ≤ PART → StandsFor l bind old t at registers (with_bytes memory (part_start old t + q) bs) tenant u → Written w bs u
+  written : (w q : ℕ) (bs : List ℕ) (u : RunState) → w ≡ base + (part_start old t + q) → q + length bs ≤ PART → StandsFor l bind old t at registers (with_bytes memory (part_start old t + q) bs) tenant u → Written w bs u
   unfolding Written
   written w q bs u e fits after =
       let part = stands.changed.part in let large = room.room in (
@@ -248,7 +248,7 @@ module _ (writes : WritesStayInside) (l : Layout) (bind : List ℕ) (old : Memor
         subst (λ (a : ℕ). StandsFor l bind old t at registers (with_bytes memory (a + q) bs) tenant u) (sym (start_same l bind old t at registers memory tenant s room stands)) after,
       )
 
-  stack_output : (x : ℤ) (w : ℕ) (bs : List ℕ) (u : State) → pos w ≡ pos l.front +ℤ x → stack_written s x bs ≡ Some u → Written w bs u
+  stack_output : (x : ℤ) (w : ℕ) (bs : List ℕ) (u : RunState) → pos w ≡ pos l.front +ℤ x → stack_written s x bs ≡ Some u → Written w bs u
   stack_output x w bs u h e =
       let start = part_start old t in
       let c = cond_some (is_in_stack x (length bs)) (with_cells s (λ i. cell_over i (s.cells i) (place x) bs)) u e in
@@ -259,7 +259,7 @@ module _ (writes : WritesStayInside) (l : Layout) (bind : List ℕ) (old : Memor
       let long = memory_long l bind old t at registers memory tenant s room stands in
       let cells = bytes_over l memory.bytes start s u x bs stands.stack (omega arith) e in
       written w (place x) bs u (omega (arith, ints)) (omega arith)
-      (subst (λ (v : State). HasStack l (written_at memory.bytes (start + place x) bs) start v.cells → StandsFor l bind old t at registers (with_bytes memory (start + place x) bs) tenant v) c.1
+      (subst (λ (v : RunState). HasStack l (written_at memory.bytes (start + place x) bs) start v.cells → StandsFor l bind old t at registers (with_bytes memory (start + place x) bs) tenant v) c.1
       (λ cells. record {
         slot = stands.slot;
         count = stands.count;
@@ -274,7 +274,7 @@ module _ (writes : WritesStayInside) (l : Layout) (bind : List ℕ) (old : Memor
         flag = stands.flag;
       }) cells)
 
-  object_output : (m number : ℕ) (x : ℤ) (w : ℕ) (bs : List ℕ) (u : State) → pos w ≡ pos (l.object_at m number) +ℤ x → number < l.counts m → object_written s m number x bs ≡ Some u → Written w bs u
+  object_output : (m number : ℕ) (x : ℤ) (w : ℕ) (bs : List ℕ) (u : RunState) → pos w ≡ pos (l.object_at m number) +ℤ x → number < l.counts m → object_written s m number x bs ≡ Some u → Written w bs u
   object_output m number (negsuc y) w bs u h placed e =
       let a = also_some (s.maps m) (λ t. also (value_written (t.values number) (negsuc y) bs) (λ value. Some (with_map s m (with_value t number value)))) u e in absurd (none-some u a.2)
   object_output m number (pos y) w bs u h placed e =
@@ -305,7 +305,7 @@ module _ (writes : WritesStayInside) (l : Layout) (bind : List ℕ) (old : Memor
       let now = with_map s m (with_value g.0 number (written_at (g.0.values number) y bs)) in
       let state : now ≡ u = ap (λ (v : List ℕ). with_map s m (with_value g.0 number v)) c.1 ∙ same_Some _ u b.2 in
       written w (off + y) bs u (omega (arith, ints)) (omega arith)
-      (subst (λ (v : State). StandsFor l bind old t at registers (with_bytes memory (start + (off + y)) bs) tenant v) state
+      (subst (λ (v : RunState). StandsFor l bind old t at registers (with_bytes memory (start + (off + y)) bs) tenant v) state
       (record {
         slot = stands.slot;
         count = stands.count;
@@ -320,12 +320,12 @@ module _ (writes : WritesStayInside) (l : Layout) (bind : List ℕ) (old : Memor
         flag = stands.flag;
       }))
 
-  output_written : (p : Tagged) (w : ℕ) (bs : List ℕ) (u : State) → IsWord l p w → output s p bs ≡ Some u → Written w bs u
+  output_written : (p : Tagged) (w : ℕ) (bs : List ℕ) (u : RunState) → IsWord l p w → output s p bs ≡ Some u → Written w bs u
   output_written (Pointer object.Stack x) w bs u h e = stack_output x w bs u h.0 e
   output_written (Pointer (object.Value m number) x) w bs u h e = object_output m number x w bs u h.0 h.2 e
   output_written p w bs u h e = absurd (none-some u e)
 
-  pub object_overwritten : (m number : ℕ) (x : ℤ) (w : ℕ) (bs : List ℕ) (u : State) → pos w ≡ pos (l.object_at m number) +ℤ x → number < l.counts m → object_written s m number x bs ≡ Some u
+  pub object_overwritten : (m number : ℕ) (x : ℤ) (w : ℕ) (bs : List ℕ) (u : RunState) → pos w ≡ pos (l.object_at m number) +ℤ x → number < l.counts m → object_written s m number x bs ≡ Some u
       → (q : ℕ) × (part_place (part_start memory t) memory.part (length bs) w ≡ Some q) × StandsFor l bind old t at registers (with_bytes memory (part_start memory t + q) bs) tenant u
   unfolding Written
   object_overwritten m number x w bs u h placed e = object_output m number x w bs u h placed e

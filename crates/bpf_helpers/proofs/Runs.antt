@@ -12,16 +12,16 @@ use Rattle.tagged_model.specs.declared.value.Object.TheVariants as object
 use Rattle.tagged_model.specs.declared.value.Tagged.{Tagged}
 use Rattle.tagged_model.specs.declared.value.Tagged.TheVariants.{Pointer}
 use Rattle.tagged_model.specs.Cells.{holds, bytes}
-use Rattle.tagged_model.specs.State.{State}
-use Rattle.tagged_model.specs.Step.{Maps, begins_with, begin, first_map, last_map}
+use Rattle.tagged_model.specs.State.{RunState}
+use Rattle.tagged_model.specs.Step.{MapsByDescriptor, begins_with, begin, first_map, last_map}
 use Rattle.arena.specs.Memory.{Memory, base, size_of, part_start, part_bytes}
 use Rattle.bpf_maps.specs.declared.part.TheConstants.{PART}
 use Rattle.bpf_maps.specs.Places.{PlaceTable, after_run}
-use Rattle.bpf_maps.specs.Live.{Tenant, live_at, places_at, shape_at, offset_at, value_in, map_in, SameAreas}
+use Rattle.bpf_maps.specs.Live.{LiveMaps, live_at, places_at, shape_at, offset_at, value_in, map_in, SameAreas}
 use Rattle.bpf_maps.specs.Laws.{AreasKeepPlaces}
 use Rattle.bpf_helpers.specs.Layout.{Layout, IsWord}
 use Rattle.bpf_helpers.specs.Stands.{top, IsRoom, HasMap, StandsFor}
-use Rattle.bpf_helpers.specs.Runs.{AreReady, HasContext, first_registers, Begins, RunsBegin, RunsEnd, OthersStay}
+use Rattle.bpf_helpers.specs.Runs.{AreReady, HasContext, first_registers, RunBeginsWith, RunsBegin, RunsEnd, OthersStay}
 use Rattle.bpf_helpers.proofs.Bytes.{length-bytes_at}
 use Rattle.bpf_helpers.proofs.Inputs.{bytes_within, part_within, laid_inside}
 use Rattle.bpf_helpers.proofs.Ends.{maps_begin, maps_end}
@@ -71,7 +71,7 @@ module _ (old : Memory) (t : ℕ) (room : IsRoom old t) (memory : Memory) (size 
 
 -- ---- the beginning
 
-module _ (bind descriptors : List ℕ) (old : Memory) (t : ℕ) (memory : Memory) (tenant : Tenant) (maps : Maps) (words packet : List ℕ) (room : IsRoom old t) (context : HasContext old t words memory) (ready : AreReady tenant bind descriptors)
+module _ (bind descriptors : List ℕ) (old : Memory) (t : ℕ) (memory : Memory) (tenant : LiveMaps) (maps : MapsByDescriptor) (words packet : List ℕ) (room : IsRoom old t) (context : HasContext old t words memory) (ready : AreReady tenant bind descriptors)
     (given : (i m : ℕ) → slice_get descriptors i ≡ Some m → maps m ≡ Some (map_in (part_bytes old t) tenant (slice_index bind i))) where
   -- the objects of a map are those of its keys, in order
   count_at : Option ℕ → ℕ
@@ -159,7 +159,7 @@ module _ (bind descriptors : List ℕ) (old : Memory) (t : ℕ) (memory : Memory
   not_whole : (b : ℕ → Option ℕ) (v : Tagged) → bytes b ≡ holds v → ⊥
   not_whole b v e = cc
 
-  begins : Begins bind descriptors old t memory tenant (begin maps words packet)
+  begins : RunBeginsWith bind descriptors old t memory tenant (begin maps words packet)
   unfolding layout
   begins = record {
     layout = layout;
@@ -192,8 +192,8 @@ runs_begin bind descriptors old t memory tenant maps words packet room context r
 
 -- ---- the end
 
-module _ (l : Layout) (bind : List ℕ) (old : Memory) (t at : ℕ) (registers : List ℕ) (memory : Memory) (tenant : Tenant) (s : State) (room : IsRoom old t) (stands : StandsFor l bind old t at registers memory tenant s) where
-  map_ends : AreasKeepPlaces → (new : Tenant) (i m : ℕ) → slice_get l.maps i ≡ Some m → IsSome (live_at new (slice_index bind i)) → places_at new (slice_index bind i) ≡ after_run (places_at tenant (slice_index bind i)) → SameAreas tenant new
+module _ (l : Layout) (bind : List ℕ) (old : Memory) (t at : ℕ) (registers : List ℕ) (memory : Memory) (tenant : LiveMaps) (s : RunState) (room : IsRoom old t) (stands : StandsFor l bind old t at registers memory tenant s) where
+  map_ends : AreasKeepPlaces → (new : LiveMaps) (i m : ℕ) → slice_get l.maps i ≡ Some m → IsSome (live_at new (slice_index bind i)) → places_at new (slice_index bind i) ≡ after_run (places_at tenant (slice_index bind i)) → SameAreas tenant new
       → option_map last_map (s.maps m) ≡ Some (map_in (part_bytes memory t) new (slice_index bind i))
   map_ends keep new i m named live ended areas =
       let g = stands.maps.each i m named in

@@ -2,17 +2,17 @@
 use Rattle.std.proofs.Common.{◌≡◌, ℕ, ◌+◌, ◌*◌, ◌/◌, ◌%◌, ◌<◌, ◌≤◌, ◌^◌, ℤ, pos, ◌+ℤ◌, Bool, false, List, Option, Some, None, option_map, refl, sym, ap, subst, ◌∙◌, arith}
 use Rattle.std.proofs.lemmas.Option.{none-some, same_Some, slice_get_within, get_or_from_slice_get}
 use Rattle.interval.specs.Bytes.{number_of, bytes_at}
-use Rattle.reg_kinds.specs.declared.stack.Size.{Size}
-use Rattle.reg_kinds.specs.declared.stack.Size.TheVariants.{Word}
+use Rattle.reg_kinds.specs.declared.stack.AccessSize.{AccessSize}
+use Rattle.reg_kinds.specs.declared.stack.AccessSize.TheVariants.{Word}
 use Rattle.reg_kinds.specs.Stack.{bytes_of}
 use Rattle.tagged_model.specs.declared.value.Object.TheVariants as object
 use Rattle.tagged_model.specs.declared.value.Tagged.{Tagged}
 use Rattle.tagged_model.specs.declared.value.Tagged.TheVariants.{Scalar, Pointer}
 use Rattle.tagged_model.specs.Cells.{widened, number_from, read_cell}
-use Rattle.tagged_model.specs.State.{State, stack_place, stack_load, word_at, context_load, object_bytes, load}
+use Rattle.tagged_model.specs.State.{RunState, stack_place, stack_load, word_at, context_load, object_bytes, load}
 use Rattle.arena.specs.Memory.{Memory, base, size_of, place_of, part_start}
 use Rattle.arena.specs.Ranges.{IsInside}
-use Rattle.bpf_maps.specs.Live.{Tenant}
+use Rattle.bpf_maps.specs.Live.{LiveMaps}
 use Rattle.bpf_helpers.specs.Layout.{Layout, IsWord}
 use Rattle.bpf_helpers.specs.Stands.{top, IsRoom, StandsFor}
 use Rattle.bpf_helpers.specs.inside.Flat.{part_place}
@@ -26,12 +26,12 @@ mapped_some : {A B : Type 0} (f : A → B) (o : Option A) (y : B) → option_map
 mapped_some f None y e = absurd (none-some y e)
 mapped_some f (Some x) y e = (x, refl, same_Some (f x) y e)
 
-module _ (l : Layout) (bind : List ℕ) (old : Memory) (t at : ℕ) (registers : List ℕ) (memory : Memory) (tenant : Tenant) (s : State) (room : IsRoom old t) (stands : StandsFor l bind old t at registers memory tenant s) where
+module _ (l : Layout) (bind : List ℕ) (old : Memory) (t at : ℕ) (registers : List ℕ) (memory : Memory) (tenant : LiveMaps) (s : RunState) (room : IsRoom old t) (stands : StandsFor l bind old t at registers memory tenant s) where
   -- where a word stands for what is loaded
-  Loads : Size → Bool → ℕ → Tagged → Type 0
+  Loads : AccessSize → Bool → ℕ → Tagged → Type 0
   Loads size signed from v = (place : ℕ) × (place_of (size_of memory) (bytes_of size) from ≡ Some place) × IsInside old t (from, bytes_of size) × IsWord l v (widened size signed (number_of (bytes_at memory.bytes place (bytes_of size))))
 
-  loads_at : (size : Size) (signed : Bool) (from q : ℕ) (v : Tagged) → from ≡ base + (part_start old t + q) → q + bytes_of size ≤ 576 → IsWord l v (widened size signed (number_of (bytes_at memory.bytes (part_start old t + q) (bytes_of size)))) → Loads size signed from v
+  loads_at : (size : AccessSize) (signed : Bool) (from q : ℕ) (v : Tagged) → from ≡ base + (part_start old t + q) → q + bytes_of size ≤ 576 → IsWord l v (widened size signed (number_of (bytes_at memory.bytes (part_start old t + q) (bytes_of size)))) → Loads size signed from v
   unfolding Loads
   loads_at size signed from q v e fits word =
       let a = is_at old t room (size_of memory) (bytes_of size) from q stands.changed.size e (omega arith) in
@@ -40,7 +40,7 @@ module _ (l : Layout) (bind : List ℕ) (old : Memory) (t at : ℕ) (registers :
   start_small : part_start old t + 576 ≤ 2 ^ 28
   start_small = let bound = room.bound in let large = room.room in let within = part_within old t room in omega arith
 
-  stack_loaded : (size : Size) (signed : Bool) (x off : ℤ) (w : ℕ) (v : Tagged) → MayExtend size signed → pos w ≡ pos l.front +ℤ x → stack_load s (x +ℤ off) size signed ≡ Some v → Loads size signed (address_from w off) v
+  stack_loaded : (size : AccessSize) (signed : Bool) (x off : ℤ) (w : ℕ) (v : Tagged) → MayExtend size signed → pos w ≡ pos l.front +ℤ x → stack_load s (x +ℤ off) size signed ≡ Some v → Loads size signed (address_from w off) v
   stack_loaded size signed x off w v may h e =
       let start = part_start old t in
       let a = also_some (stack_place (x +ℤ off) size) (λ p. read_cell (s.cells (p / 8)) (p % 8) size signed) v e in
@@ -76,11 +76,11 @@ module _ (l : Layout) (bind : List ℕ) (old : Memory) (t at : ℕ) (registers :
       whole_word : (y : ℕ) → y % 4 ≡ 0 → y / 4 < 11 → y + 4 ≤ 44
       whole_word y e lt = omega arith
 
-  context_loaded : (size : Size) (signed : Bool) (x off : ℤ) (w : ℕ) (v : Tagged) → pos w ≡ pos l.front +ℤ x → context_load s (x +ℤ off) size signed ≡ Some v → Loads size signed (address_from w off) v
+  context_loaded : (size : AccessSize) (signed : Bool) (x off : ℤ) (w : ℕ) (v : Tagged) → pos w ≡ pos l.front +ℤ x → context_load s (x +ℤ off) size signed ≡ Some v → Loads size signed (address_from w off) v
   context_loaded Word false x off w v h e = word_loaded x off w v h e
   context_loaded size signed x off w v h e = absurd (none-some v e)
 
-  value_loaded : (size : Size) (signed : Bool) (m number : ℕ) (x off : ℤ) (w : ℕ) (v : Tagged) → pos w ≡ pos (l.object_at m number) +ℤ x → number < l.counts m → number_from size signed (object_bytes s m number (x +ℤ off) (bytes_of size)) ≡ Some v → Loads size signed (address_from w off) v
+  value_loaded : (size : AccessSize) (signed : Bool) (m number : ℕ) (x off : ℤ) (w : ℕ) (v : Tagged) → pos w ≡ pos (l.object_at m number) +ℤ x → number < l.counts m → number_from size signed (object_bytes s m number (x +ℤ off) (bytes_of size)) ≡ Some v → Loads size signed (address_from w off) v
   unfolding Loads
   value_loaded size signed m number x off w v h placed e =
       let n = bytes_of size in
@@ -104,7 +104,7 @@ module _ (l : Layout) (bind : List ℕ) (old : Memory) (t at : ℕ) (registers :
             (ap (λ (list : List ℕ). widened size signed (number_of list)) same),
       )
 
-  loaded : (size : Size) (signed : Bool) (p : Tagged) (off : ℤ) (w : ℕ) (v : Tagged) → MayExtend size signed → IsWord l p w → load s size signed p off ≡ Some v → Loads size signed (address_from w off) v
+  loaded : (size : AccessSize) (signed : Bool) (p : Tagged) (off : ℤ) (w : ℕ) (v : Tagged) → MayExtend size signed → IsWord l p w → load s size signed p off ≡ Some v → Loads size signed (address_from w off) v
   loaded size signed (Pointer object.Stack x) off w v may h e = stack_loaded size signed x off w v may h.0 e
   loaded size signed (Pointer object.Context x) off w v may h e = context_loaded size signed x off w v h.0 e
   loaded size signed (Pointer (object.Value m number) x) off w v may h e = value_loaded size signed m number x off w v h.0 h.2 e

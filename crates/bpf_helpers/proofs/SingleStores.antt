@@ -3,17 +3,17 @@ use Rattle.std.proofs.Common.{◌≡◌, ◌⊎◌, inl, inr, ℕ, ◌+◌, ◌*
 use Rattle.std.proofs.lemmas.Bool.{cond_both, eqb-true, eqb-false, cases_lt}
 use Rattle.std.proofs.lemmas.Option.{none-some, same_Some}
 use Rattle.interval.specs.Bytes.{low_bytes, written_at}
-use Rattle.reg_kinds.specs.declared.stack.Size.{Size}
+use Rattle.reg_kinds.specs.declared.stack.AccessSize.{AccessSize}
 use Rattle.reg_kinds.specs.Stack.{bytes_of}
 use Rattle.tagged_model.specs.declared.value.Object.TheVariants as object
 use Rattle.tagged_model.specs.declared.value.Tagged.{Tagged}
 use Rattle.tagged_model.specs.declared.value.Tagged.TheVariants.{Scalar, Map, Pointer}
 use Rattle.tagged_model.specs.Cells.{Cell, also, write_cell}
-use Rattle.tagged_model.specs.State.{State, set_at, with_cell, stack_place, stack_store, object_written, object_stored, store}
+use Rattle.tagged_model.specs.State.{RunState, set_at, with_cell, stack_place, stack_store, object_written, object_stored, store}
 use Rattle.arena.specs.Memory.{Memory, size_of, place_of, part_start, with_bytes}
 use Rattle.arena.specs.Apart.{WritesStayInside}
 use Rattle.arena.specs.Ranges.{IsInside}
-use Rattle.bpf_maps.specs.Live.{Tenant}
+use Rattle.bpf_maps.specs.Live.{LiveMaps}
 use Rattle.bpf_helpers.specs.Layout.{Layout, IsWord, HasCell}
 use Rattle.bpf_helpers.specs.Stands.{top, IsRoom, StandsFor}
 use Rattle.bpf_helpers.specs.Accesses.{address_from, StoresStand}
@@ -24,15 +24,15 @@ use Rattle.bpf_helpers.proofs.Outputs.{cell_kept, words_kept, maps_behind, other
 use Rattle.bpf_helpers.proofs.Cells.{cell_stored}
 use Rattle.bpf_helpers.proofs.Addresses.{in_front, part_place_told, is_at, in_stack, in_one_slot, slot_of, slot_within, value_overwritten}
 
-module _ (writes : WritesStayInside) (l : Layout) (bind : List ℕ) (old : Memory) (t at : ℕ) (registers : List ℕ) (memory : Memory) (tenant : Tenant) (s : State) (room : IsRoom old t) (stands : StandsFor l bind old t at registers memory tenant s) where
+module _ (writes : WritesStayInside) (l : Layout) (bind : List ℕ) (old : Memory) (t at : ℕ) (registers : List ℕ) (memory : Memory) (tenant : LiveMaps) (s : RunState) (room : IsRoom old t) (stands : StandsFor l bind old t at registers memory tenant s) where
   -- where bytes are stored, and what stands then
-  Stores : ℕ → List ℕ → ℕ → State → Type 0
+  Stores : ℕ → List ℕ → ℕ → RunState → Type 0
   Stores n new from u = (place : ℕ) × (place_of (size_of memory) n from ≡ Some place) × IsInside old t (from, n) × StandsFor l bind old t at registers (with_bytes memory place new) tenant u
 
   -- ---- the stack
 
   -- the slot that is written, and the others
-  cells_after : (size : Size) (q w : ℕ) (v : Tagged) (d : Cell) → q + bytes_of size ≤ 512 → q % bytes_of size ≡ 0 → IsWord l v w → w < 2 ^ 64 → write_cell (s.cells (q / 8)) (q % 8) size v ≡ Some d → (k : ℕ) → k < 64 → HasCell l (written_at memory.bytes (part_start old t + q) (low_bytes (bytes_of size) w)) (part_start old t + 8 * k) (set_at s.cells (q / 8) d k)
+  cells_after : (size : AccessSize) (q w : ℕ) (v : Tagged) (d : Cell) → q + bytes_of size ≤ 512 → q % bytes_of size ≡ 0 → IsWord l v w → w < 2 ^ 64 → write_cell (s.cells (q / 8)) (q % 8) size v ≡ Some d → (k : ℕ) → k < 64 → HasCell l (written_at memory.bytes (part_start old t + q) (low_bytes (bytes_of size) w)) (part_start old t + 8 * k) (set_at s.cells (q / 8) d k)
   cells_after size q w v d within even h small e k lt =
       let start = part_start old t in
       let n = bytes_of size in
@@ -51,7 +51,7 @@ module _ (writes : WritesStayInside) (l : Layout) (bind : List ℕ) (old : Memor
       apart : (start k q n l : ℕ) → l ≡ n → q % 8 + n ≤ 8 → (k ≡ q / 8 → ⊥) → (start + 8 * k + 8 ≤ start + q) ⊎ (start + q + l ≤ start + 8 * k)
       apart start k q n l e r other = ⊎_elim (λ below. inl (omega arith)) (λ above. inr (omega arith)) (cases_lt k (q / 8))
 
-  stack_stored : (size : Size) (x off : ℤ) (w y : ℕ) (v : Tagged) (u : State) → pos w ≡ pos l.front +ℤ x → IsWord l v y → y < 2 ^ 64 → stack_store s (x +ℤ off) size v ≡ Some u → Stores (bytes_of size) (low_bytes (bytes_of size) y) (address_from w off) u
+  stack_stored : (size : AccessSize) (x off : ℤ) (w y : ℕ) (v : Tagged) (u : RunState) → pos w ≡ pos l.front +ℤ x → IsWord l v y → y < 2 ^ 64 → stack_store s (x +ℤ off) size v ≡ Some u → Stores (bytes_of size) (low_bytes (bytes_of size) y) (address_from w off) u
   unfolding Stores
   stack_stored size x off w y v u h word small e =
       let start = part_start old t in
@@ -71,7 +71,7 @@ module _ (writes : WritesStayInside) (l : Layout) (bind : List ℕ) (old : Memor
         start + q,
         c.0,
         c.1,
-        subst (λ (z : State). StandsFor l bind old t at registers (with_bytes memory (start + q) new) tenant z) (same_Some _ u b.2)
+        subst (λ (z : RunState). StandsFor l bind old t at registers (with_bytes memory (start + q) new) tenant z) (same_Some _ u b.2)
             (record {
               slot = stands.slot;
               count = stands.count;
@@ -89,7 +89,7 @@ module _ (writes : WritesStayInside) (l : Layout) (bind : List ℕ) (old : Memor
 
   -- ---- the values of maps
 
-  bytes_stored : (m number : ℕ) (x off : ℤ) (w n : ℕ) (new : List ℕ) (u : State) → length new ≡ n → pos w ≡ pos (l.object_at m number) +ℤ x → number < l.counts m → object_written s m number (x +ℤ off) new ≡ Some u → Stores n new (address_from w off) u
+  bytes_stored : (m number : ℕ) (x off : ℤ) (w n : ℕ) (new : List ℕ) (u : RunState) → length new ≡ n → pos w ≡ pos (l.object_at m number) +ℤ x → number < l.counts m → object_written s m number (x +ℤ off) new ≡ Some u → Stores n new (address_from w off) u
   unfolding Stores
   bytes_stored m number x off w n new u count h placed e =
       let from = address_from w off in
@@ -108,14 +108,14 @@ module _ (writes : WritesStayInside) (l : Layout) (bind : List ℕ) (old : Memor
         subst (λ (p : ℕ). StandsFor l bind old t at registers (with_bytes memory (p + r.0) new) tenant u) start r.2,
       )
 
-  value_stored : (size : Size) (m number : ℕ) (x off : ℤ) (w y : ℕ) (v : Tagged) (u : State) → pos w ≡ pos (l.object_at m number) +ℤ x → number < l.counts m → IsWord l v y → object_stored s size m number (x +ℤ off) v ≡ Some u → Stores (bytes_of size) (low_bytes (bytes_of size) y) (address_from w off) u
+  value_stored : (size : AccessSize) (m number : ℕ) (x off : ℤ) (w y : ℕ) (v : Tagged) (u : RunState) → pos w ≡ pos (l.object_at m number) +ℤ x → number < l.counts m → IsWord l v y → object_stored s size m number (x +ℤ off) v ≡ Some u → Stores (bytes_of size) (low_bytes (bytes_of size) y) (address_from w off) u
   value_stored size m number x off w y (Scalar n) u h placed word e =
       subst (λ (k : ℕ). Stores (bytes_of size) (low_bytes (bytes_of size) k) (address_from w off) u) (sym word)
       (bytes_stored m number x off w (bytes_of size) (low_bytes (bytes_of size) n) u (length-low_bytes (bytes_of size) n) h placed e)
   value_stored size m number x off w y (Map k) u h placed word e = absurd (none-some u e)
   value_stored size m number x off w y (Pointer o z) u h placed word e = absurd (none-some u e)
 
-  stored : (size : Size) (p : Tagged) (off : ℤ) (w y : ℕ) (v : Tagged) (u : State) → IsWord l p w → IsWord l v y → y < 2 ^ 64 → store s size p off v ≡ Some u → Stores (bytes_of size) (low_bytes (bytes_of size) y) (address_from w off) u
+  stored : (size : AccessSize) (p : Tagged) (off : ℤ) (w y : ℕ) (v : Tagged) (u : RunState) → IsWord l p w → IsWord l v y → y < 2 ^ 64 → store s size p off v ≡ Some u → Stores (bytes_of size) (low_bytes (bytes_of size) y) (address_from w off) u
   stored size (Pointer object.Stack x) off w y v u h word small e = stack_stored size x off w y v u h.0 word small e
   stored size (Pointer (object.Value m number) x) off w y v u h word small e = value_stored size m number x off w y v u h.0 h.2 word e
   stored size p off w y v u h word small e = absurd (none-some u e)

@@ -13,14 +13,14 @@ use Rattle.tagged_model.specs.declared.value.Object.TheVariants as object
 use Rattle.tagged_model.specs.declared.value.Tagged.TheVariants.{Pointer}
 use Rattle.tagged_model.specs.Table.{Table, Verdict, Refused, Present, New, verdict, verdict_with}
 use Rattle.tagged_model.specs.Cells.{also}
-use Rattle.tagged_model.specs.State.{State, RunMap, set_at, with_value, with_map, with_refusal, value_written, output}
+use Rattle.tagged_model.specs.State.{RunState, RunMap, set_at, with_value, with_map, with_refusal, value_written, output}
 use Rattle.tagged_model.specs.Helpers.{put, with_object, with_reply, negative, errno}
 use Rattle.arena.specs.Memory.{Memory as Bytes, base, part_start, with_bytes}
 use Rattle.bpf_maps.specs.Places.{table_of, IsFree, with_place, Claims}
-use Rattle.bpf_maps.specs.Live.{Tenant, live_at, places_at, shape_at, offset_at, is_memory}
-use Rattle.bpf_helpers.specs.inside.Below.{Below}
+use Rattle.bpf_maps.specs.Live.{LiveMaps, live_at, places_at, shape_at, offset_at, is_memory}
+use Rattle.bpf_helpers.specs.inside.Below.{LawsBelow}
 use Rattle.bpf_helpers.specs.Layout.{Layout, IsWord}
-use Rattle.bpf_helpers.specs.Stands.{top, IsRoom, HasMap, HasMaps, StandsFor}
+use Rattle.bpf_helpers.specs.Stands.{top, IsRoom, HasMap, MapsStandFor, StandsFor}
 use Rattle.bpf_maps.specs.declared.part.TheConstants.{PART}
 use Rattle.bpf_helpers.specs.inside.Flat.{part_place, Updates, claim_word, with_claimed}
 use Rattle.bpf_helpers.proofs.Bytes.{bytes_stay, bytes_written}
@@ -38,7 +38,7 @@ use Rattle.bpf_helpers.proofs.Added.{map_with_new}
 written_whole : (old new : List ℕ) → length old ≡ length new → written_at old 0 new ≡ new
 written_whole old new e = ap (λ (x : List ℕ). new ++ x) (drop_all (0 + length new) old (omega arith)) ∙ append-nil new
 
-module _ (below : Below) (l : Layout) (bind : List ℕ) (old : Bytes) (t at : ℕ) (registers : List ℕ) (memory : Bytes) (tenant : Tenant) (s : State) (i m : ℕ) (map : RunMap) (key value : List ℕ) (flags word : ℕ) (after : Bytes) (new : Tenant)
+module _ (below : LawsBelow) (l : Layout) (bind : List ℕ) (old : Bytes) (t at : ℕ) (registers : List ℕ) (memory : Bytes) (tenant : LiveMaps) (s : RunState) (i m : ℕ) (map : RunMap) (key value : List ℕ) (flags word : ℕ) (after : Bytes) (new : LiveMaps)
     (room : IsRoom old t) (stands : StandsFor l bind old t at registers memory tenant s) (named : slice_get l.maps i ≡ Some m) (is : s.maps m ≡ Some map) (size : length value ≡ map.table.shape.value_size) (u : Updates memory t tenant (slice_index bind i) key value flags word after new) where
   abbrev k : ℕ
   k = slice_index bind i
@@ -69,9 +69,9 @@ module _ (below : Below) (l : Layout) (bind : List ℕ) (old : Bytes) (t at : �
       u.flag ∙ ap (λ a. tenant.refused || is_memory a) told ∙ ap (λ b. tenant.refused || b) memory_is ∙ ap (λ b. b || refused) stands.flag ∙ or_once_more l.refused s.refused refused
 
   -- nothing has changed but the flag
-  unchanged : (x : State) (refused : Bool) → x ≡ with_refusal (with_map s m map) refused → new.refused ≡ (l.refused || (s.refused || refused)) → places_at new k ≡ places_at tenant k → after ≡ memory → StandsFor l bind old t at registers after new x
+  unchanged : (x : RunState) (refused : Bool) → x ≡ with_refusal (with_map s m map) refused → new.refused ≡ (l.refused || (s.refused || refused)) → places_at new k ≡ places_at tenant k → after ≡ memory → StandsFor l bind old t at registers after new x
   unchanged x refused e flag places same =
-      subst (λ (y : State). StandsFor l bind old t at registers after new y) (sym e)
+      subst (λ (y : RunState). StandsFor l bind old t at registers after new y) (sym e)
       (subst (λ (n : Bytes). StandsFor l bind old t at registers n new (with_refusal (with_map s m map) refused)) (sym same)
       (record {
         slot = stands.slot;
@@ -99,7 +99,7 @@ module _ (below : Below) (l : Layout) (bind : List ℕ) (old : Bytes) (t at : �
         (flag_after (Err fault) refused told memory_is) places (u.memory_is ∙ ap (with_claimed memory t tenant k value) told);
   }
 
-  moved : (x : State) (n : Bytes) (p : ℕ) → u.answer ≡ Ok p → x.refused ≡ s.refused → places_at new k ≡ places_at tenant k → StandsFor l bind old t at registers n tenant x → StandsFor l bind old t at registers n new (with_refusal x false)
+  moved : (x : RunState) (n : Bytes) (p : ℕ) → u.answer ≡ Ok p → x.refused ≡ s.refused → places_at new k ≡ places_at tenant k → StandsFor l bind old t at registers n tenant x → StandsFor l bind old t at registers n new (with_refusal x false)
   moved x n p told same places st = record {
     slot = st.slot;
     count = st.count;
@@ -218,7 +218,7 @@ module _ (below : Below) (l : Layout) (bind : List ℕ) (old : Bytes) (t at : �
           apart = h.apart;
         }))
 
-    maps_after : HasMaps wider bind begin bytes new (set_at s.maps m (Some (with_object map key value)))
+    maps_after : MapsStandFor wider bind begin bytes new (set_at s.maps m (Some (with_object map key value)))
     maps_after = record {
       count = stands.maps.count;
       each = λ j n e. let g = stands.maps.each j n e in
@@ -287,6 +287,6 @@ module _ (below : Below) (l : Layout) (bind : List ℕ) (old : Bytes) (t at : �
       let d = done (verdict map.table key flags) refl (subst (λ v. Claims v key (places_at tenant k) u.answer (places_at new k)) same u.claimed) in
       record { refused = d.refused; only = d.only; layout = d.layout; extends = d.more; answer = d.answer; stands = d.standing }
 
-pub updates_stand : Below → UpdatesStand
+pub updates_stand : LawsBelow → UpdatesStand
 updates_stand below l bind old t at registers memory tenant s i m map key value flags word after new room stands named is size u =
     update_stands below l bind old t at registers memory tenant s i m map key value flags word after new room stands named is size u

@@ -7,8 +7,8 @@ use Rattle.tagged_model.specs.declared.value.Tagged.{Tagged}
 use Rattle.tagged_model.specs.declared.value.Tagged.TheVariants.{Scalar, Map, Pointer}
 use Rattle.tagged_model.specs.Cells.{Cell}
 use Rattle.tagged_model.specs.State.{RunMap, set_at}
-use Rattle.bpf_maps.specs.Live.{Tenant}
-use Rattle.bpf_helpers.specs.Layout.{Layout, address, IsPlaced, IsWord, HasCell}
+use Rattle.bpf_maps.specs.Live.{LiveMaps}
+use Rattle.bpf_helpers.specs.Layout.{Layout, address, HasAddress, IsWord, HasCell}
 use Rattle.bpf_helpers.specs.Stands.{HasMap}
 use Rattle.bpf_helpers.specs.Calls.{Extends}
 
@@ -16,7 +16,7 @@ pub extends_itself : (l : Layout) → Extends l l
 extends_itself l = record { front = refl; maps = refl; refused = refl; more = λ k. omega arith; same = λ k number lt. refl }
 
 module _ (l m : Layout) (e : Extends l m) where
-  placed_more : (o : Object) → IsPlaced l o → (IsPlaced m o) × (address m o ≡ address l o)
+  placed_more : (o : Object) → HasAddress l o → (HasAddress m o) × (address m o ≡ address l o)
   placed_more object.Stack h = (tt, e.front)
   placed_more object.Context h = (tt, e.front)
   placed_more (object.Value k number) h = (let more = e.more k in omega arith, e.same k number h)
@@ -62,7 +62,7 @@ module _ (l : Layout) (m a : ℕ) where
   }
 
 -- a map of which nothing is written, in a layout with more
-pub map_extended : (l : Layout) (start : ℕ) (memory : List ℕ) (tenant : Tenant) (m a key n : ℕ) (u : RunMap) → n ≢ m → HasMap l start memory tenant key n u → HasMap (extended l m a) start memory tenant key n u
+pub map_extended : (l : Layout) (start : ℕ) (memory : List ℕ) (tenant : LiveMaps) (m a key n : ℕ) (u : RunMap) → n ≢ m → HasMap l start memory tenant key n u → HasMap (extended l m a) start memory tenant key n u
 map_extended l start memory tenant m a key n u differ h = record {
   live = h.live;
   place = h.place;

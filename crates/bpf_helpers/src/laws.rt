@@ -2,18 +2,18 @@
 
 ghost use Rattle.bpf_helpers.specs.Accesses.{LoadsGiveWords, StoresStand, PointersAreLow};
 ghost use Rattle.bpf_helpers.specs.Runs.{RunsBegin, RunsEnd, OthersStay};
-ghost use Rattle.bpf_helpers.specs.inside.Below.{Below};
+ghost use Rattle.bpf_helpers.specs.inside.Below.{LawsBelow};
 ghost use Rattle.bpf_helpers.specs.inside.Laws.{ReturnsStand};
 
 use arena::writes_stay_inside;
-use bpf_maps::{areas_keep_places, calls_go_along, deletes_keep_places};
+use bpf_maps::{areas_keep_places, calls_refine_values, deletes_keep_places};
 
 /// The laws of the memory and of maps that the laws of calls rest on.
 pub(crate) fn laws_below()
-    ensures { Below }
+    ensures { LawsBelow }
 {
     writes_stay_inside();
-    calls_go_along();
+    calls_refine_values();
     areas_keep_places();
     deletes_keep_places();
 }

@@ -31,7 +31,7 @@ pub(crate) fn place_in(arena: &Arena, tenant: usize, size: usize, address: u64) 
     ensures within { IfSome result (λ at. at + size ≤ arena.now.part) }
     ensures inside { IfSome result (λ at. IsInside arena.now tenant (address, size)) }
 {
-    arena.is_its_parts();
+    arena.memory_is_its_parts();
     let part = arena.part(tenant).len();
     let at = address.checked_sub(arena.address(tenant))?;
     if size > part || at > (part - size) as u64 {
@@ -76,7 +76,7 @@ pub(crate) fn look_up(
     ensures inside { AddsInside arena.now tenant trace.old.ranges trace.new.ranges }
     ensures steps { trace.new.steps ≡ trace.old.steps }
 {
-    arena.is_its_parts();
+    arena.memory_is_its_parts();
     let map = bound(bind, map)?;
     let size = maps.shape(map).key_size as usize;
     let at = asked_place(arena, tenant, size, key, trace)?;

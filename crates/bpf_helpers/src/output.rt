@@ -23,7 +23,7 @@ pub(crate) fn write_bytes(arena: &mut Arena, tenant: usize, at: usize, bytes: &[
     requires room { at + length bytes.now ≤ arena.old.part }
     ensures { arena.new ≡ with_bytes arena.old (part_start arena.old tenant + at) bytes.now }
 {
-    arena.is_its_parts();
+    arena.memory_is_its_parts();
     writes_are_in_parts();
     let part = arena.part_mut(tenant);
     part[at..at + bytes.len()].copy_from_slice(bytes);
@@ -36,7 +36,7 @@ pub(crate) fn write_zeros(arena: &mut Arena, tenant: usize, at: usize, count: us
     ensures { arena.new
         ≡ with_bytes arena.old (part_start arena.old tenant + at) (replicate count 0) }
 {
-    arena.is_its_parts();
+    arena.memory_is_its_parts();
     writes_are_in_parts();
     let part = arena.part_mut(tenant);
     part[at..at + count].fill(0);
@@ -59,7 +59,7 @@ pub(crate) fn load_bytes(
     ensures inside { AddsInside arena.old tenant trace.old.ranges trace.new.ranges }
     ensures steps { trace.new.steps ≡ trace.old.steps }
 {
-    arena.is_its_parts();
+    arena.memory_is_its_parts();
     if count > arena.part(tenant).len() as u64 {
         return None;
     }

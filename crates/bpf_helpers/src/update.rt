@@ -58,7 +58,7 @@ pub(crate) fn put(
     ensures inside { AddsInside arena.old tenant trace.old.ranges trace.new.ranges }
     ensures steps { trace.new.steps ≡ trace.old.steps }
 {
-    arena.is_its_parts();
+    arena.memory_is_its_parts();
     areas_keep_places();
     let shape = maps.shape(map);
     let part = arena.part(tenant);

@@ -7,8 +7,8 @@ use Rattle.tagged_model.specs.declared.fault.MapFault.{MapFault}
 use Rattle.tagged_model.specs.declared.fault.MapFault.TheVariants.{NoEntry, TooBig, Memory, Exists, Invalid, NoSpace}
 use Rattle.tagged_model.specs.Table as map
 use Rattle.bpf_maps.specs.Places.{PlaceTable, Claims, Removes}
-use Rattle.bpf_maps.specs.Live.{Live, Tenant, live_at, live_or, places_at, map_in, SameAreas, KeepsMap}
-use Rattle.bpf_maps.specs.InPart.{IsValueAt, with_value, ValuesAreWritten, LiveMapsGoAlong}
+use Rattle.bpf_maps.specs.Live.{LiveMap, LiveMaps, live_at, live_or, places_at, map_in, SameAreas, KeepsMap}
+use Rattle.bpf_maps.specs.InPart.{IsValueAt, with_value, ValuesAreWritten, LiveMapsRefineValues}
 
 pub on_err : {T E P : Type 0} (r : Result T E) → P → OnErr r P
 on_err (Ok x) p = tt
@@ -46,7 +46,7 @@ not_removed (Ok p) key old new fault h = absurd (no_place h.0)
     no_place : ◌≡◌ {A = Result (Unit {0}) MapFault} (Err fault) (Ok tt) → ⊥
     no_place e = cc
 
-module _ (along : LiveMapsGoAlong) (part : List ℕ) (old new : Tenant) (k : ℕ) (areas : SameAreas old new) (live : IsSome (live_at new k)) where
+module _ (along : LiveMapsRefineValues) (part : List ℕ) (old new : LiveMaps) (k : ℕ) (areas : SameAreas old new) (live : IsSome (live_at new k)) where
   pub keeps : places_at new k ≡ places_at old k → KeepsMap k old part new part
   keeps places was = (live, (along part old new k areas live).same places)
 
@@ -60,10 +60,10 @@ module _ (along : LiveMapsGoAlong) (part : List ℕ) (old new : Tenant) (k : ℕ
   pub others_stay : (j : ℕ) → live_at new j ≡ live_at old j → KeepsMap j old part new part
   others_stay j same was =
       let still : IsSome (live_at new j) = ap is_some same ∙ was in
-      (still, (along part old new j areas still).same (ap (λ (o : Option Live). (live_or o).places) same))
+      (still, (along part old new j areas still).same (ap (λ (o : Option LiveMap). (live_or o).places) same))
 
 -- a value that is written into one map
-pub keeps_written : ValuesAreWritten → (part : List ℕ) (old new : Tenant) (k p : ℕ) (bytes : List ℕ) (j : ℕ) → IsValueAt part new k p bytes → j ≢ k → KeepsMap j old part new part → KeepsMap j old part new (with_value part new k p bytes)
+pub keeps_written : ValuesAreWritten → (part : List ℕ) (old new : LiveMaps) (k p : ℕ) (bytes : List ℕ) (j : ℕ) → IsValueAt part new k p bytes → j ≢ k → KeepsMap j old part new part → KeepsMap j old part new (with_value part new k p bytes)
 keeps_written writes part old new k p bytes j is differ keeps was =
     let (still, same) = keeps was in
     (still, (writes part new k p bytes is).others j differ still ∙ same)

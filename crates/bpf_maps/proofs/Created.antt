@@ -7,13 +7,13 @@ use Rattle.tagged_model.specs.declared.fault.MapFault.{MapFault}
 use Rattle.tagged_model.specs.declared.fault.MapFault.TheVariants.{NoEntry, TooBig, Memory, Exists, Invalid, NoSpace}
 use Rattle.tagged_model.specs.Shape.{area}
 use Rattle.slab.specs.Slab.{Slab}
-use Rattle.bpf_maps.specs.declared.part.TheConstants.{FRONT, AREA, MAPS, PART}
+use Rattle.bpf_maps.specs.declared.part.TheConstants.{FRONT, AREA, LARGEST_SUM, MAPS, PART}
 use Rattle.bpf_maps.specs.declared.maps.Entry.{Entry}
 use Rattle.bpf_maps.specs.declared.maps.Maps.TheInside.{Inside}
 use Rattle.bpf_maps.specs.Places.{PlaceTable, IsSound, new_places}
 use Rattle.bpf_maps.specs.Any.{places_of}
-use Rattle.bpf_maps.specs.Live.{Live, Tenant, live_at, live_or, offset, value_in, count, areas, HasOneMore, create_fault, Creates, IsCreated, IsLaid, SameValues}
-use Rattle.bpf_maps.specs.InMaps.{live_of, seen, IsWhole}
+use Rattle.bpf_maps.specs.Live.{LiveMap, LiveMaps, live_at, live_or, offset, value_in, count, areas, HasOneMore, create_fault, Creates, IsCreated, IsLaid, SameValues}
+use Rattle.bpf_maps.specs.InMaps.{live_of, seen, IsWellFormedMaps}
 use Rattle.bpf_maps.proofs.Slots.{some_entry, live_by, none_by, others_by, same_or_other}
 use Rattle.bpf_maps.proofs.Totals.{times_set, times_some, count_entries}
 use Rattle.bpf_maps.proofs.InAreas.{area_fits, value_ends, value_inside, apart_areas}
@@ -22,21 +22,21 @@ use Rattle.bpf_maps.proofs.Changes.{told_of}
 use Rattle.bpf_maps.proofs.Written.{front_same, before_same, after_same, zeros}
 use Rattle.bpf_maps.proofs.Whole.{laid, whole_added, offset_of}
 
-no_fault : (t : Tenant) (s : MapShape) → count t < MAPS → areas t + area s.value_size s.max_entries ≤ AREA → create_fault t s ≡ None
+no_fault : (t : LiveMaps) (s : MapShape) → count t < MAPS → areas t + area s.value_size s.max_entries ≤ LARGEST_SUM → create_fault t s ≡ None
 no_fault t s few fits =
     let a : nat_le MAPS (count t) ≡ false = lt-leb MAPS (count t) few in
-    let b : nat_lt AREA (areas t + area s.value_size s.max_entries) ≡ false = le-ltb AREA (areas t + area s.value_size s.max_entries) fits in
-    ap (λ (x : Bool). if x || nat_lt AREA (areas t + area s.value_size s.max_entries) then Some NoSpace else None) a
+    let b : nat_lt LARGEST_SUM (areas t + area s.value_size s.max_entries) ≡ false = le-ltb LARGEST_SUM (areas t + area s.value_size s.max_entries) fits in
+    ap (λ (x : Bool). if x || nat_lt LARGEST_SUM (areas t + area s.value_size s.max_entries) then Some NoSpace else None) a
     ∙ ap (λ (x : Bool). if x then Some NoSpace else None) b
 
 -- there is room for another map
-pub record IsRoom (a : Inside) (t : Tenant) (shape : MapShape) (number size : ℕ) : Type 0 where
+pub record IsRoom (a : Inside) (t : LiveMaps) (shape : MapShape) (number size : ℕ) : Type 0 where
   pub view : seen a ≡ t
-  pub whole : IsWhole a
+  pub whole : IsWellFormedMaps a
   pub size_is : size ≡ area shape.value_size shape.max_entries
   pub below : number < MAPS
   pub free : get_or a.taken number false ≡ false
-  pub room : a.bytes + size ≤ AREA
+  pub room : a.bytes + size ≤ LARGEST_SUM
 
 -- the entry is in a slot
 pub record IsAdded (a : Inside) (shape : MapShape) (number : ℕ) (slots : Slab Entry) (k : ℕ) (e : Entry) : Type 0 where
@@ -53,11 +53,11 @@ pub record IsAdded (a : Inside) (shape : MapShape) (number : ℕ) (slots : Slab 
 abbrev pub with_new : Inside → ℕ → ℕ → Slab Entry → Inside
 with_new a number size slots = record a { slots = slots; taken = set a.taken number true; bytes = a.bytes + size }
 
-module _ (a : Inside) (t : Tenant) (shape : MapShape) (number size : ℕ) (r : IsRoom a t shape number size) where
+module _ (a : Inside) (t : LiveMaps) (shape : MapShape) (number size : ℕ) (r : IsRoom a t shape number size) where
   view : seen a ≡ t
   view = r.view
 
-  h : IsWhole a
+  h : IsWellFormedMaps a
   h = r.whole
 
   free : get_or a.taken number false ≡ false
@@ -72,7 +72,7 @@ module _ (a : Inside) (t : Tenant) (shape : MapShape) (number size : ℕ) (r : I
       omega arith
 
   pub no_fault_here : create_fault t shape ≡ None
-  no_fault_here = ap (λ (u : Tenant). create_fault u shape) (sym view) ∙ no_fault (seen a) shape few (let s = h.sum in let z = r.size_is in let m = r.room in omega arith)
+  no_fault_here = ap (λ (u : LiveMaps). create_fault u shape) (sym view) ∙ no_fault (seen a) shape few (let s = h.sum in let z = r.size_is in let m = r.room in omega arith)
 
   -- there is room for its entry
   pub room_here : count_by is_some a.slots.slots + 1 ≤ a.slots.capacity
@@ -82,7 +82,7 @@ module _ (a : Inside) (t : Tenant) (shape : MapShape) (number size : ℕ) (r : I
   pub creates_none : Creates (create_fault t shape) t shape (Err Memory) (seen (record a { refused = true }))
   creates_none =
       subst (λ (o : Option MapFault). Creates o t shape (Err Memory) (seen (record a { refused = true }))) (sym no_fault_here)
-      (ap (λ (u : Tenant). let v : Tenant = record { slots = u.slots; refused = true } in v) view)
+      (ap (λ (u : LiveMaps). let v : LiveMaps = record { slots = u.slots; refused = true } in v) view)
 
   module _ (slots : Slab Entry) (k : ℕ) (e : Entry) (d : IsAdded a shape number slots k e) where
     stride : e.stride ≡ (shape.value_size + 7) / 8 * 8
@@ -92,18 +92,18 @@ module _ (a : Inside) (t : Tenant) (shape : MapShape) (number size : ℕ) (r : I
     live_new = live_by slots.slots slots.slots k e d.there
 
     others_stay : (j : ℕ) → j ≢ k → live_at (seen (with_new a number size slots)) j ≡ live_at t j
-    others_stay j ne = others_by a.slots.slots slots.slots k d.others j ne ∙ ap (λ (u : Tenant). live_at u j) view
+    others_stay j ne = others_by a.slots.slots slots.slots k d.others j ne ∙ ap (λ (u : LiveMaps). live_at u j) view
 
     pub creates_one : Creates (create_fault t shape) t shape (Ok k) (seen (with_new a number size slots))
     creates_one =
         subst (λ (o : Option MapFault). Creates o t shape (Ok k) (seen (with_new a number size slots))) (sym no_fault_here)
         (record {
-          was = ap (λ (u : Tenant). live_at u k) (sym view) ∙ none_by a.slots.slots a.slots.slots k d.was;
+          was = ap (λ (u : LiveMaps). live_at u k) (sym view) ∙ none_by a.slots.slots a.slots.slots k d.was;
           live = ap is_some live_new;
           places = told_of (λ l. l.places) _ _ live_new ∙ d.places;
           holds = told_of (λ l. l.holds) _ _ live_new ∙ d.holds;
           others = others_stay;
-          refused = ap (λ (u : Tenant). u.refused) view;
+          refused = ap (λ (u : LiveMaps). u.refused) view;
         })
 
     value_of : (places_of e.map).shape.value_size ≡ shape.value_size
@@ -115,7 +115,7 @@ module _ (a : Inside) (t : Tenant) (shape : MapShape) (number size : ℕ) (r : I
     round : e.stride ≡ ((places_of e.map).shape.value_size + 7) / 8 * 8
     round = stride ∙ ap (λ (v : ℕ). (v + 7) / 8 * 8) (sym value_of)
 
-    pub whole_one : IsWhole (with_new a number size slots)
+    pub whole_one : IsWellFormedMaps (with_new a number size slots)
     whole_one =
         let x : area (places_of e.map).shape.value_size (places_of e.map).shape.max_entries ≡ area shape.value_size shape.max_entries = ap (λ (q : PlaceTable). area q.shape.value_size q.shape.max_entries) d.places in
         whole_added a (with_new a number size slots) k h d.others d.capacity e d.was d.there (let n = d.number_is in let b = r.below in omega arith) (ap (λ (n : ℕ). get_or a.taken n false) d.number_is ∙ free) round (let o = d.holds in omega arith) (subst IsSound (sym d.places) (sound_new shape)) (ap (λ (n : ℕ). set a.taken n true) (sym d.number_is)) (let s = r.size_is in omega arith) r.room
@@ -153,7 +153,7 @@ module _ (a : Inside) (t : Tenant) (shape : MapShape) (number size : ℕ) (r : I
       pub cleared_one : (p : ℕ) → p < shape.max_entries → value_in later (seen (with_new a number size slots)) k p ≡ replicate shape.value_size 0
       cleared_one p l =
           let o : offset (live_of e) p ≡ FRONT + number * AREA + p * e.stride = offset_of e p ∙ ap (λ (n : ℕ). FRONT + n * AREA + p * e.stride) d.number_is in
-          ap (λ (x : Option Live). take (live_or x).places.shape.value_size (drop (offset (live_or x) p) later)) live_new
+          ap (λ (x : Option LiveMap). take (live_or x).places.shape.value_size (drop (offset (live_or x) p) later)) live_new
           ∙ ap (λ (v : ℕ). take v (drop (offset (live_of e) p) later)) value_of
           ∙ ap (λ (n : ℕ). take shape.value_size (drop n later)) o
           ∙ ap (λ (b : List ℕ). take shape.value_size (drop (FRONT + number * AREA + p * e.stride) b)) written
@@ -177,34 +177,34 @@ module _ (a : Inside) (t : Tenant) (shape : MapShape) (number size : ℕ) (r : I
       pub values_kept : SameValues t bytes (seen (with_new a number size slots)) later
       values_kept j p old_live new_live l =
           same_or_other j k
-          (λ (s : j ≡ k). absurd (true≢false (sym old_live ∙ ap is_some (ap (live_at t) s ∙ ap (λ (u : Tenant). live_at u k) (sym view) ∙ none_by a.slots.slots a.slots.slots k d.was))))
+          (λ (s : j ≡ k). absurd (true≢false (sym old_live ∙ ap is_some (ap (live_at t) s ∙ ap (λ (u : LiveMaps). live_at u k) (sym view) ∙ none_by a.slots.slots a.slots.slots k d.was))))
           (λ (ne : j ≢ k).
-          let f = some_entry a.slots.slots j (ap (λ (u : Tenant). is_some (live_at u j)) view ∙ old_live) in
-          let o : live_at t j ≡ Some (live_of f.0) = ap (λ (u : Tenant). live_at u j) (sym view) ∙ live_by a.slots.slots a.slots.slots j f.0 f.1 in
+          let f = some_entry a.slots.slots j (ap (λ (u : LiveMaps). is_some (live_at u j)) view ∙ old_live) in
+          let o : live_at t j ≡ Some (live_of f.0) = ap (λ (u : LiveMaps). live_at u j) (sym view) ∙ live_by a.slots.slots a.slots.slots j f.0 f.1 in
           let n = others_stay j ne ∙ o in
           let m = told_of (λ x. x.places.shape.max_entries) _ _ n in
-          ap (λ (x : Option Live). take (live_or x).places.shape.value_size (drop (offset (live_or x) p) later)) n
+          ap (λ (x : Option LiveMap). take (live_or x).places.shape.value_size (drop (offset (live_or x) p) later)) n
           ∙ kept_at j p f.0 f.1 (omega arith)
-          ∙ ap (λ (x : Option Live). take (live_or x).places.shape.value_size (drop (offset (live_or x) p) bytes)) (sym o))
+          ∙ ap (λ (x : Option LiveMap). take (live_or x).places.shape.value_size (drop (offset (live_or x) p) bytes)) (sym o))
 
 -- ---- seen from a key that is answered
 
-pub created : (f : Option MapFault) (old new : Tenant) (s : MapShape) (k : ℕ) → Creates f old s (Ok k) new → IsCreated old s k new
+pub created : (f : Option MapFault) (old new : LiveMaps) (s : MapShape) (k : ℕ) → Creates f old s (Ok k) new → IsCreated old s k new
 created None old new s k h = h
 created (Some f) old new s k h = cc (h.0)
 
 -- ---- the maps that were live before
 
-module _ (old new : Tenant) (s : MapShape) (k : ℕ) (live : IsSome (live_at old k)) where
+module _ (old new : LiveMaps) (s : MapShape) (k : ℕ) (live : IsSome (live_at old k)) where
   unfilled : (j : ℕ) → IsCreated old s j new → live_at new k ≡ live_at old k
   unfilled j h = h.others k (λ e. true≢false (sym live ∙ ap (λ (i : ℕ). is_some (live_at old i)) e ∙ ap is_some h.was))
 
   pub live_stays : (f : Option MapFault) (answer : Result ℕ MapFault) → Creates f old s answer new → live_at new k ≡ live_at old k
   live_stays None (Ok j) h = unfilled j h
-  live_stays None (Err Memory) h = ap (λ (t : Tenant). live_at t k) h
+  live_stays None (Err Memory) h = ap (λ (t : LiveMaps). live_at t k) h
   live_stays None (Err NoEntry) h = absurd h
   live_stays None (Err TooBig) h = absurd h
   live_stays None (Err Exists) h = absurd h
   live_stays None (Err Invalid) h = absurd h
   live_stays None (Err NoSpace) h = absurd h
-  live_stays (Some f) answer h = ap (λ (t : Tenant). live_at t k) h.1
+  live_stays (Some f) answer h = ap (λ (t : LiveMaps). live_at t k) h.1

@@ -8,9 +8,11 @@ use Rattle.std.proofs.lemmas.Option.{none-some, slice_get-map}
 use Rattle.tagged_model.specs.declared.shape.MapShape.{MapShape}
 use Rattle.tagged_model.specs.declared.fault.MapFault.TheVariants.{NoEntry}
 use Rattle.tagged_model.specs.Table.{found, first_key, key_behind, key_after, next_of}
-use Rattle.bpf_maps.specs.Places.{PlaceTable, table_of, IsSized, key_of, GivesKey}
+use Rattle.bpf_maps.specs.Places.{PlaceTable, table_of, IsSized, GivesKey}
+use Rattle.bpf_maps.specs.inside.Keys.{key_of}
+use Rattle.bpf_maps.specs.declared.part.TheConstants.{KEY_ROOM}
 use Rattle.bpf_maps.specs.Index.{bare}
-use Rattle.bpf_maps.proofs.Shapes.{key_of_64}
+use Rattle.bpf_maps.proofs.Shapes.{key_fits_room}
 
 first_is : (es : List (List ℕ × ℕ)) → key_of (slice_get es 0) ≡ first_key es
 first_is [] = refl
@@ -67,10 +69,10 @@ pub gives_none : (o : Option (List ℕ)) (old new : List ℕ) → o ≡ None →
 gives_none o old new e h = subst (λ (x : Option (List ℕ)). GivesKey x old (Err NoEntry) new) (sym e) (refl, h)
 
 -- the key of an entry fits
-pub fits_64 : {X : Type 0} (s : MapShape) (es : List (Vec ℕ X × ℕ)) (i : ℕ) (k : Vec ℕ X) (p : ℕ) → IsSized s.key_size (bare es) → Some (k, p) ≡ slice_get es i → length k.items ≤ 64
-fits_64 s es i k p sized h =
+pub fits_room : {X : Type 0} (s : MapShape) (es : List (Vec ℕ X × ℕ)) (i : ℕ) (k : Vec ℕ X) (p : ℕ) → IsSized s.key_size (bare es) → Some (k, p) ≡ slice_get es i → length k.items ≤ KEY_ROOM
+fits_room s es i k p sized h =
     let size : length k.items ≡ s.key_size = sized_at s.key_size i (bare es) (k.items, p) sized (bare_at es i k p h) in
-    let most = key_of_64 s in
+    let most = key_fits_room s in
     omega arith
 
 -- the key of the entry that follows is the one that is asked for

@@ -3,12 +3,12 @@ use Rattle.std.proofs.Common.{◌≡◌, ◌≢◌, ℕ, ◌+◌, ◌*◌, ◌/�
 use Rattle.std.proofs.lemmas.Bool.{and_parts, leb-true, cases_lt}
 use Rattle.tagged_model.specs.declared.shape.MapKind.{MapKind}
 use Rattle.tagged_model.specs.declared.shape.MapShape.{MapShape}
-use Rattle.tagged_model.specs.Shape.{area, is_shape}
+use Rattle.tagged_model.specs.Shape.{area, is_shape, largest_area}
 use Rattle.bpf_maps.specs.declared.part.TheConstants.{FRONT, AREA, MAPS}
-use Rattle.bpf_maps.specs.Live.{IsInside}
+use Rattle.bpf_maps.specs.Live.{LiesInPart}
 
-fits_of : (k : MapKind) (key value max : ℕ) → IsTrue (is_shape k key value max) → area value max ≤ 65536
-fits_of k key value max h = leb-true (area value max) 65536 (and_parts _ _ h).1
+fits_of : (k : MapKind) (key value max : ℕ) → IsTrue (is_shape k key value max) → area value max ≤ largest_area
+fits_of k key value max h = leb-true (area value max) largest_area (and_parts _ _ h).1
 
 -- the values of a map fit an area
 pub area_fits : (s : MapShape) → area s.value_size s.max_entries ≤ AREA
@@ -37,7 +37,7 @@ module _ (value max stride : ℕ) (round : stride ≡ (value + 7) / 8 * 8) where
     pub value_inside : (p : ℕ) → p < max → p * stride + value ≤ AREA
     value_inside p l = let b = value_ends p l in omega arith
 
-    pub place_inside : (n p : ℕ) → n < MAPS → p < max → IsInside (FRONT + n * AREA + p * stride) value
+    pub place_inside : (n p : ℕ) → n < MAPS → p < max → LiesInPart (FRONT + n * AREA + p * stride) value
     place_inside n p below l = record {
       behind = omega arith;
       within = let i = value_inside p l in let m = times_less (n + 1) MAPS AREA (omega arith) in omega arith;

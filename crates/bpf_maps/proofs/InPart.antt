@@ -5,11 +5,11 @@ use Rattle.std.proofs.lemmas.Bool.{cases_Bool, eqb-true, eqb-false}
 use Rattle.std.proofs.lemmas.List.{take_all}
 use Rattle.tagged_model.specs.declared.fault.MapFault.{MapFault}
 use Rattle.tagged_model.specs.Table as map
-use Rattle.tagged_model.specs.MapLaws.{CallsGoAlong, VerdictsTell}
+use Rattle.tagged_model.specs.MapLaws.{CallsRefineValues, MapVerdictsMatchLookUps}
 use Rattle.bpf_maps.specs.declared.part.TheConstants.{FRONT}
 use Rattle.bpf_maps.specs.Places.{PlaceTable, table_of, times, IsFree, Claims, with_place, with_kept, after_run}
-use Rattle.bpf_maps.specs.Live.{Live, Tenant, live_at, live_or, places_at, shape_at, offset_at, value_in, map_in, IsInside, IsLaid, SameAreas}
-use Rattle.bpf_maps.specs.InPart.{IsValueAt, with_value, ValueIsWritten, updated, GoesAlong}
+use Rattle.bpf_maps.specs.Live.{LiveMap, LiveMaps, live_at, live_or, places_at, shape_at, offset_at, value_in, map_in, LiesInPart, IsLaid, SameAreas}
+use Rattle.bpf_maps.specs.InPart.{IsValueAt, with_value, ValueIsWritten, updated, RefinesValues}
 use Rattle.bpf_maps.proofs.Counts.{times-append, values_of-append}
 use Rattle.bpf_maps.proofs.Slots.{offsets_stay}
 use Rattle.bpf_maps.proofs.Values.{written, table_written, agreeing_tables, used_in_entries}
@@ -17,30 +17,30 @@ use Rattle.bpf_maps.proofs.Written.{length_same, front_same, before_same, after_
 
 -- ---- where values are
 
-live_is : (t : Tenant) (k : ℕ) → IsSome (live_at t k) → live_at t k ≡ Some (live_or (live_at t k))
+live_is : (t : LiveMaps) (k : ℕ) → IsSome (live_at t k) → live_at t k ≡ Some (live_or (live_at t k))
 live_is t k live = by (live_at t k) live
   where
-    by : (o : Option Live) → IsSome o → o ≡ Some (live_or o)
+    by : (o : Option LiveMap) → IsSome o → o ≡ Some (live_or o)
     by None h = absurd (true≢false (sym h))
     by (Some l) h = refl
 
-inside_at : (t : Tenant) → IsLaid t → (k p : ℕ) → IsSome (live_at t k) → p < (shape_at t k).max_entries → IsInside (offset_at t k p) (shape_at t k).value_size
+inside_at : (t : LiveMaps) → IsLaid t → (k p : ℕ) → IsSome (live_at t k) → p < (shape_at t k).max_entries → LiesInPart (offset_at t k p) (shape_at t k).value_size
 inside_at t laid k p live lt = laid.inside k p (live_or (live_at t k)) (live_is t k live) lt
 
-apart_at : (t : Tenant) → IsLaid t → (k p j q : ℕ) → IsSome (live_at t k) → IsSome (live_at t j) → p < (shape_at t k).max_entries → q < (shape_at t j).max_entries → (k ≡ j → p ≢ q)
+apart_at : (t : LiveMaps) → IsLaid t → (k p j q : ℕ) → IsSome (live_at t k) → IsSome (live_at t j) → p < (shape_at t k).max_entries → q < (shape_at t j).max_entries → (k ≡ j → p ≢ q)
     → (offset_at t k p + (shape_at t k).value_size ≤ offset_at t j q) ⊎ (offset_at t j q + (shape_at t j).value_size ≤ offset_at t k p)
 apart_at t laid k p j q live other lt below differ = laid.apart k p j q (live_or (live_at t k)) (live_or (live_at t j)) (live_is t k live) (live_is t j other) lt below differ
 
 -- ---- a value is written
 
-module _ (part : List ℕ) (t : Tenant) (k p : ℕ) (bytes : List ℕ) (is : IsValueAt part t k p bytes) where
+module _ (part : List ℕ) (t : LiveMaps) (k p : ℕ) (bytes : List ℕ) (is : IsValueAt part t k p bytes) where
   abbrev start : ℕ
   start = offset_at t k p
 
   abbrev later : List ℕ
   later = with_value part t k p bytes
 
-  inside : IsInside start (shape_at t k).value_size
+  inside : LiesInPart start (shape_at t k).value_size
   inside = inside_at t is.laid k p is.live is.within
 
   room : start + length bytes ≤ length part
@@ -83,21 +83,21 @@ module _ (part : List ℕ) (t : Tenant) (k p : ℕ) (bytes : List ℕ) (is : IsV
     size = length_same part bytes start (length bytes) refl room ∙ is.whole;
   }
 
-pub value_written : (part : List ℕ) (t : Tenant) (k p : ℕ) (bytes : List ℕ) → IsValueAt part t k p bytes → ValueIsWritten part t k p bytes
+pub value_written : (part : List ℕ) (t : LiveMaps) (k p : ℕ) (bytes : List ℕ) → IsValueAt part t k p bytes → ValueIsWritten part t k p bytes
 value_written = value_is_written
 
 -- ---- a map changes, and its area stays
 
-module _ (old new : Tenant) (k : ℕ) (areas : SameAreas old new) (live : IsSome (live_at new k)) where
+module _ (old new : LiveMaps) (k : ℕ) (areas : SameAreas old new) (live : IsSome (live_at new k)) where
   shape_stays : shape_at new k ≡ shape_at old k
-  shape_stays = let m = areas k (live_or (live_at new k)) (live_is new k live) in m.2 ∙ ap (λ (o : Option Live). (live_or o).places.shape) (sym m.1)
+  shape_stays = let m = areas k (live_or (live_at new k)) (live_is new k live) in m.2 ∙ ap (λ (o : Option LiveMap). (live_or o).places.shape) (sym m.1)
 
   value_stays : (part : List ℕ) (p : ℕ) → value_in part new k p ≡ value_in part old k p
   value_stays part p =
       ap (λ (n : ℕ). take (shape_at new k).value_size (drop n part)) (offsets_stay old new k p areas live)
       ∙ ap (λ s. take s.value_size (drop (offset_at old k p) part)) shape_stays
 
-module _ (along : CallsGoAlong ℕ (List ℕ)) (tell : VerdictsTell ℕ) (part : List ℕ) (old new : Tenant) (k : ℕ) (areas : SameAreas old new) (live : IsSome (live_at new k)) where
+module _ (along : CallsRefineValues ℕ (List ℕ)) (tell : MapVerdictsMatchLookUps ℕ) (part : List ℕ) (old new : LiveMaps) (k : ℕ) (areas : SameAreas old new) (live : IsSome (live_at new k)) where
   abbrev value : ℕ → List ℕ
   value = value_in part old k
 
@@ -169,7 +169,7 @@ module _ (along : CallsGoAlong ℕ (List ℕ)) (tell : VerdictsTell ℕ) (part :
         by_verdict (map.verdict (table_of (places_at old k)) key flags) refl claims
         ∙ ap (λ v. updated v (map_in part old k) key bytes) (sym (along.verdict value (table_of (places_at old k)) key flags))
 
-pub goes_along : CallsGoAlong ℕ (List ℕ) → VerdictsTell ℕ → (part : List ℕ) (old new : Tenant) (k : ℕ) → SameAreas old new → IsSome (live_at new k) → GoesAlong part old new k
+pub goes_along : CallsRefineValues ℕ (List ℕ) → MapVerdictsMatchLookUps ℕ → (part : List ℕ) (old new : LiveMaps) (k : ℕ) → SameAreas old new → IsSome (live_at new k) → RefinesValues part old new k
 goes_along along tell part old new k areas live = record {
   same = same along tell part old new k areas live;
   delete = delete along tell part old new k areas live;

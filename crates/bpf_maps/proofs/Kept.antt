@@ -5,13 +5,13 @@ use Rattle.std.proofs.lemmas.Bool.Decides.{nat_tests}
 use Rattle.std.specs.Map.{values_of}
 use Rattle.tagged_model.specs.Table.{found, without, with_key, is_full}
 use Rattle.bpf_maps.specs.Places.{table_of, times, IsSound, IsSized, IsFree}
-use Rattle.bpf_maps.specs.Index.{bare, IsKept, shown}
+use Rattle.bpf_maps.specs.Index.{bare, IsWellFormedHash, shown}
 use Rattle.bpf_maps.specs.declared.hash_map.HashMapIx.TheInside.{Inside}
 use Rattle.bpf_maps.proofs.Counts.{times-append, times_self, values_of-append, one, times-without, length-without, sized-without, sized-with}
 use Rattle.bpf_maps.proofs.Bare.{length-bare}
 use Rattle.bpf_maps.proofs.Shapes.{hash_no_array}
 
-pub sound : (a : Inside) → IsKept a → IsSound (shown a)
+pub sound : (a : Inside) → IsWellFormedHash a → IsSound (shown a)
 sound a h = record {
   once = λ p. let e = h.once p in omega arith;
   few = let e = h.all in let n = length-bare a.index.entries in omega arith;
@@ -20,7 +20,7 @@ sound a h = record {
 }
 
 -- a key that is taken out
-module _ (a b : Inside) (h : IsKept a) (key : List ℕ) (place : ℕ) (at : found key (bare a.index.entries) ≡ Some place) (shape : b.shape ≡ a.shape) (index : bare b.index.entries ≡ without key (bare a.index.entries)) (kept : b.kept.items ≡ a.kept.items ++ place ∷ []) (cap : vec_capacity b.kept ≡ vec_capacity a.kept) (free : b.free ≡ a.free) where
+module _ (a b : Inside) (h : IsWellFormedHash a) (key : List ℕ) (place : ℕ) (at : found key (bare a.index.entries) ≡ Some place) (shape : b.shape ≡ a.shape) (index : bare b.index.entries ≡ without key (bare a.index.entries)) (kept : b.kept.items ≡ a.kept.items ++ place ∷ []) (cap : vec_capacity b.kept ≡ vec_capacity a.kept) (free : b.free ≡ a.free) where
   max : b.shape.max_entries ≡ a.shape.max_entries
   max = ap (λ s. s.max_entries) shape
 
@@ -49,7 +49,7 @@ module _ (a b : Inside) (h : IsKept a) (key : List ℕ) (place : ℕ) (at : foun
       let m = max in
       omega arith
 
-  pub kept_by_remove : IsKept b
+  pub kept_by_remove : IsWellFormedHash b
   kept_by_remove = record {
     kind = ap (λ s. s.kind) shape ∙ h.kind;
     once = once;
@@ -62,7 +62,7 @@ module _ (a b : Inside) (h : IsKept a) (key : List ℕ) (place : ℕ) (at : foun
   }
 
 -- the last free place is not in use
-module _ (a : Inside) (h : IsKept a) (place : ℕ) (rest : List ℕ) (last : a.free.items ≡ rest ++ place ∷ []) where
+module _ (a : Inside) (h : IsWellFormedHash a) (place : ℕ) (rest : List ℕ) (last : a.free.items ≡ rest ++ place ∷ []) where
   within_by : (b : Bool) (n k : ℕ) → nat_lt place k ≡ b → n + 1 ≡ (if b then 1 else 0) → place < k
   within_by true n k t e = ltb-true place k t
   within_by false n k t e = absurd (omega arith)
@@ -124,7 +124,7 @@ module _ (a : Inside) (h : IsKept a) (place : ℕ) (rest : List ℕ) (last : a.f
         let m = most in
         omega arith
 
-    pub kept_by_add : IsKept b
+    pub kept_by_add : IsWellFormedHash b
     kept_by_add = record {
       kind = ap (λ s. s.kind) shape ∙ h.kind;
       once = once_added;
@@ -137,7 +137,7 @@ module _ (a : Inside) (h : IsKept a) (place : ℕ) (rest : List ℕ) (last : a.f
     }
 
 -- a place that was kept apart is free again
-pub kept_by_free : (a b : Inside) (place : ℕ) → IsKept a → b.shape ≡ a.shape → b.index ≡ a.index → a.kept.items ≡ b.kept.items ++ place ∷ [] → b.free.items ≡ a.free.items ++ place ∷ [] → vec_capacity b.kept ≡ vec_capacity a.kept → vec_capacity b.free ≡ vec_capacity a.free → IsKept b
+pub kept_by_free : (a b : Inside) (place : ℕ) → IsWellFormedHash a → b.shape ≡ a.shape → b.index ≡ a.index → a.kept.items ≡ b.kept.items ++ place ∷ [] → b.free.items ≡ a.free.items ++ place ∷ [] → vec_capacity b.kept ≡ vec_capacity a.kept → vec_capacity b.free ≡ vec_capacity a.free → IsWellFormedHash b
 kept_by_free a b place h shape index kept free ck cf =
     let max : b.shape.max_entries ≡ a.shape.max_entries = ap (λ s. s.max_entries) shape in
     let es : bare b.index.entries ≡ bare a.index.entries = ap (λ m. bare m.entries) index in

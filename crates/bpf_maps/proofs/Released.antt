@@ -8,17 +8,17 @@ use Rattle.bpf_maps.specs.declared.part.TheConstants.{MAPS}
 use Rattle.bpf_maps.specs.declared.maps.Entry.{Entry}
 use Rattle.bpf_maps.specs.declared.maps.Maps.TheInside.{Inside}
 use Rattle.bpf_maps.specs.Any.{places_of}
-use Rattle.bpf_maps.specs.Live.{Live, Tenant, live_at, shape_at, count, areas, HasOneMore, without_area, held_at, one_less, weight, area_of, IsLaid, SameAreas}
-use Rattle.bpf_maps.specs.InMaps.{live_of, lives, seen, IsWhole}
+use Rattle.bpf_maps.specs.Live.{LiveMap, LiveMaps, live_at, shape_at, count, areas, HasOneMore, without_area, held_at, one_less, weight, area_of, IsLaid, SameAreas}
+use Rattle.bpf_maps.specs.InMaps.{live_of, lives, seen, IsWellFormedMaps}
 use Rattle.bpf_maps.proofs.Slots.{live_by, none_by, others_by, same_some, set_here, set_others}
 use Rattle.bpf_maps.proofs.Totals.{weight_most, times_set}
 use Rattle.bpf_maps.proofs.Changes.{live_here, none_held, told_of}
 use Rattle.bpf_maps.proofs.Whole.{laid, whole_removed}
 
 -- the entry that was taken out is the one that was there
-pub record IsTaken (a : Inside) (t : Tenant) (at key : ℕ) (old gone : Entry) : Type 0 where
+pub record IsTaken (a : Inside) (t : LiveMaps) (at key : ℕ) (old gone : Entry) : Type 0 where
   pub view : seen a ≡ t
-  pub whole : IsWhole a
+  pub whole : IsWellFormedMaps a
   pub same : at ≡ key
   pub here : get_or a.slots.slots at None ≡ Some old
   pub value : get_or (set a.slots.slots at (Some old)) at None ≡ Some gone
@@ -27,7 +27,7 @@ pub record IsTaken (a : Inside) (t : Tenant) (at key : ℕ) (old gone : Entry) :
 abbrev pub without_entry : Inside → Entry → ℕ → Slab Entry → Inside
 without_entry a gone size slots = record a { slots = slots; taken = set a.taken gone.number false; bytes = a.bytes - size }
 
-module _ (a : Inside) (t : Tenant) (at key : ℕ) (old gone : Entry) (c : IsTaken a t at key old gone) where
+module _ (a : Inside) (t : LiveMaps) (at key : ℕ) (old gone : Entry) (c : IsTaken a t at key old gone) where
   is_gone : old ≡ gone
   is_gone = same_some (get_or (set a.slots.slots at (Some old)) at None) old gone (set_here a.slots.slots at old old c.here) c.value
 
@@ -49,7 +49,7 @@ module _ (a : Inside) (t : Tenant) (at key : ℕ) (old gone : Entry) (c : IsTake
       others_stay : (j : ℕ) → j ≢ at → get_or slots.slots j None ≡ get_or a.slots.slots j None
       others_stay j ne = others j ne ∙ set_others a.slots.slots at old old c.here j ne
 
-      pub whole_gone : IsWhole (without_entry a gone size slots)
+      pub whole_gone : IsWellFormedMaps (without_entry a gone size slots)
       whole_gone = whole_removed a (without_entry a gone size slots) at c.whole others_stay capacity gone was gap refl (let m = size_most in omega arith)
 
       pub laid_gone : IsLaid (seen (without_entry a gone size slots))
@@ -58,7 +58,7 @@ module _ (a : Inside) (t : Tenant) (at key : ℕ) (old gone : Entry) (c : IsTake
       pub freed_gone : HasOneMore (seen (without_entry a gone size slots)) t (shape_at t key)
       freed_gone =
           let here = live_here a t at key gone c.view c.same was in
-          let shape = told_of (λ (l : Live). l.places.shape) (live_at t key) (live_of gone) here in
+          let shape = told_of (λ (l : LiveMap). l.places.shape) (live_at t key) (live_of gone) here in
           subst (λ (s : MapShape). HasOneMore (seen (without_entry a gone size slots)) t s) (sym shape) more
         where
           more : HasOneMore (seen (without_entry a gone size slots)) t (places_of gone.map).shape
@@ -80,7 +80,7 @@ module _ (a : Inside) (t : Tenant) (at key : ℕ) (old gone : Entry) (c : IsTake
       none_now = ap (λ (k : ℕ). get_or (lives slots.slots) k None) (sym c.same) ∙ none_by slots.slots slots.slots at gap
 
       lives_stay : (j : ℕ) → j ≢ key → live_at (seen (without_entry a gone size slots)) j ≡ live_at t j
-      lives_stay j ne = others_by a.slots.slots slots.slots at others_stay j (λ e. ne (e ∙ c.same)) ∙ ap (λ (u : Tenant). live_at u j) c.view
+      lives_stay j ne = others_by a.slots.slots slots.slots at others_stay j (λ e. ne (e ∙ c.same)) ∙ ap (λ (u : LiveMaps). live_at u j) c.view
 
       pub less_gone : old.holds ≤ 1 → held_at (seen (without_entry a gone size slots)) key ≡ one_less (held_at t key)
       less_gone last = none_held t (seen (without_entry a gone size slots)) key (live_of old) (live_here a t at key old c.view c.same c.here) none_now last

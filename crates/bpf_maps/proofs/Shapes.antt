@@ -4,22 +4,22 @@ use Rattle.std.proofs.lemmas.Bool.{and_parts, leb-true}
 use Rattle.tagged_model.specs.declared.shape.MapKind.{MapKind}
 use Rattle.tagged_model.specs.declared.shape.MapKind.TheVariants.{Hash, Array}
 use Rattle.tagged_model.specs.declared.shape.MapShape.{MapShape}
-use Rattle.tagged_model.specs.Shape.{is_from_to, is_shape}
+use Rattle.tagged_model.specs.Shape.{is_from_to, is_shape, longest_key, most_entries}
 
 within : (low high n : ℕ) → is_from_to low high n ≡ true → n ≤ high
 within low high n h = leb-true n high (and_parts _ _ h).1
 
-key_fits : (k : MapKind) (key value max : ℕ) → IsTrue (is_shape k key value max) → key ≤ 64
+key_fits : (k : MapKind) (key value max : ℕ) → IsTrue (is_shape k key value max) → key ≤ longest_key
 key_fits Array key value max h = let e = eqb-true key 4 (and_parts _ _ (and_parts _ _ (and_parts _ _ (and_parts _ _ h).0).0).0).0 in omega arith
-key_fits Hash key value max h = within 1 64 key (and_parts _ _ (and_parts _ _ (and_parts _ _ (and_parts _ _ h).0).0).0).0
+key_fits Hash key value max h = within 1 longest_key key (and_parts _ _ (and_parts _ _ (and_parts _ _ (and_parts _ _ h).0).0).0).0
 
-pub key_of_64 : (s : MapShape) → s.key_size ≤ 64
-key_of_64 s = key_fits s.kind s.key_size s.value_size s.max_entries s.listed
+pub key_fits_room : (s : MapShape) → s.key_size ≤ longest_key
+key_fits_room s = key_fits s.kind s.key_size s.value_size s.max_entries s.listed
 
-few : (k : MapKind) (key value max : ℕ) → IsTrue (is_shape k key value max) → max ≤ 4096
-few k key value max h = within 1 4096 max (and_parts _ _ (and_parts _ _ (and_parts _ _ h).0).0).1
+few : (k : MapKind) (key value max : ℕ) → IsTrue (is_shape k key value max) → max ≤ most_entries
+few k key value max h = within 1 most_entries max (and_parts _ _ (and_parts _ _ (and_parts _ _ h).0).0).1
 
-pub few_entries : (s : MapShape) → s.max_entries ≤ 4096
+pub few_entries : (s : MapShape) → s.max_entries ≤ most_entries
 few_entries s = few s.kind s.key_size s.value_size s.max_entries s.listed
 
 key_of_array : (k : MapKind) (key value max : ℕ) → k ≡ Array → IsTrue (is_shape k key value max) → key ≡ 4

@@ -2,7 +2,7 @@
 use Rattle.std.proofs.Common.{◌≡◌, ◌≢◌, ℕ, zero, suc, ◌+◌, ◌<◌, List, [], ◌∷◌, length, Option, Some, None, option_map, refl, sym, ap, ◌∙◌, get_or, set, arith, get_or-set_same, get_or-set_other, Bool, true, false, IsSome, is_some, nat_eq, eqb-true, eq-eqb, true≢false, ◌*◌}
 use Rattle.std.proofs.lemmas.Option.{none-some, same_Some}
 use Rattle.bpf_maps.specs.declared.maps.Entry.{Entry}
-use Rattle.bpf_maps.specs.Live.{Live, Tenant, live_at, live_or, offset, offset_at, SameAreas}
+use Rattle.bpf_maps.specs.Live.{LiveMap, LiveMaps, live_at, live_or, offset, offset_at, SameAreas}
 use Rattle.bpf_maps.specs.InMaps.{live_of, lives}
 
 pub at_lives : (xs : List (Option Entry)) (k : ℕ) → get_or (lives xs) k None ≡ option_map live_of (get_or xs k None)
@@ -16,7 +16,7 @@ within (x ∷ xs) zero e h = omega arith
 within (x ∷ xs) (suc k) e h = let r = within xs k e h in omega arith
 
 -- the entry of a live map
-pub entry_of : (xs : List (Option Entry)) (k : ℕ) (l : Live) → get_or (lives xs) k None ≡ Some l → (e : Entry) × (get_or xs k None ≡ Some e) × (live_of e ≡ l)
+pub entry_of : (xs : List (Option Entry)) (k : ℕ) (l : LiveMap) → get_or (lives xs) k None ≡ Some l → (e : Entry) × (get_or xs k None ≡ Some e) × (live_of e ≡ l)
 entry_of xs k l h = by (get_or xs k None) refl
   where
     by : (o : Option Entry) → get_or xs k None ≡ o → (e : Entry) × (get_or xs k None ≡ Some e) × (live_of e ≡ l)
@@ -48,17 +48,17 @@ module _ (xs : List (Option Entry)) (k : ℕ) (old new : Entry) (at : get_or xs 
   pub set_others : (l : ℕ) → l ≢ k → get_or (set xs k (Some new)) l None ≡ get_or xs l None
   set_others l ne = get_or-set_other xs k l (Some new) None ne
 
-pub offset_same : (l m : Live) (p : ℕ) → l.start ≡ m.start → l.stride ≡ m.stride → offset l p ≡ offset m p
+pub offset_same : (l m : LiveMap) (p : ℕ) → l.start ≡ m.start → l.stride ≡ m.stride → offset l p ≡ offset m p
 unfolding offset
 offset_same l m p e f = λ i. e i + p * f i
 
 -- the same areas keep where each value lies
-pub offsets_stay : (old new : Tenant) (k p : ℕ) → SameAreas old new → IsSome (live_at new k) → offset_at new k p ≡ offset_at old k p
+pub offsets_stay : (old new : LiveMaps) (k p : ℕ) → SameAreas old new → IsSome (live_at new k) → offset_at new k p ≡ offset_at old k p
 offsets_stay old new k p areas live = by (live_at new k) refl live
   where
-    by : (o : Option Live) → live_at new k ≡ o → IsSome o → offset (live_or o) p ≡ offset_at old k p
+    by : (o : Option LiveMap) → live_at new k ≡ o → IsSome o → offset (live_or o) p ≡ offset_at old k p
     by None e some = absurd (true≢false (sym some))
-    by (Some l) e some = let h = areas k l e in offset_same l h.0 p h.3 h.4 ∙ ap (λ (o : Option Live). offset (live_or o) p) (sym h.1)
+    by (Some l) e some = let h = areas k l e in offset_same l h.0 p h.3 h.4 ∙ ap (λ (o : Option LiveMap). offset (live_or o) p) (sym h.1)
 
 -- the same key, or another
 pub same_or_other : {P : Type 0} (j k : ℕ) → (j ≡ k → P) → (j ≢ k → P) → P
@@ -72,9 +72,9 @@ pub same_some : {A : Type 0} (o : Option A) (l m : A) → o ≡ Some l → o ≡
 same_some o l m e f = same_Some l m (sym e ∙ f)
 
 -- one map that keeps its shape and its area
-pub one_changed : (old new : Tenant) (k : ℕ) (a b : Live) → live_at old k ≡ Some a → live_at new k ≡ Some b → b.places.shape ≡ a.places.shape → b.start ≡ a.start → b.stride ≡ a.stride → ((j : ℕ) → j ≢ k → live_at new j ≡ live_at old j) → SameAreas old new
+pub one_changed : (old new : LiveMaps) (k : ℕ) (a b : LiveMap) → live_at old k ≡ Some a → live_at new k ≡ Some b → b.places.shape ≡ a.places.shape → b.start ≡ a.start → b.stride ≡ a.stride → ((j : ℕ) → j ≢ k → live_at new j ≡ live_at old j) → SameAreas old new
 one_changed old new k a b at bt shape start stride others j l h =
     same_or_other j k
     (λ (q : j ≡ k). let is : l ≡ b = same_some (live_at new k) l b (ap (live_at new) (sym q) ∙ h) bt in
-    (a, ap (live_at old) q ∙ at, ap (λ (x : Live). x.places.shape) is ∙ shape, ap (λ (x : Live). x.start) is ∙ start, ap (λ (x : Live). x.stride) is ∙ stride))
+    (a, ap (live_at old) q ∙ at, ap (λ (x : LiveMap). x.places.shape) is ∙ shape, ap (λ (x : LiveMap). x.start) is ∙ start, ap (λ (x : LiveMap). x.stride) is ∙ stride))
     (λ (ne : j ≢ k). (l, sym (others j ne) ∙ h, refl, refl, refl))

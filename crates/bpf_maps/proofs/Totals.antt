@@ -2,11 +2,11 @@
 use Rattle.std.proofs.Common.{◌≡◌, ◌≢◌, ℕ, zero, suc, ◌+◌, ◌<◌, ◌≤◌, Bool, true, false, if◌then◌else◌, List, [], ◌∷◌, length, Option, Some, None, is_some, refl, ap, get_or, set, arith, count_by, cond}
 use Rattle.std.proofs.lemmas.List.Recursion.{is_count_by}
 use Rattle.bpf_maps.specs.declared.maps.Entry.{Entry}
-use Rattle.bpf_maps.specs.Live.{Live, weight, total}
+use Rattle.bpf_maps.specs.Live.{LiveMap, weight, total}
 use Rattle.bpf_maps.specs.InMaps.{lives, times_true}
 
-module _ (f : Live → ℕ) where
-  pub total_same : (xs ys : List (Option Live)) → ((j : ℕ) → weight f (get_or ys j None) ≡ weight f (get_or xs j None)) → total f ys ≡ total f xs
+module _ (f : LiveMap → ℕ) where
+  pub total_same : (xs ys : List (Option LiveMap)) → ((j : ℕ) → weight f (get_or ys j None) ≡ weight f (get_or xs j None)) → total f ys ≡ total f xs
   unfolding total
   total_same [] [] h = refl
   total_same [] (y ∷ ys) h = let r = total_same [] ys (λ j. h (suc j)) in let a = h 0 in omega arith
@@ -14,7 +14,7 @@ module _ (f : Live → ℕ) where
   total_same (x ∷ xs) (y ∷ ys) h = let r = total_same xs ys (λ j. h (suc j)) in let a = h 0 in omega arith
 
   -- where all slots but one stay
-  pub total_but_one : (k : ℕ) (xs ys : List (Option Live)) → ((j : ℕ) → j ≢ k → get_or ys j None ≡ get_or xs j None) → total f ys + weight f (get_or xs k None) ≡ total f xs + weight f (get_or ys k None)
+  pub total_but_one : (k : ℕ) (xs ys : List (Option LiveMap)) → ((j : ℕ) → j ≢ k → get_or ys j None ≡ get_or xs j None) → total f ys + weight f (get_or xs k None) ≡ total f xs + weight f (get_or ys k None)
   unfolding total
   total_but_one zero [] [] h = refl
   total_but_one zero [] (y ∷ ys) h = let r = total_same [] ys (λ j. ap (weight f) (h (suc j) (λ e. absurd (omega arith)))) in omega arith
@@ -35,7 +35,7 @@ module _ (f : Live → ℕ) where
       omega arith
 
 -- a part of a sum
-pub weight_most : (f : Live → ℕ) (k : ℕ) (xs : List (Option Live)) → weight f (get_or xs k None) ≤ total f xs
+pub weight_most : (f : LiveMap → ℕ) (k : ℕ) (xs : List (Option LiveMap)) → weight f (get_or xs k None) ≤ total f xs
 unfolding total
 weight_most f k [] = omega arith
 weight_most f zero (x ∷ xs) = omega arith

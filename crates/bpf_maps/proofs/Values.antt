@@ -7,7 +7,7 @@ use Rattle.tagged_model.specs.declared.shape.MapKind.TheVariants.{Hash, Array}
 use Rattle.tagged_model.specs.declared.shape.MapShape.{MapShape}
 use Rattle.tagged_model.specs.Table.{Table, is_key, found, index_key, indexed, new_entries, new_table, with_object, with_values}
 use Rattle.bpf_maps.specs.Places.{PlaceTable, table_of, new_places, IsSound, times}
-use Rattle.bpf_maps.specs.Live.{Tenant, places_at, value_in, map_in}
+use Rattle.bpf_maps.specs.Live.{LiveMaps, places_at, value_in, map_in}
 use Rattle.bpf_maps.proofs.Counts.{one, times_one, times-without}
 
 module _ {B : Type 0} (value : ℕ → B) where
@@ -108,7 +108,7 @@ module _ (value : ℕ → List ℕ) (bytes : List ℕ) where
       let rest = valued_indices (first + 1) n (λ i lt. h i (omega (arith, lt))) in
       λ i. (index_key first, head i) ∷ rest i
 
-pub new_map_in : (part : List ℕ) (t : Tenant) (k : ℕ) (shape : MapShape) (bytes : List ℕ) → places_at t k ≡ new_places shape
+pub new_map_in : (part : List ℕ) (t : LiveMaps) (k : ℕ) (shape : MapShape) (bytes : List ℕ) → places_at t k ≡ new_places shape
     → (shape.kind ≡ Array → (p : ℕ) → p < shape.max_entries → value_in part t k p ≡ bytes) → map_in part t k ≡ new_table (λ i. bytes) shape
 new_map_in part t k shape bytes places cleared =
     ap (λ (q : PlaceTable). with_values (value_in part t k) (table_of q)) places

@@ -8,8 +8,8 @@ use Rattle.bpf_maps.specs.declared.maps.Entry.{Entry}
 use Rattle.bpf_maps.specs.declared.maps.Maps.TheInside.{Inside}
 use Rattle.bpf_maps.specs.Any.{places_of}
 use Rattle.bpf_maps.specs.Places.{IsSound}
-use Rattle.bpf_maps.specs.Live.{Live, live_at, live_or, places_at, offset, IsInside, IsLaid, weight, total, area_of}
-use Rattle.bpf_maps.specs.InMaps.{live_of, lives, seen, times_true, IsPlaced, IsWhole}
+use Rattle.bpf_maps.specs.Live.{LiveMap, live_at, live_or, places_at, offset, LiesInPart, IsLaid, weight, total, area_of}
+use Rattle.bpf_maps.specs.InMaps.{live_of, lives, seen, times_true, IsInItsArea, IsWellFormedMaps}
 use Rattle.bpf_maps.proofs.Slots.{entry_of, some_entry, live_by, none_by, others_by, same_or_other, same_some}
 use Rattle.bpf_maps.proofs.Totals.{total_but_one, times_set}
 use Rattle.bpf_maps.proofs.InAreas.{area_fits, value_inside, place_inside, apart_places, apart_areas}
@@ -23,15 +23,15 @@ pub offset_of : (e : Entry) (p : ℕ) → offset (live_of e) p ≡ FRONT + e.num
 unfolding offset
 offset_of e p = refl
 
-abbrev IsApart : Live → Live → ℕ → ℕ → Type 0
+abbrev IsApart : LiveMap → LiveMap → ℕ → ℕ → Type 0
 IsApart l m p q = (offset l p + l.places.shape.value_size ≤ offset m q) ⊎ (offset m q + m.places.shape.value_size ≤ offset l p)
 
-module _ (a : Inside) (h : IsWhole a) where
-  inside : (k p : ℕ) (e : Entry) → entry_at a k e → p < (places_of e.map).shape.max_entries → IsInside (offset (live_of e) p) (places_of e.map).shape.value_size
+module _ (a : Inside) (h : IsWellFormedMaps a) where
+  inside : (k p : ℕ) (e : Entry) → entry_at a k e → p < (places_of e.map).shape.max_entries → LiesInPart (offset (live_of e) p) (places_of e.map).shape.value_size
   inside k p e at l =
       let i = h.placed k e at in
       let s = (places_of e.map).shape in
-      subst (λ (o : ℕ). IsInside o s.value_size) (sym (offset_of e p)) (place_inside s.value_size s.max_entries e.stride i.stride (area_fits s) e.number p i.below l)
+      subst (λ (o : ℕ). LiesInPart o s.value_size) (sym (offset_of e p)) (place_inside s.value_size s.max_entries e.stride i.stride (area_fits s) e.number p i.below l)
 
   apart_in_one : (k p q : ℕ) (e : Entry) → entry_at a k e → p ≢ q → IsApart (live_of e) (live_of e) p q
   apart_in_one k p q e at ne =
@@ -64,52 +64,52 @@ module _ (a : Inside) (h : IsWhole a) where
   laid = record {
     inside = λ k p l at lt.
         let e = entry_of a.slots.slots k l at in
-        subst (λ (x : Live). p < x.places.shape.max_entries → IsInside (offset x p) x.places.shape.value_size) e.2 (inside k p e.0 e.1) lt;
+        subst (λ (x : LiveMap). p < x.places.shape.max_entries → LiesInPart (offset x p) x.places.shape.value_size) e.2 (inside k p e.0 e.1) lt;
     apart = λ k p j q l m at bt pl ql ne.
         let e = entry_of a.slots.slots k l at in
         let f = entry_of a.slots.slots j m bt in
-        subst (λ (x : Live). p < x.places.shape.max_entries → IsApart x m p q) e.2
-        (λ (x : p < (places_of e.0.map).shape.max_entries). subst (λ (y : Live). q < y.places.shape.max_entries → IsApart (live_of e.0) y p q) f.2 (λ (y : q < (places_of f.0.map).shape.max_entries). apart k j p q e.0 f.0 e.1 f.1 ne x y) ql) pl;
+        subst (λ (x : LiveMap). p < x.places.shape.max_entries → IsApart x m p q) e.2
+        (λ (x : p < (places_of e.0.map).shape.max_entries). subst (λ (y : LiveMap). q < y.places.shape.max_entries → IsApart (live_of e.0) y p q) f.2 (λ (y : q < (places_of f.0.map).shape.max_entries). apart k j p q e.0 f.0 e.1 f.1 ne x y) ql) pl;
   }
 
 -- no two keys of a live map have one place
-pub sound_at : (a : Inside) (h : IsWhole a) (k : ℕ) → IsSome (live_at (seen a) k) → IsSound (places_at (seen a) k)
+pub sound_at : (a : Inside) (h : IsWellFormedMaps a) (k : ℕ) → IsSome (live_at (seen a) k) → IsSound (places_at (seen a) k)
 sound_at a h k live =
     let e = some_entry a.slots.slots k live in
-    subst (λ (o : Option Live). IsSound (live_or o).places) (sym (live_by a.slots.slots a.slots.slots k e.0 e.1)) (h.placed k e.0 e.1).sound
+    subst (λ (o : Option LiveMap). IsSound (live_or o).places) (sym (live_by a.slots.slots a.slots.slots k e.0 e.1)) (h.placed k e.0 e.1).sound
 
 -- no field but `refused` is changed
-pub whole_refused : (a : Inside) (refused : Bool) → IsWhole a → IsWhole (record a { refused = refused })
+pub whole_refused : (a : Inside) (refused : Bool) → IsWellFormedMaps a → IsWellFormedMaps (record a { refused = refused })
 whole_refused a refused h = record { placed = h.placed; apart = h.apart; all = h.all; counted = h.counted; room = h.room; sum = h.sum; few = h.few }
 
 -- ---- one slot is changed
 
-module _ (a b : Inside) (k : ℕ) (h : IsWhole a) (others : (j : ℕ) → j ≢ k → get_or b.slots.slots j None ≡ get_or a.slots.slots j None) (room : b.slots.capacity ≡ a.slots.capacity) where
+module _ (a b : Inside) (k : ℕ) (h : IsWellFormedMaps a) (others : (j : ℕ) → j ≢ k → get_or b.slots.slots j None ≡ get_or a.slots.slots j None) (room : b.slots.capacity ≡ a.slots.capacity) where
   still : (j : ℕ) (e : Entry) → j ≢ k → entry_at b j e → entry_at a j e
   still j e ne at = sym (others j ne) ∙ at
 
-  changed : (f : Live → ℕ) → total f (lives b.slots.slots) + weight f (get_or (lives a.slots.slots) k None) ≡ total f (lives a.slots.slots) + weight f (get_or (lives b.slots.slots) k None)
+  changed : (f : LiveMap → ℕ) → total f (lives b.slots.slots) + weight f (get_or (lives a.slots.slots) k None) ≡ total f (lives a.slots.slots) + weight f (get_or (lives b.slots.slots) k None)
   changed f = total_but_one f k (lives a.slots.slots) (lives b.slots.slots) (others_by a.slots.slots b.slots.slots k others)
 
   -- a map that keeps its area
   module _ (e f : Entry) (at : entry_at a k e) (bt : entry_at b k f) (number : f.number ≡ e.number) (stride : f.stride ≡ e.stride) (shape : (places_of f.map).shape ≡ (places_of e.map).shape) (held : 1 ≤ f.holds) (sound : IsSound (places_of f.map)) (taken : b.taken ≡ a.taken) (bytes : b.bytes ≡ a.bytes) where
-    same_total : (w : Live → ℕ) → w (live_of f) ≡ w (live_of e) → total w (lives b.slots.slots) ≡ total w (lives a.slots.slots)
+    same_total : (w : LiveMap → ℕ) → w (live_of f) ≡ w (live_of e) → total w (lives b.slots.slots) ≡ total w (lives a.slots.slots)
     same_total w s =
         let c = changed w in
         let x = ap (weight w) (live_by a.slots.slots b.slots.slots k e at) in
         let y = ap (weight w) (live_by b.slots.slots b.slots.slots k f bt) in
         omega arith
 
-    placed_replaced : (j : ℕ) (g : Entry) → entry_at b j g → IsPlaced b.taken g
+    placed_replaced : (j : ℕ) (g : Entry) → entry_at b j g → IsInItsArea b.taken g
     placed_replaced j g gt =
-        subst (λ (t : List Bool). IsPlaced t g) (sym taken)
+        subst (λ (t : List Bool). IsInItsArea t g) (sym taken)
         (same_or_other j k
         (λ (s : j ≡ k).
         let is : f ≡ g = same_some (get_or b.slots.slots k None) f g bt (ap (λ (i : ℕ). get_or b.slots.slots i None) (sym s) ∙ gt) in
-        subst (λ (x : Entry). IsPlaced a.taken x) is placed_new)
+        subst (λ (x : Entry). IsInItsArea a.taken x) is placed_new)
         (λ (o : j ≢ k). h.placed j g (still j g o gt)))
       where
-        placed_new : IsPlaced a.taken f
+        placed_new : IsInItsArea a.taken f
         placed_new =
             let i = h.placed k e at in
             record {
@@ -129,7 +129,7 @@ module _ (a b : Inside) (k : ℕ) (h : IsWhole a) (others : (j : ℕ) → j ≢ 
         (e, ap (λ (i : ℕ). get_or a.slots.slots i None) s ∙ at, sym number ∙ ap (λ (x : Entry). x.number) is))
         (λ (o : j ≢ k). (g, still j g o gt, refl))
 
-    pub whole_replaced : IsWhole b
+    pub whole_replaced : IsWellFormedMaps b
     whole_replaced = record {
       placed = placed_replaced;
       apart = λ i j g l gt lt same.
@@ -145,7 +145,7 @@ module _ (a b : Inside) (k : ℕ) (h : IsWhole a) (others : (j : ℕ) → j ≢ 
 
   -- a map that is new
   module _ (e : Entry) (at : get_or a.slots.slots k None ≡ None) (bt : entry_at b k e) (below : e.number < MAPS) (free : get_or a.taken e.number false ≡ false) (stride : e.stride ≡ ((places_of e.map).shape.value_size + 7) / 8 * 8) (held : 1 ≤ e.holds) (sound : IsSound (places_of e.map)) (taken : b.taken ≡ set a.taken e.number true) (bytes : b.bytes ≡ a.bytes + area_of (live_of e)) (few : b.bytes ≤ AREA) where
-    more_total : (w : Live → ℕ) → total w (lives b.slots.slots) ≡ total w (lives a.slots.slots) + w (live_of e)
+    more_total : (w : LiveMap → ℕ) → total w (lives b.slots.slots) ≡ total w (lives a.slots.slots) + w (live_of e)
     more_total w =
         let c = changed w in
         let x = ap (weight w) (none_by a.slots.slots b.slots.slots k at) in
@@ -161,13 +161,13 @@ module _ (a b : Inside) (k : ℕ) (h : IsWhole a) (others : (j : ℕ) → j ≢ 
     marked_still : (n : ℕ) → get_or a.taken n false ≡ true → get_or (set a.taken e.number true) n false ≡ true
     marked_still n m = get_or-set_other a.taken e.number n true false (λ (s : n ≡ e.number). true≢false (sym m ∙ ap (λ (i : ℕ). get_or a.taken i false) s ∙ free)) ∙ m
 
-    placed_added : (j : ℕ) (g : Entry) → entry_at b j g → IsPlaced b.taken g
+    placed_added : (j : ℕ) (g : Entry) → entry_at b j g → IsInItsArea b.taken g
     placed_added j g gt =
-        subst (λ (t : List Bool). IsPlaced t g) (sym taken)
+        subst (λ (t : List Bool). IsInItsArea t g) (sym taken)
         (same_or_other j k
         (λ (s : j ≡ k).
         let is : e ≡ g = same_some (get_or b.slots.slots k None) e g bt (ap (λ (i : ℕ). get_or b.slots.slots i None) (sym s) ∙ gt) in
-        subst (λ (x : Entry). IsPlaced (set a.taken e.number true) x) is (record { below = below; marked = marked_new; stride = stride; held = held; sound = sound }))
+        subst (λ (x : Entry). IsInItsArea (set a.taken e.number true) x) is (record { below = below; marked = marked_new; stride = stride; held = held; sound = sound }))
         (λ (o : j ≢ k).
         let i = h.placed j g (still j g o gt) in
         record { below = i.below; marked = marked_still g.number i.marked; stride = i.stride; held = i.held; sound = i.sound }))
@@ -189,7 +189,7 @@ module _ (a b : Inside) (k : ℕ) (h : IsWhole a) (others : (j : ℕ) → j ≢ 
         (λ (t : j ≡ k). absurd (not_other i g o gt (same ∙ is_new j l t lt)))
         (λ (u : j ≢ k). h.apart i j g l (still i g o gt) (still j l u lt) same))
 
-    pub whole_added : IsWhole b
+    pub whole_added : IsWellFormedMaps b
     whole_added = record {
       placed = placed_added;
       apart = apart_added;
@@ -208,7 +208,7 @@ module _ (a b : Inside) (k : ℕ) (h : IsWhole a) (others : (j : ℕ) → j ≢ 
 
   -- a map that goes
   module _ (e : Entry) (at : entry_at a k e) (bt : get_or b.slots.slots k None ≡ None) (taken : b.taken ≡ set a.taken e.number false) (bytes : b.bytes + area_of (live_of e) ≡ a.bytes) where
-    less_total : (w : Live → ℕ) → total w (lives b.slots.slots) + w (live_of e) ≡ total w (lives a.slots.slots)
+    less_total : (w : LiveMap → ℕ) → total w (lives b.slots.slots) + w (live_of e) ≡ total w (lives a.slots.slots)
     less_total w =
         let c = changed w in
         let x = ap (weight w) (live_by a.slots.slots b.slots.slots k e at) in
@@ -221,7 +221,7 @@ module _ (a b : Inside) (k : ℕ) (h : IsWhole a) (others : (j : ℕ) → j ≢ 
     other : (j : ℕ) (g : Entry) → entry_at b j g → j ≢ k
     other j g gt s = none-some g (sym bt ∙ ap (λ (i : ℕ). get_or b.slots.slots i None) (sym s) ∙ gt)
 
-    placed_removed : (j : ℕ) (g : Entry) → entry_at b j g → IsPlaced b.taken g
+    placed_removed : (j : ℕ) (g : Entry) → entry_at b j g → IsInItsArea b.taken g
     placed_removed j g gt =
         let o = other j g gt in
         let gt' = still j g o gt in
@@ -229,7 +229,7 @@ module _ (a b : Inside) (k : ℕ) (h : IsWhole a) (others : (j : ℕ) → j ≢ 
         let ne : g.number ≢ e.number = λ (s : g.number ≡ e.number). o (h.apart j k g e gt' at s) in
         record { below = i.below; marked = ap (λ (t : List Bool). get_or t g.number false) taken ∙ get_or-set_other a.taken e.number g.number false false ne ∙ i.marked; stride = i.stride; held = i.held; sound = i.sound }
 
-    pub whole_removed : IsWhole b
+    pub whole_removed : IsWellFormedMaps b
     whole_removed = record {
       placed = placed_removed;
       apart = λ i j g l gt lt same. h.apart i j g l (still i g (other i g gt) gt) (still j l (other j l lt) lt) same;

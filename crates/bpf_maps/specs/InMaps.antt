@@ -1,19 +1,19 @@
--- How a tenant's live maps are kept.
+-- How a tenant's live maps are kept. This project's own.
 use Rattle.std.specs.Prelude.{◌≡◌, ℕ, ◌+◌, ◌*◌, ◌/◌, ◌<◌, ◌≤◌, Bool, true, false, if◌then◌else◌, List, [], ◌∷◌, length, map, Option, Some, None, option_map, slice_index_or}
-use Rattle.bpf_maps.specs.declared.part.TheConstants.{FRONT, AREA, MAPS}
+use Rattle.bpf_maps.specs.declared.part.TheConstants.{FRONT, AREA, LARGEST_SUM, MAPS}
 use Rattle.bpf_maps.specs.declared.maps.Entry.{Entry}
 use Rattle.bpf_maps.specs.declared.maps.Maps.TheInside.{Inside}
 use Rattle.bpf_maps.specs.Places.{IsSound}
 use Rattle.bpf_maps.specs.Any.{places_of}
-use Rattle.bpf_maps.specs.Live.{Live, Tenant, count, areas}
+use Rattle.bpf_maps.specs.Live.{LiveMap, LiveMaps, count, areas}
 
-abbrev pub live_of : Entry → Live
+abbrev pub live_of : Entry → LiveMap
 live_of e = record { places = places_of e.map; start = FRONT + e.number * AREA; stride = e.stride; holds = e.holds }
 
-abbrev pub lives : List (Option Entry) → List (Option Live)
+abbrev pub lives : List (Option Entry) → List (Option LiveMap)
 lives xs = map (λ o. option_map live_of o) xs
 
-abbrev pub seen : Inside → Tenant
+abbrev pub seen : Inside → LiveMaps
 seen a = record { slots = lives a.slots.slots; refused = a.refused }
 
 -- how many areas are taken
@@ -22,7 +22,7 @@ times_true [] = 0
 times_true (b ∷ bs) = (if b then 1 else 0) + times_true bs
 
 -- a map has an area that is taken, its values are at multiples of eight, one holds it, and no two of its keys have one place
-pub record IsPlaced (taken : List Bool) (e : Entry) : Type 0 where
+pub record IsInItsArea (taken : List Bool) (e : Entry) : Type 0 where
   pub below : e.number < MAPS
   pub marked : slice_index_or taken e.number false ≡ true
   pub stride : e.stride ≡ ((places_of e.map).shape.value_size + 7) / 8 * 8
@@ -30,11 +30,11 @@ pub record IsPlaced (taken : List Bool) (e : Entry) : Type 0 where
   pub sound : IsSound (places_of e.map)
 
 -- each map has an area of its own, and what is counted is right
-pub record IsWhole (a : Inside) : Type 0 where
-  pub placed : (k : ℕ) (e : Entry) → slice_index_or a.slots.slots k None ≡ Some e → IsPlaced a.taken e
+pub record IsWellFormedMaps (a : Inside) : Type 0 where
+  pub placed : (k : ℕ) (e : Entry) → slice_index_or a.slots.slots k None ≡ Some e → IsInItsArea a.taken e
   pub apart : (k j : ℕ) (e f : Entry) → slice_index_or a.slots.slots k None ≡ Some e → slice_index_or a.slots.slots j None ≡ Some f → e.number ≡ f.number → k ≡ j
   pub all : length a.taken ≡ MAPS
   pub counted : times_true a.taken ≡ count (seen a)
   pub room : MAPS ≤ a.slots.capacity
   pub sum : a.bytes ≡ areas (seen a)
-  pub few : a.bytes ≤ AREA
+  pub few : a.bytes ≤ LARGEST_SUM

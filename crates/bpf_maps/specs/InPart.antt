@@ -1,15 +1,16 @@
--- What writes and calls do to live maps, seen as keys with the bytes of their values.
+-- What writes and calls do to live maps, seen as keys with the bytes of their values. The calls are those of bpf(2);
+-- where values lie is this project's own.
 use Rattle.std.specs.Prelude.{◌≡◌, ◌≢◌, ℕ, ◌<◌, List, length, take, Some, IsSome, Ok}
 use Rattle.interval.specs.Bytes.{written_at}
 use Rattle.tagged_model.specs.Table as map
 use Rattle.bpf_maps.specs.declared.part.TheConstants.{FRONT, PART}
 use Rattle.bpf_maps.specs.Places.{table_of, Claims, with_kept, after_run}
-use Rattle.bpf_maps.specs.Live.{Tenant, live_at, places_at, shape_at, offset_at, value_in, map_in, IsLaid, AreSound, SameAreas}
+use Rattle.bpf_maps.specs.Live.{LiveMaps, live_at, places_at, shape_at, offset_at, value_in, map_in, IsLaid, AreSound, SameAreas}
 
 -- ---- a value is written
 
 -- bytes for the value at a place of a live map
-pub record IsValueAt (part : List ℕ) (t : Tenant) (k p : ℕ) (bytes : List ℕ) : Type 0 where
+pub record IsValueAt (part : List ℕ) (t : LiveMaps) (k p : ℕ) (bytes : List ℕ) : Type 0 where
   pub whole : length part ≡ PART
   pub laid : IsLaid t
   pub sound : AreSound t
@@ -18,11 +19,11 @@ pub record IsValueAt (part : List ℕ) (t : Tenant) (k p : ℕ) (bytes : List �
   pub size : length bytes ≡ (shape_at t k).value_size
 
 -- a part with these bytes at a place of the map under a key
-abbrev pub with_value : List ℕ → Tenant → ℕ → ℕ → List ℕ → List ℕ
+abbrev pub with_value : List ℕ → LiveMaps → ℕ → ℕ → List ℕ → List ℕ
 with_value part t k p bytes = written_at part (offset_at t k p) bytes
 
 -- the value is there, and the key of the place has it; no other value of a live map changes, and neither does the front
-pub record ValueIsWritten (part : List ℕ) (t : Tenant) (k p : ℕ) (bytes : List ℕ) : Type 0 where
+pub record ValueIsWritten (part : List ℕ) (t : LiveMaps) (k p : ℕ) (bytes : List ℕ) : Type 0 where
   pub here : value_in (with_value part t k p bytes) t k p ≡ bytes
   pub elsewhere : (j q : ℕ) → IsSome (live_at t j) → q < (shape_at t j).max_entries → (j ≡ k → q ≢ p) → value_in (with_value part t k p bytes) t j q ≡ value_in part t j q
   pub key : (key : List ℕ) → map.look_up (table_of (places_at t k)) key ≡ Some p → map_in (with_value part t k p bytes) t k ≡ map.with_object (map_in part t k) key bytes
@@ -31,7 +32,7 @@ pub record ValueIsWritten (part : List ℕ) (t : Tenant) (k p : ℕ) (bytes : Li
   pub size : length (with_value part t k p bytes) ≡ PART
 
 abbrev pub ValuesAreWritten : Type 0
-ValuesAreWritten = (part : List ℕ) (t : Tenant) (k p : ℕ) (bytes : List ℕ) → IsValueAt part t k p bytes → ValueIsWritten part t k p bytes
+ValuesAreWritten = (part : List ℕ) (t : LiveMaps) (k p : ℕ) (bytes : List ℕ) → IsValueAt part t k p bytes → ValueIsWritten part t k p bytes
 
 -- ---- a map changes, and its area stays
 
@@ -41,16 +42,16 @@ updated (map.Refused fault) t key value = t
 updated (map.Present old) t key value = map.with_object t key value
 updated map.New t key value = map.with_new t key value
 
-abbrev pub updated_in : List ℕ → Tenant → ℕ → List ℕ → List ℕ → ℕ → map.Table (List ℕ)
+abbrev pub updated_in : List ℕ → LiveMaps → ℕ → List ℕ → List ℕ → ℕ → map.Table (List ℕ)
 updated_in part t k key value flags = updated (map.verdict (map_in part t k) key flags) (map_in part t k) key value
 
 -- the map of values changes as that of places does, where a claim is followed by the write of its value
-pub record GoesAlong (part : List ℕ) (old new : Tenant) (k : ℕ) : Type 0 where
+pub record RefinesValues (part : List ℕ) (old new : LiveMaps) (k : ℕ) : Type 0 where
   pub same : places_at new k ≡ places_at old k → map_in part new k ≡ map_in part old k
   pub delete : (key : List ℕ) (place : ℕ) → places_at new k ≡ with_kept (places_at old k) key place → map_in part new k ≡ map.with_deleted (map_in part old k) key
   pub end : places_at new k ≡ after_run (places_at old k) → map_in part new k ≡ map.after_run (map_in part old k)
   pub update : (flags p : ℕ) (key bytes : List ℕ) → IsValueAt part new k p bytes → Claims (map.verdict (table_of (places_at old k)) key flags) key (places_at old k) (Ok p) (places_at new k)
       → map_in (with_value part new k p bytes) new k ≡ updated_in part old k key bytes flags
 
-abbrev pub LiveMapsGoAlong : Type 0
-LiveMapsGoAlong = (part : List ℕ) (old new : Tenant) (k : ℕ) → SameAreas old new → IsSome (live_at new k) → GoesAlong part old new k
+abbrev pub LiveMapsRefineValues : Type 0
+LiveMapsRefineValues = (part : List ℕ) (old new : LiveMaps) (k : ℕ) → SameAreas old new → IsSome (live_at new k) → RefinesValues part old new k

@@ -1,4 +1,4 @@
--- How the two kinds of map are kept.
+-- How the two kinds of map are kept. This project's own.
 use Rattle.std.specs.Prelude.{◌≡◌, ℕ, ◌+◌, ◌≤◌, List, length, map, nat_lt, if◌then◌else◌, vec_capacity}
 use Rattle.std.specs.Map.{values_of}
 use Rattle.std.specs.declared.vec.Vec.{Vec}
@@ -14,7 +14,7 @@ abbrev pub shown : Inside → PlaceTable
 shown a = record { shape = a.shape; entries = bare a.index.entries; kept = a.kept.items }
 
 -- each place is in use, or kept apart, or free, and there is room to keep all places apart and to free them
-pub record IsKept (a : Inside) : Type 0 where
+pub record IsWellFormedHash (a : Inside) : Type 0 where
   pub kind : a.shape.kind ≡ Hash
   pub once : (p : ℕ) → times p (values_of (bare a.index.entries)) + times p a.kept.items + times p a.free.items ≡ (if nat_lt p a.shape.max_entries then 1 else 0)
   pub all : length a.index.entries + length a.kept.items + length a.free.items ≡ a.shape.max_entries

@@ -1,11 +1,12 @@
--- What the calls leave, seen as a map, is what the definition of a map says: as a map of places, and as one of values.
+-- What the calls leave, seen as a map, is what the definition of a map says: as a map of places, and as one of
+-- values. This project's own.
 use Rattle.std.specs.Prelude.{◌≡◌, ℕ, ◌+◌, ◌<◌, ◌≤◌, ◌==◌, if◌then◌else◌, List, Some, IsSome}
 use Rattle.std.specs.Map.{values_of}
 use Rattle.tagged_model.specs.declared.shape.MapShape.{MapShape}
 use Rattle.tagged_model.specs.Table as map
-pub use Rattle.tagged_model.specs.MapLaws.{CallsGoAlong}
+pub use Rattle.tagged_model.specs.MapLaws.{CallsRefineValues}
 use Rattle.bpf_maps.specs.Places.{PlaceTable, table_of, times, IsSound, new_places, with_place, with_kept, after_run}
-use Rattle.bpf_maps.specs.Live.{Tenant, live_at, offset_at, SameAreas}
+use Rattle.bpf_maps.specs.Live.{LiveMaps, live_at, offset_at, SameAreas}
 
 -- as a map of places
 
@@ -16,8 +17,8 @@ pub record CallsAreThoseOfAMap : Type 0 where
   pub end : (t : PlaceTable) → table_of (after_run t) ≡ map.after_run (table_of t)
 
 -- to write a value at a place is to give its key another object
-abbrev pub WritesGoAlong : Type 0 → Type 0
-WritesGoAlong B =
+abbrev pub WritesRefineValues : Type 0 → Type 0
+WritesRefineValues B =
     (value : ℕ → B) (t : PlaceTable) (key : List ℕ) (place : ℕ) (bytes : B) → IsSound t → map.look_up (table_of t) key ≡ Some place
     → map.with_values (λ p. if p == place then bytes else value p) (table_of t) ≡ map.with_object (map.with_values value (table_of t)) key bytes
 
@@ -35,7 +36,7 @@ PlacesAreWithin = (t : PlaceTable) (p : ℕ) → IsSound t → 1 ≤ times p (va
 
 -- the same areas keep where each value lies
 abbrev pub AreasKeepPlaces : Type 0
-AreasKeepPlaces = (old new : Tenant) (k p : ℕ) → SameAreas old new → IsSome (live_at new k) → offset_at new k p ≡ offset_at old k p
+AreasKeepPlaces = (old new : LiveMaps) (k p : ℕ) → SameAreas old new → IsSome (live_at new k) → offset_at new k p ≡ offset_at old k p
 
 -- a delete keeps each place in use: that of the key is kept apart
 abbrev pub DeletesKeepPlaces : Type 0

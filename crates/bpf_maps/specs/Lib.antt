@@ -5,3 +5,4 @@ pub mod Any
 pub mod Live
 pub mod InMaps
 pub mod InPart
+pub mod inside

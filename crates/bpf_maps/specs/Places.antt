@@ -1,6 +1,6 @@
--- A map with places for objects, and what its calls may answer and leave. The places of the keys that a run deleted are kept
--- apart until it ends.
-use Rattle.std.specs.Prelude.{◌≡◌, ℕ, ◌+◌, ◌<◌, ◌≤◌, nat_eq, nat_lt, if◌then◌else◌, List, [], ◌∷◌, ◌++◌, drop, length, Option, Some, None, option_map, Result, Ok, Err}
+-- A map with places for objects, and what its calls may answer and leave. The places of the keys that a run deleted
+-- are kept apart until it ends. The calls are those of bpf(2); places are this project's own.
+use Rattle.std.specs.Prelude.{◌≡◌, ℕ, ◌+◌, ◌<◌, ◌≤◌, nat_eq, nat_lt, if◌then◌else◌, List, [], ◌∷◌, ◌++◌, drop, length, Option, Some, None, Result, Ok, Err}
 use Rattle.std.specs.Map.{keys_of, values_of}
 use Rattle.tagged_model.specs.declared.shape.MapKind.TheVariants.{Array}
 use Rattle.tagged_model.specs.declared.shape.MapShape.{MapShape}
@@ -73,10 +73,6 @@ with_kept t key p = record { shape = t.shape; entries = without key t.entries; k
 abbrev pub Removes : Result ℕ MapFault → List ℕ → PlaceTable → Result (Unit {0}) MapFault → PlaceTable → Type 0
 Removes (Err fault) key old answer new = (answer ≡ Err fault) × (new ≡ old)
 Removes (Ok p) key old answer new = (answer ≡ Ok tt) × (new ≡ with_kept old key p)
-
--- the key of an entry, if there is one
-abbrev pub key_of : Option (List ℕ × ℕ) → Option (List ℕ)
-key_of o = option_map (λ e. e.0) o
 
 -- what a request for the next key answers and leaves in the room that is given
 abbrev pub GivesKey : Option (List ℕ) → List ℕ → Result (Unit {0}) MapFault → List ℕ → Type 0

@@ -7,6 +7,7 @@ ghost use Rattle.bpf_maps.specs.Any.{places_of};
 
 use crate::array_map::ArrayMap;
 use crate::hash_map::HashMapIx;
+use crate::part::KEY_ROOM;
 use crate::value_map::ValueMap;
 use std::alloc::{AllocError, Global};
 use tagged_model::{MapFault, MapKind, MapShape};
@@ -65,7 +66,7 @@ impl ValueMap for AnyMap {
         }
     }
 
-    fn next_key(&self, key: &[u8], next: &mut [u8; 64]) -> Result<(), MapFault> {
+    fn next_key(&self, key: &[u8], next: &mut [u8; KEY_ROOM]) -> Result<(), MapFault> {
         match self {
             AnyMap::Array(map) => map.next_key(key, next),
             AnyMap::Hash(map) => map.next_key(key, next),

@@ -5,6 +5,7 @@ ghost use Rattle.tagged_model.specs.declared.shape.MapKind.TheVariants.{Array};
 ghost use Rattle.tagged_model.specs.Table.{look_up, next_of, index_key};
 ghost use Rattle.bpf_maps.specs.Places.{PlaceTable, table_of, IsSound, new_places};
 
+use crate::part::KEY_ROOM;
 use crate::value_map::{EXIST, NOEXIST, ValueMap, put_key};
 use std::marker::Model;
 use tagged_model::{MapFault, MapShape};
@@ -74,7 +75,8 @@ impl ArrayMap {
     /// The index that follows a key, which may be the one behind the last. An empty or unknown key is followed by the first.
     fn index_after(&self, key: &[u8]) -> u32
         requires size { (key.now ≡ []) ⊎ (length key.now ≡ self.now.shape.key_size) }
-        ensures next { next_of (table_of self.now) key.now ≡ (if nat_lt result self.now.shape.max_entries then Some (index_key result) else None) }
+        ensures next { next_of (table_of self.now) key.now
+            ≡ (if nat_lt result self.now.shape.max_entries then Some (index_key result) else None) }
     {
         self.is_array();
         if key.is_empty() {
@@ -118,7 +120,7 @@ impl ValueMap for ArrayMap {
         Err(MapFault::Invalid)
     }
 
-    fn next_key(&self, key: &[u8], next: &mut [u8; 64]) -> Result<(), MapFault> {
+    fn next_key(&self, key: &[u8], next: &mut [u8; KEY_ROOM]) -> Result<(), MapFault> {
         let index = self.index_after(key);
         if index >= self.shape.max_entries {
             return Err(MapFault::NoEntry);

@@ -7,7 +7,7 @@ ghost use Rattle.bpf_maps.specs.declared.part.TheConstants.{PART};
 ghost use Rattle.bpf_maps.specs.Live.{live_at, shape_at, holds_at, map_in, SameValues, KeepsMap, KeepsMaps, KeepsOthers, SameRoom};
 ghost use Rattle.bpf_maps.specs.InPart.{updated_in};
 
-use crate::laws::{live_maps_go_along, values_agree, values_are_written};
+use crate::laws::{live_maps_refine_values, values_agree, values_are_written};
 use crate::maps::{MapKey, Maps};
 use crate::value_map::ANY;
 use std::alloc::Global;
@@ -32,9 +32,9 @@ fn update(
     ensures others { KeepsOthers map maps.old part.old maps.new part.new }
 {
     values_are_written();
-    live_maps_go_along();
+    live_maps_refine_values();
     let place = maps.claim(map, key, flags)?;
-    maps.is_laid();
+    maps.maps_are_laid();
     let start = maps.value_at(map, place);
     part[start..start + value.len()].copy_from_slice(value);
     Ok(())
@@ -49,7 +49,7 @@ fn delete(maps: &mut Maps, map: MapKey, key: &[u8], part: &[u8]) -> Result<(), M
     ensures refused { OnErr result (KeepsMap map maps.old part.now maps.new part.now) }
     ensures others { KeepsOthers map maps.old part.now maps.new part.now }
 {
-    live_maps_go_along();
+    live_maps_refine_values();
     maps.remove(map, key)?;
     maps.end_run(map);
     Ok(())
@@ -61,7 +61,7 @@ fn is_unchanged(maps: &Maps, map: MapKey, before: &[u8], after: &[u8])
     requires values { SameValues maps.now before.now maps.now after.now }
     ensures { map_in after.now maps.now map ≡ map_in before.now maps.now map }
 {
-    maps.is_laid();
+    maps.maps_are_laid();
     values_agree();
 }
 
@@ -85,7 +85,7 @@ fn make_again(maps: &mut Maps, map: MapKey, part: &mut [u8]) -> Result<MapKey, M
     ensures room { result ≢ Err NoSpace }
     ensures others { KeepsOthers map maps.old part.old maps.new part.new }
 {
-    maps.is_laid();
+    maps.maps_are_laid();
     let shape = maps.shape(map);
     maps.release(map, part);
     maps.create(shape, part)
@@ -126,7 +126,7 @@ fn hold_and_release(maps: &mut Maps, map: MapKey, part: &mut [u8])
     requires part { length part.old ≡ PART }
     ensures { KeepsMaps maps.old part.old maps.new part.new }
 {
-    live_maps_go_along();
+    live_maps_refine_values();
     maps.hold(map);
     maps.release(map, part);
 }

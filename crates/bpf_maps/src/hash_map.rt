@@ -3,8 +3,10 @@
 ghost use Rattle.std.specs.Prelude.{◌≡◌, ℕ, ◌<◌, ◌≤◌, None, IfOk, IfSome, nat_lt, if◌then◌else◌, vec_len, vec_capacity, length, slice_get};
 ghost use Rattle.tagged_model.specs.declared.shape.MapKind.TheVariants.{Hash};
 ghost use Rattle.tagged_model.specs.Table.{look_up, of_absent, is_full, verdict, removal, next_of};
-ghost use Rattle.bpf_maps.specs.Places.{PlaceTable, table_of, IsSound, Claims, Removes, GivesKey, key_of, new_places, after_run, times};
+ghost use Rattle.bpf_maps.specs.Places.{PlaceTable, table_of, IsSound, Claims, Removes, GivesKey, new_places, after_run, times};
+ghost use Rattle.bpf_maps.specs.inside.Keys.{key_of};
 
+use crate::part::KEY_ROOM;
 use crate::value_map::{EXIST, NOEXIST, ValueMap, put_key};
 use indexmap::IndexMap;
 use std::alloc::{AllocError, Global};
@@ -28,11 +30,11 @@ impl Model for HashMapIx {
 
     ghost Value = { PlaceTable };
 
-    ghost use Rattle.bpf_maps.specs.Index.{shown, IsKept};
+    ghost use Rattle.bpf_maps.specs.Index.{shown, IsWellFormedHash};
 
     ghost view = { shown };
 
-    ghost invariant = { IsKept };
+    ghost invariant = { IsWellFormedHash };
 }
 
 impl HashMapIx {
@@ -91,7 +93,8 @@ impl HashMapIx {
     fn add(&mut self, key: &[u8]) -> Result<u32, MapFault>
         requires absent { look_up (table_of self.old) key.now ≡ None }
         requires size { length key.now ≡ self.old.shape.key_size }
-        ensures claimed { Claims (of_absent Hash (is_full (table_of self.old)) 0) key.now self.old result self.new }
+        ensures claimed { Claims (of_absent Hash (is_full (table_of self.old)) 0) key.now self.old
+            result self.new }
         ensures sound { IsSound self.new }
     {
         let Some(place) = self.free.last().copied() else {
@@ -148,7 +151,7 @@ impl ValueMap for HashMapIx {
         Ok(())
     }
 
-    fn next_key(&self, key: &[u8], next: &mut [u8; 64]) -> Result<(), MapFault> {
+    fn next_key(&self, key: &[u8], next: &mut [u8; KEY_ROOM]) -> Result<(), MapFault> {
         let Some((following, _)) = self.index.get_index(self.index_after(key)) else {
             return Err(MapFault::NoEntry);
         };
@@ -173,7 +176,8 @@ fn copy_of(alloc: Global, key: &[u8]) -> Result<Vec<u8>, AllocError>
 
 /// All places below a number.
 fn all_places(alloc: Global, count: u32) -> Result<Vec<u32>, AllocError>
-    ensures once { IfOk result (λ all. (p : ℕ) → times p all.items ≡ (if nat_lt p count then 1 else 0)) }
+    ensures once { IfOk result (λ all. (p : ℕ) → times p all.items
+        ≡ (if nat_lt p count then 1 else 0)) }
     ensures length { IfOk result (λ all. vec_len all ≡ count) }
     ensures room { IfOk result (λ all. count ≤ vec_capacity all) }
 {

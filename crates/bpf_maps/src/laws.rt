@@ -1,10 +1,10 @@
 //! Laws of the tables of places. Each is the contract of a function that does nothing.
 
 ghost use Rattle.std.specs.Prelude.{ℕ, List};
-ghost use Rattle.bpf_maps.specs.Laws.{CallsAreThoseOfAMap, WritesGoAlong, ValuesAgree, PlacesAreWithin, AreasKeepPlaces, DeletesKeepPlaces};
-ghost use Rattle.bpf_maps.specs.InPart.{ValuesAreWritten, LiveMapsGoAlong};
+ghost use Rattle.bpf_maps.specs.Laws.{CallsAreThoseOfAMap, WritesRefineValues, ValuesAgree, PlacesAreWithin, AreasKeepPlaces, DeletesKeepPlaces};
+ghost use Rattle.bpf_maps.specs.InPart.{ValuesAreWritten, LiveMapsRefineValues};
 
-use tagged_model::{calls_go_along, map_verdicts_tell};
+use tagged_model::{calls_refine_values, map_verdicts_match_look_ups};
 
 /// A table of places changes as the definition of a map says: a new map, a new key, a delete, and the end of a run.
 pub fn calls_are_those_of_a_map()
@@ -12,8 +12,8 @@ pub fn calls_are_those_of_a_map()
 {}
 
 /// To write what stands at the place of a key is to give that key another object.
-pub fn writes_go_along()
-    ensures { WritesGoAlong (List ℕ) }
+pub fn writes_refine_values()
+    ensures { WritesRefineValues (List ℕ) }
 {}
 
 /// Values that agree on the places in use give one map, and each place in use is one of the map.
@@ -40,9 +40,9 @@ pub fn values_are_written()
 
 /// A live map, seen with the bytes of its values, changes as its places do: by a delete, by the end of a run, and by a claim
 /// that is followed by the write of the value.
-pub fn live_maps_go_along()
-    ensures { LiveMapsGoAlong }
+pub fn live_maps_refine_values()
+    ensures { LiveMapsRefineValues }
 {
-    calls_go_along();
-    map_verdicts_tell();
+    calls_refine_values();
+    map_verdicts_match_look_ups();
 }

@@ -17,10 +17,10 @@ pub use any_map::AnyMap;
 pub use array_map::ArrayMap;
 pub use hash_map::HashMapIx;
 pub use laws::{
-    areas_keep_places, calls_are_those_of_a_map, deletes_keep_places, live_maps_go_along,
-    values_agree, values_are_written, writes_go_along,
+    areas_keep_places, calls_are_those_of_a_map, deletes_keep_places, live_maps_refine_values,
+    values_agree, values_are_written, writes_refine_values,
 };
 pub use maps::{MapKey, Maps};
-pub use part::{AREA, FRONT, MAPS, PART};
-pub use tagged_model::{MapFault, calls_go_along};
+pub use part::{AREA, FRONT, KEY_ROOM, LARGEST_SUM, MAPS, PART};
+pub use tagged_model::{MapFault, calls_refine_values};
 pub use value_map::{ANY, EXIST, NOEXIST, ValueMap};

@@ -3,13 +3,13 @@
 ghost use Rattle.std.specs.Prelude.{◌≡◌, ◌≢◌, ℕ, ◌+◌, ◌-◌, ◌<◌, ◌≤◌, ◌^◌, ◌⊎◌, ◌||◌, true, false, if◌then◌else◌, [], length, take, replicate, option_map, Some, None, IfSome, IfNone, IfOk, OnErr, IsSome, slice_index_or};
 ghost use Rattle.tagged_model.specs.declared.shape.MapKind.TheVariants.{Array};
 ghost use Rattle.tagged_model.specs.Table.{look_up, verdict, removal, next_of, new_table};
-ghost use Rattle.bpf_maps.specs.declared.part.TheConstants.{PART, FRONT, MAPS, AREA};
+ghost use Rattle.bpf_maps.specs.declared.part.TheConstants.{PART, FRONT, MAPS, AREA, LARGEST_SUM};
 ghost use Rattle.bpf_maps.specs.Places.{table_of, IsSound, Claims, Removes, GivesKey, after_run};
-ghost use Rattle.bpf_maps.specs.Live.{live_at, places_at, shape_at, holds_at, held_at, offset_at, value_in, map_in, IsInside, IsLaid, AreSound, SameAreas, SameValues, KeepsMap, KeepsMaps, KeepsOthers, count, areas, SameRoom, HasOneMore, create_fault, Creates, one_more, one_less, is_memory};
+ghost use Rattle.bpf_maps.specs.Live.{live_at, places_at, shape_at, holds_at, held_at, offset_at, value_in, map_in, LiesInPart, IsLaid, AreSound, SameAreas, SameValues, KeepsMap, KeepsMaps, KeepsOthers, count, areas, SameRoom, HasOneMore, create_fault, Creates, one_more, one_less, is_memory};
 ghost use Rattle.bpf_maps.specs.InMaps.{times_true};
 
 use crate::any_map::AnyMap;
-use crate::part::{AREA, FRONT, MAPS, PART, clear};
+use crate::part::{AREA, FRONT, KEY_ROOM, LARGEST_SUM, MAPS, PART, clear};
 use crate::value_map::ValueMap;
 use slab::Slab;
 use std::alloc::{AllocError, Global};
@@ -56,15 +56,15 @@ struct Entry {
 }
 
 impl Model for Maps {
-    ghost use Rattle.bpf_maps.specs.Live.{Tenant};
+    ghost use Rattle.bpf_maps.specs.Live.{LiveMaps};
 
-    ghost Value = { Tenant };
+    ghost Value = { LiveMaps };
 
-    ghost use Rattle.bpf_maps.specs.InMaps.{seen, IsWhole};
+    ghost use Rattle.bpf_maps.specs.InMaps.{seen, IsWellFormedMaps};
 
     ghost view = { seen };
 
-    ghost invariant = { IsWhole };
+    ghost invariant = { IsWellFormedMaps };
 }
 
 impl Maps {
@@ -87,11 +87,11 @@ impl Maps {
     /// A law: the values of all live maps lie inside and apart, no two keys of a live map have one place, and there are no more
     /// than sixteen maps, whose values take no more than 65,536 bytes. It does nothing when it runs.
     #[inline(always)]
-    pub fn is_laid(&self)
+    pub fn maps_are_laid(&self)
         ensures laid { IsLaid self.now }
         ensures sound { AreSound self.now }
         ensures maps { count self.now ≤ MAPS }
-        ensures bytes { areas self.now ≤ AREA }
+        ensures bytes { areas self.now ≤ LARGEST_SUM }
     {
         let _ = &self.slots;
     }
@@ -106,10 +106,13 @@ impl Maps {
     pub fn create(&mut self, shape: MapShape, part: &mut [u8]) -> Result<MapKey, MapFault>
         requires { length part.old ≡ PART }
         ensures created { Creates (create_fault self.old shape) self.old shape result self.new }
-        ensures older { (map : ℕ) → IsSome (live_at self.old map) → live_at self.new map ≡ live_at self.old map }
+        ensures older { (map : ℕ) → IsSome (live_at self.old map) → live_at self.new map
+            ≡ live_at self.old map }
         ensures laid { IsLaid self.new }
-        ensures cleared { IfOk result (λ k. shape.kind ≡ Array → (p : ℕ) → p < shape.max_entries → value_in part.new self.new k p ≡ replicate shape.value_size 0) }
-        ensures fresh { IfOk result (λ k. map_in part.new self.new k ≡ new_table (λ i. replicate shape.value_size 0) shape) }
+        ensures cleared { IfOk result (λ k. shape.kind ≡ Array → (p : ℕ) → p < shape.max_entries
+            → value_in part.new self.new k p ≡ replicate shape.value_size 0) }
+        ensures fresh { IfOk result (λ k. map_in part.new self.new k ≡ new_table
+            (λ i. replicate shape.value_size 0) shape) }
         ensures values { SameValues self.old part.old self.new part.new }
         ensures maps { KeepsMaps self.old part.old self.new part.new }
         ensures more { IfOk result (λ k. HasOneMore self.old self.new shape) }
@@ -146,7 +149,8 @@ impl Maps {
         ensures holds { holds_at self.new map ≡ holds_at self.old map + 1 }
         ensures places { places_at self.new map ≡ places_at self.old map }
         ensures shape { shape_at self.new map ≡ shape_at self.old map }
-        ensures others { (other : ℕ) → other ≢ map → live_at self.new other ≡ live_at self.old other }
+        ensures others { (other : ℕ) → other ≢ map → live_at self.new other
+            ≡ live_at self.old other }
         ensures areas { SameAreas self.old self.new }
         ensures room { SameRoom self.old self.new }
         ensures refused { self.new.refused ≡ self.old.refused }
@@ -164,14 +168,17 @@ impl Maps {
         ensures stays { 1 < holds_at self.old map → IsSome (live_at self.new map) }
         ensures shape { 1 < holds_at self.old map → shape_at self.new map ≡ shape_at self.old map }
         ensures gone { holds_at self.old map ≤ 1 → live_at self.new map ≡ None }
-        ensures others { (other : ℕ) → other ≢ map → held_at self.new other ≡ held_at self.old other }
+        ensures others { (other : ℕ) → other ≢ map → held_at self.new other
+            ≡ held_at self.old other }
         ensures refused { self.new.refused ≡ self.old.refused }
         ensures laid { IsLaid self.new }
         ensures values { SameValues self.old part.old self.new part.new }
         ensures maps { KeepsOthers map self.old part.old self.new part.new }
-        ensures kept { 1 < holds_at self.old map → KeepsMap map self.old part.old self.new part.new }
+        ensures kept { 1 < holds_at self.old map
+            → KeepsMap map self.old part.old self.new part.new }
         ensures room { 1 < holds_at self.old map → SameRoom self.old self.new }
-        ensures freed { holds_at self.old map ≤ 1 → HasOneMore self.new self.old (shape_at self.old map) }
+        ensures freed { holds_at self.old map ≤ 1
+            → HasOneMore self.new self.old (shape_at self.old map) }
         ensures front { take FRONT part.new ≡ take FRONT part.old }
         ensures length { length part.new ≡ PART }
     {
@@ -217,7 +224,7 @@ impl Maps {
         requires live { IsSome (live_at self.now map) }
         requires place { place < (shape_at self.now map).max_entries }
         ensures offset { result ≡ offset_at self.now map place }
-        ensures inside { IsInside result (shape_at self.now map).value_size }
+        ensures inside { LiesInPart result (shape_at self.now map).value_size }
         ensures laid { IsLaid self.now }
     {
         let entry = &self.slots[map.number];
@@ -246,13 +253,15 @@ impl Maps {
     pub fn claim(&mut self, map: MapKey, key: &[u8], flags: u64) -> Result<u32, MapFault>
         requires live { IsSome (live_at self.old map) }
         requires size { length key.now ≡ (shape_at self.old map).key_size }
-        ensures claimed { Claims (verdict (table_of (places_at self.old map)) key.now flags) key.now (places_at self.old map) result (places_at self.new map) }
+        ensures claimed { Claims (verdict (table_of (places_at self.old map)) key.now flags) key.now
+            (places_at self.old map) result (places_at self.new map) }
         ensures within { IfOk result (λ place. place < (shape_at self.new map).max_entries) }
         ensures sound { IsSound (places_at self.new map) }
         ensures live { IsSome (live_at self.new map) }
         ensures holds { holds_at self.new map ≡ holds_at self.old map }
         ensures shape { shape_at self.new map ≡ shape_at self.old map }
-        ensures others { (other : ℕ) → other ≢ map → live_at self.new other ≡ live_at self.old other }
+        ensures others { (other : ℕ) → other ≢ map → live_at self.new other
+            ≡ live_at self.old other }
         ensures areas { SameAreas self.old self.new }
         ensures room { SameRoom self.old self.new }
         ensures laid { IsLaid self.new }
@@ -272,12 +281,14 @@ impl Maps {
     pub fn remove(&mut self, map: MapKey, key: &[u8]) -> Result<(), MapFault>
         requires live { IsSome (live_at self.old map) }
         requires size { length key.now ≡ (shape_at self.old map).key_size }
-        ensures removed { Removes (removal (table_of (places_at self.old map)) key.now) key.now (places_at self.old map) result (places_at self.new map) }
+        ensures removed { Removes (removal (table_of (places_at self.old map)) key.now) key.now
+            (places_at self.old map) result (places_at self.new map) }
         ensures sound { IsSound (places_at self.new map) }
         ensures live { IsSome (live_at self.new map) }
         ensures holds { holds_at self.new map ≡ holds_at self.old map }
         ensures shape { shape_at self.new map ≡ shape_at self.old map }
-        ensures others { (other : ℕ) → other ≢ map → live_at self.new other ≡ live_at self.old other }
+        ensures others { (other : ℕ) → other ≢ map → live_at self.new other
+            ≡ live_at self.old other }
         ensures areas { SameAreas self.old self.new }
         ensures room { SameRoom self.old self.new }
         ensures laid { IsLaid self.new }
@@ -292,10 +303,16 @@ impl Maps {
     /// # Errors
     ///
     /// `NoEntry` where no key follows; `next` stays as it was then.
-    pub fn next_key(&self, map: MapKey, key: &[u8], next: &mut [u8; 64]) -> Result<(), MapFault>
+    pub fn next_key(
+        &self,
+        map: MapKey,
+        key: &[u8],
+        next: &mut [u8; KEY_ROOM],
+    ) -> Result<(), MapFault>
         requires live { IsSome (live_at self.now map) }
         requires size { (key.now ≡ []) ⊎ (length key.now ≡ (shape_at self.now map).key_size) }
-        ensures given { GivesKey (next_of (table_of (places_at self.now map)) key.now) next.old result next.new }
+        ensures given { GivesKey (next_of (table_of (places_at self.now map)) key.now) next.old
+            result next.new }
     {
         let entry = &self.slots[map.number];
         entry.map.next_key(key, next)
@@ -309,7 +326,8 @@ impl Maps {
         ensures live { IsSome (live_at self.new map) }
         ensures holds { holds_at self.new map ≡ holds_at self.old map }
         ensures shape { shape_at self.new map ≡ shape_at self.old map }
-        ensures others { (other : ℕ) → other ≢ map → live_at self.new other ≡ live_at self.old other }
+        ensures others { (other : ℕ) → other ≢ map → live_at self.new other
+            ≡ live_at self.old other }
         ensures areas { SameAreas self.old self.new }
         ensures room { SameRoom self.old self.new }
         ensures laid { IsLaid self.new }
@@ -322,14 +340,16 @@ impl Maps {
 
 /// The lowest area that is free, where there is room for so many bytes more.
 fn area_for(taken: &[bool; MAPS], bytes: usize, size: usize) -> Option<usize>
-    requires bytes { bytes ≤ AREA }
+    requires bytes { bytes ≤ LARGEST_SUM }
     requires size { size ≤ AREA }
-    ensures room { IfSome result (λ number. bytes + size ≤ AREA) }
-    ensures free { IfSome result (λ number. (number < MAPS) × (slice_index_or taken.now number false ≡ false)) }
-    ensures lowest { IfSome result (λ number. (i : ℕ) → i < number → slice_index_or taken.now i false ≡ true) }
-    ensures none { IfNone result ((AREA < bytes + size) ⊎ (times_true taken.now ≡ MAPS)) }
+    ensures room { IfSome result (λ number. bytes + size ≤ LARGEST_SUM) }
+    ensures free { IfSome result (λ number. (number < MAPS)
+        × (slice_index_or taken.now number false ≡ false)) }
+    ensures lowest { IfSome result (λ number. (i : ℕ) → i < number
+        → slice_index_or taken.now i false ≡ true) }
+    ensures none { IfNone result ((LARGEST_SUM < bytes + size) ⊎ (times_true taken.now ≡ MAPS)) }
 {
-    if bytes + size > AREA {
+    if bytes + size > LARGEST_SUM {
         return None;
     }
     for (number, taken) in taken.iter().enumerate() {

@@ -2,17 +2,29 @@
 
 ghost use Rattle.std.specs.Prelude.{◌≡◌, ◌+◌, ◌≤◌, ◌++◌, length, take, drop, replicate};
 
-/// The bytes before the areas: 512 of stack, and 64 of context.
-pub const FRONT: usize = 512 + 64;
+use reg_kinds::STACK_SIZE;
+use tagged_model::{LARGEST_AREA, LONGEST_KEY};
 
-/// The bytes of an area. The values of all maps of a tenant may take as many together.
-pub const AREA: usize = 65_536;
+/// Room for the words of the context, which take 44 bytes.
+const CONTEXT_ROOM: usize = 64;
+
+/// The bytes before the areas: the stack and the context.
+pub const FRONT: usize = STACK_SIZE + CONTEXT_ROOM;
+
+/// The bytes of an area: the values of a map may take as many.
+pub const AREA: usize = LARGEST_AREA as usize;
 
 /// How many live maps a tenant may have.
 pub const MAPS: usize = 16;
 
+/// How many bytes the values of a tenant's live maps may take together.
+pub const LARGEST_SUM: usize = 65_536;
+
 /// The bytes of a part.
 pub const PART: usize = FRONT + MAPS * AREA;
+
+/// The bytes of the longest key.
+pub const KEY_ROOM: usize = LONGEST_KEY as usize;
 
 /// Writes zeros over so many bytes of a part.
 pub(crate) fn clear(part: &mut [u8], start: usize, size: usize)

@@ -2,8 +2,10 @@
 
 ghost use Rattle.std.specs.Prelude.{◌≡◌, ◌≤◌, ◌<◌, ◌⊎◌, length, [], ◌++◌, drop, IfOk, IfSome};
 ghost use Rattle.tagged_model.specs.Table.{look_up, verdict, removal, next_of};
+ghost use Rattle.bpf_maps.specs.declared.part.TheConstants.{KEY_ROOM};
 ghost use Rattle.bpf_maps.specs.Places.{PlaceTable, table_of, IsSound, Claims, Removes, GivesKey, after_run};
 
+use crate::part::KEY_ROOM;
 use tagged_model::MapFault;
 
 /// The flag of an update of any key.
@@ -35,7 +37,8 @@ pub trait ValueMap {
     /// Those of an update with these flags; nothing has changed then. `Memory` is answered only to a new key.
     fn claim(&mut self, key: &[u8], flags: u64) -> Result<u32, MapFault>
         requires size { length key.now ≡ (places self.old).shape.key_size }
-        ensures claimed { Claims (verdict (table_of (places self.old)) key.now flags) key.now (places self.old) result (places self.new) }
+        ensures claimed { Claims (verdict (table_of (places self.old)) key.now flags) key.now
+            (places self.old) result (places self.new) }
         ensures within { IfOk result (λ place. place < (places self.new).shape.max_entries) }
         ensures shape { (places self.new).shape ≡ (places self.old).shape }
         ensures sound { IsSound (places self.new) };
@@ -47,7 +50,8 @@ pub trait ValueMap {
     /// Those of a delete; nothing has changed then. It takes no memory.
     fn remove(&mut self, key: &[u8]) -> Result<(), MapFault>
         requires size { length key.now ≡ (places self.old).shape.key_size }
-        ensures removed { Removes (removal (table_of (places self.old)) key.now) key.now (places self.old) result (places self.new) }
+        ensures removed { Removes (removal (table_of (places self.old)) key.now) key.now
+            (places self.old) result (places self.new) }
         ensures shape { (places self.new).shape ≡ (places self.old).shape }
         ensures sound { IsSound (places self.new) };
 
@@ -56,9 +60,10 @@ pub trait ValueMap {
     /// # Errors
     ///
     /// `NoEntry` where no key follows; `next` stays as it was then.
-    fn next_key(&self, key: &[u8], next: &mut [u8; 64]) -> Result<(), MapFault>
+    fn next_key(&self, key: &[u8], next: &mut [u8; KEY_ROOM]) -> Result<(), MapFault>
         requires size { (key.now ≡ []) ⊎ (length key.now ≡ (places self.now).shape.key_size) }
-        ensures given { GivesKey (next_of (table_of (places self.now)) key.now) next.old result next.new };
+        ensures given { GivesKey (next_of (table_of (places self.now)) key.now) next.old result
+            next.new };
 
     /// Ends a run: the places that were kept apart are free again. It takes no memory.
     fn end_run(&mut self)
@@ -67,8 +72,8 @@ pub trait ValueMap {
 }
 
 /// Writes a key at the front of `next`. What is behind it stays.
-pub(crate) fn put_key(key: &[u8], next: &mut [u8; 64])
-    requires { length key.now ≤ 64 }
+pub(crate) fn put_key(key: &[u8], next: &mut [u8; KEY_ROOM])
+    requires { length key.now ≤ KEY_ROOM }
     ensures { next.new ≡ key.now ++ drop (length key.now) next.old }
 {
     next[..key.len()].copy_from_slice(key);

@@ -27,7 +27,8 @@ use Rattle.bpf_text.specs.declared.assembler.Place.{Place}
 use Rattle.bpf_text.specs.declared.fault.TextFault.{TextFault}
 use Rattle.bpf_text.specs.declared.fault.TextFaultKind.{TextFaultKind}
 use Rattle.bpf_text.specs.declared.fault.TextFaultKind.TheVariants.{Range, UnknownLabel, LabelTwice, TooLong, Memory}
-use Rattle.bpf_text.specs.Fault.{NoneBelow, IsFirst, fault_on, memory_fault, empty_fault}
+use Rattle.bpf_text.specs.Fault.{NoneBelow, IsFirstFaultyLine, memory_fault, empty_fault}
+use Rattle.bpf_text.specs.inside.Faults.{fault_on}
 use Rattle.bpf_text.specs.inside.Labels.{Labels, place_of, place_at, FindsLabels, kept_line, kept_slot, kept_distance, code_fault, label_fault, kept_fault, kept_form, kept_forms, IsFormed}
 use Rattle.bpf_text.specs.Assembly.{AreRead, line_slots, slots_on, label_line, label_slot, distance, passes, is_known, is_twice, line_fault, line_fault_of, fault_at, forms_from, IsAssembled, IsOwnFault}
 use Rattle.bpf_text.specs.Lines.{text_lines}
@@ -263,7 +264,7 @@ goes_on labels lines i slot more_slots line insns new one finds inside at more p
     from_none n = omega arith
 
 pub stops : (labels : Labels) (lines : List (Option Line)) (i slot : ℕ) (line : Option Line) (insns : List Insn) (kind : TextFaultKind) (fault : TextFault) → Finds lines labels → i < length lines → line ≡ get_or lines i line
-    → kept_fault labels (record { line = i; slot = slot }) line ≡ Some kind → fault ≡ fault_on i kind → Goes labels lines i slot insns → IsFirst (fault_at lines) fault
+    → kept_fault labels (record { line = i; slot = slot }) line ≡ Some kind → fault ≡ fault_on i kind → Goes labels lines i slot insns → IsFirstFaultyLine (fault_at lines) fault
 stops labels lines i slot line insns kind fault finds inside at here is so =
     let told : line_fault lines i slot line ≡ Some kind = sym (fault_is lines labels i slot line finds) ∙ here in
     let it : fault ≡ record { line = i + 1; kind = kind } = is ∙ fault_on_line i kind (fault_kind lines i slot line kind told) in
@@ -333,7 +334,7 @@ assembled text read lines insns e are none forms count some = record {
   some = omega arith;
 }
 
-pub own_fault : (text : List ℕ) (read : List (List ℕ)) (lines : List (Option Line)) (fault : TextFault) → read ≡ text_lines text → AreRead read lines → (fault ≡ memory_fault) ⊎ IsFirst (fault_at lines) fault → (fault ≡ memory_fault) ⊎ IsOwnFault text fault
+pub own_fault : (text : List ℕ) (read : List (List ℕ)) (lines : List (Option Line)) (fault : TextFault) → read ≡ text_lines text → AreRead read lines → (fault ≡ memory_fault) ⊎ IsFirstFaultyLine (fault_at lines) fault → (fault ≡ memory_fault) ⊎ IsOwnFault text fault
 own_fault text read lines fault e are (inl memory) = inl memory
 own_fault text read lines fault e are (inr first) = inr (record { lines = lines; read = subst (λ (ls : List (List ℕ)). AreRead ls lines) e are; first = inl first })
 

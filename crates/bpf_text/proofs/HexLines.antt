@@ -6,7 +6,8 @@ use Rattle.std.proofs.lemmas.List.{take_more, get_or-map, length-map}
 use Rattle.std.proofs.lemmas.List.Concat.{flat_map-append}
 use Rattle.bpf_text.specs.declared.fault.TextFault.{TextFault}
 use Rattle.bpf_text.specs.declared.fault.TextFaultKind.TheVariants.{Memory, TooLong}
-use Rattle.bpf_text.specs.Fault.{NoneBelow, IsFirst, fault_on, memory_fault}
+use Rattle.bpf_text.specs.Fault.{NoneBelow, IsFirstFaultyLine, memory_fault}
+use Rattle.bpf_text.specs.inside.Faults.{fault_on}
 use Rattle.std.proofs.lemmas.Bool.{cases_lt, le-ltb, le-leb, lt-ltb}
 use Rattle.bpf_text.proofs.Faults.{fault_on_line}
 use Rattle.hex.specs.Hex.{encode_lower, decode_sized}
@@ -82,7 +83,7 @@ bytes_more xs i d bytes new h e n =
 -- the first line with a fault
 pub first_here : (xs : List (Bor (List ℕ))) (i : ℕ) (d : Bor (List ℕ)) (bytes : List ℕ) (kind : TextFaultKind) (fault : TextFault) → i < length xs → bytes ≡ hex_bytes (take i (texts xs)) → NoneBelow (hex_fault_at (texts xs)) i → fault ≡ fault_on i kind
     → (kind ≡ Memory) ⊎ ((kind ≢ Memory) × (hex_fault (length bytes) (hex_line (get_or xs i d).now) ≡ Some kind))
-    → (fault ≡ memory_fault) ⊎ IsFirst (hex_fault_at (texts xs)) fault
+    → (fault ≡ memory_fault) ⊎ IsFirstFaultyLine (hex_fault_at (texts xs)) fault
 first_here xs i d bytes kind fault h e below at (inl memory) = inl (at ∙ ap (fault_on i) memory)
 first_here xs i d bytes kind fault h e below at (inr here) =
     let is : fault ≡ record { line = i + 1; kind = kind } = at ∙ fault_on_line i kind here.0 in

@@ -4,15 +4,14 @@ use Rattle.std.specs.Prelude.{option_map, is_some}
 use Rattle.std.specs.Option.{option_copied}
 use Rattle.text_line.specs.declared.form.Line.{Line as CodeLine}
 use Rattle.text_line.specs.Shown.{seen_option, seen_lines}
-use Rattle.bpf_text.specs.inside.Labels.{or_else}
+use Rattle.bpf_text.specs.inside.Labels.{or_else, Labels, place_of, place_at, FindsLabels, label_defined}
 use Rattle.text_line.specs.Line.{Line, blank, label, code, ReadAs}
 use Rattle.std.specs.Str.{bytes_eq}
 use Rattle.std.proofs.lemmas.Slice.Eq.{bytes_eq-Decides}
 use Rattle.std.proofs.lemmas.Bool.{false≢true}
 use Rattle.std.proofs.lemmas.List.{take_more, get_or-map, length-map, length-take, map-append}
 use Rattle.bpf_text.specs.declared.assembler.Place.{Place}
-use Rattle.bpf_text.specs.inside.Labels.{Labels, place_of, place_at, FindsLabels}
-use Rattle.bpf_text.specs.Assembly.{AreRead, label_defined, line_slots, slots_on, defines, label_line}
+use Rattle.bpf_text.specs.Assembly.{AreRead, line_slots, slots_on, defines, label_line}
 
 label_line_step : (name : List ℕ) (l x : Option Line) (xs : List (Option Line)) (b : Bool) → label_line name (xs ++ x ∷ []) ≡ or_else (label_line name xs) (cond (defines name x) (Some (length xs)) None)
     → cond b (Some 0) (option_map suc (label_line name (xs ++ x ∷ []))) ≡ or_else (cond b (Some 0) (option_map suc (label_line name xs))) (cond (defines name x) (Some (suc (length xs))) None)

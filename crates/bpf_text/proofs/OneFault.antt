@@ -3,11 +3,11 @@ use Rattle.std.proofs.Common.{◌≡◌, ℕ, ◌<◌, List, length, Option, Som
 use Rattle.std.specs.Prelude.{◌⊎◌}
 use Rattle.bpf_text.specs.declared.fault.TextFault.{TextFault}
 use Rattle.bpf_text.specs.declared.fault.TextFaultKind.{TextFaultKind}
-use Rattle.bpf_text.specs.Fault.{memory_fault, IsFirst, IsFaultBy}
+use Rattle.bpf_text.specs.Fault.{memory_fault, IsFirstFaultyLine, IsFaultBy}
 use Rattle.bpf_text.specs.HexText.{hex_bytes, IsHexText, IsHexFault}
 use Rattle.bpf_text.specs.Lines.{text_lines}
 
-line_before : (fault_at : ℕ → Option TextFaultKind) (a b : TextFault) (h : IsFirst fault_at a) (k : IsFirst fault_at b) → h.index < k.index → ⊥
+line_before : (fault_at : ℕ → Option TextFaultKind) (a b : TextFault) (h : IsFirstFaultyLine fault_at a) (k : IsFirstFaultyLine fault_at b) → h.index < k.index → ⊥
 line_before fault_at a b h k less = let no : Some a.kind ≡ None = sym h.here ∙ k.below h.index less in cc no
 
 fault_of : ℕ → TextFaultKind → TextFault
@@ -17,7 +17,7 @@ same_fault : (a b : TextFault) → a.line ≡ b.line → a.kind ≡ b.kind → a
 unfolding fault_of
 same_fault a b line kind = ap (λ (l : ℕ). fault_of l a.kind) line ∙ ap (fault_of b.line) kind
 
-first_same : (fault_at : ℕ → Option TextFaultKind) (a b : TextFault) → IsFirst fault_at a → IsFirst fault_at b → a ≡ b
+first_same : (fault_at : ℕ → Option TextFaultKind) (a b : TextFault) → IsFirstFaultyLine fault_at a → IsFirstFaultyLine fault_at b → a ≡ b
 first_same fault_at a b h k =
     let not_less : h.index < k.index → ⊥ = line_before fault_at a b h k in
     let not_more : k.index < h.index → ⊥ = line_before fault_at b a k h in

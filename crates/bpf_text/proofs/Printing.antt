@@ -5,12 +5,12 @@ use Rattle.std.specs.Option.{option_to_list}
 use Rattle.std.specs.Prelude.{Option, Some, None}
 use Rattle.std.proofs.lemmas.List.Concat.{flat_map-append}
 use Rattle.insn_codec.specs.declared.insn.Insn.{Insn}
-use Rattle.text_line.specs.Form.{Layout, constant}
+use Rattle.text_line.specs.Form.{TokenLayout, constant}
 use Rattle.text_line.specs.Written.{number_of, laid_out, printed_insn}
 use Rattle.bpf_text.specs.Printed.{printed, printed_line}
 
 -- what follows a number stands after it
-pub laid_out_constant : (z : ℤ) (rest : Layout) → laid_out (constant (number_of z) rest) ≡ laid_out (constant (number_of z) []) ++ laid_out rest
+pub laid_out_constant : (z : ℤ) (rest : TokenLayout) → laid_out (constant (number_of z) rest) ≡ laid_out (constant (number_of z) []) ++ laid_out rest
 laid_out_constant (pos n) rest = ap (λ (t : List ℕ). t ++ laid_out rest) (sym (append-nil (decimal n)))
 laid_out_constant (negsuc n) rest = ap (λ (t : List ℕ). 45 ∷ (t ++ laid_out rest)) (sym (append-nil (decimal (suc n))))
 

@@ -16,7 +16,7 @@ use Rattle.insn_codec.specs.declared.insn.Operand.{Operand}
 use Rattle.insn_codec.specs.declared.insn.Operand.TheVariants.{Imm, Reg}
 use Rattle.insn_codec.specs.declared.insn.Insn.{Insn}
 use Rattle.insn_codec.specs.declared.insn.Insn.TheVariants.{Alu, Movsx, Neg, End, Ja, Jal, Jump, Call, Exit, Load, Store, Const, MapFd}
-use Rattle.insn_codec.specs.declared.slot.Slot.{Slot}
+use Rattle.insn_codec.specs.declared.slot.SlotFields.{SlotFields}
 use Rattle.insn_codec.specs.Slot.{slot, slot_bytes}
 use Rattle.insn_codec.specs.Numbers.{opcode, alu_number, alu_class, jump_class, condition_number, end_opcode, size_number, load_mode, memory_opcode}
 use Rattle.insn_codec.specs.Spelling.{source_bit, src_field, first, slots, spelling, IsInsn, IsOperand}
@@ -44,12 +44,12 @@ byte_small zero n = rest_small n
 byte_small (suc i) n = rest_small (n / 256 ^ suc i)
 
 -- an opcode and two registers
-record IsSmall (s : Slot) : Type 0 where
+record IsSmall (s : SlotFields) : Type 0 where
   opcode : s.opcode < 256
   dst : s.dst ≤ 10
   src : s.src ≤ 10
 
-slot_are_bytes : (s : Slot) → IsSmall s → AreBytes (slot_bytes s)
+slot_are_bytes : (s : SlotFields) → IsSmall s → AreBytes (slot_bytes s)
 slot_are_bytes s small =
     let registers : 16 * s.src + s.dst < 256 = omega (arith, small.dst, small.src) in
     (small.opcode, (registers, (byte_small 0 s.offset, (byte_small 1 s.offset, (byte_small 0 s.imm, (byte_small 1 s.imm, (byte_small 2 s.imm, (byte_small 3 s.imm, tt))))))))

@@ -15,7 +15,7 @@ use Rattle.text_line.specs.Line.{Line, blank, code, ReadAs}
 use Rattle.text_line.specs.Form.{names_label}
 use Rattle.text_line.specs.Ranges.{form_fits, form_slots}
 use Rattle.text_line.specs.Written.{written, printed_insn}
-use Rattle.text_line.specs.Law.{OneReading, OneInsn, IsWritten, IsPrinted}
+use Rattle.text_line.specs.Law.{OneReading, OneInsn, IsWrittenInRange, IsPrinted}
 use Rattle.bpf_text.specs.declared.fault.TextFault.{TextFault}
 use Rattle.bpf_text.specs.declared.fault.TextFaultKind.{TextFaultKind}
 use Rattle.bpf_text.specs.declared.fault.TextFaultKind.TheVariants.{Range, UnknownLabel, TooLong}
@@ -99,7 +99,7 @@ abbrev EachPrinted : List Insn → Type 0
 EachPrinted insns = AllByRecursion IsPrinted insns
 
 abbrev EachWritten : List Insn → Type 0
-EachWritten insns = AllByRecursion IsWritten insns
+EachWritten insns = AllByRecursion IsWrittenInRange insns
 
 lines_read : (insns : List Insn) → EachPrinted insns → AreRead (text_lines (printed insns)) (lines_of insns)
 unfolding lines_of
@@ -127,7 +127,7 @@ and_false : (b : Bool) → (b && false) ≡ false
 and_false true = refl
 and_false false = refl
 
-line_none : (all : List (Option Line)) (i before : ℕ) (insn : Insn) → IsWritten insn → before + length (slots insn) ≤ MAX_SLOTS → line_fault all i before (Some (code (written insn) [])) ≡ None
+line_none : (all : List (Option Line)) (i before : ℕ) (insn : Insn) → IsWrittenInRange insn → before + length (slots insn) ≤ MAX_SLOTS → line_fault all i before (Some (code (written insn) [])) ≡ None
 line_none all i before insn w room =
     let inside : ltb MAX_SLOTS (before + form_slots (written insn)) ≡ false = le-ltb _ _ (omega (arith, w.slots_are)) in
     let short : passes before (form_slots (written insn)) ≡ false = ap (λ (b : Bool). leb before MAX_SLOTS && b) inside ∙ and_false (leb before MAX_SLOTS) in
@@ -172,9 +172,9 @@ each_of : (P : Insn → Type 0) (insns : List Insn) → ((insn : Insn) → IsIns
 each_of P [] law each = tt
 each_of P (insn ∷ insns) law each = (law insn each.0, each_of P insns law each.1)
 
-pub printed_is : ((insn : Insn) → IsInsn insn → IsWritten insn) → ((insn : Insn) → IsInsn insn → IsPrinted insn) → PrintedIsAssembled
+pub printed_is : ((insn : Insn) → IsInsn insn → IsWrittenInRange insn) → ((insn : Insn) → IsInsn insn → IsPrinted insn) → PrintedIsAssembled
 printed_is writes prints insns program =
-    let each_written : EachWritten insns = each_of IsWritten insns writes program.each in
+    let each_written : EachWritten insns = each_of IsWrittenInRange insns writes program.each in
     let each_printed : EachPrinted insns = each_of IsPrinted insns prints program.each in
     let forms : map written insns ≡ forms_from (lines_of insns) 0 (lines_of insns) = forms_of (lines_of insns) 0 insns each_written in
     record {

@@ -1,4 +1,4 @@
--- From the lines of a text to a program, or to the first fault.
+-- From the lines of a text to a program, or to the first fault. The grammar and the faults are this project's own.
 use Rattle.std.specs.Prelude.{◌≡◌, ℕ, suc, ◌+◌, ◌<◌, Bool, false, ◌&&◌, ◌||◌, not, ℤ, pos, ◌-ℤ◌, List, [], ◌∷◌, take, map, slice_get, Option, Some, None, is_some, option_map, unwrap_or, nat_lt, nat_le, if◌then◌else◌}
 use Rattle.std.specs.Str.{bytes_eq}
 use Rattle.insn_codec.specs.declared.TheConstants.{MAX_SLOTS}
@@ -25,12 +25,6 @@ line_slots (Some (code form n)) = form_slots form
 unfoldable pub slots_on : List (Option Line) → ℕ
 slots_on [] = 0
 slots_on (line ∷ lines) = line_slots line + slots_on lines
-
-abbrev pub label_defined : Option Line → Option (List ℕ)
-label_defined None = None
-label_defined (Some blank) = None
-label_defined (Some (label n)) = Some n
-label_defined (Some (code form n)) = None
 
 abbrev pub defines : List ℕ → Option Line → Bool
 defines name None = false

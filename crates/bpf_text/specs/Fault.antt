@@ -1,4 +1,4 @@
--- The first fault of a text.
+-- The first fault of a text. The kinds and their order are this project's own.
 use Rattle.std.specs.Prelude.{◌≡◌, ℕ, ◌+◌, ◌<◌, ◌⊎◌, Option, Some, None}
 use Rattle.bpf_text.specs.declared.fault.TextFault.{TextFault}
 use Rattle.bpf_text.specs.declared.fault.TextFaultKind.{TextFaultKind}
@@ -20,11 +20,6 @@ memory_fault = record { line = 0; kind = Memory }
 abbrev pub empty_fault : TextFault
 empty_fault = record { line = 0; kind = Empty }
 
--- a kind of fault on the line of an index: a refused growth is the whole text's
-abbrev pub fault_on : ℕ → TextFaultKind → TextFault
-fault_on index Memory = memory_fault
-fault_on index kind = record { line = index + 1; kind = kind }
-
 -- Below, `fault_at i` is the fault of line i + 1, of the lowest kind that the line has: none if it has none.
 
 -- no line below has a fault
@@ -32,7 +27,7 @@ abbrev pub NoneBelow : (ℕ → Option TextFaultKind) → ℕ → Type 0
 NoneBelow fault_at n = (i : ℕ) → i < n → fault_at i ≡ None
 
 -- the fault of the first line that has one
-pub record IsFirst (fault_at : ℕ → Option TextFaultKind) (fault : TextFault) : Type 0 where
+pub record IsFirstFaultyLine (fault_at : ℕ → Option TextFaultKind) (fault : TextFault) : Type 0 where
   pub index : ℕ
   pub line : fault.line ≡ index + 1
   pub here : fault_at index ≡ Some fault.kind
@@ -46,4 +41,4 @@ pub record IsEmpty (fault_at : ℕ → Option TextFaultKind) (slots : ℕ) (faul
 
 -- a text's own fault, by the faults of its lines and its number of slots
 abbrev pub IsFaultBy : (ℕ → Option TextFaultKind) → ℕ → TextFault → Type 0
-IsFaultBy fault_at slots fault = IsFirst fault_at fault ⊎ IsEmpty fault_at slots fault
+IsFaultBy fault_at slots fault = IsFirstFaultyLine fault_at fault ⊎ IsEmpty fault_at slots fault

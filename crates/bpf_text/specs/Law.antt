@@ -1,4 +1,4 @@
--- What the laws of texts say.
+-- What the laws of texts say. This project's own.
 use Rattle.std.specs.Prelude.{◌≡◌, ℕ, List}
 use Rattle.insn_codec.specs.declared.insn.Insn.{Insn}
 use Rattle.insn_codec.specs.Program.{program_bytes, IsProgram}

@@ -1,2 +1,4 @@
 -- What private contracts and proofs cite. No public contract names it.
 pub mod Labels
+pub mod Faults
+pub mod Signs

@@ -8,12 +8,12 @@ ghost use Rattle.insn_codec.specs.declared.insn.Insn.{Insn as AnyInsn};
 ghost use Rattle.text_line.specs.Line.{ReadAs};
 ghost use Rattle.text_line.specs.Shown.{seen_line, seen_option, seen_lines};
 ghost use Rattle.bpf_text.specs.declared.fault.TextFault.{TextFault as AnyFault};
-ghost use Rattle.bpf_text.specs.Fault.{IsFirst, memory_fault, empty_fault};
-ghost use Rattle.bpf_text.specs.Assembly.{AreRead, IsAssembled, IsOwnFault, line_slots, slots_on, label_defined, defines, fault_at, forms_from};
+ghost use Rattle.bpf_text.specs.Fault.{IsFirstFaultyLine, memory_fault, empty_fault};
+ghost use Rattle.bpf_text.specs.Assembly.{AreRead, IsAssembled, IsOwnFault, line_slots, slots_on, defines, fault_at, forms_from};
+ghost use Rattle.bpf_text.specs.inside.Labels.{label_defined, or_else, place_of, FindsLabels, kept_distance, code_fault, kept_fault, kept_form, IsFormed};
 ghost use Rattle.text_line.specs.Form.{IsForm};
 ghost use Rattle.text_line.specs.Ranges.{resolved};
 ghost use Rattle.text_line.specs.Written.{written};
-ghost use Rattle.bpf_text.specs.inside.Labels.{or_else, place_of, FindsLabels, kept_distance, code_fault, kept_fault, kept_form, IsFormed};
 
 use crate::fault::{TextFault, TextFaultKind};
 use crate::laws::{one_fault, one_program, program_has_no_fault};
@@ -25,7 +25,8 @@ use text_line::{Form, Line, read_line};
 
 /// The lines of a text.
 fn read_lines<'a>(alloc: Global, text: &'a [&'a str]) -> Result<Vec<Option<Line<'a>>>, AllocError>
-    ensures { IfOk result (λ lines. AreRead (map (λ line. line.now) text.now) (seen_lines lines.items)) }
+    ensures { IfOk result (λ lines. AreRead (map (λ line. line.now) text.now)
+        (seen_lines lines.items)) }
 {
     let mut lines = Vec::new(alloc);
     for line in text {
@@ -72,7 +73,9 @@ fn note<'a>(
     line: &Option<Line<'a>>,
     place: Place,
 ) -> Result<(), AllocError>
-    ensures { OnOk result ((q : List ℕ) → place_of labels.new q ≡ or_else (place_of labels.old q) (if defines q (seen_option line.now) then Some place else None)) }
+    ensures { OnOk result ((q : List ℕ) → place_of labels.new q
+        ≡ or_else (place_of labels.old q) (if defines q (seen_option line.now) then Some place
+        else None)) }
 {
     let Some(name) = defined(line) else {
         return Ok(());
@@ -122,7 +125,8 @@ fn distance(label: Option<Place>, slot: usize) -> i16
 fn resolve(form: &Form, label: Option<Place>, slot: usize) -> Result<Insn, TextFaultKind>
     requires form { IsForm form.now }
     requires room { slot ≤ MAX_SLOTS }
-    ensures found { IfOk result (λ insn. written insn ≡ resolved (kept_distance label slot) form.now) }
+    ensures found { IfOk result (λ insn. written insn
+        ≡ resolved (kept_distance label slot) form.now) }
     ensures none { OnOk result (code_fault form.now label slot ≡ None) }
     ensures fault { IfErr result (λ kind. code_fault form.now label slot ≡ Some kind) }
 {
@@ -146,9 +150,11 @@ fn instruction(
 ) -> Result<Option<Insn>, TextFaultKind>
     requires form { IsFormed (seen_option line.now) }
     requires room { here.slot ≤ MAX_SLOTS }
-    ensures found { IfOk result (λ insn. map written (option_to_list insn) ≡ kept_form labels.now here.slot (seen_option line.now)) }
+    ensures found { IfOk result (λ insn. map written (option_to_list insn)
+        ≡ kept_form labels.now here.slot (seen_option line.now)) }
     ensures none { OnOk result (kept_fault labels.now here (seen_option line.now) ≡ None) }
-    ensures fault { IfErr result (λ kind. kept_fault labels.now here (seen_option line.now) ≡ Some kind) }
+    ensures fault { IfErr result (λ kind. kept_fault labels.now here (seen_option line.now)
+        ≡ Some kind) }
 {
     match line {
         None => Err(TextFaultKind::Syntax),
@@ -175,10 +181,13 @@ fn instructions(
     requires formed { AllByRecursion IsFormed (seen_lines lines.now) }
     requires labels { FindsLabels (seen_lines lines.now) labels.now (length lines.now) }
     ensures none { OnOk result ((i : ℕ) → fault_at (seen_lines lines.now) i ≡ None) }
-    ensures forms { IfOk result (λ insns. map written insns.items ≡ forms_from (seen_lines lines.now) 0 (seen_lines lines.now)) }
-    ensures count { IfOk result (λ insns. slot_count insns.items ≡ slots_on (seen_lines lines.now)) }
+    ensures forms { IfOk result (λ insns. map written insns.items
+        ≡ forms_from (seen_lines lines.now) 0 (seen_lines lines.now)) }
+    ensures count { IfOk result (λ insns. slot_count insns.items
+        ≡ slots_on (seen_lines lines.now)) }
     ensures room { IfOk result (λ insns. slot_count insns.items ≤ MAX_SLOTS) }
-    ensures fault { IfErr result (λ e. (e ≡ memory_fault) ⊎ IsFirst (fault_at (seen_lines lines.now)) e) }
+    ensures fault { IfErr result (λ e. (e ≡ memory_fault)
+        ⊎ IsFirstFaultyLine (fault_at (seen_lines lines.now)) e) }
 {
     let mut insns = Vec::new(alloc);
     let mut slot = 0;
@@ -197,7 +206,8 @@ fn instructions(
 fn program(alloc: Global, insns: &[Insn]) -> Result<Program, TextFault>
     requires { slot_count insns.now ≤ MAX_SLOTS }
     ensures made { IfOk result (λ program. (program ≡ insns.now) × (0 < slot_count insns.now)) }
-    ensures refused { IfErr result (λ e. (e ≡ memory_fault) ⊎ ((e ≡ empty_fault) × (slot_count insns.now ≡ 0))) }
+    ensures refused { IfErr result (λ e. (e ≡ memory_fault)
+        ⊎ ((e ≡ empty_fault) × (slot_count insns.now ≡ 0))) }
 {
     if insns.is_empty() {
         return Err(TextFault {
@@ -243,11 +253,13 @@ pub fn assemble(alloc: Global, text: &str) -> Result<Program, TextFault>
     // What is answered is what the text says.
     ensures ok { IfOk result (λ program. IsAssembled text.now program) }
     // What the text says is answered, unless memory runs out.
-    ensures only { (insns : List AnyInsn) → IsAssembled text.now insns → MatchResult result (λ program. program ≡ insns) (λ e. e ≡ memory_fault) }
+    ensures only { (insns : List AnyInsn) → IsAssembled text.now insns → MatchResult result
+        (λ program. program ≡ insns) (λ e. e ≡ memory_fault) }
     // A refusal tells the fault, unless memory runs out.
     ensures fault { IfErr result (λ e. (e ≡ memory_fault) ⊎ IsOwnFault text.now e) }
     // A fault is refused so, unless memory runs out.
-    ensures faulty { (fault : AnyFault) → IsOwnFault text.now fault → IsErrAnd result (λ e. (e ≡ fault) ⊎ (e ≡ memory_fault)) }
+    ensures faulty { (fault : AnyFault) → IsOwnFault text.now fault → IsErrAnd result
+        (λ e. (e ≡ fault) ⊎ (e ≡ memory_fault)) }
 {
     one_program();
     program_has_no_fault();

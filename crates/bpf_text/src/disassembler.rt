@@ -6,7 +6,8 @@ ghost use Rattle.text_line.specs.Names.{operator_name, condition_name, order_nam
 ghost use Rattle.text_line.specs.Form.{operand as operand_layout, constant as constant_layout};
 ghost use Rattle.text_line.specs.Written.{number_of, source_of, laid_out, printed_insn};
 ghost use Rattle.bpf_text.specs.Assembly.{IsAssembled};
-ghost use Rattle.bpf_text.specs.Printed.{printed, signed_bytes};
+ghost use Rattle.bpf_text.specs.Printed.{printed};
+ghost use Rattle.bpf_text.specs.inside.Signs.{signed_bytes};
 
 use crate::laws::printed_text_is_assembled;
 use insn_codec::{
@@ -143,14 +144,16 @@ fn register_name(wide: bool, reg: Reg) -> &'static str
 
 /// Writes a number, with a minus if it is negative.
 fn write_constant(text: &mut String, n: i32) -> Result<(), AllocError>
-    ensures { OnOk result (string_bytes text.new ≡ string_bytes text.old ++ laid_out (constant_layout (number_of n) [])) }
+    ensures { OnOk result (string_bytes text.new ≡ string_bytes text.old
+        ++ laid_out (constant_layout (number_of n) [])) }
 {
     write!(text, "{n}")
 }
 
 /// Writes a number behind its sign.
 fn write_signed(text: &mut String, n: i32, gap: &str) -> Result<(), AllocError>
-    ensures { OnOk result (string_bytes text.new ≡ string_bytes text.old ++ signed_bytes n gap.now) }
+    ensures { OnOk result (string_bytes text.new ≡ string_bytes text.old
+        ++ signed_bytes n gap.now) }
 {
     let sign = if n < 0 { "-" } else { "+" };
     let magnitude = n.unsigned_abs();
@@ -159,7 +162,8 @@ fn write_signed(text: &mut String, n: i32, gap: &str) -> Result<(), AllocError>
 
 /// Writes the second operand.
 fn write_operand(text: &mut String, wide: bool, src: Operand) -> Result<(), AllocError>
-    ensures { OnOk result (string_bytes text.new ≡ string_bytes text.old ++ laid_out (operand_layout wide (source_of src) [])) }
+    ensures { OnOk result (string_bytes text.new ≡ string_bytes text.old
+        ++ laid_out (operand_layout wide (source_of src) [])) }
 {
     match src {
         Operand::Imm(n) => write_constant(text, n),
@@ -170,7 +174,8 @@ fn write_operand(text: &mut String, wide: bool, src: Operand) -> Result<(), Allo
 /// Writes a wide load of a map.
 #[tactic(auto, using(crate::proofs::Printing::laid_out_constant), unfolding(text_line::specs::Written::printed_insn))]
 fn write_map_fd(text: &mut String, dst: Reg, fd: i32) -> Result<(), AllocError>
-    ensures { OnOk result (string_bytes text.new ≡ string_bytes text.old ++ printed_insn (Insn.MapFd dst fd)) }
+    ensures { OnOk result (string_bytes text.new ≡ string_bytes text.old
+        ++ printed_insn (Insn.MapFd dst fd)) }
 {
     let dst = wide_name(dst);
     write!(text, "{dst} = map_fd ")?;

@@ -50,7 +50,7 @@ pub struct TextFault {
 }
 
 impl TextFault {
-    ghost use Rattle.bpf_text.specs.Fault.{fault_on};
+    ghost use Rattle.bpf_text.specs.inside.Faults.{fault_on};
 
     /// The fault of a line, given by its index from 0; a refused growth is the whole text's.
     pub(crate) fn at(index: usize, kind: TextFaultKind) -> TextFault

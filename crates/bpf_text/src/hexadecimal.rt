@@ -5,7 +5,7 @@ ghost use Rattle.bpf_text.specs.declared.fault.TextFaultKind.TheVariants.{Memory
 ghost use Rattle.std.specs.String.{string_bytes};
 ghost use Rattle.insn_codec.specs.Program.{program_bytes};
 ghost use Rattle.bpf_text.specs.Lines.{text_lines};
-ghost use Rattle.bpf_text.specs.Fault.{IsFirst, NoneBelow, memory_fault};
+ghost use Rattle.bpf_text.specs.Fault.{IsFirstFaultyLine, NoneBelow, memory_fault};
 ghost use Rattle.bpf_text.specs.declared.fault.TextFault.{TextFault as AnyFault};
 ghost use Rattle.bpf_text.specs.HexText.{hex_text, hex_line, hex_bytes, hex_fault, hex_fault_at, IsHexText, IsHexFault};
 
@@ -21,7 +21,8 @@ use text_line::stripped;
 pub fn hex_lines(alloc: Global, program: &Program) -> Result<String, AllocError>
     ensures text { IfOk result (λ text. string_bytes text ≡ hex_text (program_bytes program.now)) }
     // So `from_hex_lines` gives the slots again.
-    ensures slots { IfOk result (λ text. IsHexText (string_bytes text) (program_bytes program.now)) }
+    ensures slots { IfOk result (λ text. IsHexText (string_bytes text)
+        (program_bytes program.now)) }
 {
     hex_lines_are_read();
     let bytes = write_program(alloc, program)?;
@@ -50,11 +51,13 @@ pub fn from_hex_lines(alloc: Global, text: &str) -> Result<Vec<u8>, TextFault>
     // What is answered is what the text has.
     ensures found { IfOk result (λ bytes. IsHexText text.now bytes.items) }
     // What the text has is answered, unless memory runs out.
-    ensures only { (slots : List ℕ) → IsHexText text.now slots → MatchResult result (λ bytes. bytes.items ≡ slots) (λ e. e ≡ memory_fault) }
+    ensures only { (slots : List ℕ) → IsHexText text.now slots → MatchResult result
+        (λ bytes. bytes.items ≡ slots) (λ e. e ≡ memory_fault) }
     // A refusal tells the fault, unless memory runs out.
     ensures fault { IfErr result (λ e. (e ≡ memory_fault) ⊎ IsHexFault text.now e) }
     // A fault is refused so, unless memory runs out.
-    ensures faulty { (fault : AnyFault) → IsHexFault text.now fault → IsErrAnd result (λ e. (e ≡ fault) ⊎ (e ≡ memory_fault)) }
+    ensures faulty { (fault : AnyFault) → IsHexFault text.now fault → IsErrAnd result
+        (λ e. (e ≡ fault) ⊎ (e ≡ memory_fault)) }
 {
     let lines = split_lines(alloc, text)?;
     let bytes = slots_on(alloc, &lines)?;
@@ -69,9 +72,12 @@ pub fn from_hex_lines(alloc: Global, text: &str) -> Result<Vec<u8>, TextFault>
 
 /// The slots on the lines, one after the other.
 fn slots_on(alloc: Global, lines: &[&str]) -> Result<Vec<u8>, TextFault>
-    ensures found { IfOk result (λ bytes. bytes.items ≡ hex_bytes (map (λ line. line.now) lines.now)) }
-    ensures none { OnOk result (NoneBelow (hex_fault_at (map (λ line. line.now) lines.now)) (length lines.now)) }
-    ensures fault { IfErr result (λ e. (e ≡ memory_fault) ⊎ IsFirst (hex_fault_at (map (λ line. line.now) lines.now)) e) }
+    ensures found { IfOk result (λ bytes. bytes.items
+        ≡ hex_bytes (map (λ line. line.now) lines.now)) }
+    ensures none { OnOk result (NoneBelow (hex_fault_at (map (λ line. line.now) lines.now))
+        (length lines.now)) }
+    ensures fault { IfErr result (λ e. (e ≡ memory_fault)
+        ⊎ IsFirstFaultyLine (hex_fault_at (map (λ line. line.now) lines.now)) e) }
 {
     let mut bytes = Vec::new(alloc);
     for (index, line) in lines.iter().enumerate() {
@@ -85,10 +91,13 @@ fn slots_on(alloc: Global, lines: &[&str]) -> Result<Vec<u8>, TextFault>
 /// Adds the slot of a line at the end, if the line has one.
 fn append_slot(bytes: &mut Vec<u8>, line: &str) -> Result<(), TextFaultKind>
     requires { vec_len bytes.old ≤ 8 * MAX_SLOTS }
-    ensures ok { OnOk result (bytes.new.items ≡ bytes.old.items ++ unwrap_or (hex_line line.now) []) }
+    ensures ok { OnOk result (bytes.new.items ≡ bytes.old.items
+        ++ unwrap_or (hex_line line.now) []) }
     ensures room { OnOk result (vec_len bytes.new ≤ 8 * MAX_SLOTS) }
     ensures none { OnOk result (hex_fault (length bytes.old.items) (hex_line line.now) ≡ None) }
-    ensures fault { IfErr result (λ kind. (kind ≡ Memory) ⊎ ((kind ≢ Memory) × (hex_fault (length bytes.old.items) (hex_line line.now) ≡ Some kind))) }
+    ensures fault { IfErr result (λ kind. (kind ≡ Memory)
+        ⊎ ((kind ≢ Memory) × (hex_fault (length bytes.old.items) (hex_line line.now)
+        ≡ Some kind))) }
 {
     let digits = stripped(line.as_bytes());
     if digits.is_empty() {

@@ -45,7 +45,8 @@ pub fn hex_lines_are_read()
 
 /// The hex lines of one to `MAX_SLOTS` slots are these slots, whether a program has them or not.
 pub fn hex_slots_are_read()
-    ensures { (slots : ℕ) (bytes : List ℕ) → IsBytes bytes → length bytes ≡ 8 * slots → 1 ≤ slots → slots ≤ MAX_SLOTS → IsHexText (hex_text bytes) bytes }
+    ensures { (slots : ℕ) (bytes : List ℕ) → IsBytes bytes → length bytes ≡ 8 * slots → 1 ≤ slots
+        → slots ≤ MAX_SLOTS → IsHexText (hex_text bytes) bytes }
 {}
 
 /// A text of hex lines has at most one list of slots.

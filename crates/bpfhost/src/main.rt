@@ -8,7 +8,10 @@ use std::{env, io};
 fn main(rt: HostRuntime) -> io::Result<ExitCode> {
     let alloc = rt.alloc();
     let given: Vec<String> = env::args(&rt)?.skip(1).collect(alloc)?;
-    let words: Vec<&str> = given.iter().map(|word| word.as_str()).collect(alloc)?;
-    let status = run_words(alloc, &words, rt.stdin(), rt.stdout(), rt.stderr());
+    let arguments: Vec<&str> = given
+        .iter()
+        .map(|argument| argument.as_str())
+        .collect(alloc)?;
+    let status = run_words(alloc, &arguments, rt.stdin(), rt.stdout(), rt.stderr());
     Ok(ExitCode::from(status))
 }

@@ -1,5 +1,6 @@
--- The commands that frames carry: their numbers and fields are those of bpf(2), and 256 closes a descriptor.
-use Rattle.std.specs.Prelude.{ℕ, zero, suc, ◌+◌, ◌==◌, nat_le, nat_lt, List, [], ◌∷◌, length, drop, Result, Ok, Err, if◌then◌else◌}
+-- The commands that frames carry. Their numbers are those of linux/bpf.h (bpf_cmd), their fields those of bpf(2); the
+-- layout of a body, and the number 256, which closes a descriptor, are this project's own.
+use Rattle.std.specs.Prelude.{ℕ, zero, suc, ◌+◌, ◌*◌, ◌==◌, nat_le, nat_lt, List, [], ◌∷◌, length, drop, Result, Ok, Err, if◌then◌else◌}
 use Rattle.byteorder.specs.Endian.{little_number}
 use Rattle.command_frames.specs.declared.command.BadFrame.{BadFrame}
 use Rattle.command_frames.specs.declared.command.BadFrame.TheVariants.{TooLong, Unknown, Body}
@@ -30,9 +31,12 @@ create_body = 20
 abbrev pub before_key_and_value : ℕ
 before_key_and_value = 12
 
--- the ten words of context
+-- a test run brings so many words of context: all but the first, which is the packet's length
+abbrev pub given_words : ℕ
+given_words = 10
+
 abbrev pub context_length : ℕ
-context_length = 40
+context_length = given_words * word_length
 
 -- what comes before the packet of a test run: a descriptor and the context
 abbrev pub before_packet : ℕ
@@ -72,7 +76,7 @@ command_in n body =
     (if n == 3 then at_least word_length body (map_delete (word 0 body) (drop word_length body)) else
     (if n == 4 then at_least word_length body (map_next_key (word 0 body) (drop word_length body)) else
     (if n == 5 then at_least word_length body (prog_load (word 0 body) (drop word_length body)) else
-    (if n == 10 then at_least before_packet body (prog_test_run (word 0 body) (words 10 (drop word_length body)) (drop before_packet body)) else
+    (if n == 10 then at_least before_packet body (prog_test_run (word 0 body) (words given_words (drop word_length body)) (drop before_packet body)) else
     (if n == 256 then exactly word_length body (close (word 0 body)) else Err Unknown)))))))
 
 -- ---- the frame

@@ -1,4 +1,5 @@
--- Frames: a stream is a list of them and a rest, and each has a reply.
+-- Frames: a stream is a list of them and a rest, and each has a reply. Their form is this project's own; a status is
+-- an answer of bpf(2).
 use Rattle.std.specs.Prelude.{ℕ, ℤ, ◌+◌, ◌<◌, ◌^◌, List, ◌++◌, length, drop, nat_lt, Option, Some, None, if◌then◌else◌, ◌⊎◌}
 use Rattle.std.specs.Int.{w32, cast_unsigned}
 use Rattle.byteorder.specs.Endian.{little_number, little_bytes}
@@ -49,10 +50,12 @@ abbrev pub longest_reply : ℕ
 longest_reply = 4 + reply_head + longest_payload
 
 -- the length of what follows, the tenant, the command, the status and the payload
+abbrev pub front_bytes : ℕ → ℕ → ℤ → ℕ → List ℕ
+front_bytes tenant command status size =
+    little_bytes 4 size ++ (little_bytes 2 tenant ++ (little_bytes 2 command ++ little_bytes 4 (cast_unsigned w32 status)))
+
 abbrev pub reply_bytes : ℕ → ℕ → ℤ → List ℕ → List ℕ
-reply_bytes tenant command status payload =
-    little_bytes 4 (reply_head + length payload)
-    ++ (little_bytes 2 tenant ++ (little_bytes 2 command ++ (little_bytes 4 (cast_unsigned w32 status) ++ payload)))
+reply_bytes tenant command status payload = front_bytes tenant command status (reply_head + length payload) ++ payload
 
 -- the reply to a frame
 abbrev pub reply_to : List ℕ → ℤ → List ℕ → List ℕ

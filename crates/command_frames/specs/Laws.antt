@@ -1,4 +1,4 @@
--- Bytes tell the frames, and the replies, that they are.
+-- Bytes tell the frames, and the replies, that they are. This project's own.
 use Rattle.std.specs.Prelude.{◌≡◌, ℕ, ℤ, ◌<◌, ◌≤◌, ◌^◌, List, ◌++◌, length, slice_index, FitsSigned}
 use Rattle.std.specs.Int.{w32}
 use Rattle.std.specs.List.{flat_map, AllByRecursion}

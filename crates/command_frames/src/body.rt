@@ -2,7 +2,7 @@
 
 ghost use Rattle.std.specs.Prelude.{◌≡◌, ◌≤◌, ◌+◌, length, drop};
 ghost use Rattle.byteorder.specs.Endian.{little_number};
-ghost use Rattle.command_frames.specs.Command.{command_in, context_length, word_length, words};
+ghost use Rattle.command_frames.specs.Command.{command_in, context_length, given_words, word_length, words};
 ghost use Rattle.command_frames.specs.Shown.{shown_result};
 
 use crate::command::{BadFrame, Command};
@@ -17,8 +17,11 @@ const CREATE_BODY: usize = 20;
 /// What comes before the key and the value of an update: a descriptor and eight bytes of flags.
 const BEFORE_KEY_AND_VALUE: usize = 12;
 
-/// The bytes of the ten words of context.
-const CONTEXT_LENGTH: usize = 40;
+/// The words of the context that a test run brings.
+pub const GIVEN_WORDS: usize = 10;
+
+/// The bytes of these words.
+const CONTEXT_LENGTH: usize = GIVEN_WORDS * WORD_LENGTH;
 
 /// What comes before the packet of a test run: a descriptor and the context.
 const BEFORE_PACKET: usize = WORD_LENGTH + CONTEXT_LENGTH;
@@ -106,12 +109,12 @@ fn prog_load(body: &[u8]) -> Result<Command<'_>, BadFrame>
     })
 }
 
-/// Ten words one after the other.
-fn ten_words(bytes: &[u8]) -> [u32; 10]
+/// The words of the context, one after the other.
+fn given_words(bytes: &[u8]) -> [u32; GIVEN_WORDS]
     requires { context_length ≤ length bytes.now }
-    ensures { result ≡ words 10 bytes.now }
+    ensures { result ≡ words given_words bytes.now }
 {
-    let mut words = [0; 10];
+    let mut words = [0; GIVEN_WORDS];
     LittleEndian::read_u32_into(&bytes[..CONTEXT_LENGTH], &mut words);
     words
 }
@@ -124,7 +127,7 @@ fn prog_test_run(body: &[u8]) -> Result<Command<'_>, BadFrame>
     }
     Ok(Command::ProgTestRun {
         fd: word(body, 0),
-        words: ten_words(&body[WORD_LENGTH..]),
+        words: given_words(&body[WORD_LENGTH..]),
         packet: &body[BEFORE_PACKET..],
     })
 }

@@ -1,5 +1,7 @@
 //! What frames carry.
 
+use crate::body::GIVEN_WORDS;
+
 /// Whose a frame is, and the number of its command. The reply has the same.
 #[derive(Clone, Copy, Debug, PartialEq, Eq)]
 pub struct Head {
@@ -41,7 +43,7 @@ pub enum Command<'a> {
     ProgTestRun {
         fd: u32,
         /// The context but for its first word, which is the packet's length.
-        words: [u32; 10],
+        words: [u32; GIVEN_WORDS],
         packet: &'a [u8],
     },
     Close {

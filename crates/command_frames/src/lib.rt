@@ -7,6 +7,7 @@ mod frame;
 mod laws;
 mod reply;
 
+pub use body::GIVEN_WORDS;
 pub use command::{BadFrame, Command, Head};
 pub use frame::{HEAD_LENGTH, LONGEST_FRAME, head, parse};
 pub use laws::{each_is_stream, one_reading, one_reply};

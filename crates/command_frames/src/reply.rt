@@ -2,7 +2,7 @@
 
 ghost use Rattle.std.specs.Prelude.{◌≡◌, ◌+◌, ◌≤◌, ◌++◌, ◌^◌, ◌<◌, ℤ, [], length, IfOk, FitsSigned};
 ghost use Rattle.byteorder.specs.Endian.{little_bytes};
-ghost use Rattle.command_frames.specs.Frame.{longest_payload, longest_reply, reply_bytes};
+ghost use Rattle.command_frames.specs.Frame.{front_bytes, longest_payload, longest_reply, reply_bytes};
 
 use crate::command::Head;
 use std::alloc::{AllocError, Global};
@@ -11,11 +11,14 @@ use std::marker::Model;
 /// The bytes between the length of a reply and its payload: tenant, command and status.
 const REPLY_HEAD: usize = 8;
 
+/// The bytes before the payload.
+const FRONT_LENGTH: usize = 4 + REPLY_HEAD;
+
 /// The bytes of the longest payload of a reply.
 pub const LONGEST_PAYLOAD: usize = 4096;
 
 /// The bytes of the longest reply.
-const LONGEST_REPLY: usize = 4 + REPLY_HEAD + LONGEST_PAYLOAD;
+const LONGEST_REPLY: usize = FRONT_LENGTH + LONGEST_PAYLOAD;
 
 /// Room for one reply. In contracts it is the list of the reply's bytes.
 #[derive(Drop)]
@@ -67,6 +70,17 @@ impl ReplyBuf {
     }
 }
 
+/// What a reply has before its payload: its length, the tenant, the command and the status.
+fn front(head: Head, status: i32, length: u32) -> [u8; FRONT_LENGTH]
+    ensures { result ≡ front_bytes head.tenant head.command status length }
+{
+    let [a, b, c, d] = length.to_le_bytes();
+    let [e, f] = head.tenant.to_le_bytes();
+    let [g, h] = head.command.to_le_bytes();
+    let [i, j, k, l] = status.to_le_bytes();
+    [a, b, c, d, e, f, g, h, i, j, k, l]
+}
+
 /// Leaves the bytes of a reply in the room for it.
 pub fn write_reply(head: Head, status: i32, payload: &[u8], reply: &mut ReplyBuf)
     requires { length payload.now ≤ longest_payload }
@@ -74,9 +88,6 @@ pub fn write_reply(head: Head, status: i32, payload: &[u8], reply: &mut ReplyBuf
 {
     let length = (REPLY_HEAD + payload.len()) as u32;
     reply.clear();
-    reply.append(&length.to_le_bytes());
-    reply.append(&head.tenant.to_le_bytes());
-    reply.append(&head.command.to_le_bytes());
-    reply.append(&status.to_le_bytes());
+    reply.append(&front(head, status, length));
     reply.append(payload);
 }

@@ -1,4 +1,4 @@
--- Which places are taken, as the bits of a word.
+-- Which places are taken, as the bits of a word. This project's own.
 use Rattle.std.specs.Prelude.{◌≡◌, ℕ, ◌<◌, is_none, List, Option, None, slice_index_or, if◌then◌else◌}
 use Rattle.std.specs.Int.{bit_at}
 use Rattle.fd_table.specs.Table.{most}

@@ -1,4 +1,5 @@
--- Descriptors: the numbers from 3 to 66, and what each open one names.
+-- Descriptors: the numbers from 3 to 66, and what each open one names. The lowest free number is given, as open(2)
+-- gives it; the bounds are this project's own.
 use Rattle.std.specs.Prelude.{◌≡◌, ℕ, ◌+◌, ◌-◌, nat_lt, is_none, List, Option, Some, None, option_map, option_and_then, position, replicate, slice_get, slice_set, Result, Ok, Err, if◌then◌else◌}
 
 -- the lowest number
@@ -33,6 +34,6 @@ module _ {A : Type 0} where
   without table fd = if nat_lt fd first then table else slice_set table (fd - first) None
 
   -- the lowest one is given; where there is none, what was to be opened is handed back
-  abbrev pub Places : Option ℕ → List (Option A) → A → Result ℕ A → List (Option A) → Type 0
-  Places (Some fd) old x answer new = (answer ≡ Ok fd) × (new ≡ with_open old fd x)
-  Places None old x answer new = (answer ≡ Err x) × (new ≡ old)
+  abbrev pub OpensLowest : Option ℕ → List (Option A) → A → Result ℕ A → List (Option A) → Type 0
+  OpensLowest (Some fd) old x answer new = (answer ≡ Ok fd) × (new ≡ with_open old fd x)
+  OpensLowest None old x answer new = (answer ≡ Err x) × (new ≡ old)

@@ -2,7 +2,7 @@
 
 ghost use Rattle.std.specs.Prelude.{◌≡◌, ◌+◌, ◌<◌, ◌≤◌, IfOk, IfSome, is_none, position};
 ghost use Rattle.std.specs.Option.{option_copied};
-ghost use Rattle.fd_table.specs.Table.{first, most, nothing_open, named, lowest, with_open, without, Places};
+ghost use Rattle.fd_table.specs.Table.{first, most, nothing_open, named, lowest, with_open, without, OpensLowest};
 
 use std::alloc::{AllocError, Global};
 use std::marker::Model;
@@ -79,7 +79,7 @@ impl<T: Drop> FdTable<T> {
     ///
     /// The object itself, where none is free.
     pub fn place(&mut self, object: T) -> Result<u32, T>
-        ensures placed { Places (lowest self.old) self.old object result self.new }
+        ensures placed { OpensLowest (lowest self.old) self.old object result self.new }
         ensures bounds { IfOk result (λ fd. (first ≤ fd) × (fd < first + most)) }
     {
         let Some(place) = self.free_place() else {

@@ -9,7 +9,12 @@ pub mod Descriptors
 pub mod Beginning
 pub mod Ended
 pub mod Packets
+pub mod Ahead
 pub mod Turns
+pub mod Spots
+pub mod Distances
+pub mod Branches
+pub mod Opcodes
 pub mod Ending
 pub mod SetUp
 pub mod Clear

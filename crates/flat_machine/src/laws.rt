@@ -1,6 +1,6 @@
 //! Why a run on words and bytes is the run on tagged values. A law does nothing when it runs.
 
-ghost use Rattle.flat_machine.specs.Runs.{ClearRuns};
+ghost use Rattle.flat_machine.specs.Runs.{ClearRunsHaveNoRefusal};
 ghost use Rattle.flat_machine.specs.inside.Laws.{RunLaws};
 ghost use Rattle.flat_machine.specs.inside.Steps.{StepsFollow, StepsStayInside};
 
@@ -42,6 +42,6 @@ pub(crate) fn laws_of_runs()
 
 /// Where the flag of the live maps is clear after a run, memory was refused to no new key: the run, the steps and what is left are
 /// those without refusals.
-pub fn clear_runs()
-    ensures { ClearRuns }
+pub fn clear_runs_have_no_refusal()
+    ensures { ClearRunsHaveNoRefusal }
 {}

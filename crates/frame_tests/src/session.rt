@@ -4,7 +4,7 @@ use crate::bytes::{bytes_of, first_word, groups};
 use crate::streams::{cut, program, stream};
 use anyhow::{Result, bail};
 use bpf_text::assemble;
-use host::{Host, ReplyBuf};
+use host::{Host, MOST_TENANTS, ReplyBuf};
 use insn_codec::write_program;
 use std::alloc::{AllocError, Global};
 
@@ -34,7 +34,7 @@ const WORDS: usize = 40;
 /// A new host for so many tenants.
 pub fn new_host(alloc: Global, tenants: &str) -> Result<Host> {
     let tenants: usize = tenants.parse()?;
-    if tenants < 1 || tenants > 16 {
+    if tenants < 1 || tenants > MOST_TENANTS {
         bail!("no such number of tenants");
     }
     Ok(Host::new(alloc, tenants)?)

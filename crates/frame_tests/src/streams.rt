@@ -3,11 +3,8 @@
 use crate::bytes::{bytes_of, first_word, groups};
 use crate::session::new_host;
 use anyhow::{Result, bail};
-use host::{Counted, Host, ServeFault, ServeFaultKind, run_words, serve};
+use host::{Counted, Host, MOST_FRAMES, ServeFault, ServeFaultKind, run_words, serve};
 use std::alloc::{AllocError, Global};
-
-/// The most frames that a stream may have.
-const MOST_FRAMES: u32 = 16_777_216;
 
 /// How a stream ended.
 fn end_of(alloc: Global, end: Result<u32, ServeFault>) -> Result<String, AllocError> {

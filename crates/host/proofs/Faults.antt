@@ -3,10 +3,10 @@ use Rattle.std.proofs.Common.{◌≡◌, ◌≢◌, ℕ, Bool, true, false, List
 use Rattle.std.specs.Prelude.{nat_lt, if◌then◌else◌}
 use Rattle.command_frames.specs.Frame.{reply_to}
 use Rattle.tenant.specs.declared.errno.Errno.TheVariants.{BadAddress, NotPermitted, Invalid}
-use Rattle.tenant.specs.Alone.{MayTell, IsFault}
+use Rattle.tenant.specs.Alone.{MayReply, IsFault}
 use Rattle.tenant.specs.Errno.{status_of}
 use Rattle.tenant.specs.Laws.{FaultsHaveNoPayload}
-use Rattle.tenant.specs.State.{State}
+use Rattle.tenant.specs.State.{TenantState}
 
 -- another status has another lowest byte
 other_status : (short : Bool) (frame : List ℕ) → ¬ IsFault (reply_to frame (status_of (if short then Invalid else NotPermitted)) [])
@@ -18,5 +18,5 @@ pub refusal_is_no_fault : (frame reply : List ℕ) → reply ≡ reply_to frame 
 refusal_is_no_fault frame reply told e = other_status (nat_lt (length frame) 4) frame (subst IsFault told e)
 
 -- to a frame of a tenant that is
-pub served_is_no_fault : FaultsHaveNoPayload → (frame reply : List ℕ) (before after : Option State) → MayTell frame reply before after → reply ≢ reply_to frame (status_of BadAddress) [] → ¬ IsFault reply
+pub served_is_no_fault : FaultsHaveNoPayload → (frame reply : List ℕ) (before after : Option TenantState) → MayReply frame reply before after → reply ≢ reply_to frame (status_of BadAddress) [] → ¬ IsFault reply
 served_is_no_fault law frame reply before after told ne e = ne (law frame reply before after told e)

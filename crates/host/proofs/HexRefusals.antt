@@ -5,10 +5,11 @@ use Rattle.bpf_text.specs.HexText.{IsHexText, IsHexFault}
 use Rattle.bpf_text.specs.declared.fault.TextFault.{TextFault}
 use Rattle.insn_codec.specs.Program.{IsMemoryFault, IsProgramFault}
 use Rattle.insn_codec.specs.declared.fault.CodecFault.{CodecFault}
-use Rattle.host.specs.Failure.{codec_failure, text_failure}
-use Rattle.host.specs.Texts.{IsNoProgramText}
-use Rattle.host.specs.declared.failure.Failure.{Failure}
-use Rattle.host.specs.declared.failure.Failure.TheVariants.{Memory}
+use Rattle.host.specs.program.Failure.{codec_failure}
+use Rattle.host.specs.inside.program.Statuses.{text_failure}
+use Rattle.host.specs.inside.program.Rewriting.{IsNoProgramText}
+use Rattle.host.specs.declared.program.failure.Failure.{Failure}
+use Rattle.host.specs.declared.program.failure.Failure.TheVariants.{Memory}
 
 -- the fault of the lines is told, or want of memory
 pub lines_refused : (text : List ℕ) (fault : TextFault) → IsUtf8 text

@@ -7,13 +7,15 @@ use Rattle.tagged_model.specs.declared.shape.Named.{Named}
 use Rattle.verdict.specs.Verdict.{IsAccepted, IsRefused}
 use Rattle.insn_codec.specs.declared.fault.FaultKind.{FaultKind}
 use Rattle.insn_codec.specs.declared.fault.FaultKind.TheVariants as codec
-use Rattle.host.specs.Failure.{failure_at}
-use Rattle.host.specs.Judging.{IsJudgement, IsUnreadable, IsVerdict}
-use Rattle.host.specs.Texts.{IsNoProgramText, IsProgramText}
-use Rattle.host.specs.declared.failure.Failure.{Failure}
-use Rattle.host.specs.declared.failure.Failure.TheVariants.{Memory, Slot}
-use Rattle.host.specs.declared.judging.Judgement.{Judgement}
-use Rattle.host.specs.declared.judging.Judgement.TheVariants.{Accepted, Refused}
+use Rattle.host.specs.program.Failure.{failure_at}
+use Rattle.host.specs.program.Judging.{IsJudgement, IsVerdict}
+use Rattle.host.specs.inside.program.Judgements.{IsUnreadable}
+use Rattle.host.specs.program.Texts.{IsProgramText}
+use Rattle.host.specs.inside.program.Rewriting.{IsNoProgramText}
+use Rattle.host.specs.declared.program.failure.Failure.{Failure}
+use Rattle.host.specs.declared.program.failure.Failure.TheVariants.{Memory, Slot}
+use Rattle.host.specs.declared.program.judging.Judgement.{Judgement}
+use Rattle.host.specs.declared.program.judging.Judgement.TheVariants.{Accepted, Refused}
 
 -- ---- of a program
 

@@ -3,29 +3,30 @@ use Rattle.std.proofs.Common.{◌≡◌, ◌∙◌, ◌++◌, ℕ, List, [], Opt
 use Rattle.std.proofs.lemmas.Result.{IfOk-weaker}
 use Rattle.clap.specs.Words.{Text}
 use Rattle.tagged_model.specs.declared.shape.Named.{Named}
-use Rattle.host.specs.Judging.{Accepts, AcceptsIfKnown, IsJudgementLine, judgement_status}
-use Rattle.host.specs.Shapes.{AreMaps}
-use Rattle.host.specs.Texts.{Ends, IsReadWhole, Streams}
-use Rattle.host.specs.Words.{Asked, Verifies}
-use Rattle.host.specs.declared.judging.Judgement.{Judgement}
-use Rattle.host.specs.declared.judging.Judgement.TheVariants.{Accepted, Refused}
+use Rattle.host.specs.program.Judging.{Accepts, AcceptsIfKnown}
+use Rattle.host.specs.inside.program.Judgements.{IsJudgementLine, judgement_status}
+use Rattle.host.specs.program.Shapes.{AreMapArguments}
+use Rattle.host.specs.inside.program.Rewriting.{WritesWholeOutput, ReadsWholeInput, Streams}
+use Rattle.host.specs.program.Arguments.{Asked, Verifies}
+use Rattle.host.specs.declared.program.judging.Judgement.{Judgement}
+use Rattle.host.specs.declared.program.judging.Judgement.TheVariants.{Accepted, Refused}
 
 -- what holds of the bytes that were read holds of the input
-of_input : (P : List ℕ → Type 0) (before after : Option (List ℕ)) (input : List ℕ) → IsReadWhole before after input → P input → IfSome before P
+of_input : (P : List ℕ → Type 0) (before after : Option (List ℕ)) (input : List ℕ) → ReadsWholeInput before after input → P input → IfSome before P
 of_input P None after input whole holds = tt
 of_input P (Some bytes) None input whole holds = absurd whole.read
 of_input P (Some bytes) (Some rest) input whole holds =
     subst P (sym (whole.read ∙ (ap (λ more. input ++ more) whole.end ∙ append-nil input))) holds
 
-pub accepts_known : (words : List Text) (maps given : List Named) (judgement : Judgement) (old new : Streams) → AreMaps words maps → given ≡ maps
-    → Ends (IsJudgementLine given judgement) old new → judgement_status judgement ≡ 0 → AcceptsIfKnown words old.input
-accepts_known words maps given Accepted old new named same ended zero =
-    of_input (Accepts words) old.input new.input ended.input ended.whole
-    (record { maps = given; named = subst (AreMaps words) (sym same) named; judged = ended.made_so.0 })
-accepts_known words maps given (Refused slot reason) old new named same ended zero = absurd (omega (arith, zero))
+pub accepts_known : (arguments : List Text) (maps given : List Named) (judgement : Judgement) (old new : Streams) → AreMapArguments arguments maps → given ≡ maps
+    → WritesWholeOutput (IsJudgementLine given judgement) old new → judgement_status judgement ≡ 0 → AcceptsIfKnown arguments old.input
+accepts_known arguments maps given Accepted old new named same ended zero =
+    of_input (Accepts arguments) old.input new.input ended.input ended.whole
+    (record { maps = given; named = subst (AreMapArguments arguments) (sym same) named; judged = ended.made_so.0 })
+accepts_known arguments maps given (Refused slot reason) old new named same ended zero = absurd (omega (arith, zero))
 
 words_of : Option Asked → List Text
-words_of (Some (Verifies words)) = words
+words_of (Some (Verifies arguments)) = arguments
 words_of _ = []
 
 pub accepts_asked : (given : List Text) (told : Option Asked) (input : Option (List ℕ)) {E : Type 0} (r : Result ℕ E) → told ≡ Some (Verifies given)

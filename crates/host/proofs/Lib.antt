@@ -11,7 +11,7 @@ mod Digits
 mod Rewriting
 mod OtherFailures
 mod HexRefusals
-mod MapWords
+mod MapArguments
 mod KnownInputs
 mod Judgements
 mod MapLists

@@ -1,17 +1,18 @@
--- No failure of a run over streams is that the words are wrong.
+-- No failure of a run over streams is that the arguments are wrong.
 use Rattle.std.proofs.Common.{◌≡◌, ◌≢◌, ◌∙◌, ℕ, List, ap, subst, sym, inl, inr, arith}
 use Rattle.bpf_text.specs.declared.fault.TextFaultKind.{TextFaultKind}
 use Rattle.bpf_text.specs.declared.fault.TextFaultKind.TheVariants as text
 use Rattle.insn_codec.specs.declared.fault.FaultKind.{FaultKind}
 use Rattle.insn_codec.specs.declared.fault.FaultKind.TheVariants as codec
-use Rattle.host.specs.Failure.{exit_status, failure_at, failure_on}
-use Rattle.host.specs.Texts.{IsRefused, IsUnread, Streams, Stops}
-use Rattle.host.specs.declared.failure.Failure.{Failure}
-use Rattle.host.specs.declared.failure.Failure.TheVariants.{WrongWords, MapWord, Truncated, TooManyFrames, TooLong, Line, Slot, Read, Write, Memory}
-use Rattle.host.specs.declared.texts.TextTask.{TextTask}
-use Rattle.host.specs.declared.texts.TextTask.TheVariants.{Assemble, Disassemble}
+use Rattle.host.specs.program.Failure.{failure_at}
+use Rattle.host.specs.inside.program.Statuses.{exit_status, failure_on}
+use Rattle.host.specs.inside.program.Rewriting.{IsInputRefused, HasNoInput, Streams, StopsRewriting}
+use Rattle.host.specs.declared.program.failure.Failure.{Failure}
+use Rattle.host.specs.declared.program.failure.Failure.TheVariants.{WrongArguments, MapArgument, Truncated, TooManyFrames, TooLong, Line, Slot, Read, Write, Memory}
+use Rattle.host.specs.declared.program.texts.TextTask.{TextTask}
+use Rattle.host.specs.declared.program.texts.TextTask.TheVariants.{Assemble, Disassemble}
 
--- the failure is not that the words are wrong
+-- the failure is not that the arguments are wrong
 abbrev pub IsOther : Failure → Type 0
 IsOther failure = exit_status failure ≢ 2
 
@@ -38,7 +39,7 @@ at_slot slot codec.Memory = λ e. omega (arith, e)
 
 -- ---- refused inputs
 
-pub refused_otherwise : (task : TextTask) (input : List ℕ) (failure : Failure) → IsRefused task input failure → IsOther failure
+pub refused_otherwise : (task : TextTask) (input : List ℕ) (failure : Failure) → IsInputRefused task input failure → IsOther failure
 refused_otherwise Assemble input failure (inl none) = λ e. omega (arith, sym (ap exit_status none.1) ∙ e)
 refused_otherwise Assemble input failure (inr of_text) = subst IsOther (sym of_text.failure_is) (on_line of_text.fault.line of_text.fault.kind)
 refused_otherwise Disassemble input failure (inl none) = λ e. omega (arith, sym (ap exit_status none.1) ∙ e)
@@ -48,12 +49,12 @@ refused_otherwise Disassemble input failure (inr (inr of_program)) =
 
 -- ---- runs
 
-unread : (failure : Failure) (old new : Streams) → IsUnread failure old.input new.input old.read_failures new.read_failures → IsOther failure
+unread : (failure : Failure) (old new : Streams) → HasNoInput failure old.input new.input old.read_failures new.read_failures → IsOther failure
 unread TooLong old new is = λ e. omega (arith, e)
 unread Read old new is = λ e. omega (arith, e)
 unread Memory old new is = λ e. omega (arith, e)
-unread WrongWords old new is = absurd is
-unread (MapWord number) old new is = absurd is
+unread WrongArguments old new is = absurd is
+unread (MapArgument number) old new is = absurd is
 unread (Truncated frames) old new is = absurd is
 unread TooManyFrames old new is = absurd is
 unread (Line line kind) old new is = absurd is
@@ -62,7 +63,7 @@ unread Write old new is = absurd is
 
 pub stops_otherwise : (made : List ℕ → List ℕ → Type 0) (refused : List ℕ → Failure → Type 0)
     → ((input : List ℕ) (failure : Failure) → refused input failure → IsOther failure)
-    → (old new : Streams) (failure : Failure) → Stops made refused old new failure → IsOther failure
+    → (old new : Streams) (failure : Failure) → StopsRewriting made refused old new failure → IsOther failure
 stops_otherwise made refused otherwise old new failure (inl is) = unread failure old new is.0
 stops_otherwise made refused otherwise old new failure (inr (inl unmade)) =
     elim unmade.why [

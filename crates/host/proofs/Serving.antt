@@ -8,17 +8,18 @@ use Rattle.std.proofs.KnownBytes.{Consumes-nil, Consumes-trans, Appends-nil, App
 use Rattle.std.specs.List.{flat_map, AllByRecursion}
 use Rattle.std.specs.Io.KnownBytes.{Consumes, Appends, IsAtEnd}
 use Rattle.command_frames.specs.Frame.{owner, framed, IsFrame}
-use Rattle.host.specs.Reading.{StandsFor}
+use Rattle.host.specs.inside.Reading.{IsKeptFrontOf}
 use Rattle.host.proofs.Stands.{stands_owner, stands_tells}
-use Rattle.tenant.specs.State.{State}
-use Rattle.tenant.specs.Alone.{frames_of, replies_of, MayTell, IsFault, AloneWithRefusals}
+use Rattle.tenant.specs.State.{TenantState}
+use Rattle.tenant.specs.Alone.{frames_of, replies_of, MayReply, IsFault, AloneWithRefusals}
 use Rattle.host.specs.declared.server.ServeFaultKind.{ServeFaultKind}
 use Rattle.host.specs.declared.server.ServeFaultKind.TheVariants.{Read, Write, Truncated, TooManyFrames, Memory}
 use Rattle.host.specs.Laws.{UnrefusedAreToldAlone}
-use Rattle.host.specs.Served.{IsServed, Handles, Moment, IsSound, Serves, ServesAlone, Turns, Waits, Answered, CutOff, joined, Finishes, Stops, EndsFrame, StopsFrame}
+use Rattle.host.specs.Served.{EachIsToldByItsMachine, StreamState, NoCallFailed, Serves, ServesAlone, AnswersFrames, CutsLastReply, joined, ServesToEnd, StopsWithFault}
+use Rattle.host.specs.inside.Frame.{Handles, ServesOneFrame, ReadsOnly, ServesFrameOrEnds, StopsInFrame}
 
-alone_more : (a b c : Option State) (frames others replies more : List (List ℕ)) → AloneWithRefusals a frames replies b → AloneWithRefusals b others more c → AloneWithRefusals a (frames ++ others) (replies ++ more) c
-alone_more a b c [] others [] more h k = subst (λ (x : Option State). AloneWithRefusals x others more c) h k
+alone_more : (a b c : Option TenantState) (frames others replies more : List (List ℕ)) → AloneWithRefusals a frames replies b → AloneWithRefusals b others more c → AloneWithRefusals a (frames ++ others) (replies ++ more) c
+alone_more a b c [] others [] more h k = subst (λ (x : Option TenantState). AloneWithRefusals x others more c) h k
 alone_more a b c (frame ∷ frames) others (reply ∷ replies) more (between, answered, rest) k = (between, answered, alone_more between b c frames others replies more rest k)
 alone_more a b c [] others (reply ∷ replies) more h k = absurd h
 alone_more a b c (frame ∷ frames) others [] more h k = absurd h
@@ -35,24 +36,24 @@ replies_of-push t (f ∷ fs) [] frame reply len = absurd (omega arith)
 replies_of-push t (f ∷ fs) (r ∷ rs) frame reply len =
     pushed (owner f == t) r (replies_of t (fs ++ frame ∷ []) (rs ++ reply ∷ [])) (replies_of t fs rs) (replies_of t (frame ∷ []) (reply ∷ [])) (replies_of-push t fs rs frame reply (omega arith))
 
-one_by : (same : Bool) (frame reply : List ℕ) (before after : Option State) → (same ≡ true → MayTell frame reply before after) → (same ≡ false → after ≡ before)
+one_by : (same : Bool) (frame reply : List ℕ) (before after : Option TenantState) → (same ≡ true → MayReply frame reply before after) → (same ≡ false → after ≡ before)
     → AloneWithRefusals before (if same then frame ∷ [] else []) (if same then reply ∷ [] else []) after
 one_by true frame reply before after own other = (after, own refl, refl)
 one_by false frame reply before after own other = other refl
 
-one_alone : (t : ℕ) (frame reply : List ℕ) (before after : List State) → Handles before frame reply after
+one_alone : (t : ℕ) (frame reply : List ℕ) (before after : List TenantState) → Handles before frame reply after
     → AloneWithRefusals (slice_get before t) (frames_of t (frame ∷ [])) (replies_of t (frame ∷ []) (reply ∷ [])) (slice_get after t)
 one_alone t frame reply before after h =
     one_by (owner frame == t) frame reply (slice_get before t) (slice_get after t)
-    (λ e. subst (λ (n : ℕ). MayTell frame reply (slice_get before n) (slice_get after n)) (eqb-true (owner frame) t e) h.own)
+    (λ e. subst (λ (n : ℕ). MayReply frame reply (slice_get before n) (slice_get after n)) (eqb-true (owner frame) t e) h.own)
     (λ e. h.others t (λ k. eqb-false (owner frame) t e (sym k)))
 
-pub served_none : (states : List State) → IsServed states [] [] states
+pub served_none : (states : List TenantState) → EachIsToldByItsMachine states [] [] states
 served_none states t = refl
 
 -- what each tenant is told goes on by one frame
-pub served_more : (before mid after : List State) (frames replies : List (List ℕ)) (frame reply : List ℕ) → length replies ≡ length frames
-    → IsServed before frames replies mid → Handles mid frame reply after → IsServed before (frames ++ frame ∷ []) (replies ++ reply ∷ []) after
+pub served_more : (before mid after : List TenantState) (frames replies : List (List ℕ)) (frame reply : List ℕ) → length replies ≡ length frames
+    → EachIsToldByItsMachine before frames replies mid → Handles mid frame reply after → EachIsToldByItsMachine before (frames ++ frame ∷ []) (replies ++ reply ∷ []) after
 served_more before mid after frames replies frame reply len served h t =
     let more = alone_more (slice_get before t) (slice_get mid t) (slice_get after t) (frames_of t frames) (frames_of t (frame ∷ [])) (replies_of t frames replies) (replies_of t (frame ∷ []) (reply ∷ [])) (served t) (one_alone t frame reply mid after h) in
     let fs : frames_of t (frames ++ frame ∷ []) ≡ frames_of t frames ++ frames_of t (frame ∷ []) = filter-append (λ f. owner f == t) frames (frame ∷ []) in
@@ -86,7 +87,7 @@ joined-push replies reply = flat_map-append (λ r. r) replies (reply ∷ []) ∙
 
 -- ---- moments
 
-serves_more : (old mid new : Moment) (frames replies : List (List ℕ)) (frame reply out : List ℕ) → Serves old mid frames replies [] (joined replies) → Turns mid new frame reply out
+serves_more : (old mid new : StreamState) (frames replies : List (List ℕ)) (frame reply out : List ℕ) → Serves old mid frames replies [] (joined replies) → ServesOneFrame mid new frame reply out
     → Serves old new (frames ++ frame ∷ []) (replies ++ reply ∷ []) [] (joined replies ++ out)
 serves_more old mid new frames replies frame reply out s h = record {
   each = all_push IsFrame frames frame s.each h.is_frame;
@@ -97,18 +98,18 @@ serves_more old mid new frames replies frame reply out s h = record {
   no_fault = all_push (λ (r : List ℕ). ¬ IsFault r) replies reply s.no_fault h.handled.no_fault;
 }
 
-pub answered_none : (m : Moment) → Answered m m 0 []
+pub answered_none : (m : StreamState) → AnswersFrames m m 0 []
 answered_none m = ([], [], refl, record { each = tt; paired = refl; read = Consumes-nil m.input; written = Appends-nil m.output; served = served_none m.states; no_fault = tt })
 
-pub answered_more : (old mid new : Moment) (count : ℕ) (frame reply : List ℕ) → Answered old mid count [] → Turns mid new frame reply reply → Answered old new (count + 1) []
+pub answered_more : (old mid new : StreamState) (count : ℕ) (frame reply : List ℕ) → AnswersFrames old mid count [] → ServesOneFrame mid new frame reply reply → AnswersFrames old new (count + 1) []
 answered_more old mid new count frame reply (frames, replies, len, s) h =
     (frames ++ frame ∷ [], replies ++ reply ∷ [], omega (arith, len, length-append frames (frame ∷ [])), subst (Serves old new (frames ++ frame ∷ []) (replies ++ reply ∷ []) []) (sym (joined-push replies reply)) (serves_more old mid new frames replies frame reply reply s h))
 
-pub cut_off : (old mid new : Moment) (count n : ℕ) (frame reply : List ℕ) → Answered old mid count [] → Turns mid new frame reply (take n reply) → CutOff old new count
+pub cut_off : (old mid new : StreamState) (count n : ℕ) (frame reply : List ℕ) → AnswersFrames old mid count [] → ServesOneFrame mid new frame reply (take n reply) → CutsLastReply old new count
 cut_off old mid new count n frame reply (frames, replies, len, s) h =
     (frames ++ frame ∷ [], replies, reply, n, omega (arith, len, length-append frames (frame ∷ [])), omega (arith, len, s.paired), serves_more old mid new frames replies frame reply (take n reply) s h)
 
-pub answered_rest : (old mid new : Moment) (count : ℕ) (rest : List ℕ) → Answered old mid count [] → Waits mid new rest → Answered old new count rest
+pub answered_rest : (old mid new : StreamState) (count : ℕ) (rest : List ℕ) → AnswersFrames old mid count [] → ReadsOnly mid new rest → AnswersFrames old new count rest
 answered_rest old mid new count rest (frames, replies, len, s) h = (
   frames,
   replies,
@@ -118,15 +119,15 @@ answered_rest old mid new count rest (frames, replies, len, s) h = (
     paired = s.paired;
     read = read_rest old.input mid.input new.input frames rest s.read h.read;
     written = subst (λ (o : Option (List ℕ)). Appends old.output o (joined replies)) (sym h.written) s.written;
-    served = subst (λ (x : List State). IsServed old.states frames replies x) (sym h.states) s.served;
+    served = subst (λ (x : List TenantState). EachIsToldByItsMachine old.states frames replies x) (sym h.states) s.served;
     no_fault = s.no_fault;
   },
 )
 
 -- the room held as much of the frame as its answer depends on
-pub turns : (old new : Moment) (frame front reply out : List ℕ) → IsFrame frame → Consumes old.input new.input (framed frame) → StandsFor front frame
-    → Appends old.output new.output out → MayTell front reply (slice_get old.states (owner front)) (slice_get new.states (owner front))
-    → ((other : ℕ) → other ≢ owner front → slice_get new.states other ≡ slice_get old.states other) → ¬ IsFault reply → Turns old new frame reply out
+pub turns : (old new : StreamState) (frame front reply out : List ℕ) → IsFrame frame → Consumes old.input new.input (framed frame) → IsKeptFrontOf front frame
+    → Appends old.output new.output out → MayReply front reply (slice_get old.states (owner front)) (slice_get new.states (owner front))
+    → ((other : ℕ) → other ≢ owner front → slice_get new.states other ≡ slice_get old.states other) → ¬ IsFault reply → ServesOneFrame old new frame reply out
 turns old new frame front reply out is_frame read stands written own others no_fault =
     let same = stands_owner front frame stands in
     record {
@@ -134,7 +135,7 @@ turns old new frame front reply out is_frame read stands written own others no_f
       read = read;
       written = written;
       handled = record {
-        own = subst (λ (n : ℕ). MayTell frame reply (slice_get old.states n) (slice_get new.states n)) same (stands_tells front frame reply _ _ stands own);
+        own = subst (λ (n : ℕ). MayReply frame reply (slice_get old.states n) (slice_get new.states n)) same (stands_tells front frame reply _ _ stands own);
         others = λ other ne. others other (λ e. ne (e ∙ same));
         no_fault = no_fault;
       };
@@ -142,11 +143,11 @@ turns old new frame front reply out is_frame read stands written own others no_f
 
 -- ---- the end of a call
 
-sound_both : (old mid new : Moment) → IsSound old mid → IsSound mid new → IsSound old new
+sound_both : (old mid new : StreamState) → NoCallFailed old mid → NoCallFailed mid new → NoCallFailed old new
 sound_both old mid new h k = (k.0 ∙ h.0, k.1 ∙ h.1)
 
 -- a frame that stops the call
-pub frame_stops : (old mid new : Moment) (kind : ServeFaultKind) (count : ℕ) → Answered old mid count [] → IsSound old mid → StopsFrame mid new kind → Stops old new kind count
+pub frame_stops : (old mid new : StreamState) (kind : ServeFaultKind) (count : ℕ) → AnswersFrames old mid count [] → NoCallFailed old mid → StopsInFrame mid new kind → StopsWithFault old new kind count
 frame_stops old mid new Read count answered sound ((rest, partial, waits), failed) =
     (rest, partial, answered_rest old mid new count rest answered waits, omega (arith, sound.0, failed))
 frame_stops old mid new Write count answered sound ((frame, reply, n, turn), failed) =
@@ -157,18 +158,18 @@ frame_stops old mid new TooManyFrames count answered sound h = absurd h
 frame_stops old mid new Memory count answered sound h = absurd h
 
 -- the input is at its end
-pub frame_done : (old mid new : Moment) (count : ℕ) → Answered old mid count [] → IsSound old mid → EndsFrame mid new false → Finishes old new count
+pub frame_done : (old mid new : StreamState) (count : ℕ) → AnswersFrames old mid count [] → NoCallFailed old mid → ServesFrameOrEnds mid new false → ServesToEnd old new count
 frame_done old mid new count answered sound (waits, end, more) = (answered_rest old mid new count [] answered waits, end, sound_both old mid new sound more)
 
 -- as many frames are answered as the limit allows, and the input is at its end
-pub end_done : (old mid new : Moment) (count limit : ℕ) → count ≡ limit → Answered old mid count [] → IsSound old mid → Consumes mid.input new.input []
-    → new.output ≡ mid.output → new.states ≡ mid.states → IsAtEnd new.input → IsSound mid new → Finishes old new limit
+pub end_done : (old mid new : StreamState) (count limit : ℕ) → count ≡ limit → AnswersFrames old mid count [] → NoCallFailed old mid → Consumes mid.input new.input []
+    → new.output ≡ mid.output → new.states ≡ mid.states → IsAtEnd new.input → NoCallFailed mid new → ServesToEnd old new limit
 end_done old mid new count limit same answered sound read written states end more =
     let rest = answered_rest old mid new count [] answered (record { read = read; written = written; states = states }) in
-    (subst (λ (n : ℕ). Answered old new n []) same rest, end, sound_both old mid new sound more)
+    (subst (λ (n : ℕ). AnswersFrames old new n []) same rest, end, sound_both old mid new sound more)
 
 -- each tenant was told what its machine alone tells it
-pub serves_alone : UnrefusedAreToldAlone → (old new : Moment) (count : ℕ) → Finishes old new count → ServesAlone old new count
+pub serves_alone : UnrefusedAreToldAlone → (old new : StreamState) (count : ℕ) → ServesToEnd old new count → ServesAlone old new count
 serves_alone law old new count ((frames, replies, many, s), end, sound) = record {
   frames = frames;
   replies = replies;
@@ -179,19 +180,19 @@ serves_alone law old new count ((frames, replies, many, s), end, sound) = record
   no_fault = s.no_fault;
 }
 
-pub frame_more : (old mid new : Moment) (count : ℕ) → Answered old mid count [] → IsSound old mid → EndsFrame mid new true → Answered old new (count + 1) [] × IsSound old new
+pub frame_more : (old mid new : StreamState) (count : ℕ) → AnswersFrames old mid count [] → NoCallFailed old mid → ServesFrameOrEnds mid new true → AnswersFrames old new (count + 1) [] × NoCallFailed old new
 frame_more old mid new count answered sound ((frame, reply, turn), more) = (answered_more old mid new count frame reply answered turn, sound_both old mid new sound more)
 
 -- as many frames are answered as the limit allows, and another byte follows
-pub end_more : (old mid new : Moment) (count limit byte : ℕ) → count ≡ limit → Answered old mid count [] → IsSound old mid → Consumes mid.input new.input (byte ∷ [])
-    → new.output ≡ mid.output → new.states ≡ mid.states → IsSound mid new → Stops old new TooManyFrames limit
+pub end_more : (old mid new : StreamState) (count limit byte : ℕ) → count ≡ limit → AnswersFrames old mid count [] → NoCallFailed old mid → Consumes mid.input new.input (byte ∷ [])
+    → new.output ≡ mid.output → new.states ≡ mid.states → NoCallFailed mid new → StopsWithFault old new TooManyFrames limit
 end_more old mid new count limit byte same answered sound read written states more =
     let rest = answered_rest old mid new count (byte ∷ []) answered (record { read = read; written = written; states = states }) in
-    (byte ∷ [], lit≤ tt, subst (λ (n : ℕ). Answered old new n (byte ∷ [])) same rest, sound_both old mid new sound more)
+    (byte ∷ [], lit≤ tt, subst (λ (n : ℕ). AnswersFrames old new n (byte ∷ [])) same rest, sound_both old mid new sound more)
 
 -- or the call fails that would tell
-pub end_fails : (old mid new : Moment) (count limit : ℕ) (kind : ServeFaultKind) → kind ≡ Read → count ≡ limit → Answered old mid count [] → IsSound old mid
-    → Consumes mid.input new.input [] → new.output ≡ mid.output → new.states ≡ mid.states → mid.read_failures < new.read_failures → Stops old new kind limit
+pub end_fails : (old mid new : StreamState) (count limit : ℕ) (kind : ServeFaultKind) → kind ≡ Read → count ≡ limit → AnswersFrames old mid count [] → NoCallFailed old mid
+    → Consumes mid.input new.input [] → new.output ≡ mid.output → new.states ≡ mid.states → mid.read_failures < new.read_failures → StopsWithFault old new kind limit
 end_fails old mid new count limit kind is same answered sound read written states failed =
     let rest = answered_rest old mid new count [] answered (record { read = read; written = written; states = states }) in
-    subst (λ (k : ServeFaultKind). Stops old new k limit) (sym is) ([], inl (lit≤ tt), subst (λ (n : ℕ). Answered old new n []) same rest, omega (arith, sound.0, failed))
+    subst (λ (k : ServeFaultKind). StopsWithFault old new k limit) (sym is) ([], inl (lit≤ tt), subst (λ (n : ℕ). AnswersFrames old new n []) same rest, omega (arith, sound.0, failed))

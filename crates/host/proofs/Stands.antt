@@ -7,12 +7,12 @@ use Rattle.byteorder.specs.Endian.{little_number}
 use Rattle.command_frames.specs.declared.command.BadFrame.{BadFrame}
 use Rattle.command_frames.specs.Command.{Command, parsed}
 use Rattle.command_frames.specs.Frame.{owner, command_number, reply_to, reply_bytes}
-use Rattle.host.specs.Reading.{StandsFor}
+use Rattle.host.specs.inside.Reading.{IsKeptFrontOf}
 use Rattle.tenant.specs.declared.errno.Errno.{Errno}
 use Rattle.tenant.specs.declared.errno.Errno.TheVariants.{NotPermitted, Invalid}
 use Rattle.tenant.specs.Errno.{status_of}
-use Rattle.tenant.specs.State.{State}
-use Rattle.tenant.specs.Alone.{AnswersFrame, MayTell}
+use Rattle.tenant.specs.State.{TenantState}
+use Rattle.tenant.specs.Alone.{AnswersFrame, MayReply}
 
 same_byte : (xs ys : List ℕ) (k : ℕ) → k < 4 → take 4 xs ≡ take 4 ys → get_or xs k 0 ≡ get_or ys k 0
 same_byte xs ys k lt e = sym (get_or-take 4 xs k 0 lt) ∙ ap (λ (l : List ℕ). get_or l k 0) e ∙ get_or-take 4 ys k 0 lt
@@ -41,7 +41,7 @@ same_command front frame long_front long_frame e =
     let same : little_number 2 (drop 2 front) ≡ little_number 2 (drop 2 frame) = omega arith in
     long_command front long_front ∙ same ∙ sym (long_command frame long_frame)
 
-pub stands_owner : (front frame : List ℕ) → StandsFor front frame → owner front ≡ owner frame
+pub stands_owner : (front frame : List ℕ) → IsKeptFrontOf front frame → owner front ≡ owner frame
 stands_owner front frame (inl same) = ap owner same
 stands_owner front frame (inr h) = same_owner front frame h.0 h.1 h.2
 
@@ -67,8 +67,8 @@ none_status front frame o c long_front long_frame =
     same_head front frame (status_of (if nat_lt (length front) 4 then Invalid else NotPermitted)) [] o c
     ∙ ap (λ (e : Errno). reply_to frame (status_of e) []) (headed front long_front ∙ sym (headed frame long_frame))
 
-pub stands_tells : (front frame reply : List ℕ) (before after : Option State) → StandsFor front frame → MayTell front reply before after → MayTell frame reply before after
-stands_tells front frame reply before after (inl same) h = subst (λ (f : List ℕ). MayTell f reply before after) same h
+pub stands_tells : (front frame reply : List ℕ) (before after : Option TenantState) → IsKeptFrontOf front frame → MayReply front reply before after → MayReply frame reply before after
+stands_tells front frame reply before after (inl same) h = subst (λ (f : List ℕ). MayReply f reply before after) same h
 stands_tells front frame reply None after (inr (long_front, long_frame, e)) (refusals, h) =
     let o = same_owner front frame long_front long_frame e in
     let c = same_command front frame long_front long_frame e in

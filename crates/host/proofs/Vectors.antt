@@ -1,19 +1,19 @@
--- Words that name maps, and words that name none.
+-- Words that name maps, and arguments that name none.
 use Rattle.std.proofs.Common.{◌≡◌, ◌∷◌, [], Some, None, codes, refl}
 use Rattle.clap.proofs.OnLiterals.{clap_on_literals}
 use Rattle.tagged_model.specs.declared.shape.MapKind.TheVariants.{Array, Hash}
 use Rattle.tagged_model.specs.declared.shape.MapShape.{MapShape}
 use Rattle.tagged_model.specs.declared.shape.Named.{Named}
 use Rattle.tagged_model.specs.declared.shape.Target.TheVariants.{Map}
-use Rattle.host.specs.Decimal.{decimal_number}
-use Rattle.host.specs.Shapes.{descriptor_number, IsMapWord}
-use Rattle.host.specs.Words.{Verifies, asked, chosen_subcommand, refusal_kinds}
+use Rattle.host.specs.program.Decimal.{decimal_number}
+use Rattle.host.specs.program.Shapes.{descriptor_number, IsMapArgument}
+use Rattle.host.specs.program.Arguments.{Verifies, asked, chosen_subcommand, refusal_kinds}
 
 array_of_8_bytes : MapShape
 array_of_8_bytes = record { kind = Array; key_size = 4; value_size = 8; max_entries = 1; listed = refl }
 
 -- leading zeros count for nothing
-array_word : IsMapWord (codes "003:array:04:8:1") (record { fd = 3; target = Map array_of_8_bytes })
+array_word : IsMapArgument (codes "003:array:04:8:1") (record { fd = 3; target = Map array_of_8_bytes })
 unfolding array_of_8_bytes
 array_word = record {
   fd = codes "003";
@@ -31,7 +31,7 @@ array_word = record {
 largest_hash_map : MapShape
 largest_hash_map = record { kind = Hash; key_size = 64; value_size = 4096; max_entries = 16; listed = refl }
 
-hash_word : IsMapWord (codes "66:hash:64:4096:16") (record { fd = 66; target = Map largest_hash_map })
+hash_word : IsMapArgument (codes "66:hash:64:4096:16") (record { fd = 66; target = Map largest_hash_map })
 unfolding largest_hash_map
 hash_word = record {
   fd = codes "66";

@@ -1,11 +1,6 @@
 pub mod Stream
-pub mod Reading
 pub mod States
 pub mod Served
 pub mod Laws
-pub mod Failure
-pub mod Decimal
-pub mod Shapes
-pub mod Words
-pub mod Texts
-pub mod Judging
+pub mod program
+pub mod inside

@@ -1,13 +1,13 @@
--- The states of all tenants.
+-- The states of all tenants. This project's own.
 use Rattle.std.specs.Prelude.{ℕ, ◌+◌, List, [], ◌∷◌}
 use Rattle.arena.specs.Memory.{Memory, part_bytes}
-use Rattle.tenant.specs.Kept.{Kept, state_in}
-use Rattle.tenant.specs.State.{State}
+use Rattle.tenant.specs.Kept.{KeptTenant, state_in}
+use Rattle.tenant.specs.State.{TenantState}
 
 -- of the tenants from this number on: the values of a tenant's maps lie in its part of the memory
-unfoldable pub states_from : Memory → ℕ → List Kept → List State
+unfoldable pub states_from : Memory → ℕ → List KeptTenant → List TenantState
 states_from m t [] = []
 states_from m t (k ∷ ks) = state_in (part_bytes m t) k ∷ states_from m (t + 1) ks
 
-abbrev pub states_in : Memory → List Kept → List State
+abbrev pub states_in : Memory → List KeptTenant → List TenantState
 states_in m tenants = states_from m 0 tenants

@@ -1,4 +1,4 @@
--- What a read or a write did, beside the bytes: whether it failed.
+-- What a read or a write did, beside the bytes: whether it failed. This project's own.
 use Rattle.std.specs.Prelude.{ℕ, List, length, ◌==◌, ◌&&◌, not, if◌then◌else◌}
 use Rattle.std.specs.declared.result.Result.{Result}
 use Rattle.std.specs.declared.result.Result.TheVariants.{Ok, Err}

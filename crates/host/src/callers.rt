@@ -1,8 +1,9 @@
 //! What a caller can tell of a stream from the contracts alone.
 
 ghost use Rattle.std.specs.Prelude.{◌≡◌, ◌≤◌, ◌<◌, ◌-◌, ◌^◌, ℕ, List, replicate, IfSome};
-ghost use Rattle.tenant.specs.State.{State, new_tenant};
-ghost use Rattle.host.specs.Served.{ServesAlone};
+ghost use Rattle.tenant.specs.State.{TenantState, new_tenant};
+ghost use Rattle.host.specs.Served.{moment, ServesAlone};
+ghost use Rattle.host.specs.declared.host.TheConstants.{MOST_TENANTS};
 
 use crate::host::Host;
 use crate::server::serve;
@@ -17,12 +18,13 @@ fn serve_from_the_beginning<R: Source, W: Sink>(
     writer: &mut W,
 ) -> Option<u32>
     requires some { 1 ≤ tenants }
-    requires few { tenants ≤ 16 }
+    requires few { tenants ≤ MOST_TENANTS }
     requires reader { R.failures reader.old < 2 ^ 64 - 1 }
     requires writer { W.failures writer.old < 2 ^ 64 - 1 }
-    ensures { IfSome result (λ count. (after : List State) × ServesAlone
-        (record { states = replicate tenants new_tenant; input = R.remaining reader.old; output = W.contents writer.old; read_failures = R.failures reader.old; write_failures = W.failures writer.old })
-        (record { states = after; input = R.remaining reader.new; output = W.contents writer.new; read_failures = R.failures reader.new; write_failures = W.failures writer.new })
+    ensures { IfSome result (λ count. (after : List TenantState) × ServesAlone
+        (moment R.remaining R.failures W.contents W.failures
+        (replicate tenants new_tenant) reader.old writer.old)
+        (moment R.remaining R.failures W.contents W.failures after reader.new writer.new)
         count) }
 {
     let mut host = Host::new(alloc, tenants).ok()?;

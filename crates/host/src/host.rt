@@ -1,13 +1,13 @@
 //! The host of all tenants.
 
-ghost use Rattle.std.specs.Prelude.{◌≡◌, ◌≢◌, ℕ, ◌+◌, ◌*◌, ◌<◌, ◌≤◌, ◌^◌, [], length, replicate, slice_get, nat_lt, if◌then◌else◌, IfOk, IfSome, None};
+ghost use Rattle.std.specs.Prelude.{◌≡◌, ◌≢◌, ℕ, ◌+◌, ◌*◌, ◌<◌, ◌≤◌, ◌^◌, [], length, replicate, slice_get, IfOk, IfSome, None};
 ghost use Rattle.arena.specs.Memory.{Memory};
-ghost use Rattle.command_frames.specs.Frame.{owner, reply_to};
-ghost use Rattle.tenant.specs.Alone.{MayTell, IsFault};
+ghost use Rattle.command_frames.specs.Frame.{head_length, owner, reply_to};
+ghost use Rattle.tenant.specs.Alone.{unserved_errno, MayReply, IsFault};
 ghost use Rattle.tenant.specs.Errno.{status_of};
 ghost use Rattle.tenant.specs.State.{new_tenant};
-ghost use Rattle.tenant.specs.declared.errno.Errno.TheVariants.{NotPermitted, Invalid};
 ghost use Rattle.host.specs.States.{states_from};
+ghost use Rattle.host.specs.declared.host.TheConstants.{MOST_TENANTS};
 
 use arena::Arena;
 use bpf_maps::PART;
@@ -22,7 +22,10 @@ const NO_HEAD: Head = Head {
     command: u16::MAX,
 };
 
-/// The states of 1 to 16 tenants. In contracts it is the list of them, by the tenants' numbers.
+/// The most tenants of a host.
+pub const MOST_TENANTS: usize = 16;
+
+/// The states of 1 to `MOST_TENANTS` tenants. In contracts it is the list of them, by the tenants' numbers.
 #[derive(Drop)]
 pub struct Host {
     tenants: Vec<Tenant>,
@@ -34,19 +37,22 @@ pub struct Host {
 impl Model for Host {
     ghost use Rattle.std.specs.Prelude.{◌≡◌, List, ◌≤◌, vec_len};
     ghost use Rattle.bpf_maps.specs.declared.part.TheConstants.{PART};
+    ghost use Rattle.host.specs.declared.host.TheConstants.{MOST_TENANTS};
     ghost use Rattle.host.specs.States.{states_in};
-    ghost use Rattle.tenant.specs.State.{State};
+    ghost use Rattle.tenant.specs.State.{TenantState};
 
-    ghost Value = { List State };
+    ghost Value = { List TenantState };
 
     ghost view = { λ h. states_in h.arena h.tenants.items };
 
-    ghost invariant = { λ h. (vec_len h.tenants ≤ 16) × (h.arena.parts ≡ vec_len h.tenants) × (h.arena.part ≡ PART) };
+    ghost invariant = { λ h. (vec_len h.tenants ≤ MOST_TENANTS)
+        × (h.arena.parts ≡ vec_len h.tenants) × (h.arena.part ≡ PART) };
 }
 
 /// So many new tenants.
 fn new_tenants(alloc: Global, count: usize) -> Result<Vec<Tenant>, AllocError>
-    ensures new { IfOk result (λ tenants. (m : Memory) (first : ℕ) → states_from m first tenants.items ≡ replicate count new_tenant) }
+    ensures new { IfOk result (λ tenants. (m : Memory) (first : ℕ)
+        → states_from m first tenants.items ≡ replicate count new_tenant) }
     ensures count { IfOk result (λ tenants. length tenants.items ≡ count) }
 {
     let mut tenants = Vec::with_capacity(alloc, count)?;
@@ -58,7 +64,7 @@ fn new_tenants(alloc: Global, count: usize) -> Result<Vec<Tenant>, AllocError>
 
 /// The reply to a frame that belongs to no tenant that is served: it has no head, or it names another number.
 fn write_unserved(frame: &[u8], reply: &mut ReplyBuf)
-    ensures { reply.new ≡ reply_to frame.now (status_of (if nat_lt (length frame.now) 4 then Invalid else NotPermitted)) [] }
+    ensures { reply.new ≡ reply_to frame.now (status_of (unserved_errno frame.now)) [] }
 {
     match head(frame) {
         Some(head) => write_reply(head, Errno::NotPermitted.status(), &[], reply),
@@ -70,7 +76,7 @@ impl Host {
     /// A host for so many tenants, of which none has anything open. An error is want of memory.
     pub fn new(alloc: Global, tenants: usize) -> Result<Host, AllocError>
         requires some { 1 ≤ tenants }
-        requires few { tenants ≤ 16 }
+        requires few { tenants ≤ MOST_TENANTS }
         ensures { IfOk result (λ host. host ≡ replicate tenants new_tenant) }
     {
         Ok(Host {
@@ -82,7 +88,8 @@ impl Host {
 
     /// The number of the tenant that a frame belongs to, if it is served.
     fn served_tenant(&self, frame: &[u8]) -> Option<usize>
-        ensures served { IfSome result (λ tenant. (4 ≤ length frame.now) × (tenant ≡ owner frame.now) × (tenant < length self.now)) }
+        ensures served { IfSome result (λ tenant. (head_length ≤ length frame.now)
+            × (tenant ≡ owner frame.now) × (tenant < length self.now)) }
         ensures none { result ≡ None → slice_get self.now (owner frame.now) ≡ None }
     {
         let served = self.tenants.len();
@@ -93,8 +100,10 @@ impl Host {
     /// Handles a frame, which is what follows the length field; every length is allowed. The reply is left in the room
     /// for it, and the state of the frame's tenant goes on. Every other tenant stays as it is.
     pub fn handle(&mut self, frame: &[u8], reply: &mut ReplyBuf)
-        ensures own { MayTell frame.now reply.new (slice_get self.old (owner frame.now)) (slice_get self.new (owner frame.now)) }
-        ensures others { (other : ℕ) → other ≢ owner frame.now → slice_get self.new other ≡ slice_get self.old other }
+        ensures own { MayReply frame.now reply.new
+            (slice_get self.old (owner frame.now)) (slice_get self.new (owner frame.now)) }
+        ensures others { (other : ℕ) → other ≢ owner frame.now
+            → slice_get self.new other ≡ slice_get self.old other }
         ensures count { length self.new ≡ length self.old }
         ensures no_fault { ¬ IsFault reply.new }
     {

@@ -2,13 +2,13 @@
 
 ghost use Rattle.host.specs.Laws.{UnrefusedAreToldAlone, SameFramesSameReplies};
 
-use tenant::{clear_alone, one_alone};
+use tenant::{clear_flag_means_alone, one_alone};
 
 /// Each tenant to which no memory was refused is told what its machine alone tells it, whatever was refused to others.
 pub fn unrefused_are_told_alone()
     ensures { UnrefusedAreToldAlone }
 {
-    clear_alone();
+    clear_flag_means_alone();
 }
 
 /// Two streams that agree on a tenant's frames give it the same replies.

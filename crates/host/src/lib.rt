@@ -2,23 +2,18 @@
 #![tactic(auto)]
 
 mod callers;
-mod decimal;
-mod failure;
 mod host;
-mod judging;
 mod laws;
+mod program;
 mod reading;
 mod server;
-mod shapes;
 mod stream;
-mod texts;
-mod words;
 mod writing;
 
 pub use command_frames::ReplyBuf;
-pub use host::Host;
+pub use host::{Host, MOST_TENANTS};
 pub use laws::{same_frames_same_replies, unrefused_are_told_alone};
-pub use server::{ServeFault, ServeFaultKind, serve};
-pub use shapes::{BadShape, read_shape};
+pub use program::arguments::run_words;
+pub use program::shapes::{BadShape, read_shape};
+pub use server::{MOST_FRAMES, ServeFault, ServeFaultKind, serve};
 pub use stream::{Counted, Sink, Source};
-pub use words::run_words;

@@ -1,11 +1,12 @@
 //! Frames out of a reader.
 
 ghost use Rattle.std.specs.Prelude.{◌≡◌, ℕ, ◌+◌, ◌-◌, ◌<◌, ◌≤◌, ◌^◌, ◌++◌, [], List, length, take, drop, min, IfOk, IfErr, IfSome, IfNone, Ok, OnOk, OnErr};
-ghost use Rattle.std.specs.Io.KnownBytes.{Consumes, IsAtEnd};
+ghost use Rattle.std.specs.Io.KnownBytes.{IsAtEnd};
 ghost use Rattle.byteorder.specs.Endian.{little_number};
 ghost use Rattle.byteorder.specs.Endian.{little_bytes};
 ghost use Rattle.command_frames.specs.Frame.{framed, IsFrame, IsPartial};
-ghost use Rattle.host.specs.Reading.{ReadsShort, ReadsPartial, StopsRead, StandsFor};
+ghost use Rattle.host.specs.declared.reading.TheConstants.{KEPT};
+ghost use Rattle.host.specs.inside.Reading.{ReadsFewer, ReadsPartial, StopsAt, IsKeptFrontOf, Takes};
 
 use crate::server::ServeFaultKind;
 use crate::stream::Source;
@@ -19,12 +20,13 @@ pub(crate) const KEPT: usize = LONGEST_FRAME + 1;
 /// Reads until the buffer is full or the input ends, and says how many bytes came.
 pub(crate) fn fill<S: Source>(reader: &mut S, buffer: &mut [u8]) -> Result<usize, ServeFaultKind>
     requires { S.failures reader.old < 2 ^ 64 - 1 }
-    ensures bytes { IfOk result (λ n. Consumes (S.remaining reader.old) (S.remaining reader.new) (take n buffer.new)) }
+    ensures bytes { IfOk result (λ n. Takes S.remaining reader.old reader.new (take n buffer.new)) }
     ensures bound { IfOk result (λ n. n ≤ length buffer.new) }
     ensures end { IfOk result (λ n. n < length buffer.new → IsAtEnd (S.remaining reader.new)) }
     ensures sound { IfOk result (λ n. S.failures reader.new ≡ S.failures reader.old) }
     ensures kind { IfErr result (λ kind. kind ≡ ServeFaultKind.Read) }
-    ensures part { OnErr result ((n : ℕ) × (n < length buffer.new) × Consumes (S.remaining reader.old) (S.remaining reader.new) (take n buffer.new)) }
+    ensures part { OnErr result ((n : ℕ) × (n < length buffer.new)
+        × Takes S.remaining reader.old reader.new (take n buffer.new)) }
     ensures failed { OnErr result (S.failures reader.old < S.failures reader.new) }
 {
     let mut at = 0;
@@ -49,12 +51,16 @@ fn number_in(bytes: &[u8]) -> u32
 /// Reads the length of a frame: none where the input ends before it.
 fn read_length<S: Source>(reader: &mut S) -> Result<Option<u32>, ServeFaultKind>
     requires { S.failures reader.old < 2 ^ 64 - 1 }
-    ensures some { IfOk result (λ found. IfSome found (λ total. Consumes (S.remaining reader.old) (S.remaining reader.new) (little_bytes 4 total))) }
+    ensures some { IfOk result (λ found.
+        IfSome found (λ total. Takes S.remaining reader.old reader.new (little_bytes 4 total))) }
     ensures bound { IfOk result (λ found. IfSome found (λ total. total < 2 ^ 32)) }
-    ensures none { IfOk result (λ found. IfNone found (Consumes (S.remaining reader.old) (S.remaining reader.new) [] × IsAtEnd (S.remaining reader.new))) }
+    ensures none { IfOk result (λ found. IfNone found (Takes S.remaining reader.old reader.new []
+        × IsAtEnd (S.remaining reader.new))) }
     ensures sound { OnOk result (S.failures reader.new ≡ S.failures reader.old) }
-    ensures short { IfErr result (λ kind. ReadsPartial kind (S.remaining reader.old) (S.remaining reader.new)) }
-    ensures stop { IfErr result (λ kind. StopsRead kind (S.remaining reader.new) (S.failures reader.old) (S.failures reader.new)) }
+    ensures short { IfErr result (λ kind.
+        ReadsPartial kind (S.remaining reader.old) (S.remaining reader.new)) }
+    ensures stop { IfErr result (λ kind.
+        StopsAt S.remaining S.failures kind reader.old reader.new) }
 {
     let mut bytes = [0; 4];
     let count = fill(reader, &mut bytes)?;
@@ -71,10 +77,13 @@ fn read_length<S: Source>(reader: &mut S) -> Result<Option<u32>, ServeFaultKind>
 fn skip<S: Source>(reader: &mut S, scratch: &mut [u8], count: usize) -> Result<(), ServeFaultKind>
     requires failures { S.failures reader.old < 2 ^ 64 - 1 }
     requires scratch { 0 < length scratch.old }
-    ensures bytes { OnOk result ((bytes : List ℕ) × (length bytes ≡ count) × Consumes (S.remaining reader.old) (S.remaining reader.new) bytes) }
+    ensures bytes { OnOk result ((bytes : List ℕ) × (length bytes ≡ count)
+        × Takes S.remaining reader.old reader.new bytes) }
     ensures sound { OnOk result (S.failures reader.new ≡ S.failures reader.old) }
-    ensures short { OnErr result (ReadsShort (S.remaining reader.old) (S.remaining reader.new) count) }
-    ensures stop { IfErr result (λ kind. StopsRead kind (S.remaining reader.new) (S.failures reader.old) (S.failures reader.new)) }
+    ensures short { OnErr result
+        (ReadsFewer (S.remaining reader.old) (S.remaining reader.new) count) }
+    ensures stop { IfErr result (λ kind.
+        StopsAt S.remaining S.failures kind reader.old reader.new) }
 {
     let mut left = count;
     while left > 0 {
@@ -96,10 +105,12 @@ fn read_whole<S: Source>(
 ) -> Result<(), ServeFaultKind>
     requires failures { S.failures reader.old < 2 ^ 64 - 1 }
     requires room { count ≤ length buffer.old }
-    ensures bytes { OnOk result (Consumes (S.remaining reader.old) (S.remaining reader.new) (take count buffer.new)) }
+    ensures bytes { OnOk result (Takes S.remaining reader.old reader.new (take count buffer.new)) }
     ensures sound { OnOk result (S.failures reader.new ≡ S.failures reader.old) }
-    ensures short { OnErr result (ReadsShort (S.remaining reader.old) (S.remaining reader.new) count) }
-    ensures stop { IfErr result (λ kind. StopsRead kind (S.remaining reader.new) (S.failures reader.old) (S.failures reader.new)) }
+    ensures short { OnErr result
+        (ReadsFewer (S.remaining reader.old) (S.remaining reader.new) count) }
+    ensures stop { IfErr result (λ kind.
+        StopsAt S.remaining S.failures kind reader.old reader.new) }
 {
     let came = fill(reader, &mut buffer[..count])?;
     if came < count {
@@ -115,12 +126,15 @@ fn read_long<S: Source>(
     total: usize,
 ) -> Result<(), ServeFaultKind>
     requires failures { S.failures reader.old < 2 ^ 64 - 1 }
-    requires room { length buffer.old ≡ 65537 }
-    requires long { 65537 < total }
-    ensures frame { OnOk result ((frame : List ℕ) × (length frame ≡ total) × Consumes (S.remaining reader.old) (S.remaining reader.new) frame × (take 4 buffer.new ≡ take 4 frame)) }
+    requires room { length buffer.old ≡ KEPT }
+    requires long { KEPT < total }
+    ensures frame { OnOk result ((frame : List ℕ) × (length frame ≡ total)
+        × Takes S.remaining reader.old reader.new frame × (take 4 buffer.new ≡ take 4 frame)) }
     ensures sound { OnOk result (S.failures reader.new ≡ S.failures reader.old) }
-    ensures short { OnErr result (ReadsShort (S.remaining reader.old) (S.remaining reader.new) total) }
-    ensures stop { IfErr result (λ kind. StopsRead kind (S.remaining reader.new) (S.failures reader.old) (S.failures reader.new)) }
+    ensures short { OnErr result
+        (ReadsFewer (S.remaining reader.old) (S.remaining reader.new) total) }
+    ensures stop { IfErr result (λ kind.
+        StopsAt S.remaining S.failures kind reader.old reader.new) }
 {
     read_whole(reader, buffer, KEPT)?;
     skip(reader, &mut buffer[4..], total - KEPT)?;
@@ -134,12 +148,16 @@ fn read_body<S: Source>(
     total: usize,
 ) -> Result<usize, ServeFaultKind>
     requires failures { S.failures reader.old < 2 ^ 64 - 1 }
-    requires room { length buffer.old ≡ 65537 }
-    ensures frame { IfOk result (λ kept. (frame : List ℕ) × (length frame ≡ total) × Consumes (S.remaining reader.old) (S.remaining reader.new) frame × StandsFor (take kept buffer.new) frame) }
-    ensures bound { IfOk result (λ kept. kept ≤ 65537) }
+    requires room { length buffer.old ≡ KEPT }
+    ensures frame { IfOk result (λ kept. (frame : List ℕ) × (length frame ≡ total)
+        × Takes S.remaining reader.old reader.new frame
+        × IsKeptFrontOf (take kept buffer.new) frame) }
+    ensures bound { IfOk result (λ kept. kept ≤ KEPT) }
     ensures sound { OnOk result (S.failures reader.new ≡ S.failures reader.old) }
-    ensures short { OnErr result (ReadsShort (S.remaining reader.old) (S.remaining reader.new) total) }
-    ensures stop { IfErr result (λ kind. StopsRead kind (S.remaining reader.new) (S.failures reader.old) (S.failures reader.new)) }
+    ensures short { OnErr result
+        (ReadsFewer (S.remaining reader.old) (S.remaining reader.new) total) }
+    ensures stop { IfErr result (λ kind.
+        StopsAt S.remaining S.failures kind reader.old reader.new) }
 {
     if total <= KEPT {
         read_whole(reader, buffer, total)?;
@@ -157,13 +175,18 @@ pub(crate) fn read_frame<S: Source>(
     buffer: &mut [u8],
 ) -> Result<Option<usize>, ServeFaultKind>
     requires failures { S.failures reader.old < 2 ^ 64 - 1 }
-    requires room { length buffer.old ≡ 65537 }
-    ensures frame { IfOk result (λ found. IfSome found (λ kept. (frame : List ℕ) × IsFrame frame × Consumes (S.remaining reader.old) (S.remaining reader.new) (framed frame) × StandsFor (take kept buffer.new) frame)) }
-    ensures bound { IfOk result (λ found. IfSome found (λ kept. kept ≤ 65537)) }
-    ensures none { IfOk result (λ found. IfNone found (Consumes (S.remaining reader.old) (S.remaining reader.new) [] × IsAtEnd (S.remaining reader.new))) }
+    requires room { length buffer.old ≡ KEPT }
+    ensures frame { IfOk result (λ found. IfSome found (λ kept. (frame : List ℕ) × IsFrame frame
+        × Takes S.remaining reader.old reader.new (framed frame)
+        × IsKeptFrontOf (take kept buffer.new) frame)) }
+    ensures bound { IfOk result (λ found. IfSome found (λ kept. kept ≤ KEPT)) }
+    ensures none { IfOk result (λ found. IfNone found (Takes S.remaining reader.old reader.new []
+        × IsAtEnd (S.remaining reader.new))) }
     ensures sound { OnOk result (S.failures reader.new ≡ S.failures reader.old) }
-    ensures short { IfErr result (λ kind. ReadsPartial kind (S.remaining reader.old) (S.remaining reader.new)) }
-    ensures stop { IfErr result (λ kind. StopsRead kind (S.remaining reader.new) (S.failures reader.old) (S.failures reader.new)) }
+    ensures short { IfErr result (λ kind.
+        ReadsPartial kind (S.remaining reader.old) (S.remaining reader.new)) }
+    ensures stop { IfErr result (λ kind.
+        StopsAt S.remaining S.failures kind reader.old reader.new) }
 {
     let Some(total) = read_length(reader)? else {
         return Ok(None);

@@ -2,9 +2,12 @@
 
 ghost use Rattle.std.specs.Prelude.{◌≡◌, ◌≢◌, ℕ, ◌+◌, ◌-◌, ◌<◌, ◌≤◌, ◌^◌, [], List, length, take, IfOk, IfErr, OnOk, OnErr, IsTrue, true, false, slice_get};
 ghost use Rattle.std.specs.Prelude.{◌∷◌};
-ghost use Rattle.std.specs.Io.KnownBytes.{Consumes, IsAtEnd};
-ghost use Rattle.host.specs.Reading.{ReadsPartial, StopsRead};
-ghost use Rattle.host.specs.Served.{Moment, IsSound, Turns, Waits, Answered, CutOff, Finishes, Stops, ServesAlone, EndsFrame, StopsFrame};
+ghost use Rattle.std.specs.Io.KnownBytes.{IsAtEnd};
+ghost use Rattle.host.specs.declared.reading.TheConstants.{KEPT};
+ghost use Rattle.host.specs.declared.server.TheConstants.{MOST_FRAMES};
+ghost use Rattle.host.specs.inside.Reading.{Takes};
+ghost use Rattle.host.specs.Served.{moment, StreamState, NoCallFailed, AnswersFrames, CutsLastReply, ServesToEnd, StopsWithFault, ServesAlone};
+ghost use Rattle.host.specs.inside.Frame.{ServesOneFrame, ReadsOnly, ServesFrameOrEnds, StopsInFrame};
 
 use crate::host::Host;
 use crate::laws::unrefused_are_told_alone;
@@ -13,6 +16,9 @@ use crate::stream::{Sink, Source};
 use crate::writing::write_whole;
 use command_frames::ReplyBuf;
 use std::alloc::{AllocError, Global};
+
+/// The most frames that a call of `serve` may be allowed.
+pub const MOST_FRAMES: u32 = 16_777_216;
 
 /// Why a stream was not served to its end.
 #[derive(Clone, Copy, Debug, PartialEq, Eq)]
@@ -41,7 +47,7 @@ pub struct ServeFault {
 struct Rooms {
     frame: Vec<u8>,
     reply: ReplyBuf,
-    ghost long: { length frame.items ≡ 65537 },
+    ghost long: { length frame.items ≡ KEPT },
 }
 
 impl Rooms {
@@ -62,13 +68,13 @@ fn serve_frame<R: Source, W: Sink>(
 ) -> Result<bool, ServeFaultKind>
     requires reader { R.failures reader.old < 2 ^ 64 - 1 }
     requires writer { W.failures writer.old < 2 ^ 64 - 1 }
-    ensures done { IfOk result (λ more. EndsFrame
-        (record { states = host.old; input = R.remaining reader.old; output = W.contents writer.old; read_failures = R.failures reader.old; write_failures = W.failures writer.old })
-        (record { states = host.new; input = R.remaining reader.new; output = W.contents writer.new; read_failures = R.failures reader.new; write_failures = W.failures writer.new })
+    ensures done { IfOk result (λ more. ServesFrameOrEnds
+        (moment R.remaining R.failures W.contents W.failures host.old reader.old writer.old)
+        (moment R.remaining R.failures W.contents W.failures host.new reader.new writer.new)
         more) }
-    ensures fault { IfErr result (λ kind. StopsFrame
-        (record { states = host.old; input = R.remaining reader.old; output = W.contents writer.old; read_failures = R.failures reader.old; write_failures = W.failures writer.old })
-        (record { states = host.new; input = R.remaining reader.new; output = W.contents writer.new; read_failures = R.failures reader.new; write_failures = W.failures writer.new })
+    ensures fault { IfErr result (λ kind. StopsInFrame
+        (moment R.remaining R.failures W.contents W.failures host.old reader.old writer.old)
+        (moment R.remaining R.failures W.contents W.failures host.new reader.new writer.new)
         kind) }
 {
     let Some(kept) = read_frame(reader, &mut rooms.frame)? else {
@@ -82,11 +88,14 @@ fn serve_frame<R: Source, W: Sink>(
 /// Whether the input is at its end. One byte more is taken from it where it isn't.
 fn is_at_end<R: Source>(reader: &mut R) -> Result<bool, ServeFaultKind>
     requires { R.failures reader.old < 2 ^ 64 - 1 }
-    ensures end { IfOk result (λ end. end ≡ true → Consumes (R.remaining reader.old) (R.remaining reader.new) [] × IsAtEnd (R.remaining reader.new)) }
-    ensures more { IfOk result (λ end. end ≡ false → (byte : ℕ) × Consumes (R.remaining reader.old) (R.remaining reader.new) (byte ∷ [])) }
+    ensures end { IfOk result (λ end. end ≡ true → Takes R.remaining reader.old reader.new []
+        × IsAtEnd (R.remaining reader.new)) }
+    ensures more { IfOk result (λ end. end ≡ false → (byte : ℕ)
+        × Takes R.remaining reader.old reader.new (byte ∷ [])) }
     ensures sound { OnOk result (R.failures reader.new ≡ R.failures reader.old) }
     ensures kind { IfErr result (λ kind. kind ≡ ServeFaultKind.Read) }
-    ensures failed { OnErr result (Consumes (R.remaining reader.old) (R.remaining reader.new) [] × (R.failures reader.old < R.failures reader.new)) }
+    ensures failed { OnErr result (Takes R.remaining reader.old reader.new []
+        × (R.failures reader.old < R.failures reader.new)) }
 {
     let mut byte = [0; 1];
     let count = fill(reader, &mut byte)?;
@@ -108,24 +117,25 @@ pub fn serve<R: Source, W: Sink>(
     writer: &mut W,
     limit: u32,
 ) -> Result<u32, ServeFault>
-    requires limit { limit ≤ 16777216 }
+    requires limit { limit ≤ MOST_FRAMES }
     requires reader { R.failures reader.old < 2 ^ 64 - 1 }
     requires writer { W.failures writer.old < 2 ^ 64 - 1 }
-    ensures done { IfOk result (λ count. Finishes
-        (record { states = host.old; input = R.remaining reader.old; output = W.contents writer.old; read_failures = R.failures reader.old; write_failures = W.failures writer.old })
-        (record { states = host.new; input = R.remaining reader.new; output = W.contents writer.new; read_failures = R.failures reader.new; write_failures = W.failures writer.new })
+    ensures done { IfOk result (λ count. ServesToEnd
+        (moment R.remaining R.failures W.contents W.failures host.old reader.old writer.old)
+        (moment R.remaining R.failures W.contents W.failures host.new reader.new writer.new)
         count) }
     ensures alone { IfOk result (λ count. ServesAlone
-        (record { states = host.old; input = R.remaining reader.old; output = W.contents writer.old; read_failures = R.failures reader.old; write_failures = W.failures writer.old })
-        (record { states = host.new; input = R.remaining reader.new; output = W.contents writer.new; read_failures = R.failures reader.new; write_failures = W.failures writer.new })
+        (moment R.remaining R.failures W.contents W.failures host.old reader.old writer.old)
+        (moment R.remaining R.failures W.contents W.failures host.new reader.new writer.new)
         count) }
     ensures few { IfOk result (λ count. count ≤ limit) }
-    ensures fault { IfErr result (λ fault. Stops
-        (record { states = host.old; input = R.remaining reader.old; output = W.contents writer.old; read_failures = R.failures reader.old; write_failures = W.failures writer.old })
-        (record { states = host.new; input = R.remaining reader.new; output = W.contents writer.new; read_failures = R.failures reader.new; write_failures = W.failures writer.new })
+    ensures fault { IfErr result (λ fault. StopsWithFault
+        (moment R.remaining R.failures W.contents W.failures host.old reader.old writer.old)
+        (moment R.remaining R.failures W.contents W.failures host.new reader.new writer.new)
         fault.kind fault.frames) }
     ensures few_before { IfErr result (λ fault. fault.frames ≤ limit) }
-    ensures too_many { IfErr result (λ fault. fault.kind ≡ ServeFaultKind.TooManyFrames → fault.frames ≡ limit) }
+    ensures too_many { IfErr result (λ fault. fault.kind ≡ ServeFaultKind.TooManyFrames
+        → fault.frames ≡ limit) }
 {
     let Ok(mut rooms) = Rooms::new(alloc) else {
         return Err(ServeFault {

@@ -38,7 +38,8 @@ pub trait Sink {
         requires { failures self.old < 2 ^ 64 - 1 }
         ensures bound { WritesAtMost result bytes.now }
         ensures bytes { WriteAppends (contents self.old) (contents self.new) result bytes.now }
-        ensures failures { failures self.new ≡ failures self.old + write_failures result bytes.now };
+        ensures failures { failures self.new
+            ≡ failures self.old + write_failures result bytes.now };
 
     /// Sends on what was written.
     fn flush(&mut self) -> io::Result<()>

@@ -9,10 +9,12 @@ use crate::stream::Sink;
 /// Writes all of the bytes, each once, and sends them on.
 pub(crate) fn write_whole<S: Sink>(writer: &mut S, bytes: &[u8]) -> Result<(), ServeFaultKind>
     requires { S.failures writer.old < 2 ^ 64 - 1 }
-    ensures whole { OnOk result (Appends (S.contents writer.old) (S.contents writer.new) bytes.now) }
+    ensures whole { OnOk result
+        (Appends (S.contents writer.old) (S.contents writer.new) bytes.now) }
     ensures sound { OnOk result (S.failures writer.new ≡ S.failures writer.old) }
     ensures kind { IfErr result (λ kind. kind ≡ ServeFaultKind.Write) }
-    ensures part { OnErr result ((n : ℕ) × (n ≤ length bytes.now) × Appends (S.contents writer.old) (S.contents writer.new) (take n bytes.now)) }
+    ensures part { OnErr result ((n : ℕ) × (n ≤ length bytes.now)
+        × Appends (S.contents writer.old) (S.contents writer.new) (take n bytes.now)) }
     ensures failed { OnErr result (S.failures writer.old < S.failures writer.new) }
 {
     let mut rest = bytes;

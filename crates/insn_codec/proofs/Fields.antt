@@ -3,7 +3,7 @@ use Rattle.std.proofs.Common.{◌≡◌, ℕ, ◌+◌, ◌^◌, ◌<◌, ◌≤�
 use Rattle.std.specs.Prelude.{IsTrue, FitsSigned, ℤ}
 use Rattle.std.specs.Int.{w16, w32}
 use Rattle.std.proofs.lemmas.Int.{ints}
-use Rattle.insn_codec.specs.declared.slot.Slot.{Slot}
+use Rattle.insn_codec.specs.declared.slot.SlotFields.{SlotFields}
 use Rattle.insn_codec.specs.declared.insn.AluOp.{AluOp}
 use Rattle.insn_codec.specs.declared.insn.AluOp.TheVariants as op
 use Rattle.insn_codec.specs.declared.insn.ByteOrder.{ByteOrder}
@@ -15,9 +15,9 @@ use Rattle.insn_codec.specs.declared.insn.Operand.{Operand}
 use Rattle.insn_codec.specs.declared.insn.Operand.TheVariants as operand
 use Rattle.insn_codec.specs.declared.insn.Insn.{Insn}
 use Rattle.insn_codec.specs.declared.insn.Insn.TheVariants.{Alu, Movsx, Neg, End, Ja, Jal, Jump, Call, Exit, Load, Store, Const, MapFd}
-use Rattle.insn_codec.specs.declared.opcode.Source.TheVariants as source
+use Rattle.insn_codec.specs.declared.opcode.SourceBit.TheVariants as source
 use Rattle.insn_codec.specs.declared.opcode.AluCode.TheVariants as code
-use Rattle.insn_codec.specs.declared.form.Form.TheVariants as form
+use Rattle.insn_codec.specs.declared.form.OpcodeForm.TheVariants as form
 use Rattle.insn_codec.specs.Sizes.{is_short}
 use Rattle.insn_codec.specs.Numbers.{opcode, alu_class, jump_class, alu_number, alu_offset, condition_number, narrow_number, bits_number, end_opcode, memory_opcode, offset_bits, imm_bits}
 use Rattle.insn_codec.specs.inside.Form.{listed, one_operand, offset_listed}
@@ -121,7 +121,7 @@ imm_field_lt top (operand.Imm n) h = imm_bits_lt n h
 imm_field_lt top (operand.Reg r) h = lit< tt
 
 -- registers up to a number, and fields that fit their bits
-pub record IsFront (top : ℕ) (s : Slot) : Type 0 where
+pub record IsFront (top : ℕ) (s : SlotFields) : Type 0 where
   pub dst : s.dst ≤ top
   pub src : s.src ≤ top
   pub offset : s.offset < 2 ^ 16
@@ -142,5 +142,5 @@ IsFront-first top (Store s dst src off) some h = record { dst = h.0; src = src_f
 IsFront-first top (Const dst value) some h = record { dst = h.0; src = zero_le top; offset = lit< tt; imm = omega arith }
 IsFront-first top (MapFd dst fd) some h = record { dst = h.0; src = some; offset = lit< tt; imm = imm_bits_lt fd h.1 }
 
-pub IsSlot-front : (top : ℕ) (s : Slot) → top ≤ 15 → IsFront top s → IsSlot s
+pub IsSlot-front : (top : ℕ) (s : SlotFields) → top ≤ 15 → IsFront top s → IsSlot s
 IsSlot-front top s few h = record { dst = omega (arith, h.dst, few); src = omega (arith, h.src, few); offset = h.offset; imm = h.imm }

@@ -3,15 +3,16 @@ use Rattle.std.proofs.Common.{◌≡◌, ℕ, ◌<◌, ◌≤◌, Bool, true, fa
 use Rattle.std.proofs.lemmas.Bool.{both_ways, and_cases, and_parts, leb-true, leb-false, ltb-true, ltb-false}
 use Rattle.std.proofs.lemmas.List.{take-append-drop}
 use Rattle.std.proofs.lemmas.Option.{none-some, same_Some}
-use Rattle.insn_codec.specs.declared.slot.Slot.{Slot}
+use Rattle.insn_codec.specs.declared.slot.SlotFields.{SlotFields}
 use Rattle.insn_codec.specs.declared.fault.FaultKind.{FaultKind}
 use Rattle.insn_codec.specs.declared.fault.FaultKind.TheVariants.{Opcode, Reserved, Register, SecondSlot, Ragged}
 use Rattle.insn_codec.specs.declared.opcode.WideKind.{WideKind}
-use Rattle.insn_codec.specs.declared.form.Form.{Form}
-use Rattle.insn_codec.specs.declared.form.Form.TheVariants as form
+use Rattle.insn_codec.specs.declared.form.OpcodeForm.{OpcodeForm}
+use Rattle.insn_codec.specs.declared.form.OpcodeForm.TheVariants as form
 use Rattle.insn_codec.specs.inside.Form.{wide_at, form_at, listed}
 use Rattle.insn_codec.specs.inside.FirstFault.{is_second, next_fault, second_fault, fault_in_form, fault_by_form, first_fault}
-use Rattle.insn_codec.specs.Slot.{slot_of, slot_bytes}
+use Rattle.insn_codec.specs.Slot.{slot_bytes}
+use Rattle.insn_codec.specs.inside.Slots.{slot_of}
 use Rattle.insn_codec.specs.Spelling.{first}
 use Rattle.insn_codec.specs.Fault.{HasFirstSlot, HasInsn, HasFault}
 use Rattle.insn_codec.proofs.Slots.{IsBytes, slot_of-append, slot_bytes-slot_of, IsSlot-slot_of}
@@ -28,25 +29,25 @@ read_slot top bytes some few h =
     let whole : bytes ≡ slot_bytes (first h.0) ++ drop 8 bytes = sym (take-append-drop 8 bytes) ∙ ap (λ (x : List ℕ). x ++ drop 8 bytes) h.2 in
     ap slot_of whole ∙ slot_of-append (first h.0) (drop 8 bytes) (IsSlot-front top (first h.0) few (IsFront-first top h.0 some h.1))
 
-same_form : (f g : Form) → Some f ≡ Some g → f ≡ g
+same_form : (f g : OpcodeForm) → Some f ≡ Some g → f ≡ g
 same_form f g e = same_Some f g e
 
 -- bytes of known opcode, read as a slot
-record IsRead (bytes : List ℕ) (f : Form) : Type 0 where
+record IsRead (bytes : List ℕ) (f : OpcodeForm) : Type 0 where
   fits : IsBytes bytes
   long : 8 ≤ length bytes
   form : form_at (slot_of bytes).opcode ≡ Some f
 
-not_listed : (bytes : List ℕ) (f : Form) → IsRead bytes f → listed f (slot_of bytes) ≡ false → HasFirstSlot 15 bytes → ⊥
+not_listed : (bytes : List ℕ) (f : OpcodeForm) → IsRead bytes f → listed f (slot_of bytes) ≡ false → HasFirstSlot 15 bytes → ⊥
 not_listed bytes f r unlisted h =
     let s = read_slot 15 bytes (lit≤ tt) (lit≤ tt) h in
-    let f-is : f ≡ form_of h.0 = same_form f (form_of h.0) (sym r.form ∙ ap (λ (x : Slot). form_at x.opcode) s ∙ form_at-first h.0) in
-    both_ways (listed f (slot_of bytes)) unlisted (ap (λ (g : Form). listed g (slot_of bytes)) f-is ∙ ap (listed (form_of h.0)) s ∙ listed-first h.0)
+    let f-is : f ≡ form_of h.0 = same_form f (form_of h.0) (sym r.form ∙ ap (λ (x : SlotFields). form_at x.opcode) s ∙ form_at-first h.0) in
+    both_ways (listed f (slot_of bytes)) unlisted (ap (λ (g : OpcodeForm). listed g (slot_of bytes)) f-is ∙ ap (listed (form_of h.0)) s ∙ listed-first h.0)
 
 byte_opcode : (bytes : List ℕ) → IsBytes bytes → (slot_of bytes).opcode < 256
 byte_opcode bytes fits = omega (arith, fits 0, opcode-slot_of bytes)
 
-has_first_slot : (top : ℕ) (bytes : List ℕ) (f : Form) → IsRead bytes f → listed f (slot_of bytes) ≡ true → (slot_of bytes).dst ≤ top → (slot_of bytes).src ≤ top → HasFirstSlot top bytes
+has_first_slot : (top : ℕ) (bytes : List ℕ) (f : OpcodeForm) → IsRead bytes f → listed f (slot_of bytes) ≡ true → (slot_of bytes).dst ≤ top → (slot_of bytes).src ≤ top → HasFirstSlot top bytes
 has_first_slot top bytes f r ok dst src =
     let fields = IsSlot-slot_of bytes r.fits r.long in
     let is_of : IsOf f (slot_of bytes) = record { opcode = opcode_of-slot f (slot_of bytes) (byte_opcode bytes r.fits) r.form; listed = ok; offset = fields.offset; imm = fields.imm } in (
@@ -60,13 +61,13 @@ no_register bytes many h =
     let s = read_slot 10 bytes (lit≤ tt) (lit≤ tt) h in
     let r = IsFront-first 10 h.0 (lit≤ tt) h.1 in
     elim (and_cases (leb (slot_of bytes).dst 10) (leb (slot_of bytes).src 10) many) [
-      | inl high ↦ omega (arith, leb-false _ _ high, r.dst, ap (λ (x : Slot). x.dst) s)
-      | inr high ↦ omega (arith, leb-false _ _ high, r.src, ap (λ (x : Slot). x.src) s)
+      | inl high ↦ omega (arith, leb-false _ _ high, r.dst, ap (λ (x : SlotFields). x.dst) s)
+      | inr high ↦ omega (arith, leb-false _ _ high, r.src, ap (λ (x : SlotFields). x.src) s)
     ]
 
 -- ---- by the tests of the code, from the last one back
 
-second_kind : (f : Form) (src : ℕ) (rest : List ℕ) (kind : FaultKind) → second_fault f src rest ≡ Some kind → kind ≡ SecondSlot
+second_kind : (f : OpcodeForm) (src : ℕ) (rest : List ℕ) (kind : FaultKind) → second_fault f src rest ≡ Some kind → kind ≡ SecondSlot
 second_kind form.Wide src rest kind e = of_length (ltb (length rest) 8) (wide_at src) e where
   of_second : (yes : Bool) → cond yes None (Some SecondSlot) ≡ Some kind → kind ≡ SecondSlot
   of_second true h = absurd cc
@@ -84,7 +85,7 @@ second_kind _ src rest kind e = absurd cc
 told : (bytes : List ℕ) (found kind : FaultKind) → HasFault bytes found → Some found ≡ Some kind → HasFault bytes kind
 told bytes found kind h e = subst (HasFault bytes) (same_Some found kind e) h
 
-by_register : (bytes : List ℕ) (f : Form) (kind : FaultKind) → IsRead bytes f → listed f (slot_of bytes) ≡ true → (HasInsn bytes → ⊥) → (b : Bool) → (leb (slot_of bytes).dst 10 && leb (slot_of bytes).src 10) ≡ b → cond b (second_fault f (slot_of bytes).src (drop 8 bytes)) (Some Register) ≡ Some kind → HasFault bytes kind
+by_register : (bytes : List ℕ) (f : OpcodeForm) (kind : FaultKind) → IsRead bytes f → listed f (slot_of bytes) ≡ true → (HasInsn bytes → ⊥) → (b : Bool) → (leb (slot_of bytes).dst 10 && leb (slot_of bytes).src 10) ≡ b → cond b (second_fault f (slot_of bytes).src (drop 8 bytes)) (Some Register) ≡ Some kind → HasFault bytes kind
 by_register bytes f kind r ok none true few e =
     let parts = and_parts (leb (slot_of bytes).dst 10) (leb (slot_of bytes).src 10) few in
     let is : SecondSlot ≡ kind = sym (second_kind f (slot_of bytes).src (drop 8 bytes) kind e) in
@@ -93,12 +94,12 @@ by_register bytes f kind r ok none false many e =
     let fields = IsSlot-slot_of bytes r.fits r.long in
     told bytes Register kind (has_first_slot 15 bytes f r ok (omega (arith, fields.dst)) (omega (arith, fields.src)), no_register bytes many) e
 
-by_form : (bytes : List ℕ) (f : Form) (kind : FaultKind) → IsRead bytes f → (HasInsn bytes → ⊥) → (b : Bool) → listed f (slot_of bytes) ≡ b → cond b (cond (leb (slot_of bytes).dst 10 && leb (slot_of bytes).src 10) (second_fault f (slot_of bytes).src (drop 8 bytes)) (Some Register)) (Some Reserved) ≡ Some kind → HasFault bytes kind
+by_form : (bytes : List ℕ) (f : OpcodeForm) (kind : FaultKind) → IsRead bytes f → (HasInsn bytes → ⊥) → (b : Bool) → listed f (slot_of bytes) ≡ b → cond b (cond (leb (slot_of bytes).dst 10 && leb (slot_of bytes).src 10) (second_fault f (slot_of bytes).src (drop 8 bytes)) (Some Register)) (Some Reserved) ≡ Some kind → HasFault bytes kind
 by_form bytes f kind r none true ok e = by_register bytes f kind r ok none (leb (slot_of bytes).dst 10 && leb (slot_of bytes).src 10) refl e
 by_form bytes f kind r none false unlisted e =
     told bytes Reserved kind (r.long, known bytes f (r.fits 0) r.form, not_listed bytes f r unlisted) e
 
-by_opcode : (bytes : List ℕ) (kind : FaultKind) → IsBytes bytes → 8 ≤ length bytes → (HasInsn bytes → ⊥) → (o : Option Form) → form_at (slot_of bytes).opcode ≡ o → fault_by_form o (slot_of bytes) (drop 8 bytes) ≡ Some kind → HasFault bytes kind
+by_opcode : (bytes : List ℕ) (kind : FaultKind) → IsBytes bytes → 8 ≤ length bytes → (HasInsn bytes → ⊥) → (o : Option OpcodeForm) → form_at (slot_of bytes).opcode ≡ o → fault_by_form o (slot_of bytes) (drop 8 bytes) ≡ Some kind → HasFault bytes kind
 unfolding fault_in_form
 by_opcode bytes kind fits long none None is e = told bytes Opcode kind (long, unknown bytes is) e
 by_opcode bytes kind fits long none (Some f) is e = by_form bytes f kind (record { fits = fits; long = long; form = is }) none (listed f (slot_of bytes)) refl e

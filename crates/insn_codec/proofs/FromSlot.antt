@@ -5,21 +5,21 @@ use Rattle.std.specs.Int.{w16, w32, cast_signed}
 use Rattle.std.proofs.Math.Facts.{sfits_to_z}
 use Rattle.std.proofs.lemmas.Bool.{and_parts, or_cases, or_left, or_right, cond_both, eqb-true, eqb-false, leb-true, ltb-true, ltb-false}
 use Rattle.std.proofs.lemmas.Int.{of_z-to_z}
-use Rattle.insn_codec.specs.declared.slot.Slot.{Slot}
+use Rattle.insn_codec.specs.declared.slot.SlotFields.{SlotFields}
 use Rattle.insn_codec.specs.declared.insn.AluOp.TheVariants as op
 use Rattle.insn_codec.specs.declared.insn.Narrow.{Narrow}
 use Rattle.insn_codec.specs.declared.insn.Narrow.TheVariants as narrow
 use Rattle.insn_codec.specs.declared.insn.Insn.TheVariants.{Alu}
-use Rattle.insn_codec.specs.declared.opcode.Source.{Source}
-use Rattle.insn_codec.specs.declared.opcode.Source.TheVariants as source
+use Rattle.insn_codec.specs.declared.opcode.SourceBit.{SourceBit}
+use Rattle.insn_codec.specs.declared.opcode.SourceBit.TheVariants as source
 use Rattle.insn_codec.specs.declared.opcode.AluCode.{AluCode}
 use Rattle.insn_codec.specs.declared.opcode.AluCode.TheVariants as code
 use Rattle.insn_codec.specs.declared.opcode.LoadKind.{LoadKind}
 use Rattle.insn_codec.specs.declared.opcode.LoadKind.TheVariants as load
 use Rattle.insn_codec.specs.declared.opcode.WideKind.{WideKind}
 use Rattle.insn_codec.specs.declared.opcode.WideKind.TheVariants.{Number, Map}
-use Rattle.insn_codec.specs.declared.form.Form.{Form}
-use Rattle.insn_codec.specs.declared.form.Form.TheVariants as form
+use Rattle.insn_codec.specs.declared.form.OpcodeForm.{OpcodeForm}
+use Rattle.insn_codec.specs.declared.form.OpcodeForm.TheVariants as form
 use Rattle.insn_codec.specs.Sizes.{is_short}
 use Rattle.insn_codec.specs.Numbers.{opcode, alu_class, jump_class, alu_number, alu_offset, condition_number, narrow_number, bits_number, end_opcode, memory_opcode, offset_bits, imm_bits}
 use Rattle.insn_codec.specs.inside.Opcodes.{code_number, source_number, load_opcode, opcode_of}
@@ -28,7 +28,7 @@ use Rattle.insn_codec.specs.Slot.{slot}
 use Rattle.insn_codec.specs.Spelling.{first, source_bit, src_field, imm_field, IsOperandUpTo, IsInsnUpTo}
 use Rattle.insn_codec.proofs.ReadBack.{op_at, operand_at, narrow_at, bits_at, movsx_at, load_insn, wide_insn, insn_at}
 
-slot_same : (s : Slot) (op dst src offset imm : ℕ) → op ≡ s.opcode → dst ≡ s.dst → src ≡ s.src → offset ≡ s.offset → imm ≡ s.imm → slot op dst src offset imm ≡ s
+slot_same : (s : SlotFields) (op dst src offset imm : ℕ) → op ≡ s.opcode → dst ≡ s.dst → src ≡ s.src → offset ≡ s.offset → imm ≡ s.imm → slot op dst src offset imm ≡ s
 slot_same s op dst src offset imm a b c d e = rw (a, b, c, d, e) refl
 
 half_fits : (n : ℕ) → n < 2 ^ 16 → FitsSigned w16 (cast_signed w16 n)
@@ -39,19 +39,19 @@ word_fits n h = sfits_to_z {w = w32} record { fits = h }
 
 -- ---- the second operand
 
-pub source_bit-operand_at : (z : Source) (s : Slot) → source_bit (operand_at z s) ≡ source_number z
+pub source_bit-operand_at : (z : SourceBit) (s : SlotFields) → source_bit (operand_at z s) ≡ source_number z
 source_bit-operand_at source.Imm s = refl
 source_bit-operand_at source.Reg s = refl
 
-src_field-operand_at : (z : Source) (s : Slot) → one_operand z s ≡ true → src_field (operand_at z s) ≡ s.src
+src_field-operand_at : (z : SourceBit) (s : SlotFields) → one_operand z s ≡ true → src_field (operand_at z s) ≡ s.src
 src_field-operand_at source.Imm s h = sym (eqb-true s.src 0 h)
 src_field-operand_at source.Reg s h = refl
 
-imm_field-operand_at : (z : Source) (s : Slot) → one_operand z s ≡ true → s.imm < 2 ^ 32 → imm_field (operand_at z s) ≡ s.imm
+imm_field-operand_at : (z : SourceBit) (s : SlotFields) → one_operand z s ≡ true → s.imm < 2 ^ 32 → imm_field (operand_at z s) ≡ s.imm
 imm_field-operand_at source.Imm s h fits = of_z-to_z w32 s.imm fits
 imm_field-operand_at source.Reg s h fits = sym (eqb-true s.imm 0 h)
 
-operand_up_to : (top : ℕ) (z : Source) (s : Slot) → s.src ≤ top → s.imm < 2 ^ 32 → IsOperandUpTo top (operand_at z s)
+operand_up_to : (top : ℕ) (z : SourceBit) (s : SlotFields) → s.src ≤ top → s.imm < 2 ^ 32 → IsOperandUpTo top (operand_at z s)
 operand_up_to top source.Imm s src fits = word_fits s.imm fits
 operand_up_to top source.Reg s src fits = src
 
@@ -92,7 +92,7 @@ mov_offset wide offset h few =
           ]
     ]
 
-alu_offset-op_at : (wide : Bool) (c : AluCode) (z : Source) (offset : ℕ) → offset_listed wide c z offset ≡ true → offset < 8 → alu_offset (op_at c offset) ≡ offset
+alu_offset-op_at : (wide : Bool) (c : AluCode) (z : SourceBit) (offset : ℕ) → offset_listed wide c z offset ≡ true → offset < 8 → alu_offset (op_at c offset) ≡ offset
 alu_offset-op_at wide code.Add z offset h few = sym (eqb-true offset 0 h)
 alu_offset-op_at wide code.Sub z offset h few = sym (eqb-true offset 0 h)
 alu_offset-op_at wide code.Mul z offset h few = sym (eqb-true offset 0 h)
@@ -111,7 +111,7 @@ alu_offset-op_at wide code.SignedShiftRight z offset h few = sym (eqb-true offse
 
 -- ---- moves with sign extension
 
-abbrev IsMovsx : Bool → AluCode → Source → ℕ → Type 0
+abbrev IsMovsx : Bool → AluCode → SourceBit → ℕ → Type 0
 IsMovsx wide c z offset =
     (c ≡ code.Mov) × (z ≡ source.Reg) × (narrow_number (narrow_at offset) ≡ offset) × IsTrue (wide || is_short (narrow_at offset))
 
@@ -143,7 +143,7 @@ not_many offset e many = absurd (omega (arith, eqb-true offset 0 e))
 not_many_signed : {A : Type 0} (offset : ℕ) → ◌≡◌ {A = Bool} (leb offset 1) true → 8 ≤ offset → A
 not_many_signed offset e many = absurd (omega (arith, leb-true offset 1 e))
 
-is_movsx : (wide : Bool) (c : AluCode) (z : Source) (offset : ℕ) → offset_listed wide c z offset ≡ true → 8 ≤ offset → IsMovsx wide c z offset
+is_movsx : (wide : Bool) (c : AluCode) (z : SourceBit) (offset : ℕ) → offset_listed wide c z offset ≡ true → 8 ≤ offset → IsMovsx wide c z offset
 is_movsx wide code.Add z offset h many = not_many offset h many
 is_movsx wide code.Sub z offset h many = not_many offset h many
 is_movsx wide code.Mul z offset h many = not_many offset h many
@@ -173,19 +173,19 @@ movsx_up_to top false narrow.Bits32 dst src d s = tt
 -- ---- each form
 
 -- the fields of a slot that begins the form
-pub record IsOf (f : Form) (s : Slot) : Type 0 where
+pub record IsOf (f : OpcodeForm) (s : SlotFields) : Type 0 where
   pub opcode : s.opcode ≡ opcode_of f
   pub listed : listed f s ≡ true
   pub offset : s.offset < 2 ^ 16
   pub imm : s.imm < 2 ^ 32
 
-first-alu : (wide : Bool) (c : AluCode) (z : Source) (s : Slot) → IsOf (form.Alu wide c z) s → s.offset < 8 → first (Alu wide (op_at c s.offset) s.dst (operand_at z s)) ≡ s
+first-alu : (wide : Bool) (c : AluCode) (z : SourceBit) (s : SlotFields) → IsOf (form.Alu wide c z) s → s.offset < 8 → first (Alu wide (op_at c s.offset) s.dst (operand_at z s)) ≡ s
 first-alu wide c z s h few =
     let parts = and_parts (one_operand z s) (offset_listed wide c z s.offset) h.listed in
     slot_same s (opcode (alu_number (op_at c s.offset)) (source_bit (operand_at z s)) (alu_class wide)) s.dst (src_field (operand_at z s)) (alu_offset (op_at c s.offset)) (imm_field (operand_at z s))
     (rw (alu_number-op_at c s.offset, source_bit-operand_at z s) (sym h.opcode)) refl (src_field-operand_at z s parts.0) (alu_offset-op_at wide c z s.offset parts.1 few) (imm_field-operand_at z s parts.0 h.imm)
 
-first-movsx : (wide : Bool) (c : AluCode) (z : Source) (s : Slot) → IsOf (form.Alu wide c z) s → 8 ≤ s.offset → first (movsx_at wide (narrow_at s.offset) s.dst s.src) ≡ s
+first-movsx : (wide : Bool) (c : AluCode) (z : SourceBit) (s : SlotFields) → IsOf (form.Alu wide c z) s → 8 ≤ s.offset → first (movsx_at wide (narrow_at s.offset) s.dst s.src) ≡ s
 first-movsx wide c z s h many =
     let parts = and_parts (one_operand z s) (offset_listed wide c z s.offset) h.listed in
     let m = is_movsx wide c z s.offset parts.1 many in
@@ -233,7 +233,7 @@ wide_src src h =
 is_zero : (n : ℕ) → eqb n 0 ≡ true → 0 ≡ n
 is_zero n h = sym (eqb-true n 0 h)
 
-first-wide : (s : Slot) → IsOf form.Wide s → first (wide_insn (wide_at s.src) s 0) ≡ s
+first-wide : (s : SlotFields) → IsOf form.Wide s → first (wide_insn (wide_at s.src) s 0) ≡ s
 first-wide s h =
     let parts = and_parts (eqb s.offset 0) (is_some (wide_at s.src)) h.listed in
     elim (wide_src s.src parts.1) [
@@ -245,16 +245,16 @@ first-wide s h =
           ap (λ k. first (wide_insn k s 0)) kind ∙ slot_same s 0x18 s.dst 1 0 (imm_bits (cast_signed w32 s.imm)) (sym h.opcode) refl (sym e) (is_zero s.offset parts.0) (of_z-to_z w32 s.imm h.imm)
     ]
 
-wide_up_to : (top : ℕ) (kind : Option WideKind) (s : Slot) → s.dst ≤ top → s.imm < 2 ^ 32 → IsInsnUpTo top (wide_insn kind s 0)
+wide_up_to : (top : ℕ) (kind : Option WideKind) (s : SlotFields) → s.dst ≤ top → s.imm < 2 ^ 32 → IsInsnUpTo top (wide_insn kind s 0)
 wide_up_to top None s dst h = tt
 wide_up_to top (Some Number) s dst h = (dst, omega (arith, h))
 wide_up_to top (Some Map) s dst h = (dst, word_fits s.imm h)
 
 -- no register is named
-abbrev no_operands : Slot → Bool
+abbrev no_operands : SlotFields → Bool
 no_operands s = eqb s.dst 0 && eqb s.src 0
 
-pub first-insn_at : (f : Form) (s : Slot) → IsOf f s → first (insn_at f s 0) ≡ s
+pub first-insn_at : (f : OpcodeForm) (s : SlotFields) → IsOf f s → first (insn_at f s 0) ≡ s
 first-insn_at (form.Alu wide c z) s h =
     cond_both (ltb s.offset 8) (Alu wide (op_at c s.offset) s.dst (operand_at z s)) (movsx_at wide (narrow_at s.offset) s.dst s.src) (λ i. first i ≡ s)
     (λ e. first-alu wide c z s h (ltb-true s.offset 8 e)) (λ e. first-movsx wide c z s h (ltb-false s.offset 8 e))
@@ -293,7 +293,7 @@ first-insn_at (form.Store size z) s h =
     (rw (source_bit-operand_at z s) (sym h.opcode)) refl (src_field-operand_at z s h.listed) (of_z-to_z w16 s.offset h.offset) (imm_field-operand_at z s h.listed h.imm)
 first-insn_at form.Wide s h = first-wide s h
 
-pub insn_at_up_to : (top : ℕ) (f : Form) (s : Slot) → IsOf f s → s.dst ≤ top → s.src ≤ top → IsInsnUpTo top (insn_at f s 0)
+pub insn_at_up_to : (top : ℕ) (f : OpcodeForm) (s : SlotFields) → IsOf f s → s.dst ≤ top → s.src ≤ top → IsInsnUpTo top (insn_at f s 0)
 insn_at_up_to top (form.Alu wide c z) s h dst src =
     cond_both (ltb s.offset 8) (Alu wide (op_at c s.offset) s.dst (operand_at z s)) (movsx_at wide (narrow_at s.offset) s.dst s.src) (λ i. IsInsnUpTo top i)
     (λ e. (dst, operand_up_to top z s src h.imm)) (λ e. movsx_up_to top wide (narrow_at s.offset) s.dst s.src dst src)

@@ -6,17 +6,18 @@ use Rattle.std.specs.List.{slice_index}
 use Rattle.std.proofs.lemmas.Bool.{agree_below_at, eqb-true}
 use Rattle.std.proofs.lemmas.Int.{ints}
 use Rattle.std.proofs.lemmas.Option.{none-some}
-use Rattle.insn_codec.specs.declared.slot.Slot.{Slot}
+use Rattle.insn_codec.specs.declared.slot.SlotFields.{SlotFields}
 use Rattle.insn_codec.specs.declared.insn.Bits.TheVariants as bits
 use Rattle.insn_codec.specs.declared.insn.Insn.{Insn}
 use Rattle.insn_codec.specs.declared.insn.Insn.TheVariants.{Alu, Neg, End, Ja, Jal, Jump, Call, Exit, Store, Const}
-use Rattle.insn_codec.specs.declared.opcode.Source.{Source}
-use Rattle.insn_codec.specs.declared.opcode.Source.TheVariants as source
+use Rattle.insn_codec.specs.declared.opcode.SourceBit.{SourceBit}
+use Rattle.insn_codec.specs.declared.opcode.SourceBit.TheVariants as source
 use Rattle.insn_codec.specs.declared.opcode.LoadKind.{LoadKind}
 use Rattle.insn_codec.specs.declared.opcode.LoadKind.TheVariants as load
-use Rattle.insn_codec.specs.declared.form.Form.{Form}
-use Rattle.insn_codec.specs.declared.form.Form.TheVariants as form
-use Rattle.insn_codec.specs.Slot.{slot, slot_of}
+use Rattle.insn_codec.specs.declared.form.OpcodeForm.{OpcodeForm}
+use Rattle.insn_codec.specs.declared.form.OpcodeForm.TheVariants as form
+use Rattle.insn_codec.specs.Slot.{slot}
+use Rattle.insn_codec.specs.inside.Slots.{slot_of}
 use Rattle.insn_codec.specs.Spelling.{first, spelling, IsOperand, IsInsn}
 use Rattle.insn_codec.specs.Fault.{HasOpcode}
 use Rattle.insn_codec.specs.inside.Opcodes.{load_opcode, opcode_of}
@@ -27,10 +28,10 @@ use Rattle.insn_codec.proofs.FromSlot.{alu_number-op_at, source_bit-operand_at}
 
 -- ---- an instruction of each form
 
-abbrev no_fields : Slot
+abbrev no_fields : SlotFields
 no_fields = slot 0 0 0 0 0
 
-abbrev example : Form → Insn
+abbrev example : OpcodeForm → Insn
 example (form.Alu wide c z) = Alu wide (op_at c 0) 0 (operand_at z no_fields)
 example (form.Neg wide) = Neg wide 0
 example (form.End how) = End how bits.Bits16 0
@@ -49,7 +50,7 @@ zero_fits = omega (arith, ints)
 wide_zero_fits : FitsSigned w32 (pos 0)
 wide_zero_fits = omega (arith, ints)
 
-IsOperand-example : (z : Source) → IsOperand (operand_at z no_fields)
+IsOperand-example : (z : SourceBit) → IsOperand (operand_at z no_fields)
 IsOperand-example source.Imm = wide_zero_fits
 IsOperand-example source.Reg = lit≤ tt
 
@@ -62,7 +63,7 @@ IsInsn-load load.SignedWord = (lit≤ tt, lit≤ tt, zero_fits)
 IsInsn-load load.SignedHalf = (lit≤ tt, lit≤ tt, zero_fits)
 IsInsn-load load.SignedByte = (lit≤ tt, lit≤ tt, zero_fits)
 
-IsInsn-example : (f : Form) → IsInsn (example f)
+IsInsn-example : (f : OpcodeForm) → IsInsn (example f)
 IsInsn-example (form.Alu wide c z) = (lit≤ tt, IsOperand-example z)
 IsInsn-example (form.Neg wide) = lit≤ tt
 IsInsn-example (form.End how) = lit≤ tt
@@ -84,7 +85,7 @@ opcode-load load.SignedWord = refl
 opcode-load load.SignedHalf = refl
 opcode-load load.SignedByte = refl
 
-opcode-example : (f : Form) → (first (example f)).opcode ≡ opcode_of f
+opcode-example : (f : OpcodeForm) → (first (example f)).opcode ≡ opcode_of f
 opcode-example (form.Alu wide c z) = rw (alu_number-op_at c 0, source_bit-operand_at z no_fields) refl
 opcode-example (form.Neg wide) = refl
 opcode-example (form.End how) = refl
@@ -99,7 +100,7 @@ opcode-example form.Wide = refl
 
 -- ---- the form at an opcode has that opcode: a table of 256
 
-abbrev has_opcode : Option Form → ℕ → Bool
+abbrev has_opcode : Option OpcodeForm → ℕ → Bool
 has_opcode None b = true
 has_opcode (Some f) b = opcode_of f == b
 
@@ -107,11 +108,15 @@ table : (b : ℕ) → b < 256 → has_opcode (form_at b) b ≡ true
 unfolding form_at
 table b h = agree_below_at (λ n. has_opcode (form_at n) n) (λ n. true) 256 b refl h
 
-opcode_of-form_at : (b : ℕ) (f : Form) → b < 256 → form_at b ≡ Some f → opcode_of f ≡ b
-opcode_of-form_at b f h e = eqb-true (opcode_of f) b (sym (ap (λ (o : Option Form). has_opcode o b) e) ∙ table b h)
+opcode_of-form_at : (b : ℕ) (f : OpcodeForm) → b < 256 → form_at b ≡ Some f → opcode_of f ≡ b
+opcode_of-form_at b f h e = eqb-true (opcode_of f) b (sym (ap (λ (o : Option OpcodeForm). has_opcode o b) e) ∙ table b h)
 
-pub opcode_of-slot : (f : Form) (s : Slot) → s.opcode < 256 → form_at s.opcode ≡ Some f → s.opcode ≡ opcode_of f
+pub opcode_of-slot : (f : OpcodeForm) (s : SlotFields) → s.opcode < 256 → form_at s.opcode ≡ Some f → s.opcode ≡ opcode_of f
 opcode_of-slot f s byte e = sym (opcode_of-form_at s.opcode f byte e)
+
+-- each opcode with a form is an instruction's
+pub of_an_instruction : (b : ℕ) (f : OpcodeForm) → b < 256 → form_at b ≡ Some f → (i : Insn) × IsInsn i × ((first i).opcode ≡ b)
+of_an_instruction b f byte at = (example f, IsInsn-example f, opcode-example f ∙ opcode_of-form_at b f byte at)
 
 -- ---- the first byte of a spelling
 
@@ -124,13 +129,10 @@ unfolding slot_of
 opcode-slot_of bytes = refl
 
 -- an opcode with a form is known
-pub known : (bytes : List ℕ) (f : Form) → slice_index bytes 0 < 256 → form_at (slot_of bytes).opcode ≡ Some f → HasOpcode bytes
+pub known : (bytes : List ℕ) (f : OpcodeForm) → slice_index bytes 0 < 256 → form_at (slot_of bytes).opcode ≡ Some f → HasOpcode bytes
 known bytes f byte is =
-    let at : form_at (slice_index bytes 0) ≡ Some f = ap form_at (sym (opcode-slot_of bytes)) ∙ is in (
-      example f,
-      IsInsn-example f,
-      sym (opcode_of-form_at (slice_index bytes 0) f byte at) ∙ sym (opcode-example f) ∙ sym (first_byte (example f)),
-    )
+    let i = of_an_instruction (slice_index bytes 0) f byte (ap form_at (sym (opcode-slot_of bytes)) ∙ is) in
+    (i.0, i.1, sym i.2 ∙ sym (first_byte i.0))
 
 -- one without a form is not
 pub unknown : (bytes : List ℕ) → form_at (slot_of bytes).opcode ≡ None → HasOpcode bytes → ⊥

@@ -5,6 +5,7 @@ pub mod Fields
 pub mod ReadBack
 pub mod FromSlot
 pub mod KnownOpcodes
+pub mod ByOpcode
 pub mod Laws
 pub mod FaultKinds
 pub mod FirstFault

@@ -12,14 +12,14 @@ use Rattle.insn_codec.specs.declared.insn.Operand.{Operand}
 use Rattle.insn_codec.specs.declared.insn.Operand.TheVariants as operand
 use Rattle.insn_codec.specs.declared.insn.Insn.{Insn}
 use Rattle.insn_codec.specs.declared.insn.Insn.TheVariants.{Alu, Movsx, Neg, End, Ja, Jal, Jump, Call, Exit, Load, Store, Const, MapFd}
-use Rattle.insn_codec.specs.declared.opcode.Source.{Source}
-use Rattle.insn_codec.specs.declared.opcode.Source.TheVariants as source
+use Rattle.insn_codec.specs.declared.opcode.SourceBit.{SourceBit}
+use Rattle.insn_codec.specs.declared.opcode.SourceBit.TheVariants as source
 use Rattle.insn_codec.specs.declared.opcode.AluCode.{AluCode}
 use Rattle.insn_codec.specs.declared.opcode.AluCode.TheVariants as code
 use Rattle.insn_codec.specs.declared.opcode.LoadKind.{LoadKind}
 use Rattle.insn_codec.specs.declared.opcode.LoadKind.TheVariants as load
-use Rattle.insn_codec.specs.declared.form.Form.{Form}
-use Rattle.insn_codec.specs.declared.form.Form.TheVariants as form
+use Rattle.insn_codec.specs.declared.form.OpcodeForm.{OpcodeForm}
+use Rattle.insn_codec.specs.declared.form.OpcodeForm.TheVariants as form
 use Rattle.insn_codec.specs.Sizes.{is_double}
 use Rattle.insn_codec.specs.Numbers.{alu_number, load_mode, memory_opcode}
 use Rattle.insn_codec.specs.inside.Opcodes.{source_number, code_number, load_opcode, opcode_of}
@@ -44,7 +44,7 @@ code_of op.Xor = code.Xor
 code_of op.Mov = code.Mov
 code_of op.SignedShiftRight = code.SignedShiftRight
 
-abbrev pub source_of : Operand → Source
+abbrev pub source_of : Operand → SourceBit
 source_of (operand.Imm n) = source.Imm
 source_of (operand.Reg r) = source.Reg
 
@@ -57,7 +57,7 @@ kind_of size.Word true = load.SignedWord
 kind_of size.Half true = load.SignedHalf
 kind_of size.Byte true = load.SignedByte
 
-abbrev pub form_of : Insn → Form
+abbrev pub form_of : Insn → OpcodeForm
 form_of (Alu wide o dst src) = form.Alu wide (code_of o) (source_of src)
 form_of (Movsx m) = form.Alu m.wide code.Mov source.Reg
 form_of (Neg wide dst) = form.Neg wide
@@ -74,7 +74,7 @@ form_of (MapFd dst fd) = form.Wide
 
 -- ---- the form of an opcode
 
-pub form_at-alu : (wide : Bool) (c : AluCode) (s : Source) → form_at (opcode_of (form.Alu wide c s)) ≡ Some (form.Alu wide c s)
+pub form_at-alu : (wide : Bool) (c : AluCode) (s : SourceBit) → form_at (opcode_of (form.Alu wide c s)) ≡ Some (form.Alu wide c s)
 unfolding form_at
 form_at-alu true code.Add source.Imm = refl
 form_at-alu true code.Add source.Reg = refl
@@ -125,7 +125,7 @@ form_at-alu false code.Mov source.Reg = refl
 form_at-alu false code.SignedShiftRight source.Imm = refl
 form_at-alu false code.SignedShiftRight source.Reg = refl
 
-pub form_at-jump : (wide : Bool) (c : Condition) (s : Source) → form_at (opcode_of (form.Jump wide c s)) ≡ Some (form.Jump wide c s)
+pub form_at-jump : (wide : Bool) (c : Condition) (s : SourceBit) → form_at (opcode_of (form.Jump wide c s)) ≡ Some (form.Jump wide c s)
 unfolding form_at
 form_at-jump true conditions.Equal source.Imm = refl
 form_at-jump true conditions.Equal source.Reg = refl
@@ -172,7 +172,7 @@ form_at-jump false conditions.SignedBelow source.Reg = refl
 form_at-jump false conditions.SignedBelowOrEqual source.Imm = refl
 form_at-jump false conditions.SignedBelowOrEqual source.Reg = refl
 
-pub form_at-store : (z : Size) (s : Source) → form_at (opcode_of (form.Store z s)) ≡ Some (form.Store z s)
+pub form_at-store : (z : Size) (s : SourceBit) → form_at (opcode_of (form.Store z s)) ≡ Some (form.Store z s)
 unfolding form_at
 form_at-store size.Word source.Imm = refl
 form_at-store size.Word source.Reg = refl
@@ -183,7 +183,7 @@ form_at-store size.Byte source.Reg = refl
 form_at-store size.Double source.Imm = refl
 form_at-store size.Double source.Reg = refl
 
-pub form_at-opcode_of : (f : Form) → form_at (opcode_of f) ≡ Some f
+pub form_at-opcode_of : (f : OpcodeForm) → form_at (opcode_of f) ≡ Some f
 unfolding form_at
 form_at-opcode_of (form.Alu wide c s) = form_at-alu wide c s
 form_at-opcode_of (form.Neg true) = refl
@@ -208,7 +208,7 @@ form_at-opcode_of form.Wide = refl
 
 -- ---- an instruction's first slot is of its form
 
-code_number-code_of : (o : AluOp) → code_number (code_of o) ≡ alu_number o
+pub code_number-code_of : (o : AluOp) → code_number (code_of o) ≡ alu_number o
 code_number-code_of op.Add = refl
 code_number-code_of op.Sub = refl
 code_number-code_of op.Mul = refl
@@ -228,7 +228,7 @@ source_number-source_of : (o : Operand) → source_number (source_of o) ≡ sour
 source_number-source_of (operand.Imm n) = refl
 source_number-source_of (operand.Reg r) = refl
 
-opcode_of-load : (z : Size) (signed : Bool) → IsTrue (not (signed && is_double z)) → load_opcode (kind_of z signed) ≡ memory_opcode (load_mode signed) z 1
+pub opcode_of-load : (z : Size) (signed : Bool) → IsTrue (not (signed && is_double z)) → load_opcode (kind_of z signed) ≡ memory_opcode (load_mode signed) z 1
 opcode_of-load size.Word true h = refl
 opcode_of-load size.Word false h = refl
 opcode_of-load size.Half true h = refl

@@ -4,7 +4,7 @@ use Rattle.std.specs.Prelude.{IsTrue, not, FitsSigned, ℤ, ◌==◌}
 use Rattle.std.specs.Int.{w16, w32, cast_signed}
 use Rattle.std.proofs.Props.{props}
 use Rattle.std.proofs.lemmas.Int.{to_z-of_z}
-use Rattle.insn_codec.specs.declared.slot.Slot.{Slot}
+use Rattle.insn_codec.specs.declared.slot.SlotFields.{SlotFields}
 use Rattle.insn_codec.specs.declared.insn.AluOp.{AluOp}
 use Rattle.insn_codec.specs.declared.insn.AluOp.TheVariants as op
 use Rattle.insn_codec.specs.declared.insn.Bits.{Bits}
@@ -17,14 +17,14 @@ use Rattle.insn_codec.specs.declared.insn.Operand.{Operand}
 use Rattle.insn_codec.specs.declared.insn.Operand.TheVariants as operand
 use Rattle.insn_codec.specs.declared.insn.Insn.{Insn}
 use Rattle.insn_codec.specs.declared.insn.Insn.TheVariants.{Alu, Movsx, Neg, End, Ja, Jal, Jump, Call, Exit, Load, Store, Const, MapFd}
-use Rattle.insn_codec.specs.declared.opcode.Source.{Source}
-use Rattle.insn_codec.specs.declared.opcode.Source.TheVariants as source
+use Rattle.insn_codec.specs.declared.opcode.SourceBit.{SourceBit}
+use Rattle.insn_codec.specs.declared.opcode.SourceBit.TheVariants as source
 use Rattle.insn_codec.specs.declared.opcode.AluCode.{AluCode}
 use Rattle.insn_codec.specs.declared.opcode.AluCode.TheVariants as code
 use Rattle.insn_codec.specs.declared.opcode.LoadKind.{LoadKind}
 use Rattle.insn_codec.specs.declared.opcode.LoadKind.TheVariants as load
-use Rattle.insn_codec.specs.declared.form.Form.{Form}
-use Rattle.insn_codec.specs.declared.form.Form.TheVariants as form
+use Rattle.insn_codec.specs.declared.form.OpcodeForm.{OpcodeForm}
+use Rattle.insn_codec.specs.declared.form.OpcodeForm.TheVariants as form
 use Rattle.insn_codec.specs.Sizes.{is_double, is_short}
 use Rattle.insn_codec.specs.Numbers.{opcode, alu_class, jump_class, alu_number, alu_offset, condition_number, narrow_number, bits_number, memory_opcode, offset_bits, imm_bits}
 use Rattle.insn_codec.specs.inside.Form.{wide_at}
@@ -50,7 +50,7 @@ op_at code.Xor offset = op.Xor
 op_at code.Mov offset = op.Mov
 op_at code.SignedShiftRight offset = op.SignedShiftRight
 
-abbrev pub operand_at : Source → Slot → Operand
+abbrev pub operand_at : SourceBit → SlotFields → Operand
 operand_at source.Imm s = operand.Imm (cast_signed w32 s.imm)
 operand_at source.Reg s = operand.Reg s.src
 
@@ -75,13 +75,13 @@ load_insn load.SignedWord dst src off = Load (record { size = size.Word; signed 
 load_insn load.SignedHalf dst src off = Load (record { size = size.Half; signed = true; dst = dst; src = src; off = off; listed = refl })
 load_insn load.SignedByte dst src off = Load (record { size = size.Byte; signed = true; dst = dst; src = src; off = off; listed = refl })
 
-abbrev pub wide_insn : Option WideKind → Slot → ℕ → Insn
+abbrev pub wide_insn : Option WideKind → SlotFields → ℕ → Insn
 wide_insn None s next = Exit
 wide_insn (Some Number) s next = Const s.dst (s.imm + 2 ^ 32 * next)
 wide_insn (Some Map) s next = MapFd s.dst (cast_signed w32 s.imm)
 
 -- the instruction of a form's slot, and of the number in a second slot
-abbrev pub insn_at : Form → Slot → ℕ → Insn
+abbrev pub insn_at : OpcodeForm → SlotFields → ℕ → Insn
 insn_at (form.Alu wide c z) s next = cond (ltb s.offset 8) (Alu wide (op_at c s.offset) s.dst (operand_at z s)) (movsx_at wide (narrow_at s.offset) s.dst s.src)
 insn_at (form.Neg wide) s next = Neg wide s.dst
 insn_at (form.End how) s next = End how (bits_at s.imm) s.dst
@@ -140,7 +140,7 @@ alu_offset_below op.Xor = refl
 alu_offset_below op.Mov = refl
 alu_offset_below op.SignedShiftRight = refl
 
-bits_again : (b : Bits) → bits_at (bits_number b) ≡ b
+pub bits_again : (b : Bits) → bits_at (bits_number b) ≡ b
 bits_again bits.Bits16 = refl
 bits_again bits.Bits32 = refl
 bits_again bits.Bits64 = refl
@@ -152,7 +152,7 @@ movsx_same : (wide : Bool) (b : Narrow) (dst src : ℕ) (p q : IsTrue (wide || i
 movsx_same wide b dst src p q =
     ap (λ (h : IsTrue (wide || is_short b)). Movsx (record { wide = wide; bits = b; dst = dst; src = src; listed = h })) (IsTrue-prop (wide || is_short b) p q)
 
-movsx_again : (wide : Bool) (b : Narrow) (dst src : ℕ) (h : IsTrue (wide || is_short b)) (other : Insn) → cond (ltb (narrow_number b) 8) other (movsx_at wide (narrow_at (narrow_number b)) dst src) ≡ Movsx (record { wide = wide; bits = b; dst = dst; src = src; listed = h })
+pub movsx_again : (wide : Bool) (b : Narrow) (dst src : ℕ) (h : IsTrue (wide || is_short b)) (other : Insn) → cond (ltb (narrow_number b) 8) other (movsx_at wide (narrow_at (narrow_number b)) dst src) ≡ Movsx (record { wide = wide; bits = b; dst = dst; src = src; listed = h })
 movsx_again true narrow.Bits8 dst src h other = movsx_same true narrow.Bits8 dst src refl h
 movsx_again true narrow.Bits16 dst src h other = movsx_same true narrow.Bits16 dst src refl h
 movsx_again true narrow.Bits32 dst src h other = movsx_same true narrow.Bits32 dst src refl h
@@ -164,7 +164,7 @@ load_same : (z : Size) (signed : Bool) (dst src : ℕ) (off : ℤ) (p q : IsTrue
 load_same z signed dst src off p q =
     ap (λ (h : IsTrue (not (signed && is_double z))). Load (record { size = z; signed = signed; dst = dst; src = src; off = off; listed = h })) (IsTrue-prop (not (signed && is_double z)) p q)
 
-load_again : (z : Size) (signed : Bool) (dst src : ℕ) (off : ℤ) (h : IsTrue (not (signed && is_double z))) → load_insn (kind_of z signed) dst src off ≡ Load (record { size = z; signed = signed; dst = dst; src = src; off = off; listed = h })
+pub load_again : (z : Size) (signed : Bool) (dst src : ℕ) (off : ℤ) (h : IsTrue (not (signed && is_double z))) → load_insn (kind_of z signed) dst src off ≡ Load (record { size = z; signed = signed; dst = dst; src = src; off = off; listed = h })
 load_again size.Word true dst src off h = load_same size.Word true dst src off refl h
 load_again size.Word false dst src off h = load_same size.Word false dst src off refl h
 load_again size.Half true dst src off h = load_same size.Half true dst src off refl h

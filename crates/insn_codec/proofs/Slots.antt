@@ -6,9 +6,10 @@ use Rattle.std.proofs.lemmas.Bool.{cases_lt}
 use Rattle.std.proofs.lemmas.List.{take-append-drop, length-append, length-take, get_or-drop, get_or-take, get_or_past}
 use Rattle.std.proofs.lemmas.Nat.{le_bytes_2, le_bytes_4, from_le_bytes-to_le_bytes_2, from_le_bytes-to_le_bytes_4}
 use Rattle.std.proofs.Math.Seq.{take-add}
-use Rattle.insn_codec.specs.declared.slot.Slot.{Slot}
+use Rattle.insn_codec.specs.declared.slot.SlotFields.{SlotFields}
 use Rattle.insn_codec.specs.declared.insn.Insn.{Insn}
-use Rattle.insn_codec.specs.Slot.{slot_of, slot_bytes}
+use Rattle.insn_codec.specs.Slot.{slot_bytes}
+use Rattle.insn_codec.specs.inside.Slots.{slot_of}
 use Rattle.insn_codec.specs.Spelling.{slots, spelling, Begins}
 
 abbrev pub IsBytes : List ℕ → Type 0
@@ -25,14 +26,14 @@ IsBytes-take n bytes h i =
     ]
 
 -- the fields after the opcode fit their bits
-pub record IsSlot (s : Slot) : Type 0 where
+pub record IsSlot (s : SlotFields) : Type 0 where
   pub dst : s.dst < 16
   pub src : s.src < 16
   pub offset : s.offset < 2 ^ 16
   pub imm : s.imm < 2 ^ 32
 
 -- what was written is read
-pub slot_of-append : (s : Slot) (rest : List ℕ) → IsSlot s → slot_of (slot_bytes s ++ rest) ≡ s
+pub slot_of-append : (s : SlotFields) (rest : List ℕ) → IsSlot s → slot_of (slot_bytes s ++ rest) ≡ s
 unfolding slot_of
 slot_of-append s rest h =
     let low : (16 * s.src + s.dst) % 16 ≡ s.dst = omega arith in
@@ -63,10 +64,10 @@ IsSlot-slot_of bytes fits long = record {
 }
 
 -- the bytes begin with one slot, or with two
-one_slot : (ss : List Slot) (bytes : List ℕ) → IsBytes bytes → 8 ≤ length bytes → ss ≡ slot_of bytes ∷ [] → take (length (flat_map slot_bytes ss)) bytes ≡ flat_map slot_bytes ss
+one_slot : (ss : List SlotFields) (bytes : List ℕ) → IsBytes bytes → 8 ≤ length bytes → ss ≡ slot_of bytes ∷ [] → take (length (flat_map slot_bytes ss)) bytes ≡ flat_map slot_bytes ss
 one_slot ss bytes fits long e = rw (e, slot_bytes-slot_of bytes fits long) refl
 
-two_slots : (ss : List Slot) (bytes : List ℕ) → IsBytes bytes → 8 ≤ length bytes → 8 ≤ length (drop 8 bytes) → ss ≡ slot_of bytes ∷ slot_of (drop 8 bytes) ∷ [] → take (length (flat_map slot_bytes ss)) bytes ≡ flat_map slot_bytes ss
+two_slots : (ss : List SlotFields) (bytes : List ℕ) → IsBytes bytes → 8 ≤ length bytes → 8 ≤ length (drop 8 bytes) → ss ≡ slot_of bytes ∷ slot_of (drop 8 bytes) ∷ [] → take (length (flat_map slot_bytes ss)) bytes ≡ flat_map slot_bytes ss
 two_slots ss bytes fits long more e =
     let first = slot_bytes-slot_of bytes fits long in
     let second = slot_bytes-slot_of (drop 8 bytes) (IsBytes-drop 8 bytes fits) more in
@@ -88,7 +89,7 @@ whole_of_begins : (i : Insn) (bytes : List ℕ) → Begins i bytes → bytes ≡
 whole_of_begins i bytes h =
     sym (take-append-drop (length (spelling i)) bytes) ∙ ap (λ (x : List ℕ). x ++ drop (length (spelling i)) bytes) h
 
-pub first_of_begins : (i : Insn) (s : Slot) (others : List Slot) (bytes : List ℕ) → IsSlot s → slots i ≡ s ∷ others → Begins i bytes → (slot_of bytes ≡ s) × (8 ≤ length bytes)
+pub first_of_begins : (i : Insn) (s : SlotFields) (others : List SlotFields) (bytes : List ℕ) → IsSlot s → slots i ≡ s ∷ others → Begins i bytes → (slot_of bytes ≡ s) × (8 ≤ length bytes)
 unfolding spelling
 first_of_begins i s others bytes fits e h =
     let rest = drop (length (spelling i)) bytes in
@@ -96,7 +97,7 @@ first_of_begins i s others bytes fits e h =
     let whole : bytes ≡ slot_bytes s ++ (flat_map slot_bytes others ++ rest) = whole_of_begins i bytes h ∙ ap (λ (x : List ℕ). x ++ rest) spelled ∙ append_assoc (slot_bytes s) (flat_map slot_bytes others) rest in
     (ap slot_of whole ∙ slot_of-append s (flat_map slot_bytes others ++ rest) fits, omega (arith, ap length whole, length-append (slot_bytes s) (flat_map slot_bytes others ++ rest)))
 
-pub second_of_begins : (i : Insn) (s t : Slot) (bytes : List ℕ) → IsSlot t → slots i ≡ s ∷ t ∷ [] → Begins i bytes → (slot_of (drop 8 bytes) ≡ t) × (8 ≤ length (drop 8 bytes))
+pub second_of_begins : (i : Insn) (s t : SlotFields) (bytes : List ℕ) → IsSlot t → slots i ≡ s ∷ t ∷ [] → Begins i bytes → (slot_of (drop 8 bytes) ≡ t) × (8 ≤ length (drop 8 bytes))
 unfolding spelling
 second_of_begins i s t bytes fits e h =
     let rest = drop (length (spelling i)) bytes in
@@ -105,10 +106,10 @@ second_of_begins i s t bytes fits e h =
     let more : drop 8 bytes ≡ slot_bytes t ++ rest = ap (drop 8) whole in
     (ap slot_of more ∙ slot_of-append t rest fits, omega (arith, ap length more, length-append (slot_bytes t) rest))
 
-pub spelling-one : (i : Insn) (s : Slot) → slots i ≡ s ∷ [] → spelling i ≡ slot_bytes s
+pub spelling-one : (i : Insn) (s : SlotFields) → slots i ≡ s ∷ [] → spelling i ≡ slot_bytes s
 unfolding spelling
 spelling-one i s e = ap (flat_map slot_bytes) e
 
-pub spelling-two : (i : Insn) (s t : Slot) → slots i ≡ s ∷ t ∷ [] → spelling i ≡ slot_bytes s ++ slot_bytes t
+pub spelling-two : (i : Insn) (s t : SlotFields) → slots i ≡ s ∷ t ∷ [] → spelling i ≡ slot_bytes s ++ slot_bytes t
 unfolding spelling
 spelling-two i s t e = ap (flat_map slot_bytes) e

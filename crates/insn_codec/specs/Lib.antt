@@ -2,6 +2,8 @@ pub mod Sizes
 pub mod Numbers
 pub mod Slot
 pub mod Spelling
+pub mod Spelled
 pub mod Fault
 pub mod Program
 pub mod inside
+pub mod Flow

@@ -1,8 +1,8 @@
 -- What bytes spell an instruction: its one or two slots, RFC 9669, sections 3.1 and 3.2.
-use Rattle.std.specs.Prelude.{◌≡◌, ◌==◌, Bool, ℕ, ◌+◌, ◌/◌, ◌%◌, ◌^◌, ◌<◌, ◌≤◌, List, [], ◌∷◌, length, take, FitsSigned}
+use Rattle.std.specs.Prelude.{◌≡◌, ℕ, ◌+◌, ◌/◌, ◌%◌, ◌^◌, ◌<◌, ◌≤◌, List, [], ◌∷◌, length, take, FitsSigned}
 use Rattle.std.specs.List.{flat_map}
 use Rattle.std.specs.Int.{w16, w32}
-use Rattle.insn_codec.specs.declared.slot.Slot.{Slot}
+use Rattle.insn_codec.specs.declared.slot.SlotFields.{SlotFields}
 use Rattle.insn_codec.specs.declared.insn.Operand.{Operand}
 use Rattle.insn_codec.specs.declared.insn.Operand.TheVariants.{Imm, Reg}
 use Rattle.insn_codec.specs.declared.insn.Insn.{Insn}
@@ -27,7 +27,7 @@ imm_field (Reg r) = 0
 -- ---- the grammar: one case for each form, section 4 (arithmetic, jumps) and section 5 (loads, stores)
 
 -- the first slot
-abbrev pub first : Insn → Slot
+abbrev pub first : Insn → SlotFields
 first (Alu wide op dst src) = slot (opcode (alu_number op) (source_bit src) (alu_class wide)) dst (src_field src) (alu_offset op) (imm_field src)
 first (Movsx m) = slot (opcode 11 1 (alu_class m.wide)) m.dst m.src (narrow_number m.bits) 0
 first (Neg wide dst) = slot (opcode 8 0 (alu_class wide)) dst 0 0 0
@@ -43,21 +43,17 @@ first (Const dst value) = slot 0x18 dst 0 0 (value % 2 ^ 32)
 first (MapFd dst fd) = slot 0x18 dst 1 0 (imm_bits fd)
 
 -- the second slot, which wide loads alone have: section 5.4
-abbrev pub second : Insn → List Slot
+abbrev pub second : Insn → List SlotFields
 second (Const dst value) = slot 0 0 0 0 (value / 2 ^ 32) ∷ []
 second (MapFd dst fd) = slot 0 0 0 0 0 ∷ []
 second _ = []
 
-abbrev pub slots : Insn → List Slot
+abbrev pub slots : Insn → List SlotFields
 slots i = first i ∷ second i
 
 -- its bytes
 unfoldable pub spelling : Insn → List ℕ
 spelling i = flat_map slot_bytes (slots i)
-
--- it takes two slots: section 3.2
-abbrev pub is_wide : Insn → Bool
-is_wide i = length (slots i) == 2
 
 -- ---- the values of the type: numbers in the ranges of their fields, section 3.1
 
@@ -81,7 +77,7 @@ IsInsnUpTo top (Store s dst src off) = (dst ≤ top) × IsOperandUpTo top src ×
 IsInsnUpTo top (Const dst value) = (dst ≤ top) × (value < 2 ^ 64)
 IsInsnUpTo top (MapFd dst fd) = (dst ≤ top) × FitsSigned w32 fd
 
--- the registers that there are: 0 to 10, section 2
+-- the registers that there are: 0 to 10, section 3.1
 abbrev pub IsOperand : Operand → Type 0
 IsOperand o = IsOperandUpTo 10 o
 

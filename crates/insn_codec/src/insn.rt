@@ -7,7 +7,7 @@ ghost use Rattle.insn_codec.specs.Sizes.{is_double, is_short};
 
 use std::marker::Model;
 
-/// A register, by its number: 0 to 10 (RFC 9669, section 2).
+/// A register, by its number: 0 to 10 (RFC 9669, section 3.1).
 /// Register 10 is the frame pointer. Contracts see the number.
 #[derive(Clone, Copy, Debug, PartialEq, Eq)]
 pub struct Reg {
@@ -214,7 +214,8 @@ pub enum Insn {
 
 impl Insn {
     ghost use Rattle.std.specs.Prelude.{length};
-    ghost use Rattle.insn_codec.specs.Spelling.{slots, is_wide, IsInsn};
+    ghost use Rattle.insn_codec.specs.Spelling.{slots, IsInsn};
+    ghost use Rattle.insn_codec.specs.inside.Code.{is_wide};
 
     /// Whether it takes two slots (RFC 9669, section 3.2).
     pub fn is_wide(&self) -> bool

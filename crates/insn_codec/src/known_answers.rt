@@ -5,13 +5,15 @@ ghost use Rattle.insn_codec.specs.Fault.{HasFault};
 ghost use Rattle.insn_codec.specs.declared.fault.FaultKind.{FaultKind as AnyKind};
 
 use crate::{
-    CodecFault, FaultKind, Insn, Program, Reg, decode, encode, read_program, write_program,
+    CodecFault, FaultKind, Insn, Program, RawSlot, Reg, decode, encode, read_program, write_program,
 };
 use std::alloc::Global;
 
 const _: () = prove!(size_of::<Insn>() == 16);
 
 const _: () = prove!(size_of::<Option<Insn>>() == 24);
+
+const _: () = prove!(size_of::<RawSlot>() == 8);
 
 /// A wide load of a number.
 fn wide(value: u64) -> Insn
@@ -94,6 +96,18 @@ fn places_of_a_program(alloc: Global) -> Result<(), CodecFault> {
     prove!(third && !end);
     let (nothing, something) = (program.get(1).is_none(), program.get(2).is_some());
     prove!(nothing && something);
+    Ok(())
+}
+
+fn spelled_program(alloc: Global) -> Result<(), CodecFault> {
+    let program = Program::new(alloc, &[wide(0x7_0000_0009), Insn::Exit])?;
+    let spelled = program.spelled();
+    prove!(spelled.len() == 3);
+    prove!(spelled[0].opcode == 0x18);
+    prove!(spelled[0].registers == 2);
+    prove!(spelled[0].imm == 9);
+    prove!(spelled[1].imm == 7);
+    prove!(spelled[2].opcode == 0x95);
     Ok(())
 }
 

@@ -3,11 +3,11 @@
 ghost use Rattle.std.specs.Prelude.{◌≡◌, ◌<◌, ◌≤◌, IfSome, IsTrue, not, ◌&&◌, false};
 
 use crate::insn::{AluOp, Condition, Insn, Operand, Reg, Size};
-use crate::slot::Slot;
+use crate::slot::SlotFields;
 
 /// Where the second operand is: the source bit (RFC 9669, section 4).
 #[derive(Clone, Copy, Debug, PartialEq, Eq)]
-pub enum Source {
+pub enum SourceBit {
     Imm,
     Reg,
 }
@@ -52,7 +52,7 @@ pub enum WideKind {
 }
 
 impl AluCode {
-    ghost use Rattle.insn_codec.specs.declared.opcode.Source.TheVariants as source_variant;
+    ghost use Rattle.insn_codec.specs.declared.opcode.SourceBit.TheVariants as source_variant;
     ghost use Rattle.insn_codec.specs.inside.Form.{alu_code_at, offset_listed};
     ghost use Rattle.insn_codec.specs.Numbers.{alu_number, alu_offset};
     ghost use Rattle.insn_codec.specs.inside.Opcodes.{code_number};
@@ -80,12 +80,12 @@ impl AluCode {
     }
 
     /// Whether the operation has this offset.
-    pub fn lists_offset(self, wide: bool, source: Source, offset: u16) -> bool
+    pub fn lists_offset(self, wide: bool, source: SourceBit, offset: u16) -> bool
         ensures { result ≡ offset_listed wide self source offset }
     {
         match (self, source) {
             (AluCode::Div, _) | (AluCode::Mod, _) => offset <= 1,
-            (AluCode::Mov, Source::Reg) => {
+            (AluCode::Mov, SourceBit::Reg) => {
                 offset == 0 || offset == 8 || offset == 16 || (wide && offset == 32)
             }
             _ => offset == 0,
@@ -117,23 +117,23 @@ impl AluCode {
     }
 }
 
-impl Source {
+impl SourceBit {
     ghost use Rattle.insn_codec.specs.inside.Form.{one_operand};
     ghost use Rattle.insn_codec.specs.inside.Opcodes.{source_number};
     ghost use Rattle.insn_codec.specs.Spelling.{source_bit, src_field, imm_field, IsOperand};
 
     /// Whether the operand that is not used is zero.
-    pub fn lists_operand(self, slot: Slot) -> bool
+    pub fn lists_operand(self, slot: SlotFields) -> bool
         ensures { result ≡ one_operand self slot }
     {
         match self {
-            Source::Imm => slot.src == 0,
-            Source::Reg => slot.imm == 0,
+            SourceBit::Imm => slot.src == 0,
+            SourceBit::Reg => slot.imm == 0,
         }
     }
 
     /// The operand that a slot has.
-    pub fn operand(self, slot: Slot, src: Reg) -> Operand
+    pub fn operand(self, slot: SlotFields, src: Reg) -> Operand
         requires listed { IsTrue (one_operand self slot) }
         requires src { slot.src ≡ src }
         requires bound { src ≤ 10 }
@@ -143,8 +143,8 @@ impl Source {
         ensures value { IsOperand result }
     {
         match self {
-            Source::Imm => Operand::Imm(slot.imm.cast_signed()),
-            Source::Reg => Operand::Reg(src),
+            SourceBit::Imm => Operand::Imm(slot.imm.cast_signed()),
+            SourceBit::Reg => Operand::Reg(src),
         }
     }
 }
@@ -232,7 +232,7 @@ impl WideKind {
     }
 
     /// Whether a slot is a second slot of this kind: all zero, except for a number that the kind uses.
-    pub fn lists_second(self, next: Slot) -> bool
+    pub fn lists_second(self, next: SlotFields) -> bool
         ensures { result ≡ is_second self next }
     {
         let number = match self {

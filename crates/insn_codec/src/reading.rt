@@ -1,28 +1,29 @@
 //! Bytes to instructions.
 
 ghost use Rattle.std.specs.Prelude.{◌++◌, List, ℕ, ◌≡◌, ◌+◌, ◌*◌, ◌≤◌, [], ◌∷◌, length, IfOk, IfErr, IsErrAnd, Ok, Some, None, IsTrue};
-ghost use Rattle.insn_codec.specs.Slot.{slot_of};
+ghost use Rattle.insn_codec.specs.inside.Slots.{slot_of};
 ghost use Rattle.insn_codec.specs.inside.Form.{listed};
 ghost use Rattle.insn_codec.specs.Spelling.{slots, spelling, IsInsn, Begins};
 ghost use Rattle.insn_codec.specs.Fault.{HasFault};
 ghost use Rattle.insn_codec.specs.inside.FirstFault.{first_fault, second_fault};
 ghost use Rattle.insn_codec.specs.declared.insn.Insn.{Insn as AnyInsn};
 ghost use Rattle.insn_codec.specs.declared.fault.FaultKind.{FaultKind as AnyKind};
-ghost use Rattle.insn_codec.specs.declared.form.Form.TheVariants.{Wide};
+ghost use Rattle.insn_codec.specs.declared.form.OpcodeForm.TheVariants.{Wide};
 
 use crate::fault::{CodecFault, FaultKind};
-use crate::form::Form;
+use crate::form::OpcodeForm;
 use crate::insn::{Insn, Reg};
 use crate::opcode::WideKind;
-use crate::slot::Slot;
+use crate::slot::SlotFields;
 
 /// The wide instruction that begins with this slot.
-fn wide(slot: Slot, dst: Reg, rest: &[u8]) -> Result<Insn, FaultKind>
+fn wide(slot: SlotFields, dst: Reg, rest: &[u8]) -> Result<Insn, FaultKind>
     requires opcode { slot.opcode ≡ 0x18 }
     requires listed { IsTrue (listed Wide slot) }
     requires dst { slot.dst ≡ dst }
     requires dst_bound { dst ≤ 10 }
-    ensures found { IfOk result (λ i. IsInsn i × (8 ≤ length rest.now) × (slots i ≡ slot ∷ slot_of rest.now ∷ [])) }
+    ensures found { IfOk result (λ i. IsInsn i × (8 ≤ length rest.now)
+        × (slots i ≡ slot ∷ slot_of rest.now ∷ [])) }
     ensures none { IfOk result (λ _. second_fault Wide slot.src rest.now ≡ None) }
     ensures fault { IfErr result (λ kind. second_fault Wide slot.src rest.now ≡ Some kind) }
 {
@@ -32,7 +33,7 @@ fn wide(slot: Slot, dst: Reg, rest: &[u8]) -> Result<Insn, FaultKind>
     if rest.len() < 8 {
         return Err(FaultKind::SecondSlot);
     }
-    let next = Slot::first(rest);
+    let next = SlotFields::first(rest);
     if !kind.lists_second(next) {
         return Err(FaultKind::SecondSlot);
     }
@@ -57,8 +58,8 @@ pub(crate) fn instruction(bytes: &[u8]) -> Result<Insn, FaultKind>
     if bytes.len() < 8 {
         return Err(FaultKind::Ragged);
     }
-    let slot = Slot::first(bytes);
-    let Some(form) = Form::of(slot.opcode) else {
+    let slot = SlotFields::first(bytes);
+    let Some(form) = OpcodeForm::of(slot.opcode) else {
         return Err(FaultKind::Opcode);
     };
     if !form.lists(slot) {
@@ -69,7 +70,7 @@ pub(crate) fn instruction(bytes: &[u8]) -> Result<Insn, FaultKind>
     }
     let dst = Reg::new(slot.dst);
     match form {
-        Form::Wide => {
+        OpcodeForm::Wide => {
             let (_, rest) = bytes.split_at(8);
             wide(slot, dst, rest)
         }
@@ -85,13 +86,16 @@ pub(crate) fn instruction(bytes: &[u8]) -> Result<Insn, FaultKind>
 /// (RFC 9669, section 3: unused fields are zero).
 pub fn decode(bytes: &[u8]) -> Result<(Insn, usize), CodecFault>
     // What is answered is spelled at the front.
-    ensures found { IfOk result (λ found. IsInsn found.0 × Begins found.0 bytes.now × (found.1 ≡ length (slots found.0))) }
+    ensures found { IfOk result (λ found. IsInsn found.0 × Begins found.0 bytes.now
+        × (found.1 ≡ length (slots found.0))) }
     // What is spelled at the front is answered.
-    ensures only { (insn : Insn) → IsInsn insn → Begins insn bytes.now → result ≡ Ok (insn, length (slots insn)) }
+    ensures only { (insn : Insn) → IsInsn insn → Begins insn bytes.now → result
+        ≡ Ok (insn, length (slots insn)) }
     // Else it is the fault at the front.
     ensures fault { IfErr result (λ e. (e.slot ≡ 0) × HasFault bytes.now e.kind) }
     // The fault at the front is told.
-    ensures faulty { (kind : AnyKind) → HasFault bytes.now kind → IsErrAnd result (λ e. e.kind ≡ kind) }
+    ensures faulty { (kind : AnyKind) → HasFault bytes.now kind → IsErrAnd result
+        (λ e. e.kind ≡ kind) }
 {
     match instruction(bytes) {
         Ok(insn) => Ok((insn, insn.slots())),
@@ -101,5 +105,6 @@ pub fn decode(bytes: &[u8]) -> Result<(Insn, usize), CodecFault>
 
 /// A law: no spelling begins another, whatever follows it. It does nothing when it runs.
 pub fn one_spelling()
-    ensures { (a b : AnyInsn) (x y : List ℕ) → IsInsn a → IsInsn b → spelling a ++ x ≡ spelling b ++ y → a ≡ b }
+    ensures { (a b : AnyInsn) (x y : List ℕ) → IsInsn a → IsInsn b → spelling a ++ x ≡ spelling b
+        ++ y → a ≡ b }
 {}

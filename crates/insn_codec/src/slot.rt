@@ -4,7 +4,7 @@ ghost use Rattle.std.specs.Prelude.{◌≡◌, ◌≤◌, ◌<◌, ◌++◌, len
 
 /// The fields of a slot, as bits: no field is read as signed here. The two numbers of registers have four bits each.
 #[derive(Clone, Copy, Debug, PartialEq, Eq)]
-pub struct Slot {
+pub struct SlotFields {
     pub opcode: u8,
     pub dst: u8,
     pub src: u8,
@@ -12,16 +12,27 @@ pub struct Slot {
     pub imm: u32,
 }
 
-impl Slot {
-    ghost use Rattle.insn_codec.specs.Slot.{slot_of, slot_bytes};
+/// A slot as a program keeps it, in eight bytes: the fields of [`SlotFields`], with both registers in one byte, the destination's
+/// in its low four bits (RFC 9669, section 3.1). The offset and the immediate are bits: neither is read as signed here.
+#[derive(Clone, Copy, Debug, PartialEq, Eq)]
+pub struct RawSlot {
+    pub opcode: u8,
+    pub registers: u8,
+    pub offset: u16,
+    pub imm: u32,
+}
+
+impl SlotFields {
+    ghost use Rattle.insn_codec.specs.Slot.{slot_bytes};
+    ghost use Rattle.insn_codec.specs.inside.Slots.{slot_of};
 
     /// The slot at the front of the bytes.
-    #[tactic(auto, unfolding(crate::specs::Slot::slot_of))]
-    pub fn first(bytes: &[u8]) -> Slot
+    #[tactic(auto, unfolding(crate::specs::inside::Slots::slot_of))]
+    pub fn first(bytes: &[u8]) -> SlotFields
         requires { 8 ≤ length bytes.now }
         ensures { result ≡ slot_of bytes.now }
     {
-        Slot {
+        SlotFields {
             opcode: bytes[0],
             dst: bytes[1] % 16,
             src: bytes[1] / 16,
@@ -48,5 +59,24 @@ impl Slot {
             c,
             d,
         ]
+    }
+}
+
+impl RawSlot {
+    ghost use Rattle.insn_codec.specs.Slot.{fields};
+    ghost use Rattle.insn_codec.specs.inside.Slots.{slot_of};
+
+    /// The slot at the front of the bytes.
+    #[tactic(auto, unfolding(crate::specs::inside::Slots::slot_of))]
+    pub(crate) fn first(bytes: &[u8]) -> RawSlot
+        requires { 8 ≤ length bytes.now }
+        ensures { fields result ≡ slot_of bytes.now }
+    {
+        RawSlot {
+            opcode: bytes[0],
+            registers: bytes[1],
+            offset: u16::from_le_bytes([bytes[2], bytes[3]]),
+            imm: u32::from_le_bytes([bytes[4], bytes[5], bytes[6], bytes[7]]),
+        }
     }
 }

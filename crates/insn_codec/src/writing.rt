@@ -7,7 +7,7 @@ ghost use Rattle.insn_codec.specs.Spelling.{first as first_slot, second as secon
 ghost use Rattle.insn_codec.specs.Numbers.{opcode as opcode_from, memory_opcode, alu_class, jump_class, alu_number, alu_offset, condition_number, size_number, narrow_number, bits_number, end_opcode, load_mode};
 
 use crate::insn::{AluOp, Bits, ByteOrder, Condition, Insn, Narrow, Operand, Size};
-use crate::slot::Slot;
+use crate::slot::SlotFields;
 
 impl AluOp {
     fn number(self) -> u8
@@ -174,10 +174,10 @@ fn sized_opcode(mode: u8, size: Size, class: u8) -> u8
 }
 
 /// A slot of these fields.
-fn slot(opcode: u8, dst: u8, src: u8, offset: u16, imm: u32) -> Slot
+fn slot(opcode: u8, dst: u8, src: u8, offset: u16, imm: u32) -> SlotFields
     ensures { result ≡ slot_from opcode dst src offset imm }
 {
-    Slot {
+    SlotFields {
         opcode,
         dst,
         src,
@@ -187,7 +187,7 @@ fn slot(opcode: u8, dst: u8, src: u8, offset: u16, imm: u32) -> Slot
 }
 
 /// The first slot.
-fn first(insn: &Insn) -> Slot
+fn first(insn: &Insn) -> SlotFields
     ensures value { result ≡ first_slot insn.now }
     ensures dst { result.dst < 16 }
     ensures src { result.src < 16 }
@@ -258,7 +258,7 @@ fn first(insn: &Insn) -> Slot
 }
 
 /// The second slot of a wide instruction.
-fn second(insn: &Insn) -> Option<Slot>
+fn second(insn: &Insn) -> Option<SlotFields>
     ensures value { second_slot insn.now ≡ option_to_list result }
     ensures fits { IfSome result (λ next. (next.dst < 16) × (next.src < 16)) }
 {

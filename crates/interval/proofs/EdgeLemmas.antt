@@ -5,7 +5,7 @@ use Rattle.std.proofs.lemmas.Bool.{cond_both, eqb-true, eqb-false, ltb-true, ltb
 use Rattle.std.proofs.lemmas.Bool.Decides.{nat_tests}
 use Rattle.interval.specs.declared.range.Range.{Range}
 use Rattle.interval.specs.Ranges.{IsMember}
-use Rattle.interval.specs.Refine.{Pair, turned, where_equal, where_different, where_above, where_at_most, IsPairOn, Edges, edges, unchanged, refined}
+use Rattle.interval.specs.Refine.{RangePair, turned, where_equal, where_different, where_above, where_at_most, IsPairOn, EdgePairs, edges, unchanged, refined}
 use Rattle.interval.specs.declared.operator.Comparison.{Comparison}
 use Rattle.interval.specs.declared.operator.Comparison.TheVariants.{Equal, NotEqual, Above, AboveOrEqual, Below, BelowOrEqual, SignedAbove, SignedAboveOrEqual, SignedBelow, SignedBelowOrEqual, CommonBit}
 use Rattle.interval.specs.Operate.{operand}
@@ -24,12 +24,12 @@ at_most_keeps a b x y h k e = grind (arith, nat_tests)
 different_keeps : (a b : Range) (x y : ℕ) → IsMember x a → IsMember y b → x ≢ y → IsPairOn (where_different a b) x y
 different_keeps a b x y h k e = grind (arith, nat_tests)
 
-turned_keeps : (e : Option Pair) (x y : ℕ) → IsPairOn e y x → IsPairOn (turned e) x y
+turned_keeps : (e : Option RangePair) (x y : ℕ) → IsPairOn e y x → IsPairOn (turned e) x y
 turned_keeps None x y h = h
 turned_keeps (Some p) x y h = (h.1, h.0)
 
 -- both edges of a comparison whose operands are below 2 ^ n
-abbrev BothKeep : ℕ → Comparison → Range → Range → ℕ → ℕ → Edges → Type 0
+abbrev BothKeep : ℕ → Comparison → Range → Range → ℕ → ℕ → EdgePairs → Type 0
 BothKeep n comparison a b x y e =
     (holds n comparison x y ≡ true → IsPairOn e.0 x y) × (holds n comparison x y ≡ false → IsPairOn e.1 x y)
 
@@ -83,11 +83,11 @@ above_words a b p q = grind (arith, nat_tests)
 at_most_words : (a b : Range) → IsOfWords a → IsOfWords b → IsPairOfWords (where_at_most a b)
 at_most_words a b p q = grind (arith, nat_tests)
 
-turned_words : (e : Option Pair) → IsPairOfWords e → IsPairOfWords (turned e)
+turned_words : (e : Option RangePair) → IsPairOfWords e → IsPairOfWords (turned e)
 turned_words None h = h
 turned_words (Some p) h = (h.1, h.0)
 
-abbrev pub BothWords : Edges → Type 0
+abbrev pub BothWords : EdgePairs → Type 0
 BothWords e = IsPairOfWords e.0 × IsPairOfWords e.1
 
 edges_words : (comparison : Comparison) (a b : Range) → IsOfWords a → IsOfWords b → BothWords (edges comparison a b)

@@ -3,8 +3,8 @@ use Rattle.std.proofs.Common.{◌≡◌, ℕ, ◌^◌, ◌<◌, ◌≤◌, true,
 use Rattle.std.proofs.Math.Nat.{mod-eq_of_lt}
 use Rattle.std.proofs.lemmas.Bool.{cond-true, cond-false}
 use Rattle.interval.specs.declared.range.Range.{Range}
-use Rattle.interval.specs.declared.operator.Bits.{Bits}
-use Rattle.interval.specs.declared.operator.ByteOrder.{ByteOrder}
+use Rattle.interval.specs.declared.operator.KeptBits.{KeptBits}
+use Rattle.interval.specs.declared.operator.OrderChange.{OrderChange}
 use Rattle.interval.specs.declared.operator.Operator.{Operator}
 use Rattle.interval.specs.declared.operator.Operator.TheVariants.{Add, Sub, Mul, Div, SignedDiv, Or, And, ShiftLeft, ShiftRight, Mod, SignedMod, Xor, Mov, SignedShiftRight, Neg, SignExtend, End}
 use Rattle.interval.specs.Operate.{combined, operate}
@@ -68,7 +68,7 @@ wide_result (End how kept) x y = refl
 -- ---- on 32 bits it sees low halves, but for a change of byte order
 
 abbrev pub IsNoEnd : Operator → Type 0
-IsNoEnd op = (how : ByteOrder) (kept : Bits) → op ≡ End how kept → ⊥
+IsNoEnd op = (how : OrderChange) (kept : KeptBits) → op ≡ End how kept → ⊥
 
 pub narrow_range : (op : Operator) (a b : Range) → IsNoEnd op → result_range 32 op (seen 32 a) (seen 32 b) ≡ range_of 32 op a b
 narrow_range Add a b f = refl

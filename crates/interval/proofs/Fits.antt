@@ -5,9 +5,9 @@ use Rattle.std.proofs.lemmas.Bool.{cond_both, ltb-true, leb-true}
 use Rattle.std.proofs.lemmas.Nat.{pow_pos, shr_le, mul-le}
 use Rattle.std.proofs.Math.Nat.{mul-le-mul_right}
 use Rattle.interval.specs.declared.range.Range.{Range}
-use Rattle.interval.specs.declared.operator.Bits.{Bits}
-use Rattle.interval.specs.declared.operator.Bits.TheVariants as bits
-use Rattle.interval.specs.declared.operator.ByteOrder.{ByteOrder}
+use Rattle.interval.specs.declared.operator.KeptBits.{KeptBits}
+use Rattle.interval.specs.declared.operator.KeptBits.TheVariants as bits
+use Rattle.interval.specs.declared.operator.OrderChange.{OrderChange}
 use Rattle.interval.specs.declared.operator.Operator.{Operator}
 use Rattle.interval.specs.declared.operator.Operator.TheVariants.{Add, Sub, Mul, Div, SignedDiv, Or, And, ShiftLeft, ShiftRight, Mod, SignedMod, Xor, Mov, SignedShiftRight, Neg, SignExtend, End}
 use Rattle.interval.specs.Operate.{kept_bits, narrow_bits, combined, byte_order}
@@ -72,7 +72,7 @@ shift_right_fits n p a b h =
 
 -- ---- all operators
 
-kept_below : (kept : Bits) → (full (kept_bits kept)).hi < 2 ^ 64
+kept_below : (kept : KeptBits) → (full (kept_bits kept)).hi < 2 ^ 64
 kept_below bits.Bits16 = omega arith
 kept_below bits.Bits32 = omega arith
 kept_below bits.Bits64 = omega arith
@@ -97,7 +97,7 @@ spread_fits n Neg a b w p q = omega (arith, full_below n)
 spread_fits n (SignExtend from) a b w p q = if_lt (2 ^ 64) b.hi (2 ^ (narrow_bits from - 1)) _ _ (λ _. omega arith) (omega (arith, full_below n))
 spread_fits n (End how kept) a b w p q = kept_below kept
 
-end_fits : (how : ByteOrder) (kept : Bits) (v : ℕ) → byte_order how kept v < 2 ^ 64
+end_fits : (how : OrderChange) (kept : KeptBits) (v : ℕ) → byte_order how kept v < 2 ^ 64
 end_fits how bits.Bits16 v = omega (arith, byte_order_below how bits.Bits16 v)
 end_fits how bits.Bits32 v = omega (arith, byte_order_below how bits.Bits32 v)
 end_fits how bits.Bits64 v = byte_order_below how bits.Bits64 v

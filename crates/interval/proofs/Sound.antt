@@ -6,10 +6,10 @@ use Rattle.std.proofs.lemmas.Nat.{pow_pos}
 use Rattle.std.specs.Prelude.{◌-ℤ◌, ◌*ℤ◌, int_div}
 use Rattle.std.specs.Int.{w16, w32, w64, swap_bytes}
 use Rattle.interval.specs.declared.range.Range.{Range}
-use Rattle.interval.specs.declared.operator.Bits.{Bits}
-use Rattle.interval.specs.declared.operator.Bits.TheVariants as bits
-use Rattle.interval.specs.declared.operator.ByteOrder.{ByteOrder}
-use Rattle.interval.specs.declared.operator.ByteOrder.TheVariants.{Little, Big, Swap}
+use Rattle.interval.specs.declared.operator.KeptBits.{KeptBits}
+use Rattle.interval.specs.declared.operator.KeptBits.TheVariants as bits
+use Rattle.interval.specs.declared.operator.OrderChange.{OrderChange}
+use Rattle.interval.specs.declared.operator.OrderChange.TheVariants.{Little, Big, Swap}
 use Rattle.interval.specs.declared.operator.Operator.{Operator}
 use Rattle.interval.specs.declared.operator.Operator.TheVariants.{Add, Sub, Mul, Div, SignedDiv, Or, And, ShiftLeft, ShiftRight, Mod, SignedMod, Xor, Mov, SignedShiftRight, Neg, SignExtend, End}
 use Rattle.interval.specs.Words.{signed, unsigned, negate, signed_divide, signed_remainder, sign_extend}
@@ -32,12 +32,12 @@ swapped_below_32 v = omega arith
 swapped_below_64 : (v : ℕ) → swap_bytes w64 v < 2 ^ 64
 swapped_below_64 v = omega arith
 
-reversed_below : (kept : Bits) (a : ℕ) → reversed_bytes kept a < 2 ^ kept_bits kept
+reversed_below : (kept : KeptBits) (a : ℕ) → reversed_bytes kept a < 2 ^ kept_bits kept
 reversed_below bits.Bits16 a = swapped_below_16 (a % 2 ^ 16)
 reversed_below bits.Bits32 a = swapped_below_32 (a % 2 ^ 32)
 reversed_below bits.Bits64 a = swapped_below_64 (a % 2 ^ 64)
 
-pub byte_order_below : (how : ByteOrder) (kept : Bits) (a : ℕ) → byte_order how kept a < 2 ^ kept_bits kept
+pub byte_order_below : (how : OrderChange) (kept : KeptBits) (a : ℕ) → byte_order how kept a < 2 ^ kept_bits kept
 byte_order_below Little kept a = below_pow (kept_bits kept) a
 byte_order_below Big kept a = reversed_below kept a
 byte_order_below Swap kept a = reversed_below kept a

@@ -1,8 +1,8 @@
 -- Known answers: what the definitions give on numbers of RFC 9669's rules, and rows of the table of ranges.
 use Rattle.std.proofs.Common.{◌≡◌, ℕ, true, false, Option, Some, None, List, [], ◌∷◌, refl}
-use Rattle.interval.specs.declared.operator.Bits.TheVariants.{Bits16, Bits32, Bits64}
-use Rattle.interval.specs.declared.operator.Narrow.TheVariants as narrow
-use Rattle.interval.specs.declared.operator.ByteOrder.TheVariants.{Little, Big, Swap}
+use Rattle.interval.specs.declared.operator.KeptBits.TheVariants.{Bits16, Bits32, Bits64}
+use Rattle.interval.specs.declared.operator.ExtendedBits.TheVariants as narrow
+use Rattle.interval.specs.declared.operator.OrderChange.TheVariants.{Little, Big, Swap}
 use Rattle.interval.specs.declared.operator.Operator.TheVariants.{Add, Sub, Div, SignedDiv, Or, Mod, SignedMod, Mov, ShiftLeft, ShiftRight, SignedShiftRight, Neg, SignExtend, End}
 use Rattle.interval.specs.declared.operator.Comparison.TheVariants.{Equal, NotEqual, Above, SignedAbove, SignedBelow, CommonBit}
 use Rattle.interval.specs.declared.range.Range.{Range}
@@ -10,7 +10,7 @@ use Rattle.interval.specs.Operate.{operate, byte_order}
 use Rattle.interval.specs.Compare.{compares}
 use Rattle.interval.specs.Ranges.{span, constant, full, hull}
 use Rattle.interval.specs.Table.{range_of}
-use Rattle.interval.specs.Refine.{Pair, refined}
+use Rattle.interval.specs.Refine.{RangePair, refined}
 
 -- ---- words of 64 bits (RFC 9669, sections 4.1 to 4.3)
 
@@ -144,7 +144,7 @@ hull_of_ranges = refl
 -- ---- both edges of a jump
 
 -- the ranges of both operands; none on an edge that can't be taken
-abbrev on_edge : Option Pair → List (ℕ × ℕ)
+abbrev on_edge : Option RangePair → List (ℕ × ℕ)
 on_edge None = []
 on_edge (Some p) = ends p.0 ∷ ends p.1 ∷ []
 

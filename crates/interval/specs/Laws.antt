@@ -1,4 +1,4 @@
--- What holds of the definitions, for all ranges of words.
+-- What holds of the definitions, for all ranges of words. This project's own.
 use Rattle.std.specs.Prelude.{◌≡◌, ℕ, ◌^◌, ◌<◌, IsTrue, IsFalse, Option, Some, None}
 use Rattle.interval.specs.declared.range.Range.{Range}
 use Rattle.interval.specs.declared.operator.Operator.{Operator}
@@ -7,7 +7,7 @@ use Rattle.interval.specs.Operate.{operate}
 use Rattle.interval.specs.Compare.{compares}
 use Rattle.interval.specs.Ranges.{IsMember, hull}
 use Rattle.interval.specs.Table.{range_of}
-use Rattle.interval.specs.Refine.{Pair, refined, IsPairOn}
+use Rattle.interval.specs.Refine.{RangePair, refined, IsPairOn}
 
 -- its members are words
 abbrev pub IsOfWords : Range → Type 0
@@ -29,7 +29,7 @@ EdgesKeepMembers n =
     (IsTrue (compares n comparison x y) → IsPairOn (refined n comparison a b).0 x y)
     × (IsFalse (compares n comparison x y) → IsPairOn (refined n comparison a b).1 x y)
 
-abbrev pub IsPairOfWords : Option Pair → Type 0
+abbrev pub IsPairOfWords : Option RangePair → Type 0
 IsPairOfWords None = Unit {0}
 IsPairOfWords (Some p) = IsOfWords p.0 × IsOfWords p.1
 

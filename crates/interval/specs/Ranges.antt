@@ -1,4 +1,4 @@
--- Ranges of numbers, and where a number of one lies.
+-- Ranges of numbers, and where a number of one lies. This project's own.
 use Rattle.std.specs.Prelude.{ℕ, ◌-◌, ◌^◌, ◌≤◌, ◌==◌, min, max, Bool}
 use Rattle.interval.specs.declared.range.Range.{Range}
 use Rattle.interval.specs.inside.Ordered.{at_most_max, at_most_itself, at_least_zero, hull_ordered}

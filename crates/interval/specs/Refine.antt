@@ -1,4 +1,5 @@
--- What a conditional jump tells of its operands, on each of its two edges. None: the edge can't be taken.
+-- What a conditional jump tells of its operands, on each of its two edges. None: the edge can't be taken. The
+-- comparisons are those of RFC 9669, section 4.3; what is told is this project's own.
 use Rattle.std.specs.Prelude.{ℕ, ◌+◌, ◌-◌, ◌^◌, ◌==◌, min, max, nat_lt, nat_le, ◌&&◌, if◌then◌else◌, Option, Some, None}
 use Rattle.std.specs.Option.{option_map}
 use Rattle.interval.specs.declared.range.Range.{Range}
@@ -7,10 +8,10 @@ use Rattle.interval.specs.declared.operator.Comparison.TheVariants.{Equal, NotEq
 use Rattle.interval.specs.Ranges.{span, is_constant, IsMember}
 
 -- the ranges of both operands
-abbrev pub Pair : Type 0
-Pair = Range × Range
+abbrev pub RangePair : Type 0
+RangePair = Range × Range
 
-abbrev pub turned : Option Pair → Option Pair
+abbrev pub turned : Option RangePair → Option RangePair
 turned None = None
 turned (Some p) = Some (p.1, p.0)
 
@@ -23,34 +24,34 @@ without r v =
 
 -- ---- what each comparison tells
 
-abbrev pub where_equal : Range → Range → Option Pair
+abbrev pub where_equal : Range → Range → Option RangePair
 where_equal a b =
     let lo = max a.lo b.lo in
     let hi = min a.hi b.hi in
     if nat_le lo hi then Some (span lo hi, span lo hi) else None
 
-abbrev pub where_different : Range → Range → Option Pair
+abbrev pub where_different : Range → Range → Option RangePair
 where_different a b =
     if is_constant b then option_map (λ r. (r, b)) (without a b.lo) else
     (if is_constant a then option_map (λ r. (a, r)) (without b a.lo) else Some (a, b))
 
-abbrev pub where_above : Range → Range → Option Pair
+abbrev pub where_above : Range → Range → Option RangePair
 where_above a b =
     if nat_le a.hi b.lo then None else Some (span (max a.lo (b.lo + 1)) a.hi, span b.lo (min b.hi (a.hi - 1)))
 
-abbrev pub where_at_most : Range → Range → Option Pair
+abbrev pub where_at_most : Range → Range → Option RangePair
 where_at_most a b =
     if nat_lt b.hi a.lo then None else Some (span a.lo (min a.hi b.hi), span (max a.lo b.lo) b.hi)
 
 -- ---- both edges: where the comparison holds, and where it fails
 
-abbrev pub Edges : Type 0
-Edges = Option Pair × Option Pair
+abbrev pub EdgePairs : Type 0
+EdgePairs = Option RangePair × Option RangePair
 
-abbrev pub unchanged : Range → Range → Edges
+abbrev pub unchanged : Range → Range → EdgePairs
 unchanged a b = (Some (a, b), Some (a, b))
 
-abbrev pub edges : Comparison → Range → Range → Edges
+abbrev pub edges : Comparison → Range → Range → EdgePairs
 edges Equal a b = (where_equal a b, where_different a b)
 edges NotEqual a b = (where_different a b, where_equal a b)
 edges Above a b = (where_above a b, where_at_most a b)
@@ -64,11 +65,11 @@ edges SignedBelowOrEqual a b = unchanged a b
 edges CommonBit a b = unchanged a b
 
 -- A comparison on n bits sees the low n bits alone, so nothing is told of words that may have more
-abbrev pub refined : ℕ → Comparison → Range → Range → Edges
+abbrev pub refined : ℕ → Comparison → Range → Range → EdgePairs
 refined n comparison a b =
     if nat_lt a.hi (2 ^ n) && nat_lt b.hi (2 ^ n) then edges comparison a b else unchanged a b
 
 -- x and y are members of the ranges on an edge that is taken
-abbrev pub IsPairOn : Option Pair → ℕ → ℕ → Type 0
+abbrev pub IsPairOn : Option RangePair → ℕ → ℕ → Type 0
 IsPairOn None x y = ⊥
 IsPairOn (Some p) x y = IsMember x p.0 × IsMember y p.1

@@ -1,4 +1,5 @@
--- The range of each operator's results, of operands in two ranges.
+-- The range of each operator's results, of operands in two ranges. The operators are those of RFC 9669, sections 4.1
+-- and 4.2; the ranges are this project's own.
 use Rattle.std.specs.Prelude.{ℕ, ◌+◌, ◌-◌, ◌*◌, ◌/◌, ◌%◌, ◌^◌, min, max, nat_lt, nat_le, Bool, ◌&&◌, if◌then◌else◌}
 use Rattle.std.specs.Int.{w64, leading_zeros}
 use Rattle.interval.specs.declared.range.Range.{Range}

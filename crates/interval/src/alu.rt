@@ -8,7 +8,7 @@ ghost use Rattle.interval.specs.Table.{are_constants, spread, result_range, seen
 
 use crate::arithmetic::{difference, product, quotient, remainder, sum};
 use crate::bitwise::{and, exclusive_or, or};
-use crate::operator::{Bits, Operator};
+use crate::operator::{KeptBits, Operator};
 use crate::range::{Range, greatest};
 use crate::shifts::{shift_left, shift_right, sign_extend, signed_shift_right};
 use crate::{words32, words64};
@@ -97,12 +97,12 @@ fn spread(wide: bool, op: Operator, a: Range, b: Range) -> Range
 }
 
 /// All numbers of so many bits.
-fn full_of(bits: Bits) -> Range
+fn full_of(bits: KeptBits) -> Range
     ensures { result ≡ full (kept_bits bits) }
 {
     match bits {
-        Bits::Bits16 => Range::new(0, 0xffff),
-        Bits::Bits32 => Range::full(false),
-        Bits::Bits64 => Range::full(true),
+        KeptBits::Bits16 => Range::new(0, 0xffff),
+        KeptBits::Bits32 => Range::full(false),
+        KeptBits::Bits64 => Range::full(true),
     }
 }

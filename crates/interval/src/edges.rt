@@ -18,9 +18,11 @@ pub type Edge = Option<(Range, Range)>;
 pub fn refine(comparison: Comparison, wide: bool, a: Range, b: Range) -> (Edge, Edge)
     ensures exact { result ≡ refined (bits_of wide) comparison a b }
 
-    ensures taken { (x y : ℕ) → IsMember x a → IsMember y b → IsTrue (compares (bits_of wide) comparison x y) → IsPairOn result.0 x y }
+    ensures taken { (x y : ℕ) → IsMember x a → IsMember y b
+        → IsTrue (compares (bits_of wide) comparison x y) → IsPairOn result.0 x y }
 
-    ensures not_taken { (x y : ℕ) → IsMember x a → IsMember y b → IsFalse (compares (bits_of wide) comparison x y) → IsPairOn result.1 x y }
+    ensures not_taken { (x y : ℕ) → IsMember x a → IsMember y b
+        → IsFalse (compares (bits_of wide) comparison x y) → IsPairOn result.1 x y }
 {
     if a.hi > greatest(wide) || b.hi > greatest(wide) {
         return (Some((a, b)), Some((a, b)));

@@ -1,7 +1,8 @@
 //! Known answers, proved from the contracts alone.
 
 use crate::{
-    Bits, ByteOrder, Comparison, Operator, Range, alu32, alu64, hull, refine, words32, words64,
+    Comparison, KeptBits, Operator, OrderChange, Range, alu32, alu64, hull, refine, words32,
+    words64,
 };
 
 fn words_of_64_bits() {
@@ -11,7 +12,7 @@ fn words_of_64_bits() {
     prove!(remainder == 7);
     let difference = words64::subtract(0, 1);
     prove!(difference == 0xffff_ffff_ffff_ffff);
-    let reversed = words64::byte_order(ByteOrder::Big, Bits::Bits16, 287454020);
+    let reversed = words64::byte_order(OrderChange::Big, KeptBits::Bits16, 287454020);
     prove!(reversed == 17459);
     let above = words64::compares(Comparison::SignedAbove, 0, 0xffff_ffff_ffff_ffff);
     prove!(above);

@@ -21,5 +21,5 @@ pub use hulls::hull;
 pub use laws::{
     edges_are_words, edges_keep_members, hull_is_a_join, results_are_members, results_are_words,
 };
-pub use operator::{Bits, ByteOrder, Comparison, Narrow, Operator};
+pub use operator::{Comparison, ExtendedBits, KeptBits, Operator, OrderChange};
 pub use range::Range;

@@ -2,7 +2,7 @@
 
 /// How a byte order is changed.
 #[derive(Clone, Copy, Debug, PartialEq, Eq)]
-pub enum ByteOrder {
+pub enum OrderChange {
     /// To little-endian: the bytes stay in their order.
     Little,
     /// To big-endian: the bytes are reversed.
@@ -13,7 +13,7 @@ pub enum ByteOrder {
 
 /// How many low bits a change of byte order keeps.
 #[derive(Clone, Copy, Debug, PartialEq, Eq)]
-pub enum Bits {
+pub enum KeptBits {
     Bits16,
     Bits32,
     Bits64,
@@ -21,7 +21,7 @@ pub enum Bits {
 
 /// How many low bits a sign extension starts from.
 #[derive(Clone, Copy, Debug, PartialEq, Eq)]
-pub enum Narrow {
+pub enum ExtendedBits {
     Bits8,
     Bits16,
     Bits32,
@@ -54,9 +54,9 @@ pub enum Operator {
     /// The first operand with its sign changed.
     Neg,
     /// The low bits of the second operand, with their sign extended.
-    SignExtend { from: Narrow },
+    SignExtend { from: ExtendedBits },
     /// The low bits of the first operand in another byte order. It takes and gives 64 bits, whatever the width.
-    End { how: ByteOrder, bits: Bits },
+    End { how: OrderChange, bits: KeptBits },
 }
 
 /// When a conditional jump of RFC 9669, section 4.3, is taken.

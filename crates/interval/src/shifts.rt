@@ -5,7 +5,7 @@ ghost use Rattle.interval.specs.Widths.{bits_of};
 ghost use Rattle.interval.specs.Operate.{narrow_bits};
 ghost use Rattle.interval.specs.Table.{scaled_range, shift_left_range, shift_right_range, signed_shift_right_range, sign_extend_range};
 
-use crate::operator::Narrow;
+use crate::operator::ExtendedBits;
 use crate::range::{Range, greatest};
 
 /// How many places a shift moves by: the second operand modulo the number of bits.
@@ -65,13 +65,13 @@ pub(crate) fn signed_shift_right(wide: bool, a: Range, b: Range) -> Range
 }
 
 /// The low bits of members with their sign extended: the members themselves where all these bits hold them, sign bit 0.
-pub(crate) fn sign_extend(wide: bool, from: Narrow, b: Range) -> Range
+pub(crate) fn sign_extend(wide: bool, from: ExtendedBits, b: Range) -> Range
     ensures { result ≡ sign_extend_range (bits_of wide) (narrow_bits from) b }
 {
     let positive = match from {
-        Narrow::Bits8 => 0x7f,
-        Narrow::Bits16 => 0x7fff,
-        Narrow::Bits32 => 0x7fff_ffff,
+        ExtendedBits::Bits8 => 0x7f,
+        ExtendedBits::Bits16 => 0x7fff,
+        ExtendedBits::Bits32 => 0x7fff_ffff,
     };
     if b.hi <= positive {
         b

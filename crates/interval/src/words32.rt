@@ -5,7 +5,7 @@ ghost use Rattle.interval.specs.Words.{add, subtract, multiply, negate, divide, 
 ghost use Rattle.interval.specs.Operate.{narrow_bits, operate};
 ghost use Rattle.interval.specs.Compare.{compares};
 
-use crate::operator::{Comparison, Narrow, Operator};
+use crate::operator::{Comparison, ExtendedBits, Operator};
 use crate::parts::{low_byte, low_half, low_word};
 use crate::words64;
 
@@ -163,13 +163,13 @@ pub fn negate(a: u64) -> u64
 
 /// The low bits of `a`, with their sign extended to 32 bits.
 #[inline(always)]
-pub fn sign_extend(from: Narrow, a: u64) -> u64
+pub fn sign_extend(from: ExtendedBits, a: u64) -> u64
     ensures { result ≡ sign_extend 32 (narrow_bits from) (low 32 a) }
 {
     match from {
-        Narrow::Bits8 => u64::from(i32::from(low_byte(a).cast_signed()).cast_unsigned()),
-        Narrow::Bits16 => u64::from(i32::from(low_half(a).cast_signed()).cast_unsigned()),
-        Narrow::Bits32 => u64::from(low_word(a)),
+        ExtendedBits::Bits8 => u64::from(i32::from(low_byte(a).cast_signed()).cast_unsigned()),
+        ExtendedBits::Bits16 => u64::from(i32::from(low_half(a).cast_signed()).cast_unsigned()),
+        ExtendedBits::Bits32 => u64::from(low_word(a)),
     }
 }
 

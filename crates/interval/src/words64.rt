@@ -5,7 +5,7 @@ ghost use Rattle.interval.specs.Words.{add, subtract, multiply, negate, divide, 
 ghost use Rattle.interval.specs.Operate.{narrow_bits, byte_order, operate};
 ghost use Rattle.interval.specs.Compare.{compares};
 
-use crate::operator::{Bits, ByteOrder, Comparison, Narrow, Operator};
+use crate::operator::{Comparison, ExtendedBits, KeptBits, Operator, OrderChange};
 use crate::parts::{low_byte, low_half, low_word};
 
 /// The sum, modulo 2^64.
@@ -134,28 +134,28 @@ pub fn negate(a: u64) -> u64
 
 /// The low bits of `a`, with their sign extended to 64 bits.
 #[inline(always)]
-pub fn sign_extend(from: Narrow, a: u64) -> u64
+pub fn sign_extend(from: ExtendedBits, a: u64) -> u64
     ensures { result ≡ sign_extend 64 (narrow_bits from) a }
 {
     match from {
-        Narrow::Bits8 => i64::from(low_byte(a).cast_signed()).cast_unsigned(),
-        Narrow::Bits16 => i64::from(low_half(a).cast_signed()).cast_unsigned(),
-        Narrow::Bits32 => i64::from(low_word(a).cast_signed()).cast_unsigned(),
+        ExtendedBits::Bits8 => i64::from(low_byte(a).cast_signed()).cast_unsigned(),
+        ExtendedBits::Bits16 => i64::from(low_half(a).cast_signed()).cast_unsigned(),
+        ExtendedBits::Bits32 => i64::from(low_word(a).cast_signed()).cast_unsigned(),
     }
 }
 
 /// The low bits of `a` in another byte order, on a little-endian machine. The bits above are zero.
 #[inline(always)]
-pub fn byte_order(how: ByteOrder, bits: Bits, a: u64) -> u64
+pub fn byte_order(how: OrderChange, bits: KeptBits, a: u64) -> u64
     ensures { result ≡ byte_order how bits a }
 {
     match (how, bits) {
-        (ByteOrder::Little, Bits::Bits16) => u64::from(low_half(a)),
-        (ByteOrder::Little, Bits::Bits32) => u64::from(low_word(a)),
-        (ByteOrder::Little, Bits::Bits64) => a,
-        (_, Bits::Bits16) => u64::from(low_half(a).swap_bytes()),
-        (_, Bits::Bits32) => u64::from(low_word(a).swap_bytes()),
-        (_, Bits::Bits64) => a.swap_bytes(),
+        (OrderChange::Little, KeptBits::Bits16) => u64::from(low_half(a)),
+        (OrderChange::Little, KeptBits::Bits32) => u64::from(low_word(a)),
+        (OrderChange::Little, KeptBits::Bits64) => a,
+        (_, KeptBits::Bits16) => u64::from(low_half(a).swap_bytes()),
+        (_, KeptBits::Bits32) => u64::from(low_word(a).swap_bytes()),
+        (_, KeptBits::Bits64) => a.swap_bytes(),
     }
 }
 

@@ -1,4 +1,4 @@
--- What is known where two edges meet.
+-- What is known where two edges meet. This project's own.
 use Rattle.std.specs.Prelude.{◌==◌, ◌&&◌, bit_and, if◌then◌else◌}
 use Rattle.std.specs.Ordering.{int_eq}
 use Rattle.interval.specs.Ranges.{hull}

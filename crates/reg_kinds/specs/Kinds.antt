@@ -1,4 +1,5 @@
--- Kinds of values, and facts as tables of them.
+-- Kinds of values, and facts as tables of them. The stack's size and what a program begins with are the kernel's
+-- (linux/filter.h; the kernel documentation of the verifier); kinds are this project's own.
 use Rattle.std.specs.Prelude.{ℕ, ◌/◌, pos, ◌==◌, if◌then◌else◌, Bool, true, false, List, map, slice_index_or, slice_set}
 use Rattle.std.specs.List.{range_with_len}
 use Rattle.reg_kinds.specs.declared.kind.Kind.{Kind}

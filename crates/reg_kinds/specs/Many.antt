@@ -1,5 +1,5 @@
--- Ranges of bytes of the stack that reach over many slots: what a helper reads, and what it writes. Places count from the
--- lowest byte of the stack.
+-- Ranges of bytes of the stack that reach over many slots: what a helper reads, and what it writes. Places count from
+-- the lowest byte of the stack. The rules are this project's own.
 use Rattle.std.specs.Prelude.{ℕ, zero, suc, ◌+◌, ◌-◌, ◌*◌, ◌^◌, ◌==◌, ℤ, min, bit_and, nat_lt, nat_le, Bool, false, not, ◌&&◌, ◌||◌, if◌then◌else◌, Result, Ok, Err}
 use Rattle.reg_kinds.specs.declared.kind.Kind.{Kind}
 use Rattle.reg_kinds.specs.declared.kind.Kind.TheVariants.{Unreadable}

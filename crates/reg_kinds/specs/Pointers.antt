@@ -1,4 +1,4 @@
--- Pointers into values of a map.
+-- Pointers into values of a map. This project's own.
 use Rattle.std.specs.Prelude.{ℕ, ℤ}
 use Rattle.std.specs.Int.{int_min, int_max}
 use Rattle.reg_kinds.specs.declared.kind.ValuePointer.{ValuePointer}

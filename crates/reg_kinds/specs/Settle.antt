@@ -1,4 +1,4 @@
--- What is known once a test has told whether a look-up gave null.
+-- What is known once a test has told whether a look-up gave null. The rule is this project's own.
 use Rattle.std.specs.Prelude.{ℕ, ◌==◌, pos, Bool, true, false, if◌then◌else◌}
 use Rattle.interval.specs.Ranges.{constant}
 use Rattle.reg_kinds.specs.declared.kind.Kind.{Kind}

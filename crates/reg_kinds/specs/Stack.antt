@@ -1,4 +1,5 @@
 -- Loads from the stack, and stores into it. Offsets count from its upper end, so those of its bytes are -512 to -1.
+-- Sizes are those of RFC 9669, section 5; the rules are this project's own.
 use Rattle.std.specs.Prelude.{ℕ, ◌-◌, ◌*◌, ◌/◌, ◌%◌, ◌^◌, ◌==◌, ℤ, pos, negsuc, ◌+ℤ◌, int_le, unsigned_abs, bit_and, bit_or, Bool, true, false, not, ◌&&◌, if◌then◌else◌, Result, Ok, Err}
 use Rattle.interval.specs.Ranges.{full}
 use Rattle.reg_kinds.specs.declared.kind.Kind.{Kind}
@@ -6,20 +7,20 @@ use Rattle.reg_kinds.specs.declared.kind.Kind.TheVariants.{Unreadable, Scalar}
 use Rattle.reg_kinds.specs.declared.kind.Slot.{Slot}
 use Rattle.reg_kinds.specs.declared.kind.Slot.TheVariants.{Bytes, Spill}
 use Rattle.reg_kinds.specs.declared.facts.Facts.{Facts}
-use Rattle.reg_kinds.specs.declared.stack.Size.{Size}
-use Rattle.reg_kinds.specs.declared.stack.Size.TheVariants.{Byte, Half, Word, Double}
+use Rattle.reg_kinds.specs.declared.stack.AccessSize.{AccessSize}
+use Rattle.reg_kinds.specs.declared.stack.AccessSize.TheVariants.{Byte, Half, Word, Double}
 use Rattle.reg_kinds.specs.declared.reason.Reason.{Reason}
 use Rattle.reg_kinds.specs.declared.reason.Reason.TheVariants.{UnreadableRegister, OutsideStack, UnalignedStack, UnwrittenStack, PartOfSpill}
 use Rattle.reg_kinds.specs.Reason.{given}
 use Rattle.reg_kinds.specs.Kinds.{is_pointer, slot_at, stack_size, with_slot}
 
-abbrev pub bytes_of : Size → ℕ
+abbrev pub bytes_of : AccessSize → ℕ
 bytes_of Byte = 1
 bytes_of Half = 2
 bytes_of Word = 4
 bytes_of Double = 8
 
-abbrev pub is_whole : Size → Bool
+abbrev pub is_whole : AccessSize → Bool
 is_whole Double = true
 is_whole _ = false
 
@@ -40,7 +41,7 @@ abbrev pub byte_bits : ℕ → ℕ → ℕ
 byte_bits at n = (2 ^ n - 1) * 2 ^ (at % 8)
 
 -- the slot that an access touches, and the bits of its bytes
-abbrev pub touched : ℤ → Size → Result (ℕ × ℕ) Reason
+abbrev pub touched : ℤ → AccessSize → Result (ℕ × ℕ) Reason
 touched offset size =
     if not (is_in_stack offset (bytes_of size)) then Err OutsideStack else
     (if not (is_aligned offset (bytes_of size)) then Err UnalignedStack else
@@ -49,15 +50,15 @@ touched offset size =
 -- ---- loads
 
 -- what a load of bytes gives
-abbrev pub loaded : Size → Bool → Kind
+abbrev pub loaded : AccessSize → Bool → Kind
 loaded size true = Scalar (full 64)
 loaded size false = Scalar (full (8 * bytes_of size))
 
-abbrev pub read_slot : Slot → ℕ → Size → Bool → Result Kind Reason
+abbrev pub read_slot : Slot → ℕ → AccessSize → Bool → Result Kind Reason
 read_slot (Spill k) bits size signed = if is_whole size then Ok k else Err PartOfSpill
 read_slot (Bytes mask) bits size signed = if bit_and mask bits == bits then Ok (loaded size signed) else Err UnwrittenStack
 
-abbrev pub stack_read : Facts → ℤ → Size → Bool → Result Kind Reason
+abbrev pub stack_read : Facts → ℤ → AccessSize → Bool → Result Kind Reason
 stack_read f offset size signed = given (touched offset size) (λ t. read_slot (slot_at f t.0) t.1 size signed)
 
 -- ---- stores
@@ -68,14 +69,14 @@ bytes_over (Bytes mask) bits = Bytes (bit_or mask bits)
 bytes_over (Spill k) bits = Bytes bits
 
 -- a pointer is kept whole or not at all
-abbrev pub slot_written : Slot → ℕ → Size → Kind → Result Slot Reason
+abbrev pub slot_written : Slot → ℕ → AccessSize → Kind → Result Slot Reason
 slot_written s bits size k =
     if is_pointer k then (if is_whole size then Ok (Spill k) else Err PartOfSpill) else Ok (bytes_over s bits)
 
 -- facts after a store
-abbrev pub facts_written : Facts → Size → Kind → ℕ × ℕ → Result Facts Reason
+abbrev pub facts_written : Facts → AccessSize → Kind → ℕ × ℕ → Result Facts Reason
 facts_written f size k t = given (slot_written (slot_at f t.0) t.1 size k) (λ s. Ok (with_slot f t.0 s))
 
-abbrev pub stack_write : Facts → ℤ → Size → Kind → Result Facts Reason
+abbrev pub stack_write : Facts → ℤ → AccessSize → Kind → Result Facts Reason
 stack_write f offset size Unreadable = Err UnreadableRegister
 stack_write f offset size k = given (touched offset size) (facts_written f size k)

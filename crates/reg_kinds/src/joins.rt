@@ -76,18 +76,41 @@ pub fn join_into(facts: &mut Facts, edge: &Facts)
     join_stack(facts, edge);
 }
 
+/// Joins what is known of a value on a further edge into what is known so far, in place.
+fn join_kind(known: &mut Kind, edge: &Kind)
+    ensures { known.new ≡ kind_join known.old edge.now }
+{
+    match known {
+        Kind::Unreadable => {}
+        _ => *known = known.join(*edge),
+    }
+}
+
 fn join_registers(facts: &mut Facts, edge: &Facts)
-    ensures { facts.new ≡ with_registers facts.old (λ r. kind_join (kind_at facts.old r) (kind_at edge.now r)) }
+    ensures { facts.new ≡ with_registers facts.old
+        (λ r. kind_join (kind_at facts.old r) (kind_at edge.now r)) }
 {
     for r in 0..REGISTERS {
-        facts.registers[r] = facts.kind(r).join(edge.kind(r));
+        join_kind(&mut facts.registers[r], &edge.registers[r]);
+    }
+}
+
+/// Joins what is known of eight bytes on a further edge into what is known so far: in place where both are bytes, as most
+/// are.
+fn join_slot(known: &mut Slot, edge: &Slot)
+    ensures { known.new ≡ slot_join known.old edge.now }
+{
+    match (&mut *known, edge) {
+        (Slot::Bytes(mask), Slot::Bytes(other)) => *mask &= *other,
+        _ => *known = known.join(*edge),
     }
 }
 
 fn join_stack(facts: &mut Facts, edge: &Facts)
-    ensures { facts.new ≡ with_slots facts.old (λ i. slot_join (slot_at facts.old i) (slot_at edge.now i)) }
+    ensures { facts.new ≡ with_slots facts.old
+        (λ i. slot_join (slot_at facts.old i) (slot_at edge.now i)) }
 {
     for i in 0..STACK_SLOTS {
-        facts.slots[i] = facts.slot(i).join(edge.slot(i));
+        join_slot(&mut facts.slots[i], &edge.slots[i]);
     }
 }

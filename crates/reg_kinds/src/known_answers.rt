@@ -1,6 +1,6 @@
 //! Known answers, proved from the contracts alone.
 
-use crate::{Facts, Kind, Reason, Size, Slot, join, read_stack, settle, write_stack};
+use crate::{AccessSize, Facts, Kind, Reason, Slot, join, read_stack, settle, write_stack};
 use interval::Range;
 use std::mem::size_of;
 
@@ -32,10 +32,10 @@ fn joins() {
 
 fn a_pointer_is_spilled_whole() {
     let mut facts = Facts::at_entry();
-    let stored = write_stack(&mut facts, -8, Size::Double, Kind::Stack(0));
+    let stored = write_stack(&mut facts, -8, AccessSize::Double, Kind::Stack(0));
     let is_stored = stored.is_ok();
     prove!(is_stored);
-    let part = read_stack(&facts, -6, Size::Half, false);
+    let part = read_stack(&facts, -6, AccessSize::Half, false);
     let is_refused = matches!(part, Err(Reason::PartOfSpill));
     prove!(is_refused);
 }

@@ -18,4 +18,4 @@ pub use laws::{joins_associate, joins_commute};
 pub use many::{call, fill_stack, read_many};
 pub use null_tests::settle;
 pub use reason::Reason;
-pub use stack::{Size, loaded, read_stack, write_stack};
+pub use stack::{AccessSize, loaded, read_stack, write_stack};

@@ -75,7 +75,8 @@ fn lacks(slot: Slot, bits: u8) -> bool
 /// Whether bytes touch a spilled value.
 fn touch_a_spill(facts: &Facts, place: usize, count: usize) -> bool
     requires { place + count ≤ stack_size }
-    ensures { result ≡ any_below stack_slots (λ i. is_touched_spill (slot_at facts.now i) (touches place count i)) }
+    ensures { result ≡ any_below stack_slots
+        (λ i. is_touched_spill (slot_at facts.now i) (touches place count i)) }
 {
     for index in 0..STACK_SLOTS {
         if is_touched_spill(facts.slot(index), touches(place, count, index)) {
@@ -88,7 +89,8 @@ fn touch_a_spill(facts: &Facts, place: usize, count: usize) -> bool
 /// Whether one of some bytes may never have been written.
 fn are_missing(facts: &Facts, place: usize, count: usize) -> bool
     requires { place + count ≤ stack_size }
-    ensures { result ≡ any_below stack_slots (λ i. lacks (slot_at facts.now i) (bits_in place count i)) }
+    ensures { result ≡ any_below stack_slots
+        (λ i. lacks (slot_at facts.now i) (bits_in place count i)) }
 {
     for index in 0..STACK_SLOTS {
         if lacks(facts.slot(index), bits_in(place, count, index)) {
@@ -120,7 +122,9 @@ pub fn read_many(facts: &Facts, offset: i32, count: u32) -> Result<(), Reason>
 /// touched nothing else is left. Refused where `most` bytes are not all in the stack, and then nothing changes.
 /// Where `least` is above `most` there is no such number of bytes, and what is told then speaks of no run.
 pub fn fill_stack(facts: &mut Facts, offset: i32, least: u32, most: u32) -> Result<(), Reason>
-    ensures { MatchResult (stack_filled facts.old offset least most) (λ after. (result ≡ Ok tt) × (facts.new ≡ after)) (λ reason. (result ≡ Err reason) × (facts.new ≡ facts.old)) }
+    ensures { MatchResult (stack_filled facts.old offset least most)
+        (λ after. (result ≡ Ok tt) × (facts.new ≡ after))
+        (λ reason. (result ≡ Err reason) × (facts.new ≡ facts.old)) }
 {
     let place = place_of(offset, most).ok_or(Reason::OutsideStack)?;
     fill_slots(facts, place, least as usize, most as usize);
@@ -132,7 +136,8 @@ fn filled_slot(slot: Slot, place: usize, least: usize, most: usize, index: usize
     requires least { least < 2 ^ 32 }
     requires within { place + most ≤ stack_size }
     requires slot { index < stack_slots }
-    ensures { result ≡ (if touches place most index then bytes_over slot (bits_in place least index) else slot) }
+    ensures { result ≡ (if touches place most index then bytes_over slot (bits_in place least index)
+        else slot) }
 {
     if touches(place, most, index) {
         bytes_over(slot, bits_in(place, least, index))
@@ -144,7 +149,9 @@ fn filled_slot(slot: Slot, place: usize, least: usize, most: usize, index: usize
 fn fill_slots(facts: &mut Facts, place: usize, least: usize, most: usize)
     requires least { least < 2 ^ 32 }
     requires within { place + most ≤ stack_size }
-    ensures { facts.new ≡ with_slots facts.old (λ i. if touches place most i then bytes_over (slot_at facts.old i) (bits_in place least i) else slot_at facts.old i) }
+    ensures { facts.new ≡ with_slots facts.old
+        (λ i. if touches place most i then bytes_over (slot_at facts.old i) (bits_in place least i)
+        else slot_at facts.old i) }
 {
     for i in 0..STACK_SLOTS {
         facts.slots[i] = filled_slot(facts.slot(i), place, least, most, i);
@@ -153,7 +160,8 @@ fn fill_slots(facts: &mut Facts, place: usize, least: usize, most: usize)
 
 /// What a call leaves in a register.
 fn called_kind(kind: Kind, result_kind: Kind, register: usize) -> Kind
-    ensures { result ≡ (if register == 0 then result_kind else (if nat_le register 5 then Unreadable else kind)) }
+    ensures { result ≡ (if register == 0 then result_kind
+        else (if nat_le register 5 then Unreadable else kind)) }
 {
     if register == 0 {
         result_kind

@@ -18,7 +18,8 @@ pub fn settle(facts: &mut Facts, site: usize, null: bool)
 }
 
 fn settle_registers(facts: &mut Facts, site: usize, null: bool)
-    ensures { facts.new ≡ with_registers facts.old (λ r. kind_settled site null (kind_at facts.old r)) }
+    ensures { facts.new ≡ with_registers facts.old
+        (λ r. kind_settled site null (kind_at facts.old r)) }
 {
     for r in 0..REGISTERS {
         facts.registers[r] = settled_kind(facts.kind(r), site, null);

@@ -15,23 +15,23 @@ pub(crate) const LOWEST: i32 = -(STACK_SIZE as i32);
 
 /// How many bytes a load or a store moves.
 #[derive(Clone, Copy, Debug, PartialEq, Eq)]
-pub enum Size {
+pub enum AccessSize {
     Byte,
     Half,
     Word,
     Double,
 }
 
-impl Size {
+impl AccessSize {
     /// The number of bytes: 1, 2, 4 or 8.
     pub fn bytes(self) -> u8
         ensures { result ≡ bytes_of self }
     {
         match self {
-            Size::Byte => 1,
-            Size::Half => 2,
-            Size::Word => 4,
-            Size::Double => 8,
+            AccessSize::Byte => 1,
+            AccessSize::Half => 2,
+            AccessSize::Word => 4,
+            AccessSize::Double => 8,
         }
     }
 
@@ -40,10 +40,10 @@ impl Size {
         ensures { result ≡ is_whole self }
     {
         match self {
-            Size::Double => true,
-            Size::Byte => false,
-            Size::Half => false,
-            Size::Word => false,
+            AccessSize::Double => true,
+            AccessSize::Byte => false,
+            AccessSize::Half => false,
+            AccessSize::Word => false,
         }
     }
 }
@@ -52,7 +52,12 @@ impl Size {
 /// end. The first of these that holds refuses it: it is not in the stack (`OutsideStack`), it is not aligned to its size
 /// (`UnalignedStack`), it reads a part of a spilled value (`PartOfSpill`), a byte may never have been written
 /// (`UnwrittenStack`).
-pub fn read_stack(facts: &Facts, offset: i32, size: Size, signed: bool) -> Result<Kind, Reason>
+pub fn read_stack(
+    facts: &Facts,
+    offset: i32,
+    size: AccessSize,
+    signed: bool,
+) -> Result<Kind, Reason>
     ensures { result ≡ stack_read facts.now offset size signed }
 {
     let (index, bits) = touched(offset, size)?;
@@ -60,7 +65,7 @@ pub fn read_stack(facts: &Facts, offset: i32, size: Size, signed: bool) -> Resul
 }
 
 /// What a load gives of the slot that it touches.
-fn read_slot(slot: Slot, bits: u8, size: Size, signed: bool) -> Result<Kind, Reason>
+fn read_slot(slot: Slot, bits: u8, size: AccessSize, signed: bool) -> Result<Kind, Reason>
     ensures { result ≡ read_slot slot bits size signed }
 {
     match slot {
@@ -74,8 +79,15 @@ fn read_slot(slot: Slot, bits: u8, size: Size, signed: bool) -> Result<Kind, Rea
 /// Stores a value of a kind into the stack. The first of these that holds refuses it: the value is unreadable
 /// (`UnreadableRegister`), the store is not in the stack (`OutsideStack`), it is not aligned to its size
 /// (`UnalignedStack`), it keeps a part of a pointer (`PartOfSpill`). A refusal changes nothing.
-pub fn write_stack(facts: &mut Facts, offset: i32, size: Size, value: Kind) -> Result<(), Reason>
-    ensures { MatchResult (stack_write facts.old offset size value) (λ after. (result ≡ Ok tt) × (facts.new ≡ after)) (λ reason. (result ≡ Err reason) × (facts.new ≡ facts.old)) }
+pub fn write_stack(
+    facts: &mut Facts,
+    offset: i32,
+    size: AccessSize,
+    value: Kind,
+) -> Result<(), Reason>
+    ensures { MatchResult (stack_write facts.old offset size value)
+        (λ after. (result ≡ Ok tt) × (facts.new ≡ after))
+        (λ reason. (result ≡ Err reason) × (facts.new ≡ facts.old)) }
 {
     if let Kind::Unreadable = value {
         return Err(Reason::UnreadableRegister);
@@ -87,7 +99,7 @@ pub fn write_stack(facts: &mut Facts, offset: i32, size: Size, value: Kind) -> R
 }
 
 /// The slot that an access touches, and the bits of its bytes.
-fn touched(offset: i32, size: Size) -> Result<(usize, u8), Reason>
+fn touched(offset: i32, size: AccessSize) -> Result<(usize, u8), Reason>
     ensures value { result ≡ touched offset size }
     ensures bound { IfOk result (λ t. t.0 < stack_slots) }
 {
@@ -103,20 +115,20 @@ fn touched(offset: i32, size: Size) -> Result<(usize, u8), Reason>
 }
 
 /// The bits of the bytes of a slot that an access touches.
-fn byte_bits(place: usize, size: Size) -> u8
+fn byte_bits(place: usize, size: AccessSize) -> u8
     requires { place % bytes_of size ≡ 0 }
     ensures { result ≡ byte_bits place (bytes_of size) }
 {
     match size {
-        Size::Byte => 1 << (place % 8),
-        Size::Half => 3 << (place % 8),
-        Size::Word => 0xf << (place % 8),
-        Size::Double => 0xff,
+        AccessSize::Byte => 1 << (place % 8),
+        AccessSize::Half => 3 << (place % 8),
+        AccessSize::Word => 0xf << (place % 8),
+        AccessSize::Double => 0xff,
     }
 }
 
 /// What a load of bytes gives.
-pub fn loaded(size: Size, signed: bool) -> Kind
+pub fn loaded(size: AccessSize, signed: bool) -> Kind
     ensures { result ≡ loaded size signed }
 {
     if signed {
@@ -127,19 +139,19 @@ pub fn loaded(size: Size, signed: bool) -> Kind
 }
 
 /// The numbers of so many bytes.
-fn zero_extended(size: Size) -> Range
+fn zero_extended(size: AccessSize) -> Range
     ensures { result ≡ full (8 * bytes_of size) }
 {
     match size {
-        Size::Byte => Range::new(0, 0xff),
-        Size::Half => Range::new(0, 0xffff),
-        Size::Word => Range::full(false),
-        Size::Double => Range::full(true),
+        AccessSize::Byte => Range::new(0, 0xff),
+        AccessSize::Half => Range::new(0, 0xffff),
+        AccessSize::Word => Range::full(false),
+        AccessSize::Double => Range::full(true),
     }
 }
 
 /// What a store leaves in the slot that it touches.
-fn slot_written(slot: Slot, bits: u8, size: Size, value: Kind) -> Result<Slot, Reason>
+fn slot_written(slot: Slot, bits: u8, size: AccessSize, value: Kind) -> Result<Slot, Reason>
     ensures { result ≡ slot_written slot bits size value }
 {
     if !value.is_pointer() {

@@ -23,7 +23,8 @@ fn create(maps: &mut Maps, shape: MapShape, part: &mut [u8]) -> Result<MapKey, M
     ensures live { IfOk result (λ map. IsSome (live_at maps.new map)) }
     ensures shape { IfOk result (λ map. shape_at maps.new map ≡ shape) }
     ensures holds { IfOk result (λ map. holds_at maps.new map ≡ 1) }
-    ensures others { (map : ℕ) → IsSome (live_at maps.old map) → live_at maps.new map ≡ live_at maps.old map }
+    ensures others { (map : ℕ) → IsSome (live_at maps.old map) → live_at maps.new map
+        ≡ live_at maps.old map }
 {
     maps.create(shape, part)
 }
@@ -58,7 +59,8 @@ fn end_run(maps: &mut Maps, map: MapKey)
 fn made(maps: &mut Maps, shape: MapShape, part: &mut [u8]) -> usize
     requires { length part.old ≡ PART }
     ensures length { length part.new ≡ PART }
-    ensures others { (map : ℕ) → IsSome (live_at maps.old map) → live_at maps.new map ≡ live_at maps.old map }
+    ensures others { (map : ℕ) → IsSome (live_at maps.old map) → live_at maps.new map
+        ≡ live_at maps.old map }
 {
     for made in 0..30 {
         if create(maps, shape, part).is_err() {

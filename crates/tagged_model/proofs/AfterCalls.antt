@@ -12,9 +12,9 @@ use Rattle.reg_kinds.specs.Many.{call_kind}
 use Rattle.tagged_model.specs.declared.shape.MapShape.{MapShape}
 use Rattle.tagged_model.specs.declared.value.Tagged.{Tagged}
 use Rattle.tagged_model.specs.Cells.{Cell}
-use Rattle.tagged_model.specs.State.{State, RunMap, set_at}
+use Rattle.tagged_model.specs.State.{RunState, RunMap, set_at}
 use Rattle.tagged_model.specs.Helpers.{after_call}
-use Rattle.tagged_model.specs.Admits.{Witness, IsOf, IsLookup, HasKind, HoldsNull, HasSlot, AdmitsBy, objects_of, IsMapOf, IsKindBelow, IsSlotBelow, witness_at}
+use Rattle.tagged_model.specs.Admits.{Witness, IsOfKind, IsLookup, HasKind, HoldsNull, HasSlot, AdmitsBy, objects_of, IsMapOf, IsKindBelow, IsSlotBelow, witness_at}
 use Rattle.tagged_model.specs.Laws.{MapChangeAdmits, CallAdmits, SiteAdmits}
 use Rattle.tagged_model.proofs.Tables.{in_table}
 use Rattle.tagged_model.proofs.Unknown.{has_kind}
@@ -22,7 +22,7 @@ use Rattle.tagged_model.proofs.Objects.{map_admits, map_proper}
 
 -- ---- a map changes
 
-module _ (shapes : ℕ → Option MapShape) (s : State) (m : ℕ) (shape : MapShape) (u : RunMap) (shaped : shapes m ≡ Some shape) (is : IsMapOf shape u) where
+module _ (shapes : ℕ → Option MapShape) (s : RunState) (m : ℕ) (shape : MapShape) (u : RunMap) (shaped : shapes m ≡ Some shape) (is : IsMapOf shape u) where
   maps_after : (k : ℕ) → ((other : MapShape) → shapes k ≡ Some other → (v : RunMap) × (s.maps k ≡ Some v) × IsMapOf other v) → (other : MapShape) → shapes k ≡ Some other → (v : RunMap) × (set_at s.maps m (Some u) k ≡ Some v) × IsMapOf other v
   maps_after k old other e =
       cond_both (k == m) (Some u) (s.maps k) (λ o. (v : RunMap) × (o ≡ Some v) × IsMapOf other v)
@@ -39,7 +39,7 @@ map_change_admits witness f shapes s m shape t u still is shaped keeps =
 
 -- ---- a call gives a value
 
-call_kinds : (witness : Witness) (f : Facts) (s : State) (k : Kind) (v : Tagged) → AdmitsBy witness f s → IsOf witness k v → (r : ℕ) → HasKind witness (call_kind f k r) (after_call s.registers v r)
+call_kinds : (witness : Witness) (f : Facts) (s : RunState) (k : Kind) (v : Tagged) → AdmitsBy witness f s → IsOfKind witness k v → (r : ℕ) → HasKind witness (call_kind f k r) (after_call s.registers v r)
 call_kinds witness f s k v admits is r = by (r == 0) (nat_le r 5)
   where
     by : (a b : Bool) → HasKind witness (if a then k else (if b then kind.Unreadable else kind_at f r)) (if a then Some v else (if b then None else s.registers r))
@@ -61,7 +61,7 @@ call_admits witness f shapes s k v still is =
 
 -- ---- more is told
 
-module _ (witness : Witness) (s : State) (site : ℕ) (v : Tagged) (objects : (m : ℕ) → witness.objects m ≤ objects_of (s.maps m)) where
+module _ (witness : Witness) (s : RunState) (site : ℕ) (v : Tagged) (objects : (m : ℕ) → witness.objects m ≤ objects_of (s.maps m)) where
   more : Witness
   more = witness_at witness s site v
 
@@ -75,7 +75,7 @@ module _ (witness : Witness) (s : State) (site : ℕ) (v : Tagged) (objects : (m
   gave_more : (other : ℕ) → other < site → set_at witness.gave site v other ≡ witness.gave other
   gave_more other lt = cond-false (other == site) v (witness.gave other) (ne_eqb other site (λ e. omega arith))
 
-  value_more : (k : Kind) (w : Tagged) → IsKindBelow site k → IsOf witness k w → IsOf (witness_at witness s site v) k w
+  value_more : (k : Kind) (w : Tagged) → IsKindBelow site k → IsOfKind witness k w → IsOfKind (witness_at witness s site v) k w
   value_more (kind.Value p) w below h = (h.0, h.1, h.2, h.3, h.4, more_objects p.map h.0 h.5)
   value_more (kind.MaybeValue m other) w below h = (h.0 ∙ sym (gave_more other below), lookup_more m w h.1)
   value_more kind.Unreadable w below h = tt

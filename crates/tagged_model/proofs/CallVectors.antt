@@ -14,14 +14,14 @@ use Rattle.tagged_model.specs.declared.value.Outcome.TheVariants.{Value}
 use Rattle.tagged_model.specs.Cells.{gathered}
 use Rattle.tagged_model.specs.Helpers.{known_helpers}
 use Rattle.tagged_model.specs.Table.{Table}
-use Rattle.tagged_model.specs.Step.{Maps, run, numbered, result_of, result_with, left_with, was_refused}
+use Rattle.tagged_model.specs.Step.{MapsByDescriptor, run, numbered, result_of, result_with, left_with, was_refused}
 use Rattle.tagged_model.proofs.RunVectors.{minus, context, set, copy, get, put, put_register}
 
 abbrev less : ℕ → ℕ → Insn
 less dst n = Alu true Add dst (Imm (minus n))
 
 -- a map under descriptor 3
-abbrev only : Table (List ℕ) → Maps
+abbrev only : Table (List ℕ) → MapsByDescriptor
 only t m = if m == 3 then Some t else None
 
 -- ---- an array of one value of eight bytes
@@ -51,7 +51,7 @@ chosen_byte =
     (set 2 (pos 0) ∷ copy 3 10 ∷ less 3 1 ∷ set 4 (pos 1) ∷ Call (pos 26) ∷ get Byte 6 10 (minus 1) ∷ put Word 10 (minus 8) (pos 0) ∷ copy 2 10 ∷ less 2 8 ∷ MapFd 1 (pos 3) ∷ Call (pos 1) ∷ [])
     ++ (Jump true Equal 0 (Imm (pos 0)) (pos 4) ∷ Jump true Above 6 (Imm (pos 7)) (pos 3) ∷ Alu true Add 0 (Reg 6) ∷ get Byte 0 0 (pos 0) ∷ Exit ∷ set 0 (pos 9) ∷ Exit ∷ [])
 
-abbrev eight_bytes : Maps
+abbrev eight_bytes : MapsByDescriptor
 eight_bytes = only (array (10 ∷ 11 ∷ 12 ∷ 13 ∷ 14 ∷ 15 ∷ 16 ∷ 17 ∷ []))
 
 byte_3 : result_of chosen_byte eight_bytes (context 1) (3 ∷ []) ≡ Value 13
@@ -112,7 +112,7 @@ hash entries = record {
   deleted = 0;
 }
 
-abbrev key_1 : Maps
+abbrev key_1 : MapsByDescriptor
 key_1 = only (hash ((1 ∷ 0 ∷ 0 ∷ 0 ∷ [], 5 ∷ 0 ∷ 0 ∷ 0 ∷ 0 ∷ 0 ∷ 0 ∷ 0 ∷ []) ∷ []))
 
 -- looks up key 1, deletes it, puts key 2 and writes through the pointer to the deleted value; 1 where key 1 is absent

@@ -17,8 +17,8 @@ use Rattle.reg_kinds.specs.Pointers.{offsets_hull}
 use Rattle.reg_kinds.specs.Join.{kind_join, spilled, slot_join, facts_join}
 use Rattle.tagged_model.specs.declared.value.Tagged.{Tagged}
 use Rattle.tagged_model.specs.Cells.{Cell}
-use Rattle.tagged_model.specs.State.{State}
-use Rattle.tagged_model.specs.Admits.{Witness, IsOf, IsValueOf, HasKind, HoldsWhole, HoldsNull, HasSlot, AdmitsBy}
+use Rattle.tagged_model.specs.State.{RunState}
+use Rattle.tagged_model.specs.Admits.{Witness, IsOfKind, IsValueOf, HasKind, HoldsWhole, HoldsNull, HasSlot, AdmitsBy}
 use Rattle.tagged_model.proofs.Unknown.{no_bytes, has_kind, admitted_by}
 
 least_below : (x z u : ℤ) → x ≤ℤ u → int_min x z ≤ℤ u
@@ -32,10 +32,10 @@ value_left witness p q v h = (h.0, h.1, h.2, least_below p.lo q.lo h.1 h.3, grea
 
 module _ (witness : Witness) (holds_both : HullHoldsBoth) where
   -- a kind, or none
-  or_nothing : (b : Bool) (k : Kind) (v : Tagged) → IsOf witness k v → IsOf witness (if b then k else Unreadable) v
-  or_nothing b k v h = cond_both b k Unreadable (λ l. IsOf witness l v) (λ _. h) (λ _. tt)
+  or_nothing : (b : Bool) (k : Kind) (v : Tagged) → IsOfKind witness k v → IsOfKind witness (if b then k else Unreadable) v
+  or_nothing b k v h = cond_both b k Unreadable (λ l. IsOfKind witness l v) (λ _. h) (λ _. tt)
 
-  value_joined : (j k : Kind) (v : Tagged) → IsOf witness j v → IsOf witness (kind_join j k) v
+  value_joined : (j k : Kind) (v : Tagged) → IsOfKind witness j v → IsOfKind witness (kind_join j k) v
   value_joined (Scalar a) (Scalar b) v h = (h.0, h.1, (holds_both a b h.0).0 h.2, h.3)
   value_joined (MapRef m) (MapRef n) v h = or_nothing (m == n) (MapRef m) v h
   value_joined (Stack x) (Stack y) v h = or_nothing (int_eq x y) (Stack x) v h
@@ -69,7 +69,7 @@ module _ (witness : Witness) (holds_both : HullHoldsBoth) where
   slot_joined t u c h = no_bytes c
 
   -- what the first side admits, the join admits
-  pub first_joined : (a b : Facts) (s : State) → AdmitsBy witness a s → AdmitsBy witness (facts_join a b) s
+  pub first_joined : (a b : Facts) (s : RunState) → AdmitsBy witness a s → AdmitsBy witness (facts_join a b) s
   first_joined a b s h =
       admitted_by witness (λ r. kind_join (kind_at a r) (kind_at b r)) (λ i. slot_join (slot_at a i) (slot_at b i)) s
       (λ r. register_joined (kind_at a r) (kind_at b r) (s.registers r) (h.registers r))

@@ -13,8 +13,8 @@ use Rattle.reg_kinds.specs.Kinds.{slot_at}
 use Rattle.reg_kinds.specs.Stack.{is_in_stack, place}
 use Rattle.reg_kinds.specs.Many.{touches, bits_in, any_below, is_touched_spill, lacks, stack_input}
 use Rattle.tagged_model.specs.Cells.{Cell, byte_at, gathered}
-use Rattle.tagged_model.specs.State.{State, stack_byte, stack_bytes}
-use Rattle.tagged_model.specs.Admits.{Witness, HasSlot, AdmitsBy, IsProper, AreBytes}
+use Rattle.tagged_model.specs.State.{RunState, stack_byte, stack_bytes}
+use Rattle.tagged_model.specs.Admits.{Witness, HasSlot, AdmitsBy, IsInRange, AreBytes}
 use Rattle.tagged_model.proofs.CellBytes.{all_read}
 use Rattle.tagged_model.proofs.MaskBits.{bit_in, each_in_mask}
 use Rattle.tagged_model.proofs.Places.{refused}
@@ -81,7 +81,7 @@ slot_there witness (slot.Bytes mask) c p n i j few from to has s l = has j few (
 slot_there witness (slot.Spill k) c p n i j few from to has s l =
     absurd (false≢true (sym s ∙ and_from (ltb p (8 * i + 8)) (ltb (8 * i) (p + n)) (lt-ltb p (8 * i + 8) (omega arith)) (lt-ltb (8 * i) (p + n) (omega arith))))
 
-pub stack_read_many : (witness : Witness) (f : Facts) (s : State) (x : ℤ) (n : ℕ) → IsProper s → AdmitsBy witness f s → stack_input f x n ≡ Ok tt → (bs : List ℕ) × (stack_bytes s x n ≡ Some bs) × (length bs ≡ n) × AreBytes bs
+pub stack_read_many : (witness : Witness) (f : Facts) (s : RunState) (x : ℤ) (n : ℕ) → IsInRange s → AdmitsBy witness f s → stack_input f x n ≡ Ok tt → (bs : List ℕ) × (stack_bytes s x n ≡ Some bs) × (length bs ≡ n) × AreBytes bs
 stack_read_many witness f s x n proper admits e =
     let may = may_read f x n e in
     let p = place x in

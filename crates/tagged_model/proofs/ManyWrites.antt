@@ -11,8 +11,8 @@ use Rattle.reg_kinds.specs.Kinds.{slot_at}
 use Rattle.reg_kinds.specs.Stack.{is_in_stack, place, bytes_over}
 use Rattle.reg_kinds.specs.Many.{touches, bits_in, filled, stack_filled}
 use Rattle.tagged_model.specs.Cells.{Cell, bytes, byte_at, cell_over}
-use Rattle.tagged_model.specs.State.{State, with_cells, stack_written}
-use Rattle.tagged_model.specs.Admits.{Witness, HasBytes, HasSlot, AdmitsBy, IsProper}
+use Rattle.tagged_model.specs.State.{RunState, with_cells, stack_written}
+use Rattle.tagged_model.specs.Admits.{Witness, HasBytes, HasSlot, AdmitsBy, IsInRange}
 use Rattle.tagged_model.specs.Admits.{AreBytes as AreSmall}
 use Rattle.tagged_model.proofs.Tables.{in_table}
 use Rattle.tagged_model.proofs.Unknown.{no_bytes}
@@ -116,8 +116,8 @@ shorter (negsuc y) n hi le e =
     let low : (negsuc y +ℤ pos n) ≤ℤ pos 0 = omega (arith, ints) in
     and_from (int_le (negsuc 511) (negsuc y)) (int_le (negsuc y +ℤ pos n) (pos 0)) h.0 (grind (arith, ints))
 
-pub stack_write_many : (witness : Witness) (f g : Facts) (s : State) (x : ℤ) (lo hi : ℕ) (bs : List ℕ) → IsProper s → AdmitsBy witness f s → AreSmall bs → lo ≤ length bs → length bs ≤ hi → stack_filled f x lo hi ≡ Ok g
-    → (t : State) × (stack_written s x bs ≡ Some t) × AdmitsBy witness g t × IsProper t
+pub stack_write_many : (witness : Witness) (f g : Facts) (s : RunState) (x : ℤ) (lo hi : ℕ) (bs : List ℕ) → IsInRange s → AdmitsBy witness f s → AreSmall bs → lo ≤ length bs → length bs ≤ hi → stack_filled f x lo hi ≡ Ok g
+    → (t : RunState) × (stack_written s x bs ≡ Some t) × AdmitsBy witness g t × IsInRange t
 stack_write_many witness f g s x lo hi bs proper admits small le more e =
     let p = place x in
     let h = chosen (is_in_stack x hi) (filled f x lo hi) g OutsideStack e in

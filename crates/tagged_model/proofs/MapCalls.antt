@@ -9,14 +9,14 @@ use Rattle.tagged_model.specs.declared.fault.MapFault.TheVariants.{Exists, Inval
 use Rattle.tagged_model.specs.Table.{Table, Verdict, Refused, Present, New, is_key, found, without, with_key, no_exist, exist, is_full, of_absent, of_found, look_up, verdict, removal_of, removal}
 use Rattle.tagged_model.specs.State.{RunMap, set_at, with_value}
 use Rattle.tagged_model.specs.Helpers.{with_object, put, updated, taken_out, removed}
-use Rattle.tagged_model.specs.Admits.{AreBytes, Owns, IsMapOf}
-use Rattle.tagged_model.specs.Laws.{Keeps}
+use Rattle.tagged_model.specs.Admits.{AreBytes, KeysHaveObjects, IsMapOf}
+use Rattle.tagged_model.specs.Laws.{KeepsShape}
 use Rattle.tagged_model.proofs.Objects.{values_small}
 use Rattle.std.proofs.lemmas.Bool.{cond_both, eqb-false}
 
 -- ---- the objects of keys
 
-pub found_owned : (count : ℕ) (key : List ℕ) (es : List (List ℕ × ℕ)) (number : ℕ) → Owns count es → found key es ≡ Some number → number < count
+pub found_owned : (count : ℕ) (key : List ℕ) (es : List (List ℕ × ℕ)) (number : ℕ) → KeysHaveObjects count es → found key es ≡ Some number → number < count
 found_owned count key [] number owns e = absurd (none-some number e)
 found_owned count key (x ∷ es) number owns e = by (λ f. found_owned count key es number owns.1 f) (is_key key x.0) e
   where
@@ -24,19 +24,19 @@ found_owned count key (x ∷ es) number owns e = by (λ f. found_owned count key
     by rest true e = let same : x.1 ≡ number = same_Some x.1 number e in let lt = owns.0 in omega arith
     by rest false e = rest e
 
-owns_more : (n m : ℕ) (es : List (List ℕ × ℕ)) → n ≤ m → Owns n es → Owns m es
+owns_more : (n m : ℕ) (es : List (List ℕ × ℕ)) → n ≤ m → KeysHaveObjects n es → KeysHaveObjects m es
 owns_more n m [] le h = tt
 owns_more n m (e ∷ es) le h = let lt = h.0 in (omega arith, owns_more n m es le h.1)
 
-owns_with : (n : ℕ) (key : List ℕ) (number : ℕ) (es : List (List ℕ × ℕ)) → number < n → Owns n es → Owns n (with_key key number es)
+owns_with : (n : ℕ) (key : List ℕ) (number : ℕ) (es : List (List ℕ × ℕ)) → number < n → KeysHaveObjects n es → KeysHaveObjects n (with_key key number es)
 owns_with n key number [] lt h = (lt, tt)
 owns_with n key number (e ∷ es) lt h = (h.0, owns_with n key number es lt h.1)
 
-owns_without : (n : ℕ) (key : List ℕ) (es : List (List ℕ × ℕ)) → Owns n es → Owns n (without key es)
+owns_without : (n : ℕ) (key : List ℕ) (es : List (List ℕ × ℕ)) → KeysHaveObjects n es → KeysHaveObjects n (without key es)
 owns_without n key [] h = tt
 owns_without n key (e ∷ es) h = by (is_key key e.0) (owns_without n key es h.1)
   where
-    by : (b : Bool) → Owns n (without key es) → Owns n (cond b es (e ∷ without key es))
+    by : (b : Bool) → KeysHaveObjects n (without key es) → KeysHaveObjects n (cond b es (e ∷ without key es))
     by true g = h.1
     by false g = (h.0, g)
 
@@ -71,7 +71,7 @@ no_array k e f = let same : Hash ≡ Array = sym e ∙ f in cc
 -- ---- what they keep
 
 module _ (shape : MapShape) (t : RunMap) (is : IsMapOf shape t) (bytes : (number : ℕ) → AreBytes (t.values number)) where
-  unchanged : Keeps shape t t
+  unchanged : KeepsShape shape t t
   unchanged = record { is = is; more = omega arith; bytes = bytes }
 
   module _ (value : List ℕ) (size : length value ≡ shape.value_size) (small : AreBytes value) where
@@ -79,14 +79,14 @@ module _ (shape : MapShape) (t : RunMap) (is : IsMapOf shape t) (bytes : (number
     sized_at count k all number _ other =
         cond_both (number == k) value (t.values number) (λ v. length v ≡ shape.value_size) (λ _. size) (λ e. all number (other (eqb-false number k e)))
 
-    valued : (number : ℕ) → Keeps shape t (with_value t number value)
+    valued : (number : ℕ) → KeepsShape shape t (with_value t number value)
     valued number = record {
       is = record { shaped = is.shaped; indices = is.indices; owns = is.owns; sized = λ k lt. sized_at t.count number is.sized k (λ _. tt) (λ _. lt) };
       more = omega arith;
       bytes = values_small t number value small bytes;
     }
 
-    with_new_object : (key : List ℕ) → t.table.shape.kind ≡ Hash → Keeps shape t (with_object t key value)
+    with_new_object : (key : List ℕ) → t.table.shape.kind ≡ Hash → KeepsShape shape t (with_object t key value)
     with_new_object key hash = record {
       is = record {
         shaped = is.shaped;
@@ -98,16 +98,16 @@ module _ (shape : MapShape) (t : RunMap) (is : IsMapOf shape t) (bytes : (number
       bytes = values_small t t.count value small bytes;
     }
 
-    put_keeps : (refused : Bool) (key : List ℕ) (v : Verdict ℕ) → (v ≡ New → t.table.shape.kind ≡ Hash) → Keeps shape t (put refused t key value v).map
+    put_keeps : (refused : Bool) (key : List ℕ) (v : Verdict ℕ) → (v ≡ New → t.table.shape.kind ≡ Hash) → KeepsShape shape t (put refused t key value v).map
     put_keeps refused key (Refused fault) h = unchanged
     put_keeps refused key (Present number) h = valued number
     put_keeps true key New h = unchanged
     put_keeps false key New h = with_new_object key (h refl)
 
-    pub updated_keeps : (refused : Bool) (key : List ℕ) (flags : ℕ) → Keeps shape t (updated refused t key value flags).map
+    pub updated_keeps : (refused : Bool) (key : List ℕ) (flags : ℕ) → KeepsShape shape t (updated refused t key value flags).map
     updated_keeps refused key flags = put_keeps refused key (verdict t.table key flags) (new_of_hash t.table key flags)
 
-  taken_keeps : (key : List ℕ) (r : Result ℕ MapFault) → ((number : ℕ) → r ≡ Ok number → t.table.shape.kind ≡ Hash) → Keeps shape t (taken_out t key r).map
+  taken_keeps : (key : List ℕ) (r : Result ℕ MapFault) → ((number : ℕ) → r ≡ Ok number → t.table.shape.kind ≡ Hash) → KeepsShape shape t (taken_out t key r).map
   taken_keeps key (Err fault) h = unchanged
   taken_keeps key (Ok number) h = record {
     is = record {
@@ -120,5 +120,5 @@ module _ (shape : MapShape) (t : RunMap) (is : IsMapOf shape t) (bytes : (number
     bytes = bytes;
   }
 
-  pub removed_keeps : (key : List ℕ) → Keeps shape t (removed t key).map
+  pub removed_keeps : (key : List ℕ) → KeepsShape shape t (removed t key).map
   removed_keeps key = taken_keeps key (removal t.table key) (λ number e. removed_of_hash t.table.shape.kind (look_up t.table key) number e)

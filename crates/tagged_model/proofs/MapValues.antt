@@ -5,7 +5,7 @@ use Rattle.tagged_model.specs.declared.shape.MapKind.{MapKind}
 use Rattle.tagged_model.specs.declared.shape.MapKind.TheVariants.{Hash, Array}
 use Rattle.tagged_model.specs.declared.fault.MapFault.TheVariants.{NoEntry, TooBig, Exists, Invalid}
 use Rattle.tagged_model.specs.Table.{Table, Verdict, Refused, Present, New, no_exist, is_key, found, without, with_key, first_key, key_behind, key_after, index_key, indexed, new_entries, look_up, is_full, exist, of_present, of_absent, of_found, verdict, verdict_with, removal_of, with_values}
-use Rattle.tagged_model.specs.MapLaws.{CallsGoAlong}
+use Rattle.tagged_model.specs.MapLaws.{CallsRefineValues}
 
 module _ {A B : Type 0} (value : A → B) where
   abbrev valued : List (List ℕ × A) → List (List ℕ × B)
@@ -103,7 +103,7 @@ module _ {A B : Type 0} (value : A → B) where
   removal_valued Hash None = refl
   removal_valued Hash (Some p) = refl
 
-pub go_along : (A B : Type 0) → CallsGoAlong A B
+pub go_along : (A B : Type 0) → CallsRefineValues A B
 go_along A B = record {
   new = λ value object shape. ap (λ (es : List (List ℕ × B)). let m : Table B = record { shape = shape; entries = es; deleted = 0 } in m) (valued_new value object shape.kind shape.max_entries);
   found = λ value t key. valued_found value key t.entries;

@@ -6,7 +6,7 @@ use Rattle.tagged_model.specs.declared.shape.MapKind.TheVariants.{Hash, Array}
 use Rattle.tagged_model.specs.declared.fault.MapFault.{MapFault}
 use Rattle.tagged_model.specs.declared.fault.MapFault.TheVariants.{NoEntry, TooBig, Memory, Exists, Invalid}
 use Rattle.tagged_model.specs.Table.{Table, Verdict, Refused, Present, New, no_exist, exist, look_up, is_full, of_absent, of_found, verdict}
-use Rattle.tagged_model.specs.MapLaws.{VerdictsTell}
+use Rattle.tagged_model.specs.MapLaws.{MapVerdictsMatchLookUps}
 
 -- a fact that holds of each verdict that there may be
 module _ {A : Type 0} (t : Table A) (key : List ℕ) (flags : ℕ) (P : Verdict A → Type 0) (refused : P (Refused Invalid) × P (Refused NoEntry) × P (Refused TooBig) × P (Refused Exists))
@@ -31,7 +31,7 @@ module _ {A : Type 0} where
   not_new : (fault : MapFault) → ◌≡◌ {A = Verdict A} (Refused fault) New → ⊥
   not_new fault e = cc
 
-pub tell : (A : Type 0) → VerdictsTell A
+pub tell : (A : Type 0) → MapVerdictsMatchLookUps A
 tell A = record {
   present = λ t key flags object.
       each t key flags (λ v. v ≡ Present object → look_up t key ≡ Some object)

@@ -14,13 +14,13 @@ use Rattle.reg_kinds.specs.Settle.{settled_value, kind_settled, settled_spill, s
 use Rattle.tagged_model.specs.declared.value.Tagged.{Tagged}
 use Rattle.tagged_model.specs.declared.value.Tagged.TheVariants.{Scalar}
 use Rattle.tagged_model.specs.Cells.{Cell}
-use Rattle.tagged_model.specs.State.{State}
-use Rattle.tagged_model.specs.Admits.{Witness, IsOf, IsLookup, IsWhole, HasKind, HasSlot, AdmitsBy}
+use Rattle.tagged_model.specs.State.{RunState}
+use Rattle.tagged_model.specs.Admits.{Witness, IsOfKind, IsLookup, IsKeptWhole, HasKind, HasSlot, AdmitsBy}
 use Rattle.tagged_model.proofs.Unknown.{has_kind, admitted_by}
 
 -- what a test of a site tells of a value of it, and of a slot that keeps one
 record Tells (witness : Witness) (site : ℕ) (null : Bool) : Type 0 where
-  of_value : (m : ℕ) (v : Tagged) → v ≡ witness.gave site → IsLookup witness m v → IsOf witness (settled_value null m) v
+  of_value : (m : ℕ) (v : Tagged) → v ≡ witness.gave site → IsLookup witness m v → IsOfKind witness (settled_value null m) v
   of_slot : (m : ℕ) (c : Cell) → HasSlot witness (Spill (kind.MaybeValue m site)) c → HasSlot witness (settled_spill null m) c
 
 module _ (witness : Witness) (site : ℕ) (null : Bool) (tells : Tells witness site null) where
@@ -38,7 +38,7 @@ module _ (witness : Witness) (site : ℕ) (null : Bool) (tells : Tells witness s
       (λ _. h)
   cell_settled t c h = h
 
-  settled : (f : Facts) (s : State) → AdmitsBy witness f s → AdmitsBy witness (facts_settled site null f) s
+  settled : (f : Facts) (s : RunState) → AdmitsBy witness f s → AdmitsBy witness (facts_settled site null f) s
   settled f s h =
       admitted_by witness (λ r. kind_settled site null (kind_at f r)) (λ i. slot_settled site null (slot_at f i)) s
       (λ r. register_settled (kind_at f r) (s.registers r) (h.registers r))
@@ -47,25 +47,25 @@ module _ (witness : Witness) (site : ℕ) (null : Bool) (tells : Tells witness s
 
 -- ---- it is null
 
-zero_of : (witness : Witness) (v : Tagged) → v ≡ Scalar 0 → IsOf witness (kind.Scalar (constant 0)) v
+zero_of : (witness : Witness) (v : Tagged) → v ≡ Scalar 0 → IsOfKind witness (kind.Scalar (constant 0)) v
 zero_of witness v e = (0, e, record { from = omega arith; to = omega arith }, omega arith)
 
 module _ (witness : Witness) (site : ℕ) (is_null : witness.gave site ≡ Scalar 0) where
   -- what is kept whole is no null, so there are eight bytes
   null_slot : (m : ℕ) (c : Cell) → HasSlot witness (Spill (kind.MaybeValue m site)) c → HasSlot witness (Bytes 0xff) c
-  null_slot m c (inl h) = absurd (subst IsWhole (h.2.0 ∙ is_null) h.3)
+  null_slot m c (inl h) = absurd (subst IsKeptWhole (h.2.0 ∙ is_null) h.3)
   null_slot m c (inr h) = λ j lt _. (0, h.1 j lt)
 
   null_tells : Tells witness site true
   null_tells = record { of_value = λ m v e l. zero_of witness v (e ∙ is_null); of_slot = null_slot }
 
-  pub null_settled : (f : Facts) (s : State) → AdmitsBy witness f s → AdmitsBy witness (facts_settled site true f) s
+  pub null_settled : (f : Facts) (s : RunState) → AdmitsBy witness f s → AdmitsBy witness (facts_settled site true f) s
   null_settled = settled witness site true null_tells
 
 -- ---- it is a pointer to the start of a value
 
 module _ (witness : Witness) (site : ℕ) (is_pointer : witness.gave site ≢ Scalar 0) where
-  start_of : (m : ℕ) (v : Tagged) → v ≡ witness.gave site → IsLookup witness m v → IsOf witness (kind.Value (value_span m (pos 0) (pos 0))) v
+  start_of : (m : ℕ) (v : Tagged) → v ≡ witness.gave site → IsLookup witness m v → IsOfKind witness (kind.Value (value_span m (pos 0) (pos 0))) v
   start_of m v e (inl z) = absurd (is_pointer (sym e ∙ z))
   start_of m v e (inr h) = (h.0, pos 0, h.1, omega (arith, ints, clamps), omega (arith, ints, clamps), h.2)
 
@@ -76,5 +76,5 @@ module _ (witness : Witness) (site : ℕ) (is_pointer : witness.gave site ≢ Sc
   start_tells : Tells witness site false
   start_tells = record { of_value = start_of; of_slot = start_slot }
 
-  pub start_settled : (f : Facts) (s : State) → AdmitsBy witness f s → AdmitsBy witness (facts_settled site false f) s
+  pub start_settled : (f : Facts) (s : RunState) → AdmitsBy witness f s → AdmitsBy witness (facts_settled site false f) s
   start_settled = settled witness site false start_tells

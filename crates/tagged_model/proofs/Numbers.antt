@@ -2,12 +2,12 @@
 use Rattle.std.proofs.Common.{ℕ, ◌-◌, ◌*◌, ◌%◌, ◌^◌, ◌<◌, ◌≤◌, ℤ, pos, negsuc, Bool, true, false, refl, arith}
 use Rattle.interval.specs.Words.{unsigned, signed}
 use Rattle.interval.specs.Ranges.{full}
-use Rattle.reg_kinds.specs.declared.stack.Size.{Size}
-use Rattle.reg_kinds.specs.declared.stack.Size.TheVariants.{Byte, Half, Word, Double}
+use Rattle.reg_kinds.specs.declared.stack.AccessSize.{AccessSize}
+use Rattle.reg_kinds.specs.declared.stack.AccessSize.TheVariants.{Byte, Half, Word, Double}
 use Rattle.reg_kinds.specs.Stack.{bytes_of, loaded}
 use Rattle.tagged_model.specs.declared.value.Tagged.TheVariants.{Scalar}
 use Rattle.tagged_model.specs.Cells.{widened}
-use Rattle.tagged_model.specs.Admits.{Witness, IsOf, IsScalarOf}
+use Rattle.tagged_model.specs.Admits.{Witness, IsOfKind, IsScalarOf}
 
 word_of : (z : ℤ) → unsigned 64 z < 2 ^ 64
 word_of (pos m) = omega arith
@@ -20,7 +20,7 @@ pub full_scalar : (k x : ℕ) → x < 2 ^ k → 2 ^ k ≤ 2 ^ 64 → IsScalarOf 
 full_scalar k x h g = let p = in_full x (2 ^ k) (2 ^ 64) h g in (x, refl, record { from = p.0; to = p.1 }, p.2)
 
 -- a number of so many bytes, with its sign or with zeros above
-pub widened_is : (witness : Witness) (size : Size) (signed : Bool) (x : ℕ) → x < 256 ^ bytes_of size → IsOf witness (loaded size signed) (Scalar (widened size signed x))
+pub widened_is : (witness : Witness) (size : AccessSize) (signed : Bool) (x : ℕ) → x < 256 ^ bytes_of size → IsOfKind witness (loaded size signed) (Scalar (widened size signed x))
 widened_is witness size true x h = full_scalar 64 (widened size true x) (word_of (signed (8 * bytes_of size) (x % 2 ^ (8 * bytes_of size)))) (omega arith)
 widened_is witness Byte false x h = full_scalar 8 x h (omega arith)
 widened_is witness Half false x h = full_scalar 16 x h (omega arith)

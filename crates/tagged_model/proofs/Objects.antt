@@ -9,8 +9,8 @@ use Rattle.interval.specs.Bytes.{bytes_at, written_at}
 use Rattle.reg_kinds.specs.declared.facts.Facts.{Facts}
 use Rattle.tagged_model.specs.declared.shape.MapShape.{MapShape}
 use Rattle.tagged_model.specs.Cells.{also}
-use Rattle.tagged_model.specs.State.{State, RunMap, set_at, value_bytes, value_written, with_value, with_map, object_bytes, object_written}
-use Rattle.tagged_model.specs.Admits.{Witness, AdmitsBy, objects_of, AreBytes, IsProper, IsMapOf, HasMaps}
+use Rattle.tagged_model.specs.State.{RunState, RunMap, set_at, value_bytes, value_written, with_value, with_map, object_bytes, object_written}
+use Rattle.tagged_model.specs.Admits.{Witness, AdmitsBy, objects_of, AreBytes, IsInRange, IsMapOf, HasMaps}
 use Rattle.tagged_model.specs.Laws.{IsObject}
 
 -- ---- bytes of a value
@@ -39,7 +39,7 @@ module _ (value : List ℕ) (all : AreBytes value) where
 
 -- ---- a state whose map m changes
 
-module _ (s : State) (m : ℕ) (t u : RunMap) (is : s.maps m ≡ Some t) where
+module _ (s : RunState) (m : ℕ) (t u : RunMap) (is : s.maps m ≡ Some t) where
   changed : (P : ℕ → Option RunMap → Type 0) → P m (Some u) → ((k : ℕ) → P k (s.maps k)) → (k : ℕ) → P k (set_at s.maps m (Some u) k)
   changed P here others k =
       cond_both (k == m) (Some u) (s.maps k) (P k)
@@ -51,7 +51,7 @@ module _ (s : State) (m : ℕ) (t u : RunMap) (is : s.maps m ≡ Some t) where
       let few : witness.objects m ≤ t.count = subst (λ o. witness.objects m ≤ objects_of o) is (h.objects m) in
       record { registers = h.registers; slots = h.slots; objects = changed (λ k o. witness.objects k ≤ objects_of o) (omega arith) h.objects }
 
-  pub map_proper : ((number : ℕ) → AreBytes (u.values number)) → IsProper s → IsProper (with_map s m u)
+  pub map_proper : ((number : ℕ) → AreBytes (u.values number)) → IsInRange s → IsInRange (with_map s m u)
   map_proper bytes h =
       record {
         bytes = h.bytes;
@@ -84,7 +84,7 @@ values_small t number new here others k = cond_both (k == number) new (t.values 
 
 -- ---- an object's bytes
 
-module _ (s : State) (m number : ℕ) (shape : MapShape) (proper : IsProper s) (object : IsObject s m number shape) where
+module _ (s : RunState) (m number : ℕ) (shape : MapShape) (proper : IsInRange s) (object : IsObject s m number shape) where
   all : AreBytes (object.map.values number)
   all = proper.values m object.map object.there number
 
@@ -97,7 +97,7 @@ module _ (s : State) (m number : ℕ) (shape : MapShape) (proper : IsProper s) (
       (r.0, ap (λ o. also o (λ t. value_bytes (t.values number) y n)) object.there ∙ r.1, r.2, r.3)
 
   pub object_over : (witness : Witness) (f : Facts) (shapes : ℕ → Option MapShape) (y : ℤ) (bs : List ℕ) → AdmitsBy witness f s → HasMaps shapes s → AreBytes bs → pos 0 ≤ℤ y → (y +ℤ pos (length bs)) ≤ℤ pos shape.value_size
-      → (u : State) × (object_written s m number y bs ≡ Some u) × AdmitsBy witness f u × IsProper u × HasMaps shapes u × (u.at ≡ s.at)
+      → (u : RunState) × (object_written s m number y bs ≡ Some u) × AdmitsBy witness f u × IsInRange u × HasMaps shapes u × (u.at ≡ s.at)
   object_over witness f shapes y bs admits maps news low high =
       let t = object.map in
       let r = value_over (t.values number) all y bs news low (subst (λ k. (y +ℤ pos (length bs)) ≤ℤ pos k) (sym size) high) in

@@ -3,8 +3,8 @@ use Rattle.std.proofs.Common.{◌≡◌, ℕ, ◌+◌, ◌/◌, ◌%◌, ◌<◌
 use Rattle.std.proofs.lemmas.Bool.{cond-true, and_from, eqb-true}
 use Rattle.reg_kinds.specs.declared.reason.Reason.{Reason}
 use Rattle.reg_kinds.specs.declared.reason.Reason.TheVariants.{OutsideStack, UnalignedStack}
-use Rattle.reg_kinds.specs.declared.stack.Size.{Size}
-use Rattle.reg_kinds.specs.declared.stack.Size.TheVariants.{Byte, Half, Word, Double}
+use Rattle.reg_kinds.specs.declared.stack.AccessSize.{AccessSize}
+use Rattle.reg_kinds.specs.declared.stack.AccessSize.TheVariants.{Byte, Half, Word, Double}
 use Rattle.reg_kinds.specs.Reason.{given}
 use Rattle.reg_kinds.specs.Stack.{bytes_of, is_in_stack, is_aligned, place, byte_bits, touched}
 use Rattle.tagged_model.specs.State.{stack_place}
@@ -35,7 +35,7 @@ after_tests true false t f y e = absurd (refused UnalignedStack y e)
 after_tests false b t f y e = absurd (refused OutsideStack y e)
 
 -- the place of the access, that it is aligned, and what goes ahead there
-pub at_place : {B : Type 0} (offset : ℤ) (size : Size) (f : ℕ × ℕ → Result B Reason) (y : B) → given (touched offset size) f ≡ Ok y → (stack_place offset size ≡ Some (place offset)) × (place offset % bytes_of size ≡ 0) × (f (place offset / 8, byte_bits (place offset) (bytes_of size)) ≡ Ok y)
+pub at_place : {B : Type 0} (offset : ℤ) (size : AccessSize) (f : ℕ × ℕ → Result B Reason) (y : B) → given (touched offset size) f ≡ Ok y → (stack_place offset size ≡ Some (place offset)) × (place offset % bytes_of size ≡ 0) × (f (place offset / 8, byte_bits (place offset) (bytes_of size)) ≡ Ok y)
 at_place offset size f y e =
     let n = bytes_of size in
     let p = place offset in
@@ -46,13 +46,13 @@ at_place offset size f y e =
     )
 
 -- an aligned access ends in the slot where it begins
-pub in_one_slot : (size : Size) (p : ℕ) → p % bytes_of size ≡ 0 → p % 8 + bytes_of size ≤ 8
+pub in_one_slot : (size : AccessSize) (p : ℕ) → p % bytes_of size ≡ 0 → p % 8 + bytes_of size ≤ 8
 in_one_slot Byte p h = omega arith
 in_one_slot Half p h = omega arith
 in_one_slot Word p h = omega arith
 in_one_slot Double p h = omega arith
 
-pub some_bytes : (size : Size) → 0 < bytes_of size
+pub some_bytes : (size : AccessSize) → 0 < bytes_of size
 some_bytes Byte = omega arith
 some_bytes Half = omega arith
 some_bytes Word = omega arith

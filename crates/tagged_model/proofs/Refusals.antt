@@ -6,7 +6,7 @@ use Rattle.interval.specs.Words.{unsigned}
 use Rattle.insn_codec.specs.declared.insn.Insn.{Insn}
 use Rattle.insn_codec.specs.declared.insn.Insn.TheVariants.{Alu, Movsx, Neg, End, Ja, Jal, Jump, Call, Exit, Load, Store, Const, MapFd}
 use Rattle.insn_codec.specs.Program.{begins_at, slot_count}
-use Rattle.reg_kinds.specs.declared.stack.Size.{Size}
+use Rattle.reg_kinds.specs.declared.stack.AccessSize.{AccessSize}
 use Rattle.reg_kinds.specs.Stack.{is_in_stack, place}
 use Rattle.tagged_model.specs.declared.fault.MapFault.{MapFault}
 use Rattle.tagged_model.specs.declared.helper.Helper.{Helper}
@@ -18,21 +18,22 @@ use Rattle.tagged_model.specs.Operators.{size_of}
 use Rattle.tagged_model.specs.Values.{arithmetic, first_operand, compared}
 use Rattle.tagged_model.specs.Table.{Verdict, Refused, Present, New, verdict, removal}
 use Rattle.tagged_model.specs.Cells.{also, write_cell, cell_over}
-use Rattle.tagged_model.specs.State.{State, RunMap, with_cells, with_register, stack_place, stack_store, stack_written, value_written, object_written, object_stored, store, input, output}
-use Rattle.tagged_model.specs.Helpers.{helper_of, Reply, put, updated, taken_out, removed, packet_bytes, packet_answer, number_given, length_given, context_given, argument, map_argument, returns, replies, called}
-use Rattle.tagged_model.specs.Step.{Step, goes, ends, faults, need, operand, natural, jumped, branched, ended, advanced, assigned, act, step, first, others, Ending, one_more, after, run, begin}
+use Rattle.tagged_model.specs.State.{RunState, RunMap, with_cells, with_register, stack_place, stack_store, stack_written, value_written, object_written, object_stored, store, input, output}
+use Rattle.tagged_model.specs.Helpers.{helper_of, MapReply, put, updated, taken_out, removed, packet_bytes, packet_answer, number_given, length_given, context_given, argument, map_argument, returns, replies, called}
+use Rattle.tagged_model.specs.Step.{Step, goes, ends, faults, need, operand, jumped, branched, ended, advanced, assigned, act, step, first, others, Ending, one_more, after, run, begin}
+use Rattle.insn_codec.specs.Flow.{natural}
 use Rattle.tagged_model.specs.Laws.{RefusalsAreTold}
 use Rattle.tagged_model.proofs.WithoutMaps.{not_refused}
 
 -- what is told of a step from s to t: whether memory was refused at it, which needs a refusal, and is noted; where it was not,
 -- the step is the one without refusals
-record IsTold (refused : Bool) (s t : State) (Same : Type 0) : Type 0 where
+record IsTold (refused : Bool) (s t : RunState) (Same : Type 0) : Type 0 where
   now : Bool
   noted : t.refused ≡ (s.refused || now)
   same : now ≡ false → Same
   needed : refused ≡ false → now ≡ false
 
-module _ (refused : Bool) (s : State) where
+module _ (refused : Bool) (s : RunState) where
   -- a step, and the step without refusals
   abbrev StepTells : Step → Step → Type 0
   StepTells (goes t) b = IsTold refused s t (goes t ≡ b)
@@ -40,40 +41,40 @@ module _ (refused : Bool) (s : State) where
   StepTells faults b = faults ≡ b
 
   -- a state that a call may leave, and the one without refusals
-  abbrev StateTells : Option State → Option State → Type 0
-  StateTells None p = ◌≡◌ {A = Option State} None p
+  abbrev StateTells : Option RunState → Option RunState → Type 0
+  StateTells None p = ◌≡◌ {A = Option RunState} None p
   StateTells (Some t) p = IsTold refused s t (Some t ≡ p)
 
   -- the flag of a state that may be there
-  abbrev KeepsFlag : Option State → Type 0
+  abbrev KeepsFlag : Option RunState → Type 0
   KeepsFlag None = Unit {0}
   KeepsFlag (Some t) = t.refused ≡ s.refused
 
   -- ---- how parts make a step
 
-  kept : (t : State) (Same : Type 0) → t.refused ≡ s.refused → Same → IsTold refused s t Same
+  kept : (t : RunState) (Same : Type 0) → t.refused ≡ s.refused → Same → IsTold refused s t Same
   kept t Same flag same = record { now = false; noted = flag ∙ sym (or-false s.refused); same = λ _. same; needed = λ _. refl }
 
   need_tells : {A : Type 0} (o : Option A) (f g : A → Step) → ((x : A) → StepTells (f x) (g x)) → StepTells (need o f) (need o g)
   need_tells None f g h = refl
   need_tells (Some x) f g h = h x
 
-  also_tells : {A : Type 0} (o : Option A) (f g : A → Option State) → ((x : A) → StateTells (f x) (g x)) → StateTells (also o f) (also o g)
+  also_tells : {A : Type 0} (o : Option A) (f g : A → Option RunState) → ((x : A) → StateTells (f x) (g x)) → StateTells (also o f) (also o g)
   also_tells None f g h = refl
   also_tells (Some x) f g h = h x
 
-  also_keeps : {A : Type 0} (o : Option A) (f : A → Option State) → ((x : A) → KeepsFlag (f x)) → KeepsFlag (also o f)
+  also_keeps : {A : Type 0} (o : Option A) (f : A → Option RunState) → ((x : A) → KeepsFlag (f x)) → KeepsFlag (also o f)
   also_keeps None f h = tt
   also_keeps (Some x) f h = h x
 
-  abbrev next : State → Step
+  abbrev next : RunState → Step
   next t = goes (advanced 1 t)
 
-  next_tells : (o p : Option State) → StateTells o p → StepTells (need o next) (need p next)
+  next_tells : (o p : Option RunState) → StateTells o p → StepTells (need o next) (need p next)
   next_tells None p h = ap (λ o. need o next) h
   next_tells (Some t) p h = record { now = h.now; noted = h.noted; same = λ e. ap (λ o. need o next) (h.same e); needed = h.needed }
 
-  next_kept : (o : Option State) → KeepsFlag o → StepTells (need o next) (need o next)
+  next_kept : (o : Option RunState) → KeepsFlag o → StepTells (need o next) (need o next)
   next_kept None h = refl
   next_kept (Some t) h = kept (advanced 1 t) (goes (advanced 1 t) ≡ goes (advanced 1 t)) h refl
 
@@ -86,14 +87,14 @@ module _ (refused : Bool) (s : State) where
   object_written_keeps : (m number : ℕ) (y : ℤ) (bs : List ℕ) → KeepsFlag (object_written s m number y bs)
   object_written_keeps m number y bs = also_keeps (s.maps m) _ (λ t. also_keeps (value_written (t.values number) y bs) _ (λ value. refl))
 
-  object_stored_keeps : (size : Size) (m number : ℕ) (y : ℤ) (v : Tagged) → KeepsFlag (object_stored s size m number y v)
+  object_stored_keeps : (size : AccessSize) (m number : ℕ) (y : ℤ) (v : Tagged) → KeepsFlag (object_stored s size m number y v)
   object_stored_keeps size m number y (Scalar n) = object_written_keeps m number y _
   object_stored_keeps size m number y v = tt
 
-  stack_store_keeps : (y : ℤ) (size : Size) (v : Tagged) → KeepsFlag (stack_store s y size v)
+  stack_store_keeps : (y : ℤ) (size : AccessSize) (v : Tagged) → KeepsFlag (stack_store s y size v)
   stack_store_keeps y size v = also_keeps (stack_place y size) _ (λ p. also_keeps (write_cell (s.cells (p / 8)) (p % 8) size v) _ (λ c. refl))
 
-  store_keeps : (size : Size) (p : Tagged) (off : ℤ) (v : Tagged) → KeepsFlag (store s size p off v)
+  store_keeps : (size : AccessSize) (p : Tagged) (off : ℤ) (v : Tagged) → KeepsFlag (store s size p off v)
   store_keeps size (Pointer object.Stack x) off v = stack_store_keeps (x +ℤ off) size v
   store_keeps size (Pointer (object.Value m number) x) off v = object_stored_keeps size m number (x +ℤ off) v
   store_keeps size p off v = tt
@@ -127,11 +128,11 @@ module _ (refused : Bool) (s : State) where
   taken_clear t key (Err fault) = refl
   taken_clear t key (Ok number) = refl
 
-  replied : (m : ℕ) (reply without : Reply) → (reply.refused ≡ false → reply ≡ without) → (refused ≡ false → reply.refused ≡ false) → StateTells (Some (replies s m reply)) (Some (replies s m without))
+  replied : (m : ℕ) (reply without : MapReply) → (reply.refused ≡ false → reply ≡ without) → (refused ≡ false → reply.refused ≡ false) → StateTells (Some (replies s m reply)) (Some (replies s m without))
   replied m reply without same needed =
-      record { now = reply.refused; noted = refl; same = λ e. ap (λ (r : Reply). Some (replies s m r)) (same e); needed = needed }
+      record { now = reply.refused; noted = refl; same = λ e. ap (λ (r : MapReply). Some (replies s m r)) (same e); needed = needed }
 
-  returned : (o : Option State) (v : Tagged) → KeepsFlag o → StateTells (also o (λ t. Some (returns t v))) (also o (λ t. Some (returns t v)))
+  returned : (o : Option RunState) (v : Tagged) → KeepsFlag o → StateTells (also o (λ t. Some (returns t v))) (also o (λ t. Some (returns t v)))
   returned None v h = refl
   returned (Some t) v h = kept (returns t v) (Some (returns t v) ≡ Some (returns t v)) h refl
 
@@ -185,7 +186,7 @@ module _ (refused : Bool) (s : State) where
   -- ---- a step, and the rest of the run
 
   -- where the rest ends with a clear flag it is the one without refusals, and so is the whole
-  after_tells : (a b : Step) (f g : State → Ending) → StepTells a b → ((t : State) → (f t).state.refused ≡ false → (t.refused ≡ false) × (f t ≡ g t)) → (after a s f).state.refused ≡ false → (s.refused ≡ false) × (after a s f ≡ after b s g)
+  after_tells : (a b : Step) (f g : RunState → Ending) → StepTells a b → ((t : RunState) → (f t).state.refused ≡ false → (t.refused ≡ false) × (f t ≡ g t)) → (after a s f).state.refused ≡ false → (s.refused ≡ false) × (after a s f ≡ after b s g)
   after_tells (goes t) b f g h rest e =
       let r = rest t e in
       let both = or_parts s.refused h.now (sym h.noted ∙ r.0) in
@@ -193,7 +194,7 @@ module _ (refused : Bool) (s : State) where
   after_tells (ends n) b f g h rest e = (e, ap (λ (c : Step). after c s g) h)
   after_tells faults b f g h rest e = (e, ap (λ (c : Step). after c s g) h)
 
-  after_clear : (a b : Step) (f : State → Ending) → StepTells a b → refused ≡ false → s.refused ≡ false → ((t : State) → t.refused ≡ false → (f t).state.refused ≡ false) → (after a s f).state.refused ≡ false
+  after_clear : (a b : Step) (f : RunState → Ending) → StepTells a b → refused ≡ false → s.refused ≡ false → ((t : RunState) → t.refused ≡ false → (f t).state.refused ≡ false) → (after a s f).state.refused ≡ false
   after_clear (goes t) b f h none clear rest = rest t (h.noted ∙ or_from s.refused h.now clear (h.needed none))
   after_clear (ends n) b f h none clear rest = clear
   after_clear faults b f h none clear rest = clear
@@ -201,13 +202,13 @@ module _ (refused : Bool) (s : State) where
 -- ---- runs
 
 module _ (code : List Insn) where
-  run_tells : (n : ℕ) (refusals : List Bool) (s : State) → (run code n refusals s).state.refused ≡ false → (s.refused ≡ false) × (run code n refusals s ≡ run code n [] s)
+  run_tells : (n : ℕ) (refusals : List Bool) (s : RunState) → (run code n refusals s).state.refused ≡ false → (s.refused ≡ false) × (run code n refusals s ≡ run code n [] s)
   unfolding run
   run_tells zero refusals s e = (e, refl)
   run_tells (suc n) refusals s e =
       after_tells (first refusals) s (step (first refusals) code s) (step false code s) (run code n (others refusals)) (run code n []) (step_tells (first refusals) s code) (λ t. run_tells n (others refusals) t) e
 
-  run_clear : (n : ℕ) (s : State) → s.refused ≡ false → (run code n [] s).state.refused ≡ false
+  run_clear : (n : ℕ) (s : RunState) → s.refused ≡ false → (run code n [] s).state.refused ≡ false
   unfolding run
   run_clear zero s clear = clear
   run_clear (suc n) s clear = after_clear false s (step false code s) (step false code s) (run code n []) (step_tells false s code) refl clear (run_clear n)

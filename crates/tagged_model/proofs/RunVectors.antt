@@ -14,7 +14,7 @@ use Rattle.insn_codec.specs.Program.{begins_at}
 use Rattle.tagged_model.specs.declared.value.Outcome.{Outcome}
 use Rattle.tagged_model.specs.declared.value.Outcome.TheVariants.{Value, Fault}
 use Rattle.tagged_model.specs.Cells.{gathered}
-use Rattle.tagged_model.specs.Step.{Maps, run, begin, result_of}
+use Rattle.tagged_model.specs.Step.{MapsByDescriptor, run, begin, result_of}
 
 -- minus n
 abbrev pub minus : ℕ → ℤ
@@ -25,7 +25,7 @@ abbrev pub context : ℕ → List ℕ
 context len = len ∷ 0 ∷ 0 ∷ 0 ∷ 0 ∷ 0 ∷ 0 ∷ 0 ∷ 0 ∷ 0 ∷ 0 ∷ []
 
 -- a run that is given no map
-abbrev no_maps : Maps
+abbrev no_maps : MapsByDescriptor
 no_maps m = None
 
 -- what a program answers on an empty packet

@@ -8,16 +8,16 @@ use Rattle.reg_kinds.specs.declared.kind.Kind.{Kind}
 use Rattle.reg_kinds.specs.declared.kind.Kind.TheVariants as kind
 use Rattle.reg_kinds.specs.declared.kind.Slot.{Slot}
 use Rattle.reg_kinds.specs.declared.kind.Slot.TheVariants as slot
-use Rattle.reg_kinds.specs.declared.stack.Size.{Size}
-use Rattle.reg_kinds.specs.declared.stack.Size.TheVariants.{Double}
+use Rattle.reg_kinds.specs.declared.stack.AccessSize.{AccessSize}
+use Rattle.reg_kinds.specs.declared.stack.AccessSize.TheVariants.{Double}
 use Rattle.reg_kinds.specs.declared.facts.Facts.{Facts}
 use Rattle.reg_kinds.specs.Kinds.{slot_at}
 use Rattle.reg_kinds.specs.Stack.{bytes_of, byte_bits, place, loaded, read_slot, stack_read}
 use Rattle.tagged_model.specs.declared.value.Tagged.{Tagged}
 use Rattle.tagged_model.specs.declared.value.Tagged.TheVariants.{Scalar}
 use Rattle.tagged_model.specs.Cells.{Cell, holds, bytes, also, byte_at, widened, number_from, read_cell}
-use Rattle.tagged_model.specs.State.{State, stack_load}
-use Rattle.tagged_model.specs.Admits.{Witness, IsOf, HoldsNull, HasBytes, HasSlot, AdmitsBy, IsProper}
+use Rattle.tagged_model.specs.State.{RunState, stack_load}
+use Rattle.tagged_model.specs.Admits.{Witness, IsOfKind, HoldsNull, HasBytes, HasSlot, AdmitsBy, IsInRange}
 use Rattle.tagged_model.proofs.CellBytes.{AreBytes, AreRead, all_read, zeros_read}
 use Rattle.tagged_model.proofs.MaskBits.{in_mask}
 use Rattle.tagged_model.proofs.Numbers.{widened_is}
@@ -25,15 +25,15 @@ use Rattle.tagged_model.proofs.Places.{refused, same_ok, chosen, at_place, in_on
 
 -- ---- what a load of a cell gives
 
-abbrev Gives : Witness → Cell → ℕ → Size → Bool → Kind → Type 0
-Gives witness c j size signed k = (v : Tagged) × (read_cell c j size signed ≡ Some v) × IsOf witness k v
+abbrev Gives : Witness → Cell → ℕ → AccessSize → Bool → Kind → Type 0
+Gives witness c j size signed k = (v : Tagged) × (read_cell c j size signed ≡ Some v) × IsOfKind witness k v
 
-bytes_give : (witness : Witness) (c : Cell) (j : ℕ) (size : Size) (signed : Bool) → (b : ℕ) × (byte_at c (j + 0) ≡ Some b) → AreRead (byte_at c) j (bytes_of size) → Gives witness c j size signed (loaded size signed)
+bytes_give : (witness : Witness) (c : Cell) (j : ℕ) (size : AccessSize) (signed : Bool) → (b : ℕ) × (byte_at c (j + 0) ≡ Some b) → AreRead (byte_at c) j (bytes_of size) → Gives witness c j size signed (loaded size signed)
 bytes_give witness (holds v) j size signed first r = absurd (none-some first.0 first.1)
 bytes_give witness (bytes b) j size signed first r =
     (Scalar (widened size signed (number_of r.list)), ap (number_from size signed) r.read, widened_is witness size signed (number_of r.list) r.small)
 
-written_give : (witness : Witness) (mask : ℕ) (c : Cell) (p : ℕ) (size : Size) (signed : Bool) → AreBytes c → p % bytes_of size ≡ 0 → HasBytes mask c → bit_and mask (byte_bits p (bytes_of size)) ≡ byte_bits p (bytes_of size) → Gives witness c (p % 8) size signed (loaded size signed)
+written_give : (witness : Witness) (mask : ℕ) (c : Cell) (p : ℕ) (size : AccessSize) (signed : Bool) → AreBytes c → p % bytes_of size ≡ 0 → HasBytes mask c → bit_and mask (byte_bits p (bytes_of size)) ≡ byte_bits p (bytes_of size) → Gives witness c (p % 8) size signed (loaded size signed)
 written_give witness mask c p size signed small even has e =
     let n = bytes_of size in
     let fits = in_one_slot size p even in
@@ -54,19 +54,19 @@ null_gives : (witness : Witness) (k : Kind) (c : Cell) (j : ℕ) (signed : Bool)
 null_gives witness (kind.MaybeValue m s) c j signed z h = (Scalar 0, ap (λ i. read_cell c i Double signed) z ∙ null_read c signed h.1, (sym h.0, inl refl))
 null_gives witness k c j signed z h = absurd h
 
-cell_gives : (witness : Witness) (t : Slot) (c : Cell) (p : ℕ) (size : Size) (signed : Bool) (k : Kind) → AreBytes c → p % bytes_of size ≡ 0 → HasSlot witness t c → read_slot t (byte_bits p (bytes_of size)) size signed ≡ Ok k → Gives witness c (p % 8) size signed k
+cell_gives : (witness : Witness) (t : Slot) (c : Cell) (p : ℕ) (size : AccessSize) (signed : Bool) (k : Kind) → AreBytes c → p % bytes_of size ≡ 0 → HasSlot witness t c → read_slot t (byte_bits p (bytes_of size)) size signed ≡ Ok k → Gives witness c (p % 8) size signed k
 cell_gives witness (slot.Bytes mask) c p size signed k small even has e =
     let bits = byte_bits p (bytes_of size) in
     let h = chosen (bit_and mask bits == bits) (loaded size signed) k UnwrittenStack e in
     subst (Gives witness c (p % 8) size signed) h.1 (written_give witness mask c p size signed small even has (eqb-true (bit_and mask bits) bits h.0))
 cell_gives witness (slot.Spill l) c p Double signed k small even (inl h) e =
-    (h.0, ap (λ d. read_cell d (p % 8) Double signed) h.1, subst (λ x. IsOf witness x h.0) (same_ok l k e) h.2)
+    (h.0, ap (λ d. read_cell d (p % 8) Double signed) h.1, subst (λ x. IsOfKind witness x h.0) (same_ok l k e) h.2)
 cell_gives witness (slot.Spill l) c p Double signed k small even (inr h) e = subst (Gives witness c (p % 8) Double signed) (same_ok l k e) (null_gives witness l c (p % 8) signed even h)
 cell_gives witness (slot.Spill l) c p size signed k small even has e = absurd (refused PartOfSpill k e)
 
 -- ---- loads from the stack
 
-pub stack_gives : (witness : Witness) (f : Facts) (s : State) (offset : ℤ) (size : Size) (signed : Bool) (k : Kind) → IsProper s → AdmitsBy witness f s → stack_read f offset size signed ≡ Ok k → (v : Tagged) × (stack_load s offset size signed ≡ Some v) × IsOf witness k v
+pub stack_gives : (witness : Witness) (f : Facts) (s : RunState) (offset : ℤ) (size : AccessSize) (signed : Bool) (k : Kind) → IsInRange s → AdmitsBy witness f s → stack_read f offset size signed ≡ Ok k → (v : Tagged) × (stack_load s offset size signed ≡ Some v) × IsOfKind witness k v
 stack_gives witness f s offset size signed k proper admits e =
     let p = place offset in
     let at = at_place offset size (λ t. read_slot (slot_at f t.0) t.1 size signed) k e in

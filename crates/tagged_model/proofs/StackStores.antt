@@ -8,8 +8,8 @@ use Rattle.reg_kinds.specs.declared.kind.Kind.{Kind}
 use Rattle.reg_kinds.specs.declared.kind.Kind.TheVariants as kind
 use Rattle.reg_kinds.specs.declared.kind.Slot.{Slot}
 use Rattle.reg_kinds.specs.declared.kind.Slot.TheVariants as slot
-use Rattle.reg_kinds.specs.declared.stack.Size.{Size}
-use Rattle.reg_kinds.specs.declared.stack.Size.TheVariants.{Double}
+use Rattle.reg_kinds.specs.declared.stack.AccessSize.{AccessSize}
+use Rattle.reg_kinds.specs.declared.stack.AccessSize.TheVariants.{Double}
 use Rattle.reg_kinds.specs.declared.facts.Facts.{Facts}
 use Rattle.reg_kinds.specs.Reason.{given}
 use Rattle.reg_kinds.specs.Kinds.{is_pointer, slot_at, with_slot}
@@ -17,8 +17,8 @@ use Rattle.reg_kinds.specs.Stack.{bytes_of, byte_bits, place, touched, is_whole,
 use Rattle.tagged_model.specs.declared.value.Tagged.{Tagged}
 use Rattle.tagged_model.specs.declared.value.Tagged.TheVariants.{Scalar, Map, Pointer}
 use Rattle.tagged_model.specs.Cells.{Cell, holds, also, written_over, write_cell}
-use Rattle.tagged_model.specs.State.{State, with_cell, stack_store}
-use Rattle.tagged_model.specs.Admits.{Witness, IsOf, IsWhole, HasSlot, AdmitsBy, IsProper}
+use Rattle.tagged_model.specs.State.{RunState, with_cell, stack_store}
+use Rattle.tagged_model.specs.Admits.{Witness, IsOfKind, IsKeptWhole, HasSlot, AdmitsBy, IsInRange}
 use Rattle.tagged_model.proofs.Tables.{in_written}
 use Rattle.tagged_model.proofs.Unknown.{no_bytes}
 use Rattle.tagged_model.proofs.CellBytes.{AreBytes}
@@ -27,7 +27,7 @@ use Rattle.tagged_model.proofs.Places.{refused, same_ok, given_ok, at_place}
 
 -- ---- a cell after a store
 
-record IsWritten (witness : Witness) (t : Slot) (c : Cell) (j : ℕ) (size : Size) (v : Tagged) : Type 0 where
+record IsWritten (witness : Witness) (t : Slot) (c : Cell) (j : ℕ) (size : AccessSize) (v : Tagged) : Type 0 where
   cell : Cell
   written : write_cell c j size v ≡ Some cell
   has : HasSlot witness t cell
@@ -37,7 +37,7 @@ over_has : (witness : Witness) (t : Slot) (c : Cell) (p n x : ℕ) → HasSlot w
 over_has witness (slot.Bytes mask) c p n x has = both_there mask c p n x has
 over_has witness (slot.Spill k) c p n x has = touched_there c p n x
 
-number_written : (witness : Witness) (t : Slot) (c : Cell) (p : ℕ) (size : Size) (v : Tagged) (x : ℕ) → v ≡ Scalar x → AreBytes c → HasSlot witness t c → IsWritten witness (bytes_over t (byte_bits p (bytes_of size))) c (p % 8) size v
+number_written : (witness : Witness) (t : Slot) (c : Cell) (p : ℕ) (size : AccessSize) (v : Tagged) (x : ℕ) → v ≡ Scalar x → AreBytes c → HasSlot witness t c → IsWritten witness (bytes_over t (byte_bits p (bytes_of size))) c (p % 8) size v
 number_written witness t c p size v x e small has =
     let n = bytes_of size in
     record {
@@ -50,7 +50,7 @@ number_written witness t c p size v x e small has =
 absent : (v : Tagged) → AreBytes (holds v)
 absent v i b e = absurd (none-some b e)
 
-whole_written : (witness : Witness) (k : Kind) (c : Cell) (j : ℕ) (v : Tagged) → IsWhole v → IsOf witness k v → IsWritten witness (slot.Spill k) c j Double v
+whole_written : (witness : Witness) (k : Kind) (c : Cell) (j : ℕ) (v : Tagged) → IsKeptWhole v → IsOfKind witness k v → IsWritten witness (slot.Spill k) c j Double v
 whole_written witness k c j (Scalar n) w h = absurd w
 whole_written witness k c j (Map m) w h = record { cell = holds (Map m); written = refl; has = inl (Map m, refl, h, tt); small = absent (Map m) }
 whole_written witness k c j (Pointer o x) w h = record { cell = holds (Pointer o x); written = refl; has = inl (Pointer o x, refl, h, tt); small = absent (Pointer o x) }
@@ -64,17 +64,17 @@ null_written witness m s c j v z e null small =
       small = over_small c 0 8 0 small;
     }
 
-pointer_written : (witness : Witness) (k : Kind) (c : Cell) (j : ℕ) (v : Tagged) → is_pointer k ≡ true → j ≡ 0 → AreBytes c → IsOf witness k v → IsWritten witness (slot.Spill k) c j Double v
+pointer_written : (witness : Witness) (k : Kind) (c : Cell) (j : ℕ) (v : Tagged) → is_pointer k ≡ true → j ≡ 0 → AreBytes c → IsOfKind witness k v → IsWritten witness (slot.Spill k) c j Double v
 pointer_written witness kind.Unreadable c j v t z small h = absurd (false≢true t)
 pointer_written witness (kind.Scalar r) c j v t z small h = absurd (false≢true t)
-pointer_written witness (kind.MapRef m) c j v t z small h = whole_written witness (kind.MapRef m) c j v (subst IsWhole (sym h) tt) h
-pointer_written witness (kind.Stack x) c j v t z small h = whole_written witness (kind.Stack x) c j v (subst IsWhole (sym h) tt) h
-pointer_written witness kind.Ctx c j v t z small h = whole_written witness kind.Ctx c j v (subst IsWhole (sym h) tt) h
-pointer_written witness (kind.Value p) c j v t z small h = whole_written witness (kind.Value p) c j v (subst IsWhole (sym h.2) tt) h
+pointer_written witness (kind.MapRef m) c j v t z small h = whole_written witness (kind.MapRef m) c j v (subst IsKeptWhole (sym h) tt) h
+pointer_written witness (kind.Stack x) c j v t z small h = whole_written witness (kind.Stack x) c j v (subst IsKeptWhole (sym h) tt) h
+pointer_written witness kind.Ctx c j v t z small h = whole_written witness kind.Ctx c j v (subst IsKeptWhole (sym h) tt) h
+pointer_written witness (kind.Value p) c j v t z small h = whole_written witness (kind.Value p) c j v (subst IsKeptWhole (sym h.2) tt) h
 pointer_written witness (kind.MaybeValue m s) c j v t z small h =
     ⊎_elim
     (λ null. null_written witness m s c j v z h.0 null small)
-    (λ start. whole_written witness (kind.MaybeValue m s) c j v (subst IsWhole (sym start.1) tt) h)
+    (λ start. whole_written witness (kind.MaybeValue m s) c j v (subst IsKeptWhole (sym start.1) tt) h)
     h.1
 
 -- ---- what a store leaves
@@ -85,33 +85,33 @@ IsKnown kind.Unreadable = ⊥
 IsKnown k = Unit {0}
 
 -- where a pointer may be written, it is written whole
-spill_written : (witness : Witness) (u : Slot) (c : Cell) (p : ℕ) (size : Size) (k : Kind) (v : Tagged) → is_pointer k ≡ true → p % bytes_of size ≡ 0 → AreBytes c → IsOf witness k v → (if is_whole size then Ok (slot.Spill k) else Err PartOfSpill) ≡ Ok u → IsWritten witness u c (p % 8) size v
+spill_written : (witness : Witness) (u : Slot) (c : Cell) (p : ℕ) (size : AccessSize) (k : Kind) (v : Tagged) → is_pointer k ≡ true → p % bytes_of size ≡ 0 → AreBytes c → IsOfKind witness k v → (if is_whole size then Ok (slot.Spill k) else Err PartOfSpill) ≡ Ok u → IsWritten witness u c (p % 8) size v
 spill_written witness u c p Double k v t even small h e = subst (λ u. IsWritten witness u c (p % 8) Double v) (same_ok (slot.Spill k) u e) (pointer_written witness k c (p % 8) v t even small h)
 spill_written witness u c p size k v t even small h e = absurd (refused PartOfSpill u e)
 
-cell_written : (witness : Witness) (t u : Slot) (c : Cell) (p : ℕ) (size : Size) (k : Kind) (v : Tagged) → IsKnown k → p % bytes_of size ≡ 0 → AreBytes c → HasSlot witness t c → IsOf witness k v → slot_written t (byte_bits p (bytes_of size)) size k ≡ Ok u → IsWritten witness u c (p % 8) size v
+cell_written : (witness : Witness) (t u : Slot) (c : Cell) (p : ℕ) (size : AccessSize) (k : Kind) (v : Tagged) → IsKnown k → p % bytes_of size ≡ 0 → AreBytes c → HasSlot witness t c → IsOfKind witness k v → slot_written t (byte_bits p (bytes_of size)) size k ≡ Ok u → IsWritten witness u c (p % 8) size v
 cell_written witness t u c p size kind.Unreadable v known even small has h e = absurd known
 cell_written witness t u c p size (kind.Scalar r) v known even small has h e =
     subst (λ u. IsWritten witness u c (p % 8) size v) (same_ok (bytes_over t (byte_bits p (bytes_of size))) u e) (number_written witness t c p size v h.0 h.1 small has)
 cell_written witness t u c p size k v known even small has h e = spill_written witness u c p size k v refl even small h e
 
 -- of a register that may not be read nothing is stored
-known_stored : (f g : Facts) (offset : ℤ) (size : Size) (k : Kind) → stack_write f offset size k ≡ Ok g → IsKnown k × (given (touched offset size) (facts_written f size k) ≡ Ok g)
+known_stored : (f g : Facts) (offset : ℤ) (size : AccessSize) (k : Kind) → stack_write f offset size k ≡ Ok g → IsKnown k × (given (touched offset size) (facts_written f size k) ≡ Ok g)
 known_stored f g offset size kind.Unreadable e = absurd (refused UnreadableRegister g e)
 known_stored f g offset size k e = (tt, e)
 
 -- ---- the facts and the state after a store
 
-module _ (witness : Witness) (f : Facts) (s : State) (proper : IsProper s) (admits : AdmitsBy witness f s) where
+module _ (witness : Witness) (f : Facts) (s : RunState) (proper : IsInRange s) (admits : AdmitsBy witness f s) where
   still_admits : (i : ℕ) (t : Slot) (c : Cell) → HasSlot witness t c → AdmitsBy witness (with_slot f i t) (with_cell s i c)
   still_admits i t c has =
       record { registers = admits.registers; slots = in_written (HasSlot witness) f.slots s.cells i t (slot.Bytes 0) c has (no_bytes c) admits.slots; objects = admits.objects }
 
-  still_proper : (i : ℕ) (c : Cell) → AreBytes c → IsProper (with_cell s i c)
+  still_proper : (i : ℕ) (c : Cell) → AreBytes c → IsInRange (with_cell s i c)
   still_proper i c small =
       record { bytes = λ k. cond_both (k == i) c (s.cells k) AreBytes (λ _. small) (λ _. proper.bytes k); words = proper.words; count = proper.count; values = proper.values; packet = proper.packet }
 
-  pub stack_stored : (g : Facts) (offset : ℤ) (size : Size) (k : Kind) (v : Tagged) → IsOf witness k v → stack_write f offset size k ≡ Ok g → (t : State) × (stack_store s offset size v ≡ Some t) × AdmitsBy witness g t × IsProper t
+  pub stack_stored : (g : Facts) (offset : ℤ) (size : AccessSize) (k : Kind) (v : Tagged) → IsOfKind witness k v → stack_write f offset size k ≡ Ok g → (t : RunState) × (stack_store s offset size v ≡ Some t) × AdmitsBy witness g t × IsInRange t
   stack_stored g offset size k v h e =
       let p = place offset in
       let i = place offset / 8 in

@@ -8,8 +8,8 @@ use Rattle.reg_kinds.specs.declared.kind.Slot.TheVariants.{Bytes}
 use Rattle.reg_kinds.specs.Kinds.{facts_of}
 use Rattle.tagged_model.specs.declared.value.Tagged.{Tagged}
 use Rattle.tagged_model.specs.Cells.{Cell}
-use Rattle.tagged_model.specs.State.{State}
-use Rattle.tagged_model.specs.Admits.{Witness, IsOf, HasKind, HasBytes, HasSlot, AdmitsBy, objects_of}
+use Rattle.tagged_model.specs.State.{RunState}
+use Rattle.tagged_model.specs.Admits.{Witness, IsOfKind, HasKind, HasBytes, HasSlot, AdmitsBy, objects_of}
 use Rattle.tagged_model.proofs.Tables.{in_table}
 
 -- of no byte is it told that it is there
@@ -17,12 +17,12 @@ pub no_bytes : (c : Cell) → HasBytes 0 c
 no_bytes c j h e = absurd (omega (arith, bit_at-zero j, e))
 
 -- of a register that may not be read nothing is asked
-pub has_kind : (witness : Witness) (k : Kind) (o : Option Tagged) (v : Tagged) → o ≡ Some v → IsOf witness k v → HasKind witness k o
+pub has_kind : (witness : Witness) (k : Kind) (o : Option Tagged) (v : Tagged) → o ≡ Some v → IsOfKind witness k v → HasKind witness k o
 has_kind witness Unreadable o v e h = tt
 has_kind witness k o v e h = (v, e, h)
 
 -- such facts admit a state where each of them holds of it
-pub admitted_by : (witness : Witness) (kinds : ℕ → Kind) (slots : ℕ → Slot) (s : State) → ((r : ℕ) → HasKind witness (kinds r) (s.registers r)) → ((i : ℕ) → HasSlot witness (slots i) (s.cells i)) → ((m : ℕ) → witness.objects m ≤ objects_of (s.maps m)) → AdmitsBy witness (facts_of kinds slots) s
+pub admitted_by : (witness : Witness) (kinds : ℕ → Kind) (slots : ℕ → Slot) (s : RunState) → ((r : ℕ) → HasKind witness (kinds r) (s.registers r)) → ((i : ℕ) → HasSlot witness (slots i) (s.cells i)) → ((m : ℕ) → witness.objects m ≤ objects_of (s.maps m)) → AdmitsBy witness (facts_of kinds slots) s
 admitted_by witness kinds slots s of_registers of_slots of_objects =
     record {
       registers = λ r. in_table (λ k. HasKind witness k (s.registers r)) kinds 11 r Unreadable (of_registers r) tt;

@@ -5,7 +5,7 @@ use Rattle.interval.specs.Words.{unsigned}
 use Rattle.insn_codec.specs.declared.insn.Insn.{Insn}
 use Rattle.insn_codec.specs.declared.insn.Insn.TheVariants.{Alu, Movsx, Neg, End, Ja, Jal, Jump, Call, Exit, Load, Store, Const, MapFd}
 use Rattle.insn_codec.specs.Program.{begins_at, slot_count}
-use Rattle.reg_kinds.specs.declared.stack.Size.{Size}
+use Rattle.reg_kinds.specs.declared.stack.AccessSize.{AccessSize}
 use Rattle.reg_kinds.specs.Stack.{is_in_stack, place}
 use Rattle.tagged_model.specs.declared.helper.Helper.{Helper}
 use Rattle.tagged_model.specs.declared.helper.Helper.TheVariants.{LookUp, Update, Delete, LoadBytes}
@@ -15,12 +15,13 @@ use Rattle.tagged_model.specs.declared.value.Tagged.TheVariants.{Scalar, Pointer
 use Rattle.tagged_model.specs.Operators.{size_of}
 use Rattle.tagged_model.specs.Values.{arithmetic, first_operand, compared}
 use Rattle.tagged_model.specs.Cells.{also, write_cell, cell_over}
-use Rattle.tagged_model.specs.State.{State, RunMap, with_cells, with_register, stack_place, stack_store, stack_written, value_written, with_map, with_value, object_written, object_stored, store, output}
-use Rattle.tagged_model.specs.Helpers.{helper_of, packet_bytes, packet_answer, number_given, length_given, context_given, map_given, argument, map_argument, Given, returns, called}
-use Rattle.tagged_model.specs.Step.{Step, goes, ends, faults, need, operand, natural, jumped, branched, ended, advanced, assigned, act, step, first, others, Ending, one_more, after, run, Maps, first_map, begin, was_refused}
+use Rattle.tagged_model.specs.State.{RunState, RunMap, with_cells, with_register, stack_place, stack_store, stack_written, value_written, with_map, with_value, object_written, object_stored, store, output}
+use Rattle.tagged_model.specs.Helpers.{helper_of, packet_bytes, packet_answer, number_given, length_given, context_given, map_given, argument, map_argument, GivenMap, returns, called}
+use Rattle.tagged_model.specs.Step.{Step, goes, ends, faults, need, operand, jumped, branched, ended, advanced, assigned, act, step, first, others, Ending, one_more, after, run, MapsByDescriptor, first_map, begin, was_refused}
+use Rattle.insn_codec.specs.Flow.{natural}
 
 -- a state without maps in which no memory was refused
-record IsBare (s : State) : Type 0 where
+record IsBare (s : RunState) : Type 0 where
   no_map : (m : ℕ) → s.maps m ≡ None
   clear : s.refused ≡ false
 
@@ -29,7 +30,7 @@ StaysBare (goes t) = IsBare t
 StaysBare (ends n) = Unit {0}
 StaysBare faults = Unit {0}
 
-abbrev AreBare : Option State → Type 0
+abbrev AreBare : Option RunState → Type 0
 AreBare None = Unit {0}
 AreBare (Some t) = IsBare t
 
@@ -37,12 +38,12 @@ need_bare : {A : Type 0} (o : Option A) (f : A → Step) → ((x : A) → StaysB
 need_bare None f h = tt
 need_bare (Some x) f h = h x
 
-also_bare : {A : Type 0} (o : Option A) (f : A → Option State) → ((x : A) → AreBare (f x)) → AreBare (also o f)
+also_bare : {A : Type 0} (o : Option A) (f : A → Option RunState) → ((x : A) → AreBare (f x)) → AreBare (also o f)
 also_bare None f h = tt
 also_bare (Some x) f h = h x
 
 -- what is there only with something that is not
-none_bare : {A : Type 0} (o : Option A) (f : A → Option State) → o ≡ None → AreBare (also o f)
+none_bare : {A : Type 0} (o : Option A) (f : A → Option RunState) → o ≡ None → AreBare (also o f)
 none_bare o f none = subst (λ p. AreBare (also p f)) (sym none) tt
 
 none_also : {A B : Type 0} (o : Option A) (f : A → Option B) → o ≡ None → also o f ≡ None
@@ -52,15 +53,15 @@ all_none : {A B : Type 0} (o : Option A) (f : A → Option B) → ((x : A) → f
 all_none None f h = refl
 all_none (Some x) f h = h x
 
-abbrev next : State → Step
+abbrev next : RunState → Step
 next t = goes (advanced 1 t)
 
-next_bare : (o : Option State) → AreBare o → StaysBare (need o next)
+next_bare : (o : Option RunState) → AreBare o → StaysBare (need o next)
 next_bare None h = tt
 next_bare (Some t) h = record { no_map = h.no_map; clear = h.clear }
 
-module _ (s : State) (bare : IsBare s) where
-  as_before : (t : State) → t.maps ≡ s.maps → t.refused ≡ s.refused → IsBare t
+module _ (s : RunState) (bare : IsBare s) where
+  as_before : (t : RunState) → t.maps ≡ s.maps → t.refused ≡ s.refused → IsBare t
   as_before t maps refused = record { no_map = λ m. ap (λ (f : ℕ → Option RunMap). f m) maps ∙ bare.no_map m; clear = refused ∙ bare.clear }
 
   -- ---- what is written
@@ -71,14 +72,14 @@ module _ (s : State) (bare : IsBare s) where
   object_written_bare : (m number : ℕ) (y : ℤ) (bs : List ℕ) → AreBare (object_written s m number y bs)
   object_written_bare m number y bs = none_bare (s.maps m) (λ t. also (value_written (t.values number) y bs) (λ value. Some (with_map s m (with_value t number value)))) (bare.no_map m)
 
-  object_stored_bare : (size : Size) (m number : ℕ) (y : ℤ) (v : Tagged) → AreBare (object_stored s size m number y v)
+  object_stored_bare : (size : AccessSize) (m number : ℕ) (y : ℤ) (v : Tagged) → AreBare (object_stored s size m number y v)
   object_stored_bare size m number y (Scalar n) = object_written_bare m number y _
   object_stored_bare size m number y v = tt
 
-  stack_store_bare : (y : ℤ) (size : Size) (v : Tagged) → AreBare (stack_store s y size v)
+  stack_store_bare : (y : ℤ) (size : AccessSize) (v : Tagged) → AreBare (stack_store s y size v)
   stack_store_bare y size v = also_bare (stack_place y size) _ (λ p. also_bare (write_cell (s.cells (p / 8)) (p % 8) size v) _ (λ c. as_before _ refl refl))
 
-  store_bare : (size : Size) (p : Tagged) (off : ℤ) (v : Tagged) → AreBare (store s size p off v)
+  store_bare : (size : AccessSize) (p : Tagged) (off : ℤ) (v : Tagged) → AreBare (store s size p off v)
   store_bare size (Pointer object.Stack x) off v = stack_store_bare (x +ℤ off) size v
   store_bare size (Pointer (object.Value m number) x) off v = object_stored_bare size m number (x +ℤ off) v
   store_bare size p off v = tt
@@ -93,7 +94,7 @@ module _ (s : State) (bare : IsBare s) where
   no_map_given : (r : ℕ) → map_argument s r ≡ None
   no_map_given r = all_none (argument s r map_given) _ (λ m. none_also (s.maps m) _ (bare.no_map m))
 
-  returned_bare : (o : Option State) (v : Tagged) → AreBare o → AreBare (also o (λ t. Some (returns t v)))
+  returned_bare : (o : Option RunState) (v : Tagged) → AreBare o → AreBare (also o (λ t. Some (returns t v)))
   returned_bare None v h = tt
   returned_bare (Some t) v h = record { no_map = h.no_map; clear = h.clear }
 
@@ -139,17 +140,17 @@ module _ (s : State) (bare : IsBare s) where
   step_bare : (refused : Bool) (code : List Insn) → StaysBare (step refused code s)
   step_bare refused code = need_bare (begins_at code s.at) _ (act_bare refused)
 
-after_bare : (a : Step) (s : State) (f : State → Ending) → s.refused ≡ false → StaysBare a → ((t : State) → IsBare t → (f t).state.refused ≡ false) → (after a s f).state.refused ≡ false
+after_bare : (a : Step) (s : RunState) (f : RunState → Ending) → s.refused ≡ false → StaysBare a → ((t : RunState) → IsBare t → (f t).state.refused ≡ false) → (after a s f).state.refused ≡ false
 after_bare (goes t) s f clear h rest = rest t h
 after_bare (ends n) s f clear h rest = clear
 after_bare faults s f clear h rest = clear
 
-run_bare : (code : List Insn) (n : ℕ) (refusals : List Bool) (s : State) → IsBare s → (run code n refusals s).state.refused ≡ false
+run_bare : (code : List Insn) (n : ℕ) (refusals : List Bool) (s : RunState) → IsBare s → (run code n refusals s).state.refused ≡ false
 unfolding run
 run_bare code zero refusals s bare = bare.clear
 run_bare code (suc n) refusals s bare =
     after_bare (step (first refusals) code s) s (run code n (others refusals)) bare.clear (step_bare s bare (first refusals) code) (run_bare code n (others refusals))
 
-pub not_refused : (refusals : List Bool) (code : List Insn) (maps : Maps) (words packet : List ℕ) → ((m : ℕ) → maps m ≡ None) → was_refused refusals code maps words packet ≡ false
+pub not_refused : (refusals : List Bool) (code : List Insn) (maps : MapsByDescriptor) (words packet : List ℕ) → ((m : ℕ) → maps m ≡ None) → was_refused refusals code maps words packet ≡ false
 not_refused refusals code maps words packet none =
     run_bare code (slot_count code) refusals (begin maps words packet) (record { no_map = λ m. ap (option_map first_map) (none m); clear = refl })

@@ -1,4 +1,4 @@
--- What facts say of a state.
+-- What facts say of a state. This project's own.
 use Rattle.std.specs.Prelude.{◌≡◌, ◌⊎◌, ℕ, ◌<◌, ◌≤◌, ◌^◌, ℤ, pos, ◌≤ℤ◌, List, [], ◌∷◌, length, Option, Some, None}
 use Rattle.std.specs.List.{All}
 use Rattle.std.specs.Int.{bit_at}
@@ -19,7 +19,7 @@ use Rattle.tagged_model.specs.Cells.{Cell, holds, byte_at}
 use Rattle.tagged_model.specs.declared.shape.MapKind.TheVariants.{Array}
 use Rattle.tagged_model.specs.declared.shape.MapShape.{MapShape}
 use Rattle.tagged_model.specs.Table.{indexed}
-use Rattle.tagged_model.specs.State.{State, RunMap, context_words, set_at}
+use Rattle.tagged_model.specs.State.{RunState, RunMap, context_words, set_at}
 
 -- what is told beside the facts: of each site what the look-up there gave, so that all that carry it are one value; and of
 -- each map how many objects it has had, or fewer
@@ -41,31 +41,31 @@ IsValueOf witness p v = (number : ℕ) × (x : ℤ) × (v ≡ Pointer (object.Va
 abbrev pub IsLookup : Witness → ℕ → Tagged → Type 0
 IsLookup witness m v = (v ≡ Scalar 0) ⊎ ((number : ℕ) × (v ≡ Pointer (object.Value m number) (pos 0)) × (number < witness.objects m))
 
-abbrev pub IsOf : Witness → Kind → Tagged → Type 0
-IsOf witness kind.Unreadable v = Unit {0}
-IsOf witness (kind.Scalar r) v = IsScalarOf r v
-IsOf witness (kind.MapRef m) v = v ≡ Map m
-IsOf witness (kind.Stack x) v = v ≡ Pointer object.Stack x
-IsOf witness kind.Ctx v = v ≡ Pointer object.Context (pos 0)
-IsOf witness (kind.Value p) v = IsValueOf witness p v
-IsOf witness (kind.MaybeValue m site) v = (v ≡ witness.gave site) × IsLookup witness m v
+abbrev pub IsOfKind : Witness → Kind → Tagged → Type 0
+IsOfKind witness kind.Unreadable v = Unit {0}
+IsOfKind witness (kind.Scalar r) v = IsScalarOf r v
+IsOfKind witness (kind.MapRef m) v = v ≡ Map m
+IsOfKind witness (kind.Stack x) v = v ≡ Pointer object.Stack x
+IsOfKind witness kind.Ctx v = v ≡ Pointer object.Context (pos 0)
+IsOfKind witness (kind.Value p) v = IsValueOf witness p v
+IsOfKind witness (kind.MaybeValue m site) v = (v ≡ witness.gave site) × IsLookup witness m v
 
 -- ---- registers: of one that may not be read nothing is known
 
 abbrev pub HasKind : Witness → Kind → Option Tagged → Type 0
 HasKind witness kind.Unreadable o = Unit {0}
-HasKind witness k o = (v : Tagged) × (o ≡ Some v) × IsOf witness k v
+HasKind witness k o = (v : Tagged) × (o ≡ Some v) × IsOfKind witness k v
 
 -- ---- stack slots
 
 -- a value that is kept whole
-abbrev pub IsWhole : Tagged → Type 0
-IsWhole (Scalar n) = ⊥
-IsWhole (Map m) = Unit {0}
-IsWhole (Pointer o x) = Unit {0}
+abbrev pub IsKeptWhole : Tagged → Type 0
+IsKeptWhole (Scalar n) = ⊥
+IsKeptWhole (Map m) = Unit {0}
+IsKeptWhole (Pointer o x) = Unit {0}
 
 abbrev pub HoldsWhole : Witness → Kind → Cell → Type 0
-HoldsWhole witness k c = (v : Tagged) × (c ≡ holds v) × IsOf witness k v × IsWhole v
+HoldsWhole witness k c = (v : Tagged) × (c ≡ holds v) × IsOfKind witness k v × IsKeptWhole v
 
 -- eight zero bytes stand for the null of a look-up
 abbrev pub HoldsNull : Witness → Kind → Cell → Type 0
@@ -87,20 +87,20 @@ abbrev pub objects_of : Option RunMap → ℕ
 objects_of None = 0
 objects_of (Some t) = t.count
 
-pub record AdmitsBy (witness : Witness) (f : Facts) (s : State) : Type 0 where
+pub record AdmitsBy (witness : Witness) (f : Facts) (s : RunState) : Type 0 where
   pub registers : (r : ℕ) → HasKind witness (kind_at f r) (s.registers r)
   pub slots : (i : ℕ) → HasSlot witness (slot_at f i) (s.cells i)
   pub objects : (m : ℕ) → witness.objects m ≤ objects_of (s.maps m)
 
 -- the facts admit the state: for each look-up there is one value
-abbrev pub Admits : Facts → State → Type 0
+abbrev pub Admits : Facts → RunState → Type 0
 Admits f s = (witness : Witness) × AdmitsBy witness f s
 
 -- bytes are bytes, and the context has its words of 32 bits; each step keeps this
 abbrev pub AreBytes : List ℕ → Type 0
 AreBytes bs = All (λ b. b < 256) bs
 
-pub record IsProper (s : State) : Type 0 where
+pub record IsInRange (s : RunState) : Type 0 where
   pub bytes : (i j b : ℕ) → byte_at (s.cells i) j ≡ Some b → b < 256
   pub words : All (λ w. w < 2 ^ 32) s.words
   pub count : length s.words ≡ context_words
@@ -122,23 +122,23 @@ pub record AreBelow (n : ℕ) (f : Facts) : Type 0 where
   pub slots : (i : ℕ) → IsSlotBelow n (slot_at f i)
 
 -- what is told once a look-up at a site has given a value
-abbrev pub witness_at : Witness → State → ℕ → Tagged → Witness
+abbrev pub witness_at : Witness → RunState → ℕ → Tagged → Witness
 witness_at witness s site v = record { gave = set_at witness.gave site v; objects = λ m. objects_of (s.maps m) }
 
 -- ---- the maps of a state
 
 -- each key has one of so many objects
-abbrev pub Owns : ℕ → List (List ℕ × ℕ) → Type 0
-Owns count [] = Unit {0}
-Owns count (e ∷ es) = (e.1 < count) × Owns count es
+abbrev pub KeysHaveObjects : ℕ → List (List ℕ × ℕ) → Type 0
+KeysHaveObjects count [] = Unit {0}
+KeysHaveObjects count (e ∷ es) = (e.1 < count) × KeysHaveObjects count es
 
 -- a map of this shape: an array has all its indices, and each object, a deleted one too, has the size of a value
 pub record IsMapOf (shape : MapShape) (t : RunMap) : Type 0 where
   pub shaped : t.table.shape ≡ shape
   pub indices : shape.kind ≡ Array → keys_of t.table.entries ≡ keys_of (indexed (λ i. i) 0 shape.max_entries)
-  pub owns : Owns t.count t.table.entries
+  pub owns : KeysHaveObjects t.count t.table.entries
   pub sized : (number : ℕ) → number < t.count → length (t.values number) ≡ shape.value_size
 
 -- for each descriptor that has a shape there is a map of it; each step keeps this
-abbrev pub HasMaps : (ℕ → Option MapShape) → State → Type 0
+abbrev pub HasMaps : (ℕ → Option MapShape) → RunState → Type 0
 HasMaps shapes s = (m : ℕ) (shape : MapShape) → shapes m ≡ Some shape → (t : RunMap) × (s.maps m ≡ Some t) × IsMapOf shape t

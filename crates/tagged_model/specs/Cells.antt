@@ -1,9 +1,10 @@
--- Eight bytes of the stack, and how they are read and written.
+-- Eight bytes of the stack, and how they are read and written. Loads and stores are those of RFC 9669, sections 5.1
+-- and 5.2; that a pointer is kept whole is this project's own.
 use Rattle.std.specs.Prelude.{ℕ, zero, suc, ◌+◌, ◌-◌, ◌*◌, Bool, true, false, ◌&&◌, nat_lt, nat_le, if◌then◌else◌, List, [], ◌∷◌, length, slice_get, Option, Some, None, option_map}
 use Rattle.interval.specs.Words.{sign_extend}
 use Rattle.interval.specs.Bytes.{number_of, low_bytes}
-use Rattle.reg_kinds.specs.declared.stack.Size.{Size}
-use Rattle.reg_kinds.specs.declared.stack.Size.TheVariants.{Double}
+use Rattle.reg_kinds.specs.declared.stack.AccessSize.{AccessSize}
+use Rattle.reg_kinds.specs.declared.stack.AccessSize.TheVariants.{Double}
 use Rattle.reg_kinds.specs.Stack.{bytes_of}
 use Rattle.reg_kinds.specs.Many.{touches}
 use Rattle.tagged_model.specs.declared.value.Tagged.{Tagged}
@@ -29,15 +30,15 @@ gathered byte p zero = Some []
 gathered byte p (suc n) = also (byte p) (λ b. also (gathered byte (suc p) n) (λ bs. Some (b ∷ bs)))
 
 -- a number of so many bytes as a word: with its sign, or with zeros above
-abbrev pub widened : Size → Bool → ℕ → ℕ
+abbrev pub widened : AccessSize → Bool → ℕ → ℕ
 widened size true n = sign_extend 64 (8 * bytes_of size) n
 widened size false n = n
 
-abbrev pub number_from : Size → Bool → Option (List ℕ) → Option Tagged
+abbrev pub number_from : AccessSize → Bool → Option (List ℕ) → Option Tagged
 number_from size signed o = option_map (λ bs. Scalar (widened size signed (number_of bs))) o
 
 -- what a load gives; nothing of a part of what is kept whole
-abbrev pub read_cell : Cell → ℕ → Size → Bool → Option Tagged
+abbrev pub read_cell : Cell → ℕ → AccessSize → Bool → Option Tagged
 read_cell (holds v) j Double signed = Some v
 read_cell (holds v) j _ signed = None
 read_cell (bytes b) j size signed = number_from size signed (gathered b j (bytes_of size))
@@ -47,7 +48,7 @@ abbrev pub written_over : Cell → ℕ → List ℕ → Cell
 written_over c j bs = bytes (λ k. if nat_le j k && nat_lt k (j + length bs) then slice_get bs (k - j) else byte_at c k)
 
 -- what a store leaves; a pointer or a map is not cut
-abbrev pub write_cell : Cell → ℕ → Size → Tagged → Option Cell
+abbrev pub write_cell : Cell → ℕ → AccessSize → Tagged → Option Cell
 write_cell c j size (Scalar n) = Some (written_over c j (low_bytes (bytes_of size) n))
 write_cell c j Double v = Some (holds v)
 write_cell c j _ v = None

@@ -12,7 +12,7 @@ use Rattle.tagged_model.specs.declared.value.Tagged.{Tagged}
 use Rattle.tagged_model.specs.declared.value.Tagged.TheVariants.{Scalar, Map, Pointer}
 use Rattle.tagged_model.specs.Table.{Verdict, Refused, Present, New, look_up, verdict, removal, with_new, with_deleted}
 use Rattle.tagged_model.specs.Cells.{also}
-use Rattle.tagged_model.specs.State.{State, RunMap, set_at, with_value, input, output, with_map, with_refusal}
+use Rattle.tagged_model.specs.State.{RunState, RunMap, set_at, with_value, input, output, with_map, with_refusal}
 
 -- its number in bpf_func_id
 abbrev pub id_of : Helper → ℕ
@@ -47,19 +47,19 @@ abbrev pub negative : ℕ → ℕ
 negative n = 2 ^ 64 - n
 
 -- what a call gives, the map that it leaves, and whether memory was refused to a new key
-pub record Reply : Type 0 where
+pub record MapReply : Type 0 where
   pub answer : ℕ
   pub map : RunMap
   pub refused : Bool
 
-abbrev pub fails_by : MapFault → RunMap → Reply
+abbrev pub fails_by : MapFault → RunMap → MapReply
 fails_by fault t = record { answer = negative (errno fault); map = t; refused = false }
 
-abbrev pub succeeds : RunMap → Reply
+abbrev pub succeeds : RunMap → MapReply
 succeeds t = record { answer = 0; map = t; refused = false }
 
 -- memory is refused, and the map stays
-abbrev pub has_no_memory : RunMap → Reply
+abbrev pub has_no_memory : RunMap → MapReply
 has_no_memory t = record { answer = negative (errno Memory); map = t; refused = true }
 
 -- ---- the calls of a map
@@ -78,20 +78,20 @@ abbrev pub without_key : RunMap → List ℕ → RunMap
 without_key t key = record t { table = with_deleted t.table key }
 
 -- a present key's value is written in place; a new key may be refused for memory
-abbrev pub put : Bool → RunMap → List ℕ → List ℕ → Verdict ℕ → Reply
+abbrev pub put : Bool → RunMap → List ℕ → List ℕ → Verdict ℕ → MapReply
 put refused t key value (Refused fault) = fails_by fault t
 put refused t key value (Present number) = succeeds (with_value t number value)
 put true t key value New = has_no_memory t
 put false t key value New = succeeds (with_object t key value)
 
-abbrev pub updated : Bool → RunMap → List ℕ → List ℕ → ℕ → Reply
+abbrev pub updated : Bool → RunMap → List ℕ → List ℕ → ℕ → MapReply
 updated refused t key value flags = put refused t key value (verdict t.table key flags)
 
-abbrev pub taken_out : RunMap → List ℕ → Result ℕ MapFault → Reply
+abbrev pub taken_out : RunMap → List ℕ → Result ℕ MapFault → MapReply
 taken_out t key (Err fault) = fails_by fault t
 taken_out t key (Ok number) = succeeds (without_key t key)
 
-abbrev pub removed : RunMap → List ℕ → Reply
+abbrev pub removed : RunMap → List ℕ → MapReply
 removed t key = taken_out t key (removal t.table key)
 
 -- ---- bytes of the packet
@@ -125,15 +125,15 @@ context_given (Pointer object.Context x) = if int_eq x (pos 0) then Some tt else
 context_given _ = None
 
 -- the argument in a register
-abbrev pub argument : {A : Type 0} → State → ℕ → (Tagged → Option A) → Option A
+abbrev pub argument : {A : Type 0} → RunState → ℕ → (Tagged → Option A) → Option A
 argument s r given = also (s.registers r) given
 
 -- a map by its descriptor
-pub record Given : Type 0 where
+pub record GivenMap : Type 0 where
   pub descriptor : ℕ
   pub map : RunMap
 
-abbrev pub map_argument : State → ℕ → Option Given
+abbrev pub map_argument : RunState → ℕ → Option GivenMap
 map_argument s r = also (argument s r map_given) (λ m. also (s.maps m) (λ t. Some (record { descriptor = m; map = t })))
 
 -- ---- the calls
@@ -142,17 +142,17 @@ map_argument s r = also (argument s r map_given) (λ m. also (s.maps m) (λ t. S
 abbrev pub after_call : (ℕ → Option Tagged) → Tagged → ℕ → Option Tagged
 after_call registers v r = if r == 0 then Some v else (if nat_le r 5 then None else registers r)
 
-abbrev pub returns : State → Tagged → State
+abbrev pub returns : RunState → Tagged → RunState
 returns s v = record s { registers = after_call s.registers v }
 
 -- what a call of map m leaves: another map, and that memory was refused, if it was
-abbrev pub with_reply : State → ℕ → Reply → State
+abbrev pub with_reply : RunState → ℕ → MapReply → RunState
 with_reply s m reply = with_refusal (with_map s m reply.map) reply.refused
 
-abbrev pub replies : State → ℕ → Reply → State
+abbrev pub replies : RunState → ℕ → MapReply → RunState
 replies s m reply = returns (with_reply s m reply) (Scalar reply.answer)
 
-abbrev pub called : Bool → Helper → State → Option State
+abbrev pub called : Bool → Helper → RunState → Option RunState
 called refused LookUp s =
     also (map_argument s 1) (λ g. also (argument s 2 (λ p. input s p g.map.table.shape.key_size)) (λ key.
     Some (returns s (looked_up g.descriptor (look_up g.map.table key)))))

@@ -1,4 +1,4 @@
--- Laws of maps, whatever their objects are.
+-- Laws of maps, whatever their objects are. The calls are those of bpf(2); the laws are this project's own.
 use Rattle.std.specs.Prelude.{◌≡◌, ◌≢◌, ℕ, List, Some, None, option_map}
 use Rattle.std.specs.Result.{result_map_both}
 use Rattle.tagged_model.specs.declared.shape.MapShape.{MapShape}
@@ -7,7 +7,7 @@ use Rattle.tagged_model.specs.Table as map
 
 -- whatever the objects stand for, as their places or the bytes there: the replies are those of the map of what they stand for,
 -- and that map changes as the definition says
-pub record CallsGoAlong (A B : Type 0) : Type 0 where
+pub record CallsRefineValues (A B : Type 0) : Type 0 where
   pub new : (value : A → B) (object : ℕ → A) (shape : MapShape) → map.with_values value (map.new_table object shape) ≡ map.new_table (λ i. value (object i)) shape
   pub found : (value : A → B) (t : map.Table A) (key : List ℕ) → map.look_up (map.with_values value t) key ≡ option_map value (map.look_up t key)
   pub verdict : (value : A → B) (t : map.Table A) (key : List ℕ) (flags : ℕ) → map.verdict (map.with_values value t) key flags ≡ map.verdict_with value (map.verdict t key flags)
@@ -18,7 +18,7 @@ pub record CallsGoAlong (A B : Type 0) : Type 0 where
   pub end : (value : A → B) (t : map.Table A) → map.with_values value (map.after_run t) ≡ map.after_run (map.with_values value t)
 
 -- a key that is present is found, and a new one is not; no verdict is want of memory
-pub record VerdictsTell (A : Type 0) : Type 0 where
+pub record MapVerdictsMatchLookUps (A : Type 0) : Type 0 where
   pub present : (t : map.Table A) (key : List ℕ) (flags : ℕ) (object : A) → map.verdict t key flags ≡ map.Present object → map.look_up t key ≡ Some object
   pub new : (t : map.Table A) (key : List ℕ) (flags : ℕ) → map.verdict t key flags ≡ map.New → map.look_up t key ≡ None
   pub memory : (t : map.Table A) (key : List ℕ) (flags : ℕ) → map.verdict t key flags ≢ map.Refused Memory

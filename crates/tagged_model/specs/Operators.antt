@@ -17,14 +17,14 @@ use Rattle.interval.specs.declared.operator.Operator.{Operator}
 use Rattle.interval.specs.declared.operator.Operator.TheVariants.{Add, Sub, Mul, Div, SignedDiv, Or, And, ShiftLeft, ShiftRight, Mod, SignedMod, Xor, Mov, SignedShiftRight}
 use Rattle.interval.specs.declared.operator.Comparison.{Comparison}
 use Rattle.interval.specs.declared.operator.Comparison.TheVariants.{Equal, NotEqual, Above, AboveOrEqual, Below, BelowOrEqual, SignedAbove, SignedAboveOrEqual, SignedBelow, SignedBelowOrEqual, CommonBit}
-use Rattle.interval.specs.declared.operator.Bits.{Bits as WordBits}
-use Rattle.interval.specs.declared.operator.Bits.TheVariants.{Bits16, Bits32, Bits64}
-use Rattle.interval.specs.declared.operator.Narrow.{Narrow as WordNarrow}
-use Rattle.interval.specs.declared.operator.Narrow.TheVariants as word
-use Rattle.interval.specs.declared.operator.ByteOrder.{ByteOrder as WordOrder}
-use Rattle.interval.specs.declared.operator.ByteOrder.TheVariants.{Little, Big, Swap}
-use Rattle.reg_kinds.specs.declared.stack.Size.{Size as AccessSize}
-use Rattle.reg_kinds.specs.declared.stack.Size.TheVariants.{Byte, Half, Word, Double}
+use Rattle.interval.specs.declared.operator.KeptBits.{KeptBits}
+use Rattle.interval.specs.declared.operator.KeptBits.TheVariants.{Bits16, Bits32, Bits64}
+use Rattle.interval.specs.declared.operator.ExtendedBits.{ExtendedBits}
+use Rattle.interval.specs.declared.operator.ExtendedBits.TheVariants as word
+use Rattle.interval.specs.declared.operator.OrderChange.{OrderChange}
+use Rattle.interval.specs.declared.operator.OrderChange.TheVariants.{Little, Big, Swap}
+use Rattle.reg_kinds.specs.declared.stack.AccessSize.{AccessSize}
+use Rattle.reg_kinds.specs.declared.stack.AccessSize.TheVariants.{Byte, Half, Word, Double}
 
 -- the bits of a class: 64, or the low 32
 abbrev pub width : Bool → ℕ
@@ -60,17 +60,17 @@ comparison_of condition.BelowOrEqual = BelowOrEqual
 comparison_of condition.SignedBelow = SignedBelow
 comparison_of condition.SignedBelowOrEqual = SignedBelowOrEqual
 
-abbrev pub narrow_of : Narrow → WordNarrow
+abbrev pub narrow_of : Narrow → ExtendedBits
 narrow_of narrow.Bits8 = word.Bits8
 narrow_of narrow.Bits16 = word.Bits16
 narrow_of narrow.Bits32 = word.Bits32
 
-abbrev pub order_of : ByteOrder → WordOrder
+abbrev pub order_of : ByteOrder → OrderChange
 order_of order.Little = Little
 order_of order.Big = Big
 order_of order.Swap = Swap
 
-abbrev pub kept_of : Bits → WordBits
+abbrev pub kept_of : Bits → KeptBits
 kept_of bits.Bits16 = Bits16
 kept_of bits.Bits32 = Bits32
 kept_of bits.Bits64 = Bits64

@@ -1,7 +1,7 @@
 //! Laws of maps, of facts, and of the states that facts admit. Each is the contract of a function that does nothing.
 
 ghost use Rattle.std.specs.Prelude.{ℕ, List};
-ghost use Rattle.tagged_model.specs.MapLaws.{CallsGoAlong, VerdictsTell};
+ghost use Rattle.tagged_model.specs.MapLaws.{CallsRefineValues, MapVerdictsMatchLookUps};
 ghost use Rattle.tagged_model.specs.Laws.{JoinAdmits, StackReadAdmits, StackWriteAdmits, StackInputAdmits, StackOutputAdmits, ObjectReadAdmits, ObjectWriteAdmits, ValueLoadAdmits, ValueStoreAdmits, MapCallsKeep, MapChangeAdmits, CallAdmits, SiteAdmits, NullTestAdmits, RefusalsAreTold};
 
 use interval::hull_is_a_join;
@@ -57,16 +57,16 @@ pub fn value_store_admits()
 
 /// A map of objects, and the map of what they stand for, answer the same and change alike: where numbers stand for numbers, as
 /// objects for places, and where they stand for bytes.
-pub fn calls_go_along()
-    ensures numbers { CallsGoAlong ℕ ℕ }
-    ensures bytes { CallsGoAlong ℕ (List ℕ) }
+pub fn calls_refine_values()
+    ensures numbers { CallsRefineValues ℕ ℕ }
+    ensures bytes { CallsRefineValues ℕ (List ℕ) }
 {}
 
 /// What the verdict on an update tells of its key: where it is present it is found, where it is new it is not. No verdict is
 /// want of memory.
-pub fn map_verdicts_tell()
-    ensures numbers { VerdictsTell ℕ }
-    ensures bytes { VerdictsTell (List ℕ) }
+pub fn map_verdicts_match_look_ups()
+    ensures numbers { MapVerdictsMatchLookUps ℕ }
+    ensures bytes { MapVerdictsMatchLookUps (List ℕ) }
 {}
 
 /// What the calls of a map keep.

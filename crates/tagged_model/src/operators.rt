@@ -51,49 +51,49 @@ pub fn comparison(condition: Condition) -> Comparison
 
 /// The bits that a sign extension starts from.
 #[inline(always)]
-pub fn narrow(bits: Narrow) -> interval::Narrow
+pub fn narrow(bits: Narrow) -> interval::ExtendedBits
     ensures { result ≡ narrow_of bits }
 {
     match bits {
-        Narrow::Bits8 => interval::Narrow::Bits8,
-        Narrow::Bits16 => interval::Narrow::Bits16,
-        Narrow::Bits32 => interval::Narrow::Bits32,
+        Narrow::Bits8 => interval::ExtendedBits::Bits8,
+        Narrow::Bits16 => interval::ExtendedBits::Bits16,
+        Narrow::Bits32 => interval::ExtendedBits::Bits32,
     }
 }
 
 /// The change of byte order.
 #[inline(always)]
-pub fn byte_order(how: ByteOrder) -> interval::ByteOrder
+pub fn byte_order(how: ByteOrder) -> interval::OrderChange
     ensures { result ≡ order_of how }
 {
     match how {
-        ByteOrder::Little => interval::ByteOrder::Little,
-        ByteOrder::Big => interval::ByteOrder::Big,
-        ByteOrder::Swap => interval::ByteOrder::Swap,
+        ByteOrder::Little => interval::OrderChange::Little,
+        ByteOrder::Big => interval::OrderChange::Big,
+        ByteOrder::Swap => interval::OrderChange::Swap,
     }
 }
 
 /// The bits that a change of byte order keeps.
 #[inline(always)]
-pub fn kept_bits(bits: Bits) -> interval::Bits
+pub fn kept_bits(bits: Bits) -> interval::KeptBits
     ensures { result ≡ kept_of bits }
 {
     match bits {
-        Bits::Bits16 => interval::Bits::Bits16,
-        Bits::Bits32 => interval::Bits::Bits32,
-        Bits::Bits64 => interval::Bits::Bits64,
+        Bits::Bits16 => interval::KeptBits::Bits16,
+        Bits::Bits32 => interval::KeptBits::Bits32,
+        Bits::Bits64 => interval::KeptBits::Bits64,
     }
 }
 
 /// The size of a load or a store.
 #[inline(always)]
-pub fn access_size(size: Size) -> reg_kinds::Size
+pub fn access_size(size: Size) -> reg_kinds::AccessSize
     ensures { result ≡ size_of size }
 {
     match size {
-        Size::Byte => reg_kinds::Size::Byte,
-        Size::Half => reg_kinds::Size::Half,
-        Size::Word => reg_kinds::Size::Word,
-        Size::Double => reg_kinds::Size::Double,
+        Size::Byte => reg_kinds::AccessSize::Byte,
+        Size::Half => reg_kinds::AccessSize::Half,
+        Size::Word => reg_kinds::AccessSize::Word,
+        Size::Double => reg_kinds::AccessSize::Double,
     }
 }

@@ -74,9 +74,12 @@ impl MapShape {
         max_entries: u32,
         flags: u32,
     ) -> Result<MapShape, ShapeFault>
-        ensures made { IfOk result (λ s. (s.kind ≡ kind) × (s.key_size ≡ key_size) × (s.value_size ≡ value_size) × (s.max_entries ≡ max_entries)) }
-        ensures listed { OnOk result (shape_fault kind key_size value_size max_entries flags ≡ None) }
-        ensures fault { IfErr result (λ e. shape_fault kind key_size value_size max_entries flags ≡ Some e) }
+        ensures made { IfOk result (λ s. (s.kind ≡ kind) × (s.key_size ≡ key_size)
+            × (s.value_size ≡ value_size) × (s.max_entries ≡ max_entries)) }
+        ensures listed { OnOk result (shape_fault kind key_size value_size max_entries flags
+            ≡ None) }
+        ensures fault { IfErr result (λ e. shape_fault kind key_size value_size max_entries flags
+            ≡ Some e) }
     {
         let has_key = match kind {
             MapKind::Hash => key_size >= 1 && key_size <= LONGEST_KEY,

@@ -7,14 +7,14 @@ use Rattle.std.specs.Option.{option_map_or}
 use Rattle.std.proofs.lemmas.Bool.{eq-eqb}
 use Rattle.std.proofs.lemmas.List.{ext_get_or}
 use Rattle.std.proofs.lemmas.Option.{none-some, get_or_from_slice_get}
-use Rattle.bpf_maps.specs.Live.{Tenant, holds_at, shape_at, map_in}
+use Rattle.bpf_maps.specs.Live.{LiveMaps, holds_at, shape_at, map_in}
 use Rattle.fd_table.specs.Table.{first, named, without, flattened}
-use Rattle.tenant.specs.declared.object.Object.{Object}
-use Rattle.tenant.specs.declared.object.Object.TheVariants as object
-use Rattle.tenant.specs.Loaded.{Loaded}
+use Rattle.tenant.specs.declared.object.OpenObject.{OpenObject}
+use Rattle.tenant.specs.declared.object.OpenObject.TheVariants as object
+use Rattle.tenant.specs.Loaded.{LoadedProgram}
 use Rattle.tenant.specs.State.{Map, total, names, is_named, named_from, with_objects}
-use Rattle.tenant.specs.Kept.{Kept, IsKept, IsPlaced, IsBound, holds_in, times, weight, by_descriptor, holders, maps_in, state_in}
-use Rattle.tenant.specs.Leaves.{Leaves}
+use Rattle.tenant.specs.Kept.{KeptTenant, IsWellFormedTenant, MapsAreAtPlaces, IsBound, holds_in, times, weight, by_descriptor, holders, maps_in, state_in}
+use Rattle.tenant.specs.inside.Leaves.{LeavesHeldMaps}
 use Rattle.tenant.proofs.Sums.{total-unset, total-part}
 use Rattle.tenant.proofs.Opened.{unset_cases}
 use Rattle.tenant.proofs.LookUps.{get_or-map_some}
@@ -43,16 +43,16 @@ tells_times place [] = inr (refl, refl)
 tells_times place (m ∷ ms) =
     tells_or (m.1 == place) (list_any (λ m. m.1 == place) ms) (if m.1 == place then 1 else 0) (times place ms) (tells_if (m.1 == place)) (tells_times place ms)
 
-tells_names : (place : ℕ) (o : Object) → Tells (names place o) (weight place o)
+tells_names : (place : ℕ) (o : OpenObject) → Tells (names place o) (weight place o)
 tells_names place (object.Map p) = tells_if (p == place)
 tells_names place (object.Program l) = tells_times place l.maps
 
-tells_first : (place : ℕ) (o : Option Object) → Tells (option_map_or (names place) o false) (option_map_or (weight place) o 0)
+tells_first : (place : ℕ) (o : Option OpenObject) → Tells (option_map_or (names place) o false) (option_map_or (weight place) o 0)
 tells_first place None = inr (refl, refl)
 tells_first place (Some o) = tells_names place o
 
 -- a map is named where some hold it
-tells_named : (place : ℕ) (objects : List (Option Object)) → Tells (is_named objects place) (holders place objects)
+tells_named : (place : ℕ) (objects : List (Option OpenObject)) → Tells (is_named objects place) (holders place objects)
 unfolding total
 tells_named place [] = inr (refl, refl)
 tells_named place (o ∷ os) =
@@ -60,7 +60,7 @@ tells_named place (o ∷ os) =
 
 -- ---- the maps that are still named
 
-length-named : (objects : List (Option Object)) (place : ℕ) (ms : List (Option Map)) → length (named_from objects place ms) ≡ length ms
+length-named : (objects : List (Option OpenObject)) (place : ℕ) (ms : List (Option Map)) → length (named_from objects place ms) ≡ length ms
 unfolding named_from
 length-named objects place [] = refl
 length-named objects place (m ∷ ms) = let rest = length-named objects (place + 1) ms in omega arith
@@ -69,7 +69,7 @@ nothing : (b : Bool) → let none : Option Map = None in (if b then none else no
 nothing true = refl
 nothing false = refl
 
-get_or-named : (objects : List (Option Object)) (place i : ℕ) (ms : List (Option Map)) → get_or (named_from objects place ms) i None ≡ (if is_named objects (place + i) then get_or ms i None else None)
+get_or-named : (objects : List (Option OpenObject)) (place i : ℕ) (ms : List (Option Map)) → get_or (named_from objects place ms) i None ≡ (if is_named objects (place + i) then get_or ms i None else None)
 unfolding named_from
 get_or-named objects place i [] = sym (nothing (is_named objects (place + i)))
 get_or-named objects place zero (m ∷ ms) = let e : place ≡ place + 0 = omega arith in ap (λ (p : ℕ). if is_named objects p then m else None) e
@@ -77,13 +77,13 @@ get_or-named objects place (suc i) (m ∷ ms) =
     let e : place + 1 + i ≡ place + suc i = omega arith in
     get_or-named objects (place + 1) i ms ∙ ap (λ (p : ℕ). if is_named objects p then get_or ms i None else None) e
 
-length-maps : (part : List ℕ) (live : Tenant) (keys : List (Option ℕ)) → length (maps_in part live keys) ≡ length keys
+length-maps : (part : List ℕ) (live : LiveMaps) (keys : List (Option ℕ)) → length (maps_in part live keys) ≡ length keys
 length-maps part live [] = refl
 length-maps part live (k ∷ ks) = let rest = length-maps part live ks in omega arith
 
 -- what is left are the maps that something names
-still_named : (objects : List (Option Object)) (keys after : List (Option ℕ)) (live t : Tenant) (part later : List ℕ) → IsPlaced keys live
-    → Leaves (record { keys = keys; live = live; part = part }) (record { keys = after; live = t; part = later }) → ((q : ℕ) → holds_in after t q ≡ holders q objects)
+still_named : (objects : List (Option OpenObject)) (keys after : List (Option ℕ)) (live t : LiveMaps) (part later : List ℕ) → MapsAreAtPlaces keys live
+    → LeavesHeldMaps (record { keys = keys; live = live; part = part }) (record { keys = after; live = t; part = later }) → ((q : ℕ) → holds_in after t q ≡ holders q objects)
     → maps_in later t after ≡ named_from objects 0 (maps_in part live keys)
 still_named objects keys after live t part later is left held =
     ext_get_or None (maps_in later t after) (named_from objects 0 (maps_in part live keys))
@@ -118,14 +118,14 @@ still_named objects keys after live t part later is left held =
 
 -- ---- a descriptor that is closed
 
-abbrev pub kept_closed : Kept → Tenant → List (Option ℕ) → ℕ → Kept
+abbrev pub kept_closed : KeptTenant → LiveMaps → List (Option ℕ) → ℕ → KeptTenant
 kept_closed k t after fd = record { objects = without k.objects fd; keys = after; live = t; refused = k.refused }
 
 -- what it named stood at its place
-pub closed_at : (objects : List (Option Object)) (fd : ℕ) (o : Object) → named objects fd ≡ Some o → (without objects fd ≡ set objects (fd - first) None) × (get_or objects (fd - first) None ≡ Some o)
+pub closed_at : (objects : List (Option OpenObject)) (fd : ℕ) (o : OpenObject) → named objects fd ≡ Some o → (without objects fd ≡ set objects (fd - first) None) × (get_or objects (fd - first) None ≡ Some o)
 closed_at objects fd o opened = by_test (nat_lt fd first) opened
   where
-    at : (x : Option (Option Object)) → slice_get objects (fd - first) ≡ x → flattened x ≡ Some o → get_or objects (fd - first) None ≡ Some o
+    at : (x : Option (Option OpenObject)) → slice_get objects (fd - first) ≡ x → flattened x ≡ Some o → get_or objects (fd - first) None ≡ Some o
     at None e opened = absurd (none-some o opened)
     at (Some x) e opened = get_or_from_slice_get objects (fd - first) x None e ∙ opened
 
@@ -156,9 +156,9 @@ bound_times (m ∷ ms) fd p e = by_test (m.0 == fd) (λ found. bound_times ms fd
     by_test true later e = begins (if m.1 == p then 1 else 0) (times p ms) (one_if (m.1 == p) (eq-eqb m.1 p (inside m.1 p e)))
     by_test false later e = rest (if m.1 == p then 1 else 0) (times p ms) (later e)
 
-pub closed_kept : (k : Kept) (t : Tenant) (after : List (Option ℕ)) (part later : List ℕ) (fd : ℕ) (o : Object) → IsKept k → named k.objects fd ≡ Some o
-    → Leaves (record { keys = k.keys; live = k.live; part = part }) (record { keys = after; live = t; part = later }) → ((q : ℕ) → holds_in after t q + weight q o ≡ holds_in k.keys k.live q)
-    → IsKept (kept_closed k t after fd)
+pub closed_kept : (k : KeptTenant) (t : LiveMaps) (after : List (Option ℕ)) (part later : List ℕ) (fd : ℕ) (o : OpenObject) → IsWellFormedTenant k → named k.objects fd ≡ Some o
+    → LeavesHeldMaps (record { keys = k.keys; live = k.live; part = part }) (record { keys = after; live = t; part = later }) → ((q : ℕ) → holds_in after t q + weight q o ≡ holds_in k.keys k.live q)
+    → IsWellFormedTenant (kept_closed k t after fd)
 closed_kept k t after part later fd o is opened left fewer =
     let (gone, there) = closed_at k.objects fd o opened in
     let n = fd - first in
@@ -168,14 +168,14 @@ closed_kept k t after part later fd o is opened left fewer =
     let was = is.held q in
     let sum = total-unset (weight q) k.objects n o there in
     omega arith in
-    let kept : IsKept (record { objects = objects; keys = after; live = t; refused = k.refused }) = record {
-      all = length-set {A = Option Object} k.objects n None ∙ is.all;
+    let kept : IsWellFormedTenant (record { objects = objects; keys = after; live = t; refused = k.refused }) = record {
+      all = length-set {A = Option OpenObject} k.objects n None ∙ is.all;
       placed = left.placed;
       held = held;
       single = λ q. let was = is.single q in let sum = total-unset (by_descriptor q) k.objects n o there in omega arith;
       bound = λ i l at. still_bound objects held i l at (unset_cases k.objects n i (object.Program l) at).1;
     } in
-    subst (λ (os : List (Option Object)). IsKept (record { objects = os; keys = after; live = t; refused = k.refused })) (sym gone) kept
+    subst (λ (os : List (Option OpenObject)). IsWellFormedTenant (record { objects = os; keys = after; live = t; refused = k.refused })) (sym gone) kept
   where
     inside : (a b : ℕ) → Some a ≡ Some b → a ≡ b
     inside a b e = cc
@@ -184,7 +184,7 @@ closed_kept k t after part later fd o is opened left fewer =
     key_of q None e some = absurd (let none : holds_in after t q ≡ 0 = ap (λ (o : Option ℕ). option_map_or (holds_at t) o 0) e in omega arith)
     key_of q (Some key) e some = (key, e)
 
-    still_bound : (objects : List (Option Object)) → ((q : ℕ) → holds_in after t q ≡ holders q objects) → (i : ℕ) (l : Loaded) → get_or objects i None ≡ Some (object.Program l) → get_or k.objects i None ≡ Some (object.Program l)
+    still_bound : (objects : List (Option OpenObject)) → ((q : ℕ) → holds_in after t q ≡ holders q objects) → (i : ℕ) (l : LoadedProgram) → get_or objects i None ≡ Some (object.Program l) → get_or k.objects i None ≡ Some (object.Program l)
         → IsBound (record { objects = objects; keys = after; live = t; refused = k.refused }) l
     still_bound objects held i l at stood = let was = is.bound i l stood in record {
       each = was.each;
@@ -200,21 +200,21 @@ closed_kept k t after part later fd o is opened left fewer =
           (now, there, shaped ∙ ap Some (ap (λ (n : ℕ). shape_at k.live n) one ∙ sym (ap (λ (m : Map). m.shape) same)));
     }
 
-pub closed_state : (k : Kept) (t : Tenant) (after : List (Option ℕ)) (part later : List ℕ) (fd : ℕ) (o : Object) → IsKept k → named k.objects fd ≡ Some o
-    → Leaves (record { keys = k.keys; live = k.live; part = part }) (record { keys = after; live = t; part = later }) → IsKept (kept_closed k t after fd)
+pub closed_state : (k : KeptTenant) (t : LiveMaps) (after : List (Option ℕ)) (part later : List ℕ) (fd : ℕ) (o : OpenObject) → IsWellFormedTenant k → named k.objects fd ≡ Some o
+    → LeavesHeldMaps (record { keys = k.keys; live = k.live; part = part }) (record { keys = after; live = t; part = later }) → IsWellFormedTenant (kept_closed k t after fd)
     → state_in later (kept_closed k t after fd) ≡ with_objects (state_in part k) (without k.objects fd)
 closed_state k t after part later fd o is opened left now =
     ap₂ (λ (ms : List (Option Map)) (refused : Bool). record { objects = without k.objects fd; maps = ms; refused = k.refused || refused })
     (still_named (without k.objects fd) k.keys after k.live t part later is.placed left now.held) left.refused
 
 -- a descriptor that is not open
-pub nothing_closed : (objects : List (Option Object)) (fd : ℕ) → named objects fd ≡ None → without objects fd ≡ objects
+pub nothing_closed : (objects : List (Option OpenObject)) (fd : ℕ) → named objects fd ≡ None → without objects fd ≡ objects
 nothing_closed objects fd e = by_test (nat_lt fd first) e
   where
-    same : (xs : List (Option Object)) (n : ℕ) → flattened (slice_get xs n) ≡ None → set xs n None ≡ xs
+    same : (xs : List (Option OpenObject)) (n : ℕ) → flattened (slice_get xs n) ≡ None → set xs n None ≡ xs
     same [] n e = refl
-    same (x ∷ xs) zero e = ap (λ (y : Option Object). y ∷ xs) (sym e)
-    same (x ∷ xs) (suc n) e = ap (λ (ys : List (Option Object)). x ∷ ys) (same xs n e)
+    same (x ∷ xs) zero e = ap (λ (y : Option OpenObject). y ∷ xs) (sym e)
+    same (x ∷ xs) (suc n) e = ap (λ (ys : List (Option OpenObject)). x ∷ ys) (same xs n e)
 
     by_test : (low : Bool) → (if low then None else flattened (slice_get objects (fd - first))) ≡ None → (if low then objects else set objects (fd - first) None) ≡ objects
     by_test true e = refl

@@ -4,27 +4,27 @@ use Rattle.std.specs.Prelude.{◌==◌, if◌then◌else◌}
 use Rattle.std.specs.Result.{result_map_both}
 use Rattle.std.proofs.Math.Path.{fun_ext}
 use Rattle.std.proofs.lemmas.Bool.{eq-eqb}
-use Rattle.bpf_maps.specs.Live.{Tenant, live_at, places_at, shape_at, map_in, value_in, SameAreas}
+use Rattle.bpf_maps.specs.Live.{LiveMaps, live_at, places_at, shape_at, map_in, value_in, SameAreas}
 use Rattle.bpf_maps.specs.Places.{PlaceTable, table_of, Removes, with_kept, after_run}
 use Rattle.bpf_maps.specs.Laws.{CallsAreThoseOfAMap, AreasKeepPlaces}
 use Rattle.fd_table.specs.Table.{named}
-use Rattle.tagged_model.specs.MapLaws.{CallsGoAlong}
+use Rattle.tagged_model.specs.MapLaws.{CallsRefineValues}
 use Rattle.tagged_model.specs.declared.fault.MapFault.{MapFault}
 use Rattle.tagged_model.specs.declared.shape.MapShape.{MapShape}
 use Rattle.tagged_model.specs.Table as call
 use Rattle.tagged_model.specs.Table.{removal, with_deleted, with_values}
 use Rattle.tenant.specs.declared.errno.Errno.TheVariants.{Invalid}
-use Rattle.tenant.specs.declared.object.Object.TheVariants as object
-use Rattle.tenant.specs.State.{Map, State}
+use Rattle.tenant.specs.declared.object.OpenObject.TheVariants as object
+use Rattle.tenant.specs.State.{Map, TenantState}
 use Rattle.tenant.specs.Machine.{Answer, refuses, taken_out, deleted}
-use Rattle.tenant.specs.Kept.{Kept, key_at, state_in}
+use Rattle.tenant.specs.Kept.{KeptTenant, key_at, state_in}
 use Rattle.tenant.proofs.LookUps.{on_map_is}
 
-abbrev answer_to : State → List ℕ → ℕ → Map → Answer
+abbrev answer_to : TenantState → List ℕ → ℕ → Map → Answer
 answer_to s key place t = if length key == t.shape.key_size then taken_out s place t key (removal t key) else refuses Invalid s
 
 -- the answer is what becomes of the map
-pub delete_is : CallsGoAlong ℕ (List ℕ) → (part : List ℕ) (k : Kept) (fd place m : ℕ) (key : List ℕ) → named k.objects fd ≡ Some (object.Map place) → key_at k place ≡ Some m
+pub delete_is : CallsRefineValues ℕ (List ℕ) → (part : List ℕ) (k : KeptTenant) (fd place m : ℕ) (key : List ℕ) → named k.objects fd ≡ Some (object.Map place) → key_at k place ≡ Some m
     → length key ≡ (shape_at k.live m).key_size
     → deleted (state_in part k) fd key ≡ taken_out (state_in part k) place (map_in part k.live m) key (result_map_both (value_in part k.live m) (λ fault. fault) (removal (table_of (places_at k.live m)) key))
 delete_is along part k fd place m key opened there size =
@@ -35,16 +35,16 @@ delete_is along part k fd place m key opened there size =
     ∙ ap (taken_out s place (map_in part k.live m) key) (along.removal (value_in part k.live m) (table_of (places_at k.live m)) key)
 
 -- the values lie where they lay
-pub same_values : AreasKeepPlaces → (part : List ℕ) (old new : Tenant) (m : ℕ) → SameAreas old new → IsSome (live_at new m) → shape_at new m ≡ shape_at old m → value_in part new m ≡ value_in part old m
+pub same_values : AreasKeepPlaces → (part : List ℕ) (old new : LiveMaps) (m : ℕ) → SameAreas old new → IsSome (live_at new m) → shape_at new m ≡ shape_at old m → value_in part new m ≡ value_in part old m
 same_values areas part old new m same live shape =
     fun_ext (λ p. ap₂ (λ (size start : ℕ). take size (drop start part)) (ap (λ (s : MapShape). s.value_size) shape) (areas old new m p same live))
 
 -- where its places are the same too, the map is the same
-pub same_map : (part : List ℕ) (old new : Tenant) (m : ℕ) → value_in part new m ≡ value_in part old m → places_at new m ≡ places_at old m → map_in part new m ≡ map_in part old m
+pub same_map : (part : List ℕ) (old new : LiveMaps) (m : ℕ) → value_in part new m ≡ value_in part old m → places_at new m ≡ places_at old m → map_in part new m ≡ map_in part old m
 same_map part old new m values places = ap₂ (λ (f : ℕ → List ℕ) (q : PlaceTable). with_values f (table_of q)) values places
 
 -- the map is without the key when the run has ended
-pub map_without : CallsAreThoseOfAMap → CallsGoAlong ℕ (List ℕ) → (part : List ℕ) (old new : Tenant) (m p : ℕ) (key : List ℕ) → value_in part new m ≡ value_in part old m
+pub map_without : CallsAreThoseOfAMap → CallsRefineValues ℕ (List ℕ) → (part : List ℕ) (old new : LiveMaps) (m p : ℕ) (key : List ℕ) → value_in part new m ≡ value_in part old m
     → places_at new m ≡ after_run (with_kept (places_at old m) key p) → map_in part new m ≡ call.after_run (with_deleted (map_in part old m) key)
 map_without calls along part old new m p key values places =
     let t = table_of (places_at old m) in

@@ -20,13 +20,13 @@ use Rattle.tagged_model.specs.Step.{first}
 use Rattle.tagged_model.specs.Table.{verdict, removal, look_up, next_of}
 use Rattle.tenant.specs.declared.errno.Errno.{Errno}
 use Rattle.tenant.specs.declared.errno.Errno.TheVariants.{NotPermitted, TooBig, BadAddress, Invalid}
-use Rattle.tenant.specs.declared.object.Object.{Object}
-use Rattle.tenant.specs.declared.object.Object.TheVariants as object
+use Rattle.tenant.specs.declared.object.OpenObject.{OpenObject}
+use Rattle.tenant.specs.declared.object.OpenObject.TheVariants as object
 use Rattle.command_frames.specs.Frame.{owner, command_number, reply_to}
-use Rattle.tenant.specs.Alone.{AnswersFrame, MayTell, IsFault}
+use Rattle.tenant.specs.Alone.{AnswersFrame, MayReply, IsFault}
 use Rattle.tenant.specs.Errno.{status_of}
-use Rattle.tenant.specs.Machine.{Answer, targets, ran, refuses, codec_errno, verdict_errno, created_as, created_under, created, room_for, kind_of, shape_of, of_object, of_place, on_map, found, put, taken_out, Judgement, accepted, rejected, Judges, judged, LoadsUnder, ended, run_of, longest_packet, closed, Answers}
-use Rattle.tenant.specs.State.{Map, State, live}
+use Rattle.tenant.specs.Machine.{Answer, targets, ran, refuses, codec_errno, verdict_errno, created_as, created_under, created, room_for, kind_of, shape_of, of_object, of_place, on_map, found, put, taken_out, LoadJudgement, accepted, rejected, Judges, judged, LoadsUnder, ended, run_of, longest_packet, closed, Answers}
+use Rattle.tenant.specs.State.{Map, TenantState, live}
 
 -- the lowest byte of a status
 abbrev pub low : ℤ → ℕ
@@ -48,7 +48,7 @@ codec_other kind.SecondSlot e = let wrong : 234 ≡ 242 = e in absurd (omega (ar
 codec_other kind.Ragged e = let wrong : 234 ≡ 242 = e in absurd (omega (arith, wrong))
 codec_other kind.Empty e = let wrong : 249 ≡ 242 = e in absurd (omega (arith, wrong))
 codec_other kind.TooLong e = let wrong : 249 ≡ 242 = e in absurd (omega (arith, wrong))
-codec_other kind.Memory e = let wrong : 234 ≡ 242 = e in absurd (omega (arith, wrong))
+codec_other kind.Memory e = let wrong : 244 ≡ 242 = e in absurd (omega (arith, wrong))
 
 invalid : ◌≢◌ {A = ℕ} 234 242
 invalid e = absurd (omega (arith, e))
@@ -91,50 +91,50 @@ verdict_other reason.Memory = no_memory
 
 -- ---- command by command
 
-bare_as : (b : Bool) (s : State) (shape : MapShape) (fd : ℕ) (o : Option ℕ) → IsBare (created_as b s shape fd o)
+bare_as : (b : Bool) (s : TenantState) (shape : MapShape) (fd : ℕ) (o : Option ℕ) → IsBare (created_as b s shape fd o)
 bare_as b s shape fd None e = refl
 bare_as true s shape fd (Some place) e = refl
 bare_as false s shape fd (Some place) e = refl
 
-bare_under : (b : Bool) (s : State) (shape : MapShape) (o : Option ℕ) → IsBare (created_under b s shape o)
+bare_under : (b : Bool) (s : TenantState) (shape : MapShape) (o : Option ℕ) → IsBare (created_under b s shape o)
 bare_under b s shape None e = refl
 bare_under b s shape (Some fd) e = bare_as b s shape fd (room_for s (area shape.value_size shape.max_entries)) e
 
-bare_created : (b : Bool) (s : State) (r : Result MapShape Errno) → IsBare (created b s r)
+bare_created : (b : Bool) (s : TenantState) (r : Result MapShape Errno) → IsBare (created b s r)
 bare_created b s (Err errno) e = refl
 bare_created b s (Ok shape) e = bare_under b s shape (table.lowest s.objects) e
 
-bare_on_map : (s : State) (fd : ℕ) (f : ℕ → Map → Answer) → ((place : ℕ) (t : Map) → IsBare (f place t)) → IsBare (on_map s fd f)
+bare_on_map : (s : TenantState) (fd : ℕ) (f : ℕ → Map → Answer) → ((place : ℕ) (t : Map) → IsBare (f place t)) → IsBare (on_map s fd f)
 bare_on_map s fd f each e = of_objects (table.named s.objects fd) e
   where
     of_places : (place : ℕ) (o : Option Map) → IsBare (of_place s place f o)
     of_places place None e = refl
     of_places place (Some t) e = each place t e
 
-    of_objects : (o : Option Object) → IsBare (of_object s f o)
+    of_objects : (o : Option OpenObject) → IsBare (of_object s f o)
     of_objects None e = refl
     of_objects (Some (object.Program l)) e = refl
     of_objects (Some (object.Map place)) e = of_places place (live s place) e
 
-bare_if : (right : Bool) (errno : Errno) (s : State) (a : Answer) → IsBare a → IsBare (if right then a else refuses errno s)
+bare_if : (right : Bool) (errno : Errno) (s : TenantState) (a : Answer) → IsBare a → IsBare (if right then a else refuses errno s)
 bare_if true errno s a bare = bare
 bare_if false errno s a bare = λ e. refl
 
-bare_found : (s : State) (o : Option (List ℕ)) → IsBare (found s o)
+bare_found : (s : TenantState) (o : Option (List ℕ)) → IsBare (found s o)
 bare_found s None e = refl
 bare_found s (Some value) e = no_zero value e
 
-bare_put : (b : Bool) (s : State) (place : ℕ) (t : Map) (key value : List ℕ) (v : call.Verdict (List ℕ)) → IsBare (put b s place t key value v)
+bare_put : (b : Bool) (s : TenantState) (place : ℕ) (t : Map) (key value : List ℕ) (v : call.Verdict (List ℕ)) → IsBare (put b s place t key value v)
 bare_put b s place t key value (call.Refused fault) e = refl
 bare_put b s place t key value (call.Present old) e = refl
 bare_put true s place t key value call.New e = refl
 bare_put false s place t key value call.New e = refl
 
-bare_taken : (s : State) (place : ℕ) (t : Map) (key : List ℕ) (r : Result (List ℕ) MapFault) → IsBare (taken_out s place t key r)
+bare_taken : (s : TenantState) (place : ℕ) (t : Map) (key : List ℕ) (r : Result (List ℕ) MapFault) → IsBare (taken_out s place t key r)
 bare_taken s place t key (Err fault) e = refl
 bare_taken s place t key (Ok value) e = refl
 
-bare_judged : (s : State) (fd : ℕ) (slots : List ℕ) (j : Judgement) → Judges (targets s) slots j → IsBare (judged s fd j)
+bare_judged : (s : TenantState) (fd : ℕ) (slots : List ℕ) (j : LoadJudgement) → Judges (targets s) slots j → IsBare (judged s fd j)
 bare_judged s fd slots (accepted insns) h e = refl
 bare_judged s fd slots (rejected errno slot number) (inl (fault, is, same, at, number_is)) e = absurd (codec_other fault.kind (ap (λ (x : Errno). low (status_of x)) (sym same) ∙ e))
 bare_judged s fd slots (rejected errno slot number) (inr (insns, why, program, spelled, refused, same, number_is)) e = absurd (verdict_other why (ap (λ (x : Errno). low (status_of x)) (sym same) ∙ e))
@@ -142,20 +142,20 @@ bare_judged s fd slots (rejected errno slot number) (inr (insns, why, program, s
 bare_told : (a b : Answer) → a ≡ b → IsBare b → IsBare a
 bare_told a b same bare = subst IsBare (sym same) bare
 
-bare_load : (b : Bool) (s : State) (o : Option ℕ) (slots : List ℕ) (a : Answer) → LoadsUnder b s o slots a → IsBare a
+bare_load : (b : Bool) (s : TenantState) (o : Option ℕ) (slots : List ℕ) (a : Answer) → LoadsUnder b s o slots a → IsBare a
 bare_load b s None slots a h = bare_told a _ h (λ e. refl)
 bare_load true s (Some fd) slots a h = bare_told a _ h (λ e. refl)
 bare_load false s (Some fd) slots a (j, is, told) = bare_told a _ told (bare_judged s fd slots j is)
 
-bare_loads : (right b : Bool) (s : State) (slots : List ℕ) (a x : Answer) → x.payload ≡ [] → MatchBool right (LoadsUnder b s (table.lowest s.objects) slots a) (a ≡ x) → IsBare a
+bare_loads : (right b : Bool) (s : TenantState) (slots : List ℕ) (a x : Answer) → x.payload ≡ [] → MatchBool right (LoadsUnder b s (table.lowest s.objects) slots a) (a ≡ x) → IsBare a
 bare_loads true b s slots a x plain h = bare_load b s (table.lowest s.objects) slots a h
 bare_loads false b s slots a x plain h = λ e. ap (λ (y : Answer). y.payload) h ∙ plain
 
-bare_ended : (o : Outcome) (s : State) → IsBare (ended o s)
+bare_ended : (o : Outcome) (s : TenantState) → IsBare (ended o s)
 bare_ended (Value n) s e = no_zero (little_bytes 4 n) e
 bare_ended Fault s e = refl
 
-bare_run : (refusals : List Bool) (s : State) (words packet : List ℕ) (o : Option Object) → IsBare (run_of refusals s words packet o)
+bare_run : (refusals : List Bool) (s : TenantState) (words packet : List ℕ) (o : Option OpenObject) → IsBare (run_of refusals s words packet o)
 bare_run refusals s words packet None e = refl
 bare_run refusals s words packet (Some (object.Map place)) e = refl
 bare_run refusals s words packet (Some (object.Program l)) e = by_length (nat_lt longest_packet (length packet)) e
@@ -164,11 +164,11 @@ bare_run refusals s words packet (Some (object.Program l)) e = by_length (nat_lt
     by_length true e = refl
     by_length false e = bare_ended _ _ e
 
-bare_closed : (s : State) (fd : ℕ) (o : Option Object) → IsBare (closed s fd o)
+bare_closed : (s : TenantState) (fd : ℕ) (o : Option OpenObject) → IsBare (closed s fd o)
 bare_closed s fd None e = refl
 bare_closed s fd (Some o) e = refl
 
-bare_answer : (refusals : List Bool) (s : State) (command : Command) (a : Answer) → Answers refusals s command a → IsBare a
+bare_answer : (refusals : List Bool) (s : TenantState) (command : Command) (a : Answer) → Answers refusals s command a → IsBare a
 bare_answer refusals s (map_create kind key value max flags) a h = bare_told a _ h (bare_created (first refusals) s (shape_of (kind_of kind) key value max flags))
 bare_answer refusals s (map_lookup fd key) a h =
     bare_told a _ h (bare_on_map s fd _ (λ place t. bare_if (length key == t.shape.key_size) Invalid s (found s (look_up t key)) (bare_found s (look_up t key))))
@@ -183,7 +183,7 @@ bare_answer refusals s (prog_load kind slots) a h = bare_loads (kind == 1) (firs
 bare_answer refusals s (prog_test_run fd words packet) a h = bare_told a _ h (bare_run refusals s words packet (table.named s.objects fd))
 bare_answer refusals s (close fd) a h = bare_told a _ h (bare_closed s fd (table.named s.objects fd))
 
-bare_frame : (refusals : List Bool) (s : State) (r : Result Command BadFrame) (a : Answer) → AnswersFrame refusals s r a → IsBare a
+bare_frame : (refusals : List Bool) (s : TenantState) (r : Result Command BadFrame) (a : Answer) → AnswersFrame refusals s r a → IsBare a
 bare_frame refusals s (Err fault) a h = bare_told a _ h (λ e. refl)
 bare_frame refusals s (Ok command) a h = bare_answer refusals s command a h
 
@@ -199,7 +199,7 @@ same_status frame status payload e none =
     ap (λ (p : List ℕ). reply_to frame status p) none
     ∙ ap (λ (b : List ℕ). little_bytes 4 8 ++ (little_bytes 2 (owner frame) ++ (little_bytes 2 (command_number frame) ++ b))) e
 
-pub faults_have_no_payload : (frame reply : List ℕ) (before after : Option State) → MayTell frame reply before after → IsFault reply → reply ≡ reply_to frame (status_of BadAddress) []
+pub faults_have_no_payload : (frame reply : List ℕ) (before after : Option TenantState) → MayReply frame reply before after → IsFault reply → reply ≡ reply_to frame (status_of BadAddress) []
 faults_have_no_payload frame reply None after (refusals, (goes, told)) e = absurd (unserved (nat_lt (length frame) 4) frame (subst IsFault told e))
 faults_have_no_payload frame reply (Some s) after (refusals, (a, answers, told, goes)) e =
     let fault = subst IsFault told e in

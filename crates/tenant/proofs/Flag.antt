@@ -9,65 +9,65 @@ use Rattle.tagged_model.specs.declared.value.Outcome.{Outcome}
 use Rattle.tagged_model.specs.declared.value.Outcome.TheVariants.{Value, Fault}
 use Rattle.tagged_model.specs.Table as call
 use Rattle.tagged_model.specs.Shape.{area}
-use Rattle.tenant.specs.declared.object.Object.{Object}
-use Rattle.tenant.specs.declared.object.Object.TheVariants as object
+use Rattle.tenant.specs.declared.object.OpenObject.{OpenObject}
+use Rattle.tenant.specs.declared.object.OpenObject.TheVariants as object
 use Rattle.tagged_model.specs.Step.{first, Ending, run_with, left_with, was_refused, last_map}
 use Rattle.tagged_model.specs.Laws.{RefusalsAreTold}
 use Rattle.tagged_model.specs.Table.{verdict, removal, look_up, next_of}
 use Rattle.tenant.specs.declared.errno.Errno.{Errno}
 use Rattle.tenant.specs.declared.errno.Errno.TheVariants.{Invalid, TooBig}
-use Rattle.tenant.specs.Loaded.{Loaded}
-use Rattle.tenant.specs.State.{Map, State, live}
+use Rattle.tenant.specs.Loaded.{LoadedProgram}
+use Rattle.tenant.specs.State.{Map, TenantState, live}
 use Rattle.command_frames.specs.declared.command.BadFrame.{BadFrame}
-use Rattle.tenant.specs.Alone.{AnswersFrame, Tells, MayTell, Alone, AloneWithRefusals}
-use Rattle.tenant.specs.Machine.{Answer, of_object, of_place, on_map, put, created_at, created_as, created_under, created, room_for, kind_of, shape_of, refuses, maps_left, maps_given, ended, ran, run_of, longest_packet, LoadsAs, LoadsUnder, Answers, Judgement, accepted, rejected, judged, found, taken_out, closed}
+use Rattle.tenant.specs.Alone.{AnswersFrame, RepliesUnder, MayReply, Alone, AloneWithRefusals}
+use Rattle.tenant.specs.Machine.{Answer, of_object, of_place, on_map, put, created_at, created_as, created_under, created, room_for, kind_of, shape_of, refuses, maps_left, maps_given, ended, ran, run_of, longest_packet, LoadsAs, LoadsUnder, Answers, LoadJudgement, accepted, rejected, judged, found, taken_out, closed}
 
 -- an answer with these refusals, and the one without: where the flag is clear after the first, they are one, and it was clear
-abbrev pub Clear : State → Answer → Answer → Type 0
+abbrev pub Clear : TenantState → Answer → Answer → Type 0
 Clear s a b = a.after.refused ≡ false → (a ≡ b) × (s.refused ≡ false)
 
 no : (A : Type 0) → true ≡ false → A
 no A e = absurd (let wrong : true ≡ false = e in cc wrong)
 
-clear_at : (b : Bool) (s : State) (shape : MapShape) (fd place : ℕ) → Clear s (created_at b s shape fd place) (created_at false s shape fd place)
+clear_at : (b : Bool) (s : TenantState) (shape : MapShape) (fd place : ℕ) → Clear s (created_at b s shape fd place) (created_at false s shape fd place)
 clear_at true s shape fd place e = no _ e
 clear_at false s shape fd place e = (refl, e)
 
-clear_as : (b : Bool) (s : State) (shape : MapShape) (fd : ℕ) (o : Option ℕ) → Clear s (created_as b s shape fd o) (created_as false s shape fd o)
+clear_as : (b : Bool) (s : TenantState) (shape : MapShape) (fd : ℕ) (o : Option ℕ) → Clear s (created_as b s shape fd o) (created_as false s shape fd o)
 clear_as b s shape fd None e = (refl, e)
 clear_as b s shape fd (Some place) e = clear_at b s shape fd place e
 
-clear_under : (b : Bool) (s : State) (shape : MapShape) (o : Option ℕ) → Clear s (created_under b s shape o) (created_under false s shape o)
+clear_under : (b : Bool) (s : TenantState) (shape : MapShape) (o : Option ℕ) → Clear s (created_under b s shape o) (created_under false s shape o)
 clear_under b s shape None e = (refl, e)
 clear_under b s shape (Some fd) e = clear_as b s shape fd (room_for s (area shape.value_size shape.max_entries)) e
 
-pub clear_created : (b : Bool) (s : State) (r : Result MapShape Errno) → Clear s (created b s r) (created false s r)
+pub clear_created : (b : Bool) (s : TenantState) (r : Result MapShape Errno) → Clear s (created b s r) (created false s r)
 clear_created b s (Err errno) e = (refl, e)
 clear_created b s (Ok shape) e = clear_under b s shape (table.lowest s.objects) e
 
 -- ---- the calls of a map
 
-pub clear_on_map : (s : State) (fd : ℕ) (f g : ℕ → Map → Answer) → ((place : ℕ) (t : Map) → Clear s (f place t) (g place t)) → Clear s (on_map s fd f) (on_map s fd g)
+pub clear_on_map : (s : TenantState) (fd : ℕ) (f g : ℕ → Map → Answer) → ((place : ℕ) (t : Map) → Clear s (f place t) (g place t)) → Clear s (on_map s fd f) (on_map s fd g)
 clear_on_map s fd f g each e = of_objects (table.named s.objects fd) e
   where
     of_places : (place : ℕ) (o : Option Map) → Clear s (of_place s place f o) (of_place s place g o)
     of_places place None e = (refl, e)
     of_places place (Some t) e = each place t e
 
-    of_objects : (o : Option Object) → Clear s (of_object s f o) (of_object s g o)
+    of_objects : (o : Option OpenObject) → Clear s (of_object s f o) (of_object s g o)
     of_objects None e = (refl, e)
     of_objects (Some (object.Program l)) e = (refl, e)
     of_objects (Some (object.Map place)) e = of_places place (live s place) e
 
-clear_put : (b : Bool) (s : State) (place : ℕ) (t : Map) (key value : List ℕ) (v : call.Verdict (List ℕ)) → Clear s (put b s place t key value v) (put false s place t key value v)
+clear_put : (b : Bool) (s : TenantState) (place : ℕ) (t : Map) (key value : List ℕ) (v : call.Verdict (List ℕ)) → Clear s (put b s place t key value v) (put false s place t key value v)
 clear_put b s place t key value (call.Refused fault) e = (refl, e)
 clear_put b s place t key value (call.Present old) e = (refl, e)
 clear_put true s place t key value call.New e = no _ e
 clear_put false s place t key value call.New e = (refl, e)
 
-clear_if : (right : Bool) (s : State) (a b x : Answer) → Clear s a b → x.after ≡ s → Clear s (if right then a else x) (if right then b else x)
+clear_if : (right : Bool) (s : TenantState) (a b x : Answer) → Clear s a b → x.after ≡ s → Clear s (if right then a else x) (if right then b else x)
 clear_if true s a b x clear stays e = clear e
-clear_if false s a b x clear stays e = (refl, sym (ap (λ (t : State). t.refused) stays) ∙ e)
+clear_if false s a b x clear stays e = (refl, sym (ap (λ (t : TenantState). t.refused) stays) ∙ e)
 
 -- ---- a test run
 
@@ -75,30 +75,30 @@ or_both : (a b : Bool) → (a || b) ≡ false → (a ≡ false) × (b ≡ false)
 or_both true b e = no _ e
 or_both false b e = (refl, e)
 
-ended_after : (o : Outcome) (s : State) → (ended o s).after ≡ s
+ended_after : (o : Outcome) (s : TenantState) → (ended o s).after ≡ s
 ended_after (Value n) s = refl
 ended_after Fault s = refl
 
-abbrev with_run : State → List (Option Map) → Bool → State
+abbrev with_run : TenantState → List (Option Map) → Bool → TenantState
 with_run s maps refused = record s { maps = maps; refused = s.refused || refused }
 
 -- the answer to a run that came to this
-abbrev came_to : State → Loaded → Ending → Answer
+abbrev came_to : TenantState → LoadedProgram → Ending → Answer
 came_to s l e =
     ended e.outcome (with_run s (maps_left (λ m. option_map last_map (e.state.maps m)) l.maps s.maps) e.state.refused)
 
-clear_ran : RefusalsAreTold → (r : List Bool) (s : State) (l : Loaded) (words packet : List ℕ) → Clear s (ran r s l words packet) (ran [] s l words packet)
+clear_ran : RefusalsAreTold → (r : List Bool) (s : TenantState) (l : LoadedProgram) (words packet : List ℕ) → Clear s (ran r s l words packet) (ran [] s l words packet)
 clear_ran tell r s l words packet e =
     let given = maps_given s l in
     let context = length packet ∷ words in
     let run = run_with r l.insns given context packet in
     let left = maps_left (left_with r l.insns given context packet) l.maps s.maps in
     let flag = was_refused r l.insns given context packet in
-    let after : (s.refused || flag) ≡ false = sym (ap (λ (t : State). t.refused) (ended_after run.outcome (with_run s left flag))) ∙ e in
+    let after : (s.refused || flag) ≡ false = sym (ap (λ (t : TenantState). t.refused) (ended_after run.outcome (with_run s left flag))) ∙ e in
     let both = or_both s.refused flag after in
     (ap (came_to s l) (tell.clear r l.insns given context packet both.1), both.0)
 
-clear_run : RefusalsAreTold → (r : List Bool) (s : State) (words packet : List ℕ) (o : Option Object) → Clear s (run_of r s words packet o) (run_of [] s words packet o)
+clear_run : RefusalsAreTold → (r : List Bool) (s : TenantState) (words packet : List ℕ) (o : Option OpenObject) → Clear s (run_of r s words packet o) (run_of [] s words packet o)
 clear_run tell r s words packet None e = (refl, e)
 clear_run tell r s words packet (Some (object.Map place)) e = (refl, e)
 clear_run tell r s words packet (Some (object.Program l)) e = by_length (nat_lt longest_packet (length packet)) e
@@ -109,26 +109,26 @@ clear_run tell r s words packet (Some (object.Program l)) e = by_length (nat_lt 
 
 -- ---- a load
 
-loads_as : (b : Bool) (s : State) (fd : ℕ) (slots : List ℕ) (a : Answer) → LoadsAs b s fd slots a → a.after.refused ≡ false → LoadsAs false s fd slots a
+loads_as : (b : Bool) (s : TenantState) (fd : ℕ) (slots : List ℕ) (a : Answer) → LoadsAs b s fd slots a → a.after.refused ≡ false → LoadsAs false s fd slots a
 loads_as true s fd slots a is e = no _ (sym (ap (λ (x : Answer). x.after.refused) is) ∙ e)
 loads_as false s fd slots a is e = is
 
-loads_under : (b : Bool) (s : State) (o : Option ℕ) (slots : List ℕ) (a : Answer) → LoadsUnder b s o slots a → a.after.refused ≡ false → LoadsUnder false s o slots a
+loads_under : (b : Bool) (s : TenantState) (o : Option ℕ) (slots : List ℕ) (a : Answer) → LoadsUnder b s o slots a → a.after.refused ≡ false → LoadsUnder false s o slots a
 loads_under b s None slots a is e = is
 loads_under b s (Some fd) slots a is e = loads_as b s fd slots a is e
 
-loads_by : (b socket : Bool) (s : State) (o : Option ℕ) (slots : List ℕ) (x a : Answer) → MatchBool socket (LoadsUnder b s o slots a) (a ≡ x) → a.after.refused ≡ false
+loads_by : (b socket : Bool) (s : TenantState) (o : Option ℕ) (slots : List ℕ) (x a : Answer) → MatchBool socket (LoadsUnder b s o slots a) (a ≡ x) → a.after.refused ≡ false
     → MatchBool socket (LoadsUnder false s o slots a) (a ≡ x)
 loads_by b true s o slots x a is e = loads_under b s o slots a is e
 loads_by b false s o slots x a is e = is
 
 -- ---- every command
 
-told_by : (s : State) (x y a : Answer) → Clear s x y → a ≡ x → a.after.refused ≡ false → a ≡ y
+told_by : (s : TenantState) (x y a : Answer) → Clear s x y → a ≡ x → a.after.refused ≡ false → a ≡ y
 told_by s x y a clear is e = is ∙ (clear (sym (ap (λ (b : Answer). b.after.refused) is) ∙ e)).0
 
 -- where the flag is clear after a command, it is as if no memory might be refused
-pub clear_answer : RefusalsAreTold → (r : List Bool) (s : State) (command : Command) (a : Answer) → Answers r s command a → a.after.refused ≡ false → Answers [] s command a
+pub clear_answer : RefusalsAreTold → (r : List Bool) (s : TenantState) (command : Command) (a : Answer) → Answers r s command a → a.after.refused ≡ false → Answers [] s command a
 clear_answer tell r s (prog_load kind slots) a is e = loads_by (first r) (kind == 1) s (table.lowest s.objects) slots _ a is e
 clear_answer tell r s (map_create kind key value max flags) a is e = told_by s _ _ a (clear_created (first r) s (shape_of (kind_of kind) key value max flags)) is e
 clear_answer tell r s (map_lookup fd key) a is e = is
@@ -142,39 +142,39 @@ clear_answer tell r s (close fd) a is e = is
 
 -- ---- and it was clear before
 
-kept_found : (s : State) (o : Option (List ℕ)) → Clear s (found s o) (found s o)
+kept_found : (s : TenantState) (o : Option (List ℕ)) → Clear s (found s o) (found s o)
 kept_found s None e = (refl, e)
 kept_found s (Some v) e = (refl, e)
 
-kept_taken : (s : State) (place : ℕ) (t : Map) (key : List ℕ) (r : Result (List ℕ) MapFault) → Clear s (taken_out s place t key r) (taken_out s place t key r)
+kept_taken : (s : TenantState) (place : ℕ) (t : Map) (key : List ℕ) (r : Result (List ℕ) MapFault) → Clear s (taken_out s place t key r) (taken_out s place t key r)
 kept_taken s place t key (Err fault) e = (refl, e)
 kept_taken s place t key (Ok v) e = (refl, e)
 
-kept_closed : (s : State) (fd : ℕ) (o : Option Object) → Clear s (closed s fd o) (closed s fd o)
+kept_closed : (s : TenantState) (fd : ℕ) (o : Option OpenObject) → Clear s (closed s fd o) (closed s fd o)
 kept_closed s fd None e = (refl, e)
 kept_closed s fd (Some o) e = (refl, e)
 
-kept_judged : (s : State) (fd : ℕ) (j : Judgement) → (judged s fd j).after.refused ≡ s.refused
+kept_judged : (s : TenantState) (fd : ℕ) (j : LoadJudgement) → (judged s fd j).after.refused ≡ s.refused
 kept_judged s fd (accepted insns) = refl
 kept_judged s fd (rejected errno slot number) = refl
 
-kept_loads_as : (b : Bool) (s : State) (fd : ℕ) (slots : List ℕ) (a : Answer) → LoadsAs b s fd slots a → a.after.refused ≡ false → s.refused ≡ false
+kept_loads_as : (b : Bool) (s : TenantState) (fd : ℕ) (slots : List ℕ) (a : Answer) → LoadsAs b s fd slots a → a.after.refused ≡ false → s.refused ≡ false
 kept_loads_as true s fd slots a is e = no _ (sym (ap (λ (x : Answer). x.after.refused) is) ∙ e)
 kept_loads_as false s fd slots a (j, judges, is) e = sym (kept_judged s fd j) ∙ sym (ap (λ (x : Answer). x.after.refused) is) ∙ e
 
-kept_loads_under : (b : Bool) (s : State) (o : Option ℕ) (slots : List ℕ) (a : Answer) → LoadsUnder b s o slots a → a.after.refused ≡ false → s.refused ≡ false
+kept_loads_under : (b : Bool) (s : TenantState) (o : Option ℕ) (slots : List ℕ) (a : Answer) → LoadsUnder b s o slots a → a.after.refused ≡ false → s.refused ≡ false
 kept_loads_under b s None slots a is e = sym (ap (λ (x : Answer). x.after.refused) is) ∙ e
 kept_loads_under b s (Some fd) slots a is e = kept_loads_as b s fd slots a is e
 
-kept_loads : (b socket : Bool) (s : State) (o : Option ℕ) (slots : List ℕ) (a : Answer) → MatchBool socket (LoadsUnder b s o slots a) (a ≡ refuses Invalid s) → a.after.refused ≡ false
+kept_loads : (b socket : Bool) (s : TenantState) (o : Option ℕ) (slots : List ℕ) (a : Answer) → MatchBool socket (LoadsUnder b s o slots a) (a ≡ refuses Invalid s) → a.after.refused ≡ false
     → s.refused ≡ false
 kept_loads b true s o slots a is e = kept_loads_under b s o slots a is e
 kept_loads b false s o slots a is e = sym (ap (λ (x : Answer). x.after.refused) is) ∙ e
 
-was_by : (s : State) (x y a : Answer) → Clear s x y → a ≡ x → a.after.refused ≡ false → s.refused ≡ false
+was_by : (s : TenantState) (x y a : Answer) → Clear s x y → a ≡ x → a.after.refused ≡ false → s.refused ≡ false
 was_by s x y a clear is e = (clear (sym (ap (λ (b : Answer). b.after.refused) is) ∙ e)).1
 
-was_clear : RefusalsAreTold → (r : List Bool) (s : State) (command : Command) (a : Answer) → Answers r s command a → a.after.refused ≡ false → s.refused ≡ false
+was_clear : RefusalsAreTold → (r : List Bool) (s : TenantState) (command : Command) (a : Answer) → Answers r s command a → a.after.refused ≡ false → s.refused ≡ false
 was_clear tell r s (prog_load kind slots) a is e = kept_loads (first r) (kind == 1) s (table.lowest s.objects) slots a is e
 was_clear tell r s (map_create kind key value max flags) a is e = was_by s _ _ a (clear_created (first r) s (shape_of (kind_of kind) key value max flags)) is e
 was_clear tell r s (map_lookup fd key) a is e = was_by s _ _ a (clear_on_map s fd _ _ (λ place t. clear_if (length key == t.shape.key_size) s _ _ (refuses Invalid s) (kept_found s (look_up t key)) refl)) is e
@@ -189,23 +189,23 @@ was_clear tell r s (close fd) a is e = was_by s _ _ a (kept_closed s fd (table.n
 
 -- ---- frames
 
-clear_frame : RefusalsAreTold → (r : List Bool) (s : State) (p : Result Command BadFrame) (a : Answer) → AnswersFrame r s p a → a.after.refused ≡ false → AnswersFrame [] s p a × (s.refused ≡ false)
+clear_frame : RefusalsAreTold → (r : List Bool) (s : TenantState) (p : Result Command BadFrame) (a : Answer) → AnswersFrame r s p a → a.after.refused ≡ false → AnswersFrame [] s p a × (s.refused ≡ false)
 clear_frame tell r s (Err fault) a is e = (is, sym (ap (λ (x : Answer). x.after.refused) is) ∙ e)
 clear_frame tell r s (Ok command) a is e = (clear_answer tell r s command a is e, was_clear tell r s command a is e)
 
 -- a tenant has a state, and its flag is clear
-abbrev HasClear : Option State → Type 0
+abbrev HasClear : Option TenantState → Type 0
 HasClear None = ⊥
 HasClear (Some s) = s.refused ≡ false
 
-clear_told : RefusalsAreTold → (frame reply : List ℕ) (before after : Option State) → MayTell frame reply before after → HasClear after → Tells [] frame reply before after × HasClear before
+clear_told : RefusalsAreTold → (frame reply : List ℕ) (before after : Option TenantState) → MayReply frame reply before after → HasClear after → RepliesUnder [] frame reply before after × HasClear before
 clear_told tell frame reply None after (r, told) e = absurd (subst HasClear told.0 e)
 clear_told tell frame reply (Some s) after (r, told_by_r) e =
     let (a, answers, told, goes) = told_by_r in
     let both = clear_frame tell r s (parsed frame) a answers (subst HasClear goes e) in
     ((a, both.0, told, goes), both.1)
 
-clear_both : RefusalsAreTold → (before after : Option State) (frames replies : List (List ℕ)) → AloneWithRefusals before frames replies after → HasClear after → Alone before frames replies after × HasClear before
+clear_both : RefusalsAreTold → (before after : Option TenantState) (frames replies : List (List ℕ)) → AloneWithRefusals before frames replies after → HasClear after → Alone before frames replies after × HasClear before
 clear_both tell before after [] [] h e = (h, subst HasClear h e)
 clear_both tell before after [] (reply ∷ replies) h e = absurd h
 clear_both tell before after (frame ∷ frames) [] h e = absurd h
@@ -215,6 +215,6 @@ clear_both tell before after (frame ∷ frames) (reply ∷ replies) (between, to
     ((between, here.0, later.0), here.1)
 
 -- a tenant whose flag is clear in the end is told what its machine tells it without refusals
-pub clear_alone : RefusalsAreTold → (before : Option State) (after : State) (frames replies : List (List ℕ)) → AloneWithRefusals before frames replies (Some after) → after.refused ≡ false
+pub clear_flag_means_alone : RefusalsAreTold → (before : Option TenantState) (after : TenantState) (frames replies : List (List ℕ)) → AloneWithRefusals before frames replies (Some after) → after.refused ≡ false
     → Alone before frames replies (Some after)
-clear_alone tell before after frames replies h e = (clear_both tell before (Some after) frames replies h e).0
+clear_flag_means_alone tell before after frames replies h e = (clear_both tell before (Some after) frames replies h e).0

@@ -6,30 +6,21 @@ use Rattle.std.proofs.lemmas.List.{length-drop}
 use Rattle.byteorder.specs.Endian.{little_number}
 use Rattle.command_frames.specs.declared.command.BadFrame.{BadFrame}
 use Rattle.command_frames.specs.declared.command.BadFrame.TheVariants.{TooLong, Body}
+use Rattle.tenant.specs.inside.Frames.{tail_length}
 use Rattle.command_frames.specs.Command.{Command, map_create, map_lookup, map_update, map_delete, map_next_key, prog_load, prog_test_run, close, exactly, at_least, command_in, parsed, longest_frame, word, long, words}
 
-abbrev pub bytes_of : Command → ℕ
-bytes_of (map_create kind key value max flags) = 0
-bytes_of (map_lookup fd key) = length key
-bytes_of (map_update fd flags bytes) = length bytes
-bytes_of (map_delete fd key) = length key
-bytes_of (map_next_key fd key) = length key
-bytes_of (prog_load kind slots) = length slots
-bytes_of (prog_test_run fd words packet) = length packet
-bytes_of (close fd) = 0
-
 abbrev IsWithin : ℕ → Result Command BadFrame → Type 0
-IsWithin n (Ok command) = bytes_of command ≤ n
+IsWithin n (Ok command) = tail_length command ≤ n
 IsWithin n (Err fault) = Unit {0}
 
 if_within : (n : ℕ) (b : Bool) (x y : Result Command BadFrame) → IsWithin n x → IsWithin n y → IsWithin n (if b then x else y)
 if_within n true x y h k = h
 if_within n false x y h k = k
 
-exactly_within : (n : ℕ) (body : List ℕ) (command : Command) → bytes_of command ≤ length body → IsWithin (length body) (exactly n body command)
+exactly_within : (n : ℕ) (body : List ℕ) (command : Command) → tail_length command ≤ length body → IsWithin (length body) (exactly n body command)
 exactly_within n body command h = if_within (length body) (length body == n) (Ok command) (Err Body) h tt
 
-at_least_within : (n : ℕ) (body : List ℕ) (command : Command) → bytes_of command ≤ length body → IsWithin (length body) (at_least n body command)
+at_least_within : (n : ℕ) (body : List ℕ) (command : Command) → tail_length command ≤ length body → IsWithin (length body) (at_least n body command)
 at_least_within n body command h = if_within (length body) (nat_le n (length body)) (Ok command) (Err Body) h tt
 
 behind : (n : ℕ) (body : List ℕ) → length (drop n body) ≤ length body
@@ -50,16 +41,16 @@ no_command : (fault : BadFrame) (command : Command) → let a : Result Command B
 no_command fault command e = cc
 
 -- the bytes of a command that is parsed
-pub parsed_within : (frame : List ℕ) (command : Command) → parsed frame ≡ Ok command → bytes_of command ≤ 65536
+pub parsed_within : (frame : List ℕ) (command : Command) → parsed frame ≡ Ok command → tail_length command ≤ 65536
 parsed_within frame command e = by_length (nat_lt longest_frame (length frame)) refl e
   where
     n : ℕ
     n = little_number 2 (drop 2 frame)
 
-    by_length : (over : Bool) → nat_lt longest_frame (length frame) ≡ over → (if over then Err TooLong else command_in n (drop 4 frame)) ≡ Ok command → bytes_of command ≤ 65536
+    by_length : (over : Bool) → nat_lt longest_frame (length frame) ≡ over → (if over then Err TooLong else command_in n (drop 4 frame)) ≡ Ok command → tail_length command ≤ 65536
     by_length true is e = absurd (no_command TooLong command e)
     by_length false is e =
-        let here : bytes_of command ≤ length (drop 4 frame) = subst (IsWithin (length (drop 4 frame))) e (body_within n (drop 4 frame)) in
+        let here : tail_length command ≤ length (drop 4 frame) = subst (IsWithin (length (drop 4 frame))) e (body_within n (drop 4 frame)) in
         let less = behind 4 frame in
         let short : length frame ≤ 65536 = ltb-false longest_frame (length frame) is in
         omega (arith, here, less, short)

@@ -1,31 +1,29 @@
 -- Replies to frames, by their heads.
 use Rattle.std.proofs.Common.{Result, Ok, Err, ◌≡◌, ◌≢◌, ℕ, List, [], length, drop, Some, None, refl, sym, ap, subst, ◌∙◌}
 use Rattle.std.specs.Prelude.{ℤ, nat_lt}
-use Rattle.std.proofs.lemmas.Option.{none-some}
 use Rattle.byteorder.specs.Endian.{little_number}
 use Rattle.command_frames.specs.declared.command.BadFrame.{BadFrame}
 use Rattle.command_frames.specs.declared.command.BadFrame.TheVariants as bad
 use Rattle.command_frames.specs.declared.command.Head.{Head}
-use Rattle.command_frames.specs.Command.{Command, map_lookup, parsed}
+use Rattle.command_frames.specs.Command.{Command, parsed}
 use Rattle.command_frames.specs.Frame.{head_of, owner, reply_bytes, reply_to}
 use Rattle.tenant.specs.declared.errno.Errno.{Errno}
 use Rattle.tenant.specs.declared.errno.Errno.TheVariants.{BadAddress}
-use Rattle.tenant.specs.Alone.{AnswersFrame, Tells, MayTell, frame_errno}
+use Rattle.tenant.specs.Alone.{AnswersFrame, RepliesUnder, MayReply, frame_errno}
 use Rattle.tenant.specs.Errno.{status_of}
 use Rattle.tenant.specs.Machine.{refuses}
-use Rattle.tenant.specs.State.{State}
-use Rattle.tenant.specs.inside.Frames.{Told}
+use Rattle.tenant.specs.State.{TenantState}
+use Rattle.tenant.specs.inside.Frames.{AnswersCommand}
 use Rattle.tenant.proofs.Replies.{heads}
 use Rattle.tenant.proofs.FramesStatuses.{IsOther, invalid, too_big, no_fault_written}
-use Rattle.tenant.proofs.FramesTold.{told}
 
 pub by_head : (frame : List ℕ) (h : Head) → head_of frame ≡ Some h → (status : ℤ) (payload : List ℕ) → reply_bytes h.tenant h.command status payload ≡ reply_to frame status payload
 by_head frame h headed status payload =
     let both = heads (nat_lt (length frame) 4) (little_number 2 frame) (little_number 2 (drop 2 frame)) h headed in
     ap (λ (n : ℕ). reply_bytes n h.command status payload) (sym both.0) ∙ ap (λ (n : ℕ). reply_bytes (owner frame) n status payload) (sym both.1)
 
-pub may_tell : (frame : List ℕ) (command : Command) (h : Head) (reply : List ℕ) (before after : State) → head_of frame ≡ Some h → parsed frame ≡ Ok command
-    → Told command h reply before after → MayTell frame reply (Some before) (Some after)
+pub may_tell : (frame : List ℕ) (command : Command) (h : Head) (reply : List ℕ) (before after : TenantState) → head_of frame ≡ Some h → parsed frame ≡ Ok command
+    → AnswersCommand command h reply before after → MayReply frame reply (Some before) (Some after)
 may_tell frame command h reply before after headed is t = (
   t.refusals,
   (t.answer, subst (λ (r : Result Command BadFrame). AnswersFrame t.refusals before r t.answer) (sym is) t.answers, t.written ∙ by_head frame h headed t.answer.status t.answer.payload, ap Some t.left),
@@ -34,16 +32,6 @@ may_tell frame command h reply before after headed is t = (
 pub no_fault_told : (frame : List ℕ) (h : Head) (reply : List ℕ) → head_of frame ≡ Some h → reply ≢ reply_bytes h.tenant h.command (status_of BadAddress) [] → reply ≢ reply_to frame (status_of BadAddress) []
 no_fault_told frame h reply headed apart e = apart (e ∙ sym (by_head frame h headed (status_of BadAddress) []))
 
--- a look-up's reply
-pub told_look_up : (frame reply : List ℕ) (s : State) (fd : ℕ) (key : List ℕ) (h : Head) → head_of frame ≡ Some h → parsed frame ≡ Ok (map_lookup fd key) → length s.objects ≡ 64
-    → Tells [] frame reply (Some s) (Some s) → Told (map_lookup fd key) h reply s s
-told_look_up frame reply s fd key h headed is all (a, answers, written, left) =
-    told (map_lookup fd key) h reply s s [] a tt all (subst (λ (r : Result Command BadFrame). AnswersFrame [] s r a) is answers)
-    (written ∙ sym (by_head frame h headed a.status a.payload)) (same_inside s a.after left)
-  where
-    same_inside : (x y : State) → Some x ≡ Some y → x ≡ y
-    same_inside x y e = cc
-
 -- ---- a frame that carries no command
 
 other_frame : (fault : BadFrame) → IsOther (status_of (frame_errno fault))
@@ -51,19 +39,15 @@ other_frame bad.TooLong = too_big
 other_frame bad.Unknown = invalid
 other_frame bad.Body = invalid
 
-pub refused_frame : (frame reply : List ℕ) (s : State) (fault : BadFrame) (errno : Errno) (h : Head) → head_of frame ≡ Some h → parsed frame ≡ Err fault → errno ≡ frame_errno fault
-    → reply ≡ reply_bytes h.tenant h.command (status_of errno) [] → MayTell frame reply (Some s) (Some s)
+pub refused_frame : (frame reply : List ℕ) (s : TenantState) (fault : BadFrame) (errno : Errno) (h : Head) → head_of frame ≡ Some h → parsed frame ≡ Err fault → errno ≡ frame_errno fault
+    → reply ≡ reply_bytes h.tenant h.command (status_of errno) [] → MayReply frame reply (Some s) (Some s)
 refused_frame frame reply s fault errno h headed is same written = (
   [],
   (refuses errno s, subst (λ (r : Result Command BadFrame). AnswersFrame [] s r (refuses errno s)) (sym is) (ap (λ (x : Errno). refuses x s) same), written ∙ by_head frame h headed (status_of errno) [], refl),
 )
 
-pub refused_no_fault : (frame reply : List ℕ) (s : State) (fault : BadFrame) (errno : Errno) (h : Head) → head_of frame ≡ Some h → errno ≡ frame_errno fault
+pub refused_no_fault : (frame reply : List ℕ) (s : TenantState) (fault : BadFrame) (errno : Errno) (h : Head) → head_of frame ≡ Some h → errno ≡ frame_errno fault
     → reply ≡ reply_bytes h.tenant h.command (status_of errno) [] → reply ≢ reply_to frame (status_of BadAddress) []
 refused_no_fault frame reply s fault errno h headed same written =
     no_fault_told frame h reply headed
     (no_fault_written h reply (refuses errno s) written (subst (λ (x : Errno). IsOther (status_of x)) (sym same) (other_frame fault)))
-
--- a frame with a head has one
-pub has_head : (frame : List ℕ) (h : Head) → head_of frame ≡ Some h → head_of frame ≢ None
-has_head frame h is none = absurd (none-some h (sym none ∙ is))

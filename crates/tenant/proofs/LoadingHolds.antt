@@ -3,16 +3,16 @@ use Rattle.std.proofs.Common.{◌≡◌, ◌≢◌, ℕ, ◌+◌, ◌≤◌, Lis
 use Rattle.std.specs.Prelude.{◌==◌, ◌⊎◌, option_map}
 use Rattle.std.specs.Option.{option_map_or}
 use Rattle.std.proofs.lemmas.Bool.{ne_eqb, cases_eq}
-use Rattle.bpf_maps.specs.Live.{Tenant, Live, live_or, live_at, holds_at, places_at, shape_at, map_in, offset, one_more, SameRoom}
+use Rattle.bpf_maps.specs.Live.{LiveMaps, LiveMap, live_or, live_at, holds_at, places_at, shape_at, map_in, offset, one_more, SameRoom}
 use Rattle.bpf_maps.specs.Places.{PlaceTable}
-use Rattle.tenant.specs.Kept.{IsPlaced, IsLive, holds_in, area_of}
-use Rattle.tenant.specs.Loading.{IsHeldMore}
+use Rattle.tenant.specs.Kept.{MapsAreAtPlaces, IsLive, holds_in, area_of}
+use Rattle.tenant.specs.inside.Loading.{IsHeldMore}
 use Rattle.tenant.proofs.OneMap.{map_of, others_keep}
 use Rattle.tenant.proofs.Releases.{one_at, here_one}
 use Rattle.tenant.proofs.Sums.{total-same}
 
 -- what a hold of the map under a key leaves
-pub record IsHeld (old new : Tenant) (key : ℕ) : Type 0 where
+pub record IsHeld (old new : LiveMaps) (key : ℕ) : Type 0 where
   pub more : live_at new key ≡ option_map one_more (live_at old key)
   pub live : IsSome (live_at new key)
   pub holds : holds_at new key ≡ holds_at old key + 1
@@ -21,19 +21,19 @@ pub record IsHeld (old new : Tenant) (key : ℕ) : Type 0 where
   pub room : SameRoom old new
   pub refused : new.refused ≡ old.refused
 
-same_map : (part : List ℕ) (o : Option Live) → map_of part (option_map one_more o) ≡ map_of part o
+same_map : (part : List ℕ) (o : Option LiveMap) → map_of part (option_map one_more o) ≡ map_of part o
 unfolding offset
 same_map part None = refl
 same_map part (Some l) = refl
 
-other_live : (old new : Tenant) (key : ℕ) → live_at new key ≡ live_at old key → IsLive old key → IsLive new key
+other_live : (old new : LiveMaps) (key : ℕ) → live_at new key ≡ live_at old key → IsLive old key → IsLive new key
 other_live old new key same was = record {
   there = subst IsSome (sym same) was.there;
-  some = subst (λ (n : ℕ). 1 ≤ n) (sym (ap (λ (o : Option Live). (live_or o).holds) same)) was.some;
-  ended = ap (λ (o : Option Live). (live_or o).places.kept) same ∙ was.ended;
+  some = subst (λ (n : ℕ). 1 ≤ n) (sym (ap (λ (o : Option LiveMap). (live_or o).holds) same)) was.some;
+  ended = ap (λ (o : Option LiveMap). (live_or o).places.kept) same ∙ was.ended;
 }
 
-placed_held : (keys : List (Option ℕ)) (old new : Tenant) (place key : ℕ) → IsPlaced keys old → get_or keys place None ≡ Some key → IsHeld old new key → IsPlaced keys new
+placed_held : (keys : List (Option ℕ)) (old new : LiveMaps) (place key : ℕ) → MapsAreAtPlaces keys old → get_or keys place None ≡ Some key → IsHeld old new key → MapsAreAtPlaces keys new
 placed_held keys old new place key is there h = record {
   all = is.all;
   each = λ q k at. each_of q k at (cases_eq k key);
@@ -55,9 +55,9 @@ placed_held keys old new place key is there h = record {
 
     shape_of : (k : ℕ) → (k ≡ key) ⊎ (k ≡ key → ⊥) → area_of (shape_at new k) ≡ area_of (shape_at old k)
     shape_of k (inl same) = subst (λ (n : ℕ). area_of (shape_at new n) ≡ area_of (shape_at old n)) (sym same) (ap (λ (p : PlaceTable). area_of p.shape) h.places)
-    shape_of k (inr other) = ap (λ (o : Option Live). area_of (live_or o).places.shape) (h.others k other)
+    shape_of k (inr other) = ap (λ (o : Option LiveMap). area_of (live_or o).places.shape) (h.others k other)
 
-pub held_one : (keys : List (Option ℕ)) (old new : Tenant) (place key : ℕ) → IsPlaced keys old → get_or keys place None ≡ Some key → IsHeld old new key → IsHeldMore keys old new
+pub held_one : (keys : List (Option ℕ)) (old new : LiveMaps) (place key : ℕ) → MapsAreAtPlaces keys old → get_or keys place None ≡ Some key → IsHeld old new key → IsHeldMore keys old new
 held_one keys old new place key is there h = record {
   placed = placed_held keys old new place key is there h;
   same = λ part q k at. same_of part k (cases_eq k key);
@@ -68,10 +68,10 @@ held_one keys old new place key is there h = record {
     same_of part k (inl same) = subst (λ (n : ℕ). map_in part new n ≡ map_in part old n) (sym same) (ap (map_of part) h.more ∙ same_map part (live_at old key))
     same_of part k (inr other) = others_keep part old new key h.others k other
 
-pub held_all : (keys : List (Option ℕ)) (live : Tenant) → IsPlaced keys live → IsHeldMore keys live live
+pub held_all : (keys : List (Option ℕ)) (live : LiveMaps) → MapsAreAtPlaces keys live → IsHeldMore keys live live
 held_all keys live is = record { placed = is; same = λ part q k at. refl; refused = refl }
 
-pub held_then : (keys : List (Option ℕ)) (a b c : Tenant) → IsHeldMore keys a b → IsHeldMore keys b c → IsHeldMore keys a c
+pub held_then : (keys : List (Option ℕ)) (a b c : LiveMaps) → IsHeldMore keys a b → IsHeldMore keys b c → IsHeldMore keys a c
 held_then keys a b c h k = record {
   placed = k.placed;
   same = λ part q key at. k.same part q key at ∙ h.same part q key at;
@@ -80,17 +80,17 @@ held_then keys a b c h k = record {
 
 -- ---- how many hold each
 
-read : (live : Tenant) (keys : List (Option ℕ)) (q : ℕ) (o : Option ℕ) → get_or keys q None ≡ o → holds_in keys live q ≡ option_map_or (holds_at live) o 0
+read : (live : LiveMaps) (keys : List (Option ℕ)) (q : ℕ) (o : Option ℕ) → get_or keys q None ≡ o → holds_in keys live q ≡ option_map_or (holds_at live) o 0
 read live keys q o e = ap (λ (x : Option ℕ). option_map_or (holds_at live) x 0) e
 
 none_there : (place q : ℕ) → q ≢ place → one_at place q ≡ 0
 none_there place q other = let no : (place == q) ≡ false = ne_eqb place q (λ e. other (sym e)) in rw no refl
 
-other_holds : (old new : Tenant) (o : Option ℕ) → ((k : ℕ) → o ≡ Some k → live_at new k ≡ live_at old k) → option_map_or (holds_at new) o 0 ≡ option_map_or (holds_at old) o 0
+other_holds : (old new : LiveMaps) (o : Option ℕ) → ((k : ℕ) → o ≡ Some k → live_at new k ≡ live_at old k) → option_map_or (holds_at new) o 0 ≡ option_map_or (holds_at old) o 0
 other_holds old new None h = refl
-other_holds old new (Some k) h = ap (λ (o : Option Live). (live_or o).holds) (h k refl)
+other_holds old new (Some k) h = ap (λ (o : Option LiveMap). (live_or o).holds) (h k refl)
 
-pub holds_one : (keys : List (Option ℕ)) (old new : Tenant) (place key : ℕ) → IsPlaced keys old → get_or keys place None ≡ Some key → IsHeld old new key
+pub holds_one : (keys : List (Option ℕ)) (old new : LiveMaps) (place key : ℕ) → MapsAreAtPlaces keys old → get_or keys place None ≡ Some key → IsHeld old new key
     → (q : ℕ) → holds_in keys new q ≡ holds_in keys old q + one_at place q
 holds_one keys old new place key is there h q = by_place (cases_eq q place)
   where

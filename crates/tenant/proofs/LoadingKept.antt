@@ -1,19 +1,19 @@
 -- What a load that opens a program leaves.
 use Rattle.std.proofs.Common.{◌≡◌, ◌≢◌, ℕ, ◌+◌, ◌-◌, ◌≤◌, ◌<◌, Bool, true, false, List, [], get_or, Option, Some, None, sym, ap, ap₂, subst, ◌∙◌, inl, inr, arith, length-set}
 use Rattle.std.specs.Prelude.{◌==◌, ◌||◌, ◌⊎◌, if◌then◌else◌}
-use Rattle.bpf_maps.specs.Live.{Tenant, map_in}
+use Rattle.bpf_maps.specs.Live.{LiveMaps, map_in}
 use Rattle.fd_table.specs.Table.{first, lowest, with_open}
-use Rattle.tenant.specs.declared.object.Object.{Object}
-use Rattle.tenant.specs.declared.object.Object.TheVariants as object
-use Rattle.tenant.specs.Kept.{Kept, IsKept, IsBound, holds_in, times, weight, by_descriptor, state_in}
-use Rattle.tenant.specs.Loaded.{Loaded}
-use Rattle.tenant.specs.Loading.{IsHeldMore, with_program}
+use Rattle.tenant.specs.declared.object.OpenObject.{OpenObject}
+use Rattle.tenant.specs.declared.object.OpenObject.TheVariants as object
+use Rattle.tenant.specs.Kept.{KeptTenant, IsWellFormedTenant, IsBound, holds_in, times, weight, by_descriptor, state_in}
+use Rattle.tenant.specs.Loaded.{LoadedProgram}
+use Rattle.tenant.specs.inside.Loading.{IsHeldMore, with_program}
 use Rattle.tenant.specs.State.{Map}
 use Rattle.tenant.proofs.Changes.{all_same}
 use Rattle.tenant.proofs.Opened.{set_cases, descriptor_free, opened_sum}
 use Rattle.tenant.proofs.Sums.{total-most}
 
-abbrev pub kept_opened : Kept → Tenant → ℕ → Loaded → Kept
+abbrev pub kept_opened : KeptTenant → LiveMaps → ℕ → LoadedProgram → KeptTenant
 kept_opened k t fd l = record { objects = with_open k.objects fd (object.Program l); keys = k.keys; live = t; refused = k.refused }
 
 -- ---- no more hold a map than there are descriptors
@@ -22,11 +22,11 @@ one_at_most : (b : Bool) → (if b then 1 else 0) ≤ 1
 one_at_most true = omega arith
 one_at_most false = omega arith
 
-weight-most : (k : Kept) → IsKept k → (q i : ℕ) (o : Object) → get_or k.objects i None ≡ Some o → weight q o ≤ 1
+weight-most : (k : KeptTenant) → IsWellFormedTenant k → (q i : ℕ) (o : OpenObject) → get_or k.objects i None ≡ Some o → weight q o ≤ 1
 weight-most k is q i (object.Map p) there = one_at_most (p == q)
 weight-most k is q i (object.Program l) there = (is.bound i l there).once q
 
-pub few_hold : (k : Kept) (l : Loaded) → IsKept k → IsBound k l → (q : ℕ) → holds_in k.keys k.live q + times q l.maps < 4294967296
+pub few_hold : (k : KeptTenant) (l : LoadedProgram) → IsWellFormedTenant k → IsBound k l → (q : ℕ) → holds_in k.keys k.live q + times q l.maps < 4294967296
 few_hold k l is bound q =
     let held = is.held q in
     let most = total-most (weight q) k.objects (λ i o there. weight-most k is q i o there) in
@@ -36,38 +36,38 @@ few_hold k l is bound q =
 
 -- ---- what is kept
 
-still_bound : (k : Kept) (t : Tenant) (fd : ℕ) (l m : Loaded) → IsHeldMore k.keys k.live t → IsBound k m → IsBound (kept_opened k t fd l) m
+still_bound : (k : KeptTenant) (t : LiveMaps) (fd : ℕ) (l m : LoadedProgram) → IsHeldMore k.keys k.live t → IsBound k m → IsBound (kept_opened k t fd l) m
 still_bound k t fd l m more was = record {
   each = was.each;
   once = was.once;
   shaped = λ f p found. let (key, at, shaped) = was.shaped f p found in (key, at, shaped ∙ ap (λ (u : Map). Some u.shape) (sym (more.same [] p key at)));
 }
 
-same_program : (l m : Loaded) → object.Program m ≡ object.Program l → l ≡ m
+same_program : (l m : LoadedProgram) → object.Program m ≡ object.Program l → l ≡ m
 same_program l m e = cc
 
-pub opened_kept : (k : Kept) (t : Tenant) (fd : ℕ) (l : Loaded) → IsKept k → lowest k.objects ≡ Some fd → IsBound k l → IsHeldMore k.keys k.live t
-    → ((q : ℕ) → holds_in k.keys t q ≡ holds_in k.keys k.live q + times q l.maps) → IsKept (kept_opened k t fd l)
+pub opened_kept : (k : KeptTenant) (t : LiveMaps) (fd : ℕ) (l : LoadedProgram) → IsWellFormedTenant k → lowest k.objects ≡ Some fd → IsBound k l → IsHeldMore k.keys k.live t
+    → ((q : ℕ) → holds_in k.keys t q ≡ holds_in k.keys k.live q + times q l.maps) → IsWellFormedTenant (kept_opened k t fd l)
 opened_kept k t fd l is low bound more holds = record {
-  all = length-set {A = Option Object} k.objects (fd - first) (Some (object.Program l)) ∙ is.all;
+  all = length-set {A = Option OpenObject} k.objects (fd - first) (Some (object.Program l)) ∙ is.all;
   placed = more.placed;
   held = λ q. holds q ∙ ap (λ (n : ℕ). n + times q l.maps) (is.held q) ∙ sym (opened_sum (weight q) k.objects fd (object.Program l) low);
   single = λ q. let was = is.single q in let sum = opened_sum (by_descriptor q) k.objects fd (object.Program l) low in omega arith;
   bound = λ n m there. bound_of m n (set_cases k.objects (fd - first) n (object.Program l) (object.Program m) (descriptor_free k.objects fd low).0 there);
 }
   where
-    bound_of : (m : Loaded) (n : ℕ) → ((n ≡ fd - first) × (object.Program m ≡ object.Program l)) ⊎ ((n ≢ fd - first) × (get_or k.objects n None ≡ Some (object.Program m))) → IsBound (kept_opened k t fd l) m
+    bound_of : (m : LoadedProgram) (n : ℕ) → ((n ≡ fd - first) × (object.Program m ≡ object.Program l)) ⊎ ((n ≢ fd - first) × (get_or k.objects n None ≡ Some (object.Program m))) → IsBound (kept_opened k t fd l) m
     bound_of m n (inl (here, same)) = subst (IsBound (kept_opened k t fd l)) (same_program l m same) (still_bound k t fd l l more bound)
     bound_of m n (inr (other, there)) = still_bound k t fd l m more (is.bound n m there)
 
 -- the state after it
-pub state_opened : (part : List ℕ) (k : Kept) (t : Tenant) (fd : ℕ) (l : Loaded) → IsHeldMore k.keys k.live t → state_in part (kept_opened k t fd l) ≡ with_program (state_in part k) fd l
+pub state_opened : (part : List ℕ) (k : KeptTenant) (t : LiveMaps) (fd : ℕ) (l : LoadedProgram) → IsHeldMore k.keys k.live t → state_in part (kept_opened k t fd l) ≡ with_program (state_in part k) fd l
 state_opened part k t fd l more =
     ap₂ (λ (ms : List (Option Map)) (b : Bool). record { objects = with_open k.objects fd (object.Program l); maps = ms; refused = k.refused || b })
     (all_same (map_in part t) (map_in part k.live) k.keys (λ i key at. more.same part i key at)) more.refused
 
 -- what is kept where memory was refused
-pub flagged_kept : (k : Kept) → IsKept k → IsKept (record { objects = k.objects; keys = k.keys; live = k.live; refused = true })
+pub flagged_kept : (k : KeptTenant) → IsWellFormedTenant k → IsWellFormedTenant (record { objects = k.objects; keys = k.keys; live = k.live; refused = true })
 flagged_kept k is = record {
   all = is.all;
   placed = is.placed;

@@ -6,8 +6,8 @@ use Rattle.std.proofs.lemmas.Bool.{eqb-true, eq-eqb, cases_eq}
 use Rattle.std.proofs.lemmas.Bool.Decides.{nat_tests}
 use Rattle.std.proofs.lemmas.Option.{none-some}
 use Rattle.fd_table.specs.Table.{first, named, flattened}
-use Rattle.tenant.specs.declared.object.Object.{Object}
-use Rattle.tenant.specs.declared.object.Object.TheVariants as object
+use Rattle.tenant.specs.declared.object.OpenObject.{OpenObject}
+use Rattle.tenant.specs.declared.object.OpenObject.TheVariants as object
 use Rattle.tenant.specs.Kept.{times, by_descriptor, descriptors}
 use Rattle.tenant.specs.Machine.{place_of, places_from}
 use Rattle.tenant.specs.State.{total}
@@ -16,7 +16,7 @@ use Rattle.tenant.proofs.Opened.{set_there}
 use Rattle.tenant.proofs.Sums.{total-unset, total-part}
 
 -- what an object adds
-abbrev pub place_at : Option Object → ℕ → List (ℕ × ℕ)
+abbrev pub place_at : Option OpenObject → ℕ → List (ℕ × ℕ)
 place_at None fd = []
 place_at (Some (object.Map place)) fd = (fd, place) ∷ []
 place_at (Some (object.Program l)) fd = []
@@ -26,18 +26,18 @@ abbrev pub listed : Option ℕ → ℕ → List (ℕ × ℕ)
 listed None fd = []
 listed (Some place) fd = (fd, place) ∷ []
 
-pub listed_at : (o : Option Object) (fd : ℕ) → place_at o fd ≡ listed (place_of o) fd
+pub listed_at : (o : Option OpenObject) (fd : ℕ) → place_at o fd ≡ listed (place_of o) fd
 listed_at None fd = refl
 listed_at (Some (object.Map place)) fd = refl
 listed_at (Some (object.Program l)) fd = refl
 
-pub places_cons : (objects : List (Option Object)) (fd : ℕ) (fds : List ℕ) (o : Option Object) → named objects fd ≡ o → places_from objects (fd ∷ fds) ≡ place_at o fd ++ places_from objects fds
+pub places_cons : (objects : List (Option OpenObject)) (fd : ℕ) (fds : List ℕ) (o : Option OpenObject) → named objects fd ≡ o → places_from objects (fd ∷ fds) ≡ place_at o fd ++ places_from objects fds
 unfolding places_from
 places_cons objects fd fds None e = rw e refl
 places_cons objects fd fds (Some (object.Map place)) e = rw e refl
 places_cons objects fd fds (Some (object.Program l)) e = rw e refl
 
-pub places_none : (objects : List (Option Object)) → places_from objects [] ≡ []
+pub places_none : (objects : List (Option OpenObject)) → places_from objects [] ≡ []
 unfolding places_from
 places_none objects = refl
 
@@ -50,7 +50,7 @@ joined [] b c = refl
 joined (m ∷ a) b c = ap (λ (ns : List (ℕ × ℕ)). m ∷ ns) (joined a b c)
 
 -- one more of them
-places_next : (objects : List (Option Object)) (fds : List ℕ) (i fd : ℕ) → i < length fds → get_or fds i 0 ≡ fd
+places_next : (objects : List (Option OpenObject)) (fds : List ℕ) (i fd : ℕ) → i < length fds → get_or fds i 0 ≡ fd
     → places_from objects (take (suc i) fds) ≡ places_from objects (take i fds) ++ place_at (named objects fd) fd
 places_next objects [] i fd within at = absurd (omega arith)
 places_next objects (x ∷ fds) zero fd within at =
@@ -64,16 +64,16 @@ places_next objects (x ∷ fds) (suc i) fd within at =
     ∙ sym (joined here (places_from objects (take i fds)) (place_at (named objects fd) fd))
     ∙ ap (λ (ms : List (ℕ × ℕ)). ms ++ place_at (named objects fd) fd) (sym (places_cons objects x (take i fds) (named objects x) refl))
 
-pub places_more : (objects : List (Option Object)) (fds : List ℕ) (i fd : ℕ) → i < length fds → get_or fds i 0 ≡ fd
+pub places_more : (objects : List (Option OpenObject)) (fds : List ℕ) (i fd : ℕ) → i < length fds → get_or fds i 0 ≡ fd
     → places_from objects (take (i + 1) fds) ≡ places_from objects (take i fds) ++ place_at (named objects fd) fd
 places_more objects fds i fd within at = let e : i + 1 ≡ suc i = omega arith in ap (λ (n : ℕ). places_from objects (take n fds)) e ∙ places_next objects fds i fd within at
 
 -- ---- where all of them name maps
 
-abbrev pub AreMaps : List (Option Object) → List ℕ → Type 0
+abbrev pub AreMaps : List (Option OpenObject) → List ℕ → Type 0
 AreMaps objects fds = (i fd : ℕ) → slice_get fds i ≡ Some fd → (place : ℕ) × (named objects fd ≡ Some (object.Map place))
 
-pub places_keys : (objects : List (Option Object)) (fds : List ℕ) → AreMaps objects fds → keys_of (places_from objects fds) ≡ fds
+pub places_keys : (objects : List (Option OpenObject)) (fds : List ℕ) → AreMaps objects fds → keys_of (places_from objects fds) ≡ fds
 places_keys objects [] maps = ap keys_of (places_none objects)
 places_keys objects (fd ∷ fds) maps =
     let (place, is) = maps 0 fd refl in
@@ -81,7 +81,7 @@ places_keys objects (fd ∷ fds) maps =
     ∙ ap (λ (ns : List ℕ). fd ∷ ns) (places_keys objects fds (λ i other at. maps (suc i) other at))
 
 -- what is listed is named
-pub lookup_named : (objects : List (Option Object)) (fds : List ℕ) (fd place : ℕ) → lookup (λ m. m == fd) (places_from objects fds) ≡ Some place
+pub lookup_named : (objects : List (Option OpenObject)) (fds : List ℕ) (fd place : ℕ) → lookup (λ m. m == fd) (places_from objects fds) ≡ Some place
     → (i : ℕ) × (slice_get fds i ≡ Some fd) × (named objects fd ≡ Some (object.Map place))
 lookup_named objects [] fd place found = absurd (none-some place (sym (ap (lookup (λ m. m == fd)) (places_none objects)) ∙ found))
 lookup_named objects (x ∷ fds) fd place found = by_object (λ e. lookup_named objects fds fd place e) (named objects x) refl
@@ -102,19 +102,19 @@ lookup_named objects (x ∷ fds) fd place found = by_object (λ e. lookup_named 
     by_test p false same is rest e = later (rest e)
 
     by_object : (lookup (λ m. m == fd) (places_from objects fds) ≡ Some place → (i : ℕ) × (slice_get fds i ≡ Some fd) × (named objects fd ≡ Some (object.Map place)))
-        → (o : Option Object) → named objects x ≡ o → (i : ℕ) × (slice_get (x ∷ fds) i ≡ Some fd) × (named objects fd ≡ Some (object.Map place))
+        → (o : Option OpenObject) → named objects x ≡ o → (i : ℕ) × (slice_get (x ∷ fds) i ≡ Some fd) × (named objects fd ≡ Some (object.Map place))
     by_object rest None is = later (rest (sym (ap (lookup (λ m. m == fd)) (places_cons objects x fds None is)) ∙ found))
     by_object rest (Some (object.Program l)) is = later (rest (sym (ap (lookup (λ m. m == fd)) (places_cons objects x fds (Some (object.Program l)) is)) ∙ found))
     by_object rest (Some (object.Map p)) is = by_test p (x == fd) refl is rest (sym (ap (lookup (λ m. m == fd)) (places_cons objects x fds (Some (object.Map p)) is)) ∙ found)
 
-abbrev IsAmong : List (Option Object) → List ℕ → ℕ → Type 0
+abbrev IsAmong : List (Option OpenObject) → List ℕ → ℕ → Type 0
 IsAmong objects fds place = (i fd : ℕ) × (slice_get fds i ≡ Some fd) × (named objects fd ≡ Some (object.Map place))
 
-among_later : (objects : List (Option Object)) (x : ℕ) (fds : List ℕ) (place : ℕ) → IsAmong objects fds place → IsAmong objects (x ∷ fds) place
+among_later : (objects : List (Option OpenObject)) (x : ℕ) (fds : List ℕ) (place : ℕ) → IsAmong objects fds place → IsAmong objects (x ∷ fds) place
 among_later objects x fds place (i, fd, at, is) = (suc i, fd, at, is)
 
 -- a place that stands among them is that of a map that one of them names
-pub times_named : (objects : List (Option Object)) (fds : List ℕ) (place : ℕ) → 1 ≤ times place (places_from objects fds)
+pub times_named : (objects : List (Option OpenObject)) (fds : List ℕ) (place : ℕ) → 1 ≤ times place (places_from objects fds)
     → (i fd : ℕ) × (slice_get fds i ≡ Some fd) × (named objects fd ≡ Some (object.Map place))
 unfolding times
 times_named objects [] place some = absurd (let none : times place (places_from objects []) ≡ 0 = ap (times place) (places_none objects) in omega arith)
@@ -125,14 +125,14 @@ times_named objects (x ∷ fds) place some = by_object (λ more. among_later obj
     by_test rest p true same is e = (0, x, refl, is ∙ ap (λ (q : ℕ). Some (object.Map q)) (eqb-true p place same))
     by_test rest p false same is e = rest (omega arith)
 
-    by_object : (1 ≤ times place (places_from objects fds) → IsAmong objects (x ∷ fds) place) → (o : Option Object) → named objects x ≡ o → IsAmong objects (x ∷ fds) place
+    by_object : (1 ≤ times place (places_from objects fds) → IsAmong objects (x ∷ fds) place) → (o : Option OpenObject) → named objects x ≡ o → IsAmong objects (x ∷ fds) place
     by_object rest None is = rest (subst (λ (ms : List (ℕ × ℕ)). 1 ≤ times place ms) (places_cons objects x fds None is) some)
     by_object rest (Some (object.Program l)) is = rest (subst (λ (ms : List (ℕ × ℕ)). 1 ≤ times place ms) (places_cons objects x fds (Some (object.Program l)) is) some)
     by_object rest (Some (object.Map p)) is = by_test rest p (p == place) refl is (subst (λ (ms : List (ℕ × ℕ)). 1 ≤ times place ms) (places_cons objects x fds (Some (object.Map p)) is) some)
 
 -- ---- no place stands twice
 
-pub named_low : (objects : List (Option Object)) (fd : ℕ) (o : Object) → named objects fd ≡ Some o → first ≤ fd
+pub named_low : (objects : List (Option OpenObject)) (fd : ℕ) (o : OpenObject) → named objects fd ≡ Some o → first ≤ fd
 named_low objects fd o is = by_test (nat_lt fd first) refl is
   where
     by_test : (low : Bool) → nat_lt fd first ≡ low → (if low then None else flattened (slice_get objects (fd - first))) ≡ Some o → first ≤ fd
@@ -149,7 +149,7 @@ one_descriptor : (place : ℕ) → by_descriptor place (object.Map place) ≡ 1
 one_descriptor place = let same : (place == place) ≡ true = eq-eqb place place refl in rw same refl
 
 -- one descriptor names it
-pub one_names : (objects : List (Option Object)) (a b place : ℕ) → descriptors place objects ≤ 1 → named objects a ≡ Some (object.Map place) → named objects b ≡ Some (object.Map place) → b ≡ a
+pub one_names : (objects : List (Option OpenObject)) (a b place : ℕ) → descriptors place objects ≤ 1 → named objects a ≡ Some (object.Map place) → named objects b ≡ Some (object.Map place) → b ≡ a
 one_names objects a b place single m n = by_place (cases_eq (b - first) (a - first))
   where
     low : first ≤ a
@@ -172,7 +172,7 @@ times_zero : (n : ℕ) → (1 ≤ n → ⊥) → n ≡ 0
 times_zero zero h = refl
 times_zero (suc n) h = absurd (h (omega arith))
 
-pub times_once : (objects : List (Option Object)) (fds : List ℕ) → ((place : ℕ) → descriptors place objects ≤ 1) → AreApart fds → (place : ℕ) → times place (places_from objects fds) ≤ 1
+pub times_once : (objects : List (Option OpenObject)) (fds : List ℕ) → ((place : ℕ) → descriptors place objects ≤ 1) → AreApart fds → (place : ℕ) → times place (places_from objects fds) ≤ 1
 unfolding times
 times_once objects [] single apart place = let none : times place (places_from objects []) ≡ 0 = ap (times place) (places_none objects) in omega arith
 times_once objects (x ∷ fds) single apart place =
@@ -192,7 +192,7 @@ times_once objects (x ∷ fds) single apart place =
         omega arith
     by_test few p false same is = omega arith
 
-    by_object : times place (places_from objects fds) ≤ 1 → (o : Option Object) → named objects x ≡ o → times place (places_from objects (x ∷ fds)) ≤ 1
+    by_object : times place (places_from objects fds) ≤ 1 → (o : Option OpenObject) → named objects x ≡ o → times place (places_from objects (x ∷ fds)) ≤ 1
     by_object few None is = subst (λ (ms : List (ℕ × ℕ)). times place ms ≤ 1) (sym (places_cons objects x fds None is)) few
     by_object few (Some (object.Program l)) is = subst (λ (ms : List (ℕ × ℕ)). times place ms ≤ 1) (sym (places_cons objects x fds (Some (object.Program l)) is)) few
     by_object few (Some (object.Map p)) is = subst (λ (ms : List (ℕ × ℕ)). times place ms ≤ 1) (sym (places_cons objects x fds (Some (object.Map p)) is)) (by_test few p (p == place) refl is)

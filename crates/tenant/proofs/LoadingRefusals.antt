@@ -17,10 +17,10 @@ use Rattle.verdict.specs.Shape.{shape_fault, shape_of}
 use Rattle.verdict.specs.Verdict.{IsRefused, memory_fault, safety_fault}
 use Rattle.tenant.specs.declared.errno.Errno.{Errno}
 use Rattle.tenant.specs.declared.errno.Errno.TheVariants.{Invalid}
-use Rattle.tenant.specs.Loaded.{Loaded}
-use Rattle.tenant.specs.Loading.{with_program}
+use Rattle.tenant.specs.Loaded.{LoadedProgram}
+use Rattle.tenant.specs.inside.Loading.{with_program}
 use Rattle.tenant.specs.Machine.{Answer, refuses, refuses_at, opens, accepted, rejected, loaded, targets, Judges, LoadsAs, LoadsUnder, Loads}
-use Rattle.tenant.specs.State.{State}
+use Rattle.tenant.specs.State.{TenantState}
 
 -- ---- the slot of a refusal
 
@@ -49,24 +49,24 @@ refused_within code by_slot named fault there some (inr is) =
 
 -- ---- the answers
 
-abbrev pub MayLoad : State → ℕ → List ℕ → Answer → Type 0
+abbrev pub MayLoad : TenantState → ℕ → List ℕ → Answer → Type 0
 MayLoad s kind slots answer = (refused : Bool) × Loads refused s kind slots answer
 
-socket_filter : (refused : Bool) (s : State) (kind : ℕ) (slots : List ℕ) (answer : Answer) → kind ≡ 1 → LoadsUnder refused s (lowest s.objects) slots answer → Loads refused s kind slots answer
+socket_filter : (refused : Bool) (s : TenantState) (kind : ℕ) (slots : List ℕ) (answer : Answer) → kind ≡ 1 → LoadsUnder refused s (lowest s.objects) slots answer → Loads refused s kind slots answer
 socket_filter refused s kind slots answer socket loads =
     let yes : (kind == 1) ≡ true = eq-eqb kind 1 socket in
     subst (λ (b : Bool). MatchBool b (LoadsUnder refused s (lowest s.objects) slots answer) (answer ≡ refuses Invalid s)) (sym yes) loads
 
-under_free : (refused : Bool) (s : State) (kind fd : ℕ) (slots : List ℕ) (answer : Answer) → kind ≡ 1 → lowest s.objects ≡ Some fd → LoadsAs refused s fd slots answer → Loads refused s kind slots answer
+under_free : (refused : Bool) (s : TenantState) (kind fd : ℕ) (slots : List ℕ) (answer : Answer) → kind ≡ 1 → lowest s.objects ≡ Some fd → LoadsAs refused s fd slots answer → Loads refused s kind slots answer
 under_free refused s kind fd slots answer socket low loads =
     socket_filter refused s kind slots answer socket (subst (λ (o : Option ℕ). LoadsUnder refused s o slots answer) (sym low) loads)
 
-pub refused_at : (s : State) (kind fd : ℕ) (slots : List ℕ) (errno : Errno) (slot number : ℕ) → kind ≡ 1 → lowest s.objects ≡ Some fd → Judges (targets s) slots (rejected errno slot number)
+pub refused_at : (s : TenantState) (kind fd : ℕ) (slots : List ℕ) (errno : Errno) (slot number : ℕ) → kind ≡ 1 → lowest s.objects ≡ Some fd → Judges (targets s) slots (rejected errno slot number)
     → MayLoad s kind slots (refuses_at errno slot number s)
 refused_at s kind fd slots errno slot number socket low is =
     (false, under_free false s kind fd slots (refuses_at errno slot number s) socket low (rejected errno slot number, is, refl))
 
-pub program_opened : (s : State) (kind fd : ℕ) (slots : List ℕ) (l : Loaded) → kind ≡ 1 → lowest s.objects ≡ Some fd → Judges (targets s) slots (accepted l.insns) → l ≡ loaded s l.insns
+pub program_opened : (s : TenantState) (kind fd : ℕ) (slots : List ℕ) (l : LoadedProgram) → kind ≡ 1 → lowest s.objects ≡ Some fd → Judges (targets s) slots (accepted l.insns) → l ≡ loaded s l.insns
     → MayLoad s kind slots (opens fd (with_program s fd l))
 program_opened s kind fd slots l socket low is same =
-    (false, under_free false s kind fd slots (opens fd (with_program s fd l)) socket low (accepted l.insns, is, ap (λ (m : Loaded). opens fd (with_program s fd m)) same))
+    (false, under_free false s kind fd slots (opens fd (with_program s fd l)) socket low (accepted l.insns, is, ap (λ (m : LoadedProgram). opens fd (with_program s fd m)) same))

@@ -14,10 +14,10 @@ use Rattle.tagged_model.specs.declared.shape.Named.{Named}
 use Rattle.tagged_model.specs.declared.shape.Target.{Target}
 use Rattle.tagged_model.specs.declared.shape.Target.TheVariants as target
 use Rattle.verdict.specs.Maps.{is_among, entries_of}
-use Rattle.tenant.specs.declared.object.Object.{Object}
-use Rattle.tenant.specs.declared.object.Object.TheVariants as object
+use Rattle.tenant.specs.declared.object.OpenObject.{OpenObject}
+use Rattle.tenant.specs.declared.object.OpenObject.TheVariants as object
 use Rattle.tenant.specs.Machine.{target_of, entry_of, targets_from, targets}
-use Rattle.tenant.specs.State.{Map, State, live}
+use Rattle.tenant.specs.State.{Map, TenantState, live}
 use Rattle.tenant.proofs.Targets.{named_at}
 
 -- ---- of entries that are picked by their descriptors
@@ -74,7 +74,7 @@ this_entry fd None rest none = none
 this_entry fd (Some t) rest none = let yes : (fd == fd) ≡ true = eq-eqb fd fd refl in rw yes refl
 
 -- none below the first
-below : (s : State) (from fd : ℕ) (xs : List (Option Object)) → fd < from → at.target_of (targets_from s from xs) fd ≡ None
+below : (s : TenantState) (from fd : ℕ) (xs : List (Option OpenObject)) → fd < from → at.target_of (targets_from s from xs) fd ≡ None
 unfolding targets_from at.target_of
 below s from fd [] low = refl
 below s from fd (x ∷ xs) low =
@@ -82,7 +82,7 @@ below s from fd (x ∷ xs) low =
     ∙ other_entry from (also x (target_of s)) (targets_from s (from + 1) xs) fd (λ e. omega arith)
     ∙ below s (from + 1) fd xs (omega arith)
 
-from_on : (s : State) (from fd : ℕ) (xs : List (Option Object)) (n : ℕ) → fd ≡ from + n → at.target_of (targets_from s from xs) fd ≡ also (get_or xs n None) (target_of s)
+from_on : (s : TenantState) (from fd : ℕ) (xs : List (Option OpenObject)) (n : ℕ) → fd ≡ from + n → at.target_of (targets_from s from xs) fd ≡ also (get_or xs n None) (target_of s)
 unfolding targets_from at.target_of
 from_on s from fd [] n e = refl
 from_on s from fd (x ∷ xs) zero e =
@@ -95,32 +95,32 @@ from_on s from fd (x ∷ xs) (suc n) e =
     ∙ other_entry from (also x (target_of s)) (targets_from s (from + 1) xs) fd (λ same. omega arith)
     ∙ from_on s (from + 1) fd xs n (omega arith)
 
-pub targets_named : (s : State) (fd : ℕ) → at.target_of (targets s) fd ≡ also (named s.objects fd) (target_of s)
+pub targets_named : (s : TenantState) (fd : ℕ) → at.target_of (targets s) fd ≡ also (named s.objects fd) (target_of s)
 targets_named s fd = by_test (nat_lt fd first) refl
   where
     by_test : (low : Bool) → nat_lt fd first ≡ low → at.target_of (targets s) fd ≡ also (named s.objects fd) (target_of s)
     by_test true e =
         let none : named s.objects fd ≡ None = ap (λ (b : Bool). if b then None else flattened (slice_get s.objects (fd - first))) e in
         let low : fd < first = grind (arith, nat_tests) in
-        below s first fd s.objects low ∙ sym (ap (λ (o : Option Object). also o (target_of s)) none)
+        below s first fd s.objects low ∙ sym (ap (λ (o : Option OpenObject). also o (target_of s)) none)
     by_test false e =
         let low : first ≤ fd = grind (arith, nat_tests) in
-        from_on s first fd s.objects (fd - first) (omega (arith, low)) ∙ ap (λ (o : Option Object). also o (target_of s)) (sym (named_at s.objects fd low))
+        from_on s first fd s.objects (fd - first) (omega (arith, low)) ∙ ap (λ (o : Option OpenObject). also o (target_of s)) (sym (named_at s.objects fd low))
 
 -- the shape of a map
-pub shape_is : (s : State) (fd place : ℕ) (t : Map) → named s.objects fd ≡ Some (object.Map place) → live s place ≡ Some t → shapes_named (targets s) fd ≡ Some t.shape
+pub shape_is : (s : TenantState) (fd place : ℕ) (t : Map) → named s.objects fd ≡ Some (object.Map place) → live s place ≡ Some t → shapes_named (targets s) fd ≡ Some t.shape
 shape_is s fd place t opened there =
-    ap shape_in (targets_named s fd ∙ ap (λ (o : Option Object). also o (target_of s)) opened ∙ ap (option_map (λ (u : Map). target.Map u.shape)) there)
+    ap shape_in (targets_named s fd ∙ ap (λ (o : Option OpenObject). also o (target_of s)) opened ∙ ap (option_map (λ (u : Map). target.Map u.shape)) there)
 
 -- what has a shape is a map
-pub shaped_map : (s : State) (fd : ℕ) → IsSome (shapes_named (targets s) fd) → (place : ℕ) × (named s.objects fd ≡ Some (object.Map place))
+pub shaped_map : (s : TenantState) (fd : ℕ) → IsSome (shapes_named (targets s) fd) → (place : ℕ) × (named s.objects fd ≡ Some (object.Map place))
 shaped_map s fd some = by_object (named s.objects fd) refl
   where
     no_some : (o : Option MapShape) → IsSome o → o ≡ None → ⊥
     no_some None some e = absurd (let wrong : false ≡ true = some in cc wrong)
     no_some (Some x) some e = none-some x (sym e)
 
-    by_object : (o : Option Object) → named s.objects fd ≡ o → (place : ℕ) × (named s.objects fd ≡ Some (object.Map place))
-    by_object None e = absurd (no_some (shapes_named (targets s) fd) some (ap shape_in (targets_named s fd ∙ ap (λ (o : Option Object). also o (target_of s)) e)))
-    by_object (Some (object.Program l)) e = absurd (no_some (shapes_named (targets s) fd) some (ap shape_in (targets_named s fd ∙ ap (λ (o : Option Object). also o (target_of s)) e)))
+    by_object : (o : Option OpenObject) → named s.objects fd ≡ o → (place : ℕ) × (named s.objects fd ≡ Some (object.Map place))
+    by_object None e = absurd (no_some (shapes_named (targets s) fd) some (ap shape_in (targets_named s fd ∙ ap (λ (o : Option OpenObject). also o (target_of s)) e)))
+    by_object (Some (object.Program l)) e = absurd (no_some (shapes_named (targets s) fd) some (ap shape_in (targets_named s fd ∙ ap (λ (o : Option OpenObject). also o (target_of s)) e)))
     by_object (Some (object.Map place)) e = (place, e)

@@ -5,9 +5,9 @@ use Rattle.std.specs.Option.{option_map_or}
 use Rattle.std.proofs.lemmas.Bool.{eq-eqb}
 use Rattle.std.proofs.lemmas.Option.{none-some}
 use Rattle.fd_table.specs.Table.{named, flattened}
-use Rattle.tenant.specs.declared.object.Object.{Object}
-use Rattle.tenant.specs.declared.object.Object.TheVariants as object
-use Rattle.tenant.specs.Kept.{Kept, IsKept, key_at, weight, holders}
+use Rattle.tenant.specs.declared.object.OpenObject.{OpenObject}
+use Rattle.tenant.specs.declared.object.OpenObject.TheVariants as object
+use Rattle.tenant.specs.Kept.{KeptTenant, IsWellFormedTenant, key_at, weight, holders}
 use Rattle.bpf_maps.specs.Live.{holds_at}
 use Rattle.tenant.specs.State.{total}
 
@@ -20,27 +20,27 @@ first_one a b e = omega arith
 some_later : (a b : ℕ) → 1 ≤ b → 1 ≤ a + b
 some_later a b h = omega arith
 
-abbrev or_first : Option Object → Object
+abbrev or_first : Option OpenObject → OpenObject
 or_first None = object.Map 0
 or_first (Some x) = x
 
-held_at : (objects : List (Option Object)) (n place : ℕ) → flattened (slice_get objects n) ≡ Some (object.Map place) → 1 ≤ holders place objects
+held_at : (objects : List (Option OpenObject)) (n place : ℕ) → flattened (slice_get objects n) ≡ Some (object.Map place) → 1 ≤ holders place objects
 unfolding total
 held_at [] n place e = absurd (none-some (object.Map place) e)
 held_at (None ∷ os) zero place e = absurd (none-some (object.Map place) e)
-held_at (Some o ∷ os) zero place e = first_one (weight place o) (holders place os) (ap (λ (x : Option Object). weight place (or_first x)) e ∙ names_once place)
+held_at (Some o ∷ os) zero place e = first_one (weight place o) (holders place os) (ap (λ (x : Option OpenObject). weight place (or_first x)) e ∙ names_once place)
 held_at (o ∷ os) (suc n) place e = some_later (option_map_or (weight place) o 0) (holders place os) (held_at os n place e)
 
-held_by : (low : Bool) (objects : List (Option Object)) (n place : ℕ) → (if low then None else flattened (slice_get objects n)) ≡ Some (object.Map place) → 1 ≤ holders place objects
+held_by : (low : Bool) (objects : List (Option OpenObject)) (n place : ℕ) → (if low then None else flattened (slice_get objects n)) ≡ Some (object.Map place) → 1 ≤ holders place objects
 held_by true objects n place e = absurd (none-some (object.Map place) e)
 held_by false objects n place e = held_at objects n place e
 
 -- a descriptor's map is named
-holds_named : (objects : List (Option Object)) (fd place : ℕ) (o : Object) → Some o ≡ named objects fd → o ≡ object.Map place → 1 ≤ holders place objects
+holds_named : (objects : List (Option OpenObject)) (fd place : ℕ) (o : OpenObject) → Some o ≡ named objects fd → o ≡ object.Map place → 1 ≤ holders place objects
 holds_named objects fd place o e is = held_by (nat_lt fd 3) objects (fd - 3) place (sym e ∙ ap Some is)
 
 -- so a map is there
-pub named_has_key : (k : Kept) → IsKept k → (fd place : ℕ) (o : Object) → Some o ≡ named k.objects fd → o ≡ object.Map place → IsSome (key_at k place)
+pub named_has_key : (k : KeptTenant) → IsWellFormedTenant k → (fd place : ℕ) (o : OpenObject) → Some o ≡ named k.objects fd → o ≡ object.Map place → IsSome (key_at k place)
 named_has_key k is fd place o opened map =
     some_key (key_at k place) (subst (λ (n : ℕ). 1 ≤ n) (sym (is.held place)) (holds_named k.objects fd place o opened map))
   where
@@ -49,6 +49,6 @@ named_has_key k is fd place o opened map =
     some_key (Some key) some = search rules
 
 -- what was found is in the same state
-pub named_in : (old k : Kept) (fd m : ℕ) → k ≡ old → (place : ℕ) × (named old.objects fd ≡ Some (object.Map place)) × (key_at old place ≡ Some m)
+pub named_in : (old k : KeptTenant) (fd m : ℕ) → k ≡ old → (place : ℕ) × (named old.objects fd ≡ Some (object.Map place)) × (key_at old place ≡ Some m)
     → (place : ℕ) × (named k.objects fd ≡ Some (object.Map place)) × (key_at k place ≡ Some m)
-named_in old k fd m same (place, opened, there) = (place, ap (λ (x : Kept). named x.objects fd) same ∙ opened, ap (λ (x : Kept). key_at x place) same ∙ there)
+named_in old k fd m same (place, opened, there) = (place, ap (λ (x : KeptTenant). named x.objects fd) same ∙ opened, ap (λ (x : KeptTenant). key_at x place) same ∙ there)

@@ -2,12 +2,12 @@
 use Rattle.std.proofs.Common.{◌≡◌, ℕ, zero, suc, false, List, replicate, get_or, Option, Some, None, refl, sym, ◌∙◌, arith, subst}
 use Rattle.std.specs.Option.{option_map_or}
 use Rattle.std.proofs.lemmas.Option.{none-some}
-use Rattle.bpf_maps.specs.Live.{Tenant, holds_at, shape_at, count, areas}
+use Rattle.bpf_maps.specs.Live.{LiveMaps, holds_at, shape_at, count, areas}
 use Rattle.fd_table.specs.Table.{nothing_open, most}
-use Rattle.tenant.specs.declared.object.Object.{Object}
-use Rattle.tenant.specs.declared.object.Object.TheVariants as object
+use Rattle.tenant.specs.declared.object.OpenObject.{OpenObject}
+use Rattle.tenant.specs.declared.object.OpenObject.TheVariants as object
 use Rattle.tenant.specs.State.{most_maps}
-use Rattle.tenant.specs.Kept.{Kept, IsKept, weight, by_descriptor, descriptors, area_of}
+use Rattle.tenant.specs.Kept.{KeptTenant, IsWellFormedTenant, weight, by_descriptor, descriptors, area_of}
 use Rattle.tenant.proofs.Sums.{total-none}
 
 get_or-none : {A : Type 0} (n i : ℕ) → get_or (replicate {A = Option A} n None) i None ≡ None
@@ -15,14 +15,14 @@ get_or-none zero i = refl
 get_or-none (suc n) zero = refl
 get_or-none (suc n) (suc i) = get_or-none n i
 
-abbrev kept_new : Tenant → Kept
+abbrev kept_new : LiveMaps → KeptTenant
 kept_new live = record { objects = nothing_open; keys = replicate most_maps None; live = live; refused = false }
 
-holds_nothing : (live : Tenant) (o : Option ℕ) → o ≡ None → option_map_or (holds_at live) o 0 ≡ 0
+holds_nothing : (live : LiveMaps) (o : Option ℕ) → o ≡ None → option_map_or (holds_at live) o 0 ≡ 0
 holds_nothing live None e = refl
 holds_nothing live (Some key) e = absurd (none-some key (sym e))
 
-new_is_kept : (live : Tenant) → count live ≡ 0 → areas live ≡ 0 → IsKept (kept_new live)
+new_is_kept : (live : LiveMaps) → count live ≡ 0 → areas live ≡ 0 → IsWellFormedTenant (kept_new live)
 new_is_kept live none_live no_bytes = record {
   all = refl;
   placed = record {
@@ -37,7 +37,7 @@ new_is_kept live none_live no_bytes = record {
   bound = λ n l there. absurd (none-some (object.Program l) (sym (get_or-none most n) ∙ there));
 }
 
-pub empty_is_kept : (objects : List (Option Object)) (live : Tenant) → objects ≡ nothing_open → count live ≡ 0 → areas live ≡ 0
-    → IsKept (record { objects = objects; keys = replicate most_maps None; live = live; refused = false })
+pub empty_is_kept : (objects : List (Option OpenObject)) (live : LiveMaps) → objects ≡ nothing_open → count live ≡ 0 → areas live ≡ 0
+    → IsWellFormedTenant (record { objects = objects; keys = replicate most_maps None; live = live; refused = false })
 empty_is_kept objects live none none_live no_bytes =
-    subst (λ (os : List (Option Object)). IsKept (record { objects = os; keys = replicate most_maps None; live = live; refused = false })) (sym none) (new_is_kept live none_live no_bytes)
+    subst (λ (os : List (Option OpenObject)). IsWellFormedTenant (record { objects = os; keys = replicate most_maps None; live = live; refused = false })) (sym none) (new_is_kept live none_live no_bytes)

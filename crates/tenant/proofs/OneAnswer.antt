@@ -15,9 +15,9 @@ use Rattle.tagged_model.specs.declared.shape.Named.{Named}
 use Rattle.tagged_model.specs.Step.{first}
 use Rattle.verdict.specs.Verdict.{IsAccepted, IsRefused}
 use Rattle.tenant.specs.declared.errno.Errno.{Errno}
-use Rattle.tenant.specs.State.{State}
-use Rattle.tenant.specs.Machine.{Answer, Judgement, accepted, rejected, Judges, IsMalformed, IsUnaccepted, codec_errno, verdict_errno, judged, targets, LoadsAs, LoadsUnder, Answers}
-use Rattle.tenant.specs.Alone.{AnswersFrame, Tells, Alone}
+use Rattle.tenant.specs.State.{TenantState}
+use Rattle.tenant.specs.Machine.{Answer, LoadJudgement, accepted, rejected, Judges, IsNoProgram, IsRefusedProgram, codec_errno, verdict_errno, judged, targets, LoadsAs, LoadsUnder, Answers}
+use Rattle.tenant.specs.Alone.{AnswersFrame, RepliesUnder, Alone}
 
 -- ---- a load
 
@@ -50,7 +50,7 @@ not_both one none accept named slots insns e slot number (program, spelled, is) 
     let same : others ≡ insns = one others insns other program (sym spelled_too ∙ spelled) in
     accept insns named slot why is (subst (λ (i : List Insn). IsRefused i named slot why) same refused)
 
-same_malformed : OneFault → (slots : List ℕ) (e f : Errno) (m n p q : ℕ) → IsMalformed slots e m p → IsMalformed slots f n q → rejected e m p ≡ rejected f n q
+same_malformed : OneFault → (slots : List ℕ) (e f : Errno) (m n p q : ℕ) → IsNoProgram slots e m p → IsNoProgram slots f n q → rejected e m p ≡ rejected f n q
 same_malformed one slots e f m n p q (a, has_a, e_is, m_is, p_is) (b, has_b, f_is, n_is, q_is) =
     let same : a ≡ b = one slots a b has_a has_b in
     same_rejection e f m n p q
@@ -58,14 +58,14 @@ same_malformed one slots e f m n p q (a, has_a, e_is, m_is, p_is) (b, has_b, f_i
     (m_is ∙ ap (λ (x : CodecFault). x.slot) same ∙ sym n_is)
     (p_is ∙ ap (λ (x : CodecFault). 100 + fault_number x.kind) same ∙ sym q_is)
 
-same_unaccepted : OneProgram → OneRefusal → (named : List Named) (slots : List ℕ) (e f : Errno) (m n p q : ℕ) → IsUnaccepted named slots e m p → IsUnaccepted named slots f n q
+same_unaccepted : OneProgram → OneRefusal → (named : List Named) (slots : List ℕ) (e f : Errno) (m n p q : ℕ) → IsRefusedProgram named slots e m p → IsRefusedProgram named slots f n q
     → rejected e m p ≡ rejected f n q
 same_unaccepted one refusal named slots e f m n p q (a, why_a, program_a, spelled_a, is_a, e_is, p_is) (b, why_b, program_b, spelled_b, is_b, f_is, q_is) =
     let same : b ≡ a = one b a program_b program_a (sym spelled_b ∙ spelled_a) in
     let both = refusal a named m n why_a why_b is_a (subst (λ (i : List Insn). IsRefused i named n why_b) same is_b) in
     same_rejection e f m n p q (e_is ∙ ap verdict_errno both.1 ∙ sym f_is) both.0 (p_is ∙ ap reason_number both.1 ∙ sym q_is)
 
-not_malformed : NoFault → (named : List Named) (slots : List ℕ) (e f : Errno) (m n p q : ℕ) → IsMalformed slots e m p → ¬ IsUnaccepted named slots f n q
+not_malformed : NoFault → (named : List Named) (slots : List ℕ) (e f : Errno) (m n p q : ℕ) → IsNoProgram slots e m p → ¬ IsRefusedProgram named slots f n q
 not_malformed none named slots e f m n p q (fault, has, e_is, m_is, p_is) (insns, why, program, spelled, refused, f_is, q_is) = spelled_no_fault none slots insns fault program spelled has
 
 same_rejected : OneProgram → OneFault → NoFault → OneRefusal → (named : List Named) (slots : List ℕ) (e f : Errno) (m n p q : ℕ)
@@ -75,7 +75,7 @@ same_rejected one fault none refusal named slots e f m n p q (inl x) (inr y) = a
 same_rejected one fault none refusal named slots e f m n p q (inr x) (inl y) = absurd (not_malformed none named slots f e n m q p y x)
 same_rejected one fault none refusal named slots e f m n p q (inr x) (inr y) = same_unaccepted one refusal named slots e f m n p q x y
 
-pub one_judgement_is : OneProgram → OneFault → NoFault → OneRefusal → NotRefused → (named : List Named) (slots : List ℕ) (j k : Judgement) → Judges named slots j → Judges named slots k → j ≡ k
+pub one_judgement_is : OneProgram → OneFault → NoFault → OneRefusal → NotRefused → (named : List Named) (slots : List ℕ) (j k : LoadJudgement) → Judges named slots j → Judges named slots k → j ≡ k
 one_judgement_is one fault none refusal accept named slots (accepted a) (accepted b) x y = ap accepted (one a b x.0 y.0 (sym x.1 ∙ y.1))
 one_judgement_is one fault none refusal accept named slots (accepted a) (rejected f n q) x y = absurd (not_both one none accept named slots a f n q x y)
 one_judgement_is one fault none refusal accept named slots (rejected e m p) (accepted b) x y = absurd (not_both one none accept named slots b e m p y x)
@@ -84,22 +84,22 @@ one_judgement_is one fault none refusal accept named slots (rejected e m p) (rej
 -- ---- an answer
 
 abbrev Judgements : Type 0
-Judgements = (named : List Named) (slots : List ℕ) (j k : Judgement) → Judges named slots j → Judges named slots k → j ≡ k
+Judgements = (named : List Named) (slots : List ℕ) (j k : LoadJudgement) → Judges named slots j → Judges named slots k → j ≡ k
 
-loads_as : Judgements → (refused : Bool) (s : State) (fd : ℕ) (slots : List ℕ) (a b : Answer) → LoadsAs refused s fd slots a → LoadsAs refused s fd slots b → a ≡ b
+loads_as : Judgements → (refused : Bool) (s : TenantState) (fd : ℕ) (slots : List ℕ) (a b : Answer) → LoadsAs refused s fd slots a → LoadsAs refused s fd slots b → a ≡ b
 loads_as one true s fd slots a b x y = x ∙ sym y
 loads_as one false s fd slots a b (j, is, told) (k, is_too, told_too) = told ∙ ap (judged s fd) (one (targets s) slots j k is is_too) ∙ sym told_too
 
-loads_under : Judgements → (refused : Bool) (s : State) (o : Option ℕ) (slots : List ℕ) (a b : Answer) → LoadsUnder refused s o slots a → LoadsUnder refused s o slots b → a ≡ b
+loads_under : Judgements → (refused : Bool) (s : TenantState) (o : Option ℕ) (slots : List ℕ) (a b : Answer) → LoadsUnder refused s o slots a → LoadsUnder refused s o slots b → a ≡ b
 loads_under one refused s None slots a b x y = x ∙ sym y
 loads_under one refused s (Some fd) slots a b x y = loads_as one refused s fd slots a b x y
 
-loads_by : Judgements → (socket refused : Bool) (s : State) (o : Option ℕ) (slots : List ℕ) (x a b : Answer) → MatchBool socket (LoadsUnder refused s o slots a) (a ≡ x)
+loads_by : Judgements → (socket refused : Bool) (s : TenantState) (o : Option ℕ) (slots : List ℕ) (x a b : Answer) → MatchBool socket (LoadsUnder refused s o slots a) (a ≡ x)
     → MatchBool socket (LoadsUnder refused s o slots b) (b ≡ x) → a ≡ b
 loads_by one true refused s o slots x a b h k = loads_under one refused s o slots a b h k
 loads_by one false refused s o slots x a b h k = h ∙ sym k
 
-pub one_answer_is : Judgements → (refusals : List Bool) (s : State) (command : Command) (a b : Answer) → Answers refusals s command a → Answers refusals s command b → a ≡ b
+pub one_answer_is : Judgements → (refusals : List Bool) (s : TenantState) (command : Command) (a b : Answer) → Answers refusals s command a → Answers refusals s command b → a ≡ b
 one_answer_is one refusals s (prog_load kind slots) a b x y = loads_by one (kind == 1) (first refusals) s (table.lowest s.objects) slots _ a b x y
 one_answer_is one refusals s (map_create kind key value max flags) a b x y = x ∙ sym y
 one_answer_is one refusals s (map_lookup fd key) a b x y = x ∙ sym y
@@ -112,22 +112,22 @@ one_answer_is one refusals s (close fd) a b x y = x ∙ sym y
 -- ---- frames
 
 abbrev AllAnswers : Type 0
-AllAnswers = (refusals : List Bool) (s : State) (command : Command) (a b : Answer) → Answers refusals s command a → Answers refusals s command b → a ≡ b
+AllAnswers = (refusals : List Bool) (s : TenantState) (command : Command) (a b : Answer) → Answers refusals s command a → Answers refusals s command b → a ≡ b
 
-one_frame : AllAnswers → (refusals : List Bool) (s : State) (r : Result Command BadFrame) (a b : Answer) → AnswersFrame refusals s r a → AnswersFrame refusals s r b → a ≡ b
+one_frame : AllAnswers → (refusals : List Bool) (s : TenantState) (r : Result Command BadFrame) (a b : Answer) → AnswersFrame refusals s r a → AnswersFrame refusals s r b → a ≡ b
 one_frame one refusals s (Err fault) a b x y = x ∙ sym y
 one_frame one refusals s (Ok command) a b x y = one refusals s command a b x y
 
-pub one_reply_is : AllAnswers → (refusals : List Bool) (frame x y : List ℕ) (before a b : Option State) → Tells refusals frame x before a → Tells refusals frame y before b → (x ≡ y) × (a ≡ b)
+pub one_reply_is : AllAnswers → (refusals : List Bool) (frame x y : List ℕ) (before a b : Option TenantState) → RepliesUnder refusals frame x before a → RepliesUnder refusals frame y before b → (x ≡ y) × (a ≡ b)
 one_reply_is one refusals frame x y None a b h k = (h.1 ∙ sym k.1, h.0 ∙ sym k.0)
 one_reply_is one refusals frame x y (Some s) a b (p, h, x_is, a_is) (q, k, y_is, b_is) =
     let same : p ≡ q = one_frame one refusals s (parsed frame) p q h k in
     (x_is ∙ ap (λ (r : Answer). reply_to frame r.status r.payload) same ∙ sym y_is, a_is ∙ ap (λ (r : Answer). Some r.after) same ∙ sym b_is)
 
 abbrev OneReply : Type 0
-OneReply = (refusals : List Bool) (frame x y : List ℕ) (before a b : Option State) → Tells refusals frame x before a → Tells refusals frame y before b → (x ≡ y) × (a ≡ b)
+OneReply = (refusals : List Bool) (frame x y : List ℕ) (before a b : Option TenantState) → RepliesUnder refusals frame x before a → RepliesUnder refusals frame y before b → (x ≡ y) × (a ≡ b)
 
-pub one_alone_is : OneReply → (before a b : Option State) (frames xs ys : List (List ℕ)) → Alone before frames xs a → Alone before frames ys b → (xs ≡ ys) × (a ≡ b)
+pub one_alone_is : OneReply → (before a b : Option TenantState) (frames xs ys : List (List ℕ)) → Alone before frames xs a → Alone before frames ys b → (xs ≡ ys) × (a ≡ b)
 one_alone_is one before a b [] [] [] h k = (refl, h ∙ sym k)
 one_alone_is one before a b [] (x ∷ xs) ys h k = absurd h
 one_alone_is one before a b [] [] (y ∷ ys) h k = absurd k
@@ -135,5 +135,5 @@ one_alone_is one before a b (f ∷ fs) [] ys h k = absurd h
 one_alone_is one before a b (f ∷ fs) (x ∷ xs) [] h k = absurd k
 one_alone_is one before a b (f ∷ fs) (x ∷ xs) (y ∷ ys) (m, told, h) (n, told_too, k) =
     let here = one [] f x y before m n told told_too in
-    let rest = one_alone_is one m a b fs xs ys h (subst (λ (o : Option State). Alone o fs ys b) (sym here.1) k) in
+    let rest = one_alone_is one m a b fs xs ys h (subst (λ (o : Option TenantState). Alone o fs ys b) (sym here.1) k) in
     (ap₂ (λ (z : List ℕ) (zs : List (List ℕ)). z ∷ zs) here.0 rest.0, rest.1)

@@ -5,42 +5,42 @@ use Rattle.std.specs.Option.{option_map_or}
 use Rattle.std.proofs.lemmas.Bool.{eq-eqb, ne_eqb, cases_eq}
 use Rattle.std.proofs.lemmas.Bool.Decides.{nat_tests}
 use Rattle.bpf_maps.specs.declared.part.TheConstants.{PART}
-use Rattle.bpf_maps.specs.Live.{Tenant, Live, live_or, live_at, holds_at, places_at, shape_at, map_in, Held, held_at, without_area, one_less, no_live, SameRoom, HasOneMore, KeepsMap, KeepsOthers}
+use Rattle.bpf_maps.specs.Live.{LiveMaps, LiveMap, live_or, live_at, holds_at, places_at, shape_at, map_in, MapWithoutArea, held_at, without_area, one_less, no_live, SameRoom, HasOneMore, KeepsMap, KeepsOthers}
 use Rattle.bpf_maps.specs.Places.{PlaceTable}
-use Rattle.tenant.specs.Kept.{IsPlaced, IsLive, holds_in, area_of, areas_by}
-use Rattle.tenant.specs.Leaves.{Leaves}
+use Rattle.tenant.specs.Kept.{MapsAreAtPlaces, IsLive, holds_in, area_of, areas_by}
+use Rattle.tenant.specs.inside.Leaves.{LeavesHeldMaps}
 use Rattle.tenant.proofs.Sums.{total-unset, total-same}
 use Rattle.tenant.proofs.Opened.{set_there, unset_here, unset_cases}
 
 -- ---- a map without its area
 
-held_holds : Option Held → ℕ
+held_holds : Option MapWithoutArea → ℕ
 held_holds None = 0
 held_holds (Some h) = h.holds
 
-held_places : Option Held → PlaceTable
+held_places : Option MapWithoutArea → PlaceTable
 held_places None = no_live.places
 held_places (Some h) = h.places
 
-holds_held : (o : Option Live) → held_holds (option_map without_area o) ≡ (live_or o).holds
+holds_held : (o : Option LiveMap) → held_holds (option_map without_area o) ≡ (live_or o).holds
 unfolding held_holds
 holds_held None = refl
 holds_held (Some l) = refl
 
-places_held : (o : Option Live) → held_places (option_map without_area o) ≡ (live_or o).places
+places_held : (o : Option LiveMap) → held_places (option_map without_area o) ≡ (live_or o).places
 unfolding held_places
 places_held None = refl
 places_held (Some l) = refl
 
-same_holds : (old new : Tenant) (key : ℕ) → held_at new key ≡ held_at old key → holds_at new key ≡ holds_at old key
+same_holds : (old new : LiveMaps) (key : ℕ) → held_at new key ≡ held_at old key → holds_at new key ≡ holds_at old key
 same_holds old new key e = sym (holds_held (live_at new key)) ∙ ap held_holds e ∙ holds_held (live_at old key)
 
-same_places : (old new : Tenant) (key : ℕ) → held_at new key ≡ held_at old key → places_at new key ≡ places_at old key
+same_places : (old new : LiveMaps) (key : ℕ) → held_at new key ≡ held_at old key → places_at new key ≡ places_at old key
 same_places old new key e = sym (places_held (live_at new key)) ∙ ap held_places e ∙ places_held (live_at old key)
 
 -- ---- what a release of the map under a key leaves
 
-pub record IsReleased (old new : Tenant) (part later : List ℕ) (key : ℕ) : Type 0 where
+pub record IsReleased (old new : LiveMaps) (part later : List ℕ) (key : ℕ) : Type 0 where
   pub less : held_at new key ≡ one_less (held_at old key)
   pub stays : 1 < holds_at old key → IsSome (live_at new key)
   pub gone : holds_at old key ≤ 1 → live_at new key ≡ None
@@ -52,7 +52,7 @@ pub record IsReleased (old new : Tenant) (part later : List ℕ) (key : ℕ) : T
   pub freed : holds_at old key ≤ 1 → HasOneMore new old (shape_at old key)
   pub whole : length later ≡ PART
 
-less_one : (o : Option Held) → 1 < held_holds o → (held_holds (one_less o) + 1 ≡ held_holds o) × (held_places (one_less o) ≡ held_places o)
+less_one : (o : Option MapWithoutArea) → 1 < held_holds o → (held_holds (one_less o) + 1 ≡ held_holds o) × (held_places (one_less o) ≡ held_places o)
 unfolding held_holds held_places
 less_one None more = absurd (omega arith)
 less_one (Some h) more = by_test (nat_le h.holds 1) refl
@@ -61,27 +61,27 @@ less_one (Some h) more = by_test (nat_le h.holds 1) refl
     by_test true e = absurd (let le : h.holds ≤ 1 = grind (arith, nat_tests) in omega arith)
     by_test false e = (omega arith, refl)
 
-one_fewer : (old new : Tenant) (key : ℕ) → held_at new key ≡ one_less (held_at old key) → 1 < holds_at old key → (holds_at new key + 1 ≡ holds_at old key) × (places_at new key ≡ places_at old key)
+one_fewer : (old new : LiveMaps) (key : ℕ) → held_at new key ≡ one_less (held_at old key) → 1 < holds_at old key → (holds_at new key + 1 ≡ holds_at old key) × (places_at new key ≡ places_at old key)
 one_fewer old new key less more =
     let both = less_one (held_at old key) (subst (λ (n : ℕ). 1 < n) (sym (holds_held (live_at old key))) more) in (
       ap (λ (n : ℕ). n + 1) (sym (holds_held (live_at new key)) ∙ ap held_holds less) ∙ both.0 ∙ holds_held (live_at old key),
       sym (places_held (live_at new key)) ∙ ap held_places less ∙ both.1 ∙ places_held (live_at old key),
     )
 
-other_live : (old new : Tenant) (part later : List ℕ) (key other : ℕ) → IsReleased old new part later key → other ≢ key → IsLive old other → IsLive new other
+other_live : (old new : LiveMaps) (part later : List ℕ) (key other : ℕ) → IsReleased old new part later key → other ≢ key → IsLive old other → IsLive new other
 other_live old new part later key other r apart was = record {
   there = (r.maps other apart was.there).0;
   some = subst (λ (n : ℕ). 1 ≤ n) (sym (same_holds old new other (r.others other apart))) was.some;
   ended = ap (λ (p : PlaceTable). p.kept) (same_places old new other (r.others other apart)) ∙ was.ended;
 }
 
-other_shape : (old new : Tenant) (key : ℕ) → held_at new key ≡ held_at old key → area_of (shape_at new key) ≡ area_of (shape_at old key)
+other_shape : (old new : LiveMaps) (key : ℕ) → held_at new key ≡ held_at old key → area_of (shape_at new key) ≡ area_of (shape_at old key)
 other_shape old new key same = ap (λ (p : PlaceTable). area_of p.shape) (same_places old new key same)
 
 -- ---- the last one
 
-placed_last : (keys : List (Option ℕ)) (old new : Tenant) (part later : List ℕ) (place key : ℕ) → IsPlaced keys old → get_or keys place None ≡ Some key → IsReleased old new part later key → holds_at old key ≤ 1
-    → IsPlaced (set keys place None) new
+placed_last : (keys : List (Option ℕ)) (old new : LiveMaps) (part later : List ℕ) (place key : ℕ) → MapsAreAtPlaces keys old → get_or keys place None ≡ Some key → IsReleased old new part later key → holds_at old key ≤ 1
+    → MapsAreAtPlaces (set keys place None) new
 placed_last keys old new part later place key is there r last = record {
   all = length-set {A = Option ℕ} keys place None ∙ is.all;
   each = λ q k at. let (other, stood) = unset_cases keys place q k at in other_live old new part later key k r (not_key q k other stood) (is.each q k stood);
@@ -104,8 +104,8 @@ placed_last keys old new part later place key is there r last = record {
     not_key : (q k : ℕ) → q ≢ place → get_or keys q None ≡ Some k → k ≢ key
     not_key q k other stood same = other (is.apart q place key (stood ∙ ap Some same) there)
 
-pub left_last : (keys : List (Option ℕ)) (old new : Tenant) (part later : List ℕ) (place key : ℕ) → IsPlaced keys old → get_or keys place None ≡ Some key → IsReleased old new part later key → holds_at old key ≤ 1
-    → Leaves (record { keys = keys; live = old; part = part }) (record { keys = set keys place None; live = new; part = later })
+pub left_last : (keys : List (Option ℕ)) (old new : LiveMaps) (part later : List ℕ) (place key : ℕ) → MapsAreAtPlaces keys old → get_or keys place None ≡ Some key → IsReleased old new part later key → holds_at old key ≤ 1
+    → LeavesHeldMaps (record { keys = keys; live = old; part = part }) (record { keys = set keys place None; live = new; part = later })
 left_last keys old new part later place key is there r last = record {
   placed = placed_last keys old new part later place key is there r last;
   stays = λ q k at.
@@ -117,8 +117,8 @@ left_last keys old new part later place key is there r last = record {
 
 -- ---- not the last one
 
-placed_more : (keys : List (Option ℕ)) (old new : Tenant) (part later : List ℕ) (place key : ℕ) → IsPlaced keys old → get_or keys place None ≡ Some key → IsReleased old new part later key → 1 < holds_at old key
-    → IsPlaced keys new
+placed_more : (keys : List (Option ℕ)) (old new : LiveMaps) (part later : List ℕ) (place key : ℕ) → MapsAreAtPlaces keys old → get_or keys place None ≡ Some key → IsReleased old new part later key → 1 < holds_at old key
+    → MapsAreAtPlaces keys new
 placed_more keys old new part later place key is there r more =
     let fewer = one_fewer old new key r.less more in
     let here : IsLive new key = record {
@@ -142,8 +142,8 @@ placed_more keys old new part later place key is there r more =
     shape_of here k (inl same) = subst (λ (n : ℕ). area_of (shape_at new n) ≡ area_of (shape_at old n)) (sym same) here
     shape_of here k (inr other) = other_shape old new k (r.others k other)
 
-pub left_more : (keys : List (Option ℕ)) (old new : Tenant) (part later : List ℕ) (place key : ℕ) → IsPlaced keys old → get_or keys place None ≡ Some key → IsReleased old new part later key → 1 < holds_at old key
-    → Leaves (record { keys = keys; live = old; part = part }) (record { keys = keys; live = new; part = later })
+pub left_more : (keys : List (Option ℕ)) (old new : LiveMaps) (part later : List ℕ) (place key : ℕ) → MapsAreAtPlaces keys old → get_or keys place None ≡ Some key → IsReleased old new part later key → 1 < holds_at old key
+    → LeavesHeldMaps (record { keys = keys; live = old; part = part }) (record { keys = keys; live = new; part = later })
 left_more keys old new part later place key is there r more = record {
   placed = placed_more keys old new part later place key is there r more;
   stays = λ q k at. (at, same_of q k at (cases_eq k key));
@@ -166,14 +166,14 @@ here_one place q same = let yes : (place == q) ≡ true = eq-eqb place q (sym sa
 none_there : (place q : ℕ) → q ≢ place → one_at place q ≡ 0
 none_there place q other = let no : (place == q) ≡ false = ne_eqb place q (λ e. other (sym e)) in rw no refl
 
-other_holds : (old new : Tenant) (o : Option ℕ) → ((k : ℕ) → o ≡ Some k → held_at new k ≡ held_at old k) → option_map_or (holds_at new) o 0 ≡ option_map_or (holds_at old) o 0
+other_holds : (old new : LiveMaps) (o : Option ℕ) → ((k : ℕ) → o ≡ Some k → held_at new k ≡ held_at old k) → option_map_or (holds_at new) o 0 ≡ option_map_or (holds_at old) o 0
 other_holds old new None h = refl
 other_holds old new (Some k) h = same_holds old new k (h k refl)
 
-read : (live : Tenant) (keys : List (Option ℕ)) (q : ℕ) (o : Option ℕ) → get_or keys q None ≡ o → holds_in keys live q ≡ option_map_or (holds_at live) o 0
+read : (live : LiveMaps) (keys : List (Option ℕ)) (q : ℕ) (o : Option ℕ) → get_or keys q None ≡ o → holds_in keys live q ≡ option_map_or (holds_at live) o 0
 read live keys q o e = ap (λ (x : Option ℕ). option_map_or (holds_at live) x 0) e
 
-other_place : (keys keys_after : List (Option ℕ)) (old new : Tenant) (part later : List ℕ) (place key q : ℕ) → IsPlaced keys old → get_or keys place None ≡ Some key → IsReleased old new part later key → q ≢ place
+other_place : (keys keys_after : List (Option ℕ)) (old new : LiveMaps) (part later : List ℕ) (place key q : ℕ) → MapsAreAtPlaces keys old → get_or keys place None ≡ Some key → IsReleased old new part later key → q ≢ place
     → get_or keys_after q None ≡ get_or keys q None → holds_in keys_after new q + one_at place q ≡ holds_in keys old q
 other_place keys keys_after old new part later place key q is there r other same =
     let a : holds_in keys_after new q ≡ option_map_or (holds_at new) (get_or keys q None) 0 = read new keys_after q (get_or keys q None) same in
@@ -181,7 +181,7 @@ other_place keys keys_after old new part later place key q is there r other same
     let c = none_there place q other in
     omega arith
 
-pub holds_last : (keys : List (Option ℕ)) (old new : Tenant) (part later : List ℕ) (place key : ℕ) → IsPlaced keys old → get_or keys place None ≡ Some key → IsReleased old new part later key → holds_at old key ≤ 1
+pub holds_last : (keys : List (Option ℕ)) (old new : LiveMaps) (part later : List ℕ) (place key : ℕ) → MapsAreAtPlaces keys old → get_or keys place None ≡ Some key → IsReleased old new part later key → holds_at old key ≤ 1
     → (q : ℕ) → holds_in (set keys place None) new q + one_at place q ≡ holds_in keys old q
 holds_last keys old new part later place key is there r last q = by_place (cases_eq q place)
   where
@@ -194,7 +194,7 @@ holds_last keys old new part later place key is there r last q = by_place (cases
         omega arith
     by_place (inr other) = other_place keys (set keys place None) old new part later place key q is there r other (set_there keys place q None other)
 
-pub holds_more : (keys : List (Option ℕ)) (old new : Tenant) (part later : List ℕ) (place key : ℕ) → IsPlaced keys old → get_or keys place None ≡ Some key → IsReleased old new part later key → 1 < holds_at old key
+pub holds_more : (keys : List (Option ℕ)) (old new : LiveMaps) (part later : List ℕ) (place key : ℕ) → MapsAreAtPlaces keys old → get_or keys place None ≡ Some key → IsReleased old new part later key → 1 < holds_at old key
     → (q : ℕ) → holds_in keys new q + one_at place q ≡ holds_in keys old q
 holds_more keys old new part later place key is there r more q = by_place (cases_eq q place)
   where

@@ -3,32 +3,32 @@ use Rattle.std.proofs.Common.{◌≡◌, ◌≢◌, ℕ, ◌≤◌, [], Option, 
 use Rattle.std.specs.Prelude.{◌⊎◌}
 use Rattle.std.specs.Option.{option_map_or}
 use Rattle.std.proofs.lemmas.Bool.{cases_eq}
-use Rattle.bpf_maps.specs.Live.{Tenant, Live, live_or, live_at, holds_at, shape_at, places_at, SameRoom}
+use Rattle.bpf_maps.specs.Live.{LiveMaps, LiveMap, live_or, live_at, holds_at, shape_at, places_at, SameRoom}
 use Rattle.tagged_model.specs.declared.shape.MapShape.{MapShape}
 use Rattle.tenant.proofs.Sums.{total-same}
-use Rattle.tenant.specs.Kept.{Kept, IsKept, key_at, area_of}
+use Rattle.tenant.specs.Kept.{KeptTenant, IsWellFormedTenant, key_at, area_of}
 
-abbrev pub with_live : Kept → Tenant → Kept
+abbrev pub with_live : KeptTenant → LiveMaps → KeptTenant
 with_live k t = record { objects = k.objects; keys = k.keys; live = t; refused = k.refused }
 
 -- a map that was live still is, of the shape that it had, with as many that hold it, and no run goes on
-pub record IsLiveStill (old new : Tenant) (key : ℕ) : Type 0 where
+pub record IsLiveStill (old new : LiveMaps) (key : ℕ) : Type 0 where
   pub live : IsSome (live_at new key)
   pub holds : holds_at new key ≡ holds_at old key
   pub shape : shape_at new key ≡ shape_at old key
   pub ended : (places_at new key).kept ≡ []
 
-pub other_still : (k : Kept) (t : Tenant) → IsKept k → (place key : ℕ) → key_at k place ≡ Some key → live_at t key ≡ live_at k.live key → IsLiveStill k.live t key
+pub other_still : (k : KeptTenant) (t : LiveMaps) → IsWellFormedTenant k → (place key : ℕ) → key_at k place ≡ Some key → live_at t key ≡ live_at k.live key → IsLiveStill k.live t key
 other_still k t is place key there same =
     let was = is.placed.each place key there in record {
       live = subst IsSome (sym same) was.there;
-      holds = ap (λ (o : Option Live). (live_or o).holds) same;
-      shape = ap (λ (o : Option Live). (live_or o).places.shape) same;
-      ended = ap (λ (o : Option Live). (live_or o).places.kept) same ∙ was.ended;
+      holds = ap (λ (o : Option LiveMap). (live_or o).holds) same;
+      shape = ap (λ (o : Option LiveMap). (live_or o).places.shape) same;
+      ended = ap (λ (o : Option LiveMap). (live_or o).places.kept) same ∙ was.ended;
     }
 
 -- where one map is so, and the others are the same, all are
-pub each_still : (k : Kept) (t : Tenant) (m : ℕ) → IsKept k → IsLiveStill k.live t m → ((other : ℕ) → other ≢ m → live_at t other ≡ live_at k.live other)
+pub each_still : (k : KeptTenant) (t : LiveMaps) (m : ℕ) → IsWellFormedTenant k → IsLiveStill k.live t m → ((other : ℕ) → other ≢ m → live_at t other ≡ live_at k.live other)
     → (place key : ℕ) → key_at k place ≡ Some key → IsLiveStill k.live t key
 each_still k t m is here others place key there = by_key (cases_eq key m)
   where
@@ -37,12 +37,12 @@ each_still k t m is here others place key there = by_key (cases_eq key m)
     by_key (inr other) = other_still k t is place key there (others key other)
 
 -- as many hold the map at a place
-same_holds : (old new : Tenant) (o : Option ℕ) → ((key : ℕ) → o ≡ Some key → holds_at new key ≡ holds_at old key) → option_map_or (holds_at new) o 0 ≡ option_map_or (holds_at old) o 0
+same_holds : (old new : LiveMaps) (o : Option ℕ) → ((key : ℕ) → o ≡ Some key → holds_at new key ≡ holds_at old key) → option_map_or (holds_at new) o 0 ≡ option_map_or (holds_at old) o 0
 same_holds old new None h = refl
 same_holds old new (Some key) h = h key refl
 
-pub still_kept : (k : Kept) (t : Tenant) → IsKept k → ((place key : ℕ) → key_at k place ≡ Some key → IsLiveStill k.live t key) → SameRoom k.live t
-    → IsKept (with_live k t)
+pub still_kept : (k : KeptTenant) (t : LiveMaps) → IsWellFormedTenant k → ((place key : ℕ) → key_at k place ≡ Some key → IsLiveStill k.live t key) → SameRoom k.live t
+    → IsWellFormedTenant (with_live k t)
 still_kept k t is each room = record {
   all = is.all;
   placed = record {

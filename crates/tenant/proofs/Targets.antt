@@ -5,17 +5,17 @@ use Rattle.std.proofs.lemmas.Bool.Decides.{nat_tests}
 use Rattle.fd_table.specs.Table.{first, named, flattened}
 use Rattle.tagged_model.specs.Cells.{also}
 use Rattle.tagged_model.specs.declared.shape.Named.{Named}
-use Rattle.tenant.specs.declared.object.Object.{Object}
-use Rattle.tenant.specs.State.{State}
+use Rattle.tenant.specs.declared.object.OpenObject.{OpenObject}
+use Rattle.tenant.specs.State.{TenantState}
 use Rattle.tenant.specs.Machine.{target_of, entry_of, targets_from}
 
-flattened-get : (xs : List (Option Object)) (n : ℕ) → flattened (slice_get xs n) ≡ get_or xs n None
+flattened-get : (xs : List (Option OpenObject)) (n : ℕ) → flattened (slice_get xs n) ≡ get_or xs n None
 flattened-get [] n = refl
 flattened-get (x ∷ xs) zero = refl
 flattened-get (x ∷ xs) (suc n) = flattened-get xs n
 
 -- what a descriptor names stands at its place
-pub named_at : (xs : List (Option Object)) (fd : ℕ) → first ≤ fd → named xs fd ≡ get_or xs (fd - first) None
+pub named_at : (xs : List (Option OpenObject)) (fd : ℕ) → first ≤ fd → named xs fd ≡ get_or xs (fd - first) None
 named_at xs fd low =
     let no : nat_lt fd first ≡ false = grind (arith, nat_tests) in
     ap (λ (b : Bool). if b then None else flattened (slice_get xs (fd - first))) no ∙ flattened-get xs (fd - first)
@@ -25,7 +25,7 @@ with_nothing [] = refl
 with_nothing (n ∷ ns) = ap (λ (ms : List Named). n ∷ ms) (with_nothing ns)
 
 -- one more of them
-targets-next : (s : State) (fd : ℕ) (xs : List (Option Object)) (n : ℕ) → n < length xs
+targets-next : (s : TenantState) (fd : ℕ) (xs : List (Option OpenObject)) (n : ℕ) → n < length xs
     → targets_from s fd (take (suc n) xs) ≡ targets_from s fd (take n xs) ++ entry_of (fd + n) (also (get_or xs n None) (target_of s))
 unfolding targets_from
 targets-next s fd [] n within = absurd (omega arith)
@@ -39,15 +39,15 @@ targets-next s fd (x ∷ xs) (suc n) within =
     ∙ sym (append_assoc (entry_of fd (also x (target_of s))) (targets_from s (fd + 1) (take n xs)) (entry_of (fd + 1 + n) (also (get_or xs n None) (target_of s))))
     ∙ ap (λ (k : ℕ). (entry_of fd (also x (target_of s)) ++ targets_from s (fd + 1) (take n xs)) ++ entry_of k (also (get_or xs n None) (target_of s))) e
 
-pub targets-more : (s : State) (xs : List (Option Object)) (fd : ℕ) (o : Option Object) → first ≤ fd → fd - first < length xs → named xs fd ≡ o
+pub targets-more : (s : TenantState) (xs : List (Option OpenObject)) (fd : ℕ) (o : Option OpenObject) → first ≤ fd → fd - first < length xs → named xs fd ≡ o
     → targets_from s first (take (fd + 1 - first) xs) ≡ targets_from s first (take (fd - first) xs) ++ entry_of fd (also o (target_of s))
 targets-more s xs fd o low within is =
     let e : fd + 1 - first ≡ suc (fd - first) = omega arith in
     let f : first + (fd - first) ≡ fd = omega arith in
     ap (λ (n : ℕ). targets_from s first (take n xs)) e
     ∙ targets-next s first xs (fd - first) within
-    ∙ ap₂ (λ (k : ℕ) (p : Option Object). targets_from s first (take (fd - first) xs) ++ entry_of k (also p (target_of s))) f (sym (named_at xs fd low) ∙ is)
+    ∙ ap₂ (λ (k : ℕ) (p : Option OpenObject). targets_from s first (take (fd - first) xs) ++ entry_of k (also p (target_of s))) f (sym (named_at xs fd low) ∙ is)
 
-pub targets-none : (s : State) (fd : ℕ) → targets_from s fd [] ≡ []
+pub targets-none : (s : TenantState) (fd : ℕ) → targets_from s fd [] ≡ []
 unfolding targets_from
 targets-none s fd = refl

@@ -2,18 +2,18 @@
 use Rattle.std.proofs.Common.{◌≡◌, ℕ, ◌≤◌, Bool, true, false, List, ◌∷◌, length, Option, Some, refl, sym, ap, ap₂, subst, ◌∙◌, arith}
 use Rattle.std.specs.Prelude.{◌||◌, nat_lt, if◌then◌else◌}
 use Rattle.std.proofs.lemmas.Bool.Decides.{nat_tests}
-use Rattle.bpf_maps.specs.Live.{Tenant}
-use Rattle.flat_machine.specs.Runs.{RunsAs, KeepsMaps, KeepsValues, given_maps}
-use Rattle.tagged_model.specs.Step.{Maps, left_with, was_refused}
+use Rattle.bpf_maps.specs.Live.{LiveMaps}
+use Rattle.flat_machine.specs.Runs.{SimulatesRun, RunKeepsMaps, KeepsValues, given_maps}
+use Rattle.tagged_model.specs.Step.{MapsByDescriptor, left_with, was_refused}
 use Rattle.tagged_model.specs.declared.value.Outcome.{Outcome}
 use Rattle.verdict.specs.Laws.{MapsAreListed}
 use Rattle.tenant.specs.declared.errno.Errno.TheVariants.{TooBig}
-use Rattle.tenant.specs.declared.object.Object.TheVariants as object
-use Rattle.tenant.specs.Kept.{Kept, IsKept, IsBound, state_in}
-use Rattle.tenant.specs.Loaded.{Loaded}
+use Rattle.tenant.specs.declared.object.OpenObject.TheVariants as object
+use Rattle.tenant.specs.Kept.{KeptTenant, IsWellFormedTenant, IsBound, state_in}
+use Rattle.tenant.specs.Loaded.{LoadedProgram}
 use Rattle.tenant.specs.Machine.{ended, ran, run_of, refuses, maps_given, longest_packet}
-use Rattle.tenant.specs.State.{Map, State}
-use Rattle.tenant.specs.TestRun.{HasKeys}
+use Rattle.tenant.specs.State.{Map, TenantState}
+use Rattle.tenant.specs.inside.TestRun.{HasKeys}
 use Rattle.tenant.proofs.StillKept.{with_live}
 use Rattle.tenant.proofs.TestRunKeys.{place_within}
 use Rattle.tenant.proofs.TestRunMaps.{given_is, left_is}
@@ -23,29 +23,29 @@ or_assoc true b c = refl
 or_assoc false b c = refl
 
 -- a packet that is not too long
-pub fits_is : (refusals : List Bool) (s : State) (l : Loaded) (words packet : List ℕ) → length packet ≤ longest_packet → ran refusals s l words packet ≡ run_of refusals s words packet (Some (object.Program l))
+pub fits_is : (refusals : List Bool) (s : TenantState) (l : LoadedProgram) (words packet : List ℕ) → length packet ≤ longest_packet → ran refusals s l words packet ≡ run_of refusals s words packet (Some (object.Program l))
 fits_is refusals s l words packet fits =
     let within : nat_lt longest_packet (length packet) ≡ false = grind (arith, nat_tests) in
     ap (λ (b : Bool). if b then refuses TooBig s else ran refusals s l words packet) (sym within)
 
 -- what is bound to a run, and what it left
-pub record HasRun (part later : List ℕ) (k : Kept) (new : Tenant) (l : Loaded) (bind words packet : List ℕ) (before steps : ℕ) (outcome : Outcome) : Type 0 where
-  pub kept : IsKept k
+pub record HasRun (part later : List ℕ) (k : KeptTenant) (new : LiveMaps) (l : LoadedProgram) (bind words packet : List ℕ) (before steps : ℕ) (outcome : Outcome) : Type 0 where
+  pub kept : IsWellFormedTenant k
   pub bound : IsBound k l
   pub count : length bind ≡ length l.maps
   pub keys : HasKeys k.keys l.maps bind
-  pub runs : RunsAs l.insns bind (given_maps l.insns bind k.live part) (length packet ∷ words) packet k.live before outcome new later steps
-  pub maps : KeepsMaps bind k.live new
+  pub runs : SimulatesRun l.insns bind (given_maps l.insns bind k.live part) (length packet ∷ words) packet k.live before outcome new later steps
+  pub maps : RunKeepsMaps bind k.live new
   pub values : KeepsValues bind k.live part new later
 
-pub ran_as : MapsAreListed → (part later : List ℕ) (k : Kept) (new : Tenant) (l : Loaded) (bind words packet : List ℕ) (before steps : ℕ) (outcome : Outcome) → HasRun part later k new l bind words packet before steps outcome
+pub ran_as : MapsAreListed → (part later : List ℕ) (k : KeptTenant) (new : LiveMaps) (l : LoadedProgram) (bind words packet : List ℕ) (before steps : ℕ) (outcome : Outcome) → HasRun part later k new l bind words packet before steps outcome
     → (refusals : List Bool) × (ended outcome (state_in later (with_live k new)) ≡ ran refusals (state_in part k) l words packet)
 ran_as listed part later k new l bind words packet before steps outcome h =
     let s = state_in part k in
     let given = maps_given s l in
     let context = length packet ∷ words in
-    let r : RunsAs l.insns bind given context packet k.live before outcome new later steps =
-    subst (λ (m : Maps). RunsAs l.insns bind m context packet k.live before outcome new later steps) (given_is part k l bind h.bound.each h.count h.keys) h.runs in
+    let r : SimulatesRun l.insns bind given context packet k.live before outcome new later steps =
+    subst (λ (m : MapsByDescriptor). SimulatesRun l.insns bind m context packet k.live before outcome new later steps) (given_is part k l bind h.bound.each h.count h.keys) h.runs in
     let refused = was_refused r.refusals l.insns given context packet in
     let maps = left_is part later k new l bind h.kept h.bound h.count h.keys h.maps h.values (left_with r.refusals l.insns given context packet) r.left (place_within k l h.kept h.bound listed) in
     let flag : (k.refused || new.refused) ≡ (s.refused || refused) = ap (λ (b : Bool). k.refused || b) r.flag ∙ or_assoc k.refused k.live.refused refused in

@@ -2,11 +2,11 @@
 use Rattle.std.proofs.Common.{◌≡◌, ◌≢◌, ℕ, zero, suc, ◌+◌, ◌<◌, List, [], ◌∷◌, length, get_or, Option, Some, None, IsSome, refl, sym, ap, ap₂, subst, ◌∙◌, inl, inr, arith}
 use Rattle.std.specs.Prelude.{◌⊎◌, slice_index}
 use Rattle.std.proofs.lemmas.Bool.{cases_eq, true≢false}
-use Rattle.bpf_maps.specs.Live.{Tenant, Live, live_or, live_at, places_at, shape_at, weight, total, area_of, SameAreas, SameRoom}
-use Rattle.flat_machine.specs.Runs.{KeepsMaps}
+use Rattle.bpf_maps.specs.Live.{LiveMaps, LiveMap, live_or, live_at, places_at, shape_at, weight, total, area_of, SameAreas, SameRoom}
+use Rattle.flat_machine.specs.Runs.{RunKeepsMaps}
 use Rattle.tagged_model.specs.Shape.{area}
 use Rattle.tagged_model.specs.declared.shape.MapShape.{MapShape}
-use Rattle.tenant.specs.Kept.{Kept, IsKept, key_at}
+use Rattle.tenant.specs.Kept.{KeptTenant, IsWellFormedTenant, key_at}
 use Rattle.tenant.proofs.StillKept.{with_live, IsLiveStill, other_still, still_kept}
 
 -- ---- whether a key is bound
@@ -32,28 +32,28 @@ stands_or_not (b ∷ bs) key = by (cases_eq b key) (stands_or_not bs key)
 
 -- ---- a map that is bound
 
-some_live : (o : Option Live) → IsSome o → (l : Live) × (o ≡ Some l)
+some_live : (o : Option LiveMap) → IsSome o → (l : LiveMap) × (o ≡ Some l)
 some_live None h = absurd (true≢false (sym h))
 some_live (Some l) h = (l, refl)
 
 -- it has the shape that it had
-same_shape : (old new : Tenant) (key : ℕ) → SameAreas old new → IsSome (live_at new key) → shape_at new key ≡ shape_at old key
+same_shape : (old new : LiveMaps) (key : ℕ) → SameAreas old new → IsSome (live_at new key) → shape_at new key ≡ shape_at old key
 same_shape old new key areas live =
     let (l, now) = some_live (live_at new key) live in
     let (m, was, shape, start, stride) = areas key l now in
-    ap (λ (o : Option Live). (live_or o).places.shape) now ∙ shape ∙ sym (ap (λ (o : Option Live). (live_or o).places.shape) was)
+    ap (λ (o : Option LiveMap). (live_or o).places.shape) now ∙ shape ∙ sym (ap (λ (o : Option LiveMap). (live_or o).places.shape) was)
 
 -- ---- as many maps, with as much room
 
-total_by : (f : Live → ℕ) (xs ys : List (Option Live)) → ((i : ℕ) → weight f (get_or ys i None) ≡ weight f (get_or xs i None)) → total f ys ≡ total f xs
+total_by : (f : LiveMap → ℕ) (xs ys : List (Option LiveMap)) → ((i : ℕ) → weight f (get_or ys i None) ≡ weight f (get_or xs i None)) → total f ys ≡ total f xs
 unfolding total
 total_by f [] [] h = refl
 total_by f [] (y ∷ ys) h = let here = h 0 in let rest = total_by f [] ys (λ i. h (suc i)) in omega arith
 total_by f (x ∷ xs) [] h = let here = h 0 in let rest = total_by f xs [] (λ i. h (suc i)) in omega arith
 total_by f (x ∷ xs) (y ∷ ys) h = ap₂ (λ (m n : ℕ). m + n) (h 0) (total_by f xs ys (λ i. h (suc i)))
 
-module _ (bind : List ℕ) (old new : Tenant) (keeps : KeepsMaps bind old new) where
-  weight_same : (f : Live → ℕ) → ((l m : Live) → l.places.shape ≡ m.places.shape → f l ≡ f m) → (key : ℕ) → weight f (live_at new key) ≡ weight f (live_at old key)
+module _ (bind : List ℕ) (old new : LiveMaps) (keeps : RunKeepsMaps bind old new) where
+  weight_same : (f : LiveMap → ℕ) → ((l m : LiveMap) → l.places.shape ≡ m.places.shape → f l ≡ f m) → (key : ℕ) → weight f (live_at new key) ≡ weight f (live_at old key)
   weight_same f tells key = by (stands_or_not bind key)
     where
       by : StandsIn bind key ⊎ IsElsewhere bind key → weight f (live_at new key) ≡ weight f (live_at old key)
@@ -63,7 +63,7 @@ module _ (bind : List ℕ) (old new : Tenant) (keeps : KeepsMaps bind old new) w
           ap (weight f) now ∙ tells l m shape ∙ sym (ap (weight f) was)
       by (inr away) = ap (weight f) (keeps.others key away)
 
-  same_area : (l m : Live) → l.places.shape ≡ m.places.shape → area_of l ≡ area_of m
+  same_area : (l m : LiveMap) → l.places.shape ≡ m.places.shape → area_of l ≡ area_of m
   same_area l m same = ap (λ (s : MapShape). area s.value_size s.max_entries) same
 
   same_room : SameRoom old new
@@ -74,7 +74,7 @@ module _ (bind : List ℕ) (old new : Tenant) (keeps : KeepsMaps bind old new) w
 
 -- ---- the invariant
 
-pub kept_after : (k : Kept) (new : Tenant) (bind : List ℕ) → IsKept k → KeepsMaps bind k.live new → IsKept (with_live k new)
+pub kept_after : (k : KeptTenant) (new : LiveMaps) (bind : List ℕ) → IsWellFormedTenant k → RunKeepsMaps bind k.live new → IsWellFormedTenant (with_live k new)
 kept_after k new bind is keeps = still_kept k new is (λ place key there. by place key there (stands_or_not bind key)) (same_room bind k.live new keeps)
   where
     by : (place key : ℕ) → key_at k place ≡ Some key → StandsIn bind key ⊎ IsElsewhere bind key → IsLiveStill k.live new key

@@ -13,10 +13,10 @@ use Rattle.tagged_model.specs.Named.{shapes_named}
 use Rattle.verdict.specs.Laws.{MapsAreListed}
 use Rattle.verdict.specs.Maps.{maps_of}
 use Rattle.verifier.specs.Verified.{Accepted}
-use Rattle.tenant.specs.declared.object.Object.TheVariants as object
-use Rattle.tenant.specs.Kept.{Kept, IsKept, IsBound, key_at}
-use Rattle.tenant.specs.Loaded.{Loaded}
-use Rattle.tenant.specs.TestRun.{place_at, AreThere, HasKeys}
+use Rattle.tenant.specs.declared.object.OpenObject.TheVariants as object
+use Rattle.tenant.specs.Kept.{KeptTenant, IsWellFormedTenant, IsBound, key_at}
+use Rattle.tenant.specs.Loaded.{LoadedProgram}
+use Rattle.tenant.specs.inside.TestRun.{place_at, AreThere, HasKeys}
 use Rattle.tenant.proofs.Closes.{closed_at}
 use Rattle.tenant.proofs.TestRunPlaces.{same_entry, few_places}
 
@@ -57,7 +57,7 @@ is_within (x ∷ xs) (suc n) some = let rest = is_within xs n some in omega arit
 
 -- ---- what a program's places lead to
 
-module _ (k : Kept) (l : Loaded) (is : IsKept k) (bound : IsBound k l) (listed : MapsAreListed) where
+module _ (k : KeptTenant) (l : LoadedProgram) (is : IsWellFormedTenant k) (bound : IsBound k l) (listed : MapsAreListed) where
   once : AreOnce (keys_of l.maps)
   once = subst (λ (fds : List ℕ). AreOnce fds) (sym bound.each) (λ i j fd a b. listed.once l.insns i j fd a b)
 
@@ -110,15 +110,15 @@ pub no_keys : (keys : List (Option ℕ)) (maps : List (ℕ × ℕ)) → length m
 no_keys keys maps none = (sym none, λ i lt. absurd (omega arith))
 
 -- a program that is open
-pub bound_of : (k : Kept) (fd : ℕ) (l : Loaded) → IsKept k → named k.objects fd ≡ Some (object.Program l) → IsBound k l
+pub bound_of : (k : KeptTenant) (fd : ℕ) (l : LoadedProgram) → IsWellFormedTenant k → named k.objects fd ≡ Some (object.Program l) → IsBound k l
 bound_of k fd l is opened = is.bound (fd - first) l (closed_at k.objects fd (object.Program l) opened).1
 
 -- keys of a program's maps, in their order
-pub record Binds (k : Kept) (l : Loaded) (bind : List ℕ) : Type 0 where
+pub record Binds (k : KeptTenant) (l : LoadedProgram) (bind : List ℕ) : Type 0 where
   pub count : length bind ≡ length l.maps
   pub keys : HasKeys k.keys l.maps bind
 
-pub front_binds : (k : Kept) (l : Loaded) (o : Option (List ℕ)) (found : List ℕ) (asked lent : List (ℕ × ℕ)) → o ≡ Some found → IfSome o (λ f. HasKeys k.keys asked f) → IfSome o (λ f. length f ≡ MAPS)
+pub front_binds : (k : KeptTenant) (l : LoadedProgram) (o : Option (List ℕ)) (found : List ℕ) (asked lent : List (ℕ × ℕ)) → o ≡ Some found → IfSome o (λ f. HasKeys k.keys asked f) → IfSome o (λ f. length f ≡ MAPS)
     → asked ≡ l.maps → lent ≡ l.maps → length l.maps ≤ MAPS → Binds k l (take (length lent) found)
 front_binds k l o found asked lent is keys long same same_lent few =
     let has : HasKeys k.keys asked found = subst (λ (p : Option (List ℕ)). IfSome p (λ f. HasKeys k.keys asked f)) is keys in
@@ -126,7 +126,7 @@ front_binds k l o found asked lent is keys long same same_lent few =
     let (count, front) = front_keys k.keys l.maps found (subst (λ (ms : List (ℕ × ℕ)). HasKeys k.keys ms found) same has) (omega arith) in
     subst (λ (ms : List (ℕ × ℕ)). Binds k l (take (length ms) found)) (sym same_lent) (record { count = count; keys = front })
 
-pub none_binds : (k : Kept) (l : Loaded) (o : Option (List ℕ)) (asked : List (ℕ × ℕ)) → o ≡ None → IfNone o (length asked ≡ 0) → asked ≡ l.maps → Binds k l []
+pub none_binds : (k : KeptTenant) (l : LoadedProgram) (o : Option (List ℕ)) (asked : List (ℕ × ℕ)) → o ≡ None → IfNone o (length asked ≡ 0) → asked ≡ l.maps → Binds k l []
 none_binds k l o asked is none same =
     let no : length asked ≡ 0 = subst (λ (p : Option (List ℕ)). IfNone p (length asked ≡ 0)) is none in
     let (count, front) = no_keys k.keys l.maps (subst (λ (ms : List (ℕ × ℕ)). length ms ≡ 0) same no) in

@@ -8,16 +8,16 @@ use Rattle.std.proofs.lemmas.Bool.{cases_eq, ne_eqb, lt-ltb, ltb-true, ltb-false
 use Rattle.std.proofs.lemmas.List.{ext_get_or}
 use Rattle.std.proofs.lemmas.List.Quantifiers.{position-Some}
 use Rattle.bpf_maps.specs.declared.part.TheConstants.{MAPS}
-use Rattle.bpf_maps.specs.Live.{Tenant, live_at, map_in}
-use Rattle.flat_machine.specs.Runs.{given_maps, bound_key, KeepsMaps, KeepsValues}
+use Rattle.bpf_maps.specs.Live.{LiveMaps, live_at, map_in}
+use Rattle.flat_machine.specs.Runs.{given_maps, bound_key, RunKeepsMaps, KeepsValues}
 use Rattle.tagged_model.specs.Cells.{also}
-use Rattle.tagged_model.specs.Step.{Maps}
+use Rattle.tagged_model.specs.Step.{MapsByDescriptor}
 use Rattle.verdict.specs.Maps.{maps_of}
-use Rattle.tenant.specs.Kept.{Kept, IsKept, IsBound, key_at, times, maps_in, state_in}
-use Rattle.tenant.specs.Loaded.{Loaded}
+use Rattle.tenant.specs.Kept.{KeptTenant, IsWellFormedTenant, IsBound, key_at, times, maps_in, state_in}
+use Rattle.tenant.specs.Loaded.{LoadedProgram}
 use Rattle.tenant.specs.Machine.{maps_given, maps_left}
 use Rattle.tenant.specs.State.{Map, live}
-use Rattle.tenant.specs.TestRun.{place_at, HasKeys}
+use Rattle.tenant.specs.inside.TestRun.{place_at, HasKeys}
 use Rattle.tenant.proofs.LookUps.{get_or-map_some, live_is}
 use Rattle.tenant.proofs.Releases.{one_at}
 use Rattle.tenant.proofs.TestRunPlaces.{times_here}
@@ -66,7 +66,7 @@ lookup_is (m ∷ ms) fd = by (m.0 == fd) refl (lookup_is ms fd)
         ∙ later (position (λ k. k == fd) (keys_of ms))
         ∙ sym (ap (option_map (λ i. place_at (m ∷ ms) i)) (found_later (λ k. k == fd) m.0 (keys_of ms) e))
 
-module _ (part : List ℕ) (k : Kept) (l : Loaded) (bind : List ℕ) (each : keys_of l.maps ≡ maps_of l.insns) (count : length bind ≡ length l.maps) (keys : HasKeys k.keys l.maps bind) where
+module _ (part : List ℕ) (k : KeptTenant) (l : LoadedProgram) (bind : List ℕ) (each : keys_of l.maps ≡ maps_of l.insns) (count : length bind ≡ length l.maps) (keys : HasKeys k.keys l.maps bind) where
   given_at : (o : Option ℕ) → ((i : ℕ) → o ≡ Some i → i < length l.maps)
       → option_map (map_in part k.live) (option_map (λ i. slice_index bind i) o) ≡ also (option_map (λ i. place_at l.maps i) o) (λ place. live (state_in part k) place)
   given_at None within = refl
@@ -85,7 +85,7 @@ module _ (part : List ℕ) (k : Kept) (l : Loaded) (bind : List ℕ) (each : key
 -- ---- the maps that it leaves
 
 -- where each map that is left is another list's at its place, and the other places are that list's, all are
-left_all : (left : Maps) (target : List (Option Map)) (ms : List (ℕ × ℕ)) (maps : List (Option Map)) → length maps ≡ length target
+left_all : (left : MapsByDescriptor) (target : List (Option Map)) (ms : List (ℕ × ℕ)) (maps : List (Option Map)) → length maps ≡ length target
     → ((i : ℕ) → i < length ms → (place_at ms i < length target) × (left (descriptor_at ms i) ≡ get_or target (place_at ms i) None))
     → ((place : ℕ) → times place ms ≡ 0 → get_or maps place None ≡ get_or target place None)
     → maps_left left ms maps ≡ target
@@ -105,8 +105,8 @@ left_all left target (m ∷ ms) maps long h rest =
         let apart : one_at m.1 place ≡ 0 = ap (λ (b : Bool). if b then 1 else 0) (ne_eqb m.1 place (λ e. other (sym e))) in
         get_or-set_other maps m.1 place (left m.0) None other ∙ rest place (omega arith)
 
-module _ (part later : List ℕ) (k : Kept) (new : Tenant) (l : Loaded) (bind : List ℕ) (is : IsKept k) (bound : IsBound k l) (count : length bind ≡ length l.maps) (keys : HasKeys k.keys l.maps bind)
-    (kept : KeepsMaps bind k.live new) (values : KeepsValues bind k.live part new later) where
+module _ (part later : List ℕ) (k : KeptTenant) (new : LiveMaps) (l : LoadedProgram) (bind : List ℕ) (is : IsWellFormedTenant k) (bound : IsBound k l) (count : length bind ≡ length l.maps) (keys : HasKeys k.keys l.maps bind)
+    (kept : RunKeepsMaps bind k.live new) (values : KeepsValues bind k.live part new later) where
   -- a map that is not bound is what it was
   other_map : (place key : ℕ) → key_at k place ≡ Some key → times place l.maps ≡ 0 → map_in part k.live key ≡ map_in later new key
   other_map place key there none =
@@ -122,7 +122,7 @@ module _ (part later : List ℕ) (k : Kept) (new : Tenant) (l : Loaded) (bind : 
   other_place place None there none = refl
   other_place place (Some key) there none = ap (λ (t : Map). Some t) (other_map place key there none)
 
-  pub left_is : (left : Maps) → ((i : ℕ) → i < length bind → left (slice_index (maps_of l.insns) i) ≡ Some (map_in later new (slice_index bind i)))
+  pub left_is : (left : MapsByDescriptor) → ((i : ℕ) → i < length bind → left (slice_index (maps_of l.insns) i) ≡ Some (map_in later new (slice_index bind i)))
       → ((i : ℕ) → i < length l.maps → place_at l.maps i < MAPS) → maps_left left l.maps (maps_in part k.live k.keys) ≡ maps_in later new k.keys
   left_is left each within =
       let long = length-mapped (map_in later new) k.keys in

@@ -3,7 +3,7 @@ use Rattle.std.proofs.Common.{◌≡◌, ℕ, zero, suc, ◌+◌, ◌<◌, ◌�
 use Rattle.std.specs.Prelude.{◌==◌, nat_lt, if◌then◌else◌}
 use Rattle.std.proofs.lemmas.Bool.{lt-ltb, ltb-true, ltb-false}
 use Rattle.tenant.specs.Kept.{times}
-use Rattle.tenant.specs.TestRun.{place_at}
+use Rattle.tenant.specs.inside.TestRun.{place_at}
 use Rattle.tenant.proofs.Releases.{one_at, here_one}
 
 -- ---- how often a place stands

@@ -2,9 +2,9 @@
 use Rattle.std.proofs.Common.{◌≡◌, ℕ, zero, suc, ◌+◌, ◌≤◌, ◌<◌, List, [], ◌∷◌, length, take, get_or, Option, Some, None, IsSome, refl, sym, ap, ◌∙◌, arith, rules}
 use Rattle.std.specs.Option.{option_map_or}
 use Rattle.bpf_maps.specs.declared.part.TheConstants.{PART}
-use Rattle.bpf_maps.specs.Live.{Tenant, holds_at}
-use Rattle.tenant.specs.Kept.{times, holds_in, IsPlaced}
-use Rattle.tenant.specs.Leaves.{Maps, Leaves}
+use Rattle.bpf_maps.specs.Live.{LiveMaps, holds_at}
+use Rattle.tenant.specs.Kept.{times, holds_in, MapsAreAtPlaces}
+use Rattle.tenant.specs.inside.Leaves.{HeldMaps, LeavesHeldMaps}
 use Rattle.tenant.proofs.Releases.{one_at}
 
 -- the first so many of these, and one more
@@ -26,17 +26,17 @@ times-first (m ∷ ms) zero q = omega arith
 times-first (m ∷ ms) (suc i) q = let rest = times-first ms i q in omega arith
 
 -- a place that some hold has a map
-pub some_hold : (keys : List (Option ℕ)) (live : Tenant) (q : ℕ) → 1 ≤ holds_in keys live q → IsSome (get_or keys q None)
+pub some_hold : (keys : List (Option ℕ)) (live : LiveMaps) (q : ℕ) → 1 ≤ holds_in keys live q → IsSome (get_or keys q None)
 some_hold keys live q some = by_option (get_or keys q None) some
   where
     by_option : (o : Option ℕ) → 1 ≤ option_map_or (holds_at live) o 0 → IsSome o
     by_option None some = absurd (let none : 1 ≤ 0 = some in omega arith)
     by_option (Some key) some = search rules
 
-pub leaves_all : (m : Maps) → IsPlaced m.keys m.live → length m.part ≡ PART → Leaves m m
+pub leaves_all : (m : HeldMaps) → MapsAreAtPlaces m.keys m.live → length m.part ≡ PART → LeavesHeldMaps m m
 leaves_all m placed whole = record { placed = placed; stays = λ q key at. (at, refl); refused = refl; whole = whole }
 
-pub leaves_then : (a b c : Maps) → Leaves a b → Leaves b c → Leaves a c
+pub leaves_then : (a b c : HeldMaps) → LeavesHeldMaps a b → LeavesHeldMaps b c → LeavesHeldMaps a c
 leaves_then a b c h k = record {
   placed = k.placed;
   stays = λ q key at. let (there, same) = k.stays q key at in let (was, too) = h.stays q key there in (was, same ∙ too);

@@ -2,34 +2,34 @@
 use Rattle.std.proofs.Common.{◌≡◌, ◌≢◌, ℕ, ◌+◌, Bool, true, false, List, [], length, take, drop, Option, Some, IsSome, Result, Ok, Err, refl, sym, ap, subst, ◌∙◌}
 use Rattle.std.specs.Prelude.{◌==◌, ◌||◌, if◌then◌else◌}
 use Rattle.std.proofs.lemmas.Bool.{eq-eqb}
-use Rattle.bpf_maps.specs.Live.{Tenant, live_at, holds_at, places_at, shape_at, map_in, value_in, SameAreas, SameRoom, is_memory}
+use Rattle.bpf_maps.specs.Live.{LiveMaps, live_at, holds_at, places_at, shape_at, map_in, value_in, SameAreas, SameRoom, is_memory}
 use Rattle.bpf_maps.specs.Places.{PlaceTable, table_of, Claims}
-use Rattle.bpf_maps.specs.InPart.{updated as change, IsValueAt, with_value, ValuesAreWritten, LiveMapsGoAlong}
+use Rattle.bpf_maps.specs.InPart.{updated as change, IsValueAt, with_value, ValuesAreWritten, LiveMapsRefineValues}
 use Rattle.fd_table.specs.Table.{named}
-use Rattle.tagged_model.specs.MapLaws.{CallsGoAlong, VerdictsTell}
+use Rattle.tagged_model.specs.MapLaws.{CallsRefineValues, MapVerdictsMatchLookUps}
 use Rattle.tagged_model.specs.declared.fault.MapFault.{MapFault}
 use Rattle.tagged_model.specs.declared.fault.MapFault.TheVariants as fault
 use Rattle.tagged_model.specs.Table.{Verdict, Refused, Present, New, verdict, verdict_with}
 use Rattle.tenant.specs.declared.errno.Errno.TheVariants.{Invalid}
-use Rattle.tenant.specs.declared.object.Object.TheVariants as object
+use Rattle.tenant.specs.declared.object.OpenObject.TheVariants as object
 use Rattle.tenant.specs.Errno.{map_errno}
-use Rattle.tenant.specs.State.{Map, State, with_map}
+use Rattle.tenant.specs.State.{Map, TenantState, with_map}
 use Rattle.tenant.specs.Machine.{Answer, refuses, gives, put, updated}
-use Rattle.tenant.specs.Kept.{Kept, IsKept, key_at, state_in}
+use Rattle.tenant.specs.Kept.{KeptTenant, IsWellFormedTenant, key_at, state_in}
 use Rattle.tenant.proofs.LookUps.{on_map_is}
 use Rattle.tenant.proofs.StillKept.{with_live, IsLiveStill, each_still, still_kept}
 use Rattle.tenant.proofs.OneMap.{one_map, all_maps, each_same, others_keep}
 
-abbrev put_of : Bool → State → ℕ → Map → List ℕ → ℕ → Answer
+abbrev put_of : Bool → TenantState → ℕ → Map → List ℕ → ℕ → Answer
 put_of refused s place t bytes flags =
     put refused s place t (take t.shape.key_size bytes) (drop t.shape.key_size bytes) (verdict t (take t.shape.key_size bytes) flags)
 
-abbrev answer_to : Bool → State → ℕ → List ℕ → ℕ → Map → Answer
+abbrev answer_to : Bool → TenantState → ℕ → List ℕ → ℕ → Map → Answer
 answer_to refused s flags bytes place t =
     if length bytes == t.shape.key_size + t.shape.value_size then put_of refused s place t bytes flags else refuses Invalid s
 
 -- the answer is what the verdict comes to
-pub update_is : (refused : Bool) (part : List ℕ) (k : Kept) (fd place m flags : ℕ) (bytes : List ℕ) → named k.objects fd ≡ Some (object.Map place) → key_at k place ≡ Some m
+pub update_is : (refused : Bool) (part : List ℕ) (k : KeptTenant) (fd place m flags : ℕ) (bytes : List ℕ) → named k.objects fd ≡ Some (object.Map place) → key_at k place ≡ Some m
     → length bytes ≡ (shape_at k.live m).key_size + (shape_at k.live m).value_size
     → let key = take (shape_at k.live m).key_size bytes in
     updated refused (state_in part k) fd flags bytes
@@ -43,7 +43,7 @@ update_is refused part k fd place m flags bytes opened there size =
     ∙ ap (λ (b : Bool). if b then put_of refused s place T bytes flags else refuses Invalid s) right
 
 -- a key and a value of other sizes
-pub refused_sizes : (part : List ℕ) (k : Kept) (fd place m flags : ℕ) (bytes : List ℕ) → named k.objects fd ≡ Some (object.Map place) → key_at k place ≡ Some m
+pub refused_sizes : (part : List ℕ) (k : KeptTenant) (fd place m flags : ℕ) (bytes : List ℕ) → named k.objects fd ≡ Some (object.Map place) → key_at k place ≡ Some m
     → (length bytes == (shape_at k.live m).key_size + (shape_at k.live m).value_size) ≡ false → updated false (state_in part k) fd flags bytes ≡ refuses Invalid (state_in part k)
 refused_sizes part k fd place m flags bytes opened there other =
     let s = state_in part k in
@@ -86,26 +86,26 @@ refused_claim New key old fault.Invalid new h = absurd h
 refused_claim New key old fault.NoSpace new h = absurd h
 
 -- a key that was claimed is put
-done_by : (v : Verdict ℕ) (key : List ℕ) (old : PlaceTable) (p : ℕ) (new : PlaceTable) → Claims v key old (Ok p) new → (f : ℕ → List ℕ) (s : State) (place : ℕ) (T : Map) (value : List ℕ)
+done_by : (v : Verdict ℕ) (key : List ℕ) (old : PlaceTable) (p : ℕ) (new : PlaceTable) → Claims v key old (Ok p) new → (f : ℕ → List ℕ) (s : TenantState) (place : ℕ) (T : Map) (value : List ℕ)
     → put false s place T key value (verdict_with f v) ≡ gives [] (with_map s place (change (verdict_with f v) T key value))
 done_by (Refused g) key old p new (is, same) f s place T value = absurd (not_ok g p (sym is))
 done_by (Present q) key old p new h f s place T value = refl
 done_by New key old p new h f s place T value = refl
 
 pub done_put : (v : Verdict ℕ) (w : Verdict (List ℕ)) (key : List ℕ) (old : PlaceTable) (p : ℕ) (new : PlaceTable) → Claims v key old (Ok p) new → (f : ℕ → List ℕ) → w ≡ verdict_with f v
-    → (s : State) (place : ℕ) (T : Map) (value : List ℕ) → put false s place T key value w ≡ gives [] (with_map s place (change w T key value))
+    → (s : TenantState) (place : ℕ) (T : Map) (value : List ℕ) → put false s place T key value w ≡ gives [] (with_map s place (change w T key value))
 done_put v w key old p new claimed f same s place T value =
     subst (λ (x : Verdict (List ℕ)). put false s place T key value x ≡ gives [] (with_map s place (change x T key value))) (sym same) (done_by v key old p new claimed f s place T value)
 
 -- ---- a refused claim
 
 -- the state with the flag, where memory was refused
-abbrev pub flagged : Bool → State → State
+abbrev pub flagged : Bool → TenantState → TenantState
 flagged true s = record s { refused = true }
 flagged false s = s
 
 -- the refusal is memory's, or not
-abbrev pub Fails : Verdict (List ℕ) → MapFault → List ℕ → State → ℕ → Map → List ℕ → Type 0
+abbrev pub Fails : Verdict (List ℕ) → MapFault → List ℕ → TenantState → ℕ → Map → List ℕ → Type 0
 Fails w f key s place T value = (refused : Bool) × (is_memory (Err f) ≡ refused) × (put refused s place T key value w ≡ refuses (map_errno f) (flagged refused s))
 
 no_memory : (f : MapFault) → f ≢ fault.Memory → is_memory (Err f) ≡ false
@@ -117,7 +117,7 @@ no_memory fault.Invalid other = refl
 no_memory fault.NoSpace other = refl
 
 failed_by : (v : Verdict ℕ) (key : List ℕ) (old : PlaceTable) (f : MapFault) (new : PlaceTable) → v ≢ Refused fault.Memory → Claims v key old (Err f) new
-    → (g : ℕ → List ℕ) (s : State) (place : ℕ) (T : Map) (value : List ℕ) → Fails (verdict_with g v) f key s place T value
+    → (g : ℕ → List ℕ) (s : TenantState) (place : ℕ) (T : Map) (value : List ℕ) → Fails (verdict_with g v) f key s place T value
 failed_by (Refused other) key old f new some (is, same) g s place T value =
     let which : f ≡ other = same_fault f other is in
     (false, no_memory f (λ memory. some (ap Refused (sym which ∙ memory))), ap (λ (x : MapFault). refuses (map_errno x) s) (sym which))
@@ -130,7 +130,7 @@ failed_by New key old fault.Invalid new some h g s place T value = absurd h
 failed_by New key old fault.NoSpace new some h g s place T value = absurd h
 
 pub failed_put : (v : Verdict ℕ) (w : Verdict (List ℕ)) (key : List ℕ) (old : PlaceTable) (f : MapFault) (new : PlaceTable) → v ≢ Refused fault.Memory → Claims v key old (Err f) new
-    → (g : ℕ → List ℕ) → w ≡ verdict_with g v → (s : State) (place : ℕ) (T : Map) (value : List ℕ) → Fails w f key s place T value
+    → (g : ℕ → List ℕ) → w ≡ verdict_with g v → (s : TenantState) (place : ℕ) (T : Map) (value : List ℕ) → Fails w f key s place T value
 failed_put v w key old f new some claimed g same s place T value =
     subst (λ (x : Verdict (List ℕ)). Fails x f key s place T value) (sym same) (failed_by v key old f new some claimed g s place T value)
 
@@ -138,7 +138,7 @@ or_false : (x : Bool) → (x || false) ≡ x
 or_false true = refl
 or_false false = refl
 
-pub flag_of : (a b r t : Bool) → t ≡ (b || r) → (s : State) (refused : Bool) → r ≡ refused → s.refused ≡ (a || b) → record s { refused = a || t } ≡ flagged refused s
+pub flag_of : (a b r t : Bool) → t ≡ (b || r) → (s : TenantState) (refused : Bool) → r ≡ refused → s.refused ≡ (a || b) → record s { refused = a || t } ≡ flagged refused s
 flag_of a b r t is s refused same was = by_choice refused (same)
   where
     or_true : (x y : Bool) → (x || (y || true)) ≡ true
@@ -153,7 +153,7 @@ flag_of a b r t is s refused same was = by_choice refused (same)
 -- ---- the whole command
 
 -- what a claim for a key of the map under m leaves of the live maps
-pub record IsClaimed (k : Kept) (t : Tenant) (m flags : ℕ) (key : List ℕ) (r : Claim) : Type 0 where
+pub record IsClaimed (k : KeptTenant) (t : LiveMaps) (m flags : ℕ) (key : List ℕ) (r : Claim) : Type 0 where
   pub claimed : Claims (verdict (table_of (places_at k.live m)) key flags) key (places_at k.live m) r (places_at t m)
   pub live : IsSome (live_at t m)
   pub holds : holds_at t m ≡ holds_at k.live m
@@ -163,7 +163,7 @@ pub record IsClaimed (k : Kept) (t : Tenant) (m flags : ℕ) (key : List ℕ) (r
   pub room : SameRoom k.live t
   pub refused : t.refused ≡ (k.live.refused || is_memory r)
 
-pub still_claimed : (k : Kept) (t : Tenant) (place m flags : ℕ) (key : List ℕ) (r : Claim) → IsKept k → key_at k place ≡ Some m → IsClaimed k t m flags key r → IsKept (with_live k t)
+pub still_claimed : (k : KeptTenant) (t : LiveMaps) (place m flags : ℕ) (key : List ℕ) (r : Claim) → IsWellFormedTenant k → key_at k place ≡ Some m → IsClaimed k t m flags key r → IsWellFormedTenant (with_live k t)
 still_claimed k t place m flags key r is there c =
     let here : IsLiveStill k.live t m = record {
       live = c.live;
@@ -173,7 +173,7 @@ still_claimed k t place m flags key r is there c =
     } in
     still_kept k t is (each_still k t m is here c.others) c.room
 
-pub updated_at : LiveMapsGoAlong → ValuesAreWritten → CallsGoAlong ℕ (List ℕ) → (part : List ℕ) (k : Kept) (t : Tenant) (fd place m flags p : ℕ) (bytes : List ℕ) → IsKept k
+pub updated_at : LiveMapsRefineValues → ValuesAreWritten → CallsRefineValues ℕ (List ℕ) → (part : List ℕ) (k : KeptTenant) (t : LiveMaps) (fd place m flags p : ℕ) (bytes : List ℕ) → IsWellFormedTenant k
     → named k.objects fd ≡ Some (object.Map place) → key_at k place ≡ Some m → length bytes ≡ (shape_at k.live m).key_size + (shape_at k.live m).value_size
     → let key = take (shape_at k.live m).key_size bytes in
     let value = drop (shape_at k.live m).key_size bytes in
@@ -197,7 +197,7 @@ updated_at along written calls part k t fd place m flags p bytes is opened there
     ∙ sym (done_put v w key (places_at k.live m) p (places_at t m) c.claimed (value_in part k.live m) (calls.verdict (value_in part k.live m) (table_of (places_at k.live m)) key flags) s place T value)
     ∙ sym (update_is false part k fd place m flags bytes opened there size)
 
-pub update_refused : LiveMapsGoAlong → CallsGoAlong ℕ (List ℕ) → VerdictsTell ℕ → (part : List ℕ) (k : Kept) (t : Tenant) (fd place m flags : ℕ) (f : MapFault) (bytes : List ℕ) → IsKept k
+pub update_refused : LiveMapsRefineValues → CallsRefineValues ℕ (List ℕ) → MapVerdictsMatchLookUps ℕ → (part : List ℕ) (k : KeptTenant) (t : LiveMaps) (fd place m flags : ℕ) (f : MapFault) (bytes : List ℕ) → IsWellFormedTenant k
     → named k.objects fd ≡ Some (object.Map place) → key_at k place ≡ Some m → length bytes ≡ (shape_at k.live m).key_size + (shape_at k.live m).value_size
     → IsClaimed k t m flags (take (shape_at k.live m).key_size bytes) (Err f)
     → (refused : Bool) × (refuses (map_errno f) (state_in part (with_live k t)) ≡ updated refused (state_in part k) fd flags bytes)

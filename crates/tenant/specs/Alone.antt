@@ -1,15 +1,15 @@
--- What one tenant is told: the machine of its own, on its own frames.
+-- What one tenant is told: the machine of its own, on its own frames. This project's own.
 use Rattle.std.specs.Prelude.{◌≡◌, ℕ, Bool, List, [], ◌∷◌, length, take, drop, filter, Option, Some, None, Result, Ok, Err, nat_lt, ◌==◌, if◌then◌else◌}
 use Rattle.std.specs.Int.{w32, cast_unsigned}
 use Rattle.byteorder.specs.Endian.{little_bytes}
 use Rattle.command_frames.specs.declared.command.BadFrame.{BadFrame}
 use Rattle.command_frames.specs.declared.command.BadFrame.TheVariants as bad
-use Rattle.command_frames.specs.Frame.{owner, reply_to}
+use Rattle.command_frames.specs.Frame.{head_length, owner, reply_to}
 use Rattle.command_frames.specs.Command.{Command, parsed}
 use Rattle.tenant.specs.declared.errno.Errno.{Errno}
 use Rattle.tenant.specs.declared.errno.Errno.TheVariants.{NotPermitted, TooBig, BadAddress, Invalid}
 use Rattle.tenant.specs.Errno.{status_of}
-use Rattle.tenant.specs.State.{State}
+use Rattle.tenant.specs.State.{TenantState}
 use Rattle.tenant.specs.Machine.{Answer, refuses, Answers}
 
 -- a frame that carries no command
@@ -18,21 +18,25 @@ frame_errno bad.TooLong = TooBig
 frame_errno bad.Unknown = Invalid
 frame_errno bad.Body = Invalid
 
-abbrev pub AnswersFrame : List Bool → State → Result Command BadFrame → Answer → Type 0
+abbrev pub AnswersFrame : List Bool → TenantState → Result Command BadFrame → Answer → Type 0
 AnswersFrame refusals s (Err fault) a = a ≡ refuses (frame_errno fault) s
 AnswersFrame refusals s (Ok command) a = Answers refusals s command a
 
+-- a frame of a tenant that is not served, and one that has no head
+abbrev pub unserved_errno : List ℕ → Errno
+unserved_errno frame = if nat_lt (length frame) head_length then Invalid else NotPermitted
+
 -- a frame, its reply, and the state of the tenant that it belongs to before and after it, with these refusals of memory; a
 -- tenant that is not served has no state, and its reply tells it so, or that the frame has no head
-abbrev pub Tells : List Bool → List ℕ → List ℕ → Option State → Option State → Type 0
-Tells refusals frame reply None after =
-    (after ≡ None) × (reply ≡ reply_to frame (status_of (if nat_lt (length frame) 4 then Invalid else NotPermitted)) [])
-Tells refusals frame reply (Some s) after =
+abbrev pub RepliesUnder : List Bool → List ℕ → List ℕ → Option TenantState → Option TenantState → Type 0
+RepliesUnder refusals frame reply None after =
+    (after ≡ None) × (reply ≡ reply_to frame (status_of (unserved_errno frame)) [])
+RepliesUnder refusals frame reply (Some s) after =
     (a : Answer) × AnswersFrame refusals s (parsed frame) a × (reply ≡ reply_to frame a.status a.payload) × (after ≡ Some a.after)
 
 -- with whatever refusals
-abbrev pub MayTell : List ℕ → List ℕ → Option State → Option State → Type 0
-MayTell frame reply before after = (refusals : List Bool) × Tells refusals frame reply before after
+abbrev pub MayReply : List ℕ → List ℕ → Option TenantState → Option TenantState → Type 0
+MayReply frame reply before after = (refusals : List Bool) × RepliesUnder refusals frame reply before after
 
 -- the status of a reply is that of a test run which faults (EFAULT)
 abbrev pub IsFault : List ℕ → Type 0
@@ -51,16 +55,16 @@ replies_of t (frame ∷ frames) (reply ∷ replies) =
     if owner frame == t then reply ∷ replies_of t frames replies else replies_of t frames replies
 
 -- a tenant's frames one after another, each told in this way, with their replies and the state that they lead to
-abbrev pub Goes : (List ℕ → List ℕ → Option State → Option State → Type 0) → Option State → List (List ℕ) → List (List ℕ) → Option State → Type 0
-Goes tells before [] [] after = after ≡ before
-Goes tells before (frame ∷ frames) (reply ∷ replies) after =
-    (between : Option State) × tells frame reply before between × Goes tells between frames replies after
-Goes tells before [] (reply ∷ replies) after = ⊥
-Goes tells before (frame ∷ frames) [] after = ⊥
+abbrev pub RepliesInOrder : (List ℕ → List ℕ → Option TenantState → Option TenantState → Type 0) → Option TenantState → List (List ℕ) → List (List ℕ) → Option TenantState → Type 0
+RepliesInOrder tells before [] [] after = after ≡ before
+RepliesInOrder tells before (frame ∷ frames) (reply ∷ replies) after =
+    (between : Option TenantState) × tells frame reply before between × RepliesInOrder tells between frames replies after
+RepliesInOrder tells before [] (reply ∷ replies) after = ⊥
+RepliesInOrder tells before (frame ∷ frames) [] after = ⊥
 
 -- the tenant's machine where no memory is refused, and where some may be
-abbrev pub Alone : Option State → List (List ℕ) → List (List ℕ) → Option State → Type 0
-Alone before frames replies after = Goes (Tells []) before frames replies after
+abbrev pub Alone : Option TenantState → List (List ℕ) → List (List ℕ) → Option TenantState → Type 0
+Alone before frames replies after = RepliesInOrder (RepliesUnder []) before frames replies after
 
-abbrev pub AloneWithRefusals : Option State → List (List ℕ) → List (List ℕ) → Option State → Type 0
-AloneWithRefusals before frames replies after = Goes MayTell before frames replies after
+abbrev pub AloneWithRefusals : Option TenantState → List (List ℕ) → List (List ℕ) → Option TenantState → Type 0
+AloneWithRefusals before frames replies after = RepliesInOrder MayReply before frames replies after

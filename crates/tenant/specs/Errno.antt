@@ -1,4 +1,4 @@
--- Error numbers, as errno's manual page names them.
+-- Error numbers, as errno(3) names them.
 use Rattle.std.specs.Prelude.{ℕ, ℤ, pos, ◌-ℤ◌}
 use Rattle.tagged_model.specs.declared.fault.MapFault.{MapFault}
 use Rattle.tagged_model.specs.declared.fault.MapFault.TheVariants as map

@@ -6,7 +6,4 @@ pub mod Alone
 pub mod Laws
 pub mod Kept
 pub mod Replies
-pub mod Leaves
-pub mod Loading
 pub mod inside
-pub mod TestRun

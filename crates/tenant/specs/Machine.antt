@@ -1,5 +1,5 @@
--- The machine of one tenant: what each command answers, and what is open and in the maps after it (bpf(2)). The order of the
--- refusals is this project's own.
+-- The machine of one tenant: what each command answers, and what is open and in the maps after it (bpf(2); for a test
+-- run linux/bpf.h, BPF_PROG_TEST_RUN). The order of the refusals is this project's own.
 use Rattle.std.specs.Prelude.{◌≡◌, ℕ, ◌+◌, ℤ, pos, Bool, true, false, ◌||◌, ◌==◌, nat_lt, List, [], ◌∷◌, ◌++◌, length, take, drop, replicate, Option, Some, None, option_map, slice_set, Result, Ok, Err, if◌then◌else◌, MatchBool, ◌⊎◌, refl}
 use Rattle.std.specs.Map.{lookup}
 use Rattle.byteorder.specs.Endian.{little_bytes}
@@ -25,42 +25,42 @@ use Rattle.tagged_model.specs.declared.value.Outcome.{Outcome}
 use Rattle.tagged_model.specs.declared.value.Outcome.TheVariants.{Value, Fault}
 use Rattle.tagged_model.specs.Cells.{also}
 use Rattle.tagged_model.specs.Shape.{area, is_shape, is_valid}
-use Rattle.tagged_model.specs.Step.{first, Maps, result_with, left_with, was_refused}
+use Rattle.tagged_model.specs.Step.{first, MapsByDescriptor, result_with, left_with, was_refused}
 use Rattle.tagged_model.specs.Table as call
 use Rattle.tagged_model.specs.Table.{look_up, verdict, removal, next_of, with_new, with_object, with_deleted, after_run, new_table}
 use Rattle.verdict.specs.Verdict.{IsAccepted, IsRefused}
 use Rattle.verdict.specs.Maps.{maps_of, entries_of}
 use Rattle.tenant.specs.declared.errno.Errno.{Errno}
 use Rattle.tenant.specs.declared.errno.Errno.TheVariants.{NoEntry, TooBig, BadDescriptor, NoMemory, AccessDenied, BadAddress, Invalid, TooManyOpen, NoSpace}
-use Rattle.tenant.specs.declared.object.Object.{Object}
-use Rattle.tenant.specs.declared.object.Object.TheVariants as object
-use Rattle.tenant.specs.Loaded.{Loaded}
+use Rattle.tenant.specs.declared.object.OpenObject.{OpenObject}
+use Rattle.tenant.specs.declared.object.OpenObject.TheVariants as object
+use Rattle.tenant.specs.Loaded.{LoadedProgram}
 use Rattle.tenant.specs.Errno.{status_of, map_errno}
-use Rattle.tenant.specs.State.{Map, State, most_bytes, live, free_place, areas, with_map, with_objects}
+use Rattle.tenant.specs.State.{Map, TenantState, most_bytes, live, free_place, areas, with_map, with_objects}
 
 -- ---- answers
 
 pub record Answer : Type 0 where
   pub status : ℤ
   pub payload : List ℕ
-  pub after : State
+  pub after : TenantState
 
 -- a refused command changes nothing
-abbrev pub refuses : Errno → State → Answer
+abbrev pub refuses : Errno → TenantState → Answer
 refuses errno s = record { status = status_of errno; payload = []; after = s }
 
 -- where memory is refused, that alone is noted
-abbrev pub has_no_memory : State → Answer
+abbrev pub has_no_memory : TenantState → Answer
 has_no_memory s = record { status = status_of NoMemory; payload = []; after = record s { refused = true } }
 
 -- a refused load tells the slot and the reason
-abbrev pub refuses_at : Errno → ℕ → ℕ → State → Answer
+abbrev pub refuses_at : Errno → ℕ → ℕ → TenantState → Answer
 refuses_at errno slot number s = record { status = status_of errno; payload = little_bytes 4 slot ++ little_bytes 2 number; after = s }
 
-abbrev pub gives : List ℕ → State → Answer
+abbrev pub gives : List ℕ → TenantState → Answer
 gives payload s = record { status = pos 0; payload = payload; after = s }
 
-abbrev pub opens : ℕ → State → Answer
+abbrev pub opens : ℕ → TenantState → Answer
 opens fd s = record { status = pos fd; payload = []; after = s }
 
 -- ---- MAP_CREATE
@@ -87,115 +87,138 @@ abbrev pub new_map : MapShape → Map
 new_map shape = new_table (λ i. replicate shape.value_size 0) shape
 
 -- the place of one more map with so large an area
-abbrev pub room_for : State → ℕ → Option ℕ
+abbrev pub room_for : TenantState → ℕ → Option ℕ
 room_for s size = if nat_lt most_bytes (areas s.maps + size) then None else free_place s
 
-abbrev pub created_at : Bool → State → MapShape → ℕ → ℕ → Answer
+abbrev pub created_at : Bool → TenantState → MapShape → ℕ → ℕ → Answer
 created_at true s shape fd place = has_no_memory s
 created_at false s shape fd place = opens fd (record s { objects = table.with_open s.objects fd (object.Map place); maps = slice_set s.maps place (Some (new_map shape)) })
 
-abbrev pub created_as : Bool → State → MapShape → ℕ → Option ℕ → Answer
+abbrev pub created_as : Bool → TenantState → MapShape → ℕ → Option ℕ → Answer
 created_as refused s shape fd None = refuses NoSpace s
 created_as refused s shape fd (Some place) = created_at refused s shape fd place
 
-abbrev pub created_under : Bool → State → MapShape → Option ℕ → Answer
+abbrev pub created_under : Bool → TenantState → MapShape → Option ℕ → Answer
 created_under refused s shape None = refuses TooManyOpen s
 created_under refused s shape (Some fd) = created_as refused s shape fd (room_for s (area shape.value_size shape.max_entries))
 
-abbrev pub created : Bool → State → Result MapShape Errno → Answer
+abbrev pub created : Bool → TenantState → Result MapShape Errno → Answer
 created refused s (Err errno) = refuses errno s
 created refused s (Ok shape) = created_under refused s shape (table.lowest s.objects)
 
 -- ---- the calls of a map
 
 -- the map that a descriptor names
-abbrev pub of_place : State → ℕ → (ℕ → Map → Answer) → Option Map → Answer
+abbrev pub of_place : TenantState → ℕ → (ℕ → Map → Answer) → Option Map → Answer
 of_place s place f None = refuses BadDescriptor s
 of_place s place f (Some t) = f place t
 
-abbrev pub of_object : State → (ℕ → Map → Answer) → Option Object → Answer
+abbrev pub of_object : TenantState → (ℕ → Map → Answer) → Option OpenObject → Answer
 of_object s f None = refuses BadDescriptor s
 of_object s f (Some (object.Program l)) = refuses Invalid s
 of_object s f (Some (object.Map place)) = of_place s place f (live s place)
 
-abbrev pub on_map : State → ℕ → (ℕ → Map → Answer) → Answer
+abbrev pub on_map : TenantState → ℕ → (ℕ → Map → Answer) → Answer
 on_map s fd f = of_object s f (table.named s.objects fd)
 
 -- MAP_LOOKUP_ELEM
-abbrev pub found : State → Option (List ℕ) → Answer
+abbrev pub found : TenantState → Option (List ℕ) → Answer
 found s None = refuses NoEntry s
 found s (Some value) = gives value s
 
-abbrev pub looked_up : State → ℕ → List ℕ → Answer
+abbrev pub looked_up : TenantState → ℕ → List ℕ → Answer
 looked_up s fd key = on_map s fd (λ place t. if length key == t.shape.key_size then found s (look_up t key) else refuses Invalid s)
 
 -- MAP_UPDATE_ELEM: a present key keeps its place in the order, and a new one goes last
-abbrev pub put : Bool → State → ℕ → Map → List ℕ → List ℕ → call.Verdict (List ℕ) → Answer
+abbrev pub put : Bool → TenantState → ℕ → Map → List ℕ → List ℕ → call.Verdict (List ℕ) → Answer
 put refused s place t key value (call.Refused fault) = refuses (map_errno fault) s
 put refused s place t key value (call.Present old) = gives [] (with_map s place (with_object t key value))
 put true s place t key value call.New = has_no_memory s
 put false s place t key value call.New = gives [] (with_map s place (with_new t key value))
 
-abbrev pub updated : Bool → State → ℕ → ℕ → List ℕ → Answer
+abbrev pub updated : Bool → TenantState → ℕ → ℕ → List ℕ → Answer
 updated refused s fd flags bytes =
     on_map s fd (λ place t. if length bytes == t.shape.key_size + t.shape.value_size
     then put refused s place t (take t.shape.key_size bytes) (drop t.shape.key_size bytes) (verdict t (take t.shape.key_size bytes) flags)
     else refuses Invalid s)
 
 -- MAP_DELETE_ELEM: no run goes on, so what is deleted is gone
-abbrev pub taken_out : State → ℕ → Map → List ℕ → Result (List ℕ) MapFault → Answer
+abbrev pub taken_out : TenantState → ℕ → Map → List ℕ → Result (List ℕ) MapFault → Answer
 taken_out s place t key (Err fault) = refuses (map_errno fault) s
 taken_out s place t key (Ok value) = gives [] (with_map s place (after_run (with_deleted t key)))
 
-abbrev pub deleted : State → ℕ → List ℕ → Answer
+abbrev pub deleted : TenantState → ℕ → List ℕ → Answer
 deleted s fd key = on_map s fd (λ place t. if length key == t.shape.key_size then taken_out s place t key (removal t key) else refuses Invalid s)
 
 -- MAP_GET_NEXT_KEY: of no bytes, the first key
-abbrev pub given_next : State → ℕ → List ℕ → Answer
+abbrev pub given_next : TenantState → ℕ → List ℕ → Answer
 given_next s fd key =
     on_map s fd (λ place t. if length key == 0 || length key == t.shape.key_size then found s (next_of t key) else refuses Invalid s)
 
 -- ---- PROG_LOAD
 
+-- the wrong number of slots is told apart from slots that are no program's
 abbrev pub codec_errno : FaultKind → Errno
+codec_errno kind.Opcode = Invalid
+codec_errno kind.Reserved = Invalid
+codec_errno kind.Register = Invalid
+codec_errno kind.SecondSlot = Invalid
+codec_errno kind.Ragged = Invalid
 codec_errno kind.Empty = TooBig
 codec_errno kind.TooLong = TooBig
-codec_errno _ = Invalid
+codec_errno kind.Memory = NoMemory
 
--- a program of a wrong shape is invalid, a descriptor that is not open has an error of its own, and all else is denied
+-- a program of a wrong shape is invalid, or names a descriptor that is not open; one that is unsafe, or writes the frame pointer,
+-- is denied
 abbrev pub verdict_errno : Reason → Errno
 verdict_errno reason.JumpOutside = Invalid
 verdict_errno reason.JumpBackward = Invalid
 verdict_errno reason.FallsOff = Invalid
 verdict_errno reason.Unreachable = Invalid
 verdict_errno reason.UnknownHelper = Invalid
-verdict_errno reason.DescriptorNotMap = Invalid
+verdict_errno reason.FramePointerWritten = AccessDenied
 verdict_errno reason.DescriptorNotOpen = BadDescriptor
+verdict_errno reason.DescriptorNotMap = Invalid
+verdict_errno reason.UnreadableRegister = AccessDenied
+verdict_errno reason.ResultNotScalar = AccessDenied
+verdict_errno reason.NotPointer = AccessDenied
+verdict_errno reason.PointerArithmetic = AccessDenied
+verdict_errno reason.OffsetTooLarge = AccessDenied
+verdict_errno reason.OutsideStack = AccessDenied
+verdict_errno reason.UnalignedStack = AccessDenied
+verdict_errno reason.UnwrittenStack = AccessDenied
+verdict_errno reason.PartOfSpill = AccessDenied
+verdict_errno reason.OutsideValue = AccessDenied
+verdict_errno reason.MaybeNull = AccessDenied
+verdict_errno reason.ContextAccess = AccessDenied
+verdict_errno reason.PointerStored = AccessDenied
+verdict_errno reason.PointerComparison = AccessDenied
+verdict_errno reason.HelperArgument = AccessDenied
+verdict_errno reason.LengthUnbounded = AccessDenied
 verdict_errno reason.Memory = NoMemory
-verdict_errno _ = AccessDenied
 
 -- what slots come to: a program, or why they are none that may run
-pub data Judgement : Type 0 where
-  accepted : (insns : List Insn) → Judgement
-  rejected : (errno : Errno) (slot number : ℕ) → Judgement
+pub data LoadJudgement : Type 0 where
+  accepted : (insns : List Insn) → LoadJudgement
+  rejected : (errno : Errno) (slot number : ℕ) → LoadJudgement
 
-abbrev pub IsMalformed : List ℕ → Errno → ℕ → ℕ → Type 0
-IsMalformed slots errno slot number =
+abbrev pub IsNoProgram : List ℕ → Errno → ℕ → ℕ → Type 0
+IsNoProgram slots errno slot number =
     (fault : CodecFault) × IsProgramFault slots fault
     × (errno ≡ codec_errno fault.kind) × (slot ≡ fault.slot) × (number ≡ 100 + fault_number fault.kind)
 
-abbrev pub IsUnaccepted : List Named → List ℕ → Errno → ℕ → ℕ → Type 0
-IsUnaccepted named slots errno slot number =
+abbrev pub IsRefusedProgram : List Named → List ℕ → Errno → ℕ → ℕ → Type 0
+IsRefusedProgram named slots errno slot number =
     (insns : List Insn) × (why : Reason) × IsProgram insns × (slots ≡ program_bytes insns) × IsRefused insns named slot why
     × (errno ≡ verdict_errno why) × (number ≡ reason_number why)
 
 -- there is at most one
-abbrev pub Judges : List Named → List ℕ → Judgement → Type 0
+abbrev pub Judges : List Named → List ℕ → LoadJudgement → Type 0
 Judges named slots (accepted insns) = IsProgram insns × (slots ≡ program_bytes insns) × IsAccepted insns named
-Judges named slots (rejected errno slot number) = IsMalformed slots errno slot number ⊎ IsUnaccepted named slots errno slot number
+Judges named slots (rejected errno slot number) = IsNoProgram slots errno slot number ⊎ IsRefusedProgram named slots errno slot number
 
 -- what an open object is for the verdict: a map of its shape, or a program
-abbrev pub target_of : State → Object → Option Target
+abbrev pub target_of : TenantState → OpenObject → Option Target
 target_of s (object.Map place) = option_map (λ t. target.Map t.shape) (live s place)
 target_of s (object.Program l) = Some target.Program
 
@@ -204,20 +227,21 @@ entry_of fd None = []
 entry_of fd (Some t) = record { fd = fd; target = t } ∷ []
 
 -- what each open descriptor names, from this one on
-unfoldable pub targets_from : State → ℕ → List (Option Object) → List Named
+unfoldable pub targets_from : TenantState → ℕ → List (Option OpenObject) → List Named
 targets_from s fd [] = []
 targets_from s fd (o ∷ os) = entry_of fd (also o (target_of s)) ++ targets_from s (fd + 1) os
 
-abbrev pub targets : State → List Named
+abbrev pub targets : TenantState → List Named
 targets s = targets_from s table.first s.objects
 
 -- the place of the map that a descriptor names
-abbrev pub place_of : Option Object → Option ℕ
+abbrev pub place_of : Option OpenObject → Option ℕ
 place_of (Some (object.Map place)) = Some place
-place_of _ = None
+place_of (Some (object.Program l)) = None
+place_of None = None
 
 -- the maps that the program loads, each by its descriptor, in the order of first use
-unfoldable pub places_from : List (Option Object) → List ℕ → List (ℕ × ℕ)
+unfoldable pub places_from : List (Option OpenObject) → List ℕ → List (ℕ × ℕ)
 places_from objects [] = []
 places_from objects (fd ∷ fds) = bound (place_of (table.named objects fd)) fd (places_from objects fds)
   where
@@ -225,28 +249,28 @@ places_from objects (fd ∷ fds) = bound (place_of (table.named objects fd)) fd 
     bound None fd rest = rest
     bound (Some place) fd rest = (fd, place) ∷ rest
 
-abbrev pub loaded : State → List Insn → Loaded
+abbrev pub loaded : TenantState → List Insn → LoadedProgram
 loaded s insns = record {
   insns = insns;
   named = entries_of (maps_of insns) (targets s);
   maps = places_from s.objects (maps_of insns);
 }
 
-abbrev pub judged : State → ℕ → Judgement → Answer
+abbrev pub judged : TenantState → ℕ → LoadJudgement → Answer
 judged s fd (rejected errno slot number) = refuses_at errno slot number s
 judged s fd (accepted insns) = opens fd (record s { objects = table.with_open s.objects fd (object.Program (loaded s insns)) })
 
 -- where memory is refused, that is the answer whatever the slots are
-abbrev pub LoadsAs : Bool → State → ℕ → List ℕ → Answer → Type 0
+abbrev pub LoadsAs : Bool → TenantState → ℕ → List ℕ → Answer → Type 0
 LoadsAs true s fd slots answer = answer ≡ has_no_memory s
-LoadsAs false s fd slots answer = (j : Judgement) × Judges (targets s) slots j × (answer ≡ judged s fd j)
+LoadsAs false s fd slots answer = (j : LoadJudgement) × Judges (targets s) slots j × (answer ≡ judged s fd j)
 
-abbrev pub LoadsUnder : Bool → State → Option ℕ → List ℕ → Answer → Type 0
+abbrev pub LoadsUnder : Bool → TenantState → Option ℕ → List ℕ → Answer → Type 0
 LoadsUnder refused s None slots answer = answer ≡ refuses TooManyOpen s
 LoadsUnder refused s (Some fd) slots answer = LoadsAs refused s fd slots answer
 
 -- socket filters alone are loaded (BPF_PROG_TYPE_SOCKET_FILTER)
-abbrev pub Loads : Bool → State → ℕ → List ℕ → Answer → Type 0
+abbrev pub Loads : Bool → TenantState → ℕ → List ℕ → Answer → Type 0
 Loads refused s kind slots answer = MatchBool (kind == 1) (LoadsUnder refused s (table.lowest s.objects) slots answer) (answer ≡ refuses Invalid s)
 
 -- ---- PROG_TEST_RUN
@@ -256,20 +280,20 @@ abbrev pub longest_packet : ℕ
 longest_packet = 32768
 
 -- the maps of a program, by the descriptors in its text
-abbrev pub maps_given : State → Loaded → Maps
+abbrev pub maps_given : TenantState → LoadedProgram → MapsByDescriptor
 maps_given s l fd = also (lookup (λ m. m == fd) l.maps) (λ place. live s place)
 
 -- each of these maps as a run left it
-unfoldable pub maps_left : Maps → List (ℕ × ℕ) → List (Option Map) → List (Option Map)
+unfoldable pub maps_left : MapsByDescriptor → List (ℕ × ℕ) → List (Option Map) → List (Option Map)
 maps_left left [] maps = maps
 maps_left left (m ∷ ms) maps = maps_left left ms (slice_set maps m.1 (left m.0))
 
-abbrev pub ended : Outcome → State → Answer
+abbrev pub ended : Outcome → TenantState → Answer
 ended (Value n) s = gives (little_bytes 4 n) s
 ended Fault s = refuses BadAddress s
 
 -- word 0 of the context is the packet's length
-abbrev pub ran : List Bool → State → Loaded → List ℕ → List ℕ → Answer
+abbrev pub ran : List Bool → TenantState → LoadedProgram → List ℕ → List ℕ → Answer
 ran refusals s l words packet =
     let given = maps_given s l in
     ended (result_with refusals l.insns given (length packet ∷ words) packet) (record s {
@@ -277,14 +301,14 @@ ran refusals s l words packet =
       refused = s.refused || was_refused refusals l.insns given (length packet ∷ words) packet;
     })
 
-abbrev pub run_of : List Bool → State → List ℕ → List ℕ → Option Object → Answer
+abbrev pub run_of : List Bool → TenantState → List ℕ → List ℕ → Option OpenObject → Answer
 run_of refusals s words packet None = refuses BadDescriptor s
 run_of refusals s words packet (Some (object.Map place)) = refuses Invalid s
 run_of refusals s words packet (Some (object.Program l)) = if nat_lt longest_packet (length packet) then refuses TooBig s else ran refusals s l words packet
 
 -- ---- CLOSE
 
-abbrev pub closed : State → ℕ → Option Object → Answer
+abbrev pub closed : TenantState → ℕ → Option OpenObject → Answer
 closed s fd None = refuses BadDescriptor s
 closed s fd (Some o) = gives [] (with_objects s (table.without s.objects fd))
 
@@ -292,7 +316,7 @@ closed s fd (Some o) = gives [] (with_objects s (table.without s.objects fd))
 
 -- What a command may answer. Memory may be refused to it: where the first of the refusals says so, and in a test run at the
 -- steps that they say.
-abbrev pub Answers : List Bool → State → Command → Answer → Type 0
+abbrev pub Answers : List Bool → TenantState → Command → Answer → Type 0
 Answers refusals s (map_create kind key value max flags) a = a ≡ created (first refusals) s (shape_of (kind_of kind) key value max flags)
 Answers refusals s (map_lookup fd key) a = a ≡ looked_up s fd key
 Answers refusals s (map_update fd flags bytes) a = a ≡ updated (first refusals) s fd flags bytes

@@ -1,11 +1,13 @@
--- What a tenant has: what is open, the live maps, and whether memory was ever refused to it.
+-- What a tenant has: what is open, the live maps, and whether memory was ever refused to it. Descriptors and maps are
+-- those of bpf(2); the limits are this project's own.
 use Rattle.std.specs.Prelude.{ℕ, ◌+◌, ◌==◌, Bool, false, if◌then◌else◌, List, [], ◌∷◌, replicate, Option, Some, None, is_none, position, slice_index_or, slice_set}
 use Rattle.std.specs.List.{list_any}
 use Rattle.std.specs.Option.{option_map_or}
+use Rattle.bpf_maps.specs.declared.part.TheConstants.{LARGEST_SUM, MAPS}
 use Rattle.tagged_model.specs.Shape.{area}
 use Rattle.tagged_model.specs.Table.{Table}
-use Rattle.tenant.specs.declared.object.Object.{Object}
-use Rattle.tenant.specs.declared.object.Object.TheVariants as object
+use Rattle.tenant.specs.declared.object.OpenObject.{OpenObject}
+use Rattle.tenant.specs.declared.object.OpenObject.TheVariants as object
 use Rattle.fd_table.specs.Table.{nothing_open}
 
 -- a map of a tenant: its keys in order, each with the bytes of its value
@@ -13,21 +15,21 @@ abbrev pub Map : Type 0
 Map = Table (List ℕ)
 
 -- what is open by descriptors, and the live maps by their places. A place is given to no other map while its map is live.
-pub record State : Type 0 where
-  pub objects : List (Option Object)
+pub record TenantState : Type 0 where
+  pub objects : List (Option OpenObject)
   pub maps : List (Option Map)
   pub refused : Bool
 
 -- so many maps may be live
 abbrev pub most_maps : ℕ
-most_maps = 16
+most_maps = MAPS
 
 -- and their values may take so many bytes
 abbrev pub most_bytes : ℕ
-most_bytes = 65536
+most_bytes = LARGEST_SUM
 
 -- of a new tenant
-abbrev pub new_tenant : State
+abbrev pub new_tenant : TenantState
 new_tenant = record { objects = nothing_open; maps = replicate most_maps None; refused = false }
 
 -- the sum of a number over all that are there
@@ -37,11 +39,11 @@ total f (x ∷ xs) = option_map_or f x 0 + total f xs
 
 -- ---- live maps
 
-abbrev pub live : State → ℕ → Option Map
+abbrev pub live : TenantState → ℕ → Option Map
 live s place = slice_index_or s.maps place None
 
 -- the lowest place where no map is
-abbrev pub free_place : State → Option ℕ
+abbrev pub free_place : TenantState → Option ℕ
 free_place s = position is_none s.maps
 
 -- the bytes that the values of the live maps take
@@ -51,24 +53,24 @@ area_of t = area t.shape.value_size t.shape.max_entries
 abbrev pub areas : List (Option Map) → ℕ
 areas maps = total area_of maps
 
-abbrev pub with_map : State → ℕ → Map → State
+abbrev pub with_map : TenantState → ℕ → Map → TenantState
 with_map s place t = record s { maps = slice_set s.maps place (Some t) }
 
 -- ---- what names a map
 
 -- an object names the map at a place: a descriptor of it, or a program that was loaded with it
-abbrev pub names : ℕ → Object → Bool
+abbrev pub names : ℕ → OpenObject → Bool
 names place (object.Map p) = p == place
 names place (object.Program l) = list_any (λ m. m.1 == place) l.maps
 
-abbrev pub is_named : List (Option Object) → ℕ → Bool
+abbrev pub is_named : List (Option OpenObject) → ℕ → Bool
 is_named objects place = list_any (λ o. option_map_or (names place) o false) objects
 
 -- of the maps from a place on those that something open names; the others are gone
-unfoldable pub named_from : List (Option Object) → ℕ → List (Option Map) → List (Option Map)
+unfoldable pub named_from : List (Option OpenObject) → ℕ → List (Option Map) → List (Option Map)
 named_from objects place [] = []
 named_from objects place (m ∷ ms) = (if is_named objects place then m else None) ∷ named_from objects (place + 1) ms
 
 -- with these descriptors open a map that none of them and no program names is gone
-abbrev pub with_objects : State → List (Option Object) → State
+abbrev pub with_objects : TenantState → List (Option OpenObject) → TenantState
 with_objects s objects = record s { objects = objects; maps = named_from objects 0 s.maps }

@@ -1,1 +1,5 @@
 pub mod Frames
+pub mod Leaves
+pub mod Loading
+pub mod TestRun
+pub mod Answers

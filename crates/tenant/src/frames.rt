@@ -1,27 +1,29 @@
 //! Frames of one tenant, and the replies to them.
 
-ghost use Rattle.std.specs.Prelude.{◌≡◌, ◌≢◌, ◌≤◌, ◌<◌, ℕ, List, [], length, Some, Ok, Result, IfOk};
+ghost use Rattle.std.specs.Prelude.{◌≡◌, ◌≢◌, ◌≤◌, ◌<◌, ◌^◌, ℕ, List, [], length, Some, Ok, Result, IfOk};
 ghost use Rattle.arena.specs.Memory.{part_bytes};
-ghost use Rattle.bpf_maps.specs.declared.part.TheConstants.{PART};
+ghost use Rattle.bpf_maps.specs.declared.part.TheConstants.{KEY_ROOM, PART};
 ghost use Rattle.tagged_model.specs.declared.shape.MapShape.{MapShape};
-ghost use Rattle.command_frames.specs.Command.{parsed, map_create, map_update, map_delete, map_next_key, prog_load, prog_test_run, close};
-ghost use Rattle.command_frames.specs.Frame.{head_of, reply_to};
+ghost use Rattle.command_frames.specs.Command.{longest_frame, map_create, map_lookup, map_update, map_delete, map_next_key, prog_load, prog_test_run, close};
+ghost use Rattle.command_frames.specs.Frame.{head_length, longest_payload, reply_to};
 ghost use Rattle.command_frames.specs.Shown.{shown};
-ghost use Rattle.tenant.specs.Alone.{MayTell, frame_errno};
+ghost use Rattle.tenant.specs.Alone.{MayReply, frame_errno};
 ghost use Rattle.tenant.specs.Errno.{status_of};
 ghost use Rattle.tenant.specs.Kept.{state_in};
 ghost use Rattle.tenant.specs.Machine.{kind_of, shape_of};
-ghost use Rattle.tenant.specs.Replies.{front_answer, done_answer, opened_answer, load_answer, run_answer};
-ghost use Rattle.tenant.specs.State.{State};
+ghost use Rattle.tenant.specs.Replies.{lent_answer, front_answer, done_answer, opened_answer};
+ghost use Rattle.tenant.specs.inside.Answers.{load_answer, run_answer};
+ghost use Rattle.tenant.specs.State.{TenantState};
 ghost use Rattle.tenant.specs.declared.errno.Errno.TheVariants.{BadAddress};
-ghost use Rattle.tenant.specs.inside.Frames.{Writes, Told, ChangesPart, OpensBelow, last_descriptor};
+ghost use Rattle.tenant.specs.inside.Frames.{tail_length, Writes, AnswersCommand, ChangesPart, OpensBelow, last_descriptor};
 
 use crate::errno::Errno;
 use crate::loading::LoadReply;
 use crate::shape::asked_shape;
 use crate::tenant::{Tenant, write_refusal};
 use arena::{Arena, parts_are_apart};
-use command_frames::{BadFrame, Command, Head, ReplyBuf, head, parse, write_reply};
+use bpf_maps::KEY_ROOM;
+use command_frames::{BadFrame, Command, GIVEN_WORDS, Head, ReplyBuf, head, parse, write_reply};
 use std::alloc::Global;
 use tagged_model::MapShape;
 
@@ -38,7 +40,7 @@ fn frame_error(fault: BadFrame) -> Errno
 
 /// The reply to a command that answers nothing but that it was done.
 fn write_done(head: Head, answer: Result<(), Errno>, room: &mut ReplyBuf)
-    ensures { (s : State) → Writes head room.new (done_answer answer s) }
+    ensures { (s : TenantState) → Writes head room.new (done_answer answer s) }
 {
     match answer {
         Ok(()) => write_reply(head, 0, &[], room),
@@ -49,7 +51,7 @@ fn write_done(head: Head, answer: Result<(), Errno>, room: &mut ReplyBuf)
 /// The reply to a command that makes a map: its descriptor is the status.
 fn write_opened(head: Head, answer: Result<u32, Errno>, room: &mut ReplyBuf)
     requires { IfOk answer (λ fd. fd ≤ last_descriptor) }
-    ensures { (s : State) → Writes head room.new (opened_answer answer s) }
+    ensures { (s : TenantState) → Writes head room.new (opened_answer answer s) }
 {
     match answer {
         Ok(fd) => write_reply(head, fd as i32, &[], room),
@@ -57,10 +59,26 @@ fn write_opened(head: Head, answer: Result<u32, Errno>, room: &mut ReplyBuf)
     }
 }
 
+/// The reply to a look-up: the value, which is lent, is the payload.
+fn write_lent(head: Head, answer: Result<&[u8], Errno>, room: &mut ReplyBuf)
+    requires { IfOk answer (λ value. length value.now ≤ longest_payload) }
+    ensures { (s : TenantState) → Writes head room.new (lent_answer answer.entry s) }
+{
+    match answer {
+        Ok(value) => write_reply(head, 0, value, room),
+        Err(errno) => write_refusal(head, errno, room),
+    }
+}
+
 /// The reply to a request for a key, which stands at the front of these bytes.
-fn write_front(head: Head, answer: Result<usize, Errno>, bytes: &[u8; 64], room: &mut ReplyBuf)
-    requires { IfOk answer (λ size. size ≤ 64) }
-    ensures { (s : State) → Writes head room.new (front_answer answer bytes.now s) }
+fn write_front(
+    head: Head,
+    answer: Result<usize, Errno>,
+    bytes: &[u8; KEY_ROOM],
+    room: &mut ReplyBuf,
+)
+    requires { IfOk answer (λ size. size ≤ KEY_ROOM) }
+    ensures { (s : TenantState) → Writes head room.new (front_answer answer bytes.now s) }
 {
     match answer {
         Ok(size) => write_reply(head, 0, &bytes[..size], room),
@@ -71,7 +89,7 @@ fn write_front(head: Head, answer: Result<usize, Errno>, bytes: &[u8; 64], room:
 /// The reply to a load: the descriptor is the status. The slot and the reason of a refusal are the payload.
 fn write_load(head: Head, answer: LoadReply, room: &mut ReplyBuf)
     requires { OpensBelow answer }
-    ensures { (s : State) → Writes head room.new (load_answer answer s) }
+    ensures { (s : TenantState) → Writes head room.new (load_answer answer s) }
 {
     match answer {
         LoadReply::Opened(fd) => write_reply(head, fd as i32, &[], room),
@@ -90,7 +108,7 @@ fn write_load(head: Head, answer: LoadReply, room: &mut ReplyBuf)
 
 /// The reply to a test run: the value of the program is the payload.
 fn write_run(head: Head, answer: Result<u32, Errno>, room: &mut ReplyBuf)
-    ensures { (s : State) → Writes head room.new (run_answer answer s) }
+    ensures { (s : TenantState) → Writes head room.new (run_answer answer s) }
 {
     match answer {
         Ok(value) => write_reply(head, 0, &value.to_le_bytes(), room),
@@ -110,15 +128,26 @@ impl Tenant {
         requires { length part.old ≡ PART }
         ensures told { (kind key value max flags : ℕ)
             → shape ≡ shape_of (kind_of kind) key value max flags
-            → Told (map_create kind key value max flags) head room.new
+            → AnswersCommand (map_create kind key value max flags) head room.new
             (state_in part.old self.old) (state_in part.new self.new) }
         ensures length { length part.new ≡ PART }
     {
-        self.has_all_places();
+        self.table_has_all_places();
         match shape {
             Ok(shape) => write_opened(head, self.create(shape, part), room),
             Err(errno) => write_refusal(head, errno, room),
         }
+    }
+
+    /// MAP_LOOKUP_ELEM. The value goes from the tenant's part into the reply, and is copied nowhere else.
+    fn reply_to_look_up(&self, head: Head, fd: u32, key: &[u8], part: &[u8], room: &mut ReplyBuf)
+        requires { length part.now ≡ PART }
+        ensures { AnswersCommand (map_lookup fd key.now) head room.new
+            (state_in part.now self.now) (state_in part.now self.now) }
+    {
+        self.table_has_all_places();
+        let answer = self.look_up(fd, key, part);
+        write_lent(head, answer, room);
     }
 
     /// MAP_UPDATE_ELEM.
@@ -132,32 +161,32 @@ impl Tenant {
         room: &mut ReplyBuf,
     )
         requires { length part.old ≡ PART }
-        ensures told { Told (map_update fd flags key_and_value.now) head room.new
+        ensures told { AnswersCommand (map_update fd flags key_and_value.now) head room.new
             (state_in part.old self.old) (state_in part.new self.new) }
         ensures length { length part.new ≡ PART }
     {
-        self.has_all_places();
+        self.table_has_all_places();
         let answer = self.update(fd, flags, key_and_value, part);
         write_done(head, answer, room);
     }
 
     /// MAP_DELETE_ELEM.
     fn reply_to_delete(&mut self, head: Head, fd: u32, key: &[u8], room: &mut ReplyBuf)
-        ensures { (part : List ℕ) → Told (map_delete fd key.now) head room.new
+        ensures { (part : List ℕ) → AnswersCommand (map_delete fd key.now) head room.new
             (state_in part self.old) (state_in part self.new) }
     {
-        self.has_all_places();
+        self.table_has_all_places();
         let answer = self.delete(fd, key);
         write_done(head, answer, room);
     }
 
     /// MAP_GET_NEXT_KEY.
     fn reply_to_next_key(&self, head: Head, fd: u32, key: &[u8], room: &mut ReplyBuf)
-        ensures { (part : List ℕ) → Told (map_next_key fd key.now) head room.new
+        ensures { (part : List ℕ) → AnswersCommand (map_next_key fd key.now) head room.new
             (state_in part self.now) (state_in part self.now) }
     {
-        self.has_all_places();
-        let mut next = [0; 64];
+        self.table_has_all_places();
+        let mut next = [0; KEY_ROOM];
         let answer = self.next_key(fd, key, &mut next);
         write_front(head, answer, &next, room);
     }
@@ -171,11 +200,11 @@ impl Tenant {
         slots: &[u8],
         room: &mut ReplyBuf,
     )
-        requires short { length slots.now < 4294967296 }
-        ensures { (part : List ℕ) → Told (prog_load kind slots.now) head room.new
+        requires short { length slots.now < 2 ^ 32 }
+        ensures { (part : List ℕ) → AnswersCommand (prog_load kind slots.now) head room.new
             (state_in part self.old) (state_in part self.new) }
     {
-        self.has_all_places();
+        self.table_has_all_places();
         let answer = self.load(alloc, kind, slots);
         write_load(head, answer, room);
     }
@@ -185,7 +214,7 @@ impl Tenant {
         &mut self,
         head: Head,
         fd: u32,
-        words: &[u32; 10],
+        words: &[u32; GIVEN_WORDS],
         packet: &[u8],
         tenant: usize,
         arena: &mut Arena,
@@ -193,8 +222,8 @@ impl Tenant {
     )
         requires tenant { tenant < arena.old.parts }
         requires part { arena.old.part ≡ PART }
-        requires short { length packet.now < 4294967296 }
-        ensures told { Told (prog_test_run fd words.now packet.now) head room.new
+        requires short { length packet.now < 2 ^ 32 }
+        ensures told { AnswersCommand (prog_test_run fd words.now packet.now) head room.new
             (state_in (part_bytes arena.old tenant) self.old)
             (state_in (part_bytes arena.new tenant) self.new) }
         ensures changes { ChangesPart tenant arena.old arena.new }
@@ -206,11 +235,11 @@ impl Tenant {
     /// CLOSE.
     fn reply_to_close(&mut self, head: Head, fd: u32, part: &mut [u8], room: &mut ReplyBuf)
         requires { length part.old ≡ PART }
-        ensures told { Told (close fd) head room.new
+        ensures told { AnswersCommand (close fd) head room.new
             (state_in part.old self.old) (state_in part.new self.new) }
         ensures length { length part.new ≡ PART }
     {
-        self.has_all_places();
+        self.table_has_all_places();
         let answer = self.close(fd, part);
         write_done(head, answer, room);
     }
@@ -219,24 +248,22 @@ impl Tenant {
     fn reply_to_command(
         &mut self,
         alloc: Global,
-        frame: &[u8],
         head: Head,
         command: Command<'_>,
         tenant: usize,
         arena: &mut Arena,
         reply: &mut ReplyBuf,
     )
-        requires head { head_of frame.now ≡ Some head }
-        requires parsed { parsed frame.now ≡ Ok (shown command) }
+        requires short { tail_length (shown command) ≤ longest_frame }
         requires tenant { tenant < arena.old.parts }
         requires part { arena.old.part ≡ PART }
-        ensures told { Told (shown command.entry) head reply.new
+        ensures told { AnswersCommand (shown command.entry) head reply.new
             (state_in (part_bytes arena.old tenant) self.old)
             (state_in (part_bytes arena.new tenant) self.new) }
         ensures changes { ChangesPart tenant arena.old arena.new }
     {
-        self.has_all_places();
-        arena.is_its_parts();
+        self.table_has_all_places();
+        arena.memory_is_its_parts();
         parts_are_apart();
         match command {
             Command::MapCreate {
@@ -249,8 +276,8 @@ impl Tenant {
                 let shape = asked_shape(kind, key_size, value_size, max_entries, flags);
                 self.reply_to_create(head, shape, arena.part_mut(tenant), reply);
             }
-            Command::MapLookup { .. } => {
-                self.reply_to_look_up(frame, arena.part(tenant), reply);
+            Command::MapLookup { fd, key } => {
+                self.reply_to_look_up(head, fd, key, arena.part(tenant), reply);
             }
             Command::MapUpdate {
                 fd,
@@ -284,10 +311,10 @@ impl Tenant {
         arena: &mut Arena,
         reply: &mut ReplyBuf,
     )
-        requires head { 4 ≤ length frame.now }
+        requires head { head_length ≤ length frame.now }
         requires tenant { tenant < arena.old.parts }
         requires part { arena.old.part ≡ PART }
-        ensures told { MayTell frame.now reply.new
+        ensures told { MayReply frame.now reply.new
             (Some (state_in (part_bytes arena.old tenant) self.old))
             (Some (state_in (part_bytes arena.new tenant) self.new)) }
         ensures no_fault { reply.new ≢ reply_to frame.now (status_of BadAddress) [] }
@@ -300,7 +327,7 @@ impl Tenant {
             unreachable!();
         };
         match parse(frame) {
-            Ok(command) => self.reply_to_command(alloc, frame, head, command, tenant, arena, reply),
+            Ok(command) => self.reply_to_command(alloc, head, command, tenant, arena, reply),
             Err(fault) => write_refusal(head, frame_error(fault), reply),
         }
     }

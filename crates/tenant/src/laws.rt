@@ -1,6 +1,6 @@
 //! Laws of the machine. Each is the contract of a function that does nothing.
 
-ghost use Rattle.tenant.specs.Laws.{OneJudgement, OneAnswer, OneReply, OneAlone, ClearAnswers, ClearAlone, FaultsHaveNoPayload};
+ghost use Rattle.tenant.specs.Laws.{OneJudgement, OneAnswer, OneReply, OneAlone, ClearFlagMeansNoRefusal, ClearFlagMeansAlone, FaultsHaveNoPayload};
 
 use insn_codec::{one_fault, one_program};
 use tagged_model::refusals_are_told;
@@ -38,15 +38,15 @@ pub fn one_alone()
 }
 
 /// Where a tenant's flag is clear, no refusal was taken.
-pub fn clear_answers()
-    ensures { ClearAnswers }
+pub fn clear_flag_means_no_refusal()
+    ensures { ClearFlagMeansNoRefusal }
 {
     refusals_are_told();
 }
 
 /// A tenant whose flag is clear in the end is told what its machine tells it without refusals.
-pub fn clear_alone()
-    ensures { ClearAlone }
+pub fn clear_flag_means_alone()
+    ensures { ClearFlagMeansAlone }
 {
     refusals_are_told();
 }

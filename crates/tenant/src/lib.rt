@@ -12,8 +12,8 @@ mod test_run;
 
 pub use errno::Errno;
 pub use laws::{
-    clear_alone, clear_answers, faults_have_no_payload, one_alone, one_answer, one_judgement,
-    one_reply,
+    clear_flag_means_alone, clear_flag_means_no_refusal, faults_have_no_payload, one_alone,
+    one_answer, one_judgement, one_reply,
 };
-pub use object::{Loaded, Object};
+pub use object::{LoadedProgram, OpenObject};
 pub use tenant::Tenant;

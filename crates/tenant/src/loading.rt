@@ -1,15 +1,15 @@
 //! PROG_LOAD.
 
-ghost use Rattle.std.specs.Prelude.{◌≡◌, ◌+◌, ◌<◌, ◌≤◌, ◌==◌, ℕ, Bool, false, List, IfOk, IfErr, IsSome, None, Some, length, is_none, slice_index_or, if◌then◌else◌};
+ghost use Rattle.std.specs.Prelude.{◌≡◌, ◌+◌, ◌<◌, ◌≤◌, ◌==◌, ◌^◌, ℕ, Bool, false, List, IfOk, IfErr, IsSome, None, Some, length, is_none, slice_index_or, if◌then◌else◌};
 ghost use Rattle.fd_table.specs.Table.{named, lowest};
 ghost use Rattle.verdict.specs.Maps.{maps_of, entries_of};
-ghost use Rattle.tenant.specs.Kept.{key_at, times, holds_in, IsPlaced, IsBound, state_in};
-ghost use Rattle.tenant.specs.Loading.{codec_told, verdict_told, with_program, IsHeldMore, IsLoadFault};
+ghost use Rattle.tenant.specs.Kept.{times, holds_in, MapsAreAtPlaces, IsBound, state_in};
+ghost use Rattle.tenant.specs.inside.Loading.{codec_told, verdict_told, with_program, ProgramMapsAreThere, IsHeldMore, IsLoadFault};
 ghost use Rattle.tenant.specs.Machine.{accepted, codec_errno, verdict_errno, loaded, place_of, places_from, targets, Judges, Loads};
-ghost use Rattle.tenant.specs.Replies.{load_answer};
+ghost use Rattle.tenant.specs.inside.Answers.{load_answer};
 
 use crate::errno::Errno;
-use crate::object::{Loaded, Object};
+use crate::object::{LoadedProgram, OpenObject};
 use crate::tenant::{Tenant, open};
 use bpf_maps::{MAPS, MapKey, Maps};
 use fd_table::FdTable;
@@ -60,8 +60,8 @@ fn errno_of_codec(kind: FaultKind) -> Errno
         | FaultKind::Reserved
         | FaultKind::Register
         | FaultKind::SecondSlot
-        | FaultKind::Ragged
-        | FaultKind::Memory => Errno::Invalid,
+        | FaultKind::Ragged => Errno::Invalid,
+        FaultKind::Memory => Errno::NoMemory,
     }
 }
 
@@ -95,7 +95,7 @@ fn errno_of_verdict(reason: Reason) -> Errno
 
 /// What is told of slots that are no program's.
 fn of_codec(fault: CodecFault) -> LoadFault
-    requires { fault.slot < 4294967296 }
+    requires { fault.slot < 2 ^ 32 }
     ensures { result ≡ codec_told fault.kind fault.slot }
 {
     if fault.kind == FaultKind::Memory {
@@ -110,7 +110,7 @@ fn of_codec(fault: CodecFault) -> LoadFault
 
 /// What is told of a program that is not accepted.
 fn of_verdict(fault: VerifyFault) -> LoadFault
-    requires { fault.slot < 4294967296 }
+    requires { fault.slot < 2 ^ 32 }
     ensures { result ≡ verdict_told fault.reason fault.slot }
 {
     if fault.reason == Reason::Memory {
@@ -125,9 +125,11 @@ fn of_verdict(fault: VerifyFault) -> LoadFault
 
 /// The program that the slots spell, where it is accepted with these descriptors open.
 fn judged(alloc: Global, slots: &[u8], descriptors: &[Named]) -> Result<Verified, LoadFault>
-    requires { length slots.now < 4294967296 }
-    ensures judges { IfOk result (λ program. Judges descriptors.now slots.now (accepted program.code)) }
-    ensures entries { IfOk result (λ program. program.entries ≡ entries_of (maps_of program.code) descriptors.now) }
+    requires { length slots.now < 2 ^ 32 }
+    ensures judges { IfOk result (λ program.
+        Judges descriptors.now slots.now (accepted program.code)) }
+    ensures entries { IfOk result (λ program.
+        program.entries ≡ entries_of (maps_of program.code) descriptors.now) }
     ensures refused { IfErr result (λ fault. IsLoadFault descriptors.now slots.now fault) }
 {
     let program = match read_program(alloc, slots) {
@@ -144,11 +146,12 @@ fn judged(alloc: Global, slots: &[u8], descriptors: &[Named]) -> Result<Verified
 
 /// One more holds the map at a place.
 fn hold(keys: &[Option<MapKey>; MAPS], maps: &mut Maps, place: u8)
-    requires placed { IsPlaced keys.now maps.old }
+    requires placed { MapsAreAtPlaces keys.now maps.old }
     requires there { IsSome (slice_index_or keys.now place None) }
-    requires few { holds_in keys.now maps.old place + 1 < 4294967296 }
+    requires few { holds_in keys.now maps.old place + 1 < 2 ^ 32 }
     ensures held { IsHeldMore keys.now maps.old maps.new }
-    ensures holds { (other : ℕ) → holds_in keys.now maps.new other ≡ holds_in keys.now maps.old other + (if place == other then 1 else 0) }
+    ensures holds { (other : ℕ) → holds_in keys.now maps.new other
+        ≡ holds_in keys.now maps.old other + (if place == other then 1 else 0) }
 {
     let Some(key) = keys[usize::from(place)] else {
         unreachable!();
@@ -158,11 +161,13 @@ fn hold(keys: &[Option<MapKey>; MAPS], maps: &mut Maps, place: u8)
 
 /// One more holds each of these maps, which are told by their places.
 fn hold_all(keys: &[Option<MapKey>; MAPS], maps: &mut Maps, held: &[(u32, u8)])
-    requires placed { IsPlaced keys.now maps.old }
-    requires there { (place : ℕ) → 1 ≤ times place held.now → IsSome (slice_index_or keys.now place None) }
-    requires few { (place : ℕ) → holds_in keys.now maps.old place + times place held.now < 4294967296 }
+    requires placed { MapsAreAtPlaces keys.now maps.old }
+    requires there { ProgramMapsAreThere keys.now held.now }
+    requires few { (place : ℕ) →
+        holds_in keys.now maps.old place + times place held.now < 2 ^ 32 }
     ensures held { IsHeldMore keys.now maps.old maps.new }
-    ensures holds { (place : ℕ) → holds_in keys.now maps.new place ≡ holds_in keys.now maps.old place + times place held.now }
+    ensures holds { (place : ℕ) → holds_in keys.now maps.new place
+        ≡ holds_in keys.now maps.old place + times place held.now }
 {
     for map in held {
         hold(keys, maps, map.1);
@@ -170,19 +175,19 @@ fn hold_all(keys: &[Option<MapKey>; MAPS], maps: &mut Maps, held: &[(u32, u8)])
 }
 
 /// The place of the map that a descriptor names.
-fn place_named(objects: &FdTable<Object>, fd: u32) -> Option<u8>
+fn place_named(objects: &FdTable<OpenObject>, fd: u32) -> Option<u8>
     ensures { result ≡ place_of (named objects.now fd) }
 {
     match objects.get(fd)? {
-        Object::Map(place) => Some(*place),
-        Object::Program(_) => None,
+        OpenObject::Map(place) => Some(*place),
+        OpenObject::Program(_) => None,
     }
 }
 
 /// The maps that descriptors name, by their places. What names no map is left out.
 fn places(
     alloc: Global,
-    objects: &FdTable<Object>,
+    objects: &FdTable<OpenObject>,
     fds: &[u32],
 ) -> Result<Vec<(u32, u8)>, AllocError>
     ensures { IfOk result (λ found. found.items ≡ places_from objects.now fds.now) }
@@ -198,13 +203,16 @@ fn places(
 
 impl Tenant {
     /// The program that the slots spell, with the places of its maps, where it is accepted.
-    fn program_of(&self, alloc: Global, slots: &[u8]) -> Result<Loaded, LoadFault>
-        requires { length slots.now < 4294967296 }
-        ensures judges { IfOk result (λ l. (part : List ℕ) → Judges (targets (state_in part self.now)) slots.now (accepted l.insns)) }
-        ensures found { IfOk result (λ l. (part : List ℕ) → l ≡ loaded (state_in part self.now) l.insns) }
+    fn program_of(&self, alloc: Global, slots: &[u8]) -> Result<LoadedProgram, LoadFault>
+        requires { length slots.now < 2 ^ 32 }
+        ensures judges { IfOk result (λ l. (part : List ℕ) →
+            Judges (targets (state_in part self.now)) slots.now (accepted l.insns)) }
+        ensures found { IfOk result (λ l. (part : List ℕ) →
+            l ≡ loaded (state_in part self.now) l.insns) }
         ensures bound { IfOk result (λ l. IsBound self.now l) }
-        ensures there { IfOk result (λ l. (place : ℕ) → 1 ≤ times place l.maps → IsSome (key_at self.now place)) }
-        ensures refused { IfErr result (λ fault. (part : List ℕ) → IsLoadFault (targets (state_in part self.now)) slots.now fault) }
+        ensures there { IfOk result (λ l. ProgramMapsAreThere self.now.keys l.maps) }
+        ensures refused { IfErr result (λ fault. (part : List ℕ) →
+            IsLoadFault (targets (state_in part self.now)) slots.now fault) }
     {
         loaded_maps_have_shapes();
         maps_are_listed();
@@ -213,21 +221,22 @@ impl Tenant {
         };
         let program = judged(alloc, slots, &descriptors)?;
         match places(alloc, &self.objects, program.maps()) {
-            Ok(maps) => Ok(Loaded::new(program, maps)),
+            Ok(maps) => Ok(LoadedProgram::new(program, maps)),
             Err(_) => Err(LoadFault::Memory),
         }
     }
 
     /// Opens a program under the lowest descriptor that is free, where one is. It holds its maps.
-    fn open_program(&mut self, program: Loaded) -> u32
+    fn open_program(&mut self, program: LoadedProgram) -> u32
         requires free { is_none (lowest self.old.objects) ≡ false }
         requires bound { IsBound self.old program }
-        requires there { (place : ℕ) → 1 ≤ times place program.maps → IsSome (key_at self.old place) }
+        requires there { ProgramMapsAreThere self.old.keys program.maps }
         ensures lowest { lowest self.old.objects ≡ Some result }
-        ensures opened { (part : List ℕ) → state_in part self.new ≡ with_program (state_in part self.old) result program }
+        ensures opened { (part : List ℕ) →
+            state_in part self.new ≡ with_program (state_in part self.old) result program }
     {
         hold_all(&self.keys, &mut self.maps, program.maps());
-        open(&mut self.objects, Object::Program(program))
+        open(&mut self.objects, OpenObject::Program(program))
     }
 
     /// PROG_LOAD: opens the program that the slots spell, where it is accepted with what is open. It keeps its maps
@@ -238,8 +247,10 @@ impl Tenant {
     /// program is not accepted, are refused with the slot and the reason: 100 and the number of the codec's fault, or
     /// the number of the verdict's reason.
     pub(crate) fn load(&mut self, alloc: Global, kind: u32, slots: &[u8]) -> LoadReply
-        requires { length slots.now < 4294967296 }
-        ensures { (part : List ℕ) → (refused : Bool) × Loads refused (state_in part self.old) kind slots.now (load_answer result (state_in part self.new)) }
+        requires { length slots.now < 2 ^ 32 }
+        ensures { (part : List ℕ) → (refused : Bool)
+            × Loads refused (state_in part self.old) kind slots.now
+            (load_answer result (state_in part self.new)) }
     {
         if kind != SOCKET_FILTER {
             return LoadReply::Refused(Errno::Invalid);

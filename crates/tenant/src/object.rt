@@ -7,28 +7,29 @@ use verifier::Verified;
 
 /// A program that was loaded, and the places of its maps.
 #[derive(Drop)]
-pub struct Loaded {
+pub struct LoadedProgram {
     program: Verified,
     /// For each descriptor of a map in the program's text, the place of the map.
     maps: Vec<(u32, u8)>,
 }
 
-impl Model for Loaded {
-    ghost use Rattle.tenant.specs.Loaded.{Loaded as AnyLoaded};
+impl Model for LoadedProgram {
+    ghost use Rattle.tenant.specs.Loaded.{LoadedProgram as AnyLoaded};
 
     ghost Value = { AnyLoaded };
 
-    ghost view = { λ l. record { insns = l.program.code; named = l.program.entries; maps = l.maps.items } };
+    ghost view = { λ l.
+        record { insns = l.program.code; named = l.program.entries; maps = l.maps.items } };
 }
 
-impl Loaded {
+impl LoadedProgram {
     /// A program with the places of its maps.
-    pub(crate) fn new(program: Verified, maps: Vec<(u32, u8)>) -> Loaded
+    pub(crate) fn new(program: Verified, maps: Vec<(u32, u8)>) -> LoadedProgram
         ensures insns { result.insns ≡ program.code }
         ensures named { result.named ≡ program.entries }
         ensures maps { result.maps ≡ maps.items }
     {
-        Loaded { program, maps }
+        LoadedProgram { program, maps }
     }
 
     /// For each descriptor of a map in the program's text, the place of the map.
@@ -49,8 +50,8 @@ impl Loaded {
 
 /// An open object.
 #[derive(Drop)]
-pub enum Object {
+pub enum OpenObject {
     /// The map at a place.
     Map(u8),
-    Program(Loaded),
+    Program(LoadedProgram),
 }

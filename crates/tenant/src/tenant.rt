@@ -2,37 +2,36 @@
 
 ghost use Rattle.std.specs.Prelude.{◌≡◌, ◌≢◌, ◌+◌, ◌<◌, ◌≤◌, ◌==◌, if◌then◌else◌, slice_index_or, ℕ, Bool, false, List, [], is_none, position, None, Ok, length, IfOk, IfErr, Some, IsSome};
 ghost use Rattle.interval.specs.Bytes.{written_at};
-ghost use Rattle.bpf_maps.specs.declared.part.TheConstants.{MAPS, PART};
+ghost use Rattle.bpf_maps.specs.declared.part.TheConstants.{KEY_ROOM, MAPS, PART};
 ghost use Rattle.bpf_maps.specs.Live.{live_at};
 ghost use Rattle.tagged_model.specs.Cells.{also};
 ghost use Rattle.fd_table.specs.Table.{most, named, lowest, with_open};
-ghost use Rattle.tenant.specs.declared.object.Object.TheVariants as object;
+ghost use Rattle.tenant.specs.declared.object.OpenObject.TheVariants as object;
 ghost use Rattle.tenant.specs.Errno.{status_of};
 ghost use Rattle.tenant.specs.State.{new_tenant};
-ghost use Rattle.command_frames.specs.Frame.{head_of, reply_bytes};
-ghost use Rattle.command_frames.specs.Command.{parsed, map_lookup};
+ghost use Rattle.command_frames.specs.Frame.{longest_payload, reply_bytes};
 ghost use Rattle.tenant.specs.Machine.{created, looked_up, updated, deleted, given_next, closed, target_of, targets};
-ghost use Rattle.tenant.specs.Alone.{Tells};
-ghost use Rattle.tenant.specs.Kept.{key_at, times, filled, holds_in, IsPlaced, state_in};
-ghost use Rattle.tenant.specs.Leaves.{Leaves};
-ghost use Rattle.tenant.specs.Replies.{map_fault, lent_answer, front_answer, done_answer, opened_answer};
+ghost use Rattle.tenant.specs.Kept.{key_at, times, filled, holds_in, MapsAreAtPlaces, state_in};
+ghost use Rattle.tenant.specs.inside.Leaves.{LeavesHeldMaps};
+ghost use Rattle.tenant.specs.Replies.{lent_answer, front_answer, done_answer, opened_answer};
+ghost use Rattle.tenant.specs.inside.Answers.{map_fault};
 
 use crate::errno::Errno;
-use crate::object::Object;
+use crate::object::OpenObject;
 use bpf_maps::{
-    MAPS, MapKey, Maps, areas_keep_places, calls_are_those_of_a_map, live_maps_go_along,
-    values_are_written,
+    KEY_ROOM, MAPS, MapKey, Maps, areas_keep_places, calls_are_those_of_a_map,
+    live_maps_refine_values, values_are_written,
 };
-use command_frames::{Command, Head, ReplyBuf, head, parse, write_reply};
+use command_frames::{Head, ReplyBuf, write_reply};
 use fd_table::{FIRST, FdTable, MOST};
 use std::alloc::{AllocError, Global};
 use std::marker::Model;
-use tagged_model::{MapShape, Named, Target, calls_go_along, map_verdicts_tell};
+use tagged_model::{MapShape, Named, Target, calls_refine_values, map_verdicts_match_look_ups};
 
 /// What a tenant has open, and its live maps. The values of the maps lie in the tenant's part of the memory.
 #[derive(Drop)]
 pub struct Tenant {
-    pub(crate) objects: FdTable<Object>,
+    pub(crate) objects: FdTable<OpenObject>,
     /// The key of the map at each place.
     pub(crate) keys: [Option<MapKey>; MAPS],
     pub(crate) maps: Maps,
@@ -41,13 +40,15 @@ pub struct Tenant {
 }
 
 impl Model for Tenant {
-    ghost use Rattle.tenant.specs.Kept.{Kept, IsKept};
+    ghost use Rattle.tenant.specs.Kept.{KeptTenant, IsWellFormedTenant};
 
-    ghost Value = { Kept };
+    ghost Value = { KeptTenant };
 
-    ghost view = { λ t. record { objects = t.objects; keys = t.keys; live = t.maps; refused = t.refused } };
+    ghost view = { λ t.
+        record { objects = t.objects; keys = t.keys; live = t.maps; refused = t.refused } };
 
-    ghost invariant = { λ t. IsKept (record { objects = t.objects; keys = t.keys; live = t.maps; refused = t.refused }) };
+    ghost invariant = { λ t. IsWellFormedTenant
+        (record { objects = t.objects; keys = t.keys; live = t.maps; refused = t.refused }) };
 }
 
 /// The reply to a command that is refused.
@@ -84,7 +85,7 @@ fn free_place(keys: &[Option<MapKey>; MAPS]) -> u8
 }
 
 /// Opens an object under the lowest descriptor that is free, where one is.
-pub(crate) fn open(objects: &mut FdTable<Object>, object: Object) -> u32
+pub(crate) fn open(objects: &mut FdTable<OpenObject>, object: OpenObject) -> u32
     requires { is_none (lowest objects.old) ≡ false }
     ensures lowest { lowest objects.old ≡ Some result }
     ensures opened { objects.new ≡ with_open objects.old result object }
@@ -97,11 +98,15 @@ pub(crate) fn open(objects: &mut FdTable<Object>, object: Object) -> u32
 
 /// One less holds the map at a place. At the last it is gone, and its place is free.
 fn release(keys: &mut [Option<MapKey>; MAPS], maps: &mut Maps, place: u8, part: &mut [u8])
-    requires placed { IsPlaced keys.old maps.old }
+    requires placed { MapsAreAtPlaces keys.old maps.old }
     requires there { IsSome (slice_index_or keys.old place None) }
     requires whole { length part.old ≡ PART }
-    ensures left { Leaves (record { keys = keys.old; live = maps.old; part = part.old }) (record { keys = keys.new; live = maps.new; part = part.new }) }
-    ensures holds { (other : ℕ) → holds_in keys.new maps.new other + (if place == other then 1 else 0) ≡ holds_in keys.old maps.old other }
+    ensures left { LeavesHeldMaps
+        (record { keys = keys.old; live = maps.old; part = part.old })
+        (record { keys = keys.new; live = maps.new; part = part.new }) }
+    ensures holds { (other : ℕ) →
+        holds_in keys.new maps.new other + (if place == other then 1 else 0)
+        ≡ holds_in keys.old maps.old other }
 {
     let Some(key) = keys[usize::from(place)] else {
         unreachable!();
@@ -120,11 +125,14 @@ fn release_all(
     held: &[(u32, u8)],
     part: &mut [u8],
 )
-    requires placed { IsPlaced keys.old maps.old }
+    requires placed { MapsAreAtPlaces keys.old maps.old }
     requires held { (place : ℕ) → times place held.now ≤ holds_in keys.old maps.old place }
     requires whole { length part.old ≡ PART }
-    ensures left { Leaves (record { keys = keys.old; live = maps.old; part = part.old }) (record { keys = keys.new; live = maps.new; part = part.new }) }
-    ensures holds { (place : ℕ) → holds_in keys.new maps.new place + times place held.now ≡ holds_in keys.old maps.old place }
+    ensures left { LeavesHeldMaps
+        (record { keys = keys.old; live = maps.old; part = part.old })
+        (record { keys = keys.new; live = maps.new; part = part.new }) }
+    ensures holds { (place : ℕ) → holds_in keys.new maps.new place + times place held.now
+        ≡ holds_in keys.old maps.old place }
 {
     for map in held {
         release(keys, maps, map.1, part);
@@ -160,30 +168,35 @@ impl Tenant {
 
     /// The map that a descriptor names.
     fn map_named(&self, fd: u32) -> Result<MapKey, Errno>
-        ensures found { IfOk result (λ key. (place : ℕ) × (named self.now.objects fd ≡ Some (object.Map place)) × (key_at self.now place ≡ Some key)) }
+        ensures found { IfOk result (λ key. (place : ℕ)
+            × (named self.now.objects fd ≡ Some (object.Map place))
+            × (key_at self.now place ≡ Some key)) }
         ensures live { IfOk result (λ key. IsSome (live_at self.now.live key)) }
-        ensures fault { IfErr result (λ errno. map_fault (named self.now.objects fd) ≡ Some errno) }
+        ensures fault { IfErr result (λ errno.
+            map_fault (named self.now.objects fd) ≡ Some errno) }
     {
         match self.objects.get(fd) {
             None => Err(Errno::BadDescriptor),
-            Some(Object::Program(_)) => Err(Errno::Invalid),
-            Some(Object::Map(place)) => Ok(self.key_at(*place)),
+            Some(OpenObject::Program(_)) => Err(Errno::Invalid),
+            Some(OpenObject::Map(place)) => Ok(self.key_at(*place)),
         }
     }
 
     /// What a descriptor names, for the verdict.
     fn target(&self, fd: u32) -> Option<Target>
-        ensures { (part : List ℕ) → result ≡ also (named self.now.objects fd) (target_of (state_in part self.now)) }
+        ensures { (part : List ℕ) →
+            result ≡ also (named self.now.objects fd) (target_of (state_in part self.now)) }
     {
         match self.objects.get(fd)? {
-            Object::Map(place) => Some(Target::Map(self.maps.shape(self.key_at(*place)))),
-            Object::Program(_) => Some(Target::Program),
+            OpenObject::Map(place) => Some(Target::Map(self.maps.shape(self.key_at(*place)))),
+            OpenObject::Program(_) => Some(Target::Program),
         }
     }
 
     /// What each open descriptor names.
     pub(crate) fn targets(&self, alloc: Global) -> Result<Vec<Named>, AllocError>
-        ensures { IfOk result (λ found. (part : List ℕ) → found.items ≡ targets (state_in part self.now)) }
+        ensures { IfOk result (λ found. (part : List ℕ) →
+            found.items ≡ targets (state_in part self.now)) }
     {
         // There are as many places as descriptors.
         let _ = &self.objects;
@@ -199,10 +212,11 @@ impl Tenant {
     /// MAP_LOOKUP_ELEM: the bytes of a key's value, which lie in the tenant's part and are lent from there.
     pub fn look_up<'a>(&self, fd: u32, key: &[u8], part: &'a [u8]) -> Result<&'a [u8], Errno>
         requires { length part.now ≡ PART }
-        ensures answer { lent_answer result (state_in part.now self.now) ≡ looked_up (state_in part.now self.now) fd key.now }
-        ensures bound { IfOk result (λ value. length value.now ≤ 4096) }
+        ensures answer { lent_answer result (state_in part.now self.now)
+            ≡ looked_up (state_in part.now self.now) fd key.now }
+        ensures bound { IfOk result (λ value. length value.now ≤ longest_payload) }
     {
-        calls_go_along();
+        calls_refine_values();
         let map = self.map_named(fd)?;
         let shape = self.maps.shape(map);
         if key.len() != shape.key_size as usize {
@@ -218,7 +232,9 @@ impl Tenant {
     /// MAP_CREATE: makes a map of a shape, and opens it.
     pub fn create(&mut self, shape: MapShape, part: &mut [u8]) -> Result<u32, Errno>
         requires { length part.old ≡ PART }
-        ensures answer { (refused : Bool) × (opened_answer result (state_in part.new self.new) ≡ created refused (state_in part.old self.old) (Ok shape)) }
+        ensures answer { (refused : Bool)
+            × (opened_answer result (state_in part.new self.new)
+            ≡ created refused (state_in part.old self.old) (Ok shape)) }
         ensures length { length part.new ≡ PART }
     {
         if self.objects.is_full() {
@@ -230,7 +246,7 @@ impl Tenant {
         };
         let place = free_place(&self.keys);
         self.keys[usize::from(place)] = Some(map);
-        Ok(open(&mut self.objects, Object::Map(place)))
+        Ok(open(&mut self.objects, OpenObject::Map(place)))
     }
 
     /// MAP_UPDATE_ELEM: writes the value of a key. A present key's value is written in place, and a new key goes last. Only a new
@@ -243,13 +259,15 @@ impl Tenant {
         part: &mut [u8],
     ) -> Result<(), Errno>
         requires { length part.old ≡ PART }
-        ensures answer { (refused : Bool) × (done_answer result (state_in part.new self.new) ≡ updated refused (state_in part.old self.old) fd flags key_and_value.now) }
+        ensures answer { (refused : Bool)
+            × (done_answer result (state_in part.new self.new)
+            ≡ updated refused (state_in part.old self.old) fd flags key_and_value.now) }
         ensures length { length part.new ≡ PART }
     {
-        calls_go_along();
-        live_maps_go_along();
+        calls_refine_values();
+        live_maps_refine_values();
         values_are_written();
-        map_verdicts_tell();
+        map_verdicts_match_look_ups();
         let map = self.map_named(fd)?;
         let shape = self.maps.shape(map);
         let key_size = shape.key_size as usize;
@@ -262,7 +280,7 @@ impl Tenant {
             Ok(place) => place,
             Err(fault) => return Err(Errno::of_map(fault)),
         };
-        self.maps.is_laid();
+        self.maps.maps_are_laid();
         let start = self.maps.value_at(map, place);
         write_at(part, start, value);
         Ok(())
@@ -270,9 +288,10 @@ impl Tenant {
 
     /// MAP_DELETE_ELEM: takes a key and its value out.
     pub fn delete(&mut self, fd: u32, key: &[u8]) -> Result<(), Errno>
-        ensures { (part : List ℕ) → done_answer result (state_in part self.new) ≡ deleted (state_in part self.old) fd key.now }
+        ensures { (part : List ℕ) → done_answer result (state_in part self.new)
+            ≡ deleted (state_in part self.old) fd key.now }
     {
-        calls_go_along();
+        calls_refine_values();
         calls_are_those_of_a_map();
         areas_keep_places();
         let map = self.map_named(fd)?;
@@ -287,17 +306,19 @@ impl Tenant {
     }
 
     /// MAP_GET_NEXT_KEY: the key that follows is written at the front of `next`, and its length is answered.
-    pub fn next_key(&self, fd: u32, key: &[u8], next: &mut [u8; 64]) -> Result<usize, Errno>
-        ensures answer { (part : List ℕ) → front_answer result next.new (state_in part self.now) ≡ given_next (state_in part self.now) fd key.now }
-        ensures bound { IfOk result (λ size. size ≤ 64) }
+    pub fn next_key(&self, fd: u32, key: &[u8], next: &mut [u8; KEY_ROOM]) -> Result<usize, Errno>
+        ensures answer { (part : List ℕ) →
+            front_answer result next.new (state_in part self.now)
+            ≡ given_next (state_in part self.now) fd key.now }
+        ensures bound { IfOk result (λ size. size ≤ KEY_ROOM) }
     {
-        calls_go_along();
+        calls_refine_values();
         let map = self.map_named(fd)?;
         let size = self.maps.shape(map).key_size as usize;
         if !key.is_empty() && key.len() != size {
             return Err(Errno::Invalid);
         }
-        self.maps.is_laid();
+        self.maps.maps_are_laid();
         match self.maps.next_key(map, key, next) {
             Ok(()) => Ok(size),
             Err(_) => Err(Errno::NoEntry),
@@ -307,15 +328,16 @@ impl Tenant {
     /// CLOSE: closes a descriptor. A map that no other descriptor and no program names is gone.
     pub fn close(&mut self, fd: u32, part: &mut [u8]) -> Result<(), Errno>
         requires { length part.old ≡ PART }
-        ensures answer { done_answer result (state_in part.new self.new) ≡ closed (state_in part.old self.old) fd (named self.old.objects fd) }
+        ensures answer { done_answer result (state_in part.new self.new)
+            ≡ closed (state_in part.old self.old) fd (named self.old.objects fd) }
         ensures length { length part.new ≡ PART }
     {
         let Some(object) = self.objects.close(fd) else {
             return Err(Errno::BadDescriptor);
         };
         let place = match object {
-            Object::Map(place) => place,
-            Object::Program(program) => {
+            OpenObject::Map(place) => place,
+            OpenObject::Program(program) => {
                 release_all(&mut self.keys, &mut self.maps, program.maps(), part);
                 return Ok(());
             }
@@ -325,28 +347,9 @@ impl Tenant {
     }
 
     /// A law: there are as many places for objects as descriptors. It does nothing when it runs.
-    pub(crate) fn has_all_places(&self)
+    pub(crate) fn table_has_all_places(&self)
         ensures { length self.now.objects ≡ most }
     {
         let _ = &self.objects;
-    }
-
-    /// The reply to a frame with MAP_LOOKUP_ELEM, left in the room for it. The value goes there from the tenant's part, and
-    /// is copied nowhere else.
-    pub fn reply_to_look_up(&self, frame: &[u8], part: &[u8], room: &mut ReplyBuf)
-        requires { length part.now ≡ PART }
-        ensures { (fd : ℕ) (key : List ℕ) → head_of frame.now ≢ None → parsed frame.now ≡ Ok (map_lookup fd key)
-            → Tells [] frame.now room.new (Some (state_in part.now self.now)) (Some (state_in part.now self.now)) }
-    {
-        let Some(head) = head(frame) else {
-            return;
-        };
-        let Ok(Command::MapLookup { fd, key }) = parse(frame) else {
-            return;
-        };
-        match self.look_up(fd, key, part) {
-            Ok(value) => write_reply(head, 0, value, room),
-            Err(errno) => write_refusal(head, errno, room),
-        }
     }
 }

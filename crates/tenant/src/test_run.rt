@@ -7,26 +7,27 @@ ghost use Rattle.fd_table.specs.Table.{named};
 ghost use Rattle.tenant.specs.declared.errno.Errno.TheVariants.{BadAddress};
 ghost use Rattle.tenant.specs.Kept.{state_in};
 ghost use Rattle.tenant.specs.Machine.{run_of};
-ghost use Rattle.tenant.specs.Replies.{run_answer};
-ghost use Rattle.tenant.specs.TestRun.{HasKeys, AreThere};
+ghost use Rattle.tenant.specs.inside.Answers.{run_answer};
+ghost use Rattle.tenant.specs.inside.TestRun.{HasKeys, AreThere};
 
 use crate::errno::Errno;
-use crate::object::Object;
+use crate::object::OpenObject;
 use crate::tenant::Tenant;
 use arena::{Arena, Trace};
 use bpf_maps::{MAPS, MapKey};
+use command_frames::GIVEN_WORDS;
 use flat_machine::run;
-use tagged_model::Outcome;
+use tagged_model::{CONTEXT_WORDS, Outcome};
 use verdict::maps_are_listed;
 
 /// The bytes of the longest packet of a test run.
-const LONGEST_PACKET: usize = 32768;
+const LONGEST_PACKET: usize = 32_768;
 
 /// The words of the context: the packet's length, and the ten that are given.
-fn context_words(length: u32, words: &[u32; 10]) -> [u32; 11]
+fn context_words(length: u32, words: &[u32; GIVEN_WORDS]) -> [u32; CONTEXT_WORDS]
     ensures { result ≡ length ∷ words.now }
 {
-    let mut context = [length; 11];
+    let mut context = [length; CONTEXT_WORDS];
     context[1..].copy_from_slice(words);
     context
 }
@@ -61,7 +62,7 @@ impl Tenant {
     pub(crate) fn test_run(
         &mut self,
         fd: u32,
-        words: &[u32; 10],
+        words: &[u32; GIVEN_WORDS],
         packet: &[u8],
         tenant: usize,
         arena: &mut Arena,
@@ -75,13 +76,14 @@ impl Tenant {
         ensures no_fault { result ≢ Err BadAddress }
         ensures parts { arena.new.parts ≡ arena.old.parts }
         ensures part { arena.new.part ≡ arena.old.part }
-        ensures others { (other : ℕ) → other ≢ tenant → part_bytes arena.new other ≡ part_bytes arena.old other }
+        ensures others { (other : ℕ) → other ≢ tenant
+            → part_bytes arena.new other ≡ part_bytes arena.old other }
     {
         maps_are_listed();
         let program = match self.objects.get(fd) {
             None => return Err(Errno::BadDescriptor),
-            Some(Object::Map(_)) => return Err(Errno::Invalid),
-            Some(Object::Program(program)) => program,
+            Some(OpenObject::Map(_)) => return Err(Errno::Invalid),
+            Some(OpenObject::Program(program)) => program,
         };
         if packet.len() > LONGEST_PACKET {
             return Err(Errno::TooBig);

@@ -15,16 +15,16 @@ use Rattle.insn_codec.specs.declared.insn.Narrow.{Narrow}
 use Rattle.insn_codec.specs.declared.insn.Size.{Size}
 use Rattle.insn_codec.specs.Sizes.{is_double, is_short}
 use Rattle.text_line.specs.declared.form.Number.{Number}
-use Rattle.text_line.specs.declared.form.Source.{Source}
-use Rattle.text_line.specs.declared.form.Source.TheVariants as source
-use Rattle.text_line.specs.declared.form.Target.{Target}
-use Rattle.text_line.specs.declared.form.Target.TheVariants as target
+use Rattle.text_line.specs.declared.form.SourceOperand.{SourceOperand}
+use Rattle.text_line.specs.declared.form.SourceOperand.TheVariants as source
+use Rattle.text_line.specs.declared.form.JumpTarget.{JumpTarget}
+use Rattle.text_line.specs.declared.form.JumpTarget.TheVariants as target
 use Rattle.text_line.specs.declared.form.Form.{Form}
 use Rattle.text_line.specs.declared.form.Form.TheVariants as form
 use Rattle.text_line.specs.declared.form.Address.{Address}
 use Rattle.text_line.specs.Token.{Token, name, number, symbol}
 use Rattle.text_line.specs.Names.{operator_name, condition_name, order_name, narrow_name, size_name, register_name, sign_name}
-use Rattle.text_line.specs.Form.{Layout, layout, sign, word, space, tokens_of, minus, to_label, constant, operand, destination, address, IsForm, IsSource, names_label}
+use Rattle.text_line.specs.Form.{TokenLayout, layout, sign, word, space, tokens_of, minus, to_label, constant, operand, destination, address, IsForm, IsSource, names_label}
 use Rattle.text_line.specs.Line.{Line, blank, label, code, spelled, IsWellFormed, NoLabel}
 use Rattle.text_line.specs.inside.Reading.{named, operators, conditions, orders, narrows, sizes, registers, symbol_then, name_then, number_then, after_symbol, after_word, register_then, number_from, constant_then, signed_then, operand_then, destination_of, address_then, at_end, match_option, jump_of, load_of, store_of, movsx_of, neg_of, end_of, const_of, map_fd_of, wide_of, moved_of, is_move, alu_of, assignment_of, assigned_of, goto_of, gotol_of, call_of, form_of, label_of, line_of, bool_eq, ◌>>=◌}
 
@@ -160,7 +160,7 @@ number_from_is negative ts p e =
     made_number : Bool → Option ℕ × List Token → Number × List Token
     made_number negative v = (record { negative = negative; magnitude = v.0 }, v.1)
 
-pub constant_then_is : (ts : List Token) (p : Number × List Token) (rest : Layout) → tokens_of rest ≡ p.1 → constant_then ts ≡ Some p → ts ≡ tokens_of (constant p.0 rest)
+pub constant_then_is : (ts : List Token) (p : Number × List Token) (rest : TokenLayout) → tokens_of rest ≡ p.1 → constant_then ts ≡ Some p → ts ≡ tokens_of (constant p.0 rest)
 unfolding constant_then
 constant_then_is ts p rest after e =
     elim (either (after_symbol (codes "-") ts) (number_from false (number_then ts)) (λ rest. number_from true (number_then rest)) p e) [
@@ -186,45 +186,45 @@ signed_then_is ts p e =
           after_symbol_is (codes "+") ts q.0 q.1 ∙ ap (λ (r : List Token). symbol (codes "+") ∷ r) v.1 ∙ ap (λ (b : Bool). symbol (sign_name b) ∷ number p.0.magnitude ∷ p.1) (sym v.0)
     ]
 
-made_source : Number × List Token → Source × List Token
+made_source : Number × List Token → SourceOperand × List Token
 made_source n = (source.Number n.0, n.1)
 
-made_register : ℕ × List Token → Source × List Token
+made_register : ℕ × List Token → SourceOperand × List Token
 made_register r = (source.Reg r.0, r.1)
 
-pub operand_then_is : (wide : Bool) (ts : List Token) (p : Source × List Token) (rest : Layout) → tokens_of rest ≡ p.1 → operand_then wide ts ≡ Some p → (ts ≡ tokens_of (operand wide p.0 rest)) × IsSource p.0
+pub operand_then_is : (wide : Bool) (ts : List Token) (p : SourceOperand × List Token) (rest : TokenLayout) → tokens_of rest ≡ p.1 → operand_then wide ts ≡ Some p → (ts ≡ tokens_of (operand wide p.0 rest)) × IsSource p.0
 unfolding operand_then made_source made_register
 operand_then_is wide ts p rest after e =
     elim (either (register_then wide ts) (option_map made_source (constant_then ts)) (λ r. Some (made_register r)) p e) [
       | inl q ↦
           let n = map_some (constant_then ts) made_source p q.1 in
-          let back : p.1 ≡ n.0.1 = ap (λ (x : Source × List Token). x.1) (sym n.2) in (
-            constant_then_is ts n.0 rest (after ∙ back) n.1 ∙ ap (λ (x : Source × List Token). tokens_of (operand wide x.0 rest)) n.2,
-            subst (λ (x : Source × List Token). IsSource x.0) n.2 tt,
+          let back : p.1 ≡ n.0.1 = ap (λ (x : SourceOperand × List Token). x.1) (sym n.2) in (
+            constant_then_is ts n.0 rest (after ∙ back) n.1 ∙ ap (λ (x : SourceOperand × List Token). tokens_of (operand wide x.0 rest)) n.2,
+            subst (λ (x : SourceOperand × List Token). IsSource x.0) n.2 tt,
           )
       | inr q ↦
           let r = register_then_is wide ts q.0 q.1 in
-          let made : made_register q.0 ≡ p = ap (λ (o : Option (Source × List Token)). match_option o p (λ x. x)) q.2 in
-          let back : p.1 ≡ q.0.1 = ap (λ (x : Source × List Token). x.1) (sym made) in (
-            r.0 ∙ ap (λ (l : List Token). name (register_name wide q.0.0) ∷ l) (sym (after ∙ back)) ∙ ap (λ (x : Source × List Token). tokens_of (operand wide x.0 rest)) made,
-            subst (λ (x : Source × List Token). IsSource x.0) made r.1,
+          let made : made_register q.0 ≡ p = ap (λ (o : Option (SourceOperand × List Token)). match_option o p (λ x. x)) q.2 in
+          let back : p.1 ≡ q.0.1 = ap (λ (x : SourceOperand × List Token). x.1) (sym made) in (
+            r.0 ∙ ap (λ (l : List Token). name (register_name wide q.0.0) ∷ l) (sym (after ∙ back)) ∙ ap (λ (x : SourceOperand × List Token). tokens_of (operand wide x.0 rest)) made,
+            subst (λ (x : SourceOperand × List Token). IsSource x.0) made r.1,
           )
     ]
 
-pub destination_is : (ts : List Token) (p : Target × List ℕ) → destination_of ts ≡ Some p → (ts ≡ tokens_of (destination p.0 p.1)) × NoLabel (to_label p.0) p.1
+pub destination_is : (ts : List Token) (p : JumpTarget × List ℕ) → destination_of ts ≡ Some p → (ts ≡ tokens_of (destination p.0 p.1)) × NoLabel (to_label p.0) p.1
 unfolding destination_of
 destination_is ts p e =
     elim (either (signed_then ts) (option_and_then (λ n. at_end (target.Label, n.0) n.1) (name_then ts)) (λ n. at_end (target.Number n.0, []) n.1) p e) [
       | inl q ↦
           let n = bind_some (name_then ts) (λ n. at_end (target.Label, n.0) n.1) p q.1 in
           let d = end_is (target.Label, n.0.0) p n.0.1 n.2 in (
-            name_is ts n.0 n.1 ∙ ap (λ (l : List Token). name n.0.0 ∷ l) d.0 ∙ ap (λ (x : Target × List ℕ). tokens_of (destination x.0 x.1)) d.1,
-            subst (λ (x : Target × List ℕ). NoLabel (to_label x.0) x.1) d.1 tt,
+            name_is ts n.0 n.1 ∙ ap (λ (l : List Token). name n.0.0 ∷ l) d.0 ∙ ap (λ (x : JumpTarget × List ℕ). tokens_of (destination x.0 x.1)) d.1,
+            subst (λ (x : JumpTarget × List ℕ). NoLabel (to_label x.0) x.1) d.1 tt,
           )
       | inr q ↦
           let d = end_is (target.Number q.0.0, []) p q.0.1 q.2 in (
-            signed_then_is ts q.0 q.1 ∙ ap (λ (l : List Token). symbol (sign_name q.0.0.negative) ∷ number q.0.0.magnitude ∷ l) d.0 ∙ ap (λ (x : Target × List ℕ). tokens_of (destination x.0 x.1)) d.1,
-            subst (λ (x : Target × List ℕ). NoLabel (to_label x.0) x.1) d.1 refl,
+            signed_then_is ts q.0 q.1 ∙ ap (λ (l : List Token). symbol (sign_name q.0.0.negative) ∷ number q.0.0.magnitude ∷ l) d.0 ∙ ap (λ (x : JumpTarget × List ℕ). tokens_of (destination x.0 x.1)) d.1,
+            subst (λ (x : JumpTarget × List ℕ). NoLabel (to_label x.0) x.1) d.1 refl,
           )
     ]
 
@@ -262,7 +262,7 @@ address_1 ts = after_symbol (codes "(") ts >>= λ ts. address_2 ts
 made_is : {A : Type 0} (x y : A) → Some x ≡ Some y → x ≡ y
 made_is x y e = ap (λ o. match_option o x (λ z. z)) e
 
-pub address_is : (ts : List Token) (p : Address × List Token) (rest : Layout) → tokens_of rest ≡ p.1 → address_then ts ≡ Some p → (ts ≡ tokens_of (address (size_name p.0.signed p.0.size) p.0.base p.0.offset rest)) × (p.0.base ≤ 10) × IsTrue (not (p.0.signed && is_double p.0.size))
+pub address_is : (ts : List Token) (p : Address × List Token) (rest : TokenLayout) → tokens_of rest ≡ p.1 → address_then ts ≡ Some p → (ts ≡ tokens_of (address (size_name p.0.signed p.0.size) p.0.base p.0.offset rest)) × (p.0.base ≤ 10) × IsTrue (not (p.0.signed && is_double p.0.size))
 unfolding address_then
 address_is ts p rest after e =
     let a = bind_some (after_symbol (codes "*") ts) address_1 p e in
@@ -297,14 +297,14 @@ address_is ts p rest after e =
 -- ---- forms
 
 -- spaces don't count
-constant_spaced : (n : Number) (a b : Layout) → tokens_of a ≡ tokens_of b → tokens_of (constant n a) ≡ tokens_of (constant n b)
+constant_spaced : (n : Number) (a b : TokenLayout) → tokens_of a ≡ tokens_of b → tokens_of (constant n a) ≡ tokens_of (constant n b)
 constant_spaced n a b e =
     elim n.negative as (λ (t : Bool). tokens_of (minus t (Some (number n.magnitude) ∷ a)) ≡ tokens_of (minus t (Some (number n.magnitude) ∷ b))) [
       | true ↦ ap (λ (l : List Token). symbol (codes "-") ∷ number n.magnitude ∷ l) e
       | false ↦ ap (λ (l : List Token). number n.magnitude ∷ l) e
     ]
 
-operand_spaced : (wide : Bool) (s : Source) (a b : Layout) → tokens_of a ≡ tokens_of b → tokens_of (operand wide s a) ≡ tokens_of (operand wide s b)
+operand_spaced : (wide : Bool) (s : SourceOperand) (a b : TokenLayout) → tokens_of a ≡ tokens_of b → tokens_of (operand wide s a) ≡ tokens_of (operand wide s b)
 operand_spaced wide (source.Number n) a b e = constant_spaced n a b e
 operand_spaced wide (source.Reg r) a b e = ap (λ (l : List Token). name (register_name wide r) ∷ l) e
 
@@ -331,7 +331,7 @@ load_is dst ts f fits e =
     let at = address_is ts a.0 [] (sym d.0) a.1 in
     (ap (λ (l : List Token). name (register_name true dst) ∷ symbol (codes "=") ∷ l) at.0 ∙ ap (λ (g : Form). tokens_of (layout g [])) d.1, subst IsForm d.1 (fits, at.1, at.2))
 
-abbrev store_3 : Address → Source × List Token → Option Form
+abbrev store_3 : Address → SourceOperand × List Token → Option Form
 store_3 a src = cond a.signed None (at_end (form.Store a.size a.base src.0 a.offset) src.1)
 
 abbrev store_2 : Address → List Token → Option Form
@@ -353,17 +353,17 @@ store_is ts f e =
     let u = not_if a.0.0.signed (at_end (form.Store a.0.0.size a.0.0.base s.0.0 a.0.0.offset) s.0.1) f s.2 in
     let d = end_is (form.Store a.0.0.size a.0.0.base s.0.0 a.0.0.offset) f s.0.1 u.1 in
     let src = operand_then_is true b.0 s.0 [] (sym d.0) s.1 in
-    let rest : Layout = sign (codes "=") ∷ operand true s.0.0 [] in
+    let rest : TokenLayout = sign (codes "=") ∷ operand true s.0.0 [] in
     let behind : tokens_of rest ≡ a.0.1 = sym (after_symbol_is (codes "=") a.0.1 b.0 b.1 ∙ ap (λ (l : List Token). symbol (codes "=") ∷ l) src.0) in
     let at = address_is ts a.0 rest behind a.1 in (
       at.0 ∙ ap (λ (w : Bool). tokens_of (address (size_name w a.0.0.size) a.0.0.base a.0.0.offset rest)) u.0 ∙ ap (λ (g : Form). tokens_of (layout g [])) d.1,
       subst IsForm d.1 (at.1, src.1),
     )
 
-abbrev jump_6 : Bool × ℕ → Condition → Source × List Token → List Token → Option (Form × List ℕ)
+abbrev jump_6 : Bool × ℕ → Condition → SourceOperand × List Token → List Token → Option (Form × List ℕ)
 jump_6 r c src ts = destination_of ts >>= λ to. Some (form.Jump r.0 c r.1 src.0 to.0, to.1)
 
-abbrev jump_5 : Bool × ℕ → Condition → Source × List Token → Option (Form × List ℕ)
+abbrev jump_5 : Bool × ℕ → Condition → SourceOperand × List Token → Option (Form × List ℕ)
 jump_5 r c src = after_word (codes "goto") src.1 >>= λ ts. jump_6 r c src ts
 
 abbrev jump_4 : Bool × ℕ → List ℕ × List Token → Condition → Option (Form × List ℕ)
@@ -382,7 +382,7 @@ jump_1 n = named registers n.0 >>= λ r. jump_2 n r
 abbrev AfterWord : List ℕ → List Token → Form × List ℕ → Type 0
 AfterWord w ts f = (name w ∷ ts ≡ tokens_of (layout f.0 f.1)) × IsForm f.0 × NoLabel (names_label f.0) f.1
 
-jump_made : Bool × ℕ → Condition → Source × List Token → Target × List ℕ → Form × List ℕ
+jump_made : Bool × ℕ → Condition → SourceOperand × List Token → JumpTarget × List ℕ → Form × List ℕ
 jump_made r c src to = (form.Jump r.0 c r.1 src.0 to.0, to.1)
 
 pub jump_is : (ts : List Token) (f : Form × List ℕ) → jump_of ts ≡ Some f → AfterWord (codes "if") ts f
@@ -397,7 +397,7 @@ jump_is ts f e =
     let to = bind_some (destination_of g.0) (λ to. Some (jump_made r.0 c.0 src.0 to)) f g.2 in
     let made = made_is (jump_made r.0 c.0 src.0 to.0) f to.2 in
     let d = destination_is g.0 to.0 to.1 in
-    let rest : Layout = word (codes "goto") ∷ destination to.0.0 to.0.1 in
+    let rest : TokenLayout = word (codes "goto") ∷ destination to.0.0 to.0.1 in
     let behind : tokens_of rest ≡ src.0.1 = sym (after_word_is (codes "goto") src.0.1 g.0 g.1 ∙ ap (λ (l : List Token). name (codes "goto") ∷ l) d.0) in
     let o = operand_then_is r.0.0 s.0.1 src.0 rest behind src.1 in
     let spaced : tokens_of (operand r.0.0 src.0.0 rest) ≡ tokens_of (operand r.0.0 src.0.0 (space ∷ word (codes "goto") ∷ space ∷ destination to.0.0 to.0.1)) = operand_spaced r.0.0 src.0.0 rest (space ∷ word (codes "goto") ∷ space ∷ destination to.0.0 to.0.1) refl in (
@@ -605,10 +605,10 @@ assigned_is ts f e =
     let g = assignment_is r.0.0 r.0.1 n.0.1 f (register_bound n.0.0 r.0 r.1) r.2 in
     (name_is ts n.0 n.1 ∙ ap (λ (m : List ℕ). name m ∷ n.0.1) (register_is n.0.0 r.0 r.1) ∙ g.0, g.1)
 
-ja_made : Target × List ℕ → Form × List ℕ
+ja_made : JumpTarget × List ℕ → Form × List ℕ
 ja_made to = (form.Ja to.0, to.1)
 
-jal_made : Target × List ℕ → Form × List ℕ
+jal_made : JumpTarget × List ℕ → Form × List ℕ
 jal_made to = (form.Jal to.0, to.1)
 
 pub goto_is : (ts : List Token) (f : Form × List ℕ) → goto_of ts ≡ Some f → AfterWord (codes "goto") ts f

@@ -10,7 +10,7 @@ use Rattle.std.proofs.lemmas.Str.Ascii.{IsAscii-nil, IsAscii-cons}
 use Rattle.text_line.specs.Blanks.{is_blank, skip_blanks}
 use Rattle.text_line.specs.Token.{Token, name, number, symbol, symbols, is_name_start, is_name_byte, HasTokens}
 use Rattle.text_line.specs.inside.Tokens.{token_at}
-use Rattle.text_line.specs.Form.{Layout, tokens_of}
+use Rattle.text_line.specs.Form.{TokenLayout, tokens_of}
 use Rattle.text_line.specs.Written.{lexeme, laid_out}
 use Rattle.text_line.proofs.Fronts.{passes, passes-append, passes_more, is_long_name, is_picked, prolongs, start_in_name, start_prolongs_none, digit_prolongs_none, name_graphic, digit_graphic, decimal_digits, name_front, number_front, symbol_front}
 use Rattle.text_line.proofs.Longest.{taken}
@@ -21,7 +21,7 @@ abbrev pub is_sign : List ℕ → Bool
 is_sign y = is_picked y symbols && passes is_ascii_graphic y
 
 -- what follows does not prolong a name or a number
-abbrev pub ends_word : Layout → Bool
+abbrev pub ends_word : TokenLayout → Bool
 ends_word [] = true
 ends_word (None ∷ rest) = true
 ends_word (Some (name n) ∷ rest) = false
@@ -29,14 +29,14 @@ ends_word (Some (number v) ∷ rest) = false
 ends_word (Some (symbol y) ∷ rest) = not (is_name_byte (get_or y 0 0))
 
 -- what follows does not prolong a symbol
-abbrev pub ends_sign : Layout → Bool
+abbrev pub ends_sign : TokenLayout → Bool
 ends_sign [] = true
 ends_sign (None ∷ rest) = true
 ends_sign (Some (name n) ∷ rest) = true
 ends_sign (Some (number v) ∷ rest) = true
 ends_sign (Some (symbol y) ∷ rest) = not (prolongs (get_or y 0 0))
 
-abbrev pub IsApart : Layout → Type 0
+abbrev pub IsApart : TokenLayout → Type 0
 IsApart [] = Unit {0}
 IsApart (None ∷ rest) = IsApart rest
 IsApart (Some (name n) ∷ rest) = (is_long_name n ≡ true) × (ends_word rest ≡ true) × IsApart rest
@@ -44,7 +44,7 @@ IsApart (Some (number None) ∷ rest) = ⊥
 IsApart (Some (number (Some n)) ∷ rest) = (n < 2 ^ 64) × (ends_word rest ≡ true) × IsApart rest
 IsApart (Some (symbol y) ∷ rest) = (is_sign y ≡ true) × (ends_sign rest ≡ true) × IsApart rest
 
-apart_rest : (t : Token) (rest : Layout) → IsApart (Some t ∷ rest) → IsApart rest
+apart_rest : (t : Token) (rest : TokenLayout) → IsApart (Some t ∷ rest) → IsApart rest
 apart_rest (name n) rest h = h.2
 apart_rest (number None) rest h = absurd h
 apart_rest (number (Some n)) rest h = h.2
@@ -85,7 +85,7 @@ record IsSeen (bs : List ℕ) : Type 0 where
   all : passes is_ascii_graphic bs ≡ true
   first : is_ascii_graphic (get_or bs 0 0) ≡ true
 
-seen : (t : Token) (rest : Layout) → IsApart (Some t ∷ rest) → IsSeen (lexeme t)
+seen : (t : Token) (rest : TokenLayout) → IsApart (Some t ∷ rest) → IsSeen (lexeme t)
 seen (name n) rest h = record {
   all = passes_more is_name_byte is_ascii_graphic n name_graphic (name_bytes n h.0);
   first = name_graphic (get_or n 0 0) (start_in_name (get_or n 0 0) (name_first n h.0));
@@ -99,19 +99,19 @@ seen (symbol y) rest h =
     let both = and_parts (is_picked y symbols) (passes is_ascii_graphic y) h.0 in
     record { all = both.1; first = graphic_first y refl both.0 both.1 }
 
-laid_first : (t : Token) (rest : Layout) → IsApart (Some t ∷ rest) → get_or (laid_out (Some t ∷ rest)) 0 0 ≡ get_or (lexeme t) 0 0
+laid_first : (t : Token) (rest : TokenLayout) → IsApart (Some t ∷ rest) → get_or (laid_out (Some t ∷ rest)) 0 0 ≡ get_or (lexeme t) 0 0
 laid_first t rest h = first_stays is_ascii_graphic (lexeme t) (laid_out rest) refl (seen t rest h).first
 
 -- ---- what follows a token
 
-word_ends : (rest : Layout) → IsApart rest → ends_word rest ≡ true → is_name_byte (get_or (laid_out rest) 0 0) ≡ false
+word_ends : (rest : TokenLayout) → IsApart rest → ends_word rest ≡ true → is_name_byte (get_or (laid_out rest) 0 0) ≡ false
 word_ends [] h e = refl
 word_ends (None ∷ rest) h e = refl
 word_ends (Some (name n) ∷ rest) h e = absurd (false≢true e)
 word_ends (Some (number v) ∷ rest) h e = absurd (false≢true e)
 word_ends (Some (symbol y) ∷ rest) h e = ap is_name_byte (laid_first (symbol y) rest h) ∙ not-true (is_name_byte (get_or y 0 0)) e
 
-sign_ends : (rest : Layout) → IsApart rest → ends_sign rest ≡ true → prolongs (get_or (laid_out rest) 0 0) ≡ false
+sign_ends : (rest : TokenLayout) → IsApart rest → ends_sign rest ≡ true → prolongs (get_or (laid_out rest) 0 0) ≡ false
 sign_ends [] h e = refl
 sign_ends (None ∷ rest) h e = refl
 sign_ends (Some (name n) ∷ rest) h e = ap prolongs (laid_first (name n) rest h) ∙ start_prolongs_none (get_or n 0 0) (name_first n h.0)
@@ -119,7 +119,7 @@ sign_ends (Some (number None) ∷ rest) h e = absurd h
 sign_ends (Some (number (Some n)) ∷ rest) h e = ap prolongs (laid_first (number (Some n)) rest h) ∙ digit_prolongs_none (get_or (decimal n) 0 0) (decimal_first n h.0)
 sign_ends (Some (symbol y) ∷ rest) h e = ap prolongs (laid_first (symbol y) rest h) ∙ not-true (prolongs (get_or y 0 0)) e
 
-front : (t : Token) (rest : Layout) → IsApart (Some t ∷ rest) → token_at (lexeme t ++ laid_out rest) ≡ Some (t, laid_out rest)
+front : (t : Token) (rest : TokenLayout) → IsApart (Some t ∷ rest) → token_at (lexeme t ++ laid_out rest) ≡ Some (t, laid_out rest)
 front (name n) rest h = name_front n (laid_out rest) h.0 (word_ends rest h.2 h.1)
 front (number None) rest h = absurd h
 front (number (Some n)) rest h = number_front n (laid_out rest) h.0 (word_ends rest h.2 h.1)
@@ -138,7 +138,7 @@ space_before : (text : List ℕ) (ts : List Token) → HasTokens text ts → Has
 space_before text [] h = h
 space_before text (t ∷ ts) h = h
 
-pub laid_tokens : (l : Layout) → IsApart l → HasTokens (laid_out l) (tokens_of l)
+pub laid_tokens : (l : TokenLayout) → IsApart l → HasTokens (laid_out l) (tokens_of l)
 laid_tokens [] h = refl
 laid_tokens (None ∷ rest) h = space_before (laid_out rest) (tokens_of rest) (laid_tokens rest h)
 laid_tokens (Some t ∷ rest) h =
@@ -160,7 +160,7 @@ plain_ascii b h = grind (arith, nat_tests)
 plain_no_feed : (b : ℕ) → is_plain b ≡ true → b ≢ 10
 plain_no_feed b h = λ e. false≢true (sym (ap is_plain e) ∙ h)
 
-laid_plain : (l : Layout) → IsApart l → passes is_plain (laid_out l) ≡ true
+laid_plain : (l : TokenLayout) → IsApart l → passes is_plain (laid_out l) ≡ true
 laid_plain [] h = refl
 laid_plain (None ∷ rest) h = laid_plain rest h
 laid_plain (Some t ∷ rest) h = passes-append is_plain (lexeme t) (laid_out rest) (passes_more is_ascii_graphic is_plain (lexeme t) graphic_plain (seen t rest h).all) (laid_plain rest (apart_rest t rest h))
@@ -173,8 +173,8 @@ line_of_plain : (bs : List ℕ) → passes is_plain bs ≡ true → AllByRecursi
 line_of_plain [] p = tt
 line_of_plain (b ∷ bs) p = let both = and_parts (is_plain b) (passes is_plain bs) p in (plain_no_feed b both.0, line_of_plain bs both.1)
 
-pub laid_ascii : (l : Layout) → IsApart l → IsAscii (laid_out l)
+pub laid_ascii : (l : TokenLayout) → IsApart l → IsAscii (laid_out l)
 laid_ascii l h = ascii_of_plain (laid_out l) (laid_plain l h)
 
-pub laid_one_line : (l : Layout) → IsApart l → AllByRecursion (λ b. b ≢ 10) (laid_out l)
+pub laid_one_line : (l : TokenLayout) → IsApart l → AllByRecursion (λ b. b ≢ 10) (laid_out l)
 laid_one_line l h = line_of_plain (laid_out l) (laid_plain l h)

@@ -18,9 +18,9 @@ use Rattle.insn_codec.specs.declared.insn.Operand.TheVariants.{Imm, Reg}
 use Rattle.insn_codec.specs.declared.insn.Insn.{Insn}
 use Rattle.insn_codec.specs.declared.insn.Insn.TheVariants.{Alu, Movsx, Neg, End, Ja, Jal, Jump, Call, Exit, Load, Store, Const, MapFd}
 use Rattle.insn_codec.specs.Spelling.{IsInsn, IsOperand}
-use Rattle.text_line.specs.declared.form.Target.TheVariants as target
+use Rattle.text_line.specs.declared.form.JumpTarget.TheVariants as target
 use Rattle.text_line.specs.Names.{operator_name, condition_name, order_name, narrow_name, size_name, register_name, sign_name}
-use Rattle.text_line.specs.Form.{Layout, layout, sign, word, reg, space, constant, operand, destination, address, IsSource}
+use Rattle.text_line.specs.Form.{TokenLayout, layout, sign, word, reg, space, constant, operand, destination, address, IsSource}
 use Rattle.text_line.specs.Line.{code, IsWellFormed}
 use Rattle.text_line.specs.Token.{number}
 use Rattle.text_line.specs.Written.{number_of, source_of, written, printed_insn}
@@ -97,10 +97,10 @@ register_word false = below_eleven (λ r. is_long_name (register_name false r) �
 -- ---- parts of a line
 
 -- what follows is apart, and prolongs no word
-abbrev Follows : Layout → Type 0
+abbrev Follows : TokenLayout → Type 0
 Follows rest = (ends_word rest ≡ true) × IsApart rest
 
-register_apart : (wide : Bool) (r : ℕ) (rest : Layout) → r ≤ 10 → Follows rest → IsApart (reg wide r ∷ rest)
+register_apart : (wide : Bool) (r : ℕ) (rest : TokenLayout) → r ≤ 10 → Follows rest → IsApart (reg wide r ∷ rest)
 register_apart wide r rest fits h = (register_word wide r fits, h.0, h.1)
 
 -- the two widths of numbers in an instruction
@@ -116,27 +116,27 @@ fits_32 : (z : ℤ) → FitsSigned w32 z → Fits z
 fits_32 (pos n) h = omega (arith, ints)
 fits_32 (negsuc n) h = omega (arith, ints)
 
-constant_apart : (z : ℤ) (rest : Layout) → Fits z → Follows rest → IsApart (constant (number_of z) rest)
+constant_apart : (z : ℤ) (rest : TokenLayout) → Fits z → Follows rest → IsApart (constant (number_of z) rest)
 constant_apart (pos n) rest fits h = (fits, h.0, h.1)
 constant_apart (negsuc n) rest fits h = (refl, refl, (fits, h.0, h.1))
 
-operand_apart : (wide : Bool) (src : Operand) (rest : Layout) → IsOperand src → Follows rest → IsApart (operand wide (source_of src) rest)
+operand_apart : (wide : Bool) (src : Operand) (rest : TokenLayout) → IsOperand src → Follows rest → IsApart (operand wide (source_of src) rest)
 operand_apart wide (Imm z) rest fits h = constant_apart z rest (fits_32 z fits) h
 operand_apart wide (Reg r) rest fits h = register_apart wide r rest fits h
 
 -- a sign, the number, and what follows
-signed_apart : (z : ℤ) (rest : Layout) → Fits z → Follows rest → IsApart (sign (sign_name (number_of z).negative) ∷ Some (number (number_of z).magnitude) ∷ rest)
+signed_apart : (z : ℤ) (rest : TokenLayout) → Fits z → Follows rest → IsApart (sign (sign_name (number_of z).negative) ∷ Some (number (number_of z).magnitude) ∷ rest)
 signed_apart (pos n) rest fits h = (refl, refl, (fits, h.0, h.1))
 signed_apart (negsuc n) rest fits h = (refl, refl, (fits, h.0, h.1))
 
-spaced_apart : (z : ℤ) (rest : Layout) → Fits z → Follows rest → IsApart (sign (sign_name (number_of z).negative) ∷ space ∷ Some (number (number_of z).magnitude) ∷ rest)
+spaced_apart : (z : ℤ) (rest : TokenLayout) → Fits z → Follows rest → IsApart (sign (sign_name (number_of z).negative) ∷ space ∷ Some (number (number_of z).magnitude) ∷ rest)
 spaced_apart (pos n) rest fits h = (refl, refl, (fits, h.0, h.1))
 spaced_apart (negsuc n) rest fits h = (refl, refl, (fits, h.0, h.1))
 
 destination_apart : (z : ℤ) → Fits z → IsApart (destination (target.Number (number_of z)) [])
 destination_apart z fits = signed_apart z [] fits (refl, tt)
 
-address_apart : (signed : Bool) (s : Size) (base : ℕ) (z : ℤ) (rest : Layout) → base ≤ 10 → Fits z → ends_sign rest ≡ true → IsApart rest → IsApart (address (size_name signed s) base (number_of z) rest)
+address_apart : (signed : Bool) (s : Size) (base : ℕ) (z : ℤ) (rest : TokenLayout) → base ≤ 10 → Fits z → ends_sign rest ≡ true → IsApart rest → IsApart (address (size_name signed s) base (number_of z) rest)
 address_apart signed s base z rest base_fits fits ends h =
     let offset : IsApart (sign (sign_name (number_of z).negative) ∷ space ∷ Some (number (number_of z).magnitude) ∷ sign (codes ")") ∷ rest) = spaced_apart z (sign (codes ")") ∷ rest) fits (refl, (refl, ends, h)) in
     let place : IsApart (reg true base ∷ space ∷ sign (sign_name (number_of z).negative) ∷ space ∷ Some (number (number_of z).magnitude) ∷ sign (codes ")") ∷ rest) = (register_word true base base_fits, refl, offset) in
@@ -182,7 +182,7 @@ pub printed : (i : Insn) → IsInsn i → IsPrinted i
 unfolding printed_insn
 printed i h =
     let apart = printed_apart i h in
-    let l : Layout = layout (written i) [] in
+    let l : TokenLayout = layout (written i) [] in
     record {
       one_line = laid_one_line l apart;
       read = (is_form i h, (laid_ascii l apart, laid_tokens l apart));

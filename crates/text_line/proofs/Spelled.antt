@@ -18,15 +18,15 @@ use Rattle.insn_codec.specs.declared.insn.Size.{Size}
 use Rattle.insn_codec.specs.declared.insn.Size.TheVariants as size
 use Rattle.insn_codec.specs.Sizes.{is_double, is_short}
 use Rattle.text_line.specs.declared.form.Number.{Number}
-use Rattle.text_line.specs.declared.form.Source.{Source}
-use Rattle.text_line.specs.declared.form.Source.TheVariants as source
-use Rattle.text_line.specs.declared.form.Target.{Target}
-use Rattle.text_line.specs.declared.form.Target.TheVariants as target
+use Rattle.text_line.specs.declared.form.SourceOperand.{SourceOperand}
+use Rattle.text_line.specs.declared.form.SourceOperand.TheVariants as source
+use Rattle.text_line.specs.declared.form.JumpTarget.{JumpTarget}
+use Rattle.text_line.specs.declared.form.JumpTarget.TheVariants as target
 use Rattle.text_line.specs.declared.form.Form.{Form}
 use Rattle.text_line.specs.declared.form.Form.TheVariants as form
 use Rattle.text_line.specs.Token.{Token, name, number, symbol}
 use Rattle.text_line.specs.Names.{operator_name, condition_name, order_name, narrow_name, size_name, register_name, sign_name}
-use Rattle.text_line.specs.Form.{Layout, layout, sign, word, space, tokens_of, minus, to_label, constant, operand, destination, address, IsForm, IsSource, names_label}
+use Rattle.text_line.specs.Form.{TokenLayout, layout, sign, word, space, tokens_of, minus, to_label, constant, operand, destination, address, IsForm, IsSource, names_label}
 use Rattle.text_line.specs.Line.{Line, blank, label, code, spelled, IsWellFormed, NoLabel}
 use Rattle.text_line.specs.inside.Reading.{named, operators, conditions, orders, narrows, sizes, registers, after_symbol, after_word, register_then, constant_then, signed_then, operand_then, destination_of, address_then, jump_of, load_of, store_of, movsx_of, neg_of, end_of, const_of, map_fd_of, wide_of, moved_of, alu_of, assignment_of, assigned_of, goto_of, gotol_of, call_of, form_of, label_of, line_of}
 
@@ -118,7 +118,7 @@ unfolding register_then
 register_read true r ts fits = rw (named_wide r fits) refl
 register_read false r ts fits = rw (named_half r fits) refl
 
-constant_read : (n : Number) (rest : Layout) → constant_then (tokens_of (constant n rest)) ≡ Some (n, tokens_of rest)
+constant_read : (n : Number) (rest : TokenLayout) → constant_then (tokens_of (constant n rest)) ≡ Some (n, tokens_of rest)
 unfolding constant_then after_symbol
 constant_read n rest =
     elim n.negative as (λ (t : Bool). constant_then (tokens_of (minus t (Some (number n.magnitude) ∷ rest))) ≡ Some (record { negative = t; magnitude = n.magnitude }, tokens_of rest)) [
@@ -135,7 +135,7 @@ signed_read n ts =
     ]
 
 -- a number is no register
-constant_no_register : (wide : Bool) (n : Number) (rest : Layout) → register_then wide (tokens_of (constant n rest)) ≡ None
+constant_no_register : (wide : Bool) (n : Number) (rest : TokenLayout) → register_then wide (tokens_of (constant n rest)) ≡ None
 unfolding register_then
 constant_no_register wide n rest =
     elim n.negative as (λ (t : Bool). register_then wide (tokens_of (minus t (Some (number n.magnitude) ∷ rest))) ≡ None) [
@@ -143,7 +143,7 @@ constant_no_register wide n rest =
       | false ↦ refl
     ]
 
-operand_read : (wide : Bool) (s : Source) (rest : Layout) → IsSource s → operand_then wide (tokens_of (operand wide s rest)) ≡ Some (s, tokens_of rest)
+operand_read : (wide : Bool) (s : SourceOperand) (rest : TokenLayout) → IsSource s → operand_then wide (tokens_of (operand wide s rest)) ≡ Some (s, tokens_of rest)
 unfolding operand_then
 operand_read wide (source.Reg r) rest fits = rw (register_read wide r (tokens_of rest) fits) refl
 operand_read wide (source.Number n) rest fits = rw (constant_no_register wide n rest, constant_read n rest) refl
@@ -152,15 +152,15 @@ signed_name : (n : List ℕ) (ts : List Token) → signed_then (name n ∷ ts) �
 unfolding signed_then after_symbol
 signed_name n ts = refl
 
-abbrev destination_made : Target → List ℕ → Target × List ℕ
+abbrev destination_made : JumpTarget → List ℕ → JumpTarget × List ℕ
 destination_made to n = (to, n)
 
-destination_read : (to : Target) (n : List ℕ) → NoLabel (to_label to) n → destination_of (tokens_of (destination to n)) ≡ Some (to, n)
+destination_read : (to : JumpTarget) (n : List ℕ) → NoLabel (to_label to) n → destination_of (tokens_of (destination to n)) ≡ Some (to, n)
 unfolding destination_of
 destination_read (target.Number m) n none = rw (signed_read m []) (ap (λ (l : List ℕ). Some (destination_made (target.Number m) l)) (sym none))
 destination_read target.Label n none = rw (signed_name n []) refl
 
-address_read : (signed : Bool) (s : Size) (base : ℕ) (offset : Number) (rest : Layout) → IsTrue (not (signed && is_double s)) → base ≤ 10 → address_then (tokens_of (address (size_name signed s) base offset rest)) ≡ Some (record { signed = signed; size = s; base = base; offset = offset }, tokens_of rest)
+address_read : (signed : Bool) (s : Size) (base : ℕ) (offset : Number) (rest : TokenLayout) → IsTrue (not (signed && is_double s)) → base ≤ 10 → address_then (tokens_of (address (size_name signed s) base offset rest)) ≡ Some (record { signed = signed; size = s; base = base; offset = offset }, tokens_of rest)
 unfolding address_then after_symbol
 address_read signed s base offset rest listed fits = rw (named_size signed s listed, register_read true base (symbol (sign_name offset.negative) ∷ number offset.magnitude ∷ symbol (codes ")") ∷ tokens_of rest) fits, signed_read offset (symbol (codes ")") ∷ tokens_of rest)) refl
 
@@ -173,15 +173,15 @@ call_read : (n : Number) → call_of (tokens_of (constant n [])) ≡ Some (form.
 unfolding call_of
 call_read n = rw (constant_read n []) refl
 
-goto_read : (to : Target) (n : List ℕ) → NoLabel (to_label to) n → goto_of (tokens_of (destination to n)) ≡ Some (form.Ja to, n)
+goto_read : (to : JumpTarget) (n : List ℕ) → NoLabel (to_label to) n → goto_of (tokens_of (destination to n)) ≡ Some (form.Ja to, n)
 unfolding goto_of
 goto_read to n none = rw (destination_read to n none) refl
 
-gotol_read : (to : Target) (n : List ℕ) → NoLabel (to_label to) n → gotol_of (tokens_of (destination to n)) ≡ Some (form.Jal to, n)
+gotol_read : (to : JumpTarget) (n : List ℕ) → NoLabel (to_label to) n → gotol_of (tokens_of (destination to n)) ≡ Some (form.Jal to, n)
 unfolding gotol_of
 gotol_read to n none = rw (destination_read to n none) refl
 
-jump_read : (wide : Bool) (c : Condition) (dst : ℕ) (src : Source) (to : Target) (n : List ℕ) → dst ≤ 10 → IsSource src → NoLabel (to_label to) n
+jump_read : (wide : Bool) (c : Condition) (dst : ℕ) (src : SourceOperand) (to : JumpTarget) (n : List ℕ) → dst ≤ 10 → IsSource src → NoLabel (to_label to) n
     → jump_of (name (register_name wide dst) ∷ symbol (condition_name c) ∷ tokens_of (operand wide src (space ∷ word (codes "goto") ∷ space ∷ destination to n))) ≡ Some (form.Jump wide c dst src to, n)
 unfolding jump_of after_word
 jump_read wide c dst src to n fits s none = rw (named_register wide dst fits, named_condition c, operand_read wide src (space ∷ word (codes "goto") ∷ space ∷ destination to n) s, destination_read to n none) refl
@@ -190,7 +190,7 @@ load_read : (size : Size) (signed : Bool) (dst src : ℕ) (offset : Number) → 
 unfolding load_of
 load_read size signed dst src offset fits listed = rw (address_read signed size src offset [] listed fits) refl
 
-store_read : (size : Size) (dst : ℕ) (src : Source) (offset : Number) → dst ≤ 10 → IsSource src → store_of (tokens_of (address (size_name false size) dst offset (space ∷ sign (codes "=") ∷ space ∷ operand true src []))) ≡ Some (form.Store size dst src offset)
+store_read : (size : Size) (dst : ℕ) (src : SourceOperand) (offset : Number) → dst ≤ 10 → IsSource src → store_of (tokens_of (address (size_name false size) dst offset (space ∷ sign (codes "=") ∷ space ∷ operand true src []))) ≡ Some (form.Store size dst src offset)
 unfolding store_of after_symbol
 store_read size dst src offset fits s = rw (address_read false size dst offset (space ∷ sign (codes "=") ∷ space ∷ operand true src []) refl fits, operand_read true src [] s) refl
 
@@ -216,7 +216,7 @@ map_fd_read dst n = rw (constant_read n (space ∷ word (codes "ll") ∷ [])) re
 
 -- ---- what is assigned
 
-alu_read : (wide : Bool) (op : AluOp) (dst : ℕ) (src : Source) → IsSource src → assignment_of wide dst (symbol (operator_name op) ∷ tokens_of (operand wide src [])) ≡ Some (form.Alu wide op dst src)
+alu_read : (wide : Bool) (op : AluOp) (dst : ℕ) (src : SourceOperand) → IsSource src → assignment_of wide dst (symbol (operator_name op) ∷ tokens_of (operand wide src [])) ≡ Some (form.Alu wide op dst src)
 unfolding assignment_of alu_of
 alu_read wide op dst src s = rw (named_operator op, operand_read wide src [] s) refl
 
@@ -332,7 +332,7 @@ no_label_constant w n =
       | false ↦ refl
     ]
 
-no_label_destination : (w : List ℕ) (to : Target) (n : List ℕ) → label_of (name w ∷ tokens_of (destination to n)) ≡ None
+no_label_destination : (w : List ℕ) (to : JumpTarget) (n : List ℕ) → label_of (name w ∷ tokens_of (destination to n)) ≡ None
 unfolding label_of after_symbol
 no_label_destination w (target.Number m) n =
     elim m.negative as (λ (t : Bool). label_of (name w ∷ symbol (sign_name t) ∷ number m.magnitude ∷ []) ≡ None) [

@@ -12,7 +12,7 @@ use Rattle.text_line.specs.declared.token.ByteClass.{ByteClass}
 use Rattle.text_line.specs.declared.token.ByteClass.TheVariants.{Blank, Name, Digit, HexDigit}
 use Rattle.std.proofs.lemmas.List.{map-append}
 use Rattle.text_line.specs.declared.token.Token.{Token as CodeToken}
-use Rattle.text_line.specs.Shown.{shown, shown_tokens}
+use Rattle.text_line.specs.inside.Shown.{shown, shown_tokens}
 use Rattle.text_line.specs.inside.Class.{in_class, IsDigits}
 use Rattle.text_line.specs.Blanks.{is_blank, skip_blanks}
 use Rattle.text_line.specs.Token.{Token, symbol, value_of, is_hex_digit, HasTokens, is_over}

@@ -11,10 +11,10 @@ use Rattle.insn_codec.specs.declared.insn.Insn.{Insn}
 use Rattle.insn_codec.specs.declared.insn.Insn.TheVariants.{Alu, Movsx, Neg, End, Ja, Jal, Jump, Call, Exit, Load, Store, Const, MapFd}
 use Rattle.insn_codec.specs.Sizes.{is_double, is_short}
 use Rattle.text_line.specs.declared.form.Number.{Number}
-use Rattle.text_line.specs.declared.form.Source.{Source}
-use Rattle.text_line.specs.declared.form.Source.TheVariants as source
-use Rattle.text_line.specs.declared.form.Target.{Target}
-use Rattle.text_line.specs.declared.form.Target.TheVariants as target
+use Rattle.text_line.specs.declared.form.SourceOperand.{SourceOperand}
+use Rattle.text_line.specs.declared.form.SourceOperand.TheVariants as source
+use Rattle.text_line.specs.declared.form.JumpTarget.{JumpTarget}
+use Rattle.text_line.specs.declared.form.JumpTarget.TheVariants as target
 use Rattle.text_line.specs.declared.form.Form.{Form}
 use Rattle.text_line.specs.declared.form.Form.TheVariants as form
 use Rattle.text_line.specs.Written.{number_of, source_of, written}
@@ -37,7 +37,7 @@ unfolding integer integer_of
 integer_again (pos n) = refl
 integer_again (negsuc n) = refl
 
-operand_of : Source → Operand
+operand_of : SourceOperand → Operand
 operand_of (source.Number n) = operand.Imm (integer_of n)
 operand_of (source.Reg r) = operand.Reg r
 
@@ -46,7 +46,7 @@ unfolding operand_of
 operand_again (operand.Imm z) = ap (λ (n : ℤ). operand.Imm n) (integer_again z)
 operand_again (operand.Reg r) = refl
 
-target_of : Target → ℤ
+target_of : JumpTarget → ℤ
 target_of (target.Number n) = integer_of n
 target_of target.Label = pos 0
 

@@ -1,4 +1,4 @@
--- Blanks.
+-- Blanks. This project's own.
 use Rattle.std.specs.Prelude.{ℕ, Bool, ◌||◌, ◌==◌, List, [], ◌∷◌, reverse, if◌then◌else◌}
 
 -- a space, a tab or a carriage return

@@ -1,19 +1,19 @@
--- The forms of a line: the table of the grammar, and of what is printed.
+-- The forms of a line: the table of the grammar, and of what is printed. It is this project's own.
 use Rattle.std.specs.Prelude.{ℕ, ◌≤◌, Bool, true, false, ◌&&◌, ◌||◌, not, IsTrue, List, [], ◌∷◌, codes, Option, Some, None}
 use Rattle.insn_codec.specs.Sizes.{is_double, is_short}
 use Rattle.text_line.specs.declared.form.Number.{Number}
-use Rattle.text_line.specs.declared.form.Source.{Source}
-use Rattle.text_line.specs.declared.form.Source.TheVariants as source
-use Rattle.text_line.specs.declared.form.Target.{Target}
-use Rattle.text_line.specs.declared.form.Target.TheVariants as target
+use Rattle.text_line.specs.declared.form.SourceOperand.{SourceOperand}
+use Rattle.text_line.specs.declared.form.SourceOperand.TheVariants as source
+use Rattle.text_line.specs.declared.form.JumpTarget.{JumpTarget}
+use Rattle.text_line.specs.declared.form.JumpTarget.TheVariants as target
 use Rattle.text_line.specs.declared.form.Form.{Form}
 use Rattle.text_line.specs.declared.form.Form.TheVariants.{Alu, Movsx, Neg, End, Ja, Jal, Jump, Call, Exit, Load, Store, Const, MapFd}
 use Rattle.text_line.specs.Token.{Token, name, number, symbol}
 use Rattle.text_line.specs.Names.{operator_name, condition_name, order_name, narrow_name, size_name, register_name, sign_name}
 
 -- A line is laid out as tokens and single spaces, which are `None`. Any other blanks may stand between tokens.
-abbrev pub Layout : Type 0
-Layout = List (Option Token)
+abbrev pub TokenLayout : Type 0
+TokenLayout = List (Option Token)
 
 abbrev pub space : Option Token
 space = None
@@ -30,29 +30,29 @@ reg wide r = word (register_name wide r)
 -- Each part of a line is laid out before what follows it.
 
 -- a minus where there is one, and the number
-abbrev pub minus : Bool → Layout → Layout
+abbrev pub minus : Bool → TokenLayout → TokenLayout
 minus true rest = sign (codes "-") ∷ rest
 minus false rest = rest
 
-abbrev pub constant : Number → Layout → Layout
+abbrev pub constant : Number → TokenLayout → TokenLayout
 constant n rest = minus n.negative (Some (number n.magnitude) ∷ rest)
 
-abbrev pub operand : Bool → Source → Layout → Layout
+abbrev pub operand : Bool → SourceOperand → TokenLayout → TokenLayout
 operand wide (source.Number n) rest = constant n rest
 operand wide (source.Reg r) rest = reg wide r ∷ rest
 
 -- a number whose sign stands, or the name of a label
-abbrev pub destination : Target → List ℕ → Layout
+abbrev pub destination : JumpTarget → List ℕ → TokenLayout
 destination (target.Number n) label = sign (sign_name n.negative) ∷ Some (number n.magnitude) ∷ []
 destination target.Label label = word label ∷ []
 
-abbrev pub address : List ℕ → ℕ → Number → Layout → Layout
+abbrev pub address : List ℕ → ℕ → Number → TokenLayout → TokenLayout
 address size base offset rest =
     sign (codes "*") ∷ sign (codes "(") ∷ word size ∷ space ∷ sign (codes "*") ∷ sign (codes ")")
     ∷ sign (codes "(") ∷ reg true base ∷ space ∷ sign (sign_name offset.negative) ∷ space ∷ Some (number offset.magnitude) ∷ sign (codes ")") ∷ rest
 
 -- the table: a line for each form, with the label that its jump names, if it names one
-abbrev pub layout : Form → List ℕ → Layout
+abbrev pub layout : Form → List ℕ → TokenLayout
 layout (Alu wide op dst src) label = reg wide dst ∷ space ∷ sign (operator_name op) ∷ space ∷ operand wide src []
 layout (Movsx wide bits dst src) label = reg wide dst ∷ space ∷ sign (codes "=") ∷ space ∷ sign (codes "(") ∷ word (narrow_name bits) ∷ sign (codes ")") ∷ reg wide src ∷ []
 layout (Neg wide dst) label = reg wide dst ∷ space ∷ sign (codes "=") ∷ space ∷ sign (codes "-") ∷ reg wide dst ∷ []
@@ -68,13 +68,13 @@ layout (Const dst value) label = reg true dst ∷ space ∷ sign (codes "=") ∷
 layout (MapFd dst fd) label = reg true dst ∷ space ∷ sign (codes "=") ∷ space ∷ word (codes "map_fd") ∷ space ∷ constant fd (space ∷ word (codes "ll") ∷ [])
 
 -- without the spaces
-abbrev pub tokens_of : Layout → List Token
+abbrev pub tokens_of : TokenLayout → List Token
 tokens_of [] = []
 tokens_of (None ∷ rest) = tokens_of rest
 tokens_of (Some t ∷ rest) = t ∷ tokens_of rest
 
 -- the values of the type that are forms: registers up to 10, sign extension of a part only
-abbrev pub IsSource : Source → Type 0
+abbrev pub IsSource : SourceOperand → Type 0
 IsSource (source.Number n) = Unit {0}
 IsSource (source.Reg r) = r ≤ 10
 
@@ -91,7 +91,7 @@ IsForm (MapFd dst fd) = dst ≤ 10
 IsForm _ = Unit {0}
 
 -- whether its jump names a label
-abbrev pub to_label : Target → Bool
+abbrev pub to_label : JumpTarget → Bool
 to_label (target.Number n) = false
 to_label target.Label = true
 

@@ -1,4 +1,4 @@
--- What the laws of lines say.
+-- What the laws of lines say. This project's own.
 use Rattle.std.specs.Prelude.{◌≡◌, ◌≢◌, ℕ, true, false, ℤ, List, [], length, Option}
 use Rattle.std.specs.List.{AllByRecursion}
 use Rattle.insn_codec.specs.declared.insn.Insn.{Insn}
@@ -17,7 +17,7 @@ abbrev pub OneInsn : Type 0
 OneInsn = (a b : Insn) → written a ≡ written b → a ≡ b
 
 -- an instruction as it is written: its numbers are in their ranges, no label is named, its slots are counted, and nothing is left to resolve
-pub record IsWritten (insn : Insn) : Type 0 where
+pub record IsWrittenInRange (insn : Insn) : Type 0 where
   pub fits : form_fits (written insn) ≡ true
   pub no_label : names_label (written insn) ≡ false
   pub slots_are : form_slots (written insn) ≡ length (slots insn)

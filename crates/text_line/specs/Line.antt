@@ -1,4 +1,4 @@
--- Lines.
+-- Lines. This project's own.
 use Rattle.std.specs.Prelude.{◌≡◌, ℕ, Bool, true, false, List, [], ◌∷◌, codes, Option, Some, None}
 use Rattle.text_line.specs.declared.form.Form.{Form}
 use Rattle.text_line.specs.Token.{Token, name, symbol, IsTokens}

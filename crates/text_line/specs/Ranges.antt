@@ -1,10 +1,11 @@
--- The ranges of numbers, the labels as numbers, and the slots of a form.
+-- The ranges of numbers, the labels as numbers, and the slots of a form. A number's range is that of its field (RFC
+-- 9669, section 3.1); a label's distance is this project's own.
 use Rattle.std.specs.Prelude.{ℕ, Bool, true, false, ◌&&◌, not, ℤ, Option, Some, None, is_some, nat_le, ◌==◌, if◌then◌else◌}
 use Rattle.text_line.specs.declared.form.Number.{Number}
-use Rattle.text_line.specs.declared.form.Source.{Source}
-use Rattle.text_line.specs.declared.form.Source.TheVariants as source
-use Rattle.text_line.specs.declared.form.Target.{Target}
-use Rattle.text_line.specs.declared.form.Target.TheVariants as target
+use Rattle.text_line.specs.declared.form.SourceOperand.{SourceOperand}
+use Rattle.text_line.specs.declared.form.SourceOperand.TheVariants as source
+use Rattle.text_line.specs.declared.form.JumpTarget.{JumpTarget}
+use Rattle.text_line.specs.declared.form.JumpTarget.TheVariants as target
 use Rattle.text_line.specs.declared.form.Form.{Form}
 use Rattle.text_line.specs.declared.form.Form.TheVariants.{Alu, Ja, Jal, Jump, Call, Load, Store, Const, MapFd}
 use Rattle.text_line.specs.Written.{number_of}
@@ -22,15 +23,15 @@ imm_fits n = is_at_most (if n.negative then 2147483648 else 2147483647) n.magnit
 abbrev pub offset_fits : Number → Bool
 offset_fits n = is_at_most (if n.negative then 32768 else 32767) n.magnitude
 
-abbrev pub source_fits : Source → Bool
+abbrev pub source_fits : SourceOperand → Bool
 source_fits (source.Number n) = imm_fits n
 source_fits (source.Reg r) = true
 
-abbrev pub target_fits : Target → Bool
+abbrev pub target_fits : JumpTarget → Bool
 target_fits (target.Number n) = offset_fits n
 target_fits target.Label = true
 
-abbrev pub long_target_fits : Target → Bool
+abbrev pub long_target_fits : JumpTarget → Bool
 long_target_fits (target.Number n) = imm_fits n
 long_target_fits target.Label = true
 
@@ -57,12 +58,12 @@ is_zero (Some n) = n == 0
 abbrev pub normal : Number → Number
 normal n = record { negative = n.negative && not (is_zero n.magnitude); magnitude = n.magnitude }
 
-abbrev pub normal_source : Source → Source
+abbrev pub normal_source : SourceOperand → SourceOperand
 normal_source (source.Number n) = source.Number (normal n)
 normal_source (source.Reg r) = source.Reg r
 
 -- a label is a second spelling of a number: how far it is
-abbrev pub placed : ℤ → Target → Target
+abbrev pub placed : ℤ → JumpTarget → JumpTarget
 placed distance (target.Number n) = target.Number (normal n)
 placed distance target.Label = target.Number (number_of distance)
 

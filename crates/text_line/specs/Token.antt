@@ -1,4 +1,4 @@
--- The tokens of a line: the text begins with each in turn, and with none that is longer.
+-- The tokens of a line: the text begins with each in turn, and with none that is longer. This project's own.
 use Rattle.std.specs.Prelude.{◌≡◌, ℕ, ◌≤◌, ◌^◌, ◌==◌, Bool, ◌&&◌, ◌||◌, ◌⊎◌, List, [], ◌∷◌, ◌++◌, length, slice_index, codes, nat_eq, nat_lt, Option, Some, None, if◌then◌else◌, IsTrue}
 use Rattle.std.specs.List.{starts_with, list_all, Contains}
 use Rattle.std.specs.Char.{is_ascii_alphabetic, is_ascii_digit}

@@ -1,4 +1,4 @@
--- The text of an instruction.
+-- The text of an instruction. This project's own.
 use Rattle.std.specs.Prelude.{ℕ, suc, true, false, ℤ, pos, negsuc, List, [], ◌∷◌, Option, Some, None}
 use Rattle.std.specs.List.{flat_map}
 use Rattle.std.specs.Fmt.{decimal}
@@ -7,20 +7,20 @@ use Rattle.insn_codec.specs.declared.insn.Operand.TheVariants.{Imm, Reg}
 use Rattle.insn_codec.specs.declared.insn.Insn.{Insn}
 use Rattle.insn_codec.specs.declared.insn.Insn.TheVariants.{Alu, Movsx, Neg, End, Ja, Jal, Jump, Call, Exit, Load, Store, Const, MapFd}
 use Rattle.text_line.specs.declared.form.Number.{Number}
-use Rattle.text_line.specs.declared.form.Source.{Source}
-use Rattle.text_line.specs.declared.form.Source.TheVariants as source
-use Rattle.text_line.specs.declared.form.Target.TheVariants as target
+use Rattle.text_line.specs.declared.form.SourceOperand.{SourceOperand}
+use Rattle.text_line.specs.declared.form.SourceOperand.TheVariants as source
+use Rattle.text_line.specs.declared.form.JumpTarget.TheVariants as target
 use Rattle.text_line.specs.declared.form.Form.{Form}
 use Rattle.text_line.specs.declared.form.Form.TheVariants as form
 use Rattle.text_line.specs.Token.{Token, name, number, symbol}
-use Rattle.text_line.specs.Form.{Layout, layout}
+use Rattle.text_line.specs.Form.{TokenLayout, layout}
 
 -- a minus only before a negative number
 abbrev pub number_of : ℤ → Number
 number_of (pos n) = record { negative = false; magnitude = Some n }
 number_of (negsuc n) = record { negative = true; magnitude = Some (suc n) }
 
-abbrev pub source_of : Operand → Source
+abbrev pub source_of : Operand → SourceOperand
 source_of (Imm z) = source.Number (number_of z)
 source_of (Reg r) = source.Reg r
 
@@ -51,7 +51,7 @@ abbrev pub piece : Option Token → List ℕ
 piece (Some t) = lexeme t
 piece None = 32 ∷ []
 
-abbrev pub laid_out : Layout → List ℕ
+abbrev pub laid_out : TokenLayout → List ℕ
 laid_out pieces = flat_map piece pieces
 
 -- an instruction, as it is printed

@@ -2,3 +2,4 @@
 pub mod Class
 pub mod Tokens
 pub mod Reading
+pub mod Shown

@@ -19,7 +19,7 @@ pub struct Number {
 
 /// The second operand as it is written.
 #[derive(Clone, Copy, Debug, PartialEq, Eq)]
-pub enum Source {
+pub enum SourceOperand {
     /// A constant. An instruction has room for -2 ^ 31 to 2 ^ 31 - 1.
     Number(Number),
     /// A register, as wide as the instruction.
@@ -28,7 +28,7 @@ pub enum Source {
 
 /// Where a jump leads, as it is written.
 #[derive(Clone, Copy, Debug, PartialEq, Eq)]
-pub enum Target {
+pub enum JumpTarget {
     /// How many slots from the next one. A jump has room for -2 ^ 15 to 2 ^ 15 - 1, a long jump for -2 ^ 31 to 2 ^ 31 - 1.
     Number(Number),
     /// A label. Its name stands beside the form, in `Line::Code`.
@@ -46,7 +46,7 @@ pub enum Form {
         wide: bool,
         op: AluOp,
         dst: Reg,
-        src: Source,
+        src: SourceOperand,
     },
     /// A move with sign extension, as `r1 = (s32)r2`.
     Movsx {
@@ -68,19 +68,19 @@ pub enum Form {
     },
     /// A jump, as `goto -1` or `goto done`.
     Ja {
-        to: Target,
+        to: JumpTarget,
     },
     /// A long jump, as `gotol +1` or `gotol done`.
     Jal {
-        to: Target,
+        to: JumpTarget,
     },
     /// A conditional jump, as `if w1 s< -1 goto -2`.
     Jump {
         wide: bool,
         cond: Condition,
         dst: Reg,
-        src: Source,
-        to: Target,
+        src: SourceOperand,
+        to: JumpTarget,
     },
     /// A call, as `call 26`. The number has room for -2 ^ 31 to 2 ^ 31 - 1.
     Call {
@@ -100,7 +100,7 @@ pub enum Form {
     Store {
         size: Size,
         dst: Reg,
-        src: Source,
+        src: SourceOperand,
         offset: Number,
     },
     /// A constant of 64 bits, as `r2 = 5 ll`: none from 2 ^ 64 on.
@@ -180,7 +180,7 @@ impl Number {
     }
 }
 
-impl Source {
+impl SourceOperand {
     ghost use Rattle.text_line.specs.Ranges.{source_fits, normal_source};
     ghost use Rattle.text_line.specs.Written.{source_of};
 
@@ -191,19 +191,19 @@ impl Source {
         ensures none { IfNone result (source_fits self ≡ false) }
     {
         match self {
-            Source::Number(number) => {
+            SourceOperand::Number(number) => {
                 let imm = number.imm()?;
                 Some(Operand::Imm(imm))
             }
-            Source::Reg(reg) => Some(Operand::Reg(reg)),
+            SourceOperand::Reg(reg) => Some(Operand::Reg(reg)),
         }
     }
 }
 
-impl Target {
+impl JumpTarget {
     ghost use Rattle.text_line.specs.Ranges.{target_fits, long_target_fits, placed};
     ghost use Rattle.text_line.specs.Written.{number_of};
-    ghost use Rattle.text_line.specs.declared.form.Target.TheVariants as target;
+    ghost use Rattle.text_line.specs.declared.form.JumpTarget.TheVariants as target;
 
     /// How far a jump goes, if its number fits 16 bits. A label is so far.
     fn offset(self, distance: i16) -> Option<i16>
@@ -212,8 +212,8 @@ impl Target {
         ensures none { IfNone result (target_fits self ≡ false) }
     {
         match self {
-            Target::Number(number) => number.offset(),
-            Target::Label => Some(distance),
+            JumpTarget::Number(number) => number.offset(),
+            JumpTarget::Label => Some(distance),
         }
     }
 
@@ -224,8 +224,8 @@ impl Target {
         ensures none { IfNone result (long_target_fits self ≡ false) }
     {
         match self {
-            Target::Number(number) => number.imm(),
-            Target::Label => Some(i32::from(distance)),
+            JumpTarget::Number(number) => number.imm(),
+            JumpTarget::Label => Some(i32::from(distance)),
         }
     }
 }
@@ -355,7 +355,7 @@ impl Form {
         match self {
             Form::Ja { to } | Form::Jal { to } | Form::Jump { to, .. } => matches!(
                 to,
-                Target::Label
+                JumpTarget::Label
             ),
             _ => false,
         }

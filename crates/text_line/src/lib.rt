@@ -11,6 +11,6 @@ mod reader;
 mod token;
 
 pub use blanks::stripped;
-pub use form::{Form, Line, Number, Source, Target};
+pub use form::{Form, JumpTarget, Line, Number, SourceOperand};
 pub use laws::{one_instruction, one_reading, printed_is_read, written_in_range};
 pub use reader::read_line;

@@ -1,7 +1,7 @@
 //! A line: its tokens as one of the forms.
 
 ghost use Rattle.std.specs.Prelude.{◌≡◌, option_map};
-ghost use Rattle.text_line.specs.Shown.{shown_tokens};
+ghost use Rattle.text_line.specs.inside.Shown.{shown_tokens};
 ghost use Rattle.text_line.specs.Shown.{seen_line};
 ghost use Rattle.text_line.specs.inside.Reading.{jump_of, load_of, store_of, movsx_of, neg_of, end_of, const_of, map_fd_of, wide_of, moved_of, is_move, alu_of, assignment_of, assigned_of, goto_of, gotol_of, call_of, form_of, label_of, line_of, seen_destination};
 

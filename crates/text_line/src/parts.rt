@@ -1,10 +1,10 @@
 //! Parts of a line: what the tokens at the front are, and the tokens after it.
 
 ghost use Rattle.std.specs.Prelude.{◌≡◌};
-ghost use Rattle.text_line.specs.Shown.{shown_tokens};
+ghost use Rattle.text_line.specs.inside.Shown.{shown_tokens};
 ghost use Rattle.text_line.specs.inside.Reading.{symbol_then, name_then, number_then, after_symbol, after_word, register_then, constant_then, signed_then, operand_then, destination_of, address_then, is_ended, seen, seen_pair, seen_label, seen_destination};
 
-use crate::form::{Address, Number, Source, Target};
+use crate::form::{Address, JumpTarget, Number, SourceOperand};
 use crate::names::{register_named, size};
 use crate::token::Token;
 use insn_codec::Reg;
@@ -142,14 +142,14 @@ pub(crate) fn signed<'t, 'a>(tokens: &'t [Token<'a>]) -> Option<(Number, &'t [To
 pub(crate) fn operand<'t, 'a>(
     wide: bool,
     tokens: &'t [Token<'a>],
-) -> Option<(Source, &'t [Token<'a>])>
+) -> Option<(SourceOperand, &'t [Token<'a>])>
     ensures { seen_pair result ≡ operand_then wide (shown_tokens tokens.now) }
 {
     match register(wide, tokens) {
-        Some((reg, rest)) => Some((Source::Reg(reg), rest)),
+        Some((reg, rest)) => Some((SourceOperand::Reg(reg), rest)),
         None => {
             let (number, rest) = constant(tokens)?;
-            Some((Source::Number(number), rest))
+            Some((SourceOperand::Number(number), rest))
         }
     }
 }
@@ -166,19 +166,19 @@ pub(crate) fn ended(tokens: &[Token<'_>]) -> bool
 
 /// Where a jump leads, and the label's name if it names one. Nothing follows it.
 #[tactic(auto, unfolding(crate::specs::inside::Reading::destination_of))]
-pub(crate) fn destination<'a>(tokens: &[Token<'a>]) -> Option<(Target, &'a str)>
+pub(crate) fn destination<'a>(tokens: &[Token<'a>]) -> Option<(JumpTarget, &'a str)>
     ensures { seen_destination result ≡ destination_of (shown_tokens tokens.now) }
 {
     if let Some((number, rest)) = signed(tokens) {
         return if ended(rest) {
-            Some((Target::Number(number), ""))
+            Some((JumpTarget::Number(number), ""))
         } else {
             None
         };
     }
     let (name, rest) = name(tokens)?;
     if ended(rest) {
-        Some((Target::Label, name))
+        Some((JumpTarget::Label, name))
     } else {
         None
     }

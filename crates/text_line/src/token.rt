@@ -8,7 +8,7 @@ ghost use Rattle.std.specs.Str.Parse.{digits_value};
 ghost use Rattle.text_line.specs.Blanks.{skip_blanks};
 ghost use Rattle.text_line.specs.Token.{Token as AnyToken, number as Number, symbol as Symbol, value_of, is_name_start, is_hex_digit, is_over, IsTokens};
 ghost use Rattle.text_line.specs.inside.Tokens.{symbol_at, name_at, number_at, token_at, run};
-ghost use Rattle.text_line.specs.Shown.{shown, shown_front, shown_tokens};
+ghost use Rattle.text_line.specs.inside.Shown.{shown, shown_front, shown_tokens};
 ghost use Rattle.text_line.specs.inside.Class.{in_class, IsDigits};
 
 use crate::blanks::is_blank;
@@ -41,7 +41,8 @@ fn symbol_len(text: &[u8]) -> usize
 /// How many bytes the first of the symbols has with which the text begins, or 0.
 fn first_len(text: &[u8], symbols: &[&str]) -> usize
     ensures bound { result ≤ length text.now }
-    ensures value { result ≡ option_map_or length (find (λ s. starts_with nat_eq text.now s) (map (λ s. s.now) symbols.now)) 0 }
+    ensures value { result ≡ option_map_or length
+        (find (λ s. starts_with nat_eq text.now s) (map (λ s. s.now) symbols.now)) 0 }
 {
     for symbol in symbols {
         if text.starts_with(symbol.as_bytes()) {
@@ -120,7 +121,8 @@ fn after_blanks(text: &str) -> &str
 /// The symbol at the front, and the text after it.
 fn symbol(text: &str) -> Option<(Token<'_>, &str)>
     requires { IsAscii text.now }
-    ensures value { shown_front result ≡ option_map (λ s. (Symbol s, drop (length s) text.now)) (symbol_at text.now) }
+    ensures value { shown_front result ≡ option_map
+        (λ s. (Symbol s, drop (length s) text.now)) (symbol_at text.now) }
     ensures ascii { IfSome result (λ r. IsAscii r.1.now) }
     ensures shorter { IfSome result (λ r. length r.1.now < length text.now) }
 {
@@ -173,7 +175,8 @@ fn value(text: &str, class: ByteClass, radix: u32) -> (Token<'_>, &str)
     requires ascii { IsAscii text.now }
     requires digits { IsDigits class radix }
     requires first { IsTrue (in_class class (slice_index text.now 0)) }
-    ensures value { shown result.0 ≡ Number (value_of (digits_value radix (run (in_class class) text.now))) }
+    ensures value { shown result.0 ≡ Number
+        (value_of (digits_value radix (run (in_class class) text.now))) }
     ensures rest { result.1.now ≡ drop (prefix_len (in_class class) text.now) text.now }
     ensures ascii { IsAscii result.1.now }
     ensures shorter { length result.1.now < length text.now }

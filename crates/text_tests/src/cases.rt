@@ -1,9 +1,9 @@
 //! The lines of the input.
 
+use crate::arguments::{map_named, ran};
 use crate::bytes::{decoded, disassembled, known_opcodes, made_of_exits, places};
 use crate::refusal::Refusal;
 use crate::texts::{assembled, printed, read_hex_lines};
-use crate::words::{map_named, ran};
 use std::alloc::{AllocError, Global};
 
 /// What a case gives: its first word says what is done with the rest of the line.

@@ -2,12 +2,12 @@
 //! output answers it. An empty line and one that begins with `#` are written as they stand.
 #![tactic(auto)]
 
+mod arguments;
 mod bytes;
 mod cases;
 mod notation;
 mod refusal;
 mod texts;
-mod words;
 
 use cases::answer;
 use std::io;

@@ -30,13 +30,14 @@ use Rattle.tagged_model.specs.declared.value.Tagged.{Tagged}
 use Rattle.tagged_model.specs.declared.value.Tagged.TheVariants.{Scalar, Map}
 use Rattle.tagged_model.specs.Operators.{width, narrow_of, order_of, kept_of, size_of}
 use Rattle.tagged_model.specs.Values.{arithmetic, first_operand, of_number}
-use Rattle.tagged_model.specs.State.{State, load, store}
-use Rattle.tagged_model.specs.Step.{goes, need, operand, advanced, assigned, natural, ended, act}
+use Rattle.tagged_model.specs.State.{RunState, load, store}
+use Rattle.tagged_model.specs.Step.{goes, need, operand, advanced, assigned, ended, act}
+use Rattle.insn_codec.specs.Flow.{natural, falls_to, jumps_to}
 use Rattle.transfer.specs.Arithmetic.{readable, arithmetic_kind, of_scalar}
 use Rattle.transfer.specs.Branches.{falls}
-use Rattle.transfer.specs.Effects.{assigns, load_kind, store_facts, map_of, known, ends_with, effect}
+use Rattle.transfer.specs.Effects.{assigns, load_kind, store_facts, map_of, known, exits_with, effect}
 use Rattle.transfer.specs.Calls.{call_facts}
-use Rattle.transfer.specs.Sound.{IsKindAt, IsSlotAt, falls_to, jumps_to, IsCalled, TransferIsSound}
+use Rattle.transfer.specs.Sound.{IsKindAt, IsSlotAt, CallIsAdmitted, TransferIsSound}
 use Rattle.transfer.proofs.Parts.{Here, Gives, IsKindOf, IsFound, IsKnown, IsCoveredIf, still_of, still_at, then_covered, covers}
 use Rattle.transfer.proofs.States.{constant_of, register_found, source_found, first_found, goes_to, assigned_covered}
 use Rattle.transfer.proofs.Values.{Results, by_number, number_agrees, arithmetic_agrees}
@@ -52,7 +53,7 @@ pub record Laws : Type 0 where
   pub accesses : Accesses
   pub calls : CallLaws
 
-module _ (laws : Laws) (here : Here) (refused : Bool) (f : Facts) (s : State) (is_known : IsKnown here f s) (below : AreBelow s.at f) where
+module _ (laws : Laws) (here : Here) (refused : Bool) (f : Facts) (s : RunState) (is_known : IsKnown here f s) (below : AreBelow s.at f) where
   -- the instruction, where the facts let it be run
   abbrev Covered : Insn → Type 0
   Covered i = IsCoveredIf here (falls_to i s.at) (jumps_to i s.at) (effect here.shapes s.at i f) (act refused i s)
@@ -83,7 +84,7 @@ module _ (laws : Laws) (here : Here) (refused : Bool) (f : Facts) (s : State) (i
       then_covered here _ _ (IsFound here (s.registers l.src)) _ _ _ _ (register_found here f s is_known l.src)
       (λ k v h. left_in _ l.dst (load_kind here.shapes f (size_of l.size) l.signed l.off k) (load s (size_of l.size) l.signed v l.off) (load_agrees here f s is_known laws.accesses (size_of l.size) l.signed l.off k v h.kind))
 
-  stored_covered : (target : Option ℕ) (g : Facts) (t : State) → IsStored here s g t → IsCoveredIf here (s.at + 1) target (falls g) (goes (advanced 1 t))
+  stored_covered : (target : Option ℕ) (g : Facts) (t : RunState) → IsStored here s g t → IsCoveredIf here (s.at + 1) target (falls g) (goes (advanced 1 t))
   stored_covered target g t h = subst (λ n. IsCoveredIf here (n + 1) target (falls g) (goes (advanced 1 t))) h.at (inl (goes_to here g t (t.at + 1) h.known))
 
   store_covered : (size : Size) (dst : ℕ) (src : Operand) (off : ℤ) → Covered (Store size dst src off)
@@ -101,8 +102,8 @@ module _ (laws : Laws) (here : Here) (refused : Bool) (f : Facts) (s : State) (i
       (λ k v h. then_covered here _ _ (IsFound here (operand s wide src)) _ _ _ _ (source_found here f s is_known wide src)
       (λ l w g. branch_covered here laws.comparisons f s is_known off there wide cond dst src k l v w h g))
 
-  ended_covered : (next : ℕ) (target : Option ℕ) (k : Kind) (v : Tagged) → IsKindOf here k v → IsCoveredIf here next target (ends_with k) (ended v)
-  ended_covered next target (kind.Scalar r) v h = by_number here r v (λ v. IsCoveredIf here next target (ends_with (kind.Scalar r)) (ended v)) h.is (λ n m. omega arith)
+  ended_covered : (next : ℕ) (target : Option ℕ) (k : Kind) (v : Tagged) → IsKindOf here k v → IsCoveredIf here next target (exits_with k) (ended v)
+  ended_covered next target (kind.Scalar r) v h = by_number here r v (λ v. IsCoveredIf here next target (exits_with (kind.Scalar r)) (ended v)) h.is (λ n m. omega arith)
   ended_covered next target k v h = tt
 
   exit_covered : Covered Exit
@@ -121,7 +122,7 @@ module _ (laws : Laws) (here : Here) (refused : Bool) (f : Facts) (s : State) (i
 
   called_covered : (h : Helper) (target : Option ℕ) → IsCoveredIf here (s.at + 1) target (given (call_facts here.shapes s.at h f) falls) (need (called refused h s) (λ t. goes (advanced 1 t)))
   called_covered h target =
-      then_covered here _ _ (λ g u. IsCalled g here.shapes s u) _ _ falls (λ t. goes (advanced 1 t)) (all_covered laws.calls here.witness here.shapes f s (still_of here f s is_known) below refused h)
+      then_covered here _ _ (λ g u. CallIsAdmitted g here.shapes s u) _ _ falls (λ t. goes (advanced 1 t)) (all_covered laws.calls here.witness here.shapes f s (still_of here f s is_known) below refused h)
       (λ g u is. inl (ap (λ (n : ℕ). Some (n + 1)) (sym is.at), is.witness, still_at is.witness g here.shapes u is.still (u.at + 1)))
 
   helper_covered : (o : Option Helper) (target : Option ℕ) → IsCoveredIf here (s.at + 1) target (given (known o) (λ h. given (call_facts here.shapes s.at h f) falls)) (need o (λ h. need (called refused h s) (λ t. goes (advanced 1 t))))

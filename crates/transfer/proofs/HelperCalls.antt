@@ -28,15 +28,15 @@ use Rattle.tagged_model.specs.declared.value.Tagged.{Tagged}
 use Rattle.tagged_model.specs.declared.value.Tagged.TheVariants.{Scalar, Map, Pointer}
 use Rattle.tagged_model.specs.Table.{look_up, verdict, Verdict, Refused, Present, New, removal}
 use Rattle.tagged_model.specs.Cells.{also, cell_over}
-use Rattle.tagged_model.specs.State.{State, RunMap, with_map, with_refusal, with_cells, stack_bytes, stack_written, object_bytes, object_written, input, output}
-use Rattle.tagged_model.specs.Helpers.{Given, map_given, number_given, length_given, context_given, argument, map_argument, looked_up, Reply, put, updated, taken_out, removed, errno, packet_bytes, packet_answer, is_in_packet, negative, outside, returns, replies, called}
-use Rattle.tagged_model.specs.Admits.{Witness, IsOf, IsLookup, HasKind, AdmitsBy, objects_of, AreBytes, IsMapOf, HasMaps, AreBelow, witness_at}
-use Rattle.tagged_model.specs.Laws.{StackInputAdmits, StackOutputAdmits, ObjectReadAdmits, ObjectWriteAdmits, MapCallsKeep, Keeps, Describes, MapChangeAdmits, CallAdmits, SiteAdmits}
+use Rattle.tagged_model.specs.State.{RunState, RunMap, with_map, with_refusal, with_cells, stack_bytes, stack_written, object_bytes, object_written, input, output}
+use Rattle.tagged_model.specs.Helpers.{GivenMap, map_given, number_given, length_given, context_given, argument, map_argument, looked_up, MapReply, put, updated, taken_out, removed, errno, packet_bytes, packet_answer, is_in_packet, negative, outside, returns, replies, called}
+use Rattle.tagged_model.specs.Admits.{Witness, IsOfKind, IsLookup, HasKind, AdmitsBy, objects_of, AreBytes, IsMapOf, HasMaps, AreBelow, witness_at}
+use Rattle.tagged_model.specs.Laws.{StackInputAdmits, StackOutputAdmits, ObjectReadAdmits, ObjectWriteAdmits, MapCallsKeep, KeepsShape, Describes, MapChangeAdmits, CallAdmits, SiteAdmits}
 use Rattle.transfer.specs.Arithmetic.{readable}
 use Rattle.tagged_model.specs.Named.{Shapes}
 use Rattle.transfer.specs.declared.calls.ShapedMap.{ShapedMap}
 use Rattle.transfer.specs.Calls.{shaped, map_kind, room_of, input_kind, output_facts, number_kind, length_kind, context_kind, any_number, call_facts}
-use Rattle.transfer.specs.Sound.{IsCalled, CallsAreSound}
+use Rattle.transfer.specs.Sound.{CallIsAdmitted, CallsAreSound}
 use Rattle.transfer.proofs.Rooms.{owned, room_here}
 use Rattle.transfer.proofs.Parts.{Agree, by_law, refused, same_ok, still_noted, IsReadable}
 
@@ -58,7 +58,7 @@ readable_agree Q (kind.Value p) go o h = h tt
 readable_agree Q (kind.MaybeValue m site) go o h = h tt
 
 -- of an argument, by its value
-at_argument : {A B : Type 0} (Q : A → B → Type 0) (r : Result A Reason) (s : State) (n : ℕ) (on : Tagged → Option B) (v w : Tagged) → s.registers n ≡ Some v → v ≡ w → Agree Q r (on w) → Agree Q r (argument s n on)
+at_argument : {A B : Type 0} (Q : A → B → Type 0) (r : Result A Reason) (s : RunState) (n : ℕ) (on : Tagged → Option B) (v w : Tagged) → s.registers n ≡ Some v → v ≡ w → Agree Q r (on w) → Agree Q r (argument s n on)
 at_argument Q r s n on v w e same h = subst (λ o. Agree Q r (also o on)) (sym (e ∙ ap (λ (x : Tagged). Some x) same)) h
 
 from_agree : {A B : Type 0} (P : A → B → Type 0) (r : Result A Reason) (o : Option B) (x : A) → Agree P r o → r ≡ Ok x → (y : B) × (o ≡ Some y) × P x y
@@ -77,7 +77,7 @@ pub record Laws : Type 0 where
   pub call : CallAdmits
   pub site : SiteAdmits
 
-any_is : (witness : Witness) (n : ℕ) → n < 2 ^ 64 → IsOf witness any_number (Scalar n)
+any_is : (witness : Witness) (n : ℕ) → n < 2 ^ 64 → IsOfKind witness any_number (Scalar n)
 any_is witness n h = (n, refl, record { from = omega arith; to = omega arith }, h)
 
 -- ---- answers are words
@@ -117,10 +117,10 @@ packet_read packet offset n small =
     zeros : (n : ℕ) → AreBytes (replicate n 0)
     zeros n k d lt = subst (λ b. b < 256) (sym (get_or-replicate n k 0 d (among k (length (replicate n 0)) n (length-replicate n 0) lt))) (omega arith)
 
-module _ (laws : Laws) (witness : Witness) (shapes : Shapes) (f : Facts) (s : State) (still : Describes witness f shapes s) where
+module _ (laws : Laws) (witness : Witness) (shapes : Shapes) (f : Facts) (s : RunState) (still : Describes witness f shapes s) where
   -- ---- arguments
 
-  record IsMap (x : ShapedMap) (g : Given) : Type 0 where
+  record IsMap (x : ShapedMap) (g : GivenMap) : Type 0 where
     named : x.descriptor ≡ g.descriptor
     shape_is : shapes x.descriptor ≡ Some x.shape
     there : s.maps g.descriptor ≡ Some g.map
@@ -192,7 +192,7 @@ module _ (laws : Laws) (witness : Witness) (shapes : Shapes) (f : Facts) (s : St
 
   -- ---- what is written
 
-  record IsFilled (bs : List ℕ) (g : Facts) (u : State) : Type 0 where
+  record IsFilled (bs : List ℕ) (g : Facts) (u : RunState) : Type 0 where
     known : Describes witness g shapes u
     same_at : u.at ≡ s.at
 
@@ -201,7 +201,7 @@ module _ (laws : Laws) (witness : Witness) (shapes : Shapes) (f : Facts) (s : St
       by_law (IsFilled bs) (stack_filled f x r.lo r.hi) (stack_written s x bs)
       (λ g ok. let h = laws.stack_output witness f g s x r.lo r.hi bs still.proper still.admits small m.from m.to ok in
       let c = cond_some (is_in_stack x (length bs)) (with_cells s (λ i. cell_over i (s.cells i) (place x) bs)) h.0 h.1 in
-      (h.0, h.1, record { known = record { admits = h.2; proper = h.3; maps = subst (λ u. HasMaps shapes u) c.1 still.maps }; same_at = ap (λ (u : State). u.at) (sym c.1) }))
+      (h.0, h.1, record { known = record { admits = h.2; proper = h.3; maps = subst (λ u. HasMaps shapes u) c.1 still.maps }; same_at = ap (λ (u : RunState). u.at) (sym c.1) }))
 
   given_room : (r : Result (Unit {0}) Reason) (g : Facts) → given r (λ _. Ok f) ≡ Ok g → (r ≡ Ok tt) × (f ≡ g)
   given_room (Ok x) g e = (refl, same_ok f g e)
@@ -233,7 +233,7 @@ module _ (laws : Laws) (witness : Witness) (shapes : Shapes) (f : Facts) (s : St
   kinds r = still.admits.registers r
 
   module _ (below : AreBelow s.at f) where
-    found_is : (x : ShapedMap) (g : Given) → IsMap x g → (o : Option ℕ) → ((number : ℕ) → o ≡ Some number → number < g.map.count) → IsLookup (witness_at witness s s.at (looked_up g.descriptor o)) x.descriptor (looked_up g.descriptor o)
+    found_is : (x : ShapedMap) (g : GivenMap) → IsMap x g → (o : Option ℕ) → ((number : ℕ) → o ≡ Some number → number < g.map.count) → IsLookup (witness_at witness s s.at (looked_up g.descriptor o)) x.descriptor (looked_up g.descriptor o)
     found_is x g is None lt = inl refl
     found_is x g is (Some number) lt =
         inr (
@@ -242,7 +242,7 @@ module _ (laws : Laws) (witness : Witness) (shapes : Shapes) (f : Facts) (s : St
           subst (λ m. number < objects_of (s.maps m)) (sym is.named) (subst (λ o. number < objects_of o) (sym is.there) (lt number refl)),
         )
 
-    looked : (x : ShapedMap) (g : Given) (key : List ℕ) → IsMap x g → IsCalled (called_facts f (kind.MaybeValue x.descriptor s.at)) shapes s (returns s (looked_up g.descriptor (look_up g.map.table key)))
+    looked : (x : ShapedMap) (g : GivenMap) (key : List ℕ) → IsMap x g → CallIsAdmitted (called_facts f (kind.MaybeValue x.descriptor s.at)) shapes s (returns s (looked_up g.descriptor (look_up g.map.table key)))
     looked x g key is =
         let v = looked_up g.descriptor (look_up g.map.table key) in
         record {
@@ -253,7 +253,7 @@ module _ (laws : Laws) (witness : Witness) (shapes : Shapes) (f : Facts) (s : St
         }
 
     -- a map that has changed
-    replied : (x : ShapedMap) (g : Given) (reply : Reply) → IsMap x g → Keeps x.shape g.map reply.map → reply.answer < 2 ^ 64 → IsCalled (called_facts f any_number) shapes s (replies s g.descriptor reply)
+    replied : (x : ShapedMap) (g : GivenMap) (reply : MapReply) → IsMap x g → KeepsShape x.shape g.map reply.map → reply.answer < 2 ^ 64 → CallIsAdmitted (called_facts f any_number) shapes s (replies s g.descriptor reply)
     replied x g reply is keeps small =
         let changed = with_map s g.descriptor reply.map in
         let known = laws.map_change witness f shapes s g.descriptor x.shape g.map reply.map still is.there (subst (λ m. shapes m ≡ Some x.shape) is.named is.shape_is) keeps in
@@ -263,55 +263,55 @@ module _ (laws : Laws) (witness : Witness) (shapes : Shapes) (f : Facts) (s : St
           at = refl;
         }
 
-    bytes_of_map : (x : ShapedMap) (g : Given) → IsMap x g → (number : ℕ) → AreBytes (g.map.values number)
+    bytes_of_map : (x : ShapedMap) (g : GivenMap) → IsMap x g → (number : ℕ) → AreBytes (g.map.values number)
     bytes_of_map x g is = still.proper.values g.descriptor g.map is.there
 
-    key_size : (x : ShapedMap) (g : Given) → IsMap x g → x.shape.key_size ≡ g.map.table.shape.key_size
+    key_size : (x : ShapedMap) (g : GivenMap) → IsMap x g → x.shape.key_size ≡ g.map.table.shape.key_size
     key_size x g is = ap (λ (t : MapShape). t.key_size) (sym is.is.shaped)
 
-    value_size : (x : ShapedMap) (g : Given) → IsMap x g → x.shape.value_size ≡ g.map.table.shape.value_size
+    value_size : (x : ShapedMap) (g : GivenMap) → IsMap x g → x.shape.value_size ≡ g.map.table.shape.value_size
     value_size x g is = ap (λ (t : MapShape). t.value_size) (sym is.is.shaped)
 
-    look_up_covered : (refused : Bool) → Agree (λ g u. IsCalled g shapes s u) (call_facts shapes s.at LookUp f) (called refused LookUp s)
+    look_up_covered : (refused : Bool) → Agree (λ g u. CallIsAdmitted g shapes s u) (call_facts shapes s.at LookUp f) (called refused LookUp s)
     look_up_covered refused =
-        readable_agree (λ g u. IsCalled g shapes s u) (kind_at f 1) _ _ (λ r1. readable_agree (λ g u. IsCalled g shapes s u) (kind_at f 2) _ _ (λ r2.
-        also_agree IsMap (λ g u. IsCalled g shapes s u) _ _ _ _ (map_agrees 1 (kind_at f 1) r1 (kinds 1)) (λ x g is.
-        also_agree (AreRead x.shape.key_size) (λ g u. IsCalled g shapes s u) _ _ _ _ (sized_agrees x.shape.key_size g.map.table.shape.key_size 2 (kind_at f 2) (key_size x g is) r2 (kinds 2)) (λ _ key read.
+        readable_agree (λ g u. CallIsAdmitted g shapes s u) (kind_at f 1) _ _ (λ r1. readable_agree (λ g u. CallIsAdmitted g shapes s u) (kind_at f 2) _ _ (λ r2.
+        also_agree IsMap (λ g u. CallIsAdmitted g shapes s u) _ _ _ _ (map_agrees 1 (kind_at f 1) r1 (kinds 1)) (λ x g is.
+        also_agree (AreRead x.shape.key_size) (λ g u. CallIsAdmitted g shapes s u) _ _ _ _ (sized_agrees x.shape.key_size g.map.table.shape.key_size 2 (kind_at f 2) (key_size x g is) r2 (kinds 2)) (λ _ key read.
         looked x g key is))))
 
-    update_covered : (refused : Bool) → Agree (λ g u. IsCalled g shapes s u) (call_facts shapes s.at Update f) (called refused Update s)
+    update_covered : (refused : Bool) → Agree (λ g u. CallIsAdmitted g shapes s u) (call_facts shapes s.at Update f) (called refused Update s)
     update_covered refused =
-        readable_agree (λ g u. IsCalled g shapes s u) (kind_at f 1) _ _ (λ r1. readable_agree (λ g u. IsCalled g shapes s u) (kind_at f 2) _ _ (λ r2.
-        readable_agree (λ g u. IsCalled g shapes s u) (kind_at f 3) _ _ (λ r3. readable_agree (λ g u. IsCalled g shapes s u) (kind_at f 4) _ _ (λ r4.
-        also_agree IsMap (λ g u. IsCalled g shapes s u) _ _ _ _ (map_agrees 1 (kind_at f 1) r1 (kinds 1)) (λ x g is.
-        also_agree (AreRead x.shape.key_size) (λ g u. IsCalled g shapes s u) _ _ _ _ (sized_agrees x.shape.key_size g.map.table.shape.key_size 2 (kind_at f 2) (key_size x g is) r2 (kinds 2)) (λ _ key read.
-        also_agree (AreRead x.shape.value_size) (λ g u. IsCalled g shapes s u) _ _ _ _ (sized_agrees x.shape.value_size g.map.table.shape.value_size 3 (kind_at f 3) (value_size x g is) r3 (kinds 3)) (λ _ value got.
-        also_agree InRange (λ g u. IsCalled g shapes s u) _ _ _ _ (number_agrees 4 (kind_at f 4) r4 (kinds 4)) (λ range flags within.
+        readable_agree (λ g u. CallIsAdmitted g shapes s u) (kind_at f 1) _ _ (λ r1. readable_agree (λ g u. CallIsAdmitted g shapes s u) (kind_at f 2) _ _ (λ r2.
+        readable_agree (λ g u. CallIsAdmitted g shapes s u) (kind_at f 3) _ _ (λ r3. readable_agree (λ g u. CallIsAdmitted g shapes s u) (kind_at f 4) _ _ (λ r4.
+        also_agree IsMap (λ g u. CallIsAdmitted g shapes s u) _ _ _ _ (map_agrees 1 (kind_at f 1) r1 (kinds 1)) (λ x g is.
+        also_agree (AreRead x.shape.key_size) (λ g u. CallIsAdmitted g shapes s u) _ _ _ _ (sized_agrees x.shape.key_size g.map.table.shape.key_size 2 (kind_at f 2) (key_size x g is) r2 (kinds 2)) (λ _ key read.
+        also_agree (AreRead x.shape.value_size) (λ g u. CallIsAdmitted g shapes s u) _ _ _ _ (sized_agrees x.shape.value_size g.map.table.shape.value_size 3 (kind_at f 3) (value_size x g is) r3 (kinds 3)) (λ _ value got.
+        also_agree InRange (λ g u. CallIsAdmitted g shapes s u) _ _ _ _ (number_agrees 4 (kind_at f 4) r4 (kinds 4)) (λ range flags within.
         replied x g (updated refused g.map key value flags) is (laws.map_calls.updated x.shape g.map key value flags refused is.is (bytes_of_map x g is) got.0 got.1) (put_small refused g.map key value (verdict g.map.table key flags))))))))))
 
-    delete_covered : (refused : Bool) → Agree (λ g u. IsCalled g shapes s u) (call_facts shapes s.at Delete f) (called refused Delete s)
+    delete_covered : (refused : Bool) → Agree (λ g u. CallIsAdmitted g shapes s u) (call_facts shapes s.at Delete f) (called refused Delete s)
     delete_covered refused =
-        readable_agree (λ g u. IsCalled g shapes s u) (kind_at f 1) _ _ (λ r1. readable_agree (λ g u. IsCalled g shapes s u) (kind_at f 2) _ _ (λ r2.
-        also_agree IsMap (λ g u. IsCalled g shapes s u) _ _ _ _ (map_agrees 1 (kind_at f 1) r1 (kinds 1)) (λ x g is.
-        also_agree (AreRead x.shape.key_size) (λ g u. IsCalled g shapes s u) _ _ _ _ (sized_agrees x.shape.key_size g.map.table.shape.key_size 2 (kind_at f 2) (key_size x g is) r2 (kinds 2)) (λ _ key read.
+        readable_agree (λ g u. CallIsAdmitted g shapes s u) (kind_at f 1) _ _ (λ r1. readable_agree (λ g u. CallIsAdmitted g shapes s u) (kind_at f 2) _ _ (λ r2.
+        also_agree IsMap (λ g u. CallIsAdmitted g shapes s u) _ _ _ _ (map_agrees 1 (kind_at f 1) r1 (kinds 1)) (λ x g is.
+        also_agree (AreRead x.shape.key_size) (λ g u. CallIsAdmitted g shapes s u) _ _ _ _ (sized_agrees x.shape.key_size g.map.table.shape.key_size 2 (kind_at f 2) (key_size x g is) r2 (kinds 2)) (λ _ key read.
         replied x g (removed g.map key) is (laws.map_calls.removed x.shape g.map key is.is (bytes_of_map x g is)) (taken_small g.map key (removal g.map.table key))))))
 
-    load_covered : (refused : Bool) → Agree (λ g u. IsCalled g shapes s u) (call_facts shapes s.at LoadBytes f) (called refused LoadBytes s)
+    load_covered : (refused : Bool) → Agree (λ g u. CallIsAdmitted g shapes s u) (call_facts shapes s.at LoadBytes f) (called refused LoadBytes s)
     load_covered refused =
-        readable_agree (λ g u. IsCalled g shapes s u) (kind_at f 1) _ _ (λ r1. readable_agree (λ g u. IsCalled g shapes s u) (kind_at f 2) _ _ (λ r2.
-        readable_agree (λ g u. IsCalled g shapes s u) (kind_at f 3) _ _ (λ r3. readable_agree (λ g u. IsCalled g shapes s u) (kind_at f 4) _ _ (λ r4.
-        also_agree Anything (λ g u. IsCalled g shapes s u) _ _ _ _ (context_agrees 1 (kind_at f 1) r1 (kinds 1)) (λ _ _ _.
-        also_agree InRange (λ g u. IsCalled g shapes s u) _ _ _ _ (number_agrees 2 (kind_at f 2) r2 (kinds 2)) (λ _ offset _.
-        also_agree InRange (λ g u. IsCalled g shapes s u) _ _ _ _ (length_agrees 4 (kind_at f 4) r4 (kinds 4)) (λ range n within.
+        readable_agree (λ g u. CallIsAdmitted g shapes s u) (kind_at f 1) _ _ (λ r1. readable_agree (λ g u. CallIsAdmitted g shapes s u) (kind_at f 2) _ _ (λ r2.
+        readable_agree (λ g u. CallIsAdmitted g shapes s u) (kind_at f 3) _ _ (λ r3. readable_agree (λ g u. CallIsAdmitted g shapes s u) (kind_at f 4) _ _ (λ r4.
+        also_agree Anything (λ g u. CallIsAdmitted g shapes s u) _ _ _ _ (context_agrees 1 (kind_at f 1) r1 (kinds 1)) (λ _ _ _.
+        also_agree InRange (λ g u. CallIsAdmitted g shapes s u) _ _ _ _ (number_agrees 2 (kind_at f 2) r2 (kinds 2)) (λ _ offset _.
+        also_agree InRange (λ g u. CallIsAdmitted g shapes s u) _ _ _ _ (length_agrees 4 (kind_at f 4) r4 (kinds 4)) (λ range n within.
         let bs = packet_bytes s.packet offset n in let read = packet_read s.packet offset n still.proper.packet in
-        also_agree (IsFilled bs) (λ g u. IsCalled g shapes s u) _ _ _ _ (output_agrees 3 range (kind_at f 3) bs r3 (kinds 3) read.1 (subst (λ k. IsMember k range) (sym read.0) within)) (λ g u filled.
+        also_agree (IsFilled bs) (λ g u. CallIsAdmitted g shapes s u) _ _ _ _ (output_agrees 3 range (kind_at f 3) bs r3 (kinds 3) read.1 (subst (λ k. IsMember k range) (sym read.0) within)) (λ g u filled.
         record {
           witness = witness;
           still = laws.call witness g shapes u any_number (Scalar (packet_answer s.packet offset n)) filled.known (any_is witness (packet_answer s.packet offset n) (answer_small s.packet offset n));
           at = filled.same_at;
         }))))))))
 
-    pub all_covered : (refused : Bool) (h : Helper) → Agree (λ g u. IsCalled g shapes s u) (call_facts shapes s.at h f) (called refused h s)
+    pub all_covered : (refused : Bool) (h : Helper) → Agree (λ g u. CallIsAdmitted g shapes s u) (call_facts shapes s.at h f) (called refused h s)
     all_covered refused LookUp = look_up_covered refused
     all_covered refused Update = update_covered refused
     all_covered refused Delete = delete_covered refused
@@ -319,4 +319,4 @@ module _ (laws : Laws) (witness : Witness) (shapes : Shapes) (f : Facts) (s : St
 
 pub calls_are_sound : Laws → CallsAreSound
 calls_are_sound laws witness refused shapes h f g s below still e =
-    from_agree (λ g u. IsCalled g shapes s u) (call_facts shapes s.at h f) (called refused h s) g (all_covered laws witness shapes f s still below refused h) e
+    from_agree (λ g u. CallIsAdmitted g shapes s u) (call_facts shapes s.at h f) (called refused h s) g (all_covered laws witness shapes f s still below refused h) e

@@ -9,7 +9,7 @@ use Rattle.interval.specs.declared.range.Range.{Range}
 use Rattle.interval.specs.Ranges.{IsMember}
 use Rattle.interval.specs.Words.{unsigned}
 use Rattle.interval.specs.Compare.{compares}
-use Rattle.interval.specs.Refine.{Pair, refined, IsPairOn}
+use Rattle.interval.specs.Refine.{RangePair, refined, IsPairOn}
 use Rattle.interval.specs.Laws.{EdgesKeepMembers, EdgesAreWords, IsPairOfWords}
 use Rattle.insn_codec.specs.declared.insn.Condition.{Condition}
 use Rattle.insn_codec.specs.declared.insn.Condition.TheVariants as condition
@@ -26,12 +26,13 @@ use Rattle.tagged_model.specs.declared.value.Tagged.{Tagged}
 use Rattle.tagged_model.specs.declared.value.Tagged.TheVariants.{Scalar, Pointer}
 use Rattle.tagged_model.specs.Operators.{width, comparison_of}
 use Rattle.tagged_model.specs.Values.{is_null_test, holds_of_pointers, compared}
-use Rattle.tagged_model.specs.State.{State, at_slot}
-use Rattle.tagged_model.specs.Step.{goes, need, operand, natural, branched}
+use Rattle.tagged_model.specs.State.{RunState, at_slot}
+use Rattle.tagged_model.specs.Step.{goes, need, operand, branched}
+use Rattle.insn_codec.specs.Flow.{natural}
 use Rattle.tagged_model.specs.Laws.{NullTestAdmits}
 use Rattle.tagged_model.specs.Admits.{IsLookup}
 use Rattle.transfer.specs.Branches.{Edges, with_source, with_pair, is_same, number_edges, null_edges, settled_edges, branch_edges}
-use Rattle.transfer.specs.Sound.{IsOn}
+use Rattle.transfer.specs.Sound.{EdgeAdmits}
 use Rattle.transfer.proofs.Parts.{Here, IsFound, IsKnown, IsCovered, IsCoveredIf}
 use Rattle.transfer.proofs.States.{scalar_of, known_more, goes_to}
 use Rattle.transfer.proofs.Values.{by_number}
@@ -56,19 +57,19 @@ words laws false = laws.words_narrow
 -- ---- one edge
 
 -- the edge is there, and its facts hold of the state
-abbrev IsKnownOn : Here → Option Facts → State → Type 0
+abbrev IsKnownOn : Here → Option Facts → RunState → Type 0
 IsKnownOn here None s = ⊥
 IsKnownOn here (Some f) s = IsKnown here f s
 
-on_edge : (here : Here) (o : Option Facts) (s : State) (n : ℕ) → IsKnownOn here o s → IsOn here.shapes o (Some n) (at_slot n s)
+on_edge : (here : Here) (o : Option Facts) (s : RunState) (n : ℕ) → IsKnownOn here o s → EdgeAdmits here.shapes o (Some n) (at_slot n s)
 on_edge here None s n h = h
 on_edge here (Some f) s n h = goes_to here f s n h
 
-pub jump_covered : (here : Here) (next : ℕ) (target : Option ℕ) (e : Edges) (s : State) → IsSome target → IsKnownOn here e.jumping s → IsCovered here next target e (need target (λ n. goes (at_slot n s)))
+pub jump_covered : (here : Here) (next : ℕ) (target : Option ℕ) (e : Edges) (s : RunState) → IsSome target → IsKnownOn here e.jumping s → IsCovered here next target e (need target (λ n. goes (at_slot n s)))
 jump_covered here next None e s there h = absurd (false≢true there)
 jump_covered here next (Some n) e s there h = inr (on_edge here e.jumping s n h)
 
-module _ (here : Here) (laws : Comparisons) (f : Facts) (s : State) (known : IsKnown here f s) (off : ℤ) (there : IsSome (natural (pos (s.at + 1) +ℤ off))) where
+module _ (here : Here) (laws : Comparisons) (f : Facts) (s : RunState) (known : IsKnown here f s) (off : ℤ) (there : IsSome (natural (pos (s.at + 1) +ℤ off))) where
   abbrev Target : Option ℕ
   Target = natural (pos (s.at + 1) +ℤ off)
 
@@ -91,7 +92,7 @@ module _ (here : Here) (laws : Comparisons) (f : Facts) (s : State) (known : IsK
     source_known g (Imm z) b e m h k = k
     source_known g (Reg n) b e m h k = known_more here g s k n (kind.Scalar b) (Scalar y) e (scalar_of here b y m h)
 
-    pair_known : (o : Option Pair) → IsPairOn o x y → IsPairOfWords o → IsKnownOn here (option_map (with_pair f dst src) o) s
+    pair_known : (o : Option RangePair) → IsPairOn o x y → IsPairOfWords o → IsKnownOn here (option_map (with_pair f dst src) o) s
     pair_known None m h = m
     pair_known (Some p) m h = source_known _ src p.1 second m.1 h.1 (known_more here f s known dst (kind.Scalar p.0) (Scalar x) first (scalar_of here p.0 x m.0 h.0))
 

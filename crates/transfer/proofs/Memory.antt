@@ -9,8 +9,8 @@ use Rattle.interval.specs.Ranges.{full}
 use Rattle.reg_kinds.specs.declared.kind.Kind.{Kind}
 use Rattle.reg_kinds.specs.declared.kind.Kind.TheVariants as kind
 use Rattle.reg_kinds.specs.declared.facts.Facts.{Facts}
-use Rattle.reg_kinds.specs.declared.stack.Size.{Size}
-use Rattle.reg_kinds.specs.declared.stack.Size.TheVariants.{Word}
+use Rattle.reg_kinds.specs.declared.stack.AccessSize.{AccessSize}
+use Rattle.reg_kinds.specs.declared.stack.AccessSize.TheVariants.{Word}
 use Rattle.reg_kinds.specs.declared.reason.Reason.TheVariants.{ContextAccess, PointerStored}
 use Rattle.reg_kinds.specs.Stack.{bytes_of, loaded, stack_read, stack_write}
 use Rattle.tagged_model.specs.Admits.{HasMaps}
@@ -21,7 +21,7 @@ use Rattle.reg_kinds.specs.Reason.{given}
 use Rattle.tagged_model.specs.declared.value.Tagged.{Tagged}
 use Rattle.tagged_model.specs.declared.value.Tagged.TheVariants.{Scalar}
 use Rattle.tagged_model.specs.Cells.{also, number_from, write_cell}
-use Rattle.tagged_model.specs.State.{State, with_cell, stack_place, stack_load, stack_store, word_at, context_load, object_bytes, object_stored, load, store}
+use Rattle.tagged_model.specs.State.{RunState, with_cell, stack_place, stack_load, stack_store, word_at, context_load, object_bytes, object_stored, load, store}
 use Rattle.tagged_model.specs.Laws.{StackReadAdmits, StackWriteAdmits, ValueLoadAdmits, ValueStoreAdmits}
 use Rattle.transfer.specs.Effects.{is_word, context_read, load_kind, stored_outside, store_facts}
 use Rattle.transfer.specs.Calls.{room_of}
@@ -49,11 +49,11 @@ given_ok (Ok u) x y e = (refl, cc)
 given_ok (Err reason) x y e = absurd (refused reason y e)
 
 -- what is known after a store, which does not go on by itself
-pub record IsStored (here : Here) (s : State) (g : Facts) (t : State) : Type 0 where
+pub record IsStored (here : Here) (s : RunState) (g : Facts) (t : RunState) : Type 0 where
   pub known : IsKnown here g t
   pub at : t.at ≡ s.at
 
-module _ (here : Here) (f : Facts) (s : State) (known : IsKnown here f s) where
+module _ (here : Here) (f : Facts) (s : RunState) (known : IsKnown here f s) where
   word_of : (w : ℕ) → w < 2 ^ 32 → IsKindOf here (kind.Scalar (full 32)) (Scalar w)
   word_of w h = scalar_of here (full 32) w (record { from = omega arith; to = omega arith }) (omega arith)
 
@@ -72,19 +72,19 @@ module _ (here : Here) (f : Facts) (s : State) (known : IsKnown here f s) where
   word_if (pos y) t = let h = and_parts (y % 4 == 0) (nat_lt y 44) t in word_agrees y (eqb-true (y % 4) 0 h.0) (ltb-true y 44 h.1)
   word_if (negsuc y) t = absurd (false≢true t)
 
-  context_agrees : (y : ℤ) (size : Size) (signed : Bool) → Gives here (context_read y size signed) (context_load s y size signed)
+  context_agrees : (y : ℤ) (size : AccessSize) (signed : Bool) → Gives here (context_read y size signed) (context_load s y size signed)
   context_agrees y Word false = cond_both (is_word y) (Ok (kind.Scalar (full 32))) (Err ContextAccess) (λ r. Gives here r (context_load s y Word false)) (word_if y) (λ _. tt)
   context_agrees y size signed = tt
 
   -- ---- loads
 
-  stack_load_agrees : StackReadAdmits → (x : ℤ) (size : Size) (signed : Bool) → Gives here (stack_read f x size signed) (stack_load s x size signed)
+  stack_load_agrees : StackReadAdmits → (x : ℤ) (size : AccessSize) (signed : Bool) → Gives here (stack_read f x size signed) (stack_load s x size signed)
   stack_load_agrees law x size signed =
       by_law (IsKindOf here) (stack_read f x size signed) (stack_load s x size signed)
       (λ k e. let h = law here.witness f s x size signed k known.proper known.admits e in
       (h.0, h.1, record { is = h.2; words = ok_is (IsKindAt here.slot) (stack_read f x size signed) k (read_words here.slot f x size signed known.words) e }))
 
-  value_load_agrees : ValueLoadAdmits → (size : Size) (signed : Bool) (off : ℤ) (p : ValuePointer) (number : ℕ) (x : ℤ) (o : Option MapShape) → here.shapes p.map ≡ o → p.lo ≤ℤ x → x ≤ℤ p.hi → number < here.witness.objects p.map
+  value_load_agrees : ValueLoadAdmits → (size : AccessSize) (signed : Bool) (off : ℤ) (p : ValuePointer) (number : ℕ) (x : ℤ) (o : Option MapShape) → here.shapes p.map ≡ o → p.lo ≤ℤ x → x ≤ℤ p.hi → number < here.witness.objects p.map
       → Gives here (given (room_of p off (bytes_of size) o) (λ _. Ok (loaded size signed))) (number_from size signed (object_bytes s p.map number (x +ℤ off) (bytes_of size)))
   value_load_agrees law size signed off p number x None e from to lt = tt
   value_load_agrees law size signed off p number x (Some shape) e from to lt =
@@ -94,7 +94,7 @@ module _ (here : Here) (f : Facts) (s : State) (known : IsKnown here f s) where
       let h = law here.witness s p.map number shape (x +ℤ off) size signed known.proper (owned here.witness here.shapes f s (still_of here f s known) p.map number shape e lt) room.low room.high in
       (h.0, h.1, subst (λ k. IsKindOf here k h.0) c.1 (record { is = h.2; words = loaded_words here.slot size signed })))
 
-  pub load_agrees : Accesses → (size : Size) (signed : Bool) (off : ℤ) (k : Kind) (v : Tagged) → IsKindOf here k v → Gives here (load_kind here.shapes f size signed off k) (load s size signed v off)
+  pub load_agrees : Accesses → (size : AccessSize) (signed : Bool) (off : ℤ) (k : Kind) (v : Tagged) → IsKindOf here k v → Gives here (load_kind here.shapes f size signed off k) (load s size signed v off)
   load_agrees laws size signed off (kind.Stack x) v h = subst (λ v. Gives here (load_kind here.shapes f size signed off (kind.Stack x)) (load s size signed v off)) (sym h.is) (stack_load_agrees laws.reads (x +ℤ off) size signed)
   load_agrees laws size signed off kind.Ctx v h =
       subst (λ v. Gives here (context_read off size signed) (load s size signed v off)) (sym h.is)
@@ -107,17 +107,17 @@ module _ (here : Here) (f : Facts) (s : State) (known : IsKnown here f s) where
   -- ---- stores
 
   -- a store into the stack changes neither the slot nor the maps
-  abbrev Stays : State → Type 0
+  abbrev Stays : RunState → Type 0
   Stays t = (t.at ≡ s.at) × HasMaps here.shapes t
 
-  stays : (y : ℤ) (size : Size) (v : Tagged) → SomeIs Stays (stack_store s y size v)
+  stays : (y : ℤ) (size : AccessSize) (v : Tagged) → SomeIs Stays (stack_store s y size v)
   stays y size v = also_stays (stack_place y size) (λ p. also (write_cell (s.cells (p / 8)) (p % 8) size v) (λ c. Some (with_cell s (p / 8) c))) (λ p. also_stays (write_cell (s.cells (p / 8)) (p % 8) size v) (λ c. Some (with_cell s (p / 8) c)) (λ c. (refl, known.maps)))
     where
-      also_stays : {A : Type 0} (o : Option A) (on : A → Option State) → ((x : A) → SomeIs Stays (on x)) → SomeIs Stays (also o on)
+      also_stays : {A : Type 0} (o : Option A) (on : A → Option RunState) → ((x : A) → SomeIs Stays (on x)) → SomeIs Stays (also o on)
       also_stays None on h = tt
       also_stays (Some x) on h = h x
 
-  stack_store_agrees : StackWriteAdmits → (x : ℤ) (size : Size) (k : Kind) (v : Tagged) → IsKindOf here k v → Agree (IsStored here s) (stack_write f x size k) (stack_store s x size v)
+  stack_store_agrees : StackWriteAdmits → (x : ℤ) (size : AccessSize) (k : Kind) (v : Tagged) → IsKindOf here k v → Agree (IsStored here s) (stack_write f x size k) (stack_store s x size v)
   stack_store_agrees law x size k v is =
       by_law (IsStored here s) (stack_write f x size k) (stack_store s x size v)
       (λ g e. let h = law here.witness f g s x size k v known.proper known.admits is.is e in
@@ -130,7 +130,7 @@ module _ (here : Here) (f : Facts) (s : State) (known : IsKnown here f s) where
         },
       ))
 
-  value_store_agrees : ValueStoreAdmits → (size : Size) (off : ℤ) (p : ValuePointer) (number : ℕ) (x : ℤ) (n : ℕ) (o : Option MapShape) → here.shapes p.map ≡ o → p.lo ≤ℤ x → x ≤ℤ p.hi → number < here.witness.objects p.map
+  value_store_agrees : ValueStoreAdmits → (size : AccessSize) (off : ℤ) (p : ValuePointer) (number : ℕ) (x : ℤ) (n : ℕ) (o : Option MapShape) → here.shapes p.map ≡ o → p.lo ≤ℤ x → x ≤ℤ p.hi → number < here.witness.objects p.map
       → Agree (IsStored here s) (given (room_of p off (bytes_of size) o) (λ _. Ok f)) (object_stored s size p.map number (x +ℤ off) (Scalar n))
   value_store_agrees law size off p number x n None e from to lt = tt
   value_store_agrees law size off p number x n (Some shape) e from to lt =
@@ -142,7 +142,7 @@ module _ (here : Here) (f : Facts) (s : State) (known : IsKnown here f s) where
       (h.0, h.1, subst (λ g. IsStored here s g h.0) c.1 (record { known = record { admits = h.2.admits; words = known.words; proper = h.2.proper; maps = h.2.maps }; at = h.3 })))
 
   -- a number is stored, and nothing else
-  outside_agrees : ValueStoreAdmits → (size : Size) (off : ℤ) (p : ValuePointer) (number : ℕ) (x : ℤ) (l : Kind) (v : Tagged) → IsKindOf here l v → IsReadable l → p.lo ≤ℤ x → x ≤ℤ p.hi → number < here.witness.objects p.map
+  outside_agrees : ValueStoreAdmits → (size : AccessSize) (off : ℤ) (p : ValuePointer) (number : ℕ) (x : ℤ) (l : Kind) (v : Tagged) → IsKindOf here l v → IsReadable l → p.lo ≤ℤ x → x ≤ℤ p.hi → number < here.witness.objects p.map
       → Agree (IsStored here s) (given (room_of p off (bytes_of size) (here.shapes p.map)) (λ _. stored_outside f l)) (object_stored s size p.map number (x +ℤ off) v)
   outside_agrees law size off p number x kind.Unreadable v is r from to lt = absurd r
   outside_agrees law size off p number x (kind.Scalar range) v is r from to lt =
@@ -154,7 +154,7 @@ module _ (here : Here) (f : Facts) (s : State) (known : IsKnown here f s) where
       never (Ok u) = tt
       never (Err e) = tt
 
-  pub store_agrees : Accesses → (size : Size) (off : ℤ) (k l : Kind) (p v : Tagged) → IsKindOf here k p → IsKindOf here l v → IsReadable l → Agree (IsStored here s) (store_facts here.shapes f size off k l) (store s size p off v)
+  pub store_agrees : Accesses → (size : AccessSize) (off : ℤ) (k l : Kind) (p v : Tagged) → IsKindOf here k p → IsKindOf here l v → IsReadable l → Agree (IsStored here s) (store_facts here.shapes f size off k l) (store s size p off v)
   store_agrees laws size off (kind.Stack x) l p v h is r = subst (λ p. Agree (IsStored here s) (stack_write f (x +ℤ off) size l) (store s size p off v)) (sym h.is) (stack_store_agrees laws.writes (x +ℤ off) size l v is)
   store_agrees laws size off (kind.Value q) l p v h is r =
       subst (λ p. Agree (IsStored here s) (store_facts here.shapes f size off (kind.Value q) l) (store s size p off v)) (sym h.is.2)

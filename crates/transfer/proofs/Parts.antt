@@ -7,13 +7,14 @@ use Rattle.reg_kinds.specs.declared.facts.Facts.{Facts}
 use Rattle.reg_kinds.specs.declared.reason.Reason.{Reason}
 use Rattle.reg_kinds.specs.Reason.{given}
 use Rattle.tagged_model.specs.declared.value.Tagged.{Tagged}
-use Rattle.tagged_model.specs.State.{State, at_slot, with_refusal}
+use Rattle.tagged_model.specs.State.{RunState, at_slot, with_refusal}
 use Rattle.tagged_model.specs.Step.{Step, goes, ends, faults, need}
-use Rattle.tagged_model.specs.Admits.{Witness, IsOf, AdmitsBy, IsProper, HasMaps}
+use Rattle.tagged_model.specs.Admits.{Witness, IsOfKind, AdmitsBy, IsInRange, HasMaps}
 use Rattle.tagged_model.specs.Named.{Shapes}
 use Rattle.tagged_model.specs.Laws.{Describes}
 use Rattle.transfer.specs.Branches.{Edges}
-use Rattle.transfer.specs.Sound.{IsKindAt, AreWellFormedAt, falls_to, jumps_to, IsOn, Covers}
+use Rattle.transfer.specs.Sound.{IsKindAt, AreWellFormedAt, EdgeAdmits, CoversStep}
+use Rattle.insn_codec.specs.Flow.{falls_to, jumps_to}
 
 -- ---- results
 
@@ -63,7 +64,7 @@ pub record Here : Type 0 where
 
 -- the value is of the kind, which speaks of words
 pub record IsKindOf (here : Here) (k : Kind) (v : Tagged) : Type 0 where
-  pub is : IsOf here.witness k v
+  pub is : IsOfKind here.witness k v
   pub words : IsKindAt here.slot k
 
 -- where the kind is told, the value is there, and of it
@@ -83,17 +84,17 @@ pub record IsFound (here : Here) (o : Option Tagged) (k : Kind) (v : Tagged) : T
 -- ---- states
 
 -- what is known of a state
-pub record IsKnown (here : Here) (f : Facts) (s : State) : Type 0 where
+pub record IsKnown (here : Here) (f : Facts) (s : RunState) : Type 0 where
   pub admits : AdmitsBy here.witness f s
   pub words : AreWellFormedAt here.slot f
-  pub proper : IsProper s
+  pub proper : IsInRange s
   pub maps : HasMaps here.shapes s
 
-pub still_of : (here : Here) (f : Facts) (s : State) → IsKnown here f s → Describes here.witness f here.shapes s
+pub still_of : (here : Here) (f : Facts) (s : RunState) → IsKnown here f s → Describes here.witness f here.shapes s
 still_of here f s known = record { admits = known.admits; proper = known.proper; maps = known.maps }
 
 -- all is known still at another slot, and where a refusal of memory is noted
-module _ (witness : Witness) (f : Facts) (shapes : Shapes) (s : State) (still : Describes witness f shapes s) where
+module _ (witness : Witness) (f : Facts) (shapes : Shapes) (s : RunState) (still : Describes witness f shapes s) where
   pub still_at : (n : ℕ) → Describes witness f shapes (at_slot n s)
   still_at n =
       record {
@@ -113,7 +114,7 @@ module _ (witness : Witness) (f : Facts) (shapes : Shapes) (s : State) (still : 
 -- ---- steps, from a slot whose edges lead to `next` and `target`
 
 abbrev pub IsCovered : Here → ℕ → Option ℕ → Edges → Step → Type 0
-IsCovered here next target e (goes t) = IsOn here.shapes e.falling (Some next) t ⊎ IsOn here.shapes e.jumping target t
+IsCovered here next target e (goes t) = EdgeAdmits here.shapes e.falling (Some next) t ⊎ EdgeAdmits here.shapes e.jumping target t
 IsCovered here next target e (ends n) = n < 2 ^ 32
 IsCovered here next target e faults = ⊥
 
@@ -127,8 +128,8 @@ then_covered here next target P (Err e) o go on h further = tt
 then_covered here next target P (Ok x) None go on h further = absurd h
 then_covered here next target P (Ok x) (Some y) go on h further = further x y h
 
-pub covers : (here : Here) (i : Insn) (at : ℕ) (r : Result Edges Reason) (e : Edges) (step : Step) → IsCoveredIf here (falls_to i at) (jumps_to i at) r step → r ≡ Ok e → Covers here.shapes i at e step
+pub covers : (here : Here) (i : Insn) (at : ℕ) (r : Result Edges Reason) (e : Edges) (step : Step) → IsCoveredIf here (falls_to i at) (jumps_to i at) r step → r ≡ Ok e → CoversStep here.shapes i at e step
 covers here i at (Err reason) e step h q = absurd (refused reason e q)
-covers here i at (Ok d) e (goes t) h q = subst (λ e. Covers here.shapes i at e (goes t)) (same_ok d e q) h
+covers here i at (Ok d) e (goes t) h q = subst (λ e. CoversStep here.shapes i at e (goes t)) (same_ok d e q) h
 covers here i at (Ok d) e (ends n) h q = h
 covers here i at (Ok d) e faults h q = h

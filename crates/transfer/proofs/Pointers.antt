@@ -18,12 +18,12 @@ use Rattle.tagged_model.specs.declared.value.Object.TheVariants as object
 use Rattle.tagged_model.specs.declared.value.Tagged.TheVariants.{Pointer}
 use Rattle.tagged_model.specs.Values.{is_near, moved}
 use Rattle.tagged_model.specs.Cells.{also}
-use Rattle.transfer.specs.declared.arithmetic.Way.{Way}
-use Rattle.transfer.specs.declared.arithmetic.Way.TheVariants.{Forwards, Backwards}
+use Rattle.transfer.specs.declared.arithmetic.Direction.{Direction}
+use Rattle.transfer.specs.declared.arithmetic.Direction.TheVariants.{Forwards, Backwards}
 use Rattle.transfer.specs.Arithmetic.{Distance, distance, near_offset, moved_offset, near, stack_moved, spanned, value_by, pointer_moved}
 use Rattle.transfer.proofs.Parts.{Here, SomeIs, Gives}
 
-abbrev pub shifted : Way → ℤ → ℤ → ℤ
+abbrev pub shifted : Direction → ℤ → ℤ → ℤ
 shifted Forwards x d = x +ℤ d
 shifted Backwards x d = x -ℤ d
 
@@ -98,7 +98,7 @@ module _ (here : Here) where
         | false ↦ tt
       ]
 
-  stack_by : (way : Way) (x : ℤ) (o : Option Distance) (z : ℤ) → SomeIs (λ d. d.0 ≡ z) o → Gives here (stack_kind (also o (λ d. moved_offset way x d.0))) (moved object.Stack (shifted way x z))
+  stack_by : (way : Direction) (x : ℤ) (o : Option Distance) (z : ℤ) → SomeIs (λ d. d.0 ≡ z) o → Gives here (stack_kind (also o (λ d. moved_offset way x d.0))) (moved object.Stack (shifted way x z))
   stack_by way x None z h = tt
   stack_by Forwards x (Some d) z h = subst (λ e. Gives here (stack_kind (near_offset (x +ℤ d.0))) (moved object.Stack (x +ℤ e))) h (stack_at (x +ℤ d.0))
   stack_by Backwards x (Some d) z h = subst (λ e. Gives here (stack_kind (near_offset (x -ℤ d.0))) (moved object.Stack (x -ℤ e))) h (stack_at (x -ℤ d.0))
@@ -110,7 +110,7 @@ module _ (here : Here) where
   same_number : (lo hi n : ℕ) → lo ≤ n → n ≤ hi → lo ≡ hi → lo ≡ n
   same_number lo hi n a b e = omega arith
 
-  pub stack_agrees : (way : Way) (x : ℤ) (r : Range) (n : ℕ) → IsMember n r → Gives here (pointer_moved way (kind.Stack x) r) (moved object.Stack (shifted way x (signed 64 n)))
+  pub stack_agrees : (way : Direction) (x : ℤ) (r : Range) (n : ℕ) → IsMember n r → Gives here (pointer_moved way (kind.Stack x) r) (moved object.Stack (shifted way x (signed 64 n)))
   stack_agrees way x r n m =
       cond_both (is_constant r) (stack_moved way x r) (Err PointerArithmetic) (λ a. Gives here a (moved object.Stack (shifted way x (signed 64 n))))
       (λ e. stack_by way x (distance r) (signed 64 n) (least_is r.lo n (distance r) (same_number r.lo r.hi n m.from m.to (eqb-true r.lo r.hi e)) (distance_holds r n m)))
@@ -131,12 +131,12 @@ module _ (here : Here) where
   difference_from : (x y c d : ℤ) → x ≤ℤ y → c ≤ℤ d → (x -ℤ d) ≤ℤ (y -ℤ c)
   difference_from x y c d h g = omega (arith, ints)
 
-  value_at : (way : Way) (p : ValuePointer) (lo n number : ℕ) (o : Option Distance) (x : ℤ) → number < here.witness.objects p.map → p.lo ≤ℤ x → x ≤ℤ p.hi → SomeIs (IsBetween lo n) o → Gives here (value_kind (also o (value_by way p))) (moved (object.Value p.map number) (shifted way x (signed 64 n)))
+  value_at : (way : Direction) (p : ValuePointer) (lo n number : ℕ) (o : Option Distance) (x : ℤ) → number < here.witness.objects p.map → p.lo ≤ℤ x → x ≤ℤ p.hi → SomeIs (IsBetween lo n) o → Gives here (value_kind (also o (value_by way p))) (moved (object.Value p.map number) (shifted way x (signed 64 n)))
   value_at way p lo n number None x owned a b h = tt
   value_at Forwards p lo n number (Some d) x owned a b h =
       span_agrees p.map number (p.lo +ℤ d.0) (p.hi +ℤ d.1) (x +ℤ signed 64 n) owned (sum_from p.lo x d.0 (signed 64 n) a h.from) (sum_from x p.hi (signed 64 n) d.1 b h.to)
   value_at Backwards p lo n number (Some d) x owned a b h =
       span_agrees p.map number (p.lo -ℤ d.1) (p.hi -ℤ d.0) (x -ℤ signed 64 n) owned (difference_from p.lo x (signed 64 n) d.1 a h.to) (difference_from x p.hi d.0 (signed 64 n) b h.from)
 
-  pub value_agrees : (way : Way) (p : ValuePointer) (r : Range) (n number : ℕ) (x : ℤ) → IsMember n r → number < here.witness.objects p.map → p.lo ≤ℤ x → x ≤ℤ p.hi → Gives here (pointer_moved way (kind.Value p) r) (moved (object.Value p.map number) (shifted way x (signed 64 n)))
+  pub value_agrees : (way : Direction) (p : ValuePointer) (r : Range) (n number : ℕ) (x : ℤ) → IsMember n r → number < here.witness.objects p.map → p.lo ≤ℤ x → x ≤ℤ p.hi → Gives here (pointer_moved way (kind.Value p) r) (moved (object.Value p.map number) (shifted way x (signed 64 n)))
   value_agrees way p r n number x m owned a b = value_at way p r.lo n number (distance r) x owned a b (distance_holds r n m)

@@ -8,14 +8,14 @@ use Rattle.reg_kinds.specs.declared.reason.Reason.{Reason}
 use Rattle.reg_kinds.specs.declared.reason.Reason.TheVariants.{OutsideValue}
 use Rattle.tagged_model.specs.declared.shape.MapShape.{MapShape}
 use Rattle.tagged_model.specs.Named.{Shapes}
-use Rattle.tagged_model.specs.State.{State}
+use Rattle.tagged_model.specs.State.{RunState}
 use Rattle.tagged_model.specs.Admits.{Witness, objects_of}
 use Rattle.tagged_model.specs.Laws.{IsObject, Describes}
 use Rattle.transfer.specs.Calls.{room_of}
 use Rattle.transfer.proofs.Parts.{refused}
 
 -- an object that a pointer leads to
-pub owned : (witness : Witness) (shapes : Shapes) (f : Facts) (s : State) → Describes witness f shapes s → (m number : ℕ) (shape : MapShape) → shapes m ≡ Some shape → number < witness.objects m → IsObject s m number shape
+pub owned : (witness : Witness) (shapes : Shapes) (f : Facts) (s : RunState) → Describes witness f shapes s → (m number : ℕ) (shape : MapShape) → shapes m ≡ Some shape → number < witness.objects m → IsObject s m number shape
 owned witness shapes f s still m number shape e lt =
     let h = still.maps m shape e in
     let le : witness.objects m ≤ h.0.count = subst (λ o. witness.objects m ≤ objects_of o) h.1 (still.admits.objects m) in

@@ -17,8 +17,8 @@ use Rattle.reg_kinds.specs.declared.kind.Kind.TheVariants as kind
 use Rattle.reg_kinds.specs.declared.kind.Slot.{Slot}
 use Rattle.reg_kinds.specs.declared.kind.Slot.TheVariants.{Bytes, Spill}
 use Rattle.reg_kinds.specs.declared.facts.Facts.{Facts}
-use Rattle.reg_kinds.specs.declared.stack.Size.{Size}
-use Rattle.reg_kinds.specs.declared.stack.Size.TheVariants.{Word}
+use Rattle.reg_kinds.specs.declared.stack.AccessSize.{AccessSize}
+use Rattle.reg_kinds.specs.declared.stack.AccessSize.TheVariants.{Word}
 use Rattle.reg_kinds.specs.declared.reason.Reason.{Reason}
 use Rattle.reg_kinds.specs.declared.reason.Reason.TheVariants.{UnknownHelper, DescriptorNotMap, PointerArithmetic, MaybeNull, ContextAccess, PointerComparison, OutsideStack, UnwrittenStack, PartOfSpill, OutsideValue, PointerStored, LengthUnbounded, Memory}
 use Rattle.reg_kinds.specs.Reason.{given}
@@ -27,11 +27,11 @@ use Rattle.reg_kinds.specs.Stack.{bytes_of, is_whole, is_in_stack, is_aligned, p
 use Rattle.tagged_model.specs.Operators.{operator_of, narrow_of, order_of, kept_of, size_of}
 use Rattle.tagged_model.specs.Values.{is_null_test}
 use Rattle.tagged_model.specs.Cells.{also}
-use Rattle.transfer.specs.declared.arithmetic.Way.{Way}
-use Rattle.transfer.specs.declared.arithmetic.Way.TheVariants.{Forwards, Backwards}
+use Rattle.transfer.specs.declared.arithmetic.Direction.{Direction}
+use Rattle.transfer.specs.declared.arithmetic.Direction.TheVariants.{Forwards, Backwards}
 use Rattle.transfer.specs.Arithmetic.{readable, near, stack_moved, value_by, distance, moved_offset, pointer_moved, is_maybe, of_scalars, of_scalar, sum_kind, difference_kind, unless_maybe, arithmetic_kind}
 use Rattle.transfer.specs.Branches.{Edges, falls, pointer_edges, branch_edges}
-use Rattle.transfer.specs.Effects.{source_kind, first_kind, assigns, is_word, context_read, load_kind, stored_outside, store_facts, map_of, known, ends_with, effect}
+use Rattle.transfer.specs.Effects.{source_kind, first_kind, assigns, is_word, context_read, load_kind, stored_outside, store_facts, map_of, known, exits_with, effect}
 use Rattle.transfer.specs.Reasons.{IsOfOperands, IsReasonOf, TransferReasons}
 use Rattle.transfer.specs.Calls.{shaped, map_kind, room_of, input_kind, output_facts, number_kind, length_kind, context_kind, call_facts}
 use Rattle.interval.specs.Words.{unsigned}
@@ -68,10 +68,10 @@ near_rule : {A : Type 0} (o : Option A) → ByRule (near o)
 near_rule None = tt
 near_rule (Some x) = tt
 
-stack_moved_rule : (way : Way) (x : ℤ) (r : Range) → ByRule (stack_moved way x r)
+stack_moved_rule : (way : Direction) (x : ℤ) (r : Range) → ByRule (stack_moved way x r)
 stack_moved_rule way x r = then_rule (near (also (distance r) (λ d. moved_offset way x d.0))) (λ y. Ok (kind.Stack y)) (near_rule _) (λ y. tt)
 
-moved_rule : (way : Way) (k : Kind) (r : Range) → ByRule (pointer_moved way k r)
+moved_rule : (way : Direction) (k : Kind) (r : Range) → ByRule (pointer_moved way k r)
 moved_rule way (kind.Stack x) r = cond_both (is_constant r) (stack_moved way x r) (Err PointerArithmetic) ByRule (λ _. stack_moved_rule way x r) (λ _. tt)
 moved_rule way (kind.Value p) r = then_rule (near (also (distance r) (value_by way p))) (λ q. Ok (kind.Value q)) (near_rule _) (λ q. tt)
 moved_rule way k r = tt
@@ -103,20 +103,20 @@ arithmetic_rule wide op k l = numbers_rule wide (operator_of op) k l
 
 -- ---- memory
 
-context_rule : (y : ℤ) (size : Size) (signed : Bool) → ByRule (context_read y size signed)
+context_rule : (y : ℤ) (size : AccessSize) (signed : Bool) → ByRule (context_read y size signed)
 context_rule y Word false = cond_both (is_word y) (Ok (kind.Scalar (full 32))) (Err ContextAccess) ByRule (λ _. tt) (λ _. tt)
 context_rule y size signed = tt
 
-touched_rule : (offset : ℤ) (size : Size) → ByRule (touched offset size)
+touched_rule : (offset : ℤ) (size : AccessSize) → ByRule (touched offset size)
 touched_rule offset size =
     cond_both (not (is_in_stack offset (bytes_of size))) _ _ ByRule (λ _. tt)
     (λ _. cond_both (not (is_aligned offset (bytes_of size))) _ _ ByRule (λ _. tt) (λ _. tt))
 
-read_slot_rule : (s : Slot) (bits : ℕ) (size : Size) (signed : Bool) → ByRule (read_slot s bits size signed)
+read_slot_rule : (s : Slot) (bits : ℕ) (size : AccessSize) (signed : Bool) → ByRule (read_slot s bits size signed)
 read_slot_rule (Spill k) bits size signed = cond_both (is_whole size) (Ok k) (Err PartOfSpill) ByRule (λ _. tt) (λ _. tt)
 read_slot_rule (Bytes mask) bits size signed = cond_both (bit_and mask bits == bits) (Ok (loaded size signed)) (Err UnwrittenStack) ByRule (λ _. tt) (λ _. tt)
 
-read_rule : (f : Facts) (offset : ℤ) (size : Size) (signed : Bool) → ByRule (stack_read f offset size signed)
+read_rule : (f : Facts) (offset : ℤ) (size : AccessSize) (signed : Bool) → ByRule (stack_read f offset size signed)
 read_rule f offset size signed =
     then_rule (touched offset size) (λ t. read_slot (slot_at f t.0) t.1 size signed) (touched_rule offset size) (λ t. read_slot_rule (slot_at f t.0) t.1 size signed)
 
@@ -124,26 +124,26 @@ room_rule : (p : ValuePointer) (off : ℤ) (n : ℕ) (o : Option MapShape) → B
 room_rule p off n None = tt
 room_rule p off n (Some shape) = cond_both (int_le (pos 0) (p.lo +ℤ off) && int_le ((p.hi +ℤ off) +ℤ pos n) (pos shape.value_size)) (Ok tt) (Err OutsideValue) ByRule (λ _. tt) (λ _. tt)
 
-load_rule : (shapes : Shapes) (f : Facts) (size : Size) (signed : Bool) (off : ℤ) (k : Kind) → ByRule (load_kind shapes f size signed off k)
+load_rule : (shapes : Shapes) (f : Facts) (size : AccessSize) (signed : Bool) (off : ℤ) (k : Kind) → ByRule (load_kind shapes f size signed off k)
 load_rule shapes f size signed off (kind.Stack x) = read_rule f (x +ℤ off) size signed
 load_rule shapes f size signed off kind.Ctx = context_rule off size signed
 load_rule shapes f size signed off (kind.Value p) = then_rule (room_of p off (bytes_of size) (shapes p.map)) (λ _. Ok (loaded size signed)) (room_rule p off (bytes_of size) (shapes p.map)) (λ _. tt)
 load_rule shapes f size signed off k = tt
 
-slot_rule : (s : Slot) (bits : ℕ) (size : Size) (k : Kind) → ByRule (slot_written s bits size k)
+slot_rule : (s : Slot) (bits : ℕ) (size : AccessSize) (k : Kind) → ByRule (slot_written s bits size k)
 slot_rule s bits size k =
     cond_both (is_pointer k) _ _ ByRule
     (λ _. cond_both (is_whole size) (Ok (Spill k)) (Err PartOfSpill) ByRule (λ _. tt) (λ _. tt))
     (λ _. tt)
 
-facts_rule : (f : Facts) (size : Size) (k : Kind) (t : ℕ × ℕ) → ByRule (facts_written f size k t)
+facts_rule : (f : Facts) (size : AccessSize) (k : Kind) (t : ℕ × ℕ) → ByRule (facts_written f size k t)
 facts_rule f size k t = then_rule (slot_written (slot_at f t.0) t.1 size k) (λ s. Ok (with_slot f t.0 s)) (slot_rule (slot_at f t.0) t.1 size k) (λ s. tt)
 
-write_rule : (f : Facts) (offset : ℤ) (size : Size) (k : Kind) → ByRule (stack_write f offset size k)
+write_rule : (f : Facts) (offset : ℤ) (size : AccessSize) (k : Kind) → ByRule (stack_write f offset size k)
 write_rule f offset size kind.Unreadable = tt
 write_rule f offset size k = then_rule (touched offset size) (facts_written f size k) (touched_rule offset size) (facts_rule f size k)
 
-store_rule : (shapes : Shapes) (f : Facts) (size : Size) (off : ℤ) (k v : Kind) → ByRule (store_facts shapes f size off k v)
+store_rule : (shapes : Shapes) (f : Facts) (size : AccessSize) (off : ℤ) (k v : Kind) → ByRule (store_facts shapes f size off k v)
 store_rule shapes f size off (kind.Stack x) v = write_rule f (x +ℤ off) size v
 store_rule shapes f size off (kind.Value p) v =
     then_rule (room_of p off (bytes_of size) (shapes p.map)) (λ _. stored_outside f v) (room_rule p off (bytes_of size) (shapes p.map))
@@ -213,7 +213,7 @@ branch_rule wide cond f dst src (kind.Scalar a) (kind.Scalar b) = tt
 branch_rule wide cond f dst src (kind.Scalar a) l = tt
 branch_rule wide cond f dst src k l = cond_both (is_null_test wide cond src) (Ok (pointer_edges cond f k)) (Err PointerComparison) ByRule (λ _. tt) (λ _. tt)
 
-ends_rule : (k : Kind) → ByRule (ends_with k)
+ends_rule : (k : Kind) → ByRule (exits_with k)
 ends_rule (kind.Scalar r) = tt
 ends_rule k = tt
 
@@ -250,7 +250,7 @@ module _ (shapes : Shapes) (at : ℕ) (f : Facts) where
   insn_rule (Jal off) _ = tt
   insn_rule (Jump wide cond dst src off) _ = register_rule dst _ (λ a. operand_rule wide src _ (λ b. branch_rule wide cond f dst src a b))
   insn_rule (Call id) none = absurd none
-  insn_rule Exit _ = register_rule 0 ends_with ends_rule
+  insn_rule Exit _ = register_rule 0 exits_with ends_rule
   insn_rule (Load l) _ = register_rule l.src _ (λ k. assigns_rule l.dst (load_kind shapes f (size_of l.size) l.signed l.off k) (load_rule shapes f (size_of l.size) l.signed l.off k))
   insn_rule (Store size dst src off) _ =
       register_rule dst _ (λ k. operand_rule true src _

@@ -17,13 +17,13 @@ use Rattle.tagged_model.specs.declared.value.Tagged.{Tagged}
 use Rattle.tagged_model.specs.declared.value.Tagged.TheVariants.{Scalar}
 use Rattle.tagged_model.specs.Operators.{width}
 use Rattle.tagged_model.specs.Values.{first_operand}
-use Rattle.tagged_model.specs.State.{State, set_at, at_slot, with_register}
+use Rattle.tagged_model.specs.State.{RunState, set_at, at_slot, with_register}
 use Rattle.tagged_model.specs.Step.{operand, assigned}
-use Rattle.tagged_model.specs.Admits.{IsOf, HasKind}
+use Rattle.tagged_model.specs.Admits.{IsOfKind, HasKind}
 use Rattle.transfer.specs.Arithmetic.{readable}
 use Rattle.transfer.specs.Branches.{falls}
 use Rattle.transfer.specs.Effects.{source_kind, first_kind}
-use Rattle.transfer.specs.Sound.{IsKindAt, IsOn}
+use Rattle.transfer.specs.Sound.{IsKindAt, EdgeAdmits}
 use Rattle.transfer.proofs.Parts.{Here, Agree, IsKindOf, IsReadable, IsFound, IsKnown, still_of, IsCoveredIf}
 use Rattle.transfer.proofs.Tables.{in_written}
 use Rattle.transfer.proofs.Words.{kind_words}
@@ -49,19 +49,19 @@ word_of false (pos n) = omega arith
 word_of false (negsuc n) = omega arith
 
 module _ (here : Here) where
-  some_kind : (k : Kind) (v : Tagged) → IsOf here.witness k v → HasKind here.witness k (Some v)
+  some_kind : (k : Kind) (v : Tagged) → IsOfKind here.witness k v → HasKind here.witness k (Some v)
   some_kind kind.Unreadable v h = tt
   some_kind k v h = (v, refl, h)
 
   -- of a kind that may be read the value is there
-  there : (o : Option Tagged) (k : Kind) (v : Tagged) → o ≡ Some v → IsReadable k → IsOf here.witness k v → IsKindAt here.slot k → Agree (IsFound here o) (Ok k) o
+  there : (o : Option Tagged) (k : Kind) (v : Tagged) → o ≡ Some v → IsReadable k → IsOfKind here.witness k v → IsKindAt here.slot k → Agree (IsFound here o) (Ok k) o
   there o k v e r h w = subst (Agree (IsFound here o) (Ok k)) (sym e) (record { kind = record { is = h; words = w }; from = e; readable = r })
 
   pub found : (o : Option Tagged) (k : Kind) → HasKind here.witness k o → IsKindAt here.slot k → Agree (IsFound here o) (readable k) o
   found o kind.Unreadable h w = tt
   found o k h w = there o k h.0 h.1 tt h.2 w
 
-  module _ (f : Facts) (s : State) (known : IsKnown here f s) where
+  module _ (f : Facts) (s : RunState) (known : IsKnown here f s) where
     pub register_found : (r : ℕ) → Agree (IsFound here (s.registers r)) (readable (kind_at f r)) (s.registers r)
     register_found r = found (s.registers r) (kind_at f r) (known.admits.registers r) (known.words.registers r)
 
@@ -122,8 +122,8 @@ module _ (here : Here) where
           maps = known.maps;
         }
 
-  pub goes_to : (f : Facts) (s : State) (n : ℕ) → IsKnown here f s → IsOn here.shapes (Some f) (Some n) (at_slot n s)
+  pub goes_to : (f : Facts) (s : RunState) (n : ℕ) → IsKnown here f s → EdgeAdmits here.shapes (Some f) (Some n) (at_slot n s)
   goes_to f s n known = (refl, here.witness, still_of here f (at_slot n s) (moved_to f s known n))
 
-  pub assigned_covered : (f : Facts) (s : State) (n : ℕ) (target : Option ℕ) (r : ℕ) (k : Kind) (v : Tagged) → IsKnown here f s → IsKindOf here k v → IsCoveredIf here (s.at + n) target (falls (with_kind f r k)) (assigned n s r v)
+  pub assigned_covered : (f : Facts) (s : RunState) (n : ℕ) (target : Option ℕ) (r : ℕ) (k : Kind) (v : Tagged) → IsKnown here f s → IsKindOf here k v → IsCoveredIf here (s.at + n) target (falls (with_kind f r k)) (assigned n s r v)
   assigned_covered f s n target r k v known h = inl (goes_to (with_kind f r k) (with_register s r v) (s.at + n) (given_value f s known r k v h))

@@ -7,12 +7,12 @@ use Rattle.interval.specs.declared.range.Range.{Range}
 use Rattle.interval.specs.declared.operator.Operator.{Operator}
 use Rattle.interval.specs.declared.operator.Operator.TheVariants as on_words
 use Rattle.interval.specs.Ranges.{is_constant, full}
-use Rattle.interval.specs.Refine.{Pair, refined}
+use Rattle.interval.specs.Refine.{RangePair, refined}
 use Rattle.interval.specs.Laws.{ResultsAreWords, EdgesAreWords, IsPairOfWords}
 use Rattle.insn_codec.specs.declared.insn.AluOp.{AluOp}
 use Rattle.insn_codec.specs.declared.insn.AluOp.TheVariants as alu
 use Rattle.insn_codec.specs.declared.insn.Condition.{Condition}
-use Rattle.insn_codec.specs.declared.insn.Size.{Size as AccessSize}
+use Rattle.insn_codec.specs.declared.insn.Size.{Size}
 use Rattle.insn_codec.specs.declared.insn.Operand.{Operand}
 use Rattle.insn_codec.specs.declared.insn.Operand.TheVariants.{Imm, Reg}
 use Rattle.insn_codec.specs.declared.insn.Load.{Load as LoadInsn}
@@ -22,8 +22,8 @@ use Rattle.insn_codec.specs.Spelling.{IsInsn}
 use Rattle.reg_kinds.specs.declared.kind.Kind.{Kind}
 use Rattle.reg_kinds.specs.declared.kind.Kind.TheVariants as kind
 use Rattle.reg_kinds.specs.declared.facts.Facts.{Facts}
-use Rattle.reg_kinds.specs.declared.stack.Size.{Size}
-use Rattle.reg_kinds.specs.declared.stack.Size.TheVariants.{Word}
+use Rattle.reg_kinds.specs.declared.stack.AccessSize.{AccessSize}
+use Rattle.reg_kinds.specs.declared.stack.AccessSize.TheVariants.{Word}
 use Rattle.reg_kinds.specs.declared.reason.Reason.{Reason}
 use Rattle.reg_kinds.specs.declared.reason.Reason.TheVariants.{PointerArithmetic, MaybeNull, ContextAccess, PointerComparison, PointerStored}
 use Rattle.reg_kinds.specs.Reason.{given}
@@ -40,11 +40,11 @@ use Rattle.tagged_model.specs.Helpers.{helper_of}
 use Rattle.tagged_model.specs.Operators.{width, operator_of, narrow_of, order_of, kept_of, comparison_of, size_of}
 use Rattle.tagged_model.specs.Values.{is_null_test, holds_of_pointers}
 use Rattle.tagged_model.specs.Cells.{also}
-use Rattle.transfer.specs.declared.arithmetic.Way.{Way}
-use Rattle.transfer.specs.declared.arithmetic.Way.TheVariants.{Forwards, Backwards}
+use Rattle.transfer.specs.declared.arithmetic.Direction.{Direction}
+use Rattle.transfer.specs.declared.arithmetic.Direction.TheVariants.{Forwards, Backwards}
 use Rattle.transfer.specs.Arithmetic.{readable, near, stack_moved, value_by, distance, moved_offset, pointer_moved, is_maybe, of_scalars, of_scalar, sum_kind, difference_kind, unless_maybe, arithmetic_kind}
 use Rattle.transfer.specs.Branches.{Edges, falls, with_source, with_pair, is_same, number_edges, null_edges, pointer_edges, branch_edges}
-use Rattle.transfer.specs.Effects.{source_kind, first_kind, assigns, is_word, context_read, load_kind, stored_outside, store_facts, map_of, known, ends_with, effect}
+use Rattle.transfer.specs.Effects.{source_kind, first_kind, assigns, is_word, context_read, load_kind, stored_outside, store_facts, map_of, known, exits_with, effect}
 use Rattle.transfer.specs.Calls.{map_kind, room_of, input_kind, output_facts, number_kind, length_kind, context_kind, any_number, call_facts}
 use Rattle.transfer.specs.Sound.{IsKindAt, IsSlotAt, AreWellFormedAt, AreWellFormedOn, TransferKeepsWellFormed}
 use Rattle.transfer.proofs.Parts.{OkIs, then_ok, ok_is}
@@ -94,7 +94,7 @@ module _ (bound : ℕ) (shapes : Shapes) (at : ℕ) (lt : at < bound) where
   past : {A B : Type 0} (Q : B → Type 0) (r : Result A Reason) (go : A → Result B Reason) → ((x : A) → OkIs Q (go x)) → OkIs Q (given r go)
   past Q r go next = then_ok (λ x. Unit {0}) Q r go (any_ok r) (λ x _. next x)
 
-  moved_words : (way : Way) (k : Kind) (r : Range) → OkIs (IsKindAt bound) (pointer_moved way k r)
+  moved_words : (way : Direction) (k : Kind) (r : Range) → OkIs (IsKindAt bound) (pointer_moved way k r)
   moved_words way (kind.Stack x) r =
       cond_both (is_constant r) (stack_moved way x r) (Err PointerArithmetic) (OkIs (IsKindAt bound))
       (λ _. let far = near (also (distance r) (λ d. moved_offset way x d.0)) in then_ok (λ y. Unit {0}) (IsKindAt bound) far (λ y. Ok (kind.Stack y)) (any_ok far) (λ y _. tt))
@@ -132,17 +132,17 @@ module _ (bound : ℕ) (shapes : Shapes) (at : ℕ) (lt : at < bound) where
 
   -- ---- memory
 
-  context_words : (y : ℤ) (size : Size) (signed : Bool) → OkIs (IsKindAt bound) (context_read y size signed)
+  context_words : (y : ℤ) (size : AccessSize) (signed : Bool) → OkIs (IsKindAt bound) (context_read y size signed)
   context_words y Word false = cond_both (is_word y) (Ok (kind.Scalar (full 32))) (Err ContextAccess) (OkIs (IsKindAt bound)) (λ _. omega arith) (λ _. tt)
   context_words y size signed = tt
 
-  load_words : (f : Facts) (size : Size) (signed : Bool) (off : ℤ) (k : Kind) → AreWellFormedAt bound f → OkIs (IsKindAt bound) (load_kind shapes f size signed off k)
+  load_words : (f : Facts) (size : AccessSize) (signed : Bool) (off : ℤ) (k : Kind) → AreWellFormedAt bound f → OkIs (IsKindAt bound) (load_kind shapes f size signed off k)
   load_words f size signed off (kind.Stack x) h = read_words bound f (x +ℤ off) size signed h
   load_words f size signed off kind.Ctx h = context_words off size signed
   load_words f size signed off (kind.Value p) h = past (IsKindAt bound) (room_of p off (bytes_of size) (shapes p.map)) (λ _. Ok (loaded size signed)) (λ _. loaded_words bound size signed)
   load_words f size signed off k h = tt
 
-  store_words : (f : Facts) (size : Size) (off : ℤ) (k v : Kind) → AreWellFormedAt bound f → IsKindAt bound v → OkIs (AreWellFormedAt bound) (store_facts shapes f size off k v)
+  store_words : (f : Facts) (size : AccessSize) (off : ℤ) (k v : Kind) → AreWellFormedAt bound f → IsKindAt bound v → OkIs (AreWellFormedAt bound) (store_facts shapes f size off k v)
   store_words f size off (kind.Stack x) v h g = written_words bound f (x +ℤ off) size v h g
   store_words f size off (kind.Value p) v h g =
       past (AreWellFormedAt bound) (room_of p off (bytes_of size) (shapes p.map)) (λ _. stored_outside f v)
@@ -197,7 +197,7 @@ module _ (bound : ℕ) (shapes : Shapes) (at : ℕ) (lt : at < bound) where
     with_source_words g (Imm z) r is small = is
     with_source_words g (Reg n) r is small = kind_words bound g n (kind.Scalar r) is small
 
-    pair_words : (dst : ℕ) (src : Operand) (o : Option Pair) → IsPairOfWords o → AreWellFormedOn bound (option_map (with_pair f dst src) o)
+    pair_words : (dst : ℕ) (src : Operand) (o : Option RangePair) → IsPairOfWords o → AreWellFormedOn bound (option_map (with_pair f dst src) o)
     pair_words dst src None is = tt
     pair_words dst src (Some p) is = with_source_words (with_kind f dst (kind.Scalar p.0)) src p.1 (kind_words bound f dst (kind.Scalar p.0) h is.0) is.1
 
@@ -234,7 +234,7 @@ module _ (bound : ℕ) (shapes : Shapes) (at : ℕ) (lt : at < bound) where
     operand_words : (wide : Bool) (src : Operand) (go : Kind → Result Edges Reason) → ((k : Kind) → IsKindAt bound k → OkIs AreFactsBoth (go k)) → OkIs AreFactsBoth (given (readable (source_kind f wide src)) go)
     operand_words wide src go next = then_ok (IsKindAt bound) AreFactsBoth (readable (source_kind f wide src)) go (readable_words (source_kind f wide src) (source_words f wide src h)) next
 
-    ends_words : (k : Kind) → OkIs AreFactsBoth (ends_with k)
+    ends_words : (k : Kind) → OkIs AreFactsBoth (exits_with k)
     ends_words (kind.Scalar r) = (tt, tt)
     ends_words k = tt
 
@@ -255,7 +255,7 @@ module _ (bound : ℕ) (shapes : Shapes) (at : ℕ) (lt : at < bound) where
     loads_words : (l : LoadInsn) → OkIs AreFactsBoth (effect shapes at (Load l) f)
     loads_words l = register_words l.src _ (λ k _. assigns_words l.dst (load_kind shapes f (size_of l.size) l.signed l.off k) (load_words f (size_of l.size) l.signed l.off k h))
 
-    stores_words : (size : AccessSize) (dst : ℕ) (src : Operand) (off : ℤ) → OkIs AreFactsBoth (effect shapes at (Store size dst src off) f)
+    stores_words : (size : Size) (dst : ℕ) (src : Operand) (off : ℤ) → OkIs AreFactsBoth (effect shapes at (Store size dst src off) f)
     stores_words size dst src off =
         register_words dst _ (λ k _. operand_words true src _
         (λ v small. then_ok (AreWellFormedAt bound) AreFactsBoth (store_facts shapes f (size_of size) off k v) falls (store_words f (size_of size) off k v h small) falls_words))
@@ -269,7 +269,7 @@ module _ (bound : ℕ) (shapes : Shapes) (at : ℕ) (lt : at < bound) where
     insn_words (Jal off) is = (tt, h)
     insn_words (Jump wide cond dst src off) is = jump_words wide cond dst src off
     insn_words (Call id) is = past AreFactsBoth (known (helper_of id)) _ (λ w. then_ok (AreWellFormedAt bound) AreFactsBoth (call_facts shapes at w f) falls (call_words w f h) falls_words)
-    insn_words Exit is = register_words 0 ends_with (λ k _. ends_words k)
+    insn_words Exit is = register_words 0 exits_with (λ k _. ends_words k)
     insn_words (Load l) is = loads_words l
     insn_words (Store size dst src off) is = stores_words size dst src off
     insn_words (Const dst value) is = falls_words _ (kind_words bound f dst _ h is.1)

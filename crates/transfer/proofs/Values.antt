@@ -19,8 +19,8 @@ use Rattle.tagged_model.specs.declared.value.Tagged.{Tagged}
 use Rattle.tagged_model.specs.declared.value.Tagged.TheVariants.{Scalar}
 use Rattle.tagged_model.specs.Operators.{width, operator_of}
 use Rattle.tagged_model.specs.Values.{of_numbers, sum, difference, arithmetic, of_number}
-use Rattle.tagged_model.specs.Admits.{IsOf}
-use Rattle.transfer.specs.declared.arithmetic.Way.TheVariants.{Forwards, Backwards}
+use Rattle.tagged_model.specs.Admits.{IsOfKind}
+use Rattle.transfer.specs.declared.arithmetic.Direction.TheVariants.{Forwards, Backwards}
 use Rattle.transfer.specs.Arithmetic.{is_maybe, of_scalars, sum_kind, difference_kind, unless_maybe, arithmetic_kind, of_scalar}
 use Rattle.transfer.proofs.Parts.{Here, Gives, IsKindOf}
 use Rattle.transfer.proofs.States.{scalar_of}
@@ -43,10 +43,10 @@ words laws false = laws.words_narrow
 
 -- ---- one number, or two
 
-pub by_number : (here : Here) (r : Range) (v : Tagged) (P : Tagged → Type 0) → IsOf here.witness (kind.Scalar r) v → ((n : ℕ) → IsMember n r → P (Scalar n)) → P v
+pub by_number : (here : Here) (r : Range) (v : Tagged) (P : Tagged → Type 0) → IsOfKind here.witness (kind.Scalar r) v → ((n : ℕ) → IsMember n r → P (Scalar n)) → P v
 by_number here r v P h go = subst P (sym h.1) (go h.0 h.2)
 
-by_numbers : (here : Here) (a b : Range) (v w : Tagged) (P : Tagged → Tagged → Type 0) → IsOf here.witness (kind.Scalar a) v → IsOf here.witness (kind.Scalar b) w → ((m n : ℕ) → IsMember m a → IsMember n b → P (Scalar m) (Scalar n)) → P v w
+by_numbers : (here : Here) (a b : Range) (v w : Tagged) (P : Tagged → Tagged → Type 0) → IsOfKind here.witness (kind.Scalar a) v → IsOfKind here.witness (kind.Scalar b) w → ((m n : ℕ) → IsMember m a → IsMember n b → P (Scalar m) (Scalar n)) → P v w
 by_numbers here a b v w P h g go = by_number here a v (λ v. P v w) h (λ m x. by_number here b w (P (Scalar m)) g (λ n y. go m n x y))
 
 module _ (here : Here) (laws : Results) where

@@ -11,8 +11,8 @@ use Rattle.reg_kinds.specs.declared.kind.Kind.TheVariants as kind
 use Rattle.reg_kinds.specs.declared.kind.Slot.{Slot}
 use Rattle.reg_kinds.specs.declared.kind.Slot.TheVariants.{Bytes, Spill}
 use Rattle.reg_kinds.specs.declared.facts.Facts.{Facts}
-use Rattle.reg_kinds.specs.declared.stack.Size.{Size}
-use Rattle.reg_kinds.specs.declared.stack.Size.TheVariants.{Byte, Half, Word, Double}
+use Rattle.reg_kinds.specs.declared.stack.AccessSize.{AccessSize}
+use Rattle.reg_kinds.specs.declared.stack.AccessSize.TheVariants.{Byte, Half, Word, Double}
 use Rattle.reg_kinds.specs.declared.reason.Reason.TheVariants.{OutsideStack, UnwrittenStack, PartOfSpill}
 use Rattle.reg_kinds.specs.Kinds.{is_pointer, kind_at, slot_at, with_kind, with_slot}
 use Rattle.reg_kinds.specs.Stack.{bytes_of, is_whole, is_in_stack, is_aligned, place, byte_bits, touched, loaded, read_slot, stack_read, bytes_over, slot_written, facts_written, stack_write}
@@ -42,7 +42,7 @@ module _ (bound : ℕ) where
   not_not false e = absurd (let z : ⊥ = cc in z)
 
   -- the bits of an aligned access are those of one slot
-  bits_small : (size : Size) (p : ℕ) → p % bytes_of size ≡ 0 → byte_bits p (bytes_of size) < 256
+  bits_small : (size : AccessSize) (p : ℕ) → p % bytes_of size ≡ 0 → byte_bits p (bytes_of size) < 256
   bits_small Byte p h = let m : 2 ^ (p % 8) ≤ 2 ^ 7 = pow_mono {i = p % 8} {j = 7} (omega arith) in omega arith
   bits_small Half p h = let m : 2 ^ (p % 8) ≤ 2 ^ 6 = pow_mono {i = p % 8} {j = 6} (omega arith) in omega arith
   bits_small Word p h = let m : 2 ^ (p % 8) ≤ 2 ^ 4 = pow_mono {i = p % 8} {j = 4} (omega arith) in omega arith
@@ -51,7 +51,7 @@ module _ (bound : ℕ) where
   abbrev AreSmall : ℕ × ℕ → Type 0
   AreSmall t = t.1 < 256
 
-  touched_small : (offset : ℤ) (size : Size) → OkIs AreSmall (touched offset size)
+  touched_small : (offset : ℤ) (size : AccessSize) → OkIs AreSmall (touched offset size)
   touched_small offset size =
       cond_both (not (is_in_stack offset (bytes_of size))) _ _ (OkIs AreSmall) (λ _. tt)
       (λ _. cond_both (not (is_aligned offset (bytes_of size))) _ _ (OkIs AreSmall) (λ _. tt)
@@ -59,19 +59,19 @@ module _ (bound : ℕ) where
 
   -- ---- loads
 
-  pub loaded_words : (size : Size) (signed : Bool) → IsKindAt bound (loaded size signed)
+  pub loaded_words : (size : AccessSize) (signed : Bool) → IsKindAt bound (loaded size signed)
   loaded_words size true = omega arith
   loaded_words Byte false = omega arith
   loaded_words Half false = omega arith
   loaded_words Word false = omega arith
   loaded_words Double false = omega arith
 
-  slot_read : (t : Slot) (bits : ℕ) (size : Size) (signed : Bool) → IsSlotAt bound t → OkIs (IsKindAt bound) (read_slot t bits size signed)
+  slot_read : (t : Slot) (bits : ℕ) (size : AccessSize) (signed : Bool) → IsSlotAt bound t → OkIs (IsKindAt bound) (read_slot t bits size signed)
   slot_read (Spill k) bits size signed h = cond_both (is_whole size) (Ok k) (Err PartOfSpill) (OkIs (IsKindAt bound)) (λ _. h) (λ _. tt)
   slot_read (Bytes mask) bits size signed h =
       cond_both (bit_and mask bits == bits) (Ok (loaded size signed)) (Err UnwrittenStack) (OkIs (IsKindAt bound)) (λ _. loaded_words size signed) (λ _. tt)
 
-  pub read_words : (f : Facts) (offset : ℤ) (size : Size) (signed : Bool) → AreWellFormedAt bound f → OkIs (IsKindAt bound) (stack_read f offset size signed)
+  pub read_words : (f : Facts) (offset : ℤ) (size : AccessSize) (signed : Bool) → AreWellFormedAt bound f → OkIs (IsKindAt bound) (stack_read f offset size signed)
   read_words f offset size signed h =
       then_ok AreSmall (IsKindAt bound) (touched offset size) (λ t. read_slot (slot_at f t.0) t.1 size signed) (touched_small offset size) (λ t _. slot_read (slot_at f t.0) t.1 size signed (h.slots t.0))
 
@@ -81,22 +81,22 @@ module _ (bound : ℕ) where
   over_words (Bytes mask) bits small h = or_lt 8 mask bits h small
   over_words (Spill k) bits small h = small
 
-  written_slot : (t : Slot) (bits : ℕ) (size : Size) (k : Kind) → bits < 256 → IsSlotAt bound t → IsKindAt bound k → OkIs (IsSlotAt bound) (slot_written t bits size k)
+  written_slot : (t : Slot) (bits : ℕ) (size : AccessSize) (k : Kind) → bits < 256 → IsSlotAt bound t → IsKindAt bound k → OkIs (IsSlotAt bound) (slot_written t bits size k)
   written_slot t bits size k small h is =
       cond_both (is_pointer k) _ _ (OkIs (IsSlotAt bound))
       (λ _. cond_both (is_whole size) (Ok (Spill k)) (Err PartOfSpill) (OkIs (IsSlotAt bound)) (λ _. is) (λ _. tt))
       (λ _. over_words t bits small h)
 
   module _ (f : Facts) (h : AreWellFormedAt bound f) where
-    facts_words : (size : Size) (k : Kind) → IsKindAt bound k → (t : ℕ × ℕ) → AreSmall t → OkIs (AreWellFormedAt bound) (facts_written f size k t)
+    facts_words : (size : AccessSize) (k : Kind) → IsKindAt bound k → (t : ℕ × ℕ) → AreSmall t → OkIs (AreWellFormedAt bound) (facts_written f size k t)
     facts_words size k is t small =
         then_ok (IsSlotAt bound) (AreWellFormedAt bound) (slot_written (slot_at f t.0) t.1 size k) (λ s. Ok (with_slot f t.0 s)) (written_slot (slot_at f t.0) t.1 size k small (h.slots t.0) is) (λ s. slot_words f t.0 s h)
 
-    write_words : (offset : ℤ) (size : Size) (k : Kind) → IsKindAt bound k → OkIs (AreWellFormedAt bound) (stack_write f offset size k)
+    write_words : (offset : ℤ) (size : AccessSize) (k : Kind) → IsKindAt bound k → OkIs (AreWellFormedAt bound) (stack_write f offset size k)
     write_words offset size kind.Unreadable is = tt
     write_words offset size k is = then_ok AreSmall (AreWellFormedAt bound) (touched offset size) (facts_written f size k) (touched_small offset size) (facts_words size k is)
 
-  pub written_words : (f : Facts) (offset : ℤ) (size : Size) (k : Kind) → AreWellFormedAt bound f → IsKindAt bound k → OkIs (AreWellFormedAt bound) (stack_write f offset size k)
+  pub written_words : (f : Facts) (offset : ℤ) (size : AccessSize) (k : Kind) → AreWellFormedAt bound f → IsKindAt bound k → OkIs (AreWellFormedAt bound) (stack_write f offset size k)
   written_words f offset size k h is = write_words f h offset size k is
 
   -- ---- tests of look-ups

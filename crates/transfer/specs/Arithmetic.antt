@@ -1,4 +1,5 @@
--- What an operator leaves in its destination: a number in the range of its results, or a pointer that is moved.
+-- What an operator leaves in its destination: a number in the range of its results, or a pointer that is moved. The
+-- operators are those of RFC 9669, section 4.1; the rules are this project's own.
 use Rattle.std.specs.Prelude.{ℕ, ◌^◌, ℤ, pos, ◌+ℤ◌, ◌-ℤ◌, Bool, true, false, ◌||◌, nat_lt, nat_le, if◌then◌else◌, Option, Some, None, Result, Ok, Err}
 use Rattle.interval.specs.declared.range.Range.{Range}
 use Rattle.interval.specs.declared.operator.Operator.{Operator}
@@ -9,8 +10,8 @@ use Rattle.insn_codec.specs.declared.insn.AluOp.TheVariants as alu
 use Rattle.reg_kinds.specs.declared.kind.ValuePointer.{ValuePointer}
 use Rattle.reg_kinds.specs.declared.kind.Kind.{Kind}
 use Rattle.reg_kinds.specs.declared.kind.Kind.TheVariants.{Unreadable, Scalar, Stack, Value, MaybeValue}
-use Rattle.transfer.specs.declared.arithmetic.Way.{Way}
-use Rattle.transfer.specs.declared.arithmetic.Way.TheVariants.{Forwards, Backwards}
+use Rattle.transfer.specs.declared.arithmetic.Direction.{Direction}
+use Rattle.transfer.specs.declared.arithmetic.Direction.TheVariants.{Forwards, Backwards}
 use Rattle.reg_kinds.specs.declared.reason.Reason.{Reason}
 use Rattle.reg_kinds.specs.declared.reason.Reason.TheVariants.{UnreadableRegister, PointerArithmetic, OffsetTooLarge, MaybeNull}
 use Rattle.reg_kinds.specs.Reason.{given}
@@ -39,7 +40,7 @@ distance r =
 abbrev pub near_offset : ℤ → Option ℤ
 near_offset x = if is_near x then Some x else None
 
-abbrev pub moved_offset : Way → ℤ → ℤ → Option ℤ
+abbrev pub moved_offset : Direction → ℤ → ℤ → Option ℤ
 moved_offset Forwards x d = near_offset (x +ℤ d)
 moved_offset Backwards x d = near_offset (x -ℤ d)
 
@@ -48,22 +49,22 @@ abbrev pub near : {A : Type 0} → Option A → Result A Reason
 near None = Err OffsetTooLarge
 near (Some x) = Ok x
 
-abbrev pub stack_moved : Way → ℤ → Range → Result Kind Reason
+abbrev pub stack_moved : Direction → ℤ → Range → Result Kind Reason
 stack_moved way x r = given (near (also (distance r) (λ d. moved_offset way x d.0))) (λ y. Ok (Stack y))
 
 -- from the least offset to the greatest
 abbrev pub spanned : ℕ → Option ℤ → Option ℤ → Option ValuePointer
 spanned map low high = also low (λ lo. also high (λ hi. Some (value_span map lo hi)))
 
-abbrev pub value_by : Way → ValuePointer → Distance → Option ValuePointer
+abbrev pub value_by : Direction → ValuePointer → Distance → Option ValuePointer
 value_by Forwards p d = spanned p.map (moved_offset Forwards p.lo d.0) (moved_offset Forwards p.hi d.1)
 value_by Backwards p d = spanned p.map (moved_offset Backwards p.lo d.1) (moved_offset Backwards p.hi d.0)
 
-abbrev pub value_moved : Way → ValuePointer → Range → Result Kind Reason
+abbrev pub value_moved : Direction → ValuePointer → Range → Result Kind Reason
 value_moved way p r = given (near (also (distance r) (value_by way p))) (λ q. Ok (Value q))
 
 -- a pointer into the stack is moved by a constant, one into a value by any number; no other pointer is moved
-abbrev pub pointer_moved : Way → Kind → Range → Result Kind Reason
+abbrev pub pointer_moved : Direction → Kind → Range → Result Kind Reason
 pointer_moved way (Stack x) r = if is_constant r then stack_moved way x r else Err PointerArithmetic
 pointer_moved way (Value p) r = value_moved way p r
 pointer_moved way k r = Err PointerArithmetic

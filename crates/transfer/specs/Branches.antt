@@ -1,7 +1,8 @@
--- What is known on the two edges of a conditional jump.
+-- What is known on the two edges of a conditional jump. The comparisons are those of RFC 9669, section 4.3; the rules
+-- are this project's own.
 use Rattle.std.specs.Prelude.{ℕ, ◌==◌, Bool, true, false, not, if◌then◌else◌, Option, Some, None, option_map, Result, Ok, Err}
 use Rattle.interval.specs.declared.range.Range.{Range}
-use Rattle.interval.specs.Refine.{Pair, refined}
+use Rattle.interval.specs.Refine.{RangePair, refined}
 use Rattle.insn_codec.specs.declared.insn.Condition.{Condition}
 use Rattle.insn_codec.specs.declared.insn.Operand.{Operand}
 use Rattle.insn_codec.specs.declared.insn.Operand.TheVariants.{Imm, Reg}
@@ -23,6 +24,9 @@ pub record Edges : Type 0 where
 abbrev pub falls : Facts → Result Edges Reason
 falls f = Ok (record { falling = Some f; jumping = None })
 
+abbrev pub ends : Result Edges Reason
+ends = Ok (record { falling = None; jumping = None })
+
 -- ---- numbers
 
 -- the constant has no register
@@ -30,7 +34,7 @@ abbrev pub with_source : Facts → Operand → Range → Facts
 with_source f (Imm z) r = f
 with_source f (Reg n) r = with_kind f n (Scalar r)
 
-abbrev pub with_pair : Facts → ℕ → Operand → Pair → Facts
+abbrev pub with_pair : Facts → ℕ → Operand → RangePair → Facts
 with_pair f dst src p = with_source (with_kind f dst (Scalar p.0)) src p.1
 
 -- a register that is compared with itself tells nothing

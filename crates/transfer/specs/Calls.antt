@@ -1,4 +1,5 @@
--- What a call asks of the facts, and what it leaves. The conditions are tried in the order in which they stand.
+-- What a call asks of the facts, and what it leaves. The conditions are tried in the order in which they stand. The
+-- arguments are those of linux/bpf.h (bpf_func_id); the rules are this project's own.
 use Rattle.std.specs.Prelude.{ℕ, ◌^◌, ◌==◌, ℤ, pos, ◌+ℤ◌, int_le, nat_le, ◌&&◌, ◌||◌, if◌then◌else◌, Option, Some, None, Result, Ok, Err}
 use Rattle.interval.specs.declared.range.Range.{Range}
 use Rattle.interval.specs.Ranges.{full}

@@ -1,5 +1,5 @@
 -- The facts on the edges out of an instruction, from those before it; or why the instruction may not be run. The
--- conditions are tried in the order in which they stand.
+-- conditions are tried in the order in which they stand. The rules and their order are this project's own.
 use Rattle.std.specs.Prelude.{ℕ, ◌*◌, ◌%◌, ℤ, pos, negsuc, ◌+ℤ◌, ◌==◌, Bool, true, false, ◌&&◌, nat_lt, if◌then◌else◌, Option, Some, None, Result, Ok, Err}
 use Rattle.interval.specs.declared.operator.Operator.TheVariants as on_words
 use Rattle.interval.specs.Ranges.{constant, full}
@@ -13,8 +13,8 @@ use Rattle.insn_codec.specs.declared.insn.Insn.TheVariants.{Alu, Movsx, Neg, End
 use Rattle.reg_kinds.specs.declared.kind.Kind.{Kind}
 use Rattle.reg_kinds.specs.declared.kind.Kind.TheVariants as kind
 use Rattle.reg_kinds.specs.declared.facts.Facts.{Facts}
-use Rattle.reg_kinds.specs.declared.stack.Size.{Size}
-use Rattle.reg_kinds.specs.declared.stack.Size.TheVariants.{Word}
+use Rattle.reg_kinds.specs.declared.stack.AccessSize.{AccessSize}
+use Rattle.reg_kinds.specs.declared.stack.AccessSize.TheVariants.{Word}
 use Rattle.reg_kinds.specs.declared.reason.Reason.{Reason}
 use Rattle.reg_kinds.specs.declared.reason.Reason.TheVariants.{UnknownHelper, DescriptorNotMap, ResultNotScalar, NotPointer, MaybeNull, ContextAccess, PointerStored}
 use Rattle.reg_kinds.specs.Reason.{given}
@@ -27,7 +27,7 @@ use Rattle.tagged_model.specs.Named.{Shapes}
 use Rattle.tagged_model.specs.Operators.{width, narrow_of, order_of, kept_of, size_of}
 use Rattle.tagged_model.specs.State.{context_words}
 use Rattle.transfer.specs.Arithmetic.{readable, arithmetic_kind, of_scalar}
-use Rattle.transfer.specs.Branches.{Edges, falls, branch_edges}
+use Rattle.transfer.specs.Branches.{Edges, falls, ends, branch_edges}
 use Rattle.transfer.specs.Calls.{room_of, call_facts}
 
 -- ---- operands
@@ -53,11 +53,11 @@ abbrev pub is_word : ℤ → Bool
 is_word (pos y) = (y % 4 == 0) && nat_lt y (4 * context_words)
 is_word (negsuc y) = false
 
-abbrev pub context_read : ℤ → Size → Bool → Result Kind Reason
+abbrev pub context_read : ℤ → AccessSize → Bool → Result Kind Reason
 context_read y Word false = if is_word y then Ok (kind.Scalar (full 32)) else Err ContextAccess
 context_read y size signed = Err ContextAccess
 
-abbrev pub load_kind : Shapes → Facts → Size → Bool → ℤ → Kind → Result Kind Reason
+abbrev pub load_kind : Shapes → Facts → AccessSize → Bool → ℤ → Kind → Result Kind Reason
 load_kind shapes f size signed off (kind.Stack x) = stack_read f (x +ℤ off) size signed
 load_kind shapes f size signed off kind.Ctx = context_read off size signed
 load_kind shapes f size signed off (kind.Value p) = given (room_of p off (bytes_of size) (shapes p.map)) (λ _. Ok (loaded size signed))
@@ -68,7 +68,7 @@ load_kind shapes f size signed off k = Err NotPointer
 abbrev pub stored_outside : Facts → Kind → Result Facts Reason
 stored_outside f v = if is_pointer v then Err PointerStored else Ok f
 
-abbrev pub store_facts : Shapes → Facts → Size → ℤ → Kind → Kind → Result Facts Reason
+abbrev pub store_facts : Shapes → Facts → AccessSize → ℤ → Kind → Kind → Result Facts Reason
 store_facts shapes f size off (kind.Stack x) v = stack_write f (x +ℤ off) size v
 store_facts shapes f size off kind.Ctx v = Err ContextAccess
 store_facts shapes f size off (kind.Value p) v = given (room_of p off (bytes_of size) (shapes p.map)) (λ _. stored_outside f v)
@@ -88,12 +88,12 @@ known (Some h) = Ok h
 
 -- ---- the end
 
-abbrev pub ends_with : Kind → Result Edges Reason
-ends_with (kind.Scalar r) = Ok (record { falling = None; jumping = None })
-ends_with k = Err ResultNotScalar
+abbrev pub exits_with : Kind → Result Edges Reason
+exits_with (kind.Scalar r) = ends
+exits_with k = Err ResultNotScalar
 
-abbrev pub end_edges : Facts → Result Edges Reason
-end_edges f = given (readable (kind_at f 0)) ends_with
+abbrev pub exit_edges : Facts → Result Edges Reason
+exit_edges f = given (readable (kind_at f 0)) exits_with
 
 -- ---- operators
 
@@ -111,7 +111,7 @@ effect shapes at (Ja off) f = Ok (record { falling = None; jumping = Some f })
 effect shapes at (Jal off) f = Ok (record { falling = None; jumping = Some f })
 effect shapes at (Jump wide cond dst src off) f = given (readable (kind_at f dst)) (λ a. given (readable (source_kind f wide src)) (λ b. branch_edges wide cond f dst src a b))
 effect shapes at (Call id) f = given (known (helper_of id)) (λ h. given (call_facts shapes at h f) falls)
-effect shapes at Exit f = end_edges f
+effect shapes at Exit f = exit_edges f
 effect shapes at (Load l) f = given (readable (kind_at f l.src)) (λ k. assigns f l.dst (load_kind shapes f (size_of l.size) l.signed l.off k))
 effect shapes at (Store size dst src off) f = given (readable (kind_at f dst)) (λ k. given (readable (source_kind f true src)) (λ v. given (store_facts shapes f (size_of size) off k v) falls))
 effect shapes at (Const dst value) f = falls (with_kind f dst (kind.Scalar (constant value)))

@@ -1,4 +1,4 @@
--- Why an instruction may be refused.
+-- Why an instruction may be refused. This project's own.
 use Rattle.std.specs.Prelude.{◌≡◌, ℕ, None, Err}
 use Rattle.interval.specs.Words.{unsigned}
 use Rattle.insn_codec.specs.declared.insn.Insn.{Insn}

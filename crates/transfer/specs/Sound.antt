@@ -1,7 +1,7 @@
--- Why the facts on the edges are right: what the machine of tagged values does is on one of them.
-use Rattle.std.specs.Prelude.{◌≡◌, ◌⊎◌, ℕ, ◌+◌, ◌<◌, ◌^◌, ℤ, pos, ◌+ℤ◌, Bool, length, Option, Some, None, IsSome, Ok}
+-- Why the facts on the edges are right: what the machine of tagged values does is on one of them. Where a jump leads
+-- is RFC 9669, section 4.3; the rest is this project's own.
+use Rattle.std.specs.Prelude.{◌≡◌, ◌⊎◌, ℕ, ◌<◌, ◌^◌, Bool, Option, Some, None, IsSome, Ok}
 use Rattle.insn_codec.specs.declared.insn.Insn.{Insn}
-use Rattle.insn_codec.specs.declared.insn.Insn.TheVariants.{Ja, Jal, Jump}
 use Rattle.insn_codec.specs.Spelling.{slots, IsInsn}
 use Rattle.reg_kinds.specs.declared.kind.Kind.{Kind}
 use Rattle.reg_kinds.specs.declared.kind.Kind.TheVariants.{Scalar, MaybeValue}
@@ -9,8 +9,8 @@ use Rattle.reg_kinds.specs.declared.kind.Slot.{Slot}
 use Rattle.reg_kinds.specs.declared.kind.Slot.TheVariants.{Bytes, Spill}
 use Rattle.reg_kinds.specs.declared.facts.Facts.{Facts}
 use Rattle.reg_kinds.specs.Kinds.{kind_at, slot_at}
-use Rattle.tagged_model.specs.State.{State}
-use Rattle.tagged_model.specs.Step.{Step, goes, ends, faults, act, natural}
+use Rattle.tagged_model.specs.State.{RunState}
+use Rattle.tagged_model.specs.Step.{Step, goes, ends, faults, act}
 use Rattle.tagged_model.specs.Admits.{Witness, AreBelow}
 use Rattle.tagged_model.specs.declared.helper.Helper.{Helper}
 use Rattle.tagged_model.specs.Helpers.{called}
@@ -19,6 +19,7 @@ use Rattle.transfer.specs.Branches.{Edges}
 use Rattle.tagged_model.specs.Named.{Shapes}
 use Rattle.transfer.specs.Calls.{call_facts}
 use Rattle.transfer.specs.Effects.{effect}
+use Rattle.insn_codec.specs.Flow.{falls_to, jumps_to}
 
 -- ---- facts before slot n: a range ends below 2 ^ 64, a mask has eight bits, and a look-up was at a slot below
 
@@ -35,40 +36,25 @@ pub record AreWellFormedAt (n : ℕ) (f : Facts) : Type 0 where
   pub registers : (r : ℕ) → IsKindAt n (kind_at f r)
   pub slots : (i : ℕ) → IsSlotAt n (slot_at f i)
 
--- ---- where the edges lead
-
-abbrev pub falls_to : Insn → ℕ → ℕ
-falls_to i at = at + length (slots i)
-
-abbrev pub jump_offset : Insn → ℤ
-jump_offset (Ja off) = off
-jump_offset (Jal off) = off
-jump_offset (Jump wide cond dst src off) = off
-jump_offset _ = pos 0
-
--- none where it would be below slot 0
-abbrev pub jumps_to : Insn → ℕ → Option ℕ
-jumps_to i at = natural (pos (at + 1) +ℤ jump_offset i)
-
 -- ---- the state after a step
 
 -- the edge is there, leads to the state's slot, and its facts admit the state, whatever is told there
-abbrev pub IsOn : Shapes → Option Facts → Option ℕ → State → Type 0
-IsOn shapes None slot t = ⊥
-IsOn shapes (Some f) slot t = (slot ≡ Some t.at) × (witness : Witness) × Describes witness f shapes t
+abbrev pub EdgeAdmits : Shapes → Option Facts → Option ℕ → RunState → Type 0
+EdgeAdmits shapes None slot t = ⊥
+EdgeAdmits shapes (Some f) slot t = (slot ≡ Some t.at) × (witness : Witness) × Describes witness f shapes t
 
 -- the step is no fault, and the state after it is on the edge that it takes
-abbrev pub Covers : Shapes → Insn → ℕ → Edges → Step → Type 0
-Covers shapes i at edges (goes t) = IsOn shapes edges.falling (Some (falls_to i at)) t ⊎ IsOn shapes edges.jumping (jumps_to i at) t
-Covers shapes i at edges (ends n) = n < 2 ^ 32
-Covers shapes i at edges faults = ⊥
+abbrev pub CoversStep : Shapes → Insn → ℕ → Edges → Step → Type 0
+CoversStep shapes i at edges (goes t) = EdgeAdmits shapes edges.falling (Some (falls_to i at)) t ⊎ EdgeAdmits shapes edges.jumping (jumps_to i at) t
+CoversStep shapes i at edges (ends n) = n < 2 ^ 32
+CoversStep shapes i at edges faults = ⊥
 
 -- where facts admit a state and let an instruction be run, its step is on one of the edges, whether or not memory is refused
 -- at it. The state has a map of each shape, and so has the next one
 abbrev pub TransferIsSound : Type 0
 TransferIsSound =
-    (witness : Witness) (shapes : Shapes) (refused : Bool) (i : Insn) (f : Facts) (s : State) (edges : Edges) → IsInsn i → IsSome (jumps_to i s.at) → AreWellFormedAt s.at f → Describes witness f shapes s → effect shapes s.at i f ≡ Ok edges
-    → Covers shapes i s.at edges (act refused i s)
+    (witness : Witness) (shapes : Shapes) (refused : Bool) (i : Insn) (f : Facts) (s : RunState) (edges : Edges) → IsInsn i → IsSome (jumps_to i s.at) → AreWellFormedAt s.at f → Describes witness f shapes s → effect shapes s.at i f ≡ Ok edges
+    → CoversStep shapes i s.at edges (act refused i s)
 
 -- ---- the facts on the edges are facts before each later slot
 
@@ -82,7 +68,7 @@ TransferKeepsWellFormed = (shapes : Shapes) (at n : ℕ) (i : Insn) (f : Facts) 
 -- ---- calls
 
 -- what is known after a call, which does not go on by itself. A look-up tells more than was told
-pub record IsCalled (g : Facts) (shapes : Shapes) (s u : State) : Type 0 where
+pub record CallIsAdmitted (g : Facts) (shapes : Shapes) (s u : RunState) : Type 0 where
   pub witness : Witness
   pub still : Describes witness g shapes u
   pub at : u.at ≡ s.at
@@ -90,5 +76,5 @@ pub record IsCalled (g : Facts) (shapes : Shapes) (s u : State) : Type 0 where
 -- where facts admit a state and let a call go ahead, the machine has one, and the facts after it admit the state after it
 abbrev pub CallsAreSound : Type 0
 CallsAreSound =
-    (witness : Witness) (refused : Bool) (shapes : Shapes) (h : Helper) (f g : Facts) (s : State) → AreBelow s.at f → Describes witness f shapes s → call_facts shapes s.at h f ≡ Ok g
-    → (u : State) × (called refused h s ≡ Some u) × IsCalled g shapes s u
+    (witness : Witness) (refused : Bool) (shapes : Shapes) (h : Helper) (f g : Facts) (s : RunState) → AreBelow s.at f → Describes witness f shapes s → call_facts shapes s.at h f ≡ Ok g
+    → (u : RunState) × (called refused h s ≡ Some u) × CallIsAdmitted g shapes s u

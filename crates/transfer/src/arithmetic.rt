@@ -1,7 +1,7 @@
 //! What an operator leaves in its destination.
 
 ghost use Rattle.std.specs.Prelude.{◌≡◌, ◌≤ℤ◌, ◌+ℤ◌, ◌-ℤ◌, IfSome, true};
-ghost use Rattle.transfer.specs.declared.arithmetic.Way.TheVariants.{Forwards, Backwards};
+ghost use Rattle.transfer.specs.declared.arithmetic.Direction.TheVariants.{Forwards, Backwards};
 ghost use Rattle.interval.specs.Table.{range_of};
 ghost use Rattle.tagged_model.specs.Operators.{width};
 ghost use Rattle.transfer.specs.Arithmetic.{readable, distance, moved_offset, stack_moved, value_by, value_moved, pointer_moved, is_maybe, of_scalars, sum_kind, difference_kind, arithmetic_kind, of_scalar};
@@ -16,7 +16,7 @@ const FARTHEST: i64 = 0x2000_0000;
 
 /// Which way a number moves a pointer.
 #[derive(Clone, Copy, Debug, PartialEq, Eq)]
-pub(crate) enum Way {
+pub(crate) enum Direction {
     Forwards,
     Backwards,
 }
@@ -70,15 +70,15 @@ fn moved_backwards(offset: i32, by: i64) -> Option<i32>
 }
 
 /// A pointer into the stack that is moved by a constant.
-fn stack_moved(way: Way, offset: i32, range: Range) -> Result<Kind, Reason>
+fn stack_moved(way: Direction, offset: i32, range: Range) -> Result<Kind, Reason>
     ensures { result ≡ stack_moved way offset range }
 {
     let Some((by, _)) = distance(range) else {
         return Err(Reason::OffsetTooLarge);
     };
     let to = match way {
-        Way::Forwards => moved_forwards(offset, by),
-        Way::Backwards => moved_backwards(offset, by),
+        Direction::Forwards => moved_forwards(offset, by),
+        Direction::Backwards => moved_backwards(offset, by),
     };
     match to {
         Some(offset) => Ok(Kind::Stack(offset)),
@@ -107,15 +107,15 @@ fn value_backwards(pointer: ValuePointer, least: i64, greatest: i64) -> Option<V
 }
 
 /// A pointer into a value that is moved by a number of a range.
-fn value_moved(way: Way, pointer: ValuePointer, range: Range) -> Result<Kind, Reason>
+fn value_moved(way: Direction, pointer: ValuePointer, range: Range) -> Result<Kind, Reason>
     ensures { result ≡ value_moved way pointer range }
 {
     let Some((least, greatest)) = distance(range) else {
         return Err(Reason::OffsetTooLarge);
     };
     let moved = match way {
-        Way::Forwards => value_forwards(pointer, least, greatest),
-        Way::Backwards => value_backwards(pointer, least, greatest),
+        Direction::Forwards => value_forwards(pointer, least, greatest),
+        Direction::Backwards => value_backwards(pointer, least, greatest),
     };
     match moved {
         Some(value) => Ok(Kind::Value(value)),
@@ -124,7 +124,7 @@ fn value_moved(way: Way, pointer: ValuePointer, range: Range) -> Result<Kind, Re
 }
 
 /// A pointer that is moved by a number of a range.
-fn pointer_moved(way: Way, pointer: Kind, range: Range) -> Result<Kind, Reason>
+fn pointer_moved(way: Direction, pointer: Kind, range: Range) -> Result<Kind, Reason>
     ensures { result ≡ pointer_moved way pointer range }
 {
     match pointer {
@@ -168,8 +168,8 @@ fn sum(a: Kind, b: Kind) -> Result<Kind, Reason>
 {
     match (a, b) {
         (Kind::Scalar(_), Kind::Scalar(_)) => of_scalars(true, Operator::Add, a, b),
-        (Kind::Scalar(range), pointer) => pointer_moved(Way::Forwards, pointer, range),
-        (pointer, Kind::Scalar(range)) => pointer_moved(Way::Forwards, pointer, range),
+        (Kind::Scalar(range), pointer) => pointer_moved(Direction::Forwards, pointer, range),
+        (pointer, Kind::Scalar(range)) => pointer_moved(Direction::Forwards, pointer, range),
         _ => Err(Reason::PointerArithmetic),
     }
 }
@@ -181,7 +181,7 @@ fn difference(a: Kind, b: Kind) -> Result<Kind, Reason>
     match (a, b) {
         (Kind::Scalar(_), Kind::Scalar(_)) => of_scalars(true, Operator::Sub, a, b),
         (Kind::Scalar(_), _) => Err(Reason::PointerArithmetic),
-        (pointer, Kind::Scalar(range)) => pointer_moved(Way::Backwards, pointer, range),
+        (pointer, Kind::Scalar(range)) => pointer_moved(Direction::Backwards, pointer, range),
         _ => Err(Reason::PointerArithmetic),
     }
 }

@@ -1,6 +1,6 @@
 //! What is known on the two edges of a conditional jump.
 
-ghost use Rattle.std.specs.Prelude.{◌≡◌, ◌<◌, ◌≤◌, IfOk, IfErr, OnErr, Ok, Err};
+ghost use Rattle.std.specs.Prelude.{◌≡◌, ◌<◌, ◌≤◌, if◌then◌else◌, option_map, Some, None, IfOk, IfErr, OnErr, Ok, Err};
 ghost use Rattle.transfer.specs.Branches.{with_pair, is_same, number_edges, pointer_edges, settled_edges, branch_edges};
 ghost use Rattle.tagged_model.specs.Values.{is_null_test};
 ghost use Rattle.transfer.specs.Flows.{edges_of};
@@ -19,18 +19,39 @@ pub enum Flow {
     Falls,
     /// To the jump's target, with the facts in hand.
     Jumps,
-    /// To either, as far as each edge can be taken: to the next instruction with the facts in hand, to the target with
-    /// those that stand here.
-    Branches { falls: bool, taken: Option<Facts> },
+    /// To the next instruction with the facts in hand, and to the jump's target with those of the taken edge: to each
+    /// where its edge can be taken.
+    Branches { falls: bool, jumps: bool },
 }
 
-/// Puts the ranges of both operands into the facts.
-fn put_pair(facts: &mut Facts, dst: Reg, src: Operand, pair: (Range, Range))
-    ensures { facts.new ≡ with_pair facts.old dst src pair }
+/// Lets the taken edge begin with the same facts.
+fn copy_facts(facts: &Facts, taken: &mut Facts)
+    ensures { taken.new ≡ facts.now }
+{
+    *taken = *facts;
+}
+
+/// Puts the ranges of both operands into the facts of an edge.
+fn put_pair(facts: &mut Facts, dst: Reg, src: &Operand, pair: (Range, Range))
+    ensures { facts.new ≡ with_pair facts.old dst src.now pair }
 {
     facts.set_kind(usize::from(dst.number()), Kind::Scalar(pair.0));
-    if let Operand::Reg(source) = src {
+    if let Operand::Reg(source) = *src {
         facts.set_kind(usize::from(source.number()), Kind::Scalar(pair.1));
+    }
+}
+
+/// Puts into the facts of an edge what a comparison tells there. Whether the edge can be taken at all.
+fn learn(facts: &mut Facts, dst: Reg, src: &Operand, told: Option<(Range, Range)>) -> bool
+    ensures { (if result then Some facts.new else None)
+        ≡ option_map (with_pair facts.old dst src.now) told }
+{
+    match told {
+        Some(pair) => {
+            put_pair(facts, dst, src, pair);
+            true
+        }
+        None => false,
     }
 }
 
@@ -47,6 +68,7 @@ fn is_same(dst: Reg, src: Operand) -> bool
 /// The edges of a comparison of two numbers.
 fn compare_numbers(
     facts: &mut Facts,
+    taken: &mut Facts,
     wide: bool,
     condition: Condition,
     dst: Reg,
@@ -54,49 +76,43 @@ fn compare_numbers(
     a: Range,
     b: Range,
 ) -> Flow
-    ensures { edges_of result facts.new ≡ number_edges wide condition facts.old dst src a b }
+    ensures { edges_of result facts.new taken.new ≡ number_edges wide condition facts.old dst src a
+        b }
 {
+    copy_facts(facts, taken);
     if is_same(dst, src) {
         return Flow::Branches {
             falls: true,
-            taken: Some(*facts),
+            jumps: true,
         };
     }
-    let (taken, not_taken) = refine(comparison(condition), wide, a, b);
-    let taken = taken.map(|pair| {
-        let mut copy = *facts;
-        put_pair(&mut copy, dst, src, pair);
-        copy
-    });
-    if let Some(pair) = not_taken {
-        put_pair(facts, dst, src, pair);
-    }
+    let (where_taken, where_not) = refine(comparison(condition), wide, a, b);
     Flow::Branches {
-        falls: not_taken.is_some(),
-        taken,
+        jumps: learn(taken, dst, &src, where_taken),
+        falls: learn(facts, dst, &src, where_not),
     }
 }
 
 /// The edges of a test of a look-up for null, which `site` made.
-fn settle_edges(facts: &mut Facts, site: usize, jumps_on_null: bool) -> Flow
-    ensures { edges_of result facts.new ≡ settled_edges jumps_on_null site facts.old }
+fn settle_edges(facts: &mut Facts, taken: &mut Facts, site: usize, jumps_on_null: bool) -> Flow
+    ensures { edges_of result facts.new taken.new ≡ settled_edges jumps_on_null site facts.old }
 {
-    let mut taken = *facts;
-    settle(&mut taken, site, jumps_on_null);
+    copy_facts(facts, taken);
+    settle(taken, site, jumps_on_null);
     settle(facts, site, !jumps_on_null);
     Flow::Branches {
         falls: true,
-        taken: Some(taken),
+        jumps: true,
     }
 }
 
 /// The edges of a test of a pointer for null: a look-up is settled on both, any other pointer is not null.
-fn test_pointer(facts: &mut Facts, condition: Condition, pointer: Kind) -> Flow
-    ensures { edges_of result facts.new ≡ pointer_edges condition facts.old pointer }
+fn test_pointer(facts: &mut Facts, taken: &mut Facts, condition: Condition, pointer: Kind) -> Flow
+    ensures { edges_of result facts.new taken.new ≡ pointer_edges condition facts.old pointer }
 {
     let jumps_on_null = condition != Condition::NotEqual;
     if let Kind::MaybeValue { site, .. } = pointer {
-        settle_edges(facts, site, jumps_on_null)
+        settle_edges(facts, taken, site, jumps_on_null)
     } else if jumps_on_null {
         Flow::Falls
     } else {
@@ -115,6 +131,7 @@ fn is_null_test(wide: bool, condition: Condition, src: Operand) -> bool
 /// The edges of a conditional jump.
 pub(crate) fn branch(
     facts: &mut Facts,
+    taken: &mut Facts,
     wide: bool,
     condition: Condition,
     dst: Reg,
@@ -122,17 +139,19 @@ pub(crate) fn branch(
     a: Kind,
     b: Kind,
 ) -> Result<Flow, Reason>
-    ensures ok { IfOk result (λ flow. branch_edges wide condition facts.old dst src a b ≡ Ok (edges_of flow facts.new)) }
-    ensures refused { IfErr result (λ reason. branch_edges wide condition facts.old dst src a b ≡ Err reason) }
-    ensures stays { OnErr result (facts.new ≡ facts.old) }
+    ensures ok { IfOk result (λ flow. branch_edges wide condition facts.old dst src a b
+        ≡ Ok (edges_of flow facts.new taken.new)) }
+    ensures refused { IfErr result (λ reason. branch_edges wide condition facts.old dst src a b
+        ≡ Err reason) }
+    ensures stays { OnErr result ((facts.new ≡ facts.old) × (taken.new ≡ taken.old)) }
 {
     match (a, b) {
         (Kind::Scalar(a), Kind::Scalar(b)) => {
-            Ok(compare_numbers(facts, wide, condition, dst, src, a, b))
+            Ok(compare_numbers(facts, taken, wide, condition, dst, src, a, b))
         }
         (Kind::Scalar(_), _) => Err(Reason::PointerComparison),
         (pointer, _) if is_null_test(wide, condition, src) => {
-            Ok(test_pointer(facts, condition, pointer))
+            Ok(test_pointer(facts, taken, condition, pointer))
         }
         _ => Err(Reason::PointerComparison),
     }

@@ -40,7 +40,8 @@ fn behind(offset: i32, by: i16) -> i64
 
 /// Whether so many bytes, from each offset of a range, are among so many.
 fn room_in(low: i64, last: i64, count: u32, size: u32) -> Result<(), Reason>
-    ensures { result ≡ (if int_le (pos 0) low && int_le (last +ℤ pos count) (pos size) then Ok tt else Err OutsideValue) }
+    ensures { result ≡ (if int_le (pos 0) low && int_le (last +ℤ pos count) (pos size) then Ok tt
+        else Err OutsideValue) }
 {
     if low < 0 {
         return Err(Reason::OutsideValue);
@@ -83,8 +84,10 @@ fn input(named: &[Named], facts: &Facts, count: u32, kind: Kind) -> Result<(), R
 /// Writes a number of bytes of a range to where an argument points.
 fn output(facts: &mut Facts, named: &[Named], length: Range, kind: Kind) -> Result<(), Reason>
     requires { length.hi < 2 ^ 29 }
-    ensures ok { OnOk result (output_facts (shapes_named named.now) facts.old length kind ≡ Ok facts.new) }
-    ensures refused { IfErr result (λ reason. output_facts (shapes_named named.now) facts.old length kind ≡ Err reason) }
+    ensures ok { OnOk result (output_facts (shapes_named named.now) facts.old length kind
+        ≡ Ok facts.new) }
+    ensures refused { IfErr result (λ reason. output_facts (shapes_named named.now) facts.old length
+        kind ≡ Err reason) }
     ensures stays { OnErr result (facts.new ≡ facts.old) }
 {
     match kind {
@@ -139,8 +142,10 @@ fn any_number() -> Kind
 
 /// A look-up, at a slot.
 fn look_up(facts: &mut Facts, named: &[Named], slot: usize) -> Result<(), Reason>
-    ensures ok { OnOk result (call_facts (shapes_named named.now) slot LookUp facts.old ≡ Ok facts.new) }
-    ensures refused { IfErr result (λ reason. call_facts (shapes_named named.now) slot LookUp facts.old ≡ Err reason) }
+    ensures ok { OnOk result (call_facts (shapes_named named.now) slot LookUp facts.old
+        ≡ Ok facts.new) }
+    ensures refused { IfErr result (λ reason. call_facts (shapes_named named.now) slot LookUp
+        facts.old ≡ Err reason) }
     ensures stays { OnErr result (facts.new ≡ facts.old) }
 {
     let first = readable(facts.kind(1))?;
@@ -157,8 +162,10 @@ fn look_up(facts: &mut Facts, named: &[Named], slot: usize) -> Result<(), Reason
 
 /// An update, at a slot.
 fn update(facts: &mut Facts, named: &[Named], slot: usize) -> Result<(), Reason>
-    ensures ok { OnOk result (call_facts (shapes_named named.now) slot Update facts.old ≡ Ok facts.new) }
-    ensures refused { IfErr result (λ reason. call_facts (shapes_named named.now) slot Update facts.old ≡ Err reason) }
+    ensures ok { OnOk result (call_facts (shapes_named named.now) slot Update facts.old
+        ≡ Ok facts.new) }
+    ensures refused { IfErr result (λ reason. call_facts (shapes_named named.now) slot Update
+        facts.old ≡ Err reason) }
     ensures stays { OnErr result (facts.new ≡ facts.old) }
 {
     let first = readable(facts.kind(1))?;
@@ -175,8 +182,10 @@ fn update(facts: &mut Facts, named: &[Named], slot: usize) -> Result<(), Reason>
 
 /// A deletion, at a slot.
 fn delete(facts: &mut Facts, named: &[Named], slot: usize) -> Result<(), Reason>
-    ensures ok { OnOk result (call_facts (shapes_named named.now) slot Delete facts.old ≡ Ok facts.new) }
-    ensures refused { IfErr result (λ reason. call_facts (shapes_named named.now) slot Delete facts.old ≡ Err reason) }
+    ensures ok { OnOk result (call_facts (shapes_named named.now) slot Delete facts.old
+        ≡ Ok facts.new) }
+    ensures refused { IfErr result (λ reason. call_facts (shapes_named named.now) slot Delete
+        facts.old ≡ Err reason) }
     ensures stays { OnErr result (facts.new ≡ facts.old) }
 {
     let first = readable(facts.kind(1))?;
@@ -189,8 +198,10 @@ fn delete(facts: &mut Facts, named: &[Named], slot: usize) -> Result<(), Reason>
 
 /// A copy of bytes of the packet, at a slot.
 fn load_bytes(facts: &mut Facts, named: &[Named], slot: usize) -> Result<(), Reason>
-    ensures ok { OnOk result (call_facts (shapes_named named.now) slot LoadBytes facts.old ≡ Ok facts.new) }
-    ensures refused { IfErr result (λ reason. call_facts (shapes_named named.now) slot LoadBytes facts.old ≡ Err reason) }
+    ensures ok { OnOk result (call_facts (shapes_named named.now) slot LoadBytes facts.old
+        ≡ Ok facts.new) }
+    ensures refused { IfErr result (λ reason. call_facts (shapes_named named.now) slot LoadBytes
+        facts.old ≡ Err reason) }
     ensures stays { OnErr result (facts.new ≡ facts.old) }
 {
     let first = readable(facts.kind(1))?;
@@ -212,8 +223,10 @@ pub(crate) fn call(
     slot: usize,
     helper: Helper,
 ) -> Result<(), Reason>
-    ensures ok { OnOk result (call_facts (shapes_named named.now) slot helper facts.old ≡ Ok facts.new) }
-    ensures refused { IfErr result (λ reason. call_facts (shapes_named named.now) slot helper facts.old ≡ Err reason) }
+    ensures ok { OnOk result (call_facts (shapes_named named.now) slot helper facts.old
+        ≡ Ok facts.new) }
+    ensures refused { IfErr result (λ reason. call_facts (shapes_named named.now) slot helper
+        facts.old ≡ Err reason) }
     ensures stays { OnErr result (facts.new ≡ facts.old) }
 {
     match helper {

@@ -4,8 +4,8 @@ ghost use Rattle.std.specs.Prelude.{◌≡◌, ◌<◌, ℕ, if◌then◌else◌
 ghost use Rattle.interval.specs.Words.{unsigned};
 ghost use Rattle.tagged_model.specs.Operators.{width, size_of};
 ghost use Rattle.transfer.specs.Arithmetic.{arithmetic_kind, of_scalar};
-ghost use Rattle.transfer.specs.Branches.{branch_edges};
-ghost use Rattle.transfer.specs.Effects.{source_kind, first_kind, is_word, context_read, load_kind, store_facts, map_of, end_edges, operator_edges, effect};
+ghost use Rattle.transfer.specs.Branches.{branch_edges, ends, falls};
+ghost use Rattle.transfer.specs.Effects.{source_kind, first_kind, is_word, context_read, load_kind, store_facts, map_of, exit_edges, operator_edges, effect};
 ghost use Rattle.reg_kinds.specs.Stack.{is_in_stack};
 ghost use Rattle.reg_kinds.specs.declared.reason.Reason.TheVariants.{OutsideStack, PointerStored};
 ghost use Rattle.tagged_model.specs.Named.{shapes_named};
@@ -71,7 +71,8 @@ fn context_read(offset: i16, size: Size, signed: bool) -> Result<Kind, Reason>
 /// Where an access of the stack is. One that is too far for the type is outside.
 fn stack_offset(from: i32, offset: i16) -> Result<i32, Reason>
     ensures ok { IfOk result (λ at. at ≡ from +ℤ offset) }
-    ensures outside { IfErr result (λ reason. (reason ≡ OutsideStack) × ((n : ℕ) → is_in_stack (from +ℤ offset) n ≡ false)) }
+    ensures outside { IfErr result (λ reason. (reason ≡ OutsideStack)
+        × ((n : ℕ) → is_in_stack (from +ℤ offset) n ≡ false)) }
 {
     from.checked_add(i32::from(offset))
         .ok_or(Reason::OutsideStack)
@@ -86,7 +87,8 @@ fn load(
     offset: i16,
     base: Kind,
 ) -> Result<Kind, Reason>
-    ensures { result ≡ load_kind (shapes_named named.now) facts.now (size_of size) signed offset base }
+    ensures { result ≡ load_kind (shapes_named named.now) facts.now (size_of size) signed offset
+        base }
 {
     match base {
         Kind::Stack(from) => {
@@ -124,8 +126,10 @@ fn store(
     base: Kind,
     value: Kind,
 ) -> Result<(), Reason>
-    ensures ok { OnOk result (store_facts (shapes_named named.now) facts.old (size_of size) offset base value ≡ Ok facts.new) }
-    ensures refused { IfErr result (λ reason. store_facts (shapes_named named.now) facts.old (size_of size) offset base value ≡ Err reason) }
+    ensures ok { OnOk result (store_facts (shapes_named named.now) facts.old (size_of size) offset
+        base value ≡ Ok facts.new) }
+    ensures refused { IfErr result (λ reason. store_facts (shapes_named named.now) facts.old
+        (size_of size) offset base value ≡ Err reason) }
     ensures stays { OnErr result (facts.new ≡ facts.old) }
 {
     match base {
@@ -167,41 +171,56 @@ fn assign(facts: &mut Facts, dst: Reg, kind: Kind) -> Flow
 }
 
 /// An operator of two operands.
-fn operate(facts: &mut Facts, wide: bool, op: AluOp, dst: Reg, src: Operand) -> Result<Flow, Reason>
-    ensures ok { IfOk result (λ flow. operator_edges wide op dst src facts.old ≡ Ok (edges_of flow facts.new)) }
-    ensures refused { IfErr result (λ reason. operator_edges wide op dst src facts.old ≡ Err reason) }
+fn operate(facts: &mut Facts, wide: bool, op: AluOp, dst: Reg, src: Operand) -> Result<(), Reason>
+    ensures ok { OnOk result (operator_edges wide op dst src facts.old ≡ falls facts.new) }
+    ensures refused { IfErr result (λ reason. operator_edges wide op dst src facts.old
+        ≡ Err reason) }
     ensures stays { OnErr result (facts.new ≡ facts.old) }
 {
     let a = first(op, facts.kind(usize::from(dst.number())))?;
     let b = readable(source(facts, wide, &src))?;
     let kind = arithmetic(wide, op, a, b)?;
-    Ok(assign(facts, dst, kind))
+    facts.set_kind(usize::from(dst.number()), kind);
+    Ok(())
 }
 
 /// The end of a run.
-fn end(facts: &Facts) -> Result<Flow, Reason>
-    ensures ok { IfOk result (λ flow. end_edges facts.now ≡ Ok (edges_of flow facts.now)) }
-    ensures refused { IfErr result (λ reason. end_edges facts.now ≡ Err reason) }
+fn exit(facts: &Facts) -> Result<(), Reason>
+    ensures ok { OnOk result (exit_edges facts.now ≡ ends) }
+    ensures refused { IfErr result (λ reason. exit_edges facts.now ≡ Err reason) }
 {
     match readable(facts.kind(0))? {
-        Kind::Scalar(_) => Ok(Flow::Ends),
+        Kind::Scalar(_) => Ok(()),
         _ => Err(Reason::ResultNotScalar),
     }
 }
 
-/// The facts on the edges out of an instruction at a slot, where `named` says what the descriptors name. They are changed in place where one edge is left: see `Flow`.
+/// The facts on the edges out of an instruction at a slot, where `named` says what the descriptors name: see `Flow`. Those of
+/// the falling edge, and of a jump that is always taken, are left in `facts`. Where a conditional jump can be taken, the
+/// facts on that edge are written over `taken`, whatever stood there; else what is left there is of no meaning.
 ///
 /// # Errors
 ///
-/// Why the instruction may not be run, and then the facts stay: the first of its conditions that fails, in the order that
-/// the definition of `effect` has.
-pub fn apply(facts: &mut Facts, named: &[Named], slot: usize, insn: &Insn) -> Result<Flow, Reason>
-    ensures ok { IfOk result (λ flow. effect (shapes_named named.now) slot insn.now facts.old ≡ Ok (edges_of flow facts.new)) }
-    ensures refused { IfErr result (λ reason. effect (shapes_named named.now) slot insn.now facts.old ≡ Err reason) }
-    ensures stays { OnErr result (facts.new ≡ facts.old) }
+/// Why the instruction may not be run, and then `facts` and `taken` stay: the first of its conditions that fails, in the order
+/// that the definition of `effect` has.
+pub fn apply(
+    facts: &mut Facts,
+    taken: &mut Facts,
+    named: &[Named],
+    slot: usize,
+    insn: &Insn,
+) -> Result<Flow, Reason>
+    ensures ok { IfOk result (λ flow. effect (shapes_named named.now) slot insn.now facts.old
+        ≡ Ok (edges_of flow facts.new taken.new)) }
+    ensures refused { IfErr result (λ reason. effect (shapes_named named.now) slot insn.now
+        facts.old ≡ Err reason) }
+    ensures stays { OnErr result ((facts.new ≡ facts.old) × (taken.new ≡ taken.old)) }
 {
     match *insn {
-        Insn::Alu { wide, op, dst, src } => operate(facts, wide, op, dst, src),
+        Insn::Alu { wide, op, dst, src } => {
+            operate(facts, wide, op, dst, src)?;
+            Ok(Flow::Falls)
+        }
         Insn::Movsx(
             Movsx {
                 wide,
@@ -238,14 +257,17 @@ pub fn apply(facts: &mut Facts, named: &[Named], slot: usize, insn: &Insn) -> Re
         } => {
             let a = readable(facts.kind(usize::from(dst.number())))?;
             let b = readable(source(facts, wide, &src))?;
-            branch(facts, wide, cond, dst, src, a, b)
+            branch(facts, taken, wide, cond, dst, src, a, b)
         }
         Insn::Call { id } => {
             let helper = known_helper(id).ok_or(Reason::UnknownHelper)?;
             call(facts, named, slot, helper)?;
             Ok(Flow::Falls)
         }
-        Insn::Exit => end(facts),
+        Insn::Exit => {
+            exit(facts)?;
+            Ok(Flow::Ends)
+        }
         Insn::Load(
             Load {
                 size,

@@ -58,7 +58,8 @@ pub fn transfer_reasons()
 
 /// No instruction is refused for want of memory.
 pub fn effects_need_no_memory()
-    ensures { (shapes : Shapes) (at : ℕ) (i : Insn) (f : Facts) (reason : Reason) → effect shapes at i f ≡ Err reason → reason ≢ Memory }
+    ensures { (shapes : Shapes) (at : ℕ) (i : Insn) (f : Facts) (reason : Reason)
+        → effect shapes at i f ≡ Err reason → reason ≢ Memory }
 {
     transfer_reasons();
 }

@@ -20,11 +20,12 @@ use Rattle.tagged_model.specs.Cells.{also}
 use Rattle.tagged_model.specs.Named.{Shapes}
 use Rattle.transfer.specs.Arithmetic.{readable}
 use Rattle.transfer.specs.Branches.{Edges}
-use Rattle.transfer.specs.Effects.{effect, ends_with}
-use Rattle.transfer.specs.Sound.{falls_to, jumps_to}
-use Rattle.verdict.specs.Shape.{falls, jumps, is_slot, jump_target, falls_into, jumps_into}
-use Rattle.verdict.specs.Before.{joined, on, falling_of, jumping_of, falling_from, jumping_from, edges_into, sent, inflow, before}
-use Rattle.verdict.specs.Verdict.{reason_of, reason_from, safety_fault, IsFirst}
+use Rattle.transfer.specs.Effects.{effect, exits_with}
+use Rattle.insn_codec.specs.Flow.{falls_to, jumps_to, falls, jumps, jump_target}
+use Rattle.verdict.specs.Shape.{is_slot, falls_into, jumps_into}
+use Rattle.verdict.specs.Before.{joined, on, edges_into, sent, inflow, before}
+use Rattle.verdict.specs.inside.Edges.{falling_of, jumping_of, falling_from, jumping_from, reason_from}
+use Rattle.verdict.specs.Verdict.{reason_of, safety_fault, IsFirstFault}
 use Rattle.verdict.proofs.Slots.{EachAdjoins, some_slots, not_both, none_inside}
 
 -- ---- joins in another order
@@ -51,11 +52,11 @@ module _ (shapes : Shapes) where
   no_fall : (b c : Bool) (o : Option Facts) → None ≡ o → on b o ≡ on (false && c) o
   no_fall b c o none = sym (ap (on b) none) ∙ on_none b
 
-  end_falls : (k : Kind) → falling_of (ends_with k) ≡ None
+  end_falls : (k : Kind) → falling_of (exits_with k) ≡ None
   end_falls (Scalar r) = refl
   end_falls _ = refl
 
-  given_end_falls : (r : Result Kind Reason) → falling_of (given r ends_with) ≡ None
+  given_end_falls : (r : Result Kind Reason) → falling_of (given r exits_with) ≡ None
   given_end_falls (Ok k) = end_falls k
   given_end_falls (Err e) = refl
 
@@ -235,6 +236,6 @@ module _ (shapes : Shapes) where
   unfolding safety_fault
   safe_none code slot none = no_reason slot (before shapes code slot) (begins_at code slot) none
 
-  pub first_at : (fault_at : ℕ → Option Reason) (n slot : ℕ) (reason : Reason) → n ≡ slot → fault_at slot ≡ Some reason → ((k : ℕ) → k < slot → fault_at k ≡ None) → IsFirst fault_at n reason
+  pub first_at : (fault_at : ℕ → Option Reason) (n slot : ℕ) (reason : Reason) → n ≡ slot → fault_at slot ≡ Some reason → ((k : ℕ) → k < slot → fault_at k ≡ None) → IsFirstFault fault_at n reason
   first_at fault_at n slot reason same is below =
       record { here = ap fault_at same ∙ is; below = λ k lt. below k (omega arith) }

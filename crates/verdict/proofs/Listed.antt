@@ -1,15 +1,11 @@
 -- Each map that a program loads is listed, once.
-use Rattle.std.proofs.Common.{◌≡◌, ℕ, zero, suc, ◌==◌, Bool, true, false, not, cond, ◌||◌, List, [], ◌∷◌, slice_get, Option, Some, None, refl, sym, ap, subst, ◌∙◌, arith}
-use Rattle.std.specs.List.{list_any, filter, filter_map}
+use Rattle.std.proofs.Common.{◌≡◌, ℕ, zero, suc, ◌==◌, Bool, true, false, not, cond, ◌||◌, List, [], ◌∷◌, slice_get, Some, refl, sym, ap, ◌∙◌}
 use Rattle.std.proofs.lemmas.Bool.{eq-eqb, eqb-true, true≢false, or_left, or_right}
 use Rattle.std.proofs.lemmas.Option.{none-some, same_Some}
-use Rattle.insn_codec.specs.declared.insn.Insn.{Insn}
 use Rattle.tagged_model.specs.declared.shape.MapShape.{MapShape}
 use Rattle.tagged_model.specs.declared.shape.Named.{Named}
-use Rattle.tagged_model.specs.declared.shape.Target.{Target}
 use Rattle.tagged_model.specs.Named.{target_of, shape_in}
-use Rattle.verdict.specs.Shape.{descriptor}
-use Rattle.verdict.specs.Maps.{without, distinct, maps_of, is_among, entries_of, shapes_of}
+use Rattle.verdict.specs.Maps.{without, distinct, maps_of, is_among, entries_of}
 use Rattle.verdict.specs.Laws.{MapsAreListed}
 use Rattle.verdict.proofs.LoadedShapes.{among_maps}
 

@@ -24,7 +24,7 @@ use Rattle.transfer.specs.Reasons.{CallsUnknown, LoadsUnshaped, IsReasonOf, Tran
 use Rattle.verdict.specs.Shape.{calls_unknown, is_map, descriptor, is_not_open, is_not_map, shape_fault}
 use Rattle.verdict.specs.Before.{before}
 use Rattle.verdict.specs.Maps.{without, distinct, maps_of, is_among, entries_of, shapes_of}
-use Rattle.verdict.specs.Verdict.{reason_of, safety_fault, HasNone}
+use Rattle.verdict.specs.Verdict.{reason_of, safety_fault, HasNoFault}
 use Rattle.verdict.specs.Laws.{SafetyFollowsShape, LoadedMapsHaveShapes}
 use Rattle.verdict.proofs.Loads.{still_there}
 use Rattle.verdict.proofs.Reached.{fine_at}
@@ -76,7 +76,7 @@ shaped_target None h g = absurd (true≢false h)
 shaped_target (Some (target.Map shape)) h g = refl
 shaped_target (Some target.Program) h g = absurd (true≢false g)
 
-module _ (code : List Insn) (named : List Named) (none : HasNone (shape_fault code named)) where
+module _ (code : List Insn) (named : List Named) (none : HasNoFault (shape_fault code named)) where
   shaped : (n : ℕ) (i : Insn) → begins_at code n ≡ Some i → (fd : ℕ) → descriptor i ≡ Some fd → IsSome (shapes_named named fd)
   shaped n i begins fd e =
       let fine = fine_at code named none n i begins in

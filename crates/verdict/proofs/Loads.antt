@@ -5,7 +5,8 @@ use Rattle.std.specs.List.{list_any, filter_map, cons_option}
 use Rattle.std.proofs.lemmas.List.Elements.{filter-append, filter_map-append}
 use Rattle.insn_codec.specs.declared.insn.Insn.{Insn}
 use Rattle.verdict.specs.Shape.{descriptor}
-use Rattle.verdict.specs.Maps.{without, distinct, with_descriptor, maps_of}
+use Rattle.verdict.specs.Maps.{without, distinct, maps_of}
+use Rattle.verdict.specs.inside.Descriptors.{with_descriptor}
 
 -- ---- one more at the end
 

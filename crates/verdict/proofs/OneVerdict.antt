@@ -6,7 +6,7 @@ use Rattle.reg_kinds.specs.declared.reason.Reason.{Reason}
 use Rattle.tagged_model.specs.declared.shape.Named.{Named}
 use Rattle.verdict.specs.Shape.{shape_fault}
 use Rattle.verdict.specs.Maps.{shapes_of}
-use Rattle.verdict.specs.Verdict.{IsFirst, HasNone, IsAccepted, IsRefused, safety_fault}
+use Rattle.verdict.specs.Verdict.{IsFirstFault, HasNoFault, IsAccepted, IsRefused, safety_fault}
 
 not_both : (o : Option Reason) (a : Reason) → o ≡ Some a → o ≡ None → ⊥
 not_both o a some none = cc
@@ -14,10 +14,10 @@ not_both o a some none = cc
 same_reason : (o : Option Reason) (a b : Reason) → o ≡ Some a → o ≡ Some b → a ≡ b
 same_reason o a b p q = cc
 
-no_first : (fault_at : ℕ → Option Reason) (n : ℕ) (a : Reason) → HasNone fault_at → IsFirst fault_at n a → ⊥
+no_first : (fault_at : ℕ → Option Reason) (n : ℕ) (a : Reason) → HasNoFault fault_at → IsFirstFault fault_at n a → ⊥
 no_first fault_at n a none first = not_both (fault_at n) a first.here (none n)
 
-one_first : (fault_at : ℕ → Option Reason) (m n : ℕ) (a b : Reason) → IsFirst fault_at m a → IsFirst fault_at n b → (m ≡ n) × (a ≡ b)
+one_first : (fault_at : ℕ → Option Reason) (m n : ℕ) (a b : Reason) → IsFirstFault fault_at m a → IsFirstFault fault_at n b → (m ≡ n) × (a ≡ b)
 one_first fault_at m n a b p q =
     elim (cases_order m n) [
       | inl same ↦ (same, same_reason (fault_at n) a b (ap fault_at (sym same) ∙ p.here) q.here)

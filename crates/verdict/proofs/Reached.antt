@@ -8,9 +8,10 @@ use Rattle.insn_codec.specs.Program.{begins_at, slot_count}
 use Rattle.reg_kinds.specs.declared.reason.Reason.{Reason}
 use Rattle.reg_kinds.specs.declared.reason.Reason.TheVariants.{JumpOutside, JumpBackward, FallsOff, Unreachable, UnknownHelper, FramePointerWritten, DescriptorNotOpen, DescriptorNotMap}
 use Rattle.tagged_model.specs.declared.shape.Named.{Named}
-use Rattle.transfer.specs.Sound.{falls_to, jumps_to}
-use Rattle.verdict.specs.Shape.{falls, jumps, jump_target, leads_into, leads_outside, leads_backward, reached_from, is_reachable, is_slot, calls_unknown, written_register, descriptor, is_not_open, is_not_map, first_reason, shape_reason, shape_of, shape_fault, JumpsLand}
-use Rattle.verdict.specs.Verdict.{HasNone}
+use Rattle.insn_codec.specs.Flow.{falls_to, jumps_to, falls, jumps, jump_target, written_register}
+use Rattle.verdict.specs.Shape.{leads_into, leads_outside, leads_backward, reached_from, is_reachable, is_slot, calls_unknown, descriptor, is_not_open, is_not_map, first_reason, shape_reason, shape_of, shape_fault}
+use Rattle.verdict.specs.inside.Jumps.{JumpsLand}
+use Rattle.verdict.specs.Verdict.{HasNoFault}
 use Rattle.verdict.proofs.Slots.{EachAdjoins, before_end}
 
 -- ---- an instruction without a fault
@@ -155,7 +156,7 @@ unfolding shape_fault
 shape_is code named at o r begins is = sym (is ∙ ap (shape_of code named at) begins)
 
 -- where no slot has a fault
-module _ (code : List Insn) (named : List Named) (none : HasNone (shape_fault code named)) where
+module _ (code : List Insn) (named : List Named) (none : HasNoFault (shape_fault code named)) where
   pub fine_at : (n : ℕ) (i : Insn) → begins_at code n ≡ Some i → IsFine code named i n
   unfolding shape_fault
   fine_at n i begins = fine code named i n (sym (ap (shape_of code named n) begins) ∙ none n)

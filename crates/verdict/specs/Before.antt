@@ -1,5 +1,5 @@
--- The facts before each slot: at slot 0 those at entry, else the join of those on all edges that lead there. Jumps lead
--- forward alone, so a slot asks the slots below it.
+-- The facts before each slot: at slot 0 those at entry, else the join of those on all edges that lead there. Jumps
+-- lead forward alone, so a slot asks the slots below it. This project's own.
 use Rattle.std.specs.Prelude.{ℕ, zero, suc, ◌==◌, Bool, List, Option, Some, None, Result, Ok, Err, if◌then◌else◌}
 use Rattle.insn_codec.specs.declared.insn.Insn.{Insn}
 use Rattle.insn_codec.specs.Program.{begins_at}
@@ -22,22 +22,6 @@ joined (Some f) (Some g) = Some (facts_join f g)
 -- the facts on an edge, if it leads there
 abbrev pub on : Bool → Option Facts → Option Facts
 on leads f = if leads then f else None
-
--- the facts on an edge out of an instruction; none of one that may not be run
-abbrev pub falling_of : Result Edges Reason → Option Facts
-falling_of (Err reason) = None
-falling_of (Ok edges) = edges.falling
-
-abbrev pub jumping_of : Result Edges Reason → Option Facts
-jumping_of (Err reason) = None
-jumping_of (Ok edges) = edges.jumping
-
--- the same from what is known before the instruction at slot n, which may be nothing
-abbrev pub falling_from : Shapes → ℕ → Insn → Option Facts → Option Facts
-falling_from shapes n insn known = also known (λ f. falling_of (effect shapes n insn f))
-
-abbrev pub jumping_from : Shapes → ℕ → Insn → Option Facts → Option Facts
-jumping_from shapes n insn known = also known (λ f. jumping_of (effect shapes n insn f))
 
 -- nothing goes on from an instruction that may not be run
 abbrev pub edges_into : Insn → ℕ → ℕ → Result Edges Reason → Option Facts

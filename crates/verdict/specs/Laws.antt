@@ -1,4 +1,4 @@
--- What holds of the verdict, for what stands on it.
+-- What holds of the verdict, for what stands on it. This project's own.
 use Rattle.std.specs.Prelude.{◌≡◌, ◌≢◌, ℕ, List, slice_get, Some, IsSome}
 use Rattle.std.specs.List.{All}
 use Rattle.insn_codec.specs.declared.insn.Insn.{Insn}
@@ -9,13 +9,13 @@ use Rattle.tagged_model.specs.declared.shape.Named.{Named}
 use Rattle.tagged_model.specs.Named.{shapes_named}
 use Rattle.verdict.specs.Shape.{descriptor, shape_fault}
 use Rattle.verdict.specs.Maps.{maps_of, shapes_of}
-use Rattle.verdict.specs.Verdict.{HasNone, IsAccepted, safety_fault}
+use Rattle.verdict.specs.Verdict.{HasNoFault, IsAccepted, safety_fault}
 
 -- in a program without a fault of its shape what an instruction names is there: none is refused for safety since it calls an
 -- unknown function, or loads what is no map
 pub record SafetyFollowsShape : Type 0 where
-  pub helpers : (code : List Insn) (named : List Named) (slot : ℕ) → HasNone (shape_fault code named) → safety_fault (shapes_of code named) code slot ≢ Some UnknownHelper
-  pub maps : (code : List Insn) (named : List Named) (slot : ℕ) → HasNone (shape_fault code named) → safety_fault (shapes_of code named) code slot ≢ Some DescriptorNotMap
+  pub helpers : (code : List Insn) (named : List Named) (slot : ℕ) → HasNoFault (shape_fault code named) → safety_fault (shapes_of code named) code slot ≢ Some UnknownHelper
+  pub maps : (code : List Insn) (named : List Named) (slot : ℕ) → HasNoFault (shape_fault code named) → safety_fault (shapes_of code named) code slot ≢ Some DescriptorNotMap
 
 -- each map that an accepted program loads has a shape, as all descriptors name it and as those do that are kept
 pub record LoadedMapsHaveShapes : Type 0 where

@@ -3,3 +3,4 @@ pub mod Maps
 pub mod Before
 pub mod Verdict
 pub mod Laws
+pub mod inside

@@ -1,5 +1,5 @@
--- The maps that a program loads, by their descriptors, and the shapes of those.
-use Rattle.std.specs.Prelude.{ℕ, Bool, ◌==◌, if◌then◌else◌, not, List, [], ◌∷◌, ◌++◌, Option, None, Some}
+-- The maps that a program loads, by their descriptors, and the shapes of those. This project's own.
+use Rattle.std.specs.Prelude.{ℕ, Bool, ◌==◌, not, List, [], ◌∷◌}
 use Rattle.std.specs.List.{list_any, filter, filter_map}
 use Rattle.insn_codec.specs.declared.insn.Insn.{Insn}
 use Rattle.tagged_model.specs.declared.shape.Named.{Named}
@@ -18,11 +18,6 @@ distinct (fd ∷ fds) = fd ∷ without fd (distinct fds)
 -- the descriptors of all loads of maps, each once, in the order of the first load of each
 abbrev pub maps_of : List Insn → List ℕ
 maps_of code = distinct (filter_map descriptor code)
-
--- one more, behind the others, unless it is among them
-abbrev pub with_descriptor : List ℕ → Option ℕ → List ℕ
-with_descriptor known None = known
-with_descriptor known (Some fd) = if list_any (λ other. other == fd) known then known else known ++ fd ∷ []
 
 abbrev pub is_among : List ℕ → ℕ → Bool
 is_among fds fd = list_any (λ other. other == fd) fds

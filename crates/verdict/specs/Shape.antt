@@ -1,10 +1,10 @@
 -- The shape of a program: where its instructions lead, which of them can be reached, and what is wrong with one whatever
 -- the registers hold. The rules and their order are this project's own.
-use Rattle.std.specs.Prelude.{◌≡◌, ℕ, zero, suc, ◌==◌, Bool, true, false, not, ◌&&◌, ◌||◌, nat_lt, nat_le, List, [], ◌∷◌, Option, Some, None, is_some, IfSome, ◌<◌, if◌then◌else◌}
+use Rattle.std.specs.Prelude.{ℕ, zero, suc, ◌==◌, Bool, true, false, not, ◌&&◌, ◌||◌, nat_lt, nat_le, List, [], ◌∷◌, Option, Some, None, is_some, if◌then◌else◌}
 use Rattle.std.specs.Option.{option_map_or}
 use Rattle.interval.specs.Words.{unsigned}
 use Rattle.insn_codec.specs.declared.insn.Insn.{Insn}
-use Rattle.insn_codec.specs.declared.insn.Insn.TheVariants.{Alu, Movsx, Neg, End, Ja, Jal, Jump, Call, Exit, Load, Const, MapFd}
+use Rattle.insn_codec.specs.declared.insn.Insn.TheVariants.{Call, MapFd}
 use Rattle.insn_codec.specs.Program.{begins_at, slot_count}
 use Rattle.reg_kinds.specs.declared.reason.Reason.{Reason}
 use Rattle.reg_kinds.specs.declared.reason.Reason.TheVariants.{JumpOutside, JumpBackward, FallsOff, Unreachable, UnknownHelper, FramePointerWritten, DescriptorNotOpen, DescriptorNotMap}
@@ -13,27 +13,9 @@ use Rattle.tagged_model.specs.declared.shape.Target.{Target}
 use Rattle.tagged_model.specs.declared.shape.Target.TheVariants as target
 use Rattle.tagged_model.specs.Named.{target_of}
 use Rattle.tagged_model.specs.Helpers.{helper_of}
-use Rattle.transfer.specs.Sound.{falls_to, jumps_to}
+use Rattle.insn_codec.specs.Flow.{falls_to, jumps_to, falls, jumps, written_register}
 
 -- ---- where an instruction leads
-
--- it may go on with the next one
-abbrev pub falls : Insn → Bool
-falls (Ja off) = false
-falls (Jal off) = false
-falls Exit = false
-falls i = true
-
--- it may jump
-abbrev pub jumps : Insn → Bool
-jumps (Ja off) = true
-jumps (Jal off) = true
-jumps (Jump wide cond dst src off) = true
-jumps i = false
-
--- the slot that it jumps to: none where it does not jump, or below slot 0
-abbrev pub jump_target : Insn → ℕ → Option ℕ
-jump_target i at = if jumps i then jumps_to i at else None
 
 -- an instruction begins there
 abbrev pub is_first_slot : List Insn → ℕ → Bool
@@ -65,17 +47,6 @@ abbrev pub is_reachable : List Insn → ℕ → Bool
 is_reachable code i = reached_from code i i
 
 -- ---- what is wrong with an instruction
-
--- the register that it gives a value
-abbrev pub written_register : Insn → Option ℕ
-written_register (Alu wide op dst src) = Some dst
-written_register (Movsx m) = Some m.dst
-written_register (Neg wide dst) = Some dst
-written_register (End how kept dst) = Some dst
-written_register (Load l) = Some l.dst
-written_register (Const dst value) = Some dst
-written_register (MapFd dst fd) = Some dst
-written_register i = None
 
 -- it calls a function that is not known
 abbrev pub calls_unknown : Insn → Bool
@@ -132,7 +103,3 @@ shape_of code named at (Some i) = shape_reason code named i at
 
 unfoldable pub shape_fault : List Insn → List Named → ℕ → Option Reason
 shape_fault code named at = shape_of code named at (begins_at code at)
-
--- each jump leads to a slot of the program
-abbrev pub JumpsLand : List Insn → Type 0
-JumpsLand code = (n : ℕ) (i : Insn) → begins_at code n ≡ Some i → IfSome (jump_target i n) (λ to. to < slot_count code)

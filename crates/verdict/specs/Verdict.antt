@@ -1,9 +1,8 @@
--- The verdict on a program: the first fault of its shape, else the first instruction that may not be run with the facts
--- before it, else it is accepted.
+-- The verdict on a program: the first fault of its shape, else the first instruction that may not be run with the
+-- facts before it, else it is accepted. The rules and their order are this project's own.
 use Rattle.std.specs.Prelude.{◌≡◌, ℕ, ◌<◌, List, Option, Some, None, Result, Ok, Err, ◌⊎◌}
 use Rattle.insn_codec.specs.declared.insn.Insn.{Insn}
 use Rattle.insn_codec.specs.Program.{begins_at}
-use Rattle.reg_kinds.specs.declared.facts.Facts.{Facts}
 use Rattle.reg_kinds.specs.declared.reason.Reason.{Reason}
 use Rattle.reg_kinds.specs.declared.reason.Reason.TheVariants.{Memory}
 use Rattle.tagged_model.specs.declared.shape.Named.{Named}
@@ -20,29 +19,25 @@ abbrev pub reason_of : Result Edges Reason → Option Reason
 reason_of (Ok edges) = None
 reason_of (Err reason) = Some reason
 
--- the first condition that fails of an instruction at slot n; none where nothing is known
-abbrev pub reason_from : Shapes → ℕ → Insn → Option Facts → Option Reason
-reason_from shapes n insn known = also known (λ f. reason_of (effect shapes n insn f))
-
 -- the first condition that fails at a slot; none where nothing is known to come there
 unfoldable pub safety_fault : Shapes → List Insn → ℕ → Option Reason
 safety_fault shapes code at = also (before shapes code at) (λ f. also (begins_at code at) (λ i. reason_of (effect shapes at i f)))
 
 -- the reason at a slot, and none at any slot below
-pub record IsFirst (fault_at : ℕ → Option Reason) (slot : ℕ) (reason : Reason) : Type 0 where
+pub record IsFirstFault (fault_at : ℕ → Option Reason) (slot : ℕ) (reason : Reason) : Type 0 where
   pub here : fault_at slot ≡ Some reason
   pub below : (n : ℕ) → n < slot → fault_at n ≡ None
 
-abbrev pub HasNone : (ℕ → Option Reason) → Type 0
-HasNone fault_at = (n : ℕ) → fault_at n ≡ None
+abbrev pub HasNoFault : (ℕ → Option Reason) → Type 0
+HasNoFault fault_at = (n : ℕ) → fault_at n ≡ None
 
 -- shape comes before safety; the shapes of maps are those that the descriptors name
 abbrev pub IsRefused : List Insn → List Named → ℕ → Reason → Type 0
 IsRefused code named slot reason =
-    IsFirst (shape_fault code named) slot reason ⊎ (HasNone (shape_fault code named) × IsFirst (safety_fault (shapes_of code named) code) slot reason)
+    IsFirstFault (shape_fault code named) slot reason ⊎ (HasNoFault (shape_fault code named) × IsFirstFault (safety_fault (shapes_of code named) code) slot reason)
 
 abbrev pub IsAccepted : List Insn → List Named → Type 0
-IsAccepted code named = HasNone (shape_fault code named) × HasNone (safety_fault (shapes_of code named) code)
+IsAccepted code named = HasNoFault (shape_fault code named) × HasNoFault (safety_fault (shapes_of code named) code)
 
 -- there was no memory for the pass
 abbrev pub memory_fault : VerifyFault

@@ -1,8 +1,7 @@
 //! Where an instruction leads.
 
 ghost use Rattle.std.specs.Prelude.{◌≡◌, ◌≤◌, None, if◌then◌else◌};
-ghost use Rattle.transfer.specs.Sound.{jump_offset, jumps_to};
-ghost use Rattle.verdict.specs.Shape.{falls, jumps, jump_target};
+ghost use Rattle.insn_codec.specs.Flow.{jump_offset, jumps_to, falls, jumps, jump_target};
 
 use insn_codec::{Insn, MAX_SLOTS};
 

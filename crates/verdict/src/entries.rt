@@ -1,10 +1,11 @@
 //! What jumps bring to the slots ahead.
 
-ghost use Rattle.std.specs.Prelude.{◌≡◌, ◌<◌, length, slice_index_or, slice_set, replicate, None, Some, IfOk, IfSome, OnOk, ℕ};
+ghost use Rattle.std.specs.Prelude.{◌≡◌, ◌<◌, length, slice_index_or, slice_set, replicate, option_map, box_value, None, Some, IfOk, IfSome, OnOk, ℕ};
 ghost use Rattle.std.specs.Option.{option_copied};
 ghost use Rattle.verdict.specs.Before.{joined, on};
 ghost use Rattle.verdict.specs.Shape.{is_slot};
 
+use crate::edge_facts::EdgeFacts;
 use reg_kinds::{Facts, join_into};
 use std::alloc::{AllocError, Global};
 use std::marker::Model;
@@ -15,6 +16,8 @@ use std::marker::Model;
 #[derive(Drop)]
 pub(crate) struct Entries {
     facts: Vec<Option<Box<Facts>>>,
+    /// Places of entries that are over, for others.
+    places: Vec<Box<Facts>>,
 }
 
 impl Model for Entries {
@@ -26,6 +29,45 @@ impl Model for Entries {
     ghost view = { λ e. map (option_map box_value) e.facts.items };
 }
 
+/// A place with these facts: one of those that are free, or a new one.
+fn place_of(
+    places: &mut Vec<Box<Facts>>,
+    alloc: Global,
+    facts: &Facts,
+) -> Result<Box<Facts>, AllocError>
+    ensures { IfOk result (λ place. place.value ≡ facts.now) }
+{
+    match places.pop() {
+        Some(mut place) => {
+            *place = *facts;
+            Ok(place)
+        }
+        None => Ok(Box::new(alloc, *facts)?),
+    }
+}
+
+/// Keeps a place for other facts. Where there is no memory to note it, it is given back.
+fn keep(places: &mut Vec<Box<Facts>>, place: Box<Facts>) {
+    let _ = places.push(place);
+}
+
+/// Joins what a jump brings into an entry, in place. The first jump's facts get a place of their own.
+fn join_entry(
+    entry: &mut Option<Box<Facts>>,
+    facts: &Facts,
+    places: &mut Vec<Box<Facts>>,
+    alloc: Global,
+) -> Result<(), AllocError>
+    ensures { OnOk result (option_map box_value entry.new
+        ≡ joined (option_map box_value entry.old) (Some facts.now)) }
+{
+    match entry {
+        Some(known) => join_into(known, facts),
+        None => *entry = Some(place_of(places, alloc, facts)?),
+    }
+    Ok(())
+}
+
 impl Entries {
     /// Nothing yet, for so many slots.
     pub(crate) fn new(alloc: Global, slots: usize) -> Result<Entries, AllocError>
@@ -35,37 +77,30 @@ impl Entries {
         for _ in 0..slots {
             facts.push(None)?;
         }
-        Ok(Entries { facts })
+        let places = Vec::new(alloc);
+        Ok(Entries { facts, places })
     }
 
     /// Joins what came to a slot into what else is known there. Nothing is left of it.
-    pub(crate) fn join_at(&mut self, slot: usize, known: &mut Option<Facts>)
+    pub(crate) fn join_at(&mut self, slot: usize, known: &mut EdgeFacts)
         requires { slot < length self.old }
         ensures known { known.new ≡ joined known.old (slice_index_or self.old slot None) }
         ensures taken { self.new ≡ slice_set self.old slot None }
     {
         if let Some(entry) = self.facts[slot].take() {
-            match known {
-                Some(facts) => join_into(facts, &entry),
-                None => *known = Some(*entry),
-            }
+            known.join(&entry);
+            keep(&mut self.places, entry);
         }
     }
 
     /// Joins what a jump brings to a slot into what came there before.
     fn put(&mut self, slot: usize, facts: &Facts) -> Result<(), AllocError>
         requires { slot < length self.old }
-        ensures { OnOk result (self.new ≡ slice_set self.old slot (joined (slice_index_or self.old slot None) (Some facts.now))) }
+        ensures { OnOk result (self.new ≡ slice_set self.old slot
+            (joined (slice_index_or self.old slot None) (Some facts.now))) }
     {
-        let entry = match self.facts[slot].take() {
-            Some(mut entry) => {
-                join_into(&mut entry, facts);
-                entry
-            }
-            None => Box::new(*self.facts.allocator(), *facts)?,
-        };
-        self.facts[slot] = Some(entry);
-        Ok(())
+        let alloc = *self.facts.allocator();
+        join_entry(&mut self.facts[slot], facts, &mut self.places, alloc)
     }
 
     /// Sends what is known on a jump's edge to the slot that it leads to, where there are both.
@@ -75,7 +110,9 @@ impl Entries {
         facts: Option<&Facts>,
     ) -> Result<(), AllocError>
         requires { IfSome target (λ slot. slot < length self.old) }
-        ensures sent { OnOk result ((i : ℕ) → slice_index_or self.new i None ≡ joined (slice_index_or self.old i None) (on (is_slot target i) (option_copied facts.entry))) }
+        ensures sent { OnOk result ((i : ℕ) → slice_index_or self.new i None
+            ≡ joined (slice_index_or self.old i None)
+            (on (is_slot target i) (option_copied facts.entry))) }
         ensures long { OnOk result (length self.new ≡ length self.old) }
     {
         if let (Some(slot), Some(facts)) = (target, facts) {

@@ -14,7 +14,7 @@ use tagged_model::Named;
 
 /// The maps that a program loads.
 #[derive(Debug, Drop)]
-pub struct Loaded {
+pub struct LoadedMaps {
     /// Their descriptors, each once, in the order of the first load of each.
     pub maps: Vec<u32>,
     /// What these descriptors name.
@@ -27,15 +27,17 @@ pub struct Loaded {
 ///
 /// The first fault of the program's shape, and where there is none the first instruction that may not be run with what is
 /// known before it, each with its slot and its first reason. `Memory` at slot 0 where there was no memory for the verdict.
-pub fn judge(alloc: Global, program: &Program, named: &[Named]) -> Result<Loaded, VerifyFault>
+pub fn judge(alloc: Global, program: &Program, named: &[Named]) -> Result<LoadedMaps, VerifyFault>
     ensures accepted { OnOk result (IsAccepted program.now named.now) }
     ensures maps { IfOk result (λ loaded. loaded.maps.items ≡ maps_of program.now) }
-    ensures entries { IfOk result (λ loaded. loaded.entries.items ≡ entries_of (maps_of program.now) named.now) }
-    ensures refused { IfErr result (λ e. (e ≡ memory_fault) ⊎ IsRefused program.now named.now e.slot e.reason) }
+    ensures entries { IfOk result (λ loaded. loaded.entries.items
+        ≡ entries_of (maps_of program.now) named.now) }
+    ensures refused { IfErr result (λ e. (e ≡ memory_fault)
+        ⊎ IsRefused program.now named.now e.slot e.reason) }
 {
     check_shape(alloc, program, named)?;
     let maps = loaded_maps(alloc, program)?;
     let entries = entries_of(alloc, named, &maps)?;
     check_safety(alloc, program, &entries)?;
-    Ok(Loaded { maps, entries })
+    Ok(LoadedMaps { maps, entries })
 }

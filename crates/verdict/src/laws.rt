@@ -12,17 +12,20 @@ use transfer::{effects_need_no_memory, transfer_reasons};
 
 /// A program is refused in one way: at one slot, for one reason.
 pub fn one_refusal()
-    ensures { (code : List Insn) (named : List Named) (m n : ℕ) (a b : Reason) → IsRefused code named m a → IsRefused code named n b → (m ≡ n) × (a ≡ b) }
+    ensures { (code : List Insn) (named : List Named) (m n : ℕ) (a b : Reason)
+        → IsRefused code named m a → IsRefused code named n b → (m ≡ n) × (a ≡ b) }
 {}
 
 /// What is accepted is not refused.
 pub fn accepted_is_not_refused()
-    ensures { (code : List Insn) (named : List Named) (slot : ℕ) (reason : Reason) → IsAccepted code named → ¬ IsRefused code named slot reason }
+    ensures { (code : List Insn) (named : List Named) (slot : ℕ) (reason : Reason)
+        → IsAccepted code named → ¬ IsRefused code named slot reason }
 {}
 
 /// A program is refused by a rule, and not for want of memory: that is told alone where `judge` got none.
 pub fn refused_by_a_rule()
-    ensures { (code : List Insn) (named : List Named) (slot : ℕ) (reason : Reason) → IsRefused code named slot reason → reason ≢ Memory }
+    ensures { (code : List Insn) (named : List Named) (slot : ℕ) (reason : Reason)
+        → IsRefused code named slot reason → reason ≢ Memory }
 {
     effects_need_no_memory();
 }

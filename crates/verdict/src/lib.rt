@@ -4,6 +4,7 @@
 //! instruction is asked whether it may be run with what is known before it. Both are one pass over the slots.
 #![tactic(auto)]
 
+mod edge_facts;
 mod edges;
 mod entries;
 mod fault;
@@ -15,7 +16,7 @@ mod pass;
 mod shape;
 
 pub use fault::VerifyFault;
-pub use judging::{Loaded, judge};
+pub use judging::{LoadedMaps, judge};
 pub use laws::{
     accepted_is_not_refused, loaded_maps_have_shapes, maps_are_listed, one_refusal,
     refused_by_a_rule, safety_follows_shape,

@@ -2,7 +2,8 @@
 
 ghost use Rattle.std.specs.Prelude.{◌≡◌, IfOk, OnOk};
 ghost use Rattle.verdict.specs.Shape.{descriptor};
-ghost use Rattle.verdict.specs.Maps.{with_descriptor, maps_of, is_among, entries_of};
+ghost use Rattle.verdict.specs.Maps.{maps_of, is_among, entries_of};
+ghost use Rattle.verdict.specs.inside.Descriptors.{with_descriptor};
 
 use crate::shape::descriptor;
 use insn_codec::{Insn, Program};

@@ -4,10 +4,14 @@ ghost use Rattle.std.specs.Prelude.{◌≡◌, ◌⊎◌, ◌<◌, ◌≤◌, �
 ghost use Rattle.tagged_model.specs.Cells.{also};
 ghost use Rattle.tagged_model.specs.Named.{shapes_named};
 ghost use Rattle.transfer.specs.Flows.{edges_of};
-ghost use Rattle.verdict.specs.Before.{joined, on, falling_from, jumping_from};
-ghost use Rattle.verdict.specs.Shape.{is_slot, jump_target, JumpsLand};
-ghost use Rattle.verdict.specs.Verdict.{IsFirst, HasNone, reason_from, safety_fault, memory_fault};
+ghost use Rattle.verdict.specs.Before.{joined, on};
+ghost use Rattle.verdict.specs.inside.Edges.{falling_from, jumping_from, reason_from};
+ghost use Rattle.verdict.specs.Shape.{is_slot};
+ghost use Rattle.verdict.specs.inside.Jumps.{JumpsLand};
+ghost use Rattle.insn_codec.specs.Flow.{jump_target};
+ghost use Rattle.verdict.specs.Verdict.{IsFirstFault, HasNoFault, safety_fault, memory_fault};
 
+use crate::edge_facts::EdgeFacts;
 use crate::edges::jump_target;
 use crate::entries::Entries;
 use crate::fault::VerifyFault;
@@ -21,32 +25,38 @@ use transfer::{Flow, apply};
 #[derive(Drop)]
 struct Pass {
     /// By the falling edge into the next instruction.
-    falling: Option<Facts>,
+    falling: EdgeFacts,
     /// By the jumps that lead ahead.
     entries: Entries,
+    /// Room for what is known where the jump at hand is taken.
+    taken: Facts,
 }
 
 impl Pass {
     /// Sends the facts in hand along the edges of an instruction.
-    fn leave(&mut self, flow: &Flow, target: Option<usize>) -> Result<(), AllocError>
+    fn leave(&mut self, flow: Flow, target: Option<usize>) -> Result<(), AllocError>
         requires known { IsSome self.old.falling }
         requires lands { IfSome target (λ to. to < length self.old.entries) }
-        ensures falling { OnOk result (self.new.falling ≡ also self.old.falling (λ f. (edges_of flow.now f).falling)) }
-        ensures sent { OnOk result ((i : ℕ) → slice_index_or self.new.entries i None ≡ joined (slice_index_or self.old.entries i None) (on (is_slot target i) (also self.old.falling (λ f. (edges_of flow.now f).jumping)))) }
+        ensures falling { OnOk result (self.new.falling ≡ also self.old.falling
+            (λ f. (edges_of flow f self.old.taken).falling)) }
+        ensures sent { OnOk result ((i : ℕ) → slice_index_or self.new.entries i None
+            ≡ joined (slice_index_or self.old.entries i None)
+            (on (is_slot target i) (also self.old.falling
+            (λ f. (edges_of flow f self.old.taken).jumping)))) }
         ensures long { OnOk result (length self.new.entries ≡ length self.old.entries) }
     {
         match flow {
-            Flow::Ends => self.falling = None,
+            Flow::Ends => self.falling.is_known = false,
             Flow::Falls => {}
             Flow::Jumps => {
-                self.entries.send(target, self.falling.as_ref())?;
-                self.falling = None;
+                self.entries.send(target, Some(&self.falling.facts))?;
+                self.falling.is_known = false;
             }
-            Flow::Branches { falls, taken } => {
-                self.entries.send(target, taken.as_ref())?;
-                if !*falls {
-                    self.falling = None;
+            Flow::Branches { falls, jumps } => {
+                if jumps {
+                    self.entries.send(target, Some(&self.taken))?;
                 }
+                self.falling.is_known = falls;
             }
         }
         Ok(())
@@ -58,16 +68,26 @@ impl Pass {
         requires room { slot < MAX_SLOTS }
         requires within { slot < length self.old.entries }
         requires lands { IfSome (jump_target insn.now slot) (λ to. to < length self.old.entries) }
-        ensures ok { OnOk result (reason_from (shapes_named named.now) slot insn.now (joined self.old.falling (slice_index_or self.old.entries slot None)) ≡ None) }
-        ensures falling { OnOk result (self.new.falling ≡ falling_from (shapes_named named.now) slot insn.now (joined self.old.falling (slice_index_or self.old.entries slot None))) }
-        ensures sent { OnOk result ((i : ℕ) → slot < i → slice_index_or self.new.entries i None ≡ joined (slice_index_or self.old.entries i None) (on (is_slot (jump_target insn.now slot) i) (jumping_from (shapes_named named.now) slot insn.now (joined self.old.falling (slice_index_or self.old.entries slot None))))) }
+        ensures ok { OnOk result (reason_from (shapes_named named.now) slot insn.now
+            (joined self.old.falling (slice_index_or self.old.entries slot None)) ≡ None) }
+        ensures falling { OnOk result (self.new.falling
+            ≡ falling_from (shapes_named named.now) slot insn.now
+            (joined self.old.falling (slice_index_or self.old.entries slot None))) }
+        ensures sent { OnOk result ((i : ℕ) → slot < i → slice_index_or self.new.entries i None
+            ≡ joined (slice_index_or self.old.entries i None)
+            (on (is_slot (jump_target insn.now slot) i)
+            (jumping_from (shapes_named named.now) slot insn.now
+            (joined self.old.falling (slice_index_or self.old.entries slot None))))) }
         ensures long { OnOk result (length self.new.entries ≡ length self.old.entries) }
-        ensures refused { IfErr result (λ e. (e ≡ memory_fault) ⊎ ((e.slot ≡ slot) × (reason_from (shapes_named named.now) slot insn.now (joined self.old.falling (slice_index_or self.old.entries slot None)) ≡ Some e.reason))) }
+        ensures refused { IfErr result (λ e. (e ≡ memory_fault)
+            ⊎ ((e.slot ≡ slot) × (reason_from (shapes_named named.now) slot insn.now
+            (joined self.old.falling (slice_index_or self.old.entries slot None))
+            ≡ Some e.reason))) }
     {
         self.entries.join_at(slot, &mut self.falling);
-        if let Some(facts) = &mut self.falling {
-            match apply(facts, named, slot, insn) {
-                Ok(flow) => self.leave(&flow, jump_target(insn, slot))?,
+        if self.falling.is_known {
+            match apply(&mut self.falling.facts, &mut self.taken, named, slot, insn) {
+                Ok(flow) => self.leave(flow, jump_target(insn, slot))?,
                 Err(reason) => return Err(VerifyFault { slot, reason }),
             }
         }
@@ -83,16 +103,21 @@ pub(crate) fn check_safety(
     named: &[Named],
 ) -> Result<(), VerifyFault>
     requires { JumpsLand program.now }
-    ensures sound { OnOk result (HasNone (safety_fault (shapes_named named.now) program.now)) }
-    ensures refused { IfErr result (λ e. (e ≡ memory_fault) ⊎ IsFirst (safety_fault (shapes_named named.now) program.now) e.slot e.reason) }
+    ensures sound { OnOk result (HasNoFault (safety_fault (shapes_named named.now) program.now)) }
+    ensures refused { IfErr result (λ e. (e ≡ memory_fault)
+        ⊎ IsFirstFault (safety_fault (shapes_named named.now) program.now) e.slot e.reason) }
 {
     program.insns_adjoin();
     joins_commute();
     joins_associate();
     let slots = program.slots();
     let mut pass = Pass {
-        falling: Some(Facts::at_entry()),
+        falling: EdgeFacts {
+            is_known: true,
+            facts: Facts::at_entry(),
+        },
         entries: Entries::new(alloc, slots)?,
+        taken: Facts::at_entry(),
     };
     for slot in 0..slots {
         if let Some(insn) = program.get(slot) {

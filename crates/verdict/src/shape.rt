@@ -3,9 +3,10 @@
 ghost use Rattle.std.specs.Prelude.{◌≡◌, ◌⊎◌, ◌+◌, ◌<◌, ◌≤◌, ◌&&◌, ◌||◌, not, nat_le, ℕ, Bool, false, [], ◌∷◌, length, slice_index_or, IsTrue, IfSome, IfErr, OnOk, Some};
 ghost use Rattle.insn_codec.specs.Program.{begins_at, slot_count};
 ghost use Rattle.reg_kinds.specs.declared.reason.Reason.TheVariants.{JumpOutside, JumpBackward, DescriptorNotOpen, DescriptorNotMap};
-ghost use Rattle.transfer.specs.Sound.{falls_to, jumps_to};
-ghost use Rattle.verdict.specs.Shape.{falls, jumps, jump_target, leads_into, is_reachable, is_slot, calls_unknown, written_register, descriptor, is_not_open, is_not_map, leads_outside, leads_backward, first_reason, shape_reason, shape_fault, JumpsLand};
-ghost use Rattle.verdict.specs.Verdict.{IsFirst, HasNone, memory_fault};
+ghost use Rattle.insn_codec.specs.Flow.{falls_to, jumps_to, falls, jumps, jump_target, written_register};
+ghost use Rattle.verdict.specs.Shape.{leads_into, is_reachable, is_slot, calls_unknown, descriptor, is_not_open, is_not_map, leads_outside, leads_backward, first_reason, shape_reason, shape_fault};
+ghost use Rattle.verdict.specs.inside.Jumps.{JumpsLand};
+ghost use Rattle.verdict.specs.Verdict.{IsFirstFault, HasNoFault, memory_fault};
 
 use crate::edges::{falls, jump_target, jumps};
 use crate::fault::VerifyFault;
@@ -65,7 +66,9 @@ pub fn descriptor(insn: &Insn) -> Option<u32>
 
 /// What is wrong with the descriptor that an instruction names.
 fn descriptor_reason(named: &[Named], insn: &Insn) -> Option<Reason>
-    ensures { result ≡ first_reason ((is_not_open named.now (descriptor insn.now), DescriptorNotOpen) ∷ (is_not_map named.now (descriptor insn.now), DescriptorNotMap) ∷ []) }
+    ensures { result ≡ first_reason
+        ((is_not_open named.now (descriptor insn.now), DescriptorNotOpen)
+        ∷ (is_not_map named.now (descriptor insn.now), DescriptorNotMap) ∷ []) }
 {
     match target_of(named, descriptor(insn)?) {
         None => Some(Reason::DescriptorNotOpen),
@@ -77,7 +80,9 @@ fn descriptor_reason(named: &[Named], insn: &Insn) -> Option<Reason>
 /// What is wrong with where an instruction jumps to.
 fn jump_reason(program: &Program, insn: &Insn, slot: usize) -> Option<Reason>
     requires { slot ≤ MAX_SLOTS }
-    ensures { result ≡ first_reason ((jumps insn.now && leads_outside program.now (jumps_to insn.now slot), JumpOutside) ∷ (jumps insn.now && leads_backward (jumps_to insn.now slot) slot, JumpBackward) ∷ []) }
+    ensures { result ≡ first_reason
+        ((jumps insn.now && leads_outside program.now (jumps_to insn.now slot), JumpOutside)
+        ∷ (jumps insn.now && leads_backward (jumps_to insn.now slot) slot, JumpBackward) ∷ []) }
 {
     if !jumps(insn) {
         return None;
@@ -122,7 +127,8 @@ fn mark_edges(reached: &mut [bool], insn: &Insn, slot: usize)
     requires room { slot ≤ MAX_SLOTS }
     requires falls { IsTrue (falls insn.now) → falls_to insn.now slot < length reached.old }
     requires jumps { IfSome (jump_target insn.now slot) (λ to. to < length reached.old) }
-    ensures { (i : ℕ) → slot < i → slice_index_or reached.new i false ≡ (slice_index_or reached.old i false || leads_into (Some insn.now) slot i) }
+    ensures { (i : ℕ) → slot < i → slice_index_or reached.new i false
+        ≡ (slice_index_or reached.old i false || leads_into (Some insn.now) slot i) }
 {
     if falls(insn) {
         reached[slot + insn.slots()] = true;
@@ -139,9 +145,10 @@ pub(crate) fn check_shape(
     program: &Program,
     named: &[Named],
 ) -> Result<(), VerifyFault>
-    ensures sound { OnOk result (HasNone (shape_fault program.now named.now)) }
+    ensures sound { OnOk result (HasNoFault (shape_fault program.now named.now)) }
     ensures lands { OnOk result (JumpsLand program.now) }
-    ensures refused { IfErr result (λ e. (e ≡ memory_fault) ⊎ IsFirst (shape_fault program.now named.now) e.slot e.reason) }
+    ensures refused { IfErr result (λ e. (e ≡ memory_fault)
+        ⊎ IsFirstFault (shape_fault program.now named.now) e.slot e.reason) }
 {
     program.insns_adjoin();
     let slots = program.slots();

@@ -10,14 +10,14 @@ use Rattle.reg_kinds.specs.Kinds.{entry}
 use Rattle.tagged_model.specs.declared.shape.Named.{Named}
 use Rattle.tagged_model.specs.Named.{Shapes}
 use Rattle.tagged_model.specs.Cells.{also}
-use Rattle.tagged_model.specs.State.{State}
+use Rattle.tagged_model.specs.State.{RunState}
 use Rattle.tagged_model.specs.Admits.{Witness, AdmitsBy}
 use Rattle.tagged_model.specs.Laws.{JoinAdmits}
 use Rattle.transfer.specs.Branches.{Edges}
 use Rattle.transfer.specs.Effects.{effect}
 use Rattle.verdict.specs.Shape.{falls_into, jumps_into, shape_fault}
 use Rattle.verdict.specs.Before.{joined, on, edges_into, sent, inflow, before}
-use Rattle.verdict.specs.Verdict.{HasNone}
+use Rattle.verdict.specs.Verdict.{HasNoFault}
 use Rattle.verifier.proofs.Slots.{begins_first}
 use Rattle.verifier.proofs.Edges.{AreThere}
 use Rattle.verifier.proofs.Leads.{IsShaped, shaped, falls_begins, jumps_begins}
@@ -31,7 +31,7 @@ either_there (Some f) b h = inl tt
 on_there : (leads : Bool) (o : Option Facts) → AreThere (on leads o) → leads ≡ true
 on_there leads o = cond_both leads o None (λ z. AreThere z → leads ≡ true) (λ t _. t) (λ _ h. absurd h)
 
-module _ (shapes : Shapes) (code : List Insn) (named : List Named) (program : IsProgram code) (fine : HasNone (shape_fault code named)) where
+module _ (shapes : Shapes) (code : List Insn) (named : List Named) (program : IsProgram code) (fine : HasNoFault (shape_fault code named)) where
   pub shape_at : (n : ℕ) (i : Insn) → begins_at code n ≡ Some i → IsShaped code i n
   shape_at = shaped code named fine
 
@@ -69,18 +69,18 @@ module _ (shapes : Shapes) (code : List Insn) (named : List Named) (program : Is
 
 -- ---- facts that are there, and admit a state
 
-abbrev pub AdmitOn : Witness → Option Facts → State → Type 0
+abbrev pub AdmitOn : Witness → Option Facts → RunState → Type 0
 AdmitOn witness None s = ⊥
 AdmitOn witness (Some f) s = AdmitsBy witness f s
 
-pub are_there : (witness : Witness) (o : Option Facts) (s : State) → AdmitOn witness o s → AreThere o
+pub are_there : (witness : Witness) (o : Option Facts) (s : RunState) → AdmitOn witness o s → AreThere o
 are_there witness None s h = h
 are_there witness (Some f) s h = tt
 
-on_edge : (witness : Witness) (leads : Bool) (o : Option Facts) (s : State) → leads ≡ true → AdmitOn witness o s → AdmitOn witness (on leads o) s
+on_edge : (witness : Witness) (leads : Bool) (o : Option Facts) (s : RunState) → leads ≡ true → AdmitOn witness o s → AdmitOn witness (on leads o) s
 on_edge witness leads o s t h = subst (λ o. AdmitOn witness o s) (sym (cond-true leads o None t)) h
 
-module _ (law : JoinAdmits) (witness : Witness) (s : State) where
+module _ (law : JoinAdmits) (witness : Witness) (s : RunState) where
   joined_left : (a b : Option Facts) → AdmitOn witness a s → AdmitOn witness (joined a b) s
   joined_left None b h = absurd h
   joined_left (Some f) None h = h

@@ -3,7 +3,7 @@ use Rattle.std.proofs.Common.{◌≡◌, ℕ, ℤ, Bool, true, Option, Some, Non
 use Rattle.interval.specs.declared.operator.Operator.TheVariants as on_words
 use Rattle.interval.specs.Ranges.{constant}
 use Rattle.insn_codec.specs.declared.insn.AluOp.{AluOp}
-use Rattle.insn_codec.specs.declared.insn.Size.{Size as AccessSize}
+use Rattle.insn_codec.specs.declared.insn.Size.{Size}
 use Rattle.insn_codec.specs.declared.insn.Operand.{Operand}
 use Rattle.insn_codec.specs.declared.insn.Insn.{Insn}
 use Rattle.insn_codec.specs.declared.insn.Insn.TheVariants.{Alu, Movsx, Neg, End, Ja, Jal, Jump, Call, Exit, Load, Store, Const, MapFd}
@@ -17,12 +17,12 @@ use Rattle.tagged_model.specs.Operators.{narrow_of, order_of, kept_of, size_of}
 use Rattle.transfer.specs.Branches.{Edges}
 use Rattle.transfer.specs.Branches.{falls as falls_on}
 use Rattle.transfer.specs.Arithmetic.{readable, arithmetic_kind, of_scalar}
-use Rattle.transfer.specs.Effects.{source_kind, first_kind, assigns, load_kind, store_facts, map_of, known, ends_with, effect}
+use Rattle.transfer.specs.Effects.{source_kind, first_kind, assigns, load_kind, store_facts, map_of, known, exits_with, effect}
 use Rattle.transfer.specs.Calls.{call_facts}
 use Rattle.tagged_model.specs.Named.{Shapes}
 use Rattle.tagged_model.specs.Helpers.{helper_of}
 use Rattle.interval.specs.Words.{unsigned}
-use Rattle.verdict.specs.Shape.{falls, jumps}
+use Rattle.insn_codec.specs.Flow.{falls, jumps}
 
 -- ---- facts are there
 
@@ -54,7 +54,7 @@ falls_alone i f h = record { falling = λ _. h; jumping = λ z. absurd z }
 assigned_alone : (i : Insn) (f : Facts) (dst : ℕ) (r : Result Kind Reason) → falls i ≡ true → IfOk (LeadOnly i) (assigns f dst r)
 assigned_alone i f dst r h = after_given (LeadOnly i) r _ (λ k. falls_alone i _ h)
 
-ends_nowhere : (k : Kind) → IfOk (LeadOnly Exit) (ends_with k)
+ends_nowhere : (k : Kind) → IfOk (LeadOnly Exit) (exits_with k)
 ends_nowhere (kind.Scalar r) = record { falling = λ z. absurd z; jumping = λ z. absurd z }
 ends_nowhere k = tt
 
@@ -76,7 +76,7 @@ module _ (shapes : Shapes) (at : ℕ) where
       (λ a. after_given (LeadOnly (Alu wide op dst src)) (readable (source_kind f wide src)) _
       (λ b. assigned_alone (Alu wide op dst src) f dst (arithmetic_kind wide op a b) refl))
 
-  store_leads : (size : AccessSize) (dst : ℕ) (src : Operand) (off : ℤ) (f : Facts) → IfOk (LeadOnly (Store size dst src off)) (effect shapes at (Store size dst src off) f)
+  store_leads : (size : Size) (dst : ℕ) (src : Operand) (off : ℤ) (f : Facts) → IfOk (LeadOnly (Store size dst src off)) (effect shapes at (Store size dst src off) f)
   store_leads size dst src off f =
       after_given (LeadOnly (Store size dst src off)) (readable (kind_at f dst)) _
       (λ k. after_given (LeadOnly (Store size dst src off)) (readable (source_kind f true src)) _
@@ -91,7 +91,7 @@ module _ (shapes : Shapes) (at : ℕ) where
   effect_leads (Jal off) f = jumps_alone (Jal off) f refl
   effect_leads (Jump wide cond dst src off) f = either_way (Jump wide cond dst src off) (effect shapes at (Jump wide cond dst src off) f) refl refl
   effect_leads (Call id) f = after_given (LeadOnly (Call id)) (known (helper_of id)) _ (λ h. after_given (LeadOnly (Call id)) (call_facts shapes at h f) falls_on (λ g. falls_alone (Call id) g refl))
-  effect_leads Exit f = after_given (LeadOnly Exit) (readable (kind_at f 0)) ends_with ends_nowhere
+  effect_leads Exit f = after_given (LeadOnly Exit) (readable (kind_at f 0)) exits_with ends_nowhere
   effect_leads (Load l) f = one_leads (Load l) f l.dst l.src (load_kind shapes f (size_of l.size) l.signed l.off) refl
   effect_leads (Store size dst src off) f = store_leads size dst src off f
   effect_leads (Const dst value) f = falls_alone (Const dst value) (with_kind f dst (kind.Scalar (constant value))) refl

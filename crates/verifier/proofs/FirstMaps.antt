@@ -10,8 +10,8 @@ use Rattle.tagged_model.specs.declared.shape.MapShape.{MapShape}
 use Rattle.tagged_model.specs.Named.{Shapes}
 use Rattle.tagged_model.specs.Table.{Table}
 use Rattle.tagged_model.specs.State.{RunMap}
-use Rattle.tagged_model.specs.Step.{Maps, numbered, first_map}
-use Rattle.tagged_model.specs.Admits.{AreBytes, Owns, IsMapOf}
+use Rattle.tagged_model.specs.Step.{MapsByDescriptor, numbered, first_map}
+use Rattle.tagged_model.specs.Admits.{AreBytes, KeysHaveObjects, IsMapOf}
 use Rattle.verifier.specs.Sound.{IsTableOf}
 
 -- ---- the objects of a map are numbered in order
@@ -21,7 +21,7 @@ unfolding numbered
 same_keys n [] = refl
 same_keys n (e ∷ es) = ap (λ (ks : List (List ℕ)). e.0 ∷ ks) (same_keys (n + 1) es)
 
-owned : (n count : ℕ) (es : List (List ℕ × List ℕ)) → n + length es ≤ count → Owns count (numbered n es)
+owned : (n count : ℕ) (es : List (List ℕ × List ℕ)) → n + length es ≤ count → KeysHaveObjects count (numbered n es)
 unfolding numbered
 owned n count [] h = tt
 owned n count (e ∷ es) h = (omega arith, owned (n + 1) count es (omega arith))
@@ -57,12 +57,12 @@ first_of : (P : Table (List ℕ) → Type 0) (o : Option (Table (List ℕ))) (u 
 first_of P None u h e = absurd (none-some u e)
 first_of P (Some t) u h e = (t, cc, h t refl)
 
-pub first_values : (maps : Maps) → ((m : ℕ) (t : Table (List ℕ)) → maps m ≡ Some t → All AreBytes (values_of t.entries)) → (m : ℕ) (u : RunMap) → option_map first_map (maps m) ≡ Some u → (number : ℕ) → AreBytes (u.values number)
+pub first_values : (maps : MapsByDescriptor) → ((m : ℕ) (t : Table (List ℕ)) → maps m ≡ Some t → All AreBytes (values_of t.entries)) → (m : ℕ) (u : RunMap) → option_map first_map (maps m) ≡ Some u → (number : ℕ) → AreBytes (u.values number)
 first_values maps values m u e number =
     let f = first_of (λ t. All AreBytes (values_of t.entries)) (maps m) u (values m) e in
     subst (λ (u : RunMap). AreBytes (u.values number)) f.1 (all_bytes (values_of f.0.entries) f.2 number)
 
-pub first_maps : (shapes : Shapes) (maps : Maps) → ((m : ℕ) (shape : MapShape) → shapes m ≡ Some shape → (t : Table (List ℕ)) × (maps m ≡ Some t) × IsTableOf shape t) → (m : ℕ) (shape : MapShape) → shapes m ≡ Some shape → (u : RunMap) × (option_map first_map (maps m) ≡ Some u) × IsMapOf shape u
+pub first_maps : (shapes : Shapes) (maps : MapsByDescriptor) → ((m : ℕ) (shape : MapShape) → shapes m ≡ Some shape → (t : Table (List ℕ)) × (maps m ≡ Some t) × IsTableOf shape t) → (m : ℕ) (shape : MapShape) → shapes m ≡ Some shape → (u : RunMap) × (option_map first_map (maps m) ≡ Some u) × IsMapOf shape u
 first_maps shapes maps has m shape e =
     let h = has m shape e in
     (first_map h.0, ap (option_map first_map) h.1, map_is shape h.0 h.2)

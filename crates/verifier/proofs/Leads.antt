@@ -1,16 +1,17 @@
 -- Where an instruction of an accepted program leads, another one begins.
-use Rattle.std.proofs.Common.{◌≡◌, ℕ, ◌<◌, ◌==◌, Bool, true, false, List, Option, Some, None, refl, sym, ap, subst, ⊎_elim}
+use Rattle.std.proofs.Common.{◌≡◌, ℕ, ◌<◌, ◌==◌, Bool, true, false, List, Option, Some, None, refl, sym, ap, subst, ◌∙◌, ⊎_elim}
 use Rattle.std.specs.Prelude.{◌&&◌, nat_le, nat_lt}
 use Rattle.std.specs.Option.{is_some, IsSome}
-use Rattle.std.proofs.lemmas.Bool.{and_parts, and_from, and_cases, both_ways, false≢true, true≢false, not-false, eqb-true, eq-eqb, leb-false, lt-ltb}
+use Rattle.std.proofs.lemmas.Bool.{and_parts, and_from, and_cases, both_ways, false≢true, true≢false, not-false, eqb-true, eq-eqb, leb-false, lt-ltb, cond-true}
 use Rattle.insn_codec.specs.declared.insn.Insn.{Insn}
 use Rattle.insn_codec.specs.declared.insn.Insn.TheVariants.{Ja, Jal, Jump}
 use Rattle.insn_codec.specs.Program.{slot_count, begins_at}
 use Rattle.tagged_model.specs.declared.shape.Named.{Named}
-use Rattle.transfer.specs.Sound.{falls_to, jumps_to}
-use Rattle.verdict.specs.Shape.{falls, jumps, is_slot, falls_into, jumps_into, leads_outside, leads_backward, shape_fault}
-use Rattle.verdict.specs.Verdict.{HasNone}
+use Rattle.insn_codec.specs.Flow.{falls_to, jumps_to, falls, jumps, jump_target}
+use Rattle.verdict.specs.Shape.{is_slot, falls_into, jumps_into, leads_outside, leads_backward, shape_fault}
+use Rattle.verdict.specs.Verdict.{HasNoFault}
 use Rattle.verdict.proofs.Reached.{fine_at}
+use Rattle.verifier.specs.Verified.{GoesAhead}
 use Rattle.verifier.proofs.Slots.{begins_next}
 
 -- ---- the shape of an instruction
@@ -21,7 +22,7 @@ pub record IsShaped (code : List Insn) (i : Insn) (n : ℕ) : Type 0 where
   pub forward : (jumps i && leads_backward (jumps_to i n) n) ≡ false
   pub on : (falls i && nat_le (slot_count code) (falls_to i n)) ≡ false
 
-pub shaped : (code : List Insn) (named : List Named) → HasNone (shape_fault code named) → (n : ℕ) (i : Insn) → begins_at code n ≡ Some i → IsShaped code i n
+pub shaped : (code : List Insn) (named : List Named) → HasNoFault (shape_fault code named) → (n : ℕ) (i : Insn) → begins_at code n ≡ Some i → IsShaped code i n
 shaped code named none n i begins = let fine = fine_at code named none n i begins in record { inside = fine.inside; forward = fine.forward; on = fine.goes_on }
 
 -- ---- where its edges lead
@@ -80,3 +81,22 @@ module _ (code : List Insn) (n : ℕ) (i : Insn) (shape : IsShaped code i n) whe
   jumps_lead m h e =
       let at = subst (λ o. is_slot o m ≡ true) (sym e) (eq-eqb m m refl) in
       and_from (jumps i && is_slot (jumps_to i n) m) (nat_lt n m) (and_from (jumps i) (is_slot (jumps_to i n) m) h at) (lt-ltb n m (jump_at m h e).0)
+
+-- ---- a program without a fault of its shape
+
+some_slot : (o : Option ℕ) → IsSome o → (to : ℕ) × (o ≡ Some to)
+some_slot None h = absurd (false≢true h)
+some_slot (Some to) h = (to, refl)
+
+pub goes_ahead : (code : List Insn) (named : List Named) → HasNoFault (shape_fault code named) → GoesAhead code
+goes_ahead code named none =
+    record {
+      behind = λ at i begins h.
+          let shape = shaped code named none at i begins in
+          falls_begins code at i shape (falls_to i at) begins (falls_lead code at i shape (falls_to i at) h refl);
+      target = λ at i begins h.
+          let shape = shaped code named none at i begins in
+          let to = some_slot (jumps_to i at) (target_is code at i shape) in
+          let there = jump_at code at i shape to.0 h to.1 in
+          (to.0, cond-true (jumps i) (jumps_to i at) None h ∙ to.1, there.0, there.1);
+    }

@@ -15,13 +15,13 @@ use Rattle.tagged_model.specs.Named.{Shapes}
 use Rattle.tagged_model.specs.declared.value.Tagged.TheVariants.{Scalar, Pointer}
 use Rattle.tagged_model.specs.declared.value.Outcome.TheVariants.{Value, Fault}
 use Rattle.tagged_model.specs.Cells.{Cell, bytes}
-use Rattle.tagged_model.specs.State.{State}
-use Rattle.tagged_model.specs.Step.{Step, goes, ends, faults, step, Ending, after, first, others, run, begins_with, Maps, begin}
+use Rattle.tagged_model.specs.State.{RunState}
+use Rattle.tagged_model.specs.Step.{Step, goes, ends, faults, step, Ending, after, first, others, run, begins_with, MapsByDescriptor, begin}
 use Rattle.tagged_model.specs.Admits.{Witness, objects_of, HasKind, HasSlot, HasBytes, AdmitsBy}
 use Rattle.verdict.specs.Maps.{shapes_of}
 use Rattle.verdict.specs.Before.{inflow, before}
 use Rattle.verdict.specs.Verdict.{IsAccepted}
-use Rattle.verifier.specs.Sound.{IsAdmitted, GoesOn, StepsGoOn, AreGiven, NeverFaults}
+use Rattle.verifier.specs.Sound.{IsAdmitted, NextIsAdmitted, StepsGoOn, AreRunInputs, NeverFaults}
 use Rattle.verifier.proofs.Slots.{begins_within}
 use Rattle.verifier.proofs.Words.{in_table}
 use Rattle.verifier.proofs.FirstMaps.{first_values, first_maps}
@@ -45,7 +45,7 @@ no_bytes c j h e = absurd (omega (arith, bit_at-zero j, e))
 least : (n : ℕ) → 0 ≤ n
 least n = omega arith
 
-entry_admits : (maps : Maps) (words packet : List ℕ) → AdmitsBy nothing entry (begin maps words packet)
+entry_admits : (maps : MapsByDescriptor) (words packet : List ℕ) → AdmitsBy nothing entry (begin maps words packet)
 entry_admits maps words packet =
     record {
       registers = λ r. in_table (λ k. HasKind nothing k (begins_with r)) entry_kind 11 r kind.Unreadable (begins_of (r == 1) (r == 10)) tt;
@@ -57,7 +57,7 @@ at_entry : (shapes : Shapes) (code : List Insn) → before shapes code 0 ≡ Som
 unfolding inflow
 at_entry shapes code = refl
 
-beginning : (shapes : Shapes) (code : List Insn) (maps : Maps) (words packet : List ℕ) → AreGiven shapes maps words packet → IsAdmitted shapes code (begin maps words packet)
+beginning : (shapes : Shapes) (code : List Insn) (maps : MapsByDescriptor) (words packet : List ℕ) → AreRunInputs shapes maps words packet → IsAdmitted shapes code (begin maps words packet)
 beginning shapes code maps words packet given =
     record {
       witness = nothing;
@@ -79,20 +79,20 @@ some_insn (Some i) h = (i, refl)
 value_no_fault : (n : ℕ) → Value n ≢ Fault
 value_no_fault n e = cc
 
-after_step : (shapes : Shapes) (code : List Insn) (s : State) (st : Step) (go : State → Ending) → GoesOn shapes code s.at st → ((t : State) → s.at < t.at → IsAdmitted shapes code t → (go t).outcome ≢ Fault) → (after st s go).outcome ≢ Fault
+after_step : (shapes : Shapes) (code : List Insn) (s : RunState) (st : Step) (go : RunState → Ending) → NextIsAdmitted shapes code s.at st → ((t : RunState) → s.at < t.at → IsAdmitted shapes code t → (go t).outcome ≢ Fault) → (after st s go).outcome ≢ Fault
 after_step shapes code s (goes t) go h rest = rest t h.0 h.1
 after_step shapes code s (ends n) go h rest = value_no_fault n
 after_step shapes code s faults go h rest = absurd h
 
 module _ (law : StepsGoOn) (code : List Insn) (named : List Named) (program : IsProgram code) (accepted : IsAccepted code named) where
   -- a state that facts admit lies in the program
-  within : (s : State) → IsAdmitted (shapes_of code named) code s → s.at < slot_count code
+  within : (s : RunState) → IsAdmitted (shapes_of code named) code s → s.at < slot_count code
   within s here =
       let begun = some_insn (begins_at code s.at) (begins_before (shapes_of code named) code named program accepted.0 s.at here.facts here.known) in
       begins_within code s.at begun.0 begun.1
 
   -- each step lies farther on, so there are steps enough
-  no_fault : (n : ℕ) (refusals : List Bool) (s : State) → slot_count code ≤ s.at + n → IsAdmitted (shapes_of code named) code s → (run code n refusals s).outcome ≢ Fault
+  no_fault : (n : ℕ) (refusals : List Bool) (s : RunState) → slot_count code ≤ s.at + n → IsAdmitted (shapes_of code named) code s → (run code n refusals s).outcome ≢ Fault
   unfolding run
   no_fault zero refusals s enough here = absurd (let inside = within s here in omega arith)
   no_fault (suc n) refusals s enough here =

@@ -11,17 +11,18 @@ use Rattle.reg_kinds.specs.declared.reason.Reason.{Reason}
 use Rattle.tagged_model.specs.declared.shape.Named.{Named}
 use Rattle.tagged_model.specs.Named.{Shapes}
 use Rattle.tagged_model.specs.Cells.{also}
-use Rattle.tagged_model.specs.State.{State}
+use Rattle.tagged_model.specs.State.{RunState}
 use Rattle.tagged_model.specs.Step.{Step, goes, ends, faults, need, act}
-use Rattle.tagged_model.specs.Admits.{Witness, IsProper, HasMaps}
+use Rattle.tagged_model.specs.Admits.{Witness, IsInRange, HasMaps}
 use Rattle.tagged_model.specs.Laws.{JoinAdmits}
 use Rattle.transfer.specs.Branches.{Edges}
 use Rattle.transfer.specs.Effects.{effect}
-use Rattle.transfer.specs.Sound.{AreWellFormedAt, AreWellFormedOn, TransferKeepsWellFormed, falls_to, jumps_to, IsOn, Covers, TransferIsSound}
+use Rattle.transfer.specs.Sound.{AreWellFormedAt, AreWellFormedOn, TransferKeepsWellFormed, EdgeAdmits, CoversStep, TransferIsSound}
+use Rattle.insn_codec.specs.Flow.{falls_to, jumps_to}
 use Rattle.verdict.specs.Maps.{shapes_of}
 use Rattle.verdict.specs.Before.{before}
 use Rattle.verdict.specs.Verdict.{reason_of, safety_fault, IsAccepted}
-use Rattle.verifier.specs.Sound.{StepIsSound, IsAdmitted, GoesOn, StepsGoOn}
+use Rattle.verifier.specs.Sound.{StepIsSound, IsAdmitted, NextIsAdmitted, StepsGoOn}
 use Rattle.verdict.proofs.Slots.{some_slots}
 use Rattle.verifier.proofs.Slots.{begins_one}
 use Rattle.verifier.proofs.Edges.{leads_only}
@@ -48,26 +49,26 @@ pub record Laws : Type 0 where
 
 -- ---- a state that facts admit
 
-admitted : (witness : Witness) (shapes : Shapes) (code : List Insn) (s : State) (o : Option Facts) → before shapes code s.at ≡ o → AdmitOn witness o s → IsProper s → HasMaps shapes s → IsAdmitted shapes code s
+admitted : (witness : Witness) (shapes : Shapes) (code : List Insn) (s : RunState) (o : Option Facts) → before shapes code s.at ≡ o → AdmitOn witness o s → IsInRange s → HasMaps shapes s → IsAdmitted shapes code s
 admitted witness shapes code s None e h proper maps = absurd h
 admitted witness shapes code s (Some f) e h proper maps = record { witness = witness; facts = f; known = e; still = record { admits = h; proper = proper; maps = maps } }
 
 -- the state on an edge
-record Arrives (shapes : Shapes) (o : Option Facts) (slot : Option ℕ) (t : State) : Type 0 where
+record Arrives (shapes : Shapes) (o : Option Facts) (slot : Option ℕ) (t : RunState) : Type 0 where
   at : slot ≡ Some t.at
   witness : Witness
   admits : AdmitOn witness o t
-  proper : IsProper t
+  proper : IsInRange t
   maps : HasMaps shapes t
 
-on_edge : (shapes : Shapes) (o : Option Facts) (slot : Option ℕ) (t : State) → IsOn shapes o slot t → Arrives shapes o slot t
+on_edge : (shapes : Shapes) (o : Option Facts) (slot : Option ℕ) (t : RunState) → EdgeAdmits shapes o slot t → Arrives shapes o slot t
 on_edge shapes None slot t h = absurd h
 on_edge shapes (Some f) slot t h = record { at = h.0; witness = h.1; admits = h.2.admits; proper = h.2.proper; maps = h.2.maps }
 
 -- ---- a step of an instruction that may be run
 
-module _ (join : JoinAdmits) (shapes : Shapes) (code : List Insn) (s : State) (i : Insn) (f : Facts) (edges : Edges) (begins : begins_at code s.at ≡ Some i) (known : before shapes code s.at ≡ Some f) (e : effect shapes s.at i f ≡ Ok edges) (shape : IsShaped code i s.at) where
-  falls_on : (t : State) → Arrives shapes edges.falling (Some (falls_to i s.at)) t → GoesOn shapes code s.at (goes t)
+module _ (join : JoinAdmits) (shapes : Shapes) (code : List Insn) (s : RunState) (i : Insn) (f : Facts) (edges : Edges) (begins : begins_at code s.at ≡ Some i) (known : before shapes code s.at ≡ Some f) (e : effect shapes s.at i f ≡ Ok edges) (shape : IsShaped code i s.at) where
+  falls_on : (t : RunState) → Arrives shapes edges.falling (Some (falls_to i s.at)) t → NextIsAdmitted shapes code s.at (goes t)
   falls_on t h =
       let at : s.at + length (slots i) ≡ t.at = same_Some (falls_to i s.at) t.at h.at in
       let farther : s.at < t.at = omega (arith, some_slots i) in
@@ -76,7 +77,7 @@ module _ (join : JoinAdmits) (shapes : Shapes) (code : List Insn) (s : State) (i
       let come = arrives join h.witness t shapes code s.at t.at i f edges farther begins known e (fallen join h.witness t i s.at t.at edges into h.admits) in
       (farther, admitted h.witness shapes code t (before shapes code t.at) refl come h.proper h.maps)
 
-  jumps_on : (t : State) → Arrives shapes edges.jumping (jumps_to i s.at) t → GoesOn shapes code s.at (goes t)
+  jumps_on : (t : RunState) → Arrives shapes edges.jumping (jumps_to i s.at) t → NextIsAdmitted shapes code s.at (goes t)
   jumps_on t h =
       let leads = (leads_only shapes s.at i f edges e).jumping (are_there h.witness edges.jumping t h.admits) in
       let farther = (jump_at code s.at i shape t.at leads h.at).0 in
@@ -84,7 +85,7 @@ module _ (join : JoinAdmits) (shapes : Shapes) (code : List Insn) (s : State) (i
       let come = arrives join h.witness t shapes code s.at t.at i f edges farther begins known e (jumped join h.witness t i s.at t.at edges into h.admits) in
       (farther, admitted h.witness shapes code t (before shapes code t.at) refl come h.proper h.maps)
 
-  covered_on : (st : Step) → Covers shapes i s.at edges st → GoesOn shapes code s.at st
+  covered_on : (st : Step) → CoversStep shapes i s.at edges st → NextIsAdmitted shapes code s.at st
   covered_on (goes t) h =
       ⊎_elim
       (λ a. falls_on t (on_edge shapes edges.falling (Some (falls_to i s.at)) t a))
@@ -100,12 +101,12 @@ unfolding safety_fault
 safe shapes code n i f begins known none =
     sym (ap (λ o. also o (λ f. also (begins_at code n) (λ i. reason_of (effect shapes n i f)))) known ∙ ap (λ o. also o (λ i. reason_of (effect shapes n i f))) begins) ∙ none
 
-module _ (laws : Laws) (code : List Insn) (named : List Named) (refused : Bool) (s : State) (program : IsProgram code) (accepted : IsAccepted code named) (here : IsAdmitted (shapes_of code named) code s) where
+module _ (laws : Laws) (code : List Insn) (named : List Named) (refused : Bool) (s : RunState) (program : IsProgram code) (accepted : IsAccepted code named) (here : IsAdmitted (shapes_of code named) code s) where
   abbrev Given : Shapes
   Given = shapes_of code named
 
   abbrev Goes : Step → Type 0
-  Goes st = GoesOn Given code s.at st
+  Goes st = NextIsAdmitted Given code s.at st
 
   runs_on : (i : Insn) → begins_at code s.at ≡ Some i → (r : Result Edges Reason) → effect Given s.at i here.facts ≡ r → Goes (act refused i s)
   runs_on i begins (Err reason) e =

@@ -1,4 +1,4 @@
--- Why an accepted program never faults.
+-- Why an accepted program never faults. This project's own.
 use Rattle.std.specs.Prelude.{◌≡◌, ◌≢◌, ℕ, ◌<◌, ◌^◌, Bool, List, length, Some, Ok}
 use Rattle.std.specs.List.{All}
 use Rattle.std.specs.Map.{keys_of, values_of}
@@ -11,17 +11,17 @@ use Rattle.tagged_model.specs.declared.shape.MapShape.{MapShape}
 use Rattle.tagged_model.specs.declared.value.Outcome.TheVariants.{Fault}
 use Rattle.tagged_model.specs.Named.{Shapes}
 use Rattle.tagged_model.specs.Table.{Table, indexed}
-use Rattle.tagged_model.specs.State.{State, context_words}
-use Rattle.tagged_model.specs.Step.{Step, goes, ends, faults, act, step, Maps, result_with}
+use Rattle.tagged_model.specs.State.{RunState, context_words}
+use Rattle.tagged_model.specs.Step.{Step, goes, ends, faults, act, step, MapsByDescriptor, result_with}
 use Rattle.tagged_model.specs.Admits.{Witness, AreBytes}
 use Rattle.tagged_model.specs.Laws.{Describes}
 use Rattle.transfer.specs.Branches.{Edges}
 use Rattle.transfer.specs.Effects.{effect}
-use Rattle.transfer.specs.Sound.{Covers}
+use Rattle.transfer.specs.Sound.{CoversStep}
 use Rattle.verdict.specs.Shape.{shape_fault}
 use Rattle.verdict.specs.Maps.{shapes_of}
 use Rattle.verdict.specs.Before.{before}
-use Rattle.verdict.specs.Verdict.{HasNone, IsAccepted}
+use Rattle.verdict.specs.Verdict.{HasNoFault, IsAccepted}
 
 -- ---- one step
 
@@ -30,28 +30,28 @@ use Rattle.verdict.specs.Verdict.{HasNone, IsAccepted}
 -- map of each shape again, and the facts on the edge that the step takes admit it
 abbrev pub StepIsSound : Type 0
 StepIsSound =
-    (code : List Insn) (named : List Named) (witness : Witness) (refused : Bool) (s : State) (i : Insn) (f : Facts) (edges : Edges) → IsProgram code → HasNone (shape_fault code named) → begins_at code s.at ≡ Some i
+    (code : List Insn) (named : List Named) (witness : Witness) (refused : Bool) (s : RunState) (i : Insn) (f : Facts) (edges : Edges) → IsProgram code → HasNoFault (shape_fault code named) → begins_at code s.at ≡ Some i
     → before (shapes_of code named) code s.at ≡ Some f → Describes witness f (shapes_of code named) s → effect (shapes_of code named) s.at i f ≡ Ok edges
-    → Covers (shapes_of code named) i s.at edges (act refused i s)
+    → CoversStep (shapes_of code named) i s.at edges (act refused i s)
 
 -- the facts before the state's slot admit it, and it has a map of each shape
-pub record IsAdmitted (shapes : Shapes) (code : List Insn) (s : State) : Type 0 where
+pub record IsAdmitted (shapes : Shapes) (code : List Insn) (s : RunState) : Type 0 where
   pub witness : Witness
   pub facts : Facts
   pub known : before shapes code s.at ≡ Some facts
   pub still : Describes witness facts shapes s
 
 -- a step that is no fault: the state after it lies farther on, and the facts before its slot admit it
-abbrev pub GoesOn : Shapes → List Insn → ℕ → Step → Type 0
-GoesOn shapes code at (goes t) = (at < t.at) × IsAdmitted shapes code t
-GoesOn shapes code at (ends n) = n < 2 ^ 32
-GoesOn shapes code at faults = ⊥
+abbrev pub NextIsAdmitted : Shapes → List Insn → ℕ → Step → Type 0
+NextIsAdmitted shapes code at (goes t) = (at < t.at) × IsAdmitted shapes code t
+NextIsAdmitted shapes code at (ends n) = n < 2 ^ 32
+NextIsAdmitted shapes code at faults = ⊥
 
 -- each step of an accepted program goes on, whatever memory is refused
 abbrev pub StepsGoOn : Type 0
 StepsGoOn =
-    (code : List Insn) (named : List Named) (refused : Bool) (s : State) → IsProgram code → IsAccepted code named → IsAdmitted (shapes_of code named) code s
-    → GoesOn (shapes_of code named) code s.at (step refused code s)
+    (code : List Insn) (named : List Named) (refused : Bool) (s : RunState) → IsProgram code → IsAccepted code named → IsAdmitted (shapes_of code named) code s
+    → NextIsAdmitted (shapes_of code named) code s.at (step refused code s)
 
 -- ---- runs
 
@@ -62,7 +62,7 @@ pub record IsTableOf (shape : MapShape) (t : Table (List ℕ)) : Type 0 where
   pub sized : All (λ value. length value ≡ shape.value_size) (values_of t.entries)
 
 -- what a run may be given: a map of each shape, the words of a context, and bytes
-pub record AreGiven (shapes : Shapes) (maps : Maps) (words packet : List ℕ) : Type 0 where
+pub record AreRunInputs (shapes : Shapes) (maps : MapsByDescriptor) (words packet : List ℕ) : Type 0 where
   pub has : (m : ℕ) (shape : MapShape) → shapes m ≡ Some shape → (t : Table (List ℕ)) × (maps m ≡ Some t) × IsTableOf shape t
   pub values : (m : ℕ) (t : Table (List ℕ)) → maps m ≡ Some t → All AreBytes (values_of t.entries)
   pub small : All (λ w. w < 2 ^ 32) words
@@ -72,5 +72,5 @@ pub record AreGiven (shapes : Shapes) (maps : Maps) (words packet : List ℕ) : 
 -- no run of an accepted program faults, whatever memory is refused
 abbrev pub NeverFaults : Type 0
 NeverFaults =
-    (code : List Insn) (named : List Named) (refusals : List Bool) (maps : Maps) (words packet : List ℕ) → IsProgram code → IsAccepted code named → AreGiven (shapes_of code named) maps words packet
+    (code : List Insn) (named : List Named) (refusals : List Bool) (maps : MapsByDescriptor) (words packet : List ℕ) → IsProgram code → IsAccepted code named → AreRunInputs (shapes_of code named) maps words packet
     → result_with refusals code maps words packet ≢ Fault

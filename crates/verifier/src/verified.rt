@@ -2,18 +2,18 @@
 
 ghost use Rattle.std.specs.Prelude.{◌≡◌, ◌≢◌, ◌⊎◌, ℕ, Bool, List, IfErr, IfOk};
 ghost use Rattle.tagged_model.specs.declared.value.Outcome.TheVariants.{Fault};
-ghost use Rattle.tagged_model.specs.Step.{Maps, result_with};
+ghost use Rattle.tagged_model.specs.Step.{MapsByDescriptor, result_with};
 ghost use Rattle.verdict.specs.Verdict.{IsAccepted, IsRefused, memory_fault};
 ghost use Rattle.verdict.specs.Maps.{maps_of, entries_of};
-ghost use Rattle.verifier.specs.Sound.{AreGiven};
-ghost use Rattle.verifier.specs.Verified.{IsVerified, shapes_in};
+ghost use Rattle.verifier.specs.Sound.{AreRunInputs};
+ghost use Rattle.verifier.specs.Verified.{IsVerified, GoesAhead, shapes_in};
 
 use crate::laws::accepted_programs_never_fault;
 use insn_codec::Program;
 use std::alloc::Global;
 use std::marker::Model;
 use tagged_model::Named;
-use verdict::{Loaded, VerifyFault, judge};
+use verdict::{LoadedMaps, VerifyFault, judge};
 
 /// A program that was accepted: no run of it faults.
 ///
@@ -22,7 +22,7 @@ use verdict::{Loaded, VerifyFault, judge};
 pub struct Verified {
     program: Program,
     /// The maps that it loads.
-    loaded: Loaded,
+    loaded: LoadedMaps,
 }
 
 impl Model for Verified {
@@ -55,10 +55,19 @@ impl Verified {
 
     /// A law: no run of the program faults that is given maps of these shapes, whatever memory is refused in it. It does nothing when it runs.
     pub fn never_faults(&self)
-        ensures { (refusals : List Bool) (maps : Maps) (words packet : List ℕ) → AreGiven (shapes_in self.now) maps words packet → result_with refusals self.now.code maps words packet ≢ Fault }
+        ensures { (refusals : List Bool) (maps : MapsByDescriptor) (words packet : List ℕ)
+            → AreRunInputs (shapes_in self.now) maps words packet
+            → result_with refusals self.now.code maps words packet ≢ Fault }
     {
         self.program.code();
         accepted_programs_never_fault();
+    }
+
+    /// A law: wherever an instruction of the program may lead another one begins, and farther on. It does nothing when it runs.
+    pub fn goes_ahead(&self)
+        ensures { GoesAhead self.now.code }
+    {
+        self.program.code();
     }
 }
 
@@ -69,8 +78,11 @@ impl Verified {
 /// Those of `verdict::judge`; `Memory` at slot 0 also where there was no memory for the program's copy
 /// or for the lists of its maps.
 pub fn verify(alloc: Global, program: &Program, named: &[Named]) -> Result<Verified, VerifyFault>
-    ensures accepted { IfOk result (λ verified. (verified.code ≡ program.now) × (verified.entries ≡ entries_of (maps_of program.now) named.now) × IsAccepted program.now named.now) }
-    ensures refused { IfErr result (λ e. (e ≡ memory_fault) ⊎ IsRefused program.now named.now e.slot e.reason) }
+    ensures accepted { IfOk result (λ verified. (verified.code ≡ program.now)
+        × (verified.entries ≡ entries_of (maps_of program.now) named.now)
+        × IsAccepted program.now named.now) }
+    ensures refused { IfErr result (λ e. (e ≡ memory_fault)
+        ⊎ IsRefused program.now named.now e.slot e.reason) }
 {
     let loaded = judge(alloc, program, named)?;
     let program = program.clone()?;

@@ -1,11 +1,11 @@
--- What proofs take from the crates below.
+-- What proofs take from the crates below. This project's own.
 use Rattle.std.specs.Prelude.{ℕ}
 use Rattle.arena.specs.Apart.{WritesStayInside}
-use Rattle.bpf_maps.specs.Laws.{CallsGoAlong, AreasKeepPlaces, DeletesKeepPlaces}
+use Rattle.bpf_maps.specs.Laws.{CallsRefineValues, AreasKeepPlaces, DeletesKeepPlaces}
 
 -- their laws
-pub record Below : Type 0 where
+pub record LawsBelow : Type 0 where
   pub writes : WritesStayInside
-  pub along : CallsGoAlong ℕ ℕ
+  pub along : CallsRefineValues ℕ ℕ
   pub areas : AreasKeepPlaces
   pub deletes : DeletesKeepPlaces

@@ -1,4 +1,4 @@
--- The places of labels, as the assembler keeps them.
+-- The places of labels, as the assembler keeps them. This project's own.
 use Rattle.std.specs.Prelude.{◌≡◌, ℕ, ◌+◌, min, not, ◌||◌, ℤ, pos, ◌-ℤ◌, List, [], ◌∷◌, ◌++◌, take, nat_lt, Option, Some, None, is_some, option_map, if◌then◌else◌}
 use Rattle.std.specs.Borrow.{Bor}
 use Rattle.std.specs.Str.{bytes_eq}
@@ -78,3 +78,9 @@ kept_forms labels slot (line ∷ lines) = kept_form labels slot line ++ kept_for
 abbrev pub IsFormed : Option Line → Type 0
 IsFormed None = Unit {0}
 IsFormed (Some line) = IsWellFormed line
+
+abbrev pub label_defined : Option Line → Option (List ℕ)
+label_defined None = None
+label_defined (Some blank) = None
+label_defined (Some (label n)) = Some n
+label_defined (Some (code form n)) = None

@@ -1,14 +1,14 @@
 -- The fault at the front of bytes in the order in which the code looks for it. It is the one that the grammar tells
--- (`HasFault`), which is proved.
+-- (`HasFault`), which is proved. The fields are those of RFC 9669, sections 3 to 5; the order is this project's own.
 use Rattle.std.specs.Prelude.{ℕ, Bool, true, ◌&&◌, List, length, drop, Option, Some, None, nat_lt, nat_le, ◌==◌, if◌then◌else◌}
-use Rattle.insn_codec.specs.declared.slot.Slot.{Slot}
-use Rattle.insn_codec.specs.declared.form.Form.{Form}
-use Rattle.insn_codec.specs.declared.form.Form.TheVariants as form
+use Rattle.insn_codec.specs.declared.slot.SlotFields.{SlotFields}
+use Rattle.insn_codec.specs.declared.form.OpcodeForm.{OpcodeForm}
+use Rattle.insn_codec.specs.declared.form.OpcodeForm.TheVariants as form
 use Rattle.insn_codec.specs.declared.fault.FaultKind.{FaultKind}
 use Rattle.insn_codec.specs.declared.fault.FaultKind.TheVariants.{Opcode, Reserved, Register, SecondSlot, Ragged}
 use Rattle.insn_codec.specs.declared.opcode.WideKind.{WideKind}
 use Rattle.insn_codec.specs.declared.opcode.WideKind.TheVariants.{Number, Map}
-use Rattle.insn_codec.specs.Slot.{slot_of}
+use Rattle.insn_codec.specs.inside.Slots.{slot_of}
 use Rattle.insn_codec.specs.inside.Form.{form_at, listed, wide_at}
 
 -- ---- the second slot of a wide instruction: RFC 9669, sections 3.2 and 5.4
@@ -18,25 +18,25 @@ abbrev pub next_listed : WideKind → ℕ → Bool
 next_listed Number imm = true
 next_listed Map imm = imm == 0
 
-abbrev pub is_second : WideKind → Slot → Bool
+abbrev pub is_second : WideKind → SlotFields → Bool
 is_second kind next = next.opcode == 0 && next.dst == 0 && next.src == 0 && next.offset == 0 && next_listed kind next.imm
 
-abbrev pub next_fault : Option WideKind → Slot → Option FaultKind
+abbrev pub next_fault : Option WideKind → SlotFields → Option FaultKind
 next_fault None next = None
 next_fault (Some kind) next = if is_second kind next then None else Some SecondSlot
 
-abbrev pub second_fault : Form → ℕ → List ℕ → Option FaultKind
+abbrev pub second_fault : OpcodeForm → ℕ → List ℕ → Option FaultKind
 second_fault form.Wide src rest = if nat_lt (length rest) 8 then Some SecondSlot else next_fault (wide_at src) (slot_of rest)
 second_fault _ src rest = None
 
 -- ---- the first slot
 
 -- of a slot that begins a form
-unfoldable pub fault_in_form : Form → Slot → List ℕ → Option FaultKind
+unfoldable pub fault_in_form : OpcodeForm → SlotFields → List ℕ → Option FaultKind
 fault_in_form f s rest =
     if listed f s then (if nat_le s.dst 10 && nat_le s.src 10 then second_fault f s.src rest else Some Register) else Some Reserved
 
-abbrev pub fault_by_form : Option Form → Slot → List ℕ → Option FaultKind
+abbrev pub fault_by_form : Option OpcodeForm → SlotFields → List ℕ → Option FaultKind
 fault_by_form None s rest = Some Opcode
 fault_by_form (Some f) s rest = fault_in_form f s rest
 

@@ -1,20 +1,20 @@
 -- What an opcode says, and which values the fields of its form may have: RFC 9669, sections 4 and 5.
 use Rattle.std.specs.Prelude.{ℕ, ◌/◌, ◌%◌, Bool, true, false, ◌&&◌, ◌||◌, Option, Some, None, is_some, nat_le, ◌==◌, if◌then◌else◌, option_and_then}
-use Rattle.insn_codec.specs.declared.slot.Slot.{Slot}
+use Rattle.insn_codec.specs.declared.slot.SlotFields.{SlotFields}
 use Rattle.insn_codec.specs.declared.insn.ByteOrder.TheVariants.{Little, Big, Swap}
 use Rattle.insn_codec.specs.declared.insn.Condition.{Condition}
 use Rattle.insn_codec.specs.declared.insn.Condition.TheVariants.{Equal, Above, AboveOrEqual, CommonBit, NotEqual, SignedAbove, SignedAboveOrEqual, Below, BelowOrEqual, SignedBelow, SignedBelowOrEqual}
 use Rattle.insn_codec.specs.declared.insn.Size.{Size}
 use Rattle.insn_codec.specs.declared.insn.Size.TheVariants as size
-use Rattle.insn_codec.specs.declared.opcode.Source.{Source}
-use Rattle.insn_codec.specs.declared.opcode.Source.TheVariants.{Imm, Reg}
+use Rattle.insn_codec.specs.declared.opcode.SourceBit.{SourceBit}
+use Rattle.insn_codec.specs.declared.opcode.SourceBit.TheVariants.{Imm, Reg}
 use Rattle.insn_codec.specs.declared.opcode.AluCode.{AluCode}
 use Rattle.insn_codec.specs.declared.opcode.AluCode.TheVariants.{Add, Sub, Mul, Div, Or, And, ShiftLeft, ShiftRight, Mod, Xor, Mov, SignedShiftRight}
 use Rattle.insn_codec.specs.declared.opcode.LoadKind.TheVariants.{Word, Half, Byte, Double, SignedWord, SignedHalf, SignedByte}
 use Rattle.insn_codec.specs.declared.opcode.WideKind.{WideKind}
 use Rattle.insn_codec.specs.declared.opcode.WideKind.TheVariants.{Number, Map}
-use Rattle.insn_codec.specs.declared.form.Form.{Form}
-use Rattle.insn_codec.specs.declared.form.Form.TheVariants as form
+use Rattle.insn_codec.specs.declared.form.OpcodeForm.{OpcodeForm}
+use Rattle.insn_codec.specs.declared.form.OpcodeForm.TheVariants as form
 
 -- section 4.1: the operation of a code, the high four bits of an opcode
 abbrev pub alu_code_at : ℕ → Option AluCode
@@ -52,27 +52,27 @@ abbrev pub size_at : ℕ → Size
 size_at code = if code == 0 then size.Word else (if code == 1 then size.Half else (if code == 2 then size.Byte else size.Double))
 
 -- sections 4.1 and 4.2: NEG has one opcode for each width, and a byte-order change one for each way
-abbrev pub neg_at : Bool → Source → Option Form
+abbrev pub neg_at : Bool → SourceBit → Option OpcodeForm
 neg_at wide Imm = Some (form.Neg wide)
 neg_at wide Reg = None
 
-abbrev pub end_at : Bool → Source → Option Form
+abbrev pub end_at : Bool → SourceBit → Option OpcodeForm
 end_at false Imm = Some (form.End Little)
 end_at false Reg = Some (form.End Big)
 end_at true Imm = Some (form.End Swap)
 end_at true Reg = None
 
-abbrev pub alu_at : Bool → Source → ℕ → Option Form
+abbrev pub alu_at : Bool → SourceBit → ℕ → Option OpcodeForm
 alu_at wide source code =
     if code == 8 then neg_at wide source else
     (if code == 13 then end_at wide source else
     option_and_then (λ c. Some (form.Alu wide c source)) (alu_code_at code))
 
 -- section 4.3
-abbrev pub jump_by_condition : Bool → Source → ℕ → Option Form
+abbrev pub jump_by_condition : Bool → SourceBit → ℕ → Option OpcodeForm
 jump_by_condition wide source code = option_and_then (λ c. Some (form.Jump wide c source)) (condition_at code)
 
-abbrev pub jump_at : Bool → Source → ℕ → Option Form
+abbrev pub jump_at : Bool → SourceBit → ℕ → Option OpcodeForm
 jump_at wide Reg code = jump_by_condition wide Reg code
 jump_at true Imm code =
     if code == 0 then Some form.Ja else
@@ -81,7 +81,7 @@ jump_at true Imm code =
 jump_at false Imm code = if code == 0 then Some form.Jal else jump_by_condition false Imm code
 
 -- sections 5.1 and 5.2
-abbrev pub load_at : ℕ → Option Form
+abbrev pub load_at : ℕ → Option OpcodeForm
 load_at opcode =
     if opcode == 0x61 then Some (form.Load Word) else
     (if opcode == 0x69 then Some (form.Load Half) else
@@ -92,15 +92,15 @@ load_at opcode =
     (if opcode == 0x91 then Some (form.Load SignedByte) else None))))))
 
 -- section 5.1
-abbrev pub store_at : ℕ → Source → Option Form
+abbrev pub store_at : ℕ → SourceBit → Option OpcodeForm
 store_at opcode source = if opcode / 32 == 3 then Some (form.Store (size_at (opcode / 8 % 4)) source) else None
 
 -- section 4
-abbrev pub source_at : ℕ → Source
+abbrev pub source_at : ℕ → SourceBit
 source_at opcode = if opcode / 8 % 2 == 0 then Imm else Reg
 
 -- section 3.3: by class, the low three bits
-unfoldable pub form_at : ℕ → Option Form
+unfoldable pub form_at : ℕ → Option OpcodeForm
 form_at opcode =
     if opcode % 8 == 0 then (if opcode == 0x18 then Some form.Wide else None) else
     (if opcode % 8 == 1 then load_at opcode else
@@ -116,19 +116,19 @@ abbrev pub wide_at : ℕ → Option WideKind
 wide_at src = if src == 0 then Some Number else (if src == 1 then Some Map else None)
 
 -- section 4: the operand that is not used is zero
-abbrev pub one_operand : Source → Slot → Bool
+abbrev pub one_operand : SourceBit → SlotFields → Bool
 one_operand Imm s = s.src == 0
 one_operand Reg s = s.imm == 0
 
 -- section 4.1: which offsets an operation has
-abbrev pub offset_listed : Bool → AluCode → Source → ℕ → Bool
+abbrev pub offset_listed : Bool → AluCode → SourceBit → ℕ → Bool
 offset_listed wide Div source offset = nat_le offset 1
 offset_listed wide Mod source offset = nat_le offset 1
 offset_listed wide Mov Reg offset = offset == 0 || offset == 8 || offset == 16 || (wide && offset == 32)
 offset_listed wide code source offset = offset == 0
 
 -- each field has a value that the form lists; one that it does not use is zero (section 3.1)
-abbrev pub listed : Form → Slot → Bool
+abbrev pub listed : OpcodeForm → SlotFields → Bool
 listed (form.Alu wide code source) s = one_operand source s && offset_listed wide code source s.offset
 listed (form.Neg wide) s = s.src == 0 && s.offset == 0 && s.imm == 0
 listed (form.End how) s = s.src == 0 && s.offset == 0 && (s.imm == 16 || s.imm == 32 || s.imm == 64)

@@ -2,12 +2,12 @@
 use Rattle.std.specs.Prelude.{ℕ, ◌+◌}
 use Rattle.insn_codec.specs.declared.opcode.AluCode.{AluCode}
 use Rattle.insn_codec.specs.declared.opcode.AluCode.TheVariants as code
-use Rattle.insn_codec.specs.declared.opcode.Source.{Source}
-use Rattle.insn_codec.specs.declared.opcode.Source.TheVariants as source
+use Rattle.insn_codec.specs.declared.opcode.SourceBit.{SourceBit}
+use Rattle.insn_codec.specs.declared.opcode.SourceBit.TheVariants as source
 use Rattle.insn_codec.specs.declared.opcode.LoadKind.{LoadKind}
 use Rattle.insn_codec.specs.declared.opcode.LoadKind.TheVariants as load
-use Rattle.insn_codec.specs.declared.form.Form.{Form}
-use Rattle.insn_codec.specs.declared.form.Form.TheVariants as form
+use Rattle.insn_codec.specs.declared.form.OpcodeForm.{OpcodeForm}
+use Rattle.insn_codec.specs.declared.form.OpcodeForm.TheVariants as form
 use Rattle.insn_codec.specs.Numbers.{opcode, alu_class, jump_class, condition_number, end_opcode, memory_opcode}
 
 -- section 4.1
@@ -26,7 +26,7 @@ code_number code.Mov = 11
 code_number code.SignedShiftRight = 12
 
 -- section 4: the source bit
-abbrev pub source_number : Source → ℕ
+abbrev pub source_number : SourceBit → ℕ
 source_number source.Imm = 0
 source_number source.Reg = 1
 
@@ -41,7 +41,7 @@ load_opcode load.SignedHalf = 0x89
 load_opcode load.SignedByte = 0x91
 
 -- the opcode of each form
-abbrev pub opcode_of : Form → ℕ
+abbrev pub opcode_of : OpcodeForm → ℕ
 opcode_of (form.Alu wide c s) = opcode (code_number c) (source_number s) (alu_class wide)
 opcode_of (form.Neg wide) = opcode 8 0 (alu_class wide)
 opcode_of (form.End how) = end_opcode how

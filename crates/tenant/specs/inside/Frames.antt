@@ -1,19 +1,31 @@
--- Replies to the frames of one tenant, one command at a time.
-use Rattle.std.specs.Prelude.{◌≡◌, ◌≢◌, ℕ, ◌≤◌, Bool, List, []}
+-- Replies to the frames of one tenant, one command at a time. This project's own.
+use Rattle.std.specs.Prelude.{◌≡◌, ◌≢◌, ℕ, ◌+◌, ◌-◌, ◌≤◌, length, Bool, List, []}
 use Rattle.arena.specs.Memory.{Memory, part_bytes}
 use Rattle.command_frames.specs.declared.command.Head.{Head}
-use Rattle.command_frames.specs.Command.{Command}
+use Rattle.command_frames.specs.Command.{Command, map_create, map_lookup, map_update, map_delete, map_next_key, prog_load, prog_test_run, close}
 use Rattle.command_frames.specs.Frame.{reply_bytes}
+use Rattle.fd_table.specs.Table.{first, most}
 use Rattle.tenant.specs.declared.errno.Errno.TheVariants.{BadAddress}
 use Rattle.tenant.specs.declared.loading.LoadReply.{LoadReply}
 use Rattle.tenant.specs.declared.loading.LoadReply.TheVariants.{Opened, Refused, RefusedAt}
 use Rattle.tenant.specs.Errno.{status_of}
-use Rattle.tenant.specs.State.{State}
+use Rattle.tenant.specs.State.{TenantState}
 use Rattle.tenant.specs.Machine.{Answer, Answers}
+
+-- how many bytes a command brings behind its numbers
+abbrev pub tail_length : Command → ℕ
+tail_length (map_create kind key value max flags) = 0
+tail_length (map_lookup fd key) = length key
+tail_length (map_update fd flags bytes) = length bytes
+tail_length (map_delete fd key) = length key
+tail_length (map_next_key fd key) = length key
+tail_length (prog_load kind slots) = length slots
+tail_length (prog_test_run fd words packet) = length packet
+tail_length (close fd) = 0
 
 -- the highest descriptor
 abbrev pub last_descriptor : ℕ
-last_descriptor = 66
+last_descriptor = first + most - 1
 
 -- what a load opens has a descriptor
 abbrev pub OpensBelow : LoadReply → Type 0
@@ -27,7 +39,7 @@ Writes head reply a = reply ≡ reply_bytes head.tenant head.command a.status a.
 
 -- The reply to a command tells what the machine answers, with some refusals of memory, and is not that to a run which faults.
 -- The state after it is the machine's.
-pub record Told (command : Command) (head : Head) (reply : List ℕ) (before after : State) : Type 0 where
+pub record AnswersCommand (command : Command) (head : Head) (reply : List ℕ) (before after : TenantState) : Type 0 where
   pub refusals : List Bool
   pub answer : Answer
   pub answers : Answers refusals before command answer

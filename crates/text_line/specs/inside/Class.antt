@@ -1,4 +1,4 @@
--- The classes of bytes of the tokenizer.
+-- The classes of bytes of the tokenizer. This project's own.
 use Rattle.std.specs.Prelude.{ℕ, Bool, ◌≡◌}
 use Rattle.std.specs.Char.{is_ascii_digit}
 use Rattle.text_line.specs.declared.token.ByteClass.{ByteClass}

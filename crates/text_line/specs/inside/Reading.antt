@@ -1,4 +1,4 @@
--- How the tokens of a line are read, from the left.
+-- How the tokens of a line are read, from the left. This project's own.
 use Rattle.std.specs.Prelude.{ℕ, ◌==◌, Bool, true, false, ◌||◌, List, [], ◌∷◌, codes, Option, Some, None, option_and_then, option_map, not, if◌then◌else◌}
 use Rattle.std.specs.Str.{bytes_eq}
 use Rattle.std.specs.Map.{lookup}
@@ -15,18 +15,18 @@ use Rattle.insn_codec.specs.declared.insn.Narrow.TheVariants as narrow
 use Rattle.insn_codec.specs.declared.insn.Size.{Size}
 use Rattle.insn_codec.specs.declared.insn.Size.TheVariants as size
 use Rattle.text_line.specs.declared.form.Number.{Number}
-use Rattle.text_line.specs.declared.form.Source.{Source}
-use Rattle.text_line.specs.declared.form.Source.TheVariants as source
+use Rattle.text_line.specs.declared.form.SourceOperand.{SourceOperand}
+use Rattle.text_line.specs.declared.form.SourceOperand.TheVariants as source
 use Rattle.text_line.specs.declared.form.Form.{Form}
 use Rattle.text_line.specs.declared.form.Form.TheVariants as form
 use Rattle.text_line.specs.declared.form.Address.{Address}
 use Rattle.text_line.specs.Line.{Line, blank, label, code as Code}
 use Rattle.insn_codec.specs.Sizes.{is_short}
-use Rattle.text_line.specs.declared.form.Target.{Target}
-use Rattle.text_line.specs.declared.form.Target.TheVariants as target
+use Rattle.text_line.specs.declared.form.JumpTarget.{JumpTarget}
+use Rattle.text_line.specs.declared.form.JumpTarget.TheVariants as target
 use Rattle.std.specs.Borrow.{Bor}
 use Rattle.text_line.specs.declared.token.Token.{Token as CodeToken}
-use Rattle.text_line.specs.Shown.{shown_tokens}
+use Rattle.text_line.specs.inside.Shown.{shown_tokens}
 use Rattle.text_line.specs.Token.{Token, name, number, symbol}
 
 infixl 10 ◌>>=◌
@@ -135,7 +135,7 @@ constant_then ts = match_option (after_symbol (codes "-") ts) (number_from false
 unfoldable pub signed_then : List Token → Option (Number × List Token)
 signed_then ts = match_option (after_symbol (codes "+") ts) (after_symbol (codes "-") ts >>= λ rest. number_from true (number_then rest)) (λ rest. number_from false (number_then rest))
 
-unfoldable pub operand_then : Bool → List Token → Option (Source × List Token)
+unfoldable pub operand_then : Bool → List Token → Option (SourceOperand × List Token)
 operand_then wide ts = match_option (register_then wide ts) (option_map (λ n. (source.Number n.0, n.1)) (constant_then ts)) (λ r. Some (source.Reg r.0, r.1))
 
 abbrev pub is_ended : List Token → Bool
@@ -145,7 +145,7 @@ is_ended (t ∷ ts) = false
 abbrev pub at_end : {A : Type 0} → A → List Token → Option A
 at_end x ts = if is_ended ts then Some x else None
 
-unfoldable pub destination_of : List Token → Option (Target × List ℕ)
+unfoldable pub destination_of : List Token → Option (JumpTarget × List ℕ)
 destination_of ts = match_option (signed_then ts) (name_then ts >>= λ n. at_end (target.Label, n.0) n.1) (λ n. at_end (target.Number n.0, []) n.1)
 
 unfoldable pub address_then : List Token → Option (Address × List Token)

@@ -6,9 +6,9 @@ use Rattle.tagged_model.specs.declared.helper.Helper.{Helper}
 use Rattle.tagged_model.specs.declared.helper.Helper.TheVariants.{LookUp, Update, Delete, LoadBytes}
 use Rattle.tagged_model.specs.Helpers.{helper_of, called}
 use Rattle.arena.specs.Memory.{Memory}
-use Rattle.bpf_maps.specs.Live.{Tenant}
+use Rattle.bpf_maps.specs.Live.{LiveMaps}
 use Rattle.bpf_helpers.specs.inside.Flat.{UpdatesBy, DeletesBy, LoadsBy}
-use Rattle.bpf_helpers.specs.Calls.{Follows}
+use Rattle.bpf_helpers.specs.Calls.{ResultFollows}
 use Rattle.bpf_helpers.proofs.Followed.{look_up_followed, update_followed, delete_followed, load_followed}
 use Rattle.bpf_helpers.proofs.calls.call.Goals.{in-Some-LookUp, in-Some-Update, in-Some-Delete, in-Some-LoadBytes, in-None}
 use Rattle.bpf_helpers.proofs.calls.call.Goals as goal
@@ -38,32 +38,32 @@ returns-clause-follows c =
       | in-Some-LookUp w ↦
           let same : LookUp ≡ helper = same_helper c helper known LookUp w.in-Some-LookUp.field-0 w.in-Some-LookUp.is w.in-Some-LookUp.field-0-is in
           let goes : called false LookUp s ≡ Some u = subst (λ (h : Helper). called false h s ≡ Some u) (sym same) e in
-          subst (λ (h : Helper). Follows l bind old t at registers tenant s h result after new) same
-          (subst (λ (m : Memory). Follows l bind old t at registers tenant s LookUp result m new) (sym w.arena-is)
-          (subst (λ (n : Tenant). Follows l bind old t at registers tenant s LookUp result memory n) (sym w.maps-is)
+          subst (λ (h : Helper). ResultFollows l bind old t at registers tenant s h result after new) same
+          (subst (λ (m : Memory). ResultFollows l bind old t at registers tenant s LookUp result m new) (sym w.arena-is)
+          (subst (λ (n : LiveMaps). ResultFollows l bind old t at registers tenant s LookUp result memory n) (sym w.maps-is)
           (look_up_followed l bind old t at registers memory tenant s room stands words args c.returns_stand.ensures c.laws_below.ensures result answer (record {}) c.ok_or.ensures.value u (w.answer-is ∙ w.look_up-answer.ensures.value) goes)))
       | in-Some-Update w ↦
           let same : Update ≡ helper = same_helper c helper known Update w.in-Some-Update.field-0 w.in-Some-Update.is w.in-Some-Update.field-0-is in
           let goes : called false Update s ≡ Some u = subst (λ (h : Helper). called false h s ≡ Some u) (sym same) e in
-          subst (λ (h : Helper). Follows l bind old t at registers tenant s h result after new) same
-          (subst (λ (m : Memory). Follows l bind old t at registers tenant s Update result m new) (sym w.arena-is)
-          (subst (λ (n : Tenant). Follows l bind old t at registers tenant s Update result w.update-answer.new.arena n) (sym w.maps-is)
+          subst (λ (h : Helper). ResultFollows l bind old t at registers tenant s h result after new) same
+          (subst (λ (m : Memory). ResultFollows l bind old t at registers tenant s Update result m new) (sym w.arena-is)
+          (subst (λ (n : LiveMaps). ResultFollows l bind old t at registers tenant s Update result w.update-answer.new.arena n) (sym w.maps-is)
           (update_followed l bind old t at registers memory tenant s room stands words args c.returns_stand.ensures c.laws_below.ensures result answer (record {}) c.ok_or.ensures.value w.update-answer.new.arena w.update-answer.new.maps u
           (subst (λ (o : Option ℕ). UpdatesBy memory t tenant bind (word 0) (word 1) (word 2) (word 3) o w.update-answer.new.arena w.update-answer.new.maps) (sym w.answer-is) w.update-answer.ensures.updated) goes)))
       | in-Some-Delete w ↦
           let same : Delete ≡ helper = same_helper c helper known Delete w.in-Some-Delete.field-0 w.in-Some-Delete.is w.in-Some-Delete.field-0-is in
           let goes : called false Delete s ≡ Some u = subst (λ (h : Helper). called false h s ≡ Some u) (sym same) e in
-          subst (λ (h : Helper). Follows l bind old t at registers tenant s h result after new) same
-          (subst (λ (m : Memory). Follows l bind old t at registers tenant s Delete result m new) (sym w.arena-is)
-          (subst (λ (n : Tenant). Follows l bind old t at registers tenant s Delete result memory n) (sym w.maps-is)
+          subst (λ (h : Helper). ResultFollows l bind old t at registers tenant s h result after new) same
+          (subst (λ (m : Memory). ResultFollows l bind old t at registers tenant s Delete result m new) (sym w.arena-is)
+          (subst (λ (n : LiveMaps). ResultFollows l bind old t at registers tenant s Delete result memory n) (sym w.maps-is)
           (delete_followed l bind old t at registers memory tenant s room stands words args c.returns_stand.ensures c.laws_below.ensures result answer (record {}) c.ok_or.ensures.value w.take_out-answer.new.maps u
           (subst (λ (o : Option ℕ). DeletesBy memory t tenant bind (word 0) (word 1) o w.take_out-answer.new.maps) (sym w.answer-is) w.take_out-answer.ensures.deleted) goes)))
       | in-Some-LoadBytes w ↦
           let same : LoadBytes ≡ helper = same_helper c helper known LoadBytes w.in-Some-LoadBytes.field-0 w.in-Some-LoadBytes.is w.in-Some-LoadBytes.field-0-is in
           let goes : called false LoadBytes s ≡ Some u = subst (λ (h : Helper). called false h s ≡ Some u) (sym same) e in
-          subst (λ (h : Helper). Follows l bind old t at registers tenant s h result after new) same
-          (subst (λ (m : Memory). Follows l bind old t at registers tenant s LoadBytes result m new) (sym w.arena-is)
-          (subst (λ (n : Tenant). Follows l bind old t at registers tenant s LoadBytes result w.load_bytes-answer.new.arena n) (sym w.maps-is)
+          subst (λ (h : Helper). ResultFollows l bind old t at registers tenant s h result after new) same
+          (subst (λ (m : Memory). ResultFollows l bind old t at registers tenant s LoadBytes result m new) (sym w.arena-is)
+          (subst (λ (n : LiveMaps). ResultFollows l bind old t at registers tenant s LoadBytes result w.load_bytes-answer.new.arena n) (sym w.maps-is)
           (load_followed l bind old t at registers memory tenant s room stands words args c.returns_stand.ensures c.laws_below.ensures result answer (record {}) c.ok_or.ensures.value c.args.packet.now packet w.load_bytes-answer.new.arena u
           (subst (λ (o : Option ℕ). LoadsBy memory t c.args.packet.now (word 1) (word 2) (word 3) o w.load_bytes-answer.new.arena) (sym w.answer-is) w.load_bytes-answer.ensures.loaded) goes)))
       | in-None w ↦ absurd (none-some helper (sym w.in-None.is ∙ is_known c helper known))

@@ -22,7 +22,7 @@ returns-in-Ok-clause-deleted c =
     let part = c.part-part.result.now in
     let size : n ≡ (shape_at old k).key_size = ap (λ (s : MapShape). s.key_size) c.shape-size.ensures in
     let same : slice_range part at (at + n) ≡ bytes_at memory.bytes (part_start memory t + at) (shape_at old k).key_size =
-    part_range memory t at n part c.part-part.ensures.bytes c.part-part.ensures.length (start_within memory t c.is_its_parts.ensures.parts c.requires.tenant) c.in_ok-at.ensures.within
+    part_range memory t at n part c.part-part.ensures.bytes c.part-part.ensures.length (start_within memory t c.memory_is_its_parts.ensures.parts c.requires.tenant) c.in_ok-at.ensures.within
     ∙ ap (λ (m : ℕ). bytes_at memory.bytes (part_start memory t + at) m) size in
     let P : ℕ → Type 0 = λ k. (bs : List ℕ) → part_input memory t (shape_at old k).key_size c.args.key ≡ Some bs → (word : ℕ) × (Some 0 ≡ Some word) × Deletes old k bs word new in
     λ k' bs named. by_some P k (bound_map c.args.bind.now c.args.map) c.in_ok-map.ensures.value
@@ -55,7 +55,7 @@ returns-in-Err-clause-deleted c =
     let part = c.part-part.result.now in
     let size : n ≡ (shape_at old k).key_size = ap (λ (s : MapShape). s.key_size) c.shape-size.ensures in
     let same : slice_range part at (at + n) ≡ bytes_at memory.bytes (part_start memory t + at) (shape_at old k).key_size =
-    part_range memory t at n part c.part-part.ensures.bytes c.part-part.ensures.length (start_within memory t c.is_its_parts.ensures.parts c.requires.tenant) c.in_ok-at.ensures.within
+    part_range memory t at n part c.part-part.ensures.bytes c.part-part.ensures.length (start_within memory t c.memory_is_its_parts.ensures.parts c.requires.tenant) c.in_ok-at.ensures.within
     ∙ ap (λ (m : ℕ). bytes_at memory.bytes (part_start memory t + at) m) size in
     let P : ℕ → Type 0 = λ k. (bs : List ℕ) → part_input memory t (shape_at old k).key_size c.args.key ≡ Some bs → (word : ℕ) × (Some c.refusal.result ≡ Some word) × Deletes old k bs word new in
     λ k' bs named. by_some P k (bound_map c.args.bind.now c.args.map) c.in_ok-map.ensures.value

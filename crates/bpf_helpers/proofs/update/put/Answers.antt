@@ -23,7 +23,7 @@ returns-in-Ok-clause-updated c =
     let after : (shape_at new k).value_size ≡ (shape_at old k).value_size = ap (λ (s : MapShape). s.value_size) c.in-Ok.ensures.shape in
     let fits : c.args.key + n ≤ memory.part = omega (arith, size, c.requires.key, c.requires.part) in
     let same : slice_range part c.args.key (c.args.key + n) ≡ bytes_at memory.bytes (part_start memory t + c.args.key) (shape_at old k).key_size =
-    part_range memory t c.args.key n part c.part-part.ensures.bytes c.part-part.ensures.length (start_within memory t c.is_its_parts.ensures.parts c.requires.tenant) fits
+    part_range memory t c.args.key n part c.part-part.ensures.bytes c.part-part.ensures.length (start_within memory t c.memory_is_its_parts.ensures.parts c.requires.tenant) fits
     ∙ ap (λ (m : ℕ). bytes_at memory.bytes (part_start memory t + c.args.key) m) size in
     let stays = c.areas_keep_places.ensures old new k c.in-Ok.place c.in-Ok.ensures.areas c.in-Ok.ensures.live in
     let inside = c.value_at.ensures.inside in
@@ -59,7 +59,7 @@ returns-in-Err-clause-updated c =
     let size : n ≡ (shape_at old k).key_size = ap (λ (s : MapShape). s.key_size) c.shape-shape.ensures in
     let fits : c.args.key + n ≤ memory.part = omega (arith, size, c.requires.key, c.requires.part) in
     let same : slice_range part c.args.key (c.args.key + n) ≡ bytes_at memory.bytes (part_start memory t + c.args.key) (shape_at old k).key_size =
-    part_range memory t c.args.key n part c.part-part.ensures.bytes c.part-part.ensures.length (start_within memory t c.is_its_parts.ensures.parts c.requires.tenant) fits
+    part_range memory t c.args.key n part c.part-part.ensures.bytes c.part-part.ensures.length (start_within memory t c.memory_is_its_parts.ensures.parts c.requires.tenant) fits
     ∙ ap (λ (m : ℕ). bytes_at memory.bytes (part_start memory t + c.args.key) m) size in
     record {
       answer = Err c.in-Err.fault;

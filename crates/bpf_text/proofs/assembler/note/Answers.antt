@@ -2,8 +2,7 @@ use Rattle.std.proofs.Common.{◌≡◌, sym, ap, ◌∙◌, Some, None, false}
 use Rattle.std.specs.Prelude.{is_some, not}
 use Rattle.std.proofs.lemmas.Map.Text.{hash_map_updates_str}
 use Rattle.text_line.specs.Shown.{seen_option}
-use Rattle.bpf_text.specs.Assembly.{label_defined}
-use Rattle.bpf_text.specs.inside.Labels.{place_of}
+use Rattle.bpf_text.specs.inside.Labels.{label_defined, place_of}
 use Rattle.bpf_text.proofs.LabelLines.{noted, none_copied}
 use Rattle.bpf_text.proofs.assembler.note.Goals as goal
 

@@ -3,7 +3,7 @@ use lib.Seq.{take-append-le}
 use borrow.Rule.Slice.PartMut.{put_mid}
 use Rattle.std.specs.Io.KnownBytes.{Consumes}
 use Rattle.std.proofs.KnownBytes.{Consumes-trans}
-use Rattle.host.specs.Reading.{ReadsShort}
+use Rattle.host.specs.inside.Reading.{ReadsFewer}
 use Rattle.host.proofs.Results.{on_err}
 use Rattle.host.proofs.Buffers.{take-put_mid_same}
 use Rattle.host.proofs.reading.read_long.Goals as goal
@@ -12,7 +12,7 @@ pub returns-in_err-skip-clause-short : goal.returns-in_err-skip-clause-short
 returns-in_err-skip-clause-short g c =
     let came = take 65537 c.read_whole.new.buffer in
     let left = c.in_err-skip.ensures.short in
-    let short : ReadsShort (g.S.Source.remaining c.args.reader.now) (g.S.Source.remaining c.skip.new.reader) c.args.total = record {
+    let short : ReadsFewer (g.S.Source.remaining c.args.reader.now) (g.S.Source.remaining c.skip.new.reader) c.args.total = record {
       bytes = came ++ left.bytes;
       few = omega (arith, length-append came left.bytes, length-take 65537 c.read_whole.new.buffer, left.few);
       read = Consumes-trans _ _ _ _ _ c.in_ok-read_whole.ensures.bytes left.read;

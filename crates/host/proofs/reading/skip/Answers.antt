@@ -1,6 +1,6 @@
 use Rattle.std.proofs.Common.{◌++◌, take, arith, rules, length-append, length-take}
 use Rattle.std.proofs.KnownBytes.{Consumes-trans}
-use Rattle.host.specs.Reading.{ReadsShort}
+use Rattle.host.specs.inside.Reading.{ReadsFewer}
 use Rattle.host.proofs.Results.{on_err}
 use Rattle.host.proofs.reading.skip.Goals as goal
 
@@ -9,7 +9,7 @@ returns-in_err-came-clause-short g c =
     let (bytes, len, read) = c.loop-left.invariant.came in
     let (n, few, more) = c.in_err-came.ensures.part in
     let came = take n c.fill.new.buffer in
-    let short : ReadsShort (g.S.Source.remaining c.args.reader.now) (g.S.Source.remaining c.fill.new.reader) c.args.count = record {
+    let short : ReadsFewer (g.S.Source.remaining c.args.reader.now) (g.S.Source.remaining c.fill.new.reader) c.args.count = record {
       bytes = bytes ++ came;
       few = omega (arith, length-append bytes came, length-take n c.fill.new.buffer, few, c.fill.auto.buffer, length-take c.min-wanted.result c.loop-left.scratch, c.min-wanted.ensures);
       read = Consumes-trans _ _ _ _ _ read more;

@@ -1,5 +1,5 @@
 use Rattle.std.proofs.Common.{◌≡◌, refl, subst, arith}
-use Rattle.host.specs.Served.{EndsFrame}
+use Rattle.host.specs.inside.Frame.{ServesFrameOrEnds}
 use Rattle.host.proofs.Serving.{answered_none, frame_done, end_done, serves_alone, frame_more, frame_stops, end_more, end_fails}
 use Rattle.host.proofs.server.serve.Goals as goal
 
@@ -8,7 +8,7 @@ loop-frames-init g c = record { answered = answered_none _; sound = (refl, refl)
 
 pub loop-frames-preserved : goal.loop-frames-preserved
 loop-frames-preserved g c =
-    let more = frame_more _ _ _ c.loop-frames.frames c.loop-frames.invariant.answered c.loop-frames.invariant.sound (subst (EndsFrame _ _) c.in-Ok-true.field-0-test c.in-Ok-true.ensures.done) in
+    let more = frame_more _ _ _ c.loop-frames.frames c.loop-frames.invariant.answered c.loop-frames.invariant.sound (subst (ServesFrameOrEnds _ _) c.in-Ok-true.field-0-test c.in-Ok-true.ensures.done) in
     record { answered = more.0; sound = more.1 }
 
 pub returns-in-Err-clause-fault : goal.returns-in-Err-clause-fault
@@ -28,7 +28,7 @@ returns-clause-fault g c =
 pub returns-in-Ok-false-clause-alone : goal.returns-in-Ok-false-clause-alone
 returns-in-Ok-false-clause-alone g c =
     serves_alone c.unrefused_are_told_alone.ensures _ _ _
-    (frame_done _ _ _ c.loop-frames.frames c.loop-frames.invariant.answered c.loop-frames.invariant.sound (subst (EndsFrame _ _) c.in-Ok-false.field-0-test c.in-Ok-false.ensures.done))
+    (frame_done _ _ _ c.loop-frames.frames c.loop-frames.invariant.answered c.loop-frames.invariant.sound (subst (ServesFrameOrEnds _ _) c.in-Ok-false.field-0-test c.in-Ok-false.ensures.done))
 
 pub returns-in-Ok-true-is_at_end-clause-alone : goal.returns-in-Ok-true-is_at_end-clause-alone
 returns-in-Ok-true-is_at_end-clause-alone g c =

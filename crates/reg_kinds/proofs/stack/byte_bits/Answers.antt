@@ -1,15 +1,15 @@
 use Rattle.std.proofs.Common.{◌%◌, ap, ◌∙◌, sym}
 use Rattle.reg_kinds.specs.Stack.{bytes_of, byte_bits}
-use Rattle.reg_kinds.specs.declared.stack.Size.{Size}
+use Rattle.reg_kinds.specs.declared.stack.AccessSize.{AccessSize}
 use Rattle.reg_kinds.proofs.ByteBits.{half_bits, word_bits}
 use Rattle.reg_kinds.proofs.stack.byte_bits.Goals as goal
 
 pub returns-in-Half : goal.returns-in-Half
 returns-in-Half c =
-    half_bits c.args.place (ap (λ (z : Size). c.args.place % bytes_of z) (sym c.in-Half.is) ∙ c.requires)
-    ∙ ap (λ (z : Size). byte_bits c.args.place (bytes_of z)) (sym c.in-Half.is)
+    half_bits c.args.place (ap (λ (z : AccessSize). c.args.place % bytes_of z) (sym c.in-Half.is) ∙ c.requires)
+    ∙ ap (λ (z : AccessSize). byte_bits c.args.place (bytes_of z)) (sym c.in-Half.is)
 
 pub returns-in-Word : goal.returns-in-Word
 returns-in-Word c =
-    word_bits c.args.place (ap (λ (z : Size). c.args.place % bytes_of z) (sym c.in-Word.is) ∙ c.requires)
-    ∙ ap (λ (z : Size). byte_bits c.args.place (bytes_of z)) (sym c.in-Word.is)
+    word_bits c.args.place (ap (λ (z : AccessSize). c.args.place % bytes_of z) (sym c.in-Word.is) ∙ c.requires)
+    ∙ ap (λ (z : AccessSize). byte_bits c.args.place (bytes_of z)) (sym c.in-Word.is)

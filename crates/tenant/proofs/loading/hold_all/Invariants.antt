@@ -1,6 +1,6 @@
 use Rattle.std.proofs.Common.{◌≡◌, ℕ, ◌+◌, take}
 use Rattle.tenant.specs.Kept.{times, holds_in}
-use Rattle.tenant.specs.Loading.{IsHeldMore}
+use Rattle.tenant.specs.inside.Loading.{IsHeldMore}
 use Rattle.tenant.proofs.loading.hold_all.Given as goal
 
 abbrev pub invariant-loop-map : goal.invariant-loop-map

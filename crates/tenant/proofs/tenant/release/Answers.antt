@@ -4,7 +4,7 @@ use Rattle.std.proofs.lemmas.Bool.{cases_lt}
 use Rattle.std.proofs.lemmas.List.{get_or_default, get_or_past}
 use Rattle.std.proofs.lemmas.Option.{none-some}
 use Rattle.tenant.specs.Kept.{holds_in}
-use Rattle.tenant.specs.Leaves.{Leaves}
+use Rattle.tenant.specs.inside.Leaves.{LeavesHeldMaps}
 use Rattle.tenant.proofs.Releases.{IsReleased, left_last, left_more, holds_last, holds_more, one_at}
 use Rattle.tenant.proofs.tenant.release.Goals as goal
 
@@ -37,7 +37,7 @@ returns-then-is_last-clause-left c =
       whole = e.length;
     } in
     let there : get_or keys c.args.place None ≡ Some c.in-Some.key = at_place keys c.args.place _ _ c.in-Some.key c.from.ensures c.in-Some.is c.requires.there in
-    subst (λ (n : ℕ). Leaves (record { keys = keys; live = c.args.maps.now; part = c.args.part.now }) (record { keys = set keys n None; live = c.release.new.self; part = c.release.new.part })) (sym c.from-then-is_last.ensures)
+    subst (λ (n : ℕ). LeavesHeldMaps (record { keys = keys; live = c.args.maps.now; part = c.args.part.now }) (record { keys = set keys n None; live = c.release.new.self; part = c.release.new.part })) (sym c.from-then-is_last.ensures)
     (left_last keys c.args.maps.now c.release.new.self c.args.part.now c.release.new.part c.args.place c.in-Some.key c.requires.placed there released (subst (λ (n : ℕ). n ≤ 1) c.holds-is_last.ensures c.if-is_last.true))
 
 pub returns-then-is_last-clause-holds : goal.returns-then-is_last-clause-holds

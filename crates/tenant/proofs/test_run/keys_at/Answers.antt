@@ -1,5 +1,5 @@
 use Rattle.std.proofs.Common.{ℕ, ◌<◌, length, sym, subst}
-use Rattle.tenant.specs.TestRun.{place_at}
+use Rattle.tenant.specs.inside.TestRun.{place_at}
 use Rattle.tenant.proofs.TestRunKeys.{is_within}
 use Rattle.tenant.proofs.test_run.keys_at.Goals as goal
 

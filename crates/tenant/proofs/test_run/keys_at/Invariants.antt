@@ -1,7 +1,7 @@
 use Rattle.std.proofs.Common.{◌≡◌, ℕ, ◌<◌, length, Some, None}
 use Rattle.std.specs.Prelude.{slice_index, slice_index_or}
 use Rattle.bpf_maps.specs.declared.part.TheConstants.{MAPS}
-use Rattle.tenant.specs.TestRun.{place_at}
+use Rattle.tenant.specs.inside.TestRun.{place_at}
 use Rattle.tenant.proofs.test_run.keys_at.Given as goal
 
 abbrev pub invariant-loop-i : goal.invariant-loop-i

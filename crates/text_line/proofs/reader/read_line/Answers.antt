@@ -1,7 +1,7 @@
 use Rattle.std.proofs.Common.{List, sym, subst}
 use Rattle.text_line.specs.declared.token.Token.{Token as CodeToken}
 use Rattle.text_line.specs.Token.{IsTokens}
-use Rattle.text_line.specs.Shown.{shown_tokens}
+use Rattle.text_line.specs.inside.Shown.{shown_tokens}
 use Rattle.text_line.specs.Shown.{seen_line}
 use Rattle.std.specs.Prelude.{option_map}
 use Rattle.text_line.proofs.Read.{read_as}

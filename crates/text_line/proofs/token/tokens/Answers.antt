@@ -3,7 +3,7 @@ use Rattle.std.proofs.lemmas.Str.{IsUtf8-from_ascii}
 use Rattle.text_line.specs.Blanks.{skip_blanks}
 use Rattle.text_line.specs.Token.{Token, is_over, HasTokens}
 use Rattle.text_line.specs.inside.Tokens.{token_at}
-use Rattle.text_line.specs.Shown.{shown, shown_tokens}
+use Rattle.text_line.specs.inside.Shown.{shown, shown_tokens}
 use Rattle.text_line.proofs.Tokens.{no_tokens, whole_more, only_more, shown_more}
 use Rattle.text_line.proofs.token.tokens.Goals as goal
 

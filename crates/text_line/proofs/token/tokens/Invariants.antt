@@ -3,7 +3,7 @@ use Rattle.std.specs.Str.{IsAscii}
 use denote.Shadow.{shadow}
 use denote.Text.{Utf8}
 use Rattle.text_line.specs.Token.{Token, HasTokens}
-use Rattle.text_line.specs.Shown.{shown_tokens}
+use Rattle.text_line.specs.inside.Shown.{shown_tokens}
 use Rattle.text_line.proofs.token.tokens.Given as goal
 
 -- the tokens of the line are those so far and those of the rest

@@ -3,7 +3,8 @@ use Rattle.std.specs.Option.{option_copied}
 use Rattle.insn_codec.specs.declared.insn.Insn.{Insn}
 use Rattle.insn_codec.specs.Program.{begun_below, begins_at}
 use Rattle.verdict.specs.Shape.{descriptor}
-use Rattle.verdict.specs.Maps.{with_descriptor, maps_of}
+use Rattle.verdict.specs.Maps.{maps_of}
+use Rattle.verdict.specs.inside.Descriptors.{with_descriptor}
 use Rattle.verdict.proofs.Loads.{none_loaded, loaded_here, loaded_nowhere}
 use Rattle.verdict.proofs.maps.loaded_maps.Goals.{in-Some+in_ok-add_descriptor, in_default}
 use Rattle.verdict.proofs.maps.loaded_maps.Goals as goal

@@ -6,7 +6,7 @@ use Rattle.std.proofs.lemmas.Result.{err_from_is_err_and}
 use Rattle.insn_codec.specs.Program.{begins_at, slot_count}
 use Rattle.reg_kinds.specs.declared.facts.Facts.{Facts}
 use Rattle.tagged_model.specs.Named.{shapes_named}
-use Rattle.verdict.specs.Shape.{jump_target}
+use Rattle.insn_codec.specs.Flow.{jump_target}
 use Rattle.verdict.specs.Verdict.{safety_fault}
 use Rattle.verdict.specs.declared.pass.Pass.{Pass}
 use Rattle.verdict.proofs.Slots.{none_past}

@@ -4,7 +4,8 @@ use Rattle.std.specs.Prelude.{IfSome}
 use Rattle.std.proofs.lemmas.List.{length-set, length-replicate, with_items_is}
 use Rattle.std.proofs.lemmas.Bool.{cases_lt}
 use Rattle.insn_codec.specs.Program.{begins_at, slot_count}
-use Rattle.verdict.specs.Shape.{shape_fault, jump_target}
+use Rattle.verdict.specs.Shape.{shape_fault}
+use Rattle.insn_codec.specs.Flow.{jump_target}
 use Rattle.verdict.proofs.Slots.{none_past}
 use Rattle.verdict.proofs.Reached.{fine, jump_lands, marked_first, marked_next, marked_past, shape_is, each_lands}
 use Rattle.verdict.proofs.shape.check_shape.Goals.{in-Some+in_default-shape_reason, in_default}

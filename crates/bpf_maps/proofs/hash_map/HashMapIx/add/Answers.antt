@@ -1,7 +1,7 @@
 use Rattle.std.proofs.Common.{◌≡◌, ℕ, ◌∙◌, sym, ap, subst, refl, Some, [], ◌∷◌, ◌++◌, List, length, slice_get, ◌-◌}
 use Rattle.tagged_model.specs.Table.{look_up, with_key}
 use Rattle.bpf_maps.specs.Places.{PlaceTable, table_of}
-use Rattle.bpf_maps.specs.Index.{bare, shown, IsKept}
+use Rattle.bpf_maps.specs.Index.{bare, shown, IsWellFormedHash}
 use Rattle.bpf_maps.specs.declared.hash_map.HashMapIx.TheInside.{Inside}
 use Rattle.bpf_maps.proofs.Bare.{last_is, on_ok, index_with}
 use Rattle.bpf_maps.proofs.Kept.{sound, kept_by_add, not_full, is_free}
@@ -27,7 +27,7 @@ module _ (c : goal.After-pop) where
   abbrev after : Inside
   after = record { alloc = c.self.inside.alloc; shape = c.self.inside.shape; index = c.insert.new.self; kept = c.self.inside.kept; free = c.pop.new.self }
 
-  whole : IsKept after
+  whole : IsWellFormedHash after
   whole = kept_by_add c.self.inside c.self.invariant c.in-Some.place c.pop.new.self.items last after c.args.key.now size refl index refl refl c.pop.ensures.capacity
 
 pub invariant_of-self-2 : goal.invariant_of-self-2

@@ -1,6 +1,7 @@
 use Rattle.std.proofs.Common.{◌≡◌, ◌+◌, true, false, is_some, ◌∙◌, sym, ap, slice_get}
 use Rattle.tagged_model.specs.Table.{found, next_of}
-use Rattle.bpf_maps.specs.Places.{PlaceTable, table_of, key_of}
+use Rattle.bpf_maps.specs.Places.{PlaceTable, table_of}
+use Rattle.bpf_maps.specs.inside.Keys.{key_of}
 use Rattle.bpf_maps.specs.Index.{bare}
 use Rattle.bpf_maps.proofs.Bare.{found_bare}
 use Rattle.bpf_maps.proofs.Following.{after_known, after_unknown}

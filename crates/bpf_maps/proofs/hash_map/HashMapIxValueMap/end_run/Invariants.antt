@@ -1,11 +1,11 @@
 use Rattle.std.proofs.Common.{◌≡◌, vec_len}
-use Rattle.bpf_maps.specs.Index.{bare, IsKept}
+use Rattle.bpf_maps.specs.Index.{bare, IsWellFormedHash}
 use Rattle.bpf_maps.proofs.hash_map.HashMapIxValueMap.end_run.Given as goal
 
 -- the places stay whole, and the keys with them
 abbrev pub invariant-loop-place : goal.invariant-loop-place
 invariant-loop-place l = record {
-  whole : IsKept l.self-inside;
+  whole : IsWellFormedHash l.self-inside;
   shape : l.self-inside.shape ≡ l.fn.self.shape;
   entries : bare l.self-inside.index.entries ≡ l.fn.self.entries;
 }

@@ -1,7 +1,7 @@
 use Rattle.std.proofs.Common.{◌≡◌, ℕ, ◌∙◌, sym, ap, subst, refl, Some, None, Option, IfNone}
 use Rattle.tagged_model.specs.Table.{found, without}
 use Rattle.bpf_maps.specs.Places.{IsSound}
-use Rattle.bpf_maps.specs.Index.{bare, shown, IsKept}
+use Rattle.bpf_maps.specs.Index.{bare, shown, IsWellFormedHash}
 use Rattle.bpf_maps.specs.declared.hash_map.HashMapIx.TheInside.{Inside}
 use Rattle.bpf_maps.proofs.Bare.{found_bare, without_bare}
 use Rattle.bpf_maps.proofs.Kept.{sound, kept_by_remove}
@@ -32,7 +32,7 @@ module _ (c : goal.After-push_reserved) where
   abbrev after : Inside
   after = record { alloc = c.self.inside.alloc; shape = c.self.inside.shape; index = c.shift_remove.new.self; kept = c.push_reserved.new.self; free = c.self.inside.free }
 
-  whole : IsKept after
+  whole : IsWellFormedHash after
   whole = kept_by_remove c.self.inside after c.self.invariant c.args.key.now c.in-Some.place found_is refl index c.push_reserved.ensures.items c.push_reserved.ensures.capacity refl
 
 pub invariant_of-self-2 : goal.invariant_of-self-2

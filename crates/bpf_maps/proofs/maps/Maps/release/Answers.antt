@@ -3,7 +3,7 @@ use Rattle.tagged_model.specs.Shape.{area}
 use Rattle.tagged_model.specs.declared.shape.MapShape.{MapShape}
 use Rattle.bpf_maps.specs.Any.{places_of}
 use Rattle.bpf_maps.specs.Places.{IsSound}
-use Rattle.bpf_maps.specs.Live.{Tenant, live_at, places_at, holds_at, AreSound, SameValues, without_area}
+use Rattle.bpf_maps.specs.Live.{LiveMaps, live_at, places_at, holds_at, AreSound, SameValues, without_area}
 use Rattle.bpf_maps.specs.InMaps.{live_of, seen}
 use Rattle.bpf_maps.specs.declared.maps.Entry.{Entry}
 use Rattle.bpf_maps.proofs.Changes.{IsChange, with_entry, live_here, live_old, live_new, others_stay, areas_stay, whole_stays, laid_stays, room_stays, values_along, told_of, not_more, less_held}
@@ -61,7 +61,7 @@ module _ (c : goal.After-self-1) where
   sound : (k : ℕ) → IsSome (live_at c.args.self.now k) → IsSound (places_at c.args.self.now k)
   sound = subst AreSound c.self.view_is (sound_at c.self.inside c.self.invariant)
 
-  abbrev after : Tenant
+  abbrev after : LiveMaps
   after = seen (with_entry c.self.inside c.map.inside.number (new c) c.self.inside.refused)
 
   same_values : SameValues c.args.self.now c.args.part.now after c.args.part.now

@@ -2,7 +2,7 @@ use Rattle.std.proofs.Common.{◌≡◌, ℕ, ◌+◌, ◌*◌, ◌≤◌, Some,
 use Rattle.bpf_maps.specs.declared.part.TheConstants.{FRONT, AREA, PART}
 use Rattle.bpf_maps.specs.declared.maps.Entry.{Entry}
 use Rattle.bpf_maps.specs.Any.{places_of}
-use Rattle.bpf_maps.specs.Live.{Live, live_at, offset, shape_at, IsLaid, IsInside}
+use Rattle.bpf_maps.specs.Live.{LiveMap, live_at, offset, shape_at, IsLaid, LiesInPart}
 use Rattle.bpf_maps.specs.InMaps.{live_of, seen}
 use Rattle.bpf_maps.proofs.Changes.{live_here, told_of}
 use Rattle.bpf_maps.proofs.Whole.{laid}
@@ -15,7 +15,7 @@ module _ (c : goal.After-index-entry) where
   is : live_at c.args.self.now c.args.map ≡ Some (live_of entry)
   is = live_here c.self.inside c.args.self.now c.map.inside.number c.args.map entry c.self.view_is c.map.view_is c.index-entry.ensures
 
-  inside : IsInside (offset (live_of entry) c.args.place) (places_of entry.map).shape.value_size
+  inside : LiesInPart (offset (live_of entry) c.args.place) (places_of entry.map).shape.value_size
   inside =
       let m : (shape_at c.args.self.now c.args.map).max_entries ≡ (places_of entry.map).shape.max_entries = told_of (λ l. l.places.shape.max_entries) _ _ is in
       let p = c.requires.place in
@@ -41,12 +41,12 @@ pub overflow_add-result-2 : goal.overflow_add-result-2
 overflow_add-result-2 c = record { fits = let s = small c in omega arith }
 
 pub returns-clause-offset : goal.returns-clause-offset
-returns-clause-offset c = sym (offset_is c) ∙ sym (told_of (λ (l : Live). offset l c.args.place) _ _ (is c))
+returns-clause-offset c = sym (offset_is c) ∙ sym (told_of (λ (l : LiveMap). offset l c.args.place) _ _ (is c))
 
 pub returns-clause-inside : goal.returns-clause-inside
 returns-clause-inside c =
-    subst (λ (v : ℕ). IsInside (FRONT + (entry c).number * AREA + c.args.place * (entry c).stride) v) (sym (told_of (λ l. l.places.shape.value_size) _ _ (is c)))
-    (subst (λ (o : ℕ). IsInside o (places_of (entry c).map).shape.value_size) (offset_is c) (inside c))
+    subst (λ (v : ℕ). LiesInPart (FRONT + (entry c).number * AREA + c.args.place * (entry c).stride) v) (sym (told_of (λ l. l.places.shape.value_size) _ _ (is c)))
+    (subst (λ (o : ℕ). LiesInPart o (places_of (entry c).map).shape.value_size) (offset_is c) (inside c))
 
 pub returns-clause-laid : goal.returns-clause-laid
 returns-clause-laid c = subst IsLaid c.self.view_is (laid c.self.inside c.self.invariant)

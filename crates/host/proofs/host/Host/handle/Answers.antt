@@ -3,7 +3,7 @@ use Rattle.std.specs.Prelude.{slice_get}
 use Rattle.arena.specs.Memory.{part_bytes}
 use Rattle.command_frames.specs.Frame.{owner}
 use Rattle.tenant.specs.Kept.{state_in}
-use Rattle.tenant.specs.State.{State}
+use Rattle.tenant.specs.State.{TenantState}
 use Rattle.host.proofs.Faults.{served_is_no_fault, refusal_is_no_fault}
 use Rattle.host.proofs.Tenants.{slice_get_in, states_length, others_stay, count_stays, tells_own, tells_none}
 use Rattle.host.proofs.host.Host.handle.Goals as goal
@@ -32,7 +32,7 @@ returns-in-Some-clause-others c = λ other ne.
     let (long, own, served) = c.in-Some.ensures.served in
     let apart = λ (e : other ≡ c.in-Some.tenant). ne (e ∙ own) in
     others_stay c.self.inside.arena c.handle.new.arena c.self.inside.tenants.items c.in-Some.tenant other c.handle.new.self apart (c.handle.ensures.others other apart)
-    ∙ ap (λ (s : List State). slice_get s other) c.self.view_is
+    ∙ ap (λ (s : List TenantState). slice_get s other) c.self.view_is
 
 pub returns-in-Some-clause-count : goal.returns-in-Some-clause-count
 returns-in-Some-clause-count c =

@@ -1,9 +1,9 @@
 use Rattle.std.proofs.Common.{◌≡◌, ℕ, ◌+◌, ◌-◌, ◌≤◌, List, [], Option, Some, None, sym, ap, subst, ◌∙◌}
 use Rattle.fd_table.specs.Table.{first, named}
 use Rattle.tenant.specs.declared.errno.Errno.TheVariants.{BadDescriptor}
-use Rattle.tenant.specs.declared.object.Object.{Object}
-use Rattle.tenant.specs.declared.object.Object.TheVariants as object
-use Rattle.tenant.specs.Kept.{Kept, IsKept, holds_in, times, weight, holders, state_in}
+use Rattle.tenant.specs.declared.object.OpenObject.{OpenObject}
+use Rattle.tenant.specs.declared.object.OpenObject.TheVariants as object
+use Rattle.tenant.specs.Kept.{KeptTenant, IsWellFormedTenant, holds_in, times, weight, holders, state_in}
 use Rattle.tenant.specs.Machine.{gives, refuses, closed}
 use Rattle.tenant.proofs.Sums.{total-part}
 use Rattle.tenant.proofs.Named.{named_has_key}
@@ -11,26 +11,26 @@ use Rattle.tenant.proofs.Closes.{closed_at, closed_kept, closed_state, nothing_c
 use Rattle.tenant.proofs.tenant.Tenant.close.Goals as goal
 
 -- an answer of the machine, by what the descriptor names
-answer_is : (part : List ℕ) (old k : Kept) (fd : ℕ) (o : Option Object) → k ≡ old → named k.objects fd ≡ o → closed (state_in part k) fd o ≡ closed (state_in part old) fd (named old.objects fd)
-answer_is part old k fd o same e = ap (closed (state_in part k) fd) (sym e) ∙ ap (λ (x : Kept). closed (state_in part x) fd (named x.objects fd)) same
+answer_is : (part : List ℕ) (old k : KeptTenant) (fd : ℕ) (o : Option OpenObject) → k ≡ old → named k.objects fd ≡ o → closed (state_in part k) fd o ≡ closed (state_in part old) fd (named old.objects fd)
+answer_is part old k fd o same e = ap (closed (state_in part k) fd) (sym e) ∙ ap (λ (x : KeptTenant). closed (state_in part x) fd (named x.objects fd)) same
 
 pub invariant_of-self : goal.invariant_of-self
 invariant_of-self c =
-    let k : Kept = record { objects = c.self.inside.objects; keys = c.self.inside.keys; live = c.self.inside.maps; refused = c.self.inside.refused } in
-    subst (λ (os : List (Option Object)). IsKept (record { objects = os; keys = k.keys; live = k.live; refused = k.refused }))
+    let k : KeptTenant = record { objects = c.self.inside.objects; keys = c.self.inside.keys; live = c.self.inside.maps; refused = c.self.inside.refused } in
+    subst (λ (os : List (Option OpenObject)). IsWellFormedTenant (record { objects = os; keys = k.keys; live = k.live; refused = k.refused }))
     (sym (c.close.ensures.closed ∙ nothing_closed k.objects c.args.fd (sym c.close.ensures.named ∙ c.in_default.is))) c.self.invariant
 
 pub returns-in_default-clause-answer : goal.returns-in_default-clause-answer
 returns-in_default-clause-answer c =
-    let k : Kept = record { objects = c.self.inside.objects; keys = c.self.inside.keys; live = c.self.inside.maps; refused = c.self.inside.refused } in
+    let k : KeptTenant = record { objects = c.self.inside.objects; keys = c.self.inside.keys; live = c.self.inside.maps; refused = c.self.inside.refused } in
     let none : named k.objects c.args.fd ≡ None = sym c.close.ensures.named ∙ c.in_default.is in
-    ap (λ (os : List (Option Object)). refuses BadDescriptor (state_in c.args.part.now (record { objects = os; keys = k.keys; live = k.live; refused = k.refused })))
+    ap (λ (os : List (Option OpenObject)). refuses BadDescriptor (state_in c.args.part.now (record { objects = os; keys = k.keys; live = k.live; refused = k.refused })))
     (c.close.ensures.closed ∙ nothing_closed k.objects c.args.fd none)
     ∙ answer_is c.args.part.now c.args.self.now k c.args.fd None c.self.view_is none
 
 pub release_all-requires-clause-held : goal.release_all-requires-clause-held
 release_all-requires-clause-held c = λ q.
-    let k : Kept = record { objects = c.self.inside.objects; keys = c.self.inside.keys; live = c.self.inside.maps; refused = c.self.inside.refused } in
+    let k : KeptTenant = record { objects = c.self.inside.objects; keys = c.self.inside.keys; live = c.self.inside.maps; refused = c.self.inside.refused } in
     let o = object.Program c.in-Program.program in
     let opened : named k.objects c.args.fd ≡ Some o = sym c.close.ensures.named ∙ c.in-Some.is ∙ ap Some c.in-Program.is in
     subst (λ (n : ℕ). times q c.maps.result.now ≤ n) (sym (c.self.invariant.held q))
@@ -38,18 +38,18 @@ release_all-requires-clause-held c = λ q.
 
 pub invariant_of-self-in-Program : goal.invariant_of-self-in-Program
 invariant_of-self-in-Program c =
-    let k : Kept = record { objects = c.self.inside.objects; keys = c.self.inside.keys; live = c.self.inside.maps; refused = c.self.inside.refused } in
+    let k : KeptTenant = record { objects = c.self.inside.objects; keys = c.self.inside.keys; live = c.self.inside.maps; refused = c.self.inside.refused } in
     let o = object.Program c.in-Program.program in
     let opened : named k.objects c.args.fd ≡ Some o = sym c.close.ensures.named ∙ c.in-Some.is ∙ ap Some c.in-Program.is in
     let t = c.release_all.new.maps in
     let after = c.release_all.new.keys in
     let fewer : (q : ℕ) → holds_in after t q + weight q o ≡ holds_in k.keys k.live q = λ q. ap (λ (ms : List (ℕ × ℕ)). holds_in after t q + times q ms) (sym c.maps.ensures) ∙ c.release_all.ensures.holds q in
-    subst (λ (os : List (Option Object)). IsKept (record { objects = os; keys = after; live = t; refused = k.refused })) (sym c.close.ensures.closed)
+    subst (λ (os : List (Option OpenObject)). IsWellFormedTenant (record { objects = os; keys = after; live = t; refused = k.refused })) (sym c.close.ensures.closed)
     (closed_kept k t after c.args.part.now c.release_all.new.part c.args.fd o c.self.invariant opened c.release_all.ensures.left fewer)
 
 pub returns-in-Program-clause-answer : goal.returns-in-Program-clause-answer
 returns-in-Program-clause-answer c =
-    let k : Kept = record { objects = c.self.inside.objects; keys = c.self.inside.keys; live = c.self.inside.maps; refused = c.self.inside.refused } in
+    let k : KeptTenant = record { objects = c.self.inside.objects; keys = c.self.inside.keys; live = c.self.inside.maps; refused = c.self.inside.refused } in
     let o = object.Program c.in-Program.program in
     let opened : named k.objects c.args.fd ≡ Some o = sym c.close.ensures.named ∙ c.in-Some.is ∙ ap Some c.in-Program.is in
     let t = c.release_all.new.maps in
@@ -58,26 +58,26 @@ returns-in-Program-clause-answer c =
     let later = c.release_all.new.part in
     let fewer : (q : ℕ) → holds_in after t q + weight q o ≡ holds_in k.keys k.live q = λ q. ap (λ (ms : List (ℕ × ℕ)). holds_in after t q + times q ms) (sym c.maps.ensures) ∙ c.release_all.ensures.holds q in
     let kept = closed_kept k t after part later c.args.fd o c.self.invariant opened c.release_all.ensures.left fewer in
-    ap (λ (os : List (Option Object)). gives [] (state_in later (record { objects = os; keys = after; live = t; refused = k.refused }))) c.close.ensures.closed
+    ap (λ (os : List (Option OpenObject)). gives [] (state_in later (record { objects = os; keys = after; live = t; refused = k.refused }))) c.close.ensures.closed
     ∙ ap (gives []) (closed_state k t after part later c.args.fd o c.self.invariant opened c.release_all.ensures.left kept)
     ∙ answer_is part c.args.self.now k c.args.fd (Some o) c.self.view_is opened
 
 pub release-requires-clause-there : goal.release-requires-clause-there
 release-requires-clause-there c =
-    let k : Kept = record { objects = c.self.inside.objects; keys = c.self.inside.keys; live = c.self.inside.maps; refused = c.self.inside.refused } in
+    let k : KeptTenant = record { objects = c.self.inside.objects; keys = c.self.inside.keys; live = c.self.inside.maps; refused = c.self.inside.refused } in
     named_has_key k c.self.invariant c.args.fd c.in-Map.place c.in-Some.object (sym c.in-Some.is ∙ c.close.ensures.named) c.in-Map.is
 
 pub invariant_of-self-2 : goal.invariant_of-self-2
 invariant_of-self-2 c =
-    let k : Kept = record { objects = c.self.inside.objects; keys = c.self.inside.keys; live = c.self.inside.maps; refused = c.self.inside.refused } in
+    let k : KeptTenant = record { objects = c.self.inside.objects; keys = c.self.inside.keys; live = c.self.inside.maps; refused = c.self.inside.refused } in
     let o = object.Map c.in-Map.place in
     let opened : named k.objects c.args.fd ≡ Some o = sym c.close.ensures.named ∙ c.in-Some.is ∙ ap Some c.in-Map.is in
-    subst (λ (os : List (Option Object)). IsKept (record { objects = os; keys = c.release.new.keys; live = c.release.new.maps; refused = k.refused })) (sym c.close.ensures.closed)
+    subst (λ (os : List (Option OpenObject)). IsWellFormedTenant (record { objects = os; keys = c.release.new.keys; live = c.release.new.maps; refused = k.refused })) (sym c.close.ensures.closed)
     (closed_kept k c.release.new.maps c.release.new.keys c.args.part.now c.release.new.part c.args.fd o c.self.invariant opened c.release.ensures.left c.release.ensures.holds)
 
 pub returns-clause-answer : goal.returns-clause-answer
 returns-clause-answer c =
-    let k : Kept = record { objects = c.self.inside.objects; keys = c.self.inside.keys; live = c.self.inside.maps; refused = c.self.inside.refused } in
+    let k : KeptTenant = record { objects = c.self.inside.objects; keys = c.self.inside.keys; live = c.self.inside.maps; refused = c.self.inside.refused } in
     let o = object.Map c.in-Map.place in
     let opened : named k.objects c.args.fd ≡ Some o = sym c.close.ensures.named ∙ c.in-Some.is ∙ ap Some c.in-Map.is in
     let t = c.release.new.maps in
@@ -85,6 +85,6 @@ returns-clause-answer c =
     let part = c.args.part.now in
     let later = c.release.new.part in
     let kept = closed_kept k t after part later c.args.fd o c.self.invariant opened c.release.ensures.left c.release.ensures.holds in
-    ap (λ (os : List (Option Object)). gives [] (state_in later (record { objects = os; keys = after; live = t; refused = k.refused }))) c.close.ensures.closed
+    ap (λ (os : List (Option OpenObject)). gives [] (state_in later (record { objects = os; keys = after; live = t; refused = k.refused }))) c.close.ensures.closed
     ∙ ap (gives []) (closed_state k t after part later c.args.fd o c.self.invariant opened c.release.ensures.left kept)
     ∙ answer_is part c.args.self.now k c.args.fd (Some o) c.self.view_is opened

@@ -6,7 +6,7 @@ use Rattle.tagged_model.specs.declared.shape.MapShape.{MapShape}
 use Rattle.tagged_model.specs.declared.fault.MapFault.{MapFault}
 use Rattle.tagged_model.specs.Table as call
 use Rattle.tagged_model.specs.Table.{removal, with_deleted}
-use Rattle.tenant.specs.Kept.{Kept, state_in}
+use Rattle.tenant.specs.Kept.{KeptTenant, state_in}
 use Rattle.tenant.proofs.Named.{named_in}
 use Rattle.tenant.specs.Machine.{gives, refuses, taken_out, deleted}
 use Rattle.tenant.proofs.StillKept.{IsLiveStill, each_still, still_kept, with_live}
@@ -16,7 +16,7 @@ use Rattle.tenant.proofs.tenant.Tenant.delete.Goals as goal
 
 pub invariant_of-self : goal.invariant_of-self
 invariant_of-self c =
-    let k : Kept = record { objects = c.self.inside.objects; keys = c.self.inside.keys; live = c.self.inside.maps; refused = c.self.inside.refused } in
+    let k : KeptTenant = record { objects = c.self.inside.objects; keys = c.self.inside.keys; live = c.self.inside.maps; refused = c.self.inside.refused } in
     let m = c.in_ok-map.map in
     let (place, opened, there) = named_in c.args.self.now k c.args.fd m c.self.view_is c.in_ok-map.ensures.found in
     let t = c.remove.new.self in
@@ -32,7 +32,7 @@ invariant_of-self c =
 
 pub returns-in-Err : goal.returns-in-Err
 returns-in-Err c = λ part.
-    let k : Kept = record { objects = c.self.inside.objects; keys = c.self.inside.keys; live = c.self.inside.maps; refused = c.self.inside.refused } in
+    let k : KeptTenant = record { objects = c.self.inside.objects; keys = c.self.inside.keys; live = c.self.inside.maps; refused = c.self.inside.refused } in
     let m = c.in_ok-map.map in
     let (place, opened, there) = named_in c.args.self.now k c.args.fd m c.self.view_is c.in_ok-map.ensures.found in
     let key = c.args.key.now in
@@ -47,12 +47,12 @@ returns-in-Err c = λ part.
     let size : length key ≡ (shape_at k.live m).key_size = c.if-key-shape.false ∙ ap (λ (s : MapShape). s.key_size) c.shape.ensures in
     ap₂ refuses c.of_map.ensures state
     ∙ ap (λ (r : Result ℕ MapFault). taken_out s place T key (result_map_both (value_in part k.live m) (λ fault. fault) r)) (sym found)
-    ∙ sym (delete_is c.calls_go_along.ensures.bytes part k c.args.fd place m key opened there size)
-    ∙ ap (λ (old : Kept). deleted (state_in part old) c.args.fd key) c.self.view_is
+    ∙ sym (delete_is c.calls_refine_values.ensures.bytes part k c.args.fd place m key opened there size)
+    ∙ ap (λ (old : KeptTenant). deleted (state_in part old) c.args.fd key) c.self.view_is
 
 pub invariant_of-self-2 : goal.invariant_of-self-2
 invariant_of-self-2 c =
-    let k : Kept = record { objects = c.self.inside.objects; keys = c.self.inside.keys; live = c.self.inside.maps; refused = c.self.inside.refused } in
+    let k : KeptTenant = record { objects = c.self.inside.objects; keys = c.self.inside.keys; live = c.self.inside.maps; refused = c.self.inside.refused } in
     let m = c.in_ok-map.map in
     let t = c.end_run.new.self in
     let here : IsLiveStill k.live t m = record {
@@ -67,7 +67,7 @@ invariant_of-self-2 c =
 
 pub returns : goal.returns
 returns c = λ part.
-    let k : Kept = record { objects = c.self.inside.objects; keys = c.self.inside.keys; live = c.self.inside.maps; refused = c.self.inside.refused } in
+    let k : KeptTenant = record { objects = c.self.inside.objects; keys = c.self.inside.keys; live = c.self.inside.maps; refused = c.self.inside.refused } in
     let m = c.in_ok-map.map in
     let (place, opened, there) = named_in c.args.self.now k c.args.fd m c.self.view_is c.in_ok-map.ensures.found in
     let key = c.args.key.now in
@@ -80,10 +80,10 @@ returns c = λ part.
     same_values c.areas_keep_places.ensures part c.remove.new.self t m c.end_run.ensures.areas c.end_run.ensures.live c.end_run.ensures.shape
     ∙ same_values c.areas_keep_places.ensures part k.live c.remove.new.self m c.in_default.ensures.areas c.in_default.ensures.live c.in_default.ensures.shape in
     let others = others_keep part k.live t m (λ o apart. c.end_run.ensures.others o apart ∙ c.in_default.ensures.others o apart) in
-    let changed : map_in part t m ≡ call.after_run (with_deleted T key) = map_without c.calls_are_those_of_a_map.ensures c.calls_go_along.ensures.bytes part k.live t m p key values ended in
+    let changed : map_in part t m ≡ call.after_run (with_deleted T key) = map_without c.calls_are_those_of_a_map.ensures c.calls_refine_values.ensures.bytes part k.live t m p key values ended in
     let state : state_in part (with_live k t) ≡ _ = one_map part part k t place m (call.after_run (with_deleted T key)) c.self.invariant there (λ i o at apart. others o apart) changed (c.end_run.ensures.refused ∙ c.in_default.ensures.refused) in
     let size : length key ≡ (shape_at k.live m).key_size = c.if-key-shape.false ∙ ap (λ (s : MapShape). s.key_size) c.shape.ensures in
     ap (gives []) state
     ∙ ap (λ (r : Result ℕ MapFault). taken_out s place T key (result_map_both (value_in part k.live m) (λ fault. fault) r)) (sym found)
-    ∙ sym (delete_is c.calls_go_along.ensures.bytes part k c.args.fd place m key opened there size)
-    ∙ ap (λ (old : Kept). deleted (state_in part old) c.args.fd key) c.self.view_is
+    ∙ sym (delete_is c.calls_refine_values.ensures.bytes part k c.args.fd place m key opened there size)
+    ∙ ap (λ (old : KeptTenant). deleted (state_in part old) c.args.fd key) c.self.view_is

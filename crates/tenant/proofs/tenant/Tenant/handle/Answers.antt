@@ -2,8 +2,12 @@ use Rattle.std.proofs.Common.{sym, ◌∙◌}
 use Rattle.arena.specs.Memory.{part_bytes}
 use Rattle.command_frames.specs.Shown.{shown}
 use Rattle.tenant.specs.Kept.{state_in}
+use Rattle.tenant.proofs.FramesLengths.{parsed_within}
 use Rattle.tenant.proofs.FramesReplies.{may_tell, no_fault_told, refused_frame, refused_no_fault}
 use Rattle.tenant.proofs.tenant.Tenant.handle.Goals as goal
+
+pub reply_to_command-requires-clause-short : goal.reply_to_command-requires-clause-short
+reply_to_command-requires-clause-short c = parsed_within c.args.frame.now (shown c.in-Ok.command) (sym c.in-Ok.ensures)
 
 pub returns-in-Ok-clause-told : goal.returns-in-Ok-clause-told
 returns-in-Ok-clause-told c =

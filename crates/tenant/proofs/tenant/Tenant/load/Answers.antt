@@ -1,7 +1,7 @@
 use Rattle.std.proofs.Common.{sym, ap, subst, ◌∙◌}
 use Rattle.fd_table.specs.Table.{lowest}
-use Rattle.tenant.specs.Kept.{Kept, state_in}
-use Rattle.tenant.specs.Loading.{IsLoadFault}
+use Rattle.tenant.specs.Kept.{KeptTenant, state_in}
+use Rattle.tenant.specs.inside.Loading.{IsLoadFault}
 use Rattle.tenant.specs.Machine.{opens, targets}
 use Rattle.tenant.proofs.LoadingKept.{flagged_kept}
 use Rattle.tenant.proofs.LoadingRefusals.{MayLoad, refused_at, program_opened}
@@ -10,7 +10,7 @@ use Rattle.tenant.proofs.tenant.Tenant.load.Goals as goal
 
 pub invariant_of-self : goal.invariant_of-self
 invariant_of-self c =
-    let k : Kept = record { objects = c.self.inside.objects; keys = c.self.inside.keys; live = c.self.inside.maps; refused = c.self.inside.refused } in
+    let k : KeptTenant = record { objects = c.self.inside.objects; keys = c.self.inside.keys; live = c.self.inside.maps; refused = c.self.inside.refused } in
     flagged_kept k c.self.invariant
 
 pub returns-in-Ok : goal.returns-in-Ok
@@ -25,4 +25,4 @@ returns-in-Err-At c = λ part.
     let k = c.args.self.now in
     let (fd, low) = some_lowest c.self.inside.objects (sym c.is_full.ensures ∙ c.if-is_full.false) in
     refused_at (state_in part k) c.args.kind fd c.args.slots.now c.in-Err-At.errno c.in-Err-At.slot c.in-Err-At.reason c.if-kind-ne-SOCKET_FILTER.false
-    (ap (λ (k : Kept). lowest k.objects) (sym c.self.view_is) ∙ low) (subst (IsLoadFault (targets (state_in part k)) c.args.slots.now) c.in-Err-At.field-0-is (c.in-Err-At.ensures.refused part))
+    (ap (λ (k : KeptTenant). lowest k.objects) (sym c.self.view_is) ∙ low) (subst (IsLoadFault (targets (state_in part k)) c.args.slots.now) c.in-Err-At.field-0-is (c.in-Err-At.ensures.refused part))

@@ -1,9 +1,9 @@
 use Rattle.std.proofs.Common.{◌≡◌, ℕ, ◌+◌, ◌-◌, List, take, drop, Some, None, sym, ap, ◌∙◌, arith}
 use Rattle.bpf_maps.specs.Places.{table_of}
-use Rattle.bpf_maps.specs.Live.{Tenant, places_at, shape_at, offset_at, value_in}
+use Rattle.bpf_maps.specs.Live.{LiveMaps, places_at, shape_at, offset_at, value_in}
 use Rattle.tagged_model.specs.Table.{look_up}
 use Rattle.tagged_model.specs.declared.shape.MapShape.{MapShape}
-use Rattle.tenant.specs.Kept.{Kept, state_in}
+use Rattle.tenant.specs.Kept.{KeptTenant, state_in}
 use Rattle.tenant.specs.Machine.{gives}
 use Rattle.tenant.proofs.LookUps.{found_at}
 use Rattle.tenant.proofs.tenant.Tenant.look_up.Goals as goal
@@ -11,28 +11,28 @@ use Rattle.tenant.proofs.tenant.Tenant.look_up.Goals as goal
 pub returns-in_default-clause-answer : goal.returns-in_default-clause-answer
 returns-in_default-clause-answer c =
     let (place, opened, there) = c.in_ok-map.ensures.found in
-    let maps : c.self.inside.maps ≡ c.args.self.now.live = ap (λ (k : Kept). k.live) c.self.view_is in
+    let maps : c.self.inside.maps ≡ c.args.self.now.live = ap (λ (k : KeptTenant). k.live) c.self.view_is in
     let m = c.in_ok-map.map in
     let key = c.args.key.now in
-    found_at c.calls_go_along.ensures.bytes c.args.part.now c.args.self.now c.args.fd place m key None opened there
-    (c.if-key-shape.false ∙ ap (λ (s : MapShape). s.key_size) c.shape-shape.ensures ∙ ap (λ (t : Tenant). (shape_at t m).key_size) maps)
-    (sym c.in_default.is ∙ c.find.ensures.place ∙ ap (λ (t : Tenant). look_up (table_of (places_at t m)) key) maps)
+    found_at c.calls_refine_values.ensures.bytes c.args.part.now c.args.self.now c.args.fd place m key None opened there
+    (c.if-key-shape.false ∙ ap (λ (s : MapShape). s.key_size) c.shape-shape.ensures ∙ ap (λ (t : LiveMaps). (shape_at t m).key_size) maps)
+    (sym c.in_default.is ∙ c.find.ensures.place ∙ ap (λ (t : LiveMaps). look_up (table_of (places_at t m)) key) maps)
 
 pub returns-clause-answer : goal.returns-clause-answer
 returns-clause-answer c =
     let (place, opened, there) = c.in_ok-map.ensures.found in
-    let maps : c.self.inside.maps ≡ c.args.self.now.live = ap (λ (k : Kept). k.live) c.self.view_is in
+    let maps : c.self.inside.maps ≡ c.args.self.now.live = ap (λ (k : KeptTenant). k.live) c.self.view_is in
     let m = c.in_ok-map.map in
     let key = c.args.key.now in
     let part = c.args.part.now in
     let start = c.value_at-start.result in
     let size = c.shape-shape.result.value_size in
     let n : (start + size) - start ≡ size = omega arith in
-    let size_is : size ≡ (shape_at c.args.self.now.live m).value_size = ap (λ (s : MapShape). s.value_size) c.shape-shape.ensures ∙ ap (λ (t : Tenant). (shape_at t m).value_size) maps in
-    let start_is : start ≡ offset_at c.args.self.now.live m c.in-Some.place = c.value_at-start.ensures.offset ∙ ap (λ (t : Tenant). offset_at t m c.in-Some.place) maps in
+    let size_is : size ≡ (shape_at c.args.self.now.live m).value_size = ap (λ (s : MapShape). s.value_size) c.shape-shape.ensures ∙ ap (λ (t : LiveMaps). (shape_at t m).value_size) maps in
+    let start_is : start ≡ offset_at c.args.self.now.live m c.in-Some.place = c.value_at-start.ensures.offset ∙ ap (λ (t : LiveMaps). offset_at t m c.in-Some.place) maps in
     let lent : take ((start + size) - start) (drop start part) ≡ value_in part c.args.self.now.live m c.in-Some.place =
     ap (λ k. take k (drop start part)) (n ∙ size_is) ∙ ap (λ k. take (shape_at c.args.self.now.live m).value_size (drop k part)) start_is in
     ap (λ (bytes : List ℕ). gives bytes (state_in part c.args.self.now)) lent
-    ∙ found_at c.calls_go_along.ensures.bytes part c.args.self.now c.args.fd place m key (Some c.in-Some.place) opened there
-    (c.if-key-shape.false ∙ ap (λ (s : MapShape). s.key_size) c.shape-shape.ensures ∙ ap (λ (t : Tenant). (shape_at t m).key_size) maps)
-    (sym c.in-Some.is ∙ c.find.ensures.place ∙ ap (λ (t : Tenant). look_up (table_of (places_at t m)) key) maps)
+    ∙ found_at c.calls_refine_values.ensures.bytes part c.args.self.now c.args.fd place m key (Some c.in-Some.place) opened there
+    (c.if-key-shape.false ∙ ap (λ (s : MapShape). s.key_size) c.shape-shape.ensures ∙ ap (λ (t : LiveMaps). (shape_at t m).key_size) maps)
+    (sym c.in-Some.is ∙ c.find.ensures.place ∙ ap (λ (t : LiveMaps). look_up (table_of (places_at t m)) key) maps)

@@ -3,8 +3,8 @@ use Rattle.std.proofs.lemmas.Result.{err_from_is_err_and}
 use Rattle.tagged_model.specs.declared.shape.Named.{Named}
 use Rattle.verdict.specs.Maps.{maps_of, entries_of}
 use Rattle.verdict.specs.Verdict.{IsAccepted}
-use Rattle.tenant.specs.Kept.{Kept, IsKept, IsBound, times, state_in}
-use Rattle.tenant.specs.Loading.{IsLoadFault}
+use Rattle.tenant.specs.Kept.{KeptTenant, IsWellFormedTenant, IsBound, times, state_in}
+use Rattle.tenant.specs.inside.Loading.{IsLoadFault}
 use Rattle.tenant.specs.Machine.{loaded, places_from, targets}
 use Rattle.tenant.proofs.LoadingBound.{loaded_is, loaded_bound, loaded_there}
 use Rattle.tenant.proofs.tenant.Tenant.program_of.Goals as goal
@@ -18,10 +18,10 @@ pub returns-in-Ok-places-clause-bound : goal.returns-in-Ok-places-clause-bound
 returns-in-Ok-places-clause-bound c =
     let k = c.args.self.now in
     let insns = c.in_ok-program.program.code in
-    let is : IsKept k = subst (λ (k : Kept). IsKept k) c.self.view_is c.self.invariant in
+    let is : IsWellFormedTenant k = subst (λ (k : KeptTenant). IsWellFormedTenant k) c.self.view_is c.self.invariant in
     let listed : c.deref.result.now ≡ targets (state_in [] k) = c.deref.ensures.value ∙ c.in-Ok.ensures [] in
     let maps : c.new.result.maps ≡ places_from k.objects (maps_of insns) =
-    c.new.ensures.maps ∙ c.in-Ok-places.ensures ∙ ap₂ places_from (ap (λ (k : Kept). k.objects) c.self.view_is) c.maps.ensures in
+    c.new.ensures.maps ∙ c.in-Ok-places.ensures ∙ ap₂ places_from (ap (λ (k : KeptTenant). k.objects) c.self.view_is) c.maps.ensures in
     let same : c.new.result ≡ loaded (state_in [] k) insns =
     loaded_is c.new.result insns (entries_of (maps_of insns) (targets (state_in [] k))) (places_from k.objects (maps_of insns)) c.new.ensures.insns
     (c.new.ensures.named ∙ c.in_ok-program.ensures.entries ∙ ap (entries_of (maps_of insns)) listed) maps in
@@ -31,7 +31,7 @@ returns-in-Ok-places-clause-bound c =
 pub returns-in-Ok-places-clause-there : goal.returns-in-Ok-places-clause-there
 returns-in-Ok-places-clause-there c = λ place some.
     let k = c.args.self.now in
-    let is : IsKept k = subst (λ (k : Kept). IsKept k) c.self.view_is c.self.invariant in
+    let is : IsWellFormedTenant k = subst (λ (k : KeptTenant). IsWellFormedTenant k) c.self.view_is c.self.invariant in
     let maps : c.new.result.maps ≡ places_from k.objects (maps_of c.in_ok-program.program.code) =
-    c.new.ensures.maps ∙ c.in-Ok-places.ensures ∙ ap₂ places_from (ap (λ (k : Kept). k.objects) c.self.view_is) c.maps.ensures in
+    c.new.ensures.maps ∙ c.in-Ok-places.ensures ∙ ap₂ places_from (ap (λ (k : KeptTenant). k.objects) c.self.view_is) c.maps.ensures in
     loaded_there k is (maps_of c.in_ok-program.program.code) place (subst (λ (ms : List (ℕ × ℕ)). 1 ≤ times place ms) maps some)

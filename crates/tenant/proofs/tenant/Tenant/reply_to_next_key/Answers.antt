@@ -10,5 +10,5 @@ returns c = λ part.
     let s = state_in part c.args.self.now in
     let next = c.next_key-answer.new.next in
     let answer = front_answer c.next_key-answer.result next s in
-    told (map_next_key c.args.fd c.args.key.now) c.args.head c.write_front.new.room s s [] answer tt c.has_all_places.ensures (c.next_key-answer.ensures.answer part)
+    told (map_next_key c.args.fd c.args.key.now) c.args.head c.write_front.new.room s s [] answer tt c.table_has_all_places.ensures (c.next_key-answer.ensures.answer part)
     (c.write_front.ensures s) (front_after c.next_key-answer.result next s)

@@ -4,8 +4,8 @@ use Rattle.fd_table.specs.Table.{first, named}
 use Rattle.tagged_model.specs.Cells.{also}
 use Rattle.tagged_model.specs.declared.shape.Named.{Named}
 use Rattle.tagged_model.specs.declared.shape.Target.{Target}
-use Rattle.tenant.specs.declared.object.Object.{Object}
-use Rattle.tenant.specs.Kept.{Kept, IsKept, state_in}
+use Rattle.tenant.specs.declared.object.OpenObject.{OpenObject}
+use Rattle.tenant.specs.Kept.{KeptTenant, IsWellFormedTenant, state_in}
 use Rattle.tenant.specs.Machine.{target_of, entry_of, targets_from}
 use Rattle.tenant.proofs.Targets.{targets-none, targets-more, with_nothing}
 use Rattle.tenant.proofs.tenant.Tenant.targets.Goals as goal
@@ -19,7 +19,7 @@ loop-fd-preserved c = λ part.
     let s = state_in part c.args.self.now in
     let xs = c.args.self.now.objects in
     let fd = c.loop-fd.fd in
-    let all : length xs ≡ 64 = (subst (λ (k : Kept). IsKept k) c.self.view_is c.self.invariant).all in
+    let all : length xs ≡ 64 = (subst (λ (k : KeptTenant). IsWellFormedTenant k) c.self.view_is c.self.invariant).all in
     let before = c.loop-fd.invariant part in
     let more : targets_from s first (take (fd + 1 - first) xs) ≡ targets_from s first (take (fd - first) xs) ++ entry_of fd (also (named xs fd) (target_of s)) =
     targets-more s xs fd (named xs fd) (omega arith) (omega arith) refl in
@@ -37,6 +37,6 @@ loop-fd-preserved c = λ part.
 pub returns : goal.returns
 returns c = λ part.
     let xs = c.args.self.now.objects in
-    let all : length xs ≡ 64 = (subst (λ (k : Kept). IsKept k) c.self.view_is c.self.invariant).all in
+    let all : length xs ≡ 64 = (subst (λ (k : KeptTenant). IsWellFormedTenant k) c.self.view_is c.self.invariant).all in
     let n : c.loop-fd.fd - first ≡ length xs = omega arith in
-    c.loop-fd.invariant part ∙ ap (λ (ys : List (Option Object)). targets_from (state_in part c.args.self.now) first ys) (ap (λ (m : ℕ). take m xs) n ∙ take-length xs)
+    c.loop-fd.invariant part ∙ ap (λ (ys : List (Option OpenObject)). targets_from (state_in part c.args.self.now) first ys) (ap (λ (m : ℕ). take m xs) n ∙ take-length xs)

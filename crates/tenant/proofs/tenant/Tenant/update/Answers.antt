@@ -4,7 +4,7 @@ use Rattle.bpf_maps.specs.InPart.{IsValueAt, with_value}
 use Rattle.interval.specs.Bytes.{written_at}
 use Rattle.tagged_model.specs.declared.shape.MapShape.{MapShape}
 use Rattle.tenant.specs.declared.errno.Errno.{Errno}
-use Rattle.tenant.specs.Kept.{Kept, state_in}
+use Rattle.tenant.specs.Kept.{KeptTenant, state_in}
 use Rattle.tenant.specs.Machine.{gives, refuses, updated}
 use Rattle.tenant.proofs.Named.{named_in}
 use Rattle.tenant.proofs.StillKept.{with_live}
@@ -16,7 +16,7 @@ value_size bytes m n e = omega (arith, length-drop m bytes)
 
 pub invariant_of-self : goal.invariant_of-self
 invariant_of-self c =
-    let k : Kept = record { objects = c.self.inside.objects; keys = c.self.inside.keys; live = c.self.inside.maps; refused = c.self.inside.refused } in
+    let k : KeptTenant = record { objects = c.self.inside.objects; keys = c.self.inside.keys; live = c.self.inside.maps; refused = c.self.inside.refused } in
     let m = c.in_ok-map.map in
     let (place, opened, there) = named_in c.args.self.now k c.args.fd m c.self.view_is c.in_ok-map.ensures.found in
     let e = c.in-Err.ensures in
@@ -25,7 +25,7 @@ invariant_of-self c =
 
 pub returns-in-Err-clause-answer : goal.returns-in-Err-clause-answer
 returns-in-Err-clause-answer c =
-    let k : Kept = record { objects = c.self.inside.objects; keys = c.self.inside.keys; live = c.self.inside.maps; refused = c.self.inside.refused } in
+    let k : KeptTenant = record { objects = c.self.inside.objects; keys = c.self.inside.keys; live = c.self.inside.maps; refused = c.self.inside.refused } in
     let m = c.in_ok-map.map in
     let (place, opened, there) = named_in c.args.self.now k c.args.fd m c.self.view_is c.in_ok-map.ensures.found in
     let part = c.args.part.now in
@@ -39,16 +39,16 @@ returns-in-Err-clause-answer c =
     let key_is : c.split_at.result.0.now ≡ take (shape_at k.live m).key_size bytes = c.split_at.ensures.front ∙ ap (λ (n : ℕ). take n bytes) keys in
     let claimed : IsClaimed k t m c.args.flags (take (shape_at k.live m).key_size bytes) (Err f) = subst (λ (x : List ℕ). IsClaimed k t m c.args.flags x (Err f)) key_is
     (record { claimed = e.claimed; live = e.live; holds = e.holds; shape = e.shape; others = e.others; areas = e.areas; room = e.room; refused = e.refused }) in
-    let (refused, is) = update_refused c.live_maps_go_along.ensures c.calls_go_along.ensures.bytes c.map_verdicts_tell.ensures.numbers part k t c.args.fd place m c.args.flags f bytes c.self.invariant opened there sizes claimed in (
+    let (refused, is) = update_refused c.live_maps_refine_values.ensures c.calls_refine_values.ensures.bytes c.map_verdicts_match_look_ups.ensures.numbers part k t c.args.fd place m c.args.flags f bytes c.self.invariant opened there sizes claimed in (
       refused,
       ap (λ (errno : Errno). refuses errno (state_in part (with_live k t))) c.of_map.ensures
           ∙ is
-          ∙ ap (λ (old : Kept). updated refused (state_in part old) c.args.fd c.args.flags bytes) c.self.view_is,
+          ∙ ap (λ (old : KeptTenant). updated refused (state_in part old) c.args.fd c.args.flags bytes) c.self.view_is,
     )
 
 pub invariant_of-self-2 : goal.invariant_of-self-2
 invariant_of-self-2 c =
-    let k : Kept = record { objects = c.self.inside.objects; keys = c.self.inside.keys; live = c.self.inside.maps; refused = c.self.inside.refused } in
+    let k : KeptTenant = record { objects = c.self.inside.objects; keys = c.self.inside.keys; live = c.self.inside.maps; refused = c.self.inside.refused } in
     let m = c.in_ok-map.map in
     let (place, opened, there) = named_in c.args.self.now k c.args.fd m c.self.view_is c.in_ok-map.ensures.found in
     let e = c.in-Ok.ensures in
@@ -57,7 +57,7 @@ invariant_of-self-2 c =
 
 pub returns-clause-answer : goal.returns-clause-answer
 returns-clause-answer c =
-    let k : Kept = record { objects = c.self.inside.objects; keys = c.self.inside.keys; live = c.self.inside.maps; refused = c.self.inside.refused } in
+    let k : KeptTenant = record { objects = c.self.inside.objects; keys = c.self.inside.keys; live = c.self.inside.maps; refused = c.self.inside.refused } in
     let m = c.in_ok-map.map in
     let (place, opened, there) = named_in c.args.self.now k c.args.fd m c.self.view_is c.in_ok-map.ensures.found in
     let part = c.args.part.now in
@@ -76,10 +76,10 @@ returns-clause-answer c =
     (record { claimed = e.claimed; live = e.live; holds = e.holds; shape = e.shape; others = e.others; areas = e.areas; room = e.room; refused = e.refused }) in
     let size : length value ≡ (shape_at t m).value_size =
     value_size bytes (shape_at k.live m).key_size (shape_at k.live m).value_size sizes ∙ sym (ap (λ (s : MapShape). s.value_size) e.shape) in
-    let at : IsValueAt part t m p value = record { whole = c.requires; laid = c.is_laid.ensures.laid; sound = c.is_laid.ensures.sound; live = e.live; within = e.within; size = size } in
+    let at : IsValueAt part t m p value = record { whole = c.requires; laid = c.maps_are_laid.ensures.laid; sound = c.maps_are_laid.ensures.sound; live = e.live; within = e.within; size = size } in
     let later : c.write_at.new.part ≡ with_value part t m p value = c.write_at.ensures ∙ ap₂ (λ (start : ℕ) (bs : List ℕ). written_at part start bs) c.value_at-start.ensures.offset value_is in (
       false,
       ap (λ (ps : List ℕ). gives [] (state_in ps (with_live k t))) later
-          ∙ updated_at c.live_maps_go_along.ensures c.values_are_written.ensures c.calls_go_along.ensures.bytes part k t c.args.fd place m c.args.flags p bytes c.self.invariant opened there sizes claimed at
-          ∙ ap (λ (old : Kept). updated false (state_in part old) c.args.fd c.args.flags bytes) c.self.view_is,
+          ∙ updated_at c.live_maps_refine_values.ensures c.values_are_written.ensures c.calls_refine_values.ensures.bytes part k t c.args.fd place m c.args.flags p bytes c.self.invariant opened there sizes claimed at
+          ∙ ap (λ (old : KeptTenant). updated false (state_in part old) c.args.fd c.args.flags bytes) c.self.view_is,
     )

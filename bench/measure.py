@@ -1,0 +1,204 @@
+#!/usr/bin/env python3
+"""Measures a built bpfhost, and a plain C interpreter beside it. bench/README.md says what is printed.
+
+usage: measure.py [--rounds N] [--only WORD] BPFHOST [PLAIN]
+"""
+
+import argparse
+import os
+import re
+import shutil
+import subprocess
+import sys
+import tempfile
+
+from programs import LOADED, RUN, SLOTS, Program
+from streams import loads_of, runs_of
+
+SERVE = ["serve", "--tenants", "1"]
+# Instructions of programs that each timed stream executes, about, and the most runs that it has.
+EXECUTED, MOST_RUNS = 60_000_000, 100_000
+# Loads in each timed stream, and runs and loads where machine instructions are counted by a slow tool.
+LOADS, COUNTED_RUNS, COUNTED_LOADS = 60, 60, 2
+
+
+class Host:
+    """A program that reads frames and writes replies."""
+
+    def __init__(self, name, command):
+        self.name, self.command = name, command
+
+    def replies(self, stream):
+        with open(stream, "rb") as frames:
+            return subprocess.run(self.command, stdin=frames, stdout=subprocess.PIPE, check=True).stdout
+
+    def seconds(self, stream):
+        """The processor time that the process takes, by itself and in the system: others on the machine count little."""
+        with open(stream, "rb") as frames:
+            process = subprocess.Popen(self.command, stdin=frames, stdout=subprocess.DEVNULL)
+            _, status, usage = os.wait4(process.pid, 0)
+        process.returncode = os.waitstatus_to_exitcode(status)
+        if process.returncode:
+            sys.exit(f"{self.name} ended with {process.returncode}")
+        return usage.ru_utime + usage.ru_stime
+
+
+def counted_by_perf(command, frames):
+    words = ["perf", "stat", "-x,", "-e", "instructions:u", *command]
+    said = subprocess.run(words, stdin=frames, stdout=subprocess.DEVNULL, stderr=subprocess.PIPE, text=True).stderr
+    found = re.search(r"^(\d+),", said, re.M)
+    return int(found[1]) if found else None
+
+
+def counted_by_valgrind(command, frames):
+    words = ["valgrind", "--tool=callgrind", "--callgrind-out-file=/dev/null", *command]
+    said = subprocess.run(words, stdin=frames, stdout=subprocess.DEVNULL, stderr=subprocess.PIPE, text=True).stderr
+    found = re.search(r"Collected : (\d+)", said)
+    return int(found[1]) if found else None
+
+
+def counter():
+    """What counts machine instructions here, if anything does."""
+    for tool, count in (("perf", counted_by_perf), ("valgrind", counted_by_valgrind)):
+        if shutil.which(tool) and count(["true"], subprocess.DEVNULL):
+            return tool, count
+    return None, None
+
+
+def count_of(count, host, stream):
+    with open(stream, "rb") as frames:
+        return count(host.command, frames)
+
+
+class Streams:
+    """Streams as files of a folder, each written once."""
+
+    def __init__(self, folder):
+        self.folder, self.written = folder, {}
+
+    def of(self, make, program, count):
+        key = make.__name__, id(program), count
+        if key not in self.written:
+            path = os.path.join(self.folder, str(len(self.written)))
+            with open(path, "wb") as file:
+                file.write(make(program, count))
+            self.written[key] = path
+        return self.written[key]
+
+
+def least(rounds, tasks):
+    """The least time of each task, (host, stream), over rounds in which each has its turn."""
+    best = {}
+    for at in range(rounds):
+        if sys.stderr.isatty():
+            print(f"\rround {at + 1} of {rounds} ", end="", file=sys.stderr, flush=True)
+        for host, stream in tasks:
+            taken = host.seconds(stream)
+            best[host, stream] = min(taken, best.get((host, stream), taken))
+    if sys.stderr.isatty():
+        print("\r" + " " * 30 + "\r", end="", file=sys.stderr)
+    return best
+
+
+def runs_for(program):
+    return min(MOST_RUNS, EXECUTED // program.executed)
+
+
+def same_replies(streams, programs, hosts):
+    for name, program in programs.items():
+        stream = streams.of(runs_of, program, 100)
+        if len({host.replies(stream) for host in hosts}) > 1:
+            sys.exit(f"{name}: {' and '.join(host.name for host in hosts)} answer differently")
+
+
+def measured_runs(streams, programs, hosts, rounds):
+    """Seconds of a run of each program on each host, with its frame."""
+    pairs = {
+        name: (streams.of(runs_of, program, 0), streams.of(runs_of, program, runs_for(program)))
+        for name, program in programs.items()
+    }
+    best = least(rounds, [(host, stream) for pair in pairs.values() for host in hosts for stream in pair])
+    return {
+        (name, host.name): (best[host, many] - best[host, none]) / runs_for(programs[name])
+        for name, (none, many) in pairs.items()
+        for host in hosts
+    }
+
+
+def counted_runs(streams, programs, hosts, count):
+    """Machine instructions of a run of each program on each host, with its frame."""
+    found = {}
+    for name, program in programs.items():
+        few, more = (streams.of(runs_of, program, runs) for runs in (COUNTED_RUNS, 2 * COUNTED_RUNS))
+        for host in hosts:
+            found[name, host.name] = (count_of(count, host, more) - count_of(count, host, few)) / COUNTED_RUNS
+    return found
+
+
+def print_runs(streams, programs, hosts, rounds, count):
+    seconds = measured_runs(streams, programs, hosts, rounds)
+    counts = counted_runs(streams, programs, hosts, count) if count else None
+    for host in hosts:
+        told = f", {counts['empty', host.name]:.0f} machine instructions" if counts else ""
+        print(f"a frame with a run of two instructions, {host.name}: {seconds['empty', host.name] * 1e9:.0f} ns{told}")
+    head = f"{'':18}{'executed':>9}" + "".join(f"{host.name + ', ns':>14}" for host in hosts)
+    head += f"{'ratio':>8}" if len(hosts) > 1 else ""
+    print(head + "".join(f"{host.name + ', ins.':>15}" for host in hosts if counts))
+    for name, program in programs.items():
+        if name == "empty":
+            continue
+        executed = program.executed - programs["empty"].executed
+        alone = [(seconds[name, host.name] - seconds["empty", host.name]) * 1e9 / executed for host in hosts]
+        line = f"{name:18}{program.executed:>9}" + "".join(f"{it:>14.3f}" for it in alone)
+        line += f"{alone[0] / alone[1]:>8.2f}" if len(hosts) > 1 else ""
+        if counts:
+            line += "".join(f"{(counts[name, host.name] - counts['empty', host.name]) / executed:>15.2f}" for host in hosts)
+        print(line)
+
+
+def print_loads(streams, programs, host, rounds, count):
+    """Loads, less those of the empty program."""
+    bare = RUN["empty"]()
+    every = {"empty": bare, **programs}
+    files = {name: streams.of(loads_of, program, LOADS) for name, program in every.items()}
+    best = least(rounds, [(host, file) for file in files.values()])
+    print(f"{'load of 4,096':18}{'ms':>9}{'ns a slot':>14}" + (f"{'ins. a slot':>15}" if count else ""))
+    base = None
+    for name, program in every.items():
+        milliseconds = (best[host, files[name]] - best[host, files["empty"]]) * 1e3 / LOADS
+        counted = None
+        if count:
+            few, more = (streams.of(loads_of, program, loads) for loads in (COUNTED_LOADS, 2 * COUNTED_LOADS))
+            counted = (count_of(count, host, more) - count_of(count, host, few)) / COUNTED_LOADS
+        if name == "empty":
+            base = counted
+            continue
+        told = f"{(counted - base) / SLOTS:>15.0f}" if count else ""
+        print(f"{name:18}{milliseconds:>9.3f}{milliseconds * 1e6 / SLOTS:>14.1f}{told}")
+
+
+def main():
+    parser = argparse.ArgumentParser(description=__doc__.split("\n")[0])
+    parser.add_argument("--rounds", type=int, default=9)
+    parser.add_argument("--only", default="", help="a word of the programs' names")
+    parser.add_argument("bpfhost")
+    parser.add_argument("plain", nargs="?")
+    given = parser.parse_args()
+    hosts = [Host("bpfhost", [given.bpfhost, *SERVE])]
+    if given.plain:
+        hosts.append(Host("C", [given.plain]))
+    tool, count = counter()
+    print(f"machine instructions are counted by {tool}" if tool else "machine instructions are not counted: no perf, no valgrind")
+    with tempfile.TemporaryDirectory() as folder:
+        streams = Streams(folder)
+        programs = {name: make() for name, make in RUN.items() if name == "empty" or given.only in name}
+        same_replies(streams, programs, hosts)
+        if len(programs) > 1:
+            print_runs(streams, programs, hosts, given.rounds, count)
+        loaded = {name: make() for name, make in LOADED.items() if given.only in name}
+        if loaded:
+            print_loads(streams, loaded, hosts[0], given.rounds, count)
+
+
+if __name__ == "__main__":
+    main()

@@ -1,0 +1,282 @@
+"""The programs of the bench, as slots of RFC 9669, with the maps that they load and the packet that they are run on."""
+
+import struct
+from dataclasses import dataclass, field
+
+# Opcodes: operation, source bit and class in one byte.
+ADD64_K, ADD64_X, XOR64_X, AND64_K, LSH64_K, RSH64_K, MUL32_K = 0x07, 0x0F, 0xAF, 0x57, 0x67, 0x77, 0x24
+MOV64_K, MOV64_X, BIG_ENDIAN, WIDE = 0xB7, 0xBF, 0xDC, 0x18
+LOAD_BYTE, LOAD_HALF, LOAD_WORD, LOAD_DOUBLE = 0x71, 0x69, 0x61, 0x79
+STORE_WORD_K, STORE_DOUBLE_K, STORE_WORD, STORE_DOUBLE = 0x62, 0x7A, 0x63, 0x7B
+JA, JEQ_K, JGT_K, JSET_K, JNE_K, CALL, EXIT = 0x05, 0x15, 0x25, 0x45, 0x55, 0x85, 0x95
+LOOK_UP, UPDATE, LOAD_BYTES = 1, 2, 26
+HASH, ARRAY = 1, 2
+
+# The ten words of context that a frame gives.
+WORDS = range(1, 11)
+
+
+def slot(opcode, dst=0, src=0, off=0, imm=0):
+    return struct.pack("<BBhi", opcode, src << 4 | dst, off, imm)
+
+
+def returns(value):
+    return [slot(MOV64_K, 0, imm=value), slot(EXIT)]
+
+
+def call(helper):
+    return slot(CALL, imm=helper)
+
+
+def loads_map(dst, fd):
+    return [slot(WIDE, dst, 1, imm=fd), bytes(8)]
+
+
+@dataclass
+class Program:
+    slots: list
+    # Each map's kind, key size, value size and entries; their descriptors are 3, 4, ..
+    maps: list = field(default_factory=list)
+    packet: bytes = b""
+    # How many instructions a run executes, where it is known.
+    executed: int = 0
+
+
+def empty():
+    return Program(returns(0), executed=2)
+
+
+def arithmetic(rounds):
+    registers = [slot(MOV64_K, reg, imm=reg + 7) for reg in range(4)]
+    round_of_eight = [
+        slot(ADD64_X, 0, 1),
+        slot(XOR64_X, 1, 2),
+        slot(ADD64_K, 2, imm=12345),
+        slot(MUL32_K, 3, imm=31),
+        slot(RSH64_K, 1, imm=3),
+        slot(ADD64_X, 2, 3),
+        slot(XOR64_X, 0, 3),
+        slot(ADD64_K, 1, imm=-5),
+    ]
+    slots = registers + round_of_eight * rounds + [slot(EXIT)]
+    return Program(slots, executed=len(slots))
+
+
+def branches():
+    """A filter of 1,000 tests of the packet's length and the other words of the context; each jump leads over one slot."""
+    context, tests, executed = [0, *WORDS], [], 0
+    for number in range(1000):
+        opcode, constant = (JEQ_K, JGT_K, JSET_K)[number % 3], number % 7
+        tests += [
+            slot(LOAD_WORD, 2, 1, off=4 * (number % 11)),
+            slot(opcode, 2, off=1, imm=constant),
+            slot(ADD64_K, 3, imm=1),
+        ]
+        word = context[number % 11]
+        executed += 2 if (word == constant, word > constant, word & constant != 0)[number % 3] else 3
+    slots = [slot(MOV64_K, 3), *tests, slot(MOV64_X, 0, 3), slot(EXIT)]
+    return Program(slots, executed=executed + 3)
+
+
+def stack():
+    """Stores and loads of eight bytes all over the stack."""
+    traffic = []
+    for number in range(1000):
+        off = -8 * (1 + number % 64)
+        traffic += [
+            slot(STORE_DOUBLE, 10, 2, off=off),
+            slot(LOAD_DOUBLE, 2, 10, off=off),
+            slot(ADD64_K, 2, imm=1),
+        ]
+    slots = [slot(MOV64_K, 2, imm=1), *traffic, slot(MOV64_X, 0, 2), slot(EXIT)]
+    return Program(slots, executed=len(slots))
+
+
+def copies_of_packet(offset, to, length):
+    """Copies bytes of the packet into the stack; the context is in register 6."""
+    return [
+        slot(MOV64_X, 1, 6),
+        slot(MOV64_K, 2, imm=offset),
+        slot(MOV64_X, 3, 10),
+        slot(ADD64_K, 3, imm=to),
+        slot(MOV64_K, 4, imm=length),
+        call(LOAD_BYTES),
+    ]
+
+
+def look_at_packet():
+    """Adds to register 9: ports and addresses of a TCP segment in IPv4 in an Ethernet frame, mixed. Each test jumps to the end."""
+    look = [
+        # The Ethernet header: is the type IPv4?
+        *copies_of_packet(0, -16, 14),
+        (JNE_K, 0, 0),
+        slot(LOAD_HALF, 7, 10, off=-4),
+        slot(BIG_ENDIAN, 7, imm=16),
+        (JNE_K, 7, 0x800),
+        # The IPv4 header: version 4, no fragment, TCP
+        *copies_of_packet(14, -40, 20),
+        (JNE_K, 0, 0),
+        slot(LOAD_BYTE, 8, 10, off=-40),
+        slot(MOV64_X, 7, 8),
+        slot(RSH64_K, 7, imm=4),
+        (JNE_K, 7, 4),
+        slot(LOAD_HALF, 7, 10, off=-34),
+        slot(BIG_ENDIAN, 7, imm=16),
+        (JSET_K, 7, 0x1FFF),
+        slot(LOAD_BYTE, 7, 10, off=-31),
+        (JNE_K, 7, 6),
+        # The header's length tells where the ports stand.
+        slot(AND64_K, 8, imm=15),
+        slot(LSH64_K, 8, imm=2),
+        slot(ADD64_K, 8, imm=14),
+        *copies_of_packet(0, -48, 4)[:1],
+        slot(MOV64_X, 2, 8),
+        *copies_of_packet(0, -48, 4)[2:],
+        (JNE_K, 0, 0),
+        slot(LOAD_HALF, 7, 10, off=-46),
+        slot(BIG_ENDIAN, 7, imm=16),
+        (JNE_K, 7, 443),
+        # The two addresses, mixed with the port of the sender
+        slot(LOAD_WORD, 7, 10, off=-28),
+        slot(LOAD_WORD, 8, 10, off=-24),
+        slot(XOR64_X, 7, 8),
+        slot(LOAD_HALF, 8, 10, off=-48),
+        slot(XOR64_X, 7, 8),
+        slot(MUL32_K, 7, imm=0x01000193),
+        slot(ADD64_X, 9, 7),
+    ]
+    slots = []
+    for at, it in enumerate(look):
+        if isinstance(it, tuple):
+            opcode, register, constant = it
+            it = slot(opcode, register, off=len(look) - at - 1, imm=constant)
+        slots.append(it)
+    return slots
+
+
+def parser():
+    """Eight looks at one packet, each with three calls that copy bytes of it."""
+    looks = look_at_packet() * 8
+    slots = [slot(MOV64_X, 6, 1), slot(MOV64_K, 9), *looks, slot(MOV64_X, 0, 9), slot(EXIT)]
+    ethernet = bytes.fromhex("020000000001 020000000002 0800")
+    ip = struct.pack(">BBHHHBBHII", 0x45, 0, 40, 7, 0x4000, 64, 6, 0, 0x0A000001, 0xC0A80117)
+    tcp = struct.pack(">HHIIBBHHH", 50123, 443, 1, 2, 0x50, 0x10, 1024, 0, 0)
+    return Program(slots, packet=ethernet + ip + tcp, executed=len(slots))
+
+
+def counts(fd, key):
+    """Adds 1 to a count under a key, and the count to register 9. A hash map's first count is put there by an update."""
+    counted = [
+        slot(LOAD_DOUBLE, 1, 0),
+        slot(ADD64_K, 1, imm=1),
+        slot(STORE_DOUBLE, 0, 1),
+        slot(ADD64_X, 9, 1),
+    ]
+    put = [
+        slot(STORE_DOUBLE_K, 10, off=-16, imm=1),
+        *loads_map(1, fd),
+        slot(MOV64_X, 2, 10),
+        slot(ADD64_K, 2, imm=-4),
+        slot(MOV64_X, 3, 10),
+        slot(ADD64_K, 3, imm=-16),
+        slot(MOV64_K, 4),
+        call(UPDATE),
+        slot(JA, off=len(counted)),
+    ]
+    return [
+        slot(STORE_WORD_K, 10, off=-4, imm=key),
+        *loads_map(1, fd),
+        slot(MOV64_X, 2, 10),
+        slot(ADD64_K, 2, imm=-4),
+        call(LOOK_UP),
+        slot(JNE_K, 0, off=len(put)),
+        *put,
+        *counted,
+    ]
+
+
+def counter():
+    """Eight counts in an array and eight in a hash map."""
+    counted = []
+    for number in range(8):
+        counted += counts(3, number) + counts(4, 1000 * number)
+    slots = [slot(MOV64_K, 9), *counted, slot(MOV64_X, 0, 9), slot(EXIT)]
+    maps = [(ARRAY, 4, 8, 16), (HASH, 4, 8, 64)]
+    # Once every key is there: a wide load is one instruction of two slots, and the updates are jumped over.
+    return Program(slots, maps=maps, executed=16 * 10 + 3)
+
+
+RUN = {
+    "empty": empty,
+    "arithmetic, long": lambda: arithmetic(499),
+    "arithmetic, short": lambda: arithmetic(49),
+    "branches": branches,
+    "stack": stack,
+    "parser": parser,
+    "counter": counter,
+}
+
+# Programs that are only loaded: 4,096 slots each.
+SLOTS = 4096
+
+
+def filled(slots, end):
+    """As many slots as a program may have: moves between the slots and the end."""
+    return Program(slots + [slot(MOV64_K, 9, imm=1)] * (SLOTS - len(slots) - len(end)) + end)
+
+
+def full_facts():
+    """Something is known of each register and of each stack slot: scalars and spilled pointers."""
+    slots = [slot(LOAD_WORD, 2, 1)] + [slot(MOV64_K, reg, imm=reg) for reg in range(3, 10)]
+    return slots + [slot(STORE_DOUBLE, 10, (1, 3)[number % 2], off=-8 * (number + 1)) for number in range(64)]
+
+
+def straight():
+    return filled(arithmetic(510).slots[:-1], returns(0))
+
+
+def spills():
+    """The frame pointer and the context are kept all over the stack, and loaded again."""
+    slots = []
+    for number in range(2040):
+        off = -8 * (1 + number % 64)
+        slots += [slot(STORE_DOUBLE, 10, (1, 10)[number % 2], off=off), slot(LOAD_DOUBLE, 3, 10, off=off)]
+    return filled(slots, returns(0))
+
+
+def one_target():
+    """Four thousand jumps to one target."""
+    end, slots = returns(0), full_facts()
+    for number in range(4000):
+        slots.append(slot(JEQ_K, 2, off=SLOTS - len(end) - len(slots) - 1, imm=number))
+    return filled(slots, end)
+
+
+def crossing():
+    """Each jump leads over the next ninety slots, so that ninety are open at each slot."""
+    end, open_jumps, slots = returns(0), 90, full_facts()
+    while len(slots) + open_jumps + 1 < SLOTS - len(end):
+        slots.append(slot(JEQ_K, 2, off=open_jumps, imm=len(slots)))
+    return filled(slots, end)
+
+
+def diamonds():
+    """A test, a slot on each of its two edges, and so on."""
+    end, slots = returns(0), full_facts()
+    while len(slots) + 4 <= SLOTS - len(end):
+        slots += [
+            slot(JGT_K, 2, off=2, imm=len(slots)),
+            slot(ADD64_K, 3, imm=1),
+            slot(JA, off=1),
+            slot(ADD64_K, 3, imm=2),
+        ]
+    return filled(slots, end)
+
+
+LOADED = {
+    "straight": straight,
+    "spills": spills,
+    "one target": one_target,
+    "crossing jumps": crossing,
+    "diamonds": diamonds,
+}

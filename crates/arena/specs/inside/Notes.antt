@@ -1,0 +1,8 @@
+-- What a note adds to what a run has done. This project's own.
+use Rattle.std.specs.Prelude.{ℕ, ◌+◌, List, [], ◌∷◌, ◌++◌}
+use Rattle.arena.specs.declared.trace.Note.{Note}
+use Rattle.arena.specs.declared.trace.Note.TheVariants.{Step, Range}
+
+abbrev pub noted : ℕ × List (ℕ × ℕ) → Note → ℕ × List (ℕ × ℕ)
+noted done Step = (done.0 + 1, done.1)
+noted done (Range address length) = (done.0, done.1 ++ (address, length) ∷ [])

@@ -1,0 +1,18 @@
+use Rattle.std.proofs.Common.{◌∙◌, subst, sym}
+use Rattle.host.specs.program.Judging.{AcceptsIfKnown}
+use Rattle.host.specs.inside.program.Asked.{texts_given}
+use Rattle.host.proofs.KnownInputs.{accepts_known}
+use Rattle.host.proofs.MapLists.{none_wrong}
+use Rattle.host.proofs.program.arguments.judge_streams.Goals as goal
+
+pub returns-in_err-judgement-clause-refused : goal.returns-in_err-judgement-clause-refused
+returns-in_err-judgement-clause-refused g c = λ wrong. absurd (none_wrong (texts_given c.args.arguments) c.in_ok-maps.maps.items wrong.0 c.in_ok-maps.ensures.named wrong.1)
+
+pub returns-clause-refused : goal.returns-clause-refused
+returns-clause-refused g c = λ wrong. none_wrong (texts_given c.args.arguments) c.in_ok-maps.maps.items wrong.0 c.in_ok-maps.ensures.named wrong.1
+
+pub returns-clause-accepted : goal.returns-clause-accepted
+returns-clause-accepted g c = λ zero.
+    subst (λ input. AcceptsIfKnown (texts_given c.args.arguments) (g.I.Read.remaining input)) c.new-reader.ensures.inner
+    (accepts_known (texts_given c.args.arguments) c.in_ok-maps.maps.items c.deref.result.now c.in_ok-judgement.judgement _ _ c.in_ok-maps.ensures.named c.deref.ensures.value
+    c.in_ok-judgement.ensures.done (sym c.status.ensures ∙ zero))

@@ -1,0 +1,7 @@
+-- The command line: its arguments, its texts, its verdicts, its failures. This project's own.
+pub mod Outcomes
+pub mod Statuses
+pub mod Judgements
+pub mod MapFields
+pub mod Rewriting
+pub mod Asked

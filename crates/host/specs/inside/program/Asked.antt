@@ -1,0 +1,25 @@
+-- What arguments ask for, as the code has it. This project's own.
+use Rattle.std.specs.Prelude.{◌≤◌, List, [], Option, Some, None}
+use Rattle.std.specs.Borrow.{Bor}
+use Rattle.clap.specs.Words.{Text}
+use Rattle.clap.specs.Walk.{texts}
+use Rattle.host.specs.declared.host.TheConstants.{MOST_TENANTS}
+use Rattle.host.specs.declared.program.arguments.Task.{Task}
+use Rattle.host.specs.declared.program.arguments.Task.TheVariants as task
+use Rattle.host.specs.program.Arguments.{Asked, Serves, Rewrites, Verifies}
+
+-- the texts of such arguments, where some are given
+abbrev pub texts_given : Option (Bor (List (Bor Text))) → List Text
+texts_given None = []
+texts_given (Some arguments) = texts arguments.now
+
+abbrev pub asked_by : Task → Asked
+asked_by (task.Serve tenants) = Serves tenants
+asked_by (task.Rewrite made) = Rewrites made
+asked_by (task.Verify maps) = Verifies (texts_given maps)
+
+-- frames are served to one tenant or more, and to no more than there may be
+abbrev pub HasTenants : Task → Type 0
+HasTenants (task.Serve tenants) = (1 ≤ tenants) × (tenants ≤ MOST_TENANTS)
+HasTenants (task.Rewrite made) = Unit {0}
+HasTenants (task.Verify maps) = Unit {0}

@@ -1,0 +1,141 @@
+-- What `asm` and `dis` make of their input and leave of their streams, and what they refuse. This project's own.
+use Rattle.std.specs.Prelude.{◌≡◌, ◌⊎◌, ℕ, ◌+◌, ◌<◌, ◌≤◌, List, length, take, Option, IsUtf8}
+use Rattle.std.specs.Io.KnownBytes.{Appends, Consumes, IsAtEnd}
+use Rattle.bpf_text.specs.Assembly.{IsAssembled, IsOwnFault}
+use Rattle.bpf_text.specs.HexText.{IsHexFault, hex_text}
+use Rattle.bpf_text.specs.Printed.{printed}
+use Rattle.bpf_text.specs.declared.fault.TextFault.{TextFault}
+use Rattle.insn_codec.specs.Program.{program_bytes}
+use Rattle.insn_codec.specs.declared.insn.Insn.{Insn}
+use Rattle.host.specs.inside.program.Statuses.{text_failure}
+use Rattle.host.specs.declared.program.texts.TheConstants.{LONGEST_INPUT}
+use Rattle.host.specs.declared.program.failure.Failure.{Failure}
+use Rattle.host.specs.declared.program.failure.Failure.TheVariants.{WrongArguments, MapArgument, Truncated, TooManyFrames, TooLong, Line, Slot, Read, Write, Memory}
+use Rattle.host.specs.declared.program.texts.TextTask.{TextTask}
+use Rattle.host.specs.declared.program.texts.TextTask.TheVariants.{Assemble, Disassemble}
+use Rattle.host.specs.program.Texts.{IsProgramText, IsProgramRefused}
+
+-- the input is a program's text, and the output the program's slots as hex lines
+pub record IsAssembly (input output : List ℕ) : Type 0 where
+  pub insns : List Insn
+  pub utf8 : IsUtf8 input
+  pub program : IsAssembled input insns
+  pub lines : output ≡ hex_text (program_bytes insns)
+
+-- the input has a program's slots as hex lines, and the output is the program's text
+pub record IsDisassembly (input output : List ℕ) : Type 0 where
+  pub insns : List Insn
+  pub read : IsProgramText input insns
+  pub text : output ≡ printed insns
+
+abbrev pub IsRewritten : TextTask → List ℕ → List ℕ → Type 0
+IsRewritten Assemble input output = IsAssembly input output
+IsRewritten Disassemble input output = IsDisassembly input output
+
+-- the input is no text at all
+abbrev pub IsNoText : List ℕ → Failure → Type 0
+IsNoText input failure = (¬ IsUtf8 input) × (failure ≡ Line 0 1)
+
+-- a line of a program's text has a fault, or the text has no instruction
+pub record IsTextRefused (input : List ℕ) (failure : Failure) : Type 0 where
+  pub fault : TextFault
+  pub utf8 : IsUtf8 input
+  pub own : IsOwnFault input fault
+  pub failure_is : failure ≡ text_failure fault
+
+-- a line has a fault, or no line has a slot
+pub record IsHexRefused (input : List ℕ) (failure : Failure) : Type 0 where
+  pub fault : TextFault
+  pub utf8 : IsUtf8 input
+  pub own : IsHexFault input fault
+  pub failure_is : failure ≡ text_failure fault
+
+-- why the input has no program's slots
+abbrev pub IsNoProgramText : List ℕ → Failure → Type 0
+IsNoProgramText input failure = IsNoText input failure ⊎ (IsHexRefused input failure ⊎ IsProgramRefused input failure)
+
+abbrev pub IsInputRefused : TextTask → List ℕ → Failure → Type 0
+IsInputRefused Assemble input failure = IsNoText input failure ⊎ IsTextRefused input failure
+IsInputRefused Disassemble input failure = IsNoProgramText input failure
+
+-- ---- the streams
+
+-- the bytes that the reader has left and those that the writer holds, where they are known, and how many calls of the two
+-- failed so far
+pub record Streams : Type 0 where
+  pub input : Option (List ℕ)
+  pub output : Option (List ℕ)
+  pub read_failures : ℕ
+  pub write_failures : ℕ
+
+-- of this reader and this writer, by what is told of the two
+abbrev pub streams : {R W : Type 0} → (R → Option (List ℕ)) → (R → ℕ) → (W → Option (List ℕ)) → (W → ℕ) → R → W → Streams
+streams remaining read_failures contents write_failures reader writer = record {
+  input = remaining reader;
+  output = contents writer;
+  read_failures = read_failures reader;
+  write_failures = write_failures writer;
+}
+
+-- the input was read to its end, and is not too long
+pub record ReadsWholeInput (before after : Option (List ℕ)) (input : List ℕ) : Type 0 where
+  pub short : length input ≤ LONGEST_INPUT
+  pub read : Consumes before after input
+  pub end : IsAtEnd after
+
+-- why no input was had: it is too long, and then one byte more than allowed was read; a call failed; or memory ran out
+-- before anything was read
+abbrev pub HasNoInput : Failure → Option (List ℕ) → Option (List ℕ) → ℕ → ℕ → Type 0
+HasNoInput TooLong before after failures_before failures_after =
+    ((bytes : List ℕ) × (length bytes ≡ LONGEST_INPUT + 1) × Consumes before after bytes) × (failures_after ≡ failures_before)
+HasNoInput Read before after failures_before failures_after =
+    ((bytes : List ℕ) × (length bytes ≤ LONGEST_INPUT) × Consumes before after bytes) × (failures_before < failures_after)
+HasNoInput Memory before after failures_before failures_after = (after ≡ before) × (failures_after ≡ failures_before)
+HasNoInput WrongArguments before after failures_before failures_after = ⊥
+HasNoInput (MapArgument number) before after failures_before failures_after = ⊥
+HasNoInput (Truncated frames) before after failures_before failures_after = ⊥
+HasNoInput TooManyFrames before after failures_before failures_after = ⊥
+HasNoInput (Line line kind) before after failures_before failures_after = ⊥
+HasNoInput (Slot slot kind) before after failures_before failures_after = ⊥
+HasNoInput Write before after failures_before failures_after = ⊥
+
+-- nothing was written
+abbrev pub WritesNothing : Streams → Streams → Type 0
+WritesNothing old new = (new.output ≡ old.output) × (new.write_failures ≡ old.write_failures)
+
+-- Below, `made` relates an input to what stands for it, and `refused` to its refusal.
+
+-- the input was read, and what stands for it went out; no call failed
+pub record WritesWholeOutput (made : List ℕ → List ℕ → Type 0) (old new : Streams) : Type 0 where
+  pub input : List ℕ
+  pub output : List ℕ
+  pub whole : ReadsWholeInput old.input new.input input
+  pub made_so : made input output
+  pub written : Appends old.output new.output output
+  pub sound : (new.read_failures ≡ old.read_failures) × (new.write_failures ≡ old.write_failures)
+
+-- the input was read, and is refused, or memory ran out
+pub record RefusesInput (refused : List ℕ → Failure → Type 0) (old new : Streams) (failure : Failure) : Type 0 where
+  pub input : List ℕ
+  pub whole : ReadsWholeInput old.input new.input input
+  pub why : (failure ≡ Memory) ⊎ refused input failure
+  pub silent : WritesNothing old new
+  pub sound : new.read_failures ≡ old.read_failures
+
+-- some of what stands for the input went out, and a call failed
+pub record CutsOutput (made : List ℕ → List ℕ → Type 0) (old new : Streams) (failure : Failure) : Type 0 where
+  pub input : List ℕ
+  pub output : List ℕ
+  pub count : ℕ
+  pub whole : ReadsWholeInput old.input new.input input
+  pub made_so : made input output
+  pub part : count ≤ length output
+  pub written : Appends old.output new.output (take count output)
+  pub failure_is : failure ≡ Write
+  pub failed : old.write_failures < new.write_failures
+  pub sound : new.read_failures ≡ old.read_failures
+
+abbrev pub StopsRewriting : (List ℕ → List ℕ → Type 0) → (List ℕ → Failure → Type 0) → Streams → Streams → Failure → Type 0
+StopsRewriting made refused old new failure =
+    (HasNoInput failure old.input new.input old.read_failures new.read_failures × WritesNothing old new)
+    ⊎ (RefusesInput refused old new failure ⊎ CutsOutput made old new failure)

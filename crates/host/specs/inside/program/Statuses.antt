@@ -1,0 +1,51 @@
+-- How a failure ends the program, and which failure stands for which fault. This project's own.
+use Rattle.std.specs.Prelude.{ℕ}
+use Rattle.clap.specs.declared.error.kind.ErrorKind.{ErrorKind}
+use Rattle.clap.specs.declared.error.kind.ErrorKind.TheVariants.{OutOfMemory}
+use Rattle.bpf_text.specs.Fault.{kind_number}
+use Rattle.bpf_text.specs.declared.fault.TextFault.{TextFault}
+use Rattle.bpf_text.specs.declared.fault.TextFaultKind.{TextFaultKind}
+use Rattle.bpf_text.specs.declared.fault.TextFaultKind.TheVariants as text
+use Rattle.host.specs.declared.server.ServeFault.{ServeFault}
+use Rattle.host.specs.declared.server.ServeFaultKind.{ServeFaultKind}
+use Rattle.host.specs.declared.server.ServeFaultKind.TheVariants as fault
+use Rattle.host.specs.declared.program.failure.Failure.{Failure}
+use Rattle.host.specs.declared.program.failure.Failure.TheVariants.{WrongArguments, MapArgument, Truncated, TooManyFrames, TooLong, Line, Slot, Read, Write, Memory}
+
+-- The status, by the failure: 1 where the input is refused, 2 at wrong arguments, 3 where input or output failed, 4 at want
+-- of memory.
+abbrev pub exit_status : Failure → ℕ
+exit_status (Truncated frames) = 1
+exit_status TooManyFrames = 1
+exit_status TooLong = 1
+exit_status (Line line kind) = 1
+exit_status (Slot slot kind) = 1
+exit_status WrongArguments = 2
+exit_status (MapArgument number) = 2
+exit_status Read = 3
+exit_status Write = 3
+exit_status Memory = 4
+
+-- the failure, by clap's kind of error
+abbrev pub arguments_failure : ErrorKind → Failure
+arguments_failure OutOfMemory = Memory
+arguments_failure _ = WrongArguments
+
+-- the failure, by the fault that ends a stream after so many frames
+abbrev pub failure_after : ServeFaultKind → ℕ → Failure
+failure_after fault.Read frames = Read
+failure_after fault.Write frames = Write
+failure_after fault.Truncated frames = Truncated frames
+failure_after fault.TooManyFrames frames = TooManyFrames
+failure_after fault.Memory frames = Memory
+
+abbrev pub stream_failure : ServeFault → Failure
+stream_failure ended = failure_after ended.kind ended.frames
+
+-- the failure, by the kind of fault on a line of a text
+abbrev pub failure_on : ℕ → TextFaultKind → Failure
+failure_on line text.Memory = Memory
+failure_on line kind = Line line (kind_number kind)
+
+abbrev pub text_failure : TextFault → Failure
+text_failure found = failure_on found.line found.kind

@@ -1,0 +1,105 @@
+-- The program's arguments, and what they ask for. The arguments are this project's own; how arguments are taken is clap's.
+use Rattle.std.specs.Prelude.{◌≡◌, ◌⊎◌, ℕ, true, List, [], Option, Some, None, codes, if◌then◌else◌, option_and_then, option_map, unwrap_or}
+use Rattle.std.specs.Str.{bytes_eq}
+use Rattle.clap.specs.Words.{App, Kinds, Row, Rule, Shape, Text, all_of, fault_of, first_of, new_app, new_rule, subcommand_of, with_rule, with_subcommand}
+use Rattle.clap.specs.Simple.{on_top}
+use Rattle.clap.specs.Walk.{is_empty}
+use Rattle.clap.specs.declared.builder.action.ArgAction.TheVariants.{Append, Set}
+use Rattle.tagged_model.specs.Shape.{is_from_to}
+use Rattle.host.specs.program.Decimal.{decimal_number}
+use Rattle.host.specs.program.Judging.{AcceptsIfKnown}
+use Rattle.host.specs.program.Shapes.{IsFirstWrongArgument}
+use Rattle.host.specs.declared.host.TheConstants.{MOST_TENANTS}
+use Rattle.host.specs.declared.program.texts.TextTask.{TextTask}
+use Rattle.host.specs.declared.program.texts.TextTask.TheVariants.{Assemble, Disassemble}
+
+-- The command line in clap's terms: one of the subcommands `serve`, `asm`, `dis` and `verify`. It has to be there, and so
+-- has the option `--tenants` of `serve`. The arguments behind `verify` are those for its maps.
+abbrev pub tenants_option : Rule
+tenants_option = record (new_rule (codes "tenants")) {
+  long = Some (codes "tenants");
+  required = true;
+  action = Some Set;
+}
+
+abbrev pub serve_command : App
+serve_command = with_rule (new_app (codes "serve")) tenants_option
+
+abbrev pub asm_command : App
+asm_command = new_app (codes "asm")
+
+abbrev pub dis_command : App
+dis_command = new_app (codes "dis")
+
+abbrev pub maps_argument : Rule
+maps_argument = record (new_rule (codes "map")) { action = Some Append }
+
+abbrev pub verify_command : App
+verify_command = with_rule (new_app (codes "verify")) maps_argument
+
+abbrev pub asks_for_subcommand : Shape → Shape
+asks_for_subcommand s = record s { no_binary_name = true; subcommand_required = true }
+
+abbrev pub serving : App
+serving = with_subcommand (on_top asks_for_subcommand (new_app (codes "bpfhost"))) serve_command.top
+
+abbrev pub rewriting : App
+rewriting = with_subcommand (with_subcommand serving asm_command.top) dis_command.top
+
+abbrev pub program : App
+program = with_subcommand rewriting verify_command.top
+
+-- the kinds of error that clap has at the arguments: none where it takes them
+unfoldable pub refusal_kinds : List Text → Kinds
+refusal_kinds arguments = fault_of program arguments
+
+-- the subcommand that the arguments name, with what they give to its options
+unfoldable pub chosen_subcommand : List Text → Option (Text × List Row)
+chosen_subcommand arguments = subcommand_of program arguments
+
+-- the text that is given to `--tenants`
+abbrev pub tenants_value : List Row → Option Text
+tenants_value rows = first_of (codes "tenants") rows
+
+-- the number of tenants that decimal digits name, from 1 to the most that there may be
+abbrev pub tenant_number : Text → Option ℕ
+tenant_number digits = option_and_then (λ number. if is_from_to 1 MOST_TENANTS number then Some number else None) (decimal_number digits)
+
+-- the arguments that are given for maps
+abbrev pub map_arguments : List Row → List Text
+map_arguments rows = unwrap_or (all_of (codes "map") rows) []
+
+-- ---- what the arguments ask for
+
+-- frames are served to so many tenants; a text is read and another one written; a program is judged, with arguments for its maps
+pub data Asked : Type 0 where
+  Serves : ℕ → Asked
+  Rewrites : TextTask → Asked
+  Verifies : List Text → Asked
+
+-- what a subcommand asks for, by its name and by what is given to it: none where that is wrong
+abbrev pub asked_with : Text → List Row → Option Asked
+asked_with name rows =
+    if bytes_eq name (codes "serve") then option_map Serves (option_and_then tenant_number (tenants_value rows)) else
+    (if bytes_eq name (codes "asm") then Some (Rewrites Assemble) else
+    (if bytes_eq name (codes "dis") then Some (Rewrites Disassemble) else
+    (if bytes_eq name (codes "verify") then Some (Verifies (map_arguments rows)) else None)))
+
+abbrev pub asked_of : Option (Text × List Row) → Option Asked
+asked_of chosen = option_and_then (λ (subcommand : Text × List Row). asked_with subcommand.0 subcommand.1) chosen
+
+-- what the arguments ask for: none where they are wrong, whatever the arguments for maps name
+abbrev pub asked : List Text → Option Asked
+asked arguments = if is_empty (refusal_kinds arguments) then asked_of (chosen_subcommand arguments) else None
+
+-- an argument for a map is wrong
+abbrev pub HasWrongMapArgument : List Text → Type 0
+HasWrongMapArgument maps = (number : ℕ) × IsFirstWrongArgument maps number
+
+-- the arguments ask for nothing, or one for a map is wrong
+abbrev pub AreWrongArguments : List Text → Type 0
+AreWrongArguments arguments = (asked arguments ≡ None) ⊎ ((maps : List Text) × (asked arguments ≡ Some (Verifies maps)) × HasWrongMapArgument maps)
+
+-- where the arguments ask for a verdict, the input has a program that is accepted, where the bytes are known
+abbrev pub AcceptsAsked : List Text → Option (List ℕ) → Type 0
+AcceptsAsked arguments input = (maps : List Text) → asked arguments ≡ Some (Verifies maps) → AcceptsIfKnown maps input

@@ -1,0 +1,16 @@
+-- Which failure of the program stands for a fault of the codec. This project's own.
+use Rattle.std.specs.Prelude.{ℕ}
+use Rattle.insn_codec.specs.Fault.{fault_number}
+use Rattle.insn_codec.specs.declared.fault.CodecFault.{CodecFault}
+use Rattle.insn_codec.specs.declared.fault.FaultKind.{FaultKind}
+use Rattle.insn_codec.specs.declared.fault.FaultKind.TheVariants as codec
+use Rattle.host.specs.declared.program.failure.Failure.{Failure}
+use Rattle.host.specs.declared.program.failure.Failure.TheVariants.{Slot, Memory}
+
+-- the failure, by the kind of fault at a slot of a program
+abbrev pub failure_at : ℕ → FaultKind → Failure
+failure_at slot codec.Memory = Memory
+failure_at slot kind = Slot slot (fault_number kind)
+
+abbrev pub codec_failure : CodecFault → Failure
+codec_failure found = failure_at found.slot found.kind

@@ -1,0 +1,23 @@
+-- A program as hex lines, as `dis` and `verify` read it, and lines whose slots are no program. This project's own.
+use Rattle.std.specs.Prelude.{◌≡◌, ℕ, List, IsUtf8}
+use Rattle.bpf_text.specs.HexText.{IsHexText}
+use Rattle.insn_codec.specs.Program.{IsProgram, IsProgramFault, program_bytes}
+use Rattle.insn_codec.specs.declared.fault.CodecFault.{CodecFault}
+use Rattle.insn_codec.specs.declared.insn.Insn.{Insn}
+use Rattle.host.specs.program.Failure.{codec_failure}
+use Rattle.host.specs.declared.program.failure.Failure.{Failure}
+
+-- the input has a program's slots as hex lines
+pub record IsProgramText (input : List ℕ) (insns : List Insn) : Type 0 where
+  pub utf8 : IsUtf8 input
+  pub slots : IsHexText input (program_bytes insns)
+  pub program : IsProgram insns
+
+-- the lines have slots that are no program
+pub record IsProgramRefused (input : List ℕ) (failure : Failure) : Type 0 where
+  pub bytes : List ℕ
+  pub fault : CodecFault
+  pub utf8 : IsUtf8 input
+  pub slots : IsHexText input bytes
+  pub own : IsProgramFault bytes fault
+  pub failure_is : failure ≡ codec_failure fault

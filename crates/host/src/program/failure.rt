@@ -1,0 +1,138 @@
+//! Why a run of the program ends with a fault.
+
+ghost use Rattle.std.specs.Prelude.{◌≡◌};
+
+use crate::server::{ServeFault, ServeFaultKind};
+use bpf_text::{TextFault, TextFaultKind};
+use clap::error::ErrorKind;
+use insn_codec::{CodecFault, FaultKind};
+use std::alloc::{AllocError, AllocFailed};
+use thiserror::Error;
+
+/// Why a run ends with another status than 0. Its text is the fault line.
+#[derive(Debug, Drop, Error)]
+pub(crate) enum Failure {
+    #[error("wrong words")]
+    WrongArguments,
+    #[error("map word {0} is wrong")]
+    MapArgument(usize),
+    #[error("truncated after {0} frames")]
+    Truncated(u32),
+    #[error("too many frames")]
+    TooManyFrames,
+    #[error("input too long")]
+    TooLong,
+    #[error("line {line}: fault {kind}")]
+    Line { line: usize, kind: u16 },
+    #[error("slot {slot}: fault {kind}")]
+    Slot { slot: usize, kind: u16 },
+    #[error("read fault")]
+    Read,
+    #[error("write fault")]
+    Write,
+    #[error("out of memory")]
+    Memory,
+}
+
+impl Failure {
+    ghost use Rattle.host.specs.inside.program.Statuses.{exit_status};
+
+    /// The status that the program ends with.
+    pub(crate) fn status(&self) -> u8
+        ensures { result ≡ exit_status self.now }
+    {
+        match self {
+            Failure::Truncated(_) | Failure::TooManyFrames => 1,
+            Failure::TooLong | Failure::Line { .. } | Failure::Slot { .. } => 1,
+            Failure::WrongArguments | Failure::MapArgument(_) => 2,
+            Failure::Read | Failure::Write => 3,
+            Failure::Memory => 4,
+        }
+    }
+}
+
+impl From<AllocError> for Failure {
+    ghost use Rattle.host.specs.declared.program.failure.Failure.TheVariants.{Memory};
+
+    ghost from_gives = { λ _ failure. failure ≡ Memory };
+
+    fn from(_error: AllocError) -> Failure {
+        Failure::Memory
+    }
+}
+
+impl<T: Drop> From<AllocFailed<T>> for Failure {
+    ghost use Rattle.host.specs.declared.program.failure.Failure.TheVariants.{Memory};
+
+    ghost from_gives = { λ _ failure. failure ≡ Memory };
+
+    fn from(_error: AllocFailed<T>) -> Failure {
+        Failure::Memory
+    }
+}
+
+impl From<clap::Error> for Failure {
+    ghost use Rattle.clap.specs.Words.{kind_of};
+    ghost use Rattle.host.specs.inside.program.Statuses.{arguments_failure};
+
+    ghost from_gives = { λ error failure. failure ≡ arguments_failure (kind_of error) };
+
+    fn from(error: clap::Error) -> Failure {
+        match error.kind() {
+            ErrorKind::OutOfMemory => Failure::Memory,
+            _ => Failure::WrongArguments,
+        }
+    }
+}
+
+impl From<ServeFault> for Failure {
+    ghost use Rattle.host.specs.inside.program.Statuses.{stream_failure};
+
+    ghost from_gives = { λ fault failure. failure ≡ stream_failure fault };
+
+    fn from(fault: ServeFault) -> Failure {
+        match fault.kind {
+            ServeFaultKind::Read => Failure::Read,
+            ServeFaultKind::Write => Failure::Write,
+            ServeFaultKind::Truncated => Failure::Truncated(fault.frames),
+            ServeFaultKind::TooManyFrames => Failure::TooManyFrames,
+            ServeFaultKind::Memory => Failure::Memory,
+        }
+    }
+}
+
+impl From<TextFault> for Failure {
+    ghost use Rattle.host.specs.inside.program.Statuses.{text_failure};
+
+    ghost from_gives = { λ fault failure. failure ≡ text_failure fault };
+
+    fn from(fault: TextFault) -> Failure {
+        match fault.kind {
+            TextFaultKind::Memory => Failure::Memory,
+            kind => {
+                Failure::Line {
+                    line: fault.line,
+                    kind: kind.number(),
+                }
+            }
+        }
+    }
+}
+
+impl From<CodecFault> for Failure {
+    ghost use Rattle.host.specs.program.Failure.{codec_failure};
+
+    ghost from_gives = { λ fault failure. failure ≡ codec_failure fault };
+
+    fn from(fault: CodecFault) -> Failure {
+        match fault.kind {
+            FaultKind::Memory => Failure::Memory,
+            kind => {
+                Failure::Slot {
+                    slot: fault.slot,
+                    kind: kind.number(),
+                }
+            }
+        }
+    }
+}

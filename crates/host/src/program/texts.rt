@@ -1,0 +1,150 @@
+//! The subcommands `asm` and `dis`: a text in, a text out.
+
+ghost use Rattle.std.specs.Prelude.{◌≡◌, ◌<◌, ◌-◌, ◌^◌, List, ℕ, length, IfErr, IfOk, IsUtf8, MatchResult, OnOk};
+ghost use Rattle.std.specs.String.{string_bytes};
+ghost use Rattle.host.specs.inside.program.Outcomes.{Fails, FailsOnly, Gives};
+ghost use Rattle.host.specs.program.Texts.{IsProgramText};
+ghost use Rattle.host.specs.inside.program.Rewriting.{streams, WritesWholeOutput, IsAssembly, IsDisassembly, IsNoProgramText, IsNoText, ReadsWholeInput, IsInputRefused, IsRewritten, HasNoInput, StopsRewriting};
+ghost use Rattle.host.specs.declared.program.failure.Failure.{Failure as AnyFailure};
+ghost use Rattle.insn_codec.specs.declared.insn.Insn.{Insn as AnyInsn};
+
+use crate::program::failure::Failure;
+use crate::reading::fill;
+use crate::stream::{Sink, Source};
+use crate::writing::write_whole;
+use bpf_text::{assemble, disassemble, from_hex_lines, hex_lines};
+use insn_codec::{Program, read_program};
+use std::alloc::{AllocError, Global};
+
+/// The longest input of a text, in bytes.
+pub(crate) const LONGEST_INPUT: usize = 1_048_576;
+
+/// What is made of a text.
+#[derive(Clone, Copy, Debug, PartialEq, Eq)]
+pub(crate) enum TextTask {
+    /// The hex lines of a program's text.
+    Assemble,
+    /// The text of a program's hex lines.
+    Disassemble,
+}
+
+/// The text that the bytes are.
+fn text_in(bytes: &[u8]) -> Result<&str, Failure>
+    ensures { MatchResult result (λ text. (text.now ≡ bytes.now) × IsUtf8 bytes.now)
+        (IsNoText bytes.now) }
+{
+    match str::from_utf8(bytes) {
+        Ok(text) => Ok(text),
+        Err(_) => Err(Failure::Line { line: 0, kind: 1 }),
+    }
+}
+
+/// The hex lines of the program whose text is the input.
+fn assembled(alloc: Global, input: &[u8]) -> Result<String, Failure>
+    ensures made { IfOk result (λ lines. IsAssembly input.now (string_bytes lines)) }
+    ensures only { (output : List ℕ) → IsAssembly input.now output
+        → Gives string_bytes result output }
+    ensures fault { FailsOnly result (IsInputRefused TextTask.Assemble input.now) }
+    ensures faulty { (refusal : AnyFailure) → IsInputRefused TextTask.Assemble input.now refusal
+        → Fails result (λ failure. failure ≡ refusal) }
+{
+    let program = assemble(alloc, text_in(input)?)?;
+    let lines = hex_lines(alloc, &program)?;
+    Ok(lines)
+}
+
+/// The program whose slots stand on the lines of the input.
+pub(crate) fn program_on(alloc: Global, input: &[u8]) -> Result<Program, Failure>
+    ensures read { IfOk result (λ program. IsProgramText input.now program) }
+    ensures only { (insns : List AnyInsn) → IsProgramText input.now insns
+        → Gives (λ program. program) result insns }
+    ensures fault { FailsOnly result (IsNoProgramText input.now) }
+    ensures faulty { (refusal : AnyFailure) → IsNoProgramText input.now refusal
+        → Fails result (λ failure. failure ≡ refusal) }
+{
+    let slots = from_hex_lines(alloc, text_in(input)?)?;
+    let program = read_program(alloc, &slots)?;
+    Ok(program)
+}
+
+/// The text of the program whose hex lines are the input.
+fn disassembled(alloc: Global, input: &[u8]) -> Result<String, Failure>
+    ensures made { IfOk result (λ text. IsDisassembly input.now (string_bytes text)) }
+    ensures only { (output : List ℕ) → IsDisassembly input.now output
+        → Gives string_bytes result output }
+    ensures fault { FailsOnly result (IsInputRefused TextTask.Disassemble input.now) }
+    ensures faulty { (refusal : AnyFailure) → IsInputRefused TextTask.Disassemble input.now refusal
+        → Fails result (λ failure. failure ≡ refusal) }
+{
+    let program = program_on(alloc, input)?;
+    let text = disassemble(alloc, &program)?;
+    Ok(text)
+}
+
+/// What stands for the input.
+fn rewritten(alloc: Global, task: TextTask, input: &[u8]) -> Result<String, Failure>
+    ensures made { IfOk result (λ output. IsRewritten task input.now (string_bytes output)) }
+    ensures only { (output : List ℕ) → IsRewritten task input.now output
+        → Gives string_bytes result output }
+    ensures fault { FailsOnly result (IsInputRefused task input.now) }
+    ensures faulty { (refusal : AnyFailure) → IsInputRefused task input.now refusal
+        → Fails result (λ failure. failure ≡ refusal) }
+{
+    match task {
+        TextTask::Assemble => assembled(alloc, input),
+        TextTask::Disassemble => disassembled(alloc, input),
+    }
+}
+
+/// A buffer of so many bytes.
+fn buffer(alloc: Global, size: usize) -> Result<Vec<u8>, AllocError>
+    ensures { IfOk result (λ bytes. length bytes.items ≡ size) }
+{
+    vec![in alloc; 0; size]
+}
+
+/// Reads the input to its end, where it is not too long.
+pub(crate) fn read_input<S: Source>(alloc: Global, reader: &mut S) -> Result<Vec<u8>, Failure>
+    requires { S.failures reader.old < 2 ^ 64 - 1 }
+    ensures input { IfOk result (λ input.
+        ReadsWholeInput (S.remaining reader.old) (S.remaining reader.new) input.items) }
+    ensures sound { OnOk result (S.failures reader.new ≡ S.failures reader.old) }
+    ensures fault { IfErr result (λ failure.
+        HasNoInput failure (S.remaining reader.old) (S.remaining reader.new)
+        (S.failures reader.old) (S.failures reader.new)) }
+{
+    let mut input = buffer(alloc, LONGEST_INPUT + 1)?;
+    let Ok(count) = fill(reader, &mut input) else {
+        return Err(Failure::Read);
+    };
+    if count > LONGEST_INPUT {
+        return Err(Failure::TooLong);
+    }
+    input.truncate(count);
+    Ok(input)
+}
+
+/// Reads the input, and writes what stands for it.
+pub(crate) fn rewrite<S: Source, O: Sink>(
+    alloc: Global,
+    task: TextTask,
+    reader: &mut S,
+    writer: &mut O,
+) -> Result<(), Failure>
+    requires reads { S.failures reader.old < 2 ^ 64 - 1 }
+    requires writes { O.failures writer.old < 2 ^ 64 - 1 }
+    ensures done { OnOk result (WritesWholeOutput (IsRewritten task)
+        (streams S.remaining S.failures O.contents O.failures reader.old writer.old)
+        (streams S.remaining S.failures O.contents O.failures reader.new writer.new)) }
+    ensures fault { IfErr result (λ failure. StopsRewriting (IsRewritten task) (IsInputRefused task)
+        (streams S.remaining S.failures O.contents O.failures reader.old writer.old)
+        (streams S.remaining S.failures O.contents O.failures reader.new writer.new)
+        failure) }
+{
+    let input = read_input(alloc, reader)?;
+    let output = rewritten(alloc, task, &input)?;
+    match write_whole(writer, output.as_bytes()) {
+        Ok(()) => Ok(()),
+        Err(_) => Err(Failure::Write),
+    }
+}

@@ -1,6 +1,0 @@
-use Rattle.std.proofs.Common.{ℕ, List}
-use Rattle.tagged_model.proofs.MapValues.{go_along}
-use Rattle.tagged_model.proofs.laws.calls_go_along.Goals as goal
-
-pub returns : goal.returns
-returns c = record { numbers = go_along ℕ ℕ; bytes = go_along ℕ (List ℕ) }

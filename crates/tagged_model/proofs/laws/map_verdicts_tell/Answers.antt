@@ -1,6 +1,0 @@
-use Rattle.std.proofs.Common.{ℕ, List}
-use Rattle.tagged_model.proofs.MapVerdicts.{tell}
-use Rattle.tagged_model.proofs.laws.map_verdicts_tell.Goals as goal
-
-pub returns : goal.returns
-returns c = record { numbers = tell ℕ; bytes = tell (List ℕ) }

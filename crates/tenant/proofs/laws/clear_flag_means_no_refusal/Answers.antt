@@ -1,0 +1,5 @@
+use Rattle.tenant.proofs.Flag.{clear_answer}
+use Rattle.tenant.proofs.laws.clear_flag_means_no_refusal.Goals as goal
+
+pub returns : goal.returns
+returns c = clear_answer c.refusals_are_told.ensures

@@ -1,0 +1,30 @@
+-- The facts on each edge alone. This project's own.
+use Rattle.std.specs.Prelude.{ℕ, Option, None, Result, Ok, Err}
+use Rattle.insn_codec.specs.declared.insn.Insn.{Insn}
+use Rattle.reg_kinds.specs.declared.facts.Facts.{Facts}
+use Rattle.reg_kinds.specs.declared.reason.Reason.{Reason}
+use Rattle.tagged_model.specs.Cells.{also}
+use Rattle.tagged_model.specs.Named.{Shapes}
+use Rattle.transfer.specs.Branches.{Edges}
+use Rattle.transfer.specs.Effects.{effect}
+use Rattle.verdict.specs.Verdict.{reason_of}
+
+-- the facts on an edge out of an instruction; none of one that may not be run
+abbrev pub falling_of : Result Edges Reason → Option Facts
+falling_of (Err reason) = None
+falling_of (Ok edges) = edges.falling
+
+abbrev pub jumping_of : Result Edges Reason → Option Facts
+jumping_of (Err reason) = None
+jumping_of (Ok edges) = edges.jumping
+
+-- the same from what is known before the instruction at slot n, which may be nothing
+abbrev pub falling_from : Shapes → ℕ → Insn → Option Facts → Option Facts
+falling_from shapes n insn known = also known (λ f. falling_of (effect shapes n insn f))
+
+abbrev pub jumping_from : Shapes → ℕ → Insn → Option Facts → Option Facts
+jumping_from shapes n insn known = also known (λ f. jumping_of (effect shapes n insn f))
+
+-- the first condition that fails of an instruction at slot n; none where nothing is known
+abbrev pub reason_from : Shapes → ℕ → Insn → Option Facts → Option Reason
+reason_from shapes n insn known = also known (λ f. reason_of (effect shapes n insn f))

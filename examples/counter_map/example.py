@@ -1,0 +1,102 @@
+#!/usr/bin/env python3
+"""A map that a program counts in: read, walked and changed from outside, and closed. usage: example.py BPFHOST"""
+
+import sys
+from pathlib import Path
+
+HERE = Path(__file__).resolve().parent
+sys.dont_write_bytecode = True
+sys.path.insert(0, str(HERE.parent))
+
+import client  # noqa: E402
+
+TENANT, COUNTS, PROGRAM = 0, 3, 4
+# The longest area of a map, which is also all the room that a tenant's maps have together.
+WHOLE_AREA = 65536
+
+
+class Session:
+    """One tenant at a host; each step is shown with its reply."""
+
+    def __init__(self, host):
+        self.host = host
+
+    def step(self, does, frame):
+        reply = self.host.ask(frame)
+        print(f"  {does}: {reply.says()}")
+        return reply
+
+    def count(self, *packets):
+        for packet in packets:
+            self.step(f"run on {packet.decode()!r}", client.prog_test_run(TENANT, PROGRAM, packet))
+
+    def walk(self):
+        """Goes from key to key, and looks each one up."""
+        reply = self.host.ask(client.map_next_key(TENANT, COUNTS))
+        while reply.status == 0:
+            key = reply.payload
+            value = self.host.ask(client.map_lookup(TENANT, COUNTS, key)).payload
+            print(f"  key {key.hex()} ({chr(key[0])}) has {int.from_bytes(value, 'little')}")
+            reply = self.host.ask(client.map_next_key(TENANT, COUNTS, key))
+        print(f"  behind the last key: {reply.says()}")
+
+
+def key_of(letter):
+    return letter.encode() + bytes(3)
+
+
+def hash_map(entries):
+    return client.map_create(TENANT, client.MapType.HASH, 4, 8, entries)
+
+
+def whole_room():
+    return client.map_create(TENANT, client.MapType.ARRAY, 4, WHOLE_AREA // 16, 16)
+
+
+def show(session, slots):
+    print("A hash map for three keys, and the program that counts in it:")
+    session.step("make the map", hash_map(3))
+    session.step("load the program", client.prog_load(TENANT, slots))
+    session.count(b"apple", b"bean", b"avocado", b"cherry", b"")
+    print("A fourth key finds the map full, and is not counted:")
+    session.count(b"date")
+
+    print("The map from outside:")
+    session.walk()
+    session.step("look d up", client.map_lookup(TENANT, COUNTS, key_of("d")))
+    session.step("delete b", client.map_delete(TENANT, COUNTS, key_of("b")))
+    forty = (40).to_bytes(8, "little")
+    for does, flags in {"put 40 under a, if a is new": client.Flags.NOEXIST, "put 40 under a": client.Flags.ANY}.items():
+        session.step(does, client.map_update(TENANT, COUNTS, key_of("a"), forty, flags))
+    print("The program sees it:")
+    session.count(b"apricot", b"date")
+    session.walk()
+
+    print("Its descriptor is closed while the program holds the map:")
+    session.step("close the map's descriptor", client.close(TENANT, COUNTS))
+    session.step("look a up", client.map_lookup(TENANT, COUNTS, key_of("a")))
+    session.step("load the program again", client.prog_load(TENANT, slots))
+    session.count(b"almond")
+    print("A new map gets the number; the program counts on in its own:")
+    session.step("make a map", hash_map(3))
+    session.count(b"anise")
+    session.step("look a up in the new map", client.map_lookup(TENANT, COUNTS, key_of("a")))
+    session.step("close the new map", client.close(TENANT, COUNTS))
+    print("The map is gone with its program, and its room is free:")
+    session.step("make a map that takes all room", whole_room())
+    session.step("close the program", client.close(TENANT, PROGRAM))
+    session.step("make a map that takes all room", whole_room())
+
+
+def main():
+    if len(sys.argv) != 2:
+        sys.exit("usage: example.py BPFHOST")
+    try:
+        slots = client.assemble(sys.argv[1], (HERE / "program.txt").read_text())
+        with client.Host(sys.argv[1]) as host:
+            show(Session(host), slots)
+    except (client.HostError, client.ReplyError) as error:
+        sys.exit(f"counter_map: {error}")
+
+
+main()

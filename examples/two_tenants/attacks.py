@@ -1,0 +1,112 @@
+"""What the hostile tenant tries. At first it has one array, at descriptor 3, and nothing else."""
+
+from dataclasses import dataclass
+
+import client
+
+HOSTILE, HONEST, NOT_SERVED = 0, 1, 2
+OWN_MAP = 3
+# The honest tenant has a map and a program at these numbers; the hostile one has nothing there.
+FOREIGN_MAP, FOREIGN_PROGRAM = 4, 5
+
+
+@dataclass(frozen=True)
+class Attack:
+    """Frames of the hostile tenant. Where `is_refused` is not set, some may be within the tenant's own rights."""
+
+    does: str
+    frames: tuple
+    is_refused: bool
+
+
+OWN_MAP_FRAME = client.map_create(HOSTILE, client.MapType.ARRAY, 4, 8, 1)
+
+# Looks index 0 of the own map up, and leaves register 0 as the answer.
+LOOK_UP = f"""
+    *(u32 *)(r10 - 4) = 0
+    r1 = map_fd {OWN_MAP} ll
+    r2 = r10
+    r2 += -4
+    call 1
+"""
+# Goes on with register 0 at the value, which has eight bytes.
+AT_VALUE = LOOK_UP + """
+    if r0 != 0 goto there
+    exit
+there:
+"""
+
+PROGRAMS = {
+    "reads eight bytes below its stack": "r0 = *(u64 *)(r10 - 520)\n exit",
+    "writes eight bytes above its stack": "*(u64 *)(r10 + 0) = 1\n r0 = 0\n exit",
+    "reads a stack byte that it has not written": "r0 = *(u64 *)(r10 - 8)\n exit",
+    "answers a register that it has not written": "r0 = r5\n exit",
+    "reads at an address of its choice": "r1 = 0x7fff00001000 ll\n r0 = *(u64 *)(r1 + 0)\n exit",
+    "loads the other tenant's map": f"r1 = map_fd {FOREIGN_MAP} ll\n r0 = 0\n exit",
+    "reads behind its map's value": AT_VALUE + "r0 = *(u64 *)(r0 + 8)\n exit",
+    "reads before its map's value": AT_VALUE + "r0 = *(u64 *)(r0 - 1)\n exit",
+    "reads through a look-up that may be null": LOOK_UP + "r0 = *(u64 *)(r0 + 0)\n exit",
+    "moves a pointer by a number that may be anything": AT_VALUE
+    + "r1 = *(u64 *)(r0 + 0)\n r0 += r1\n r0 = *(u8 *)(r0 + 0)\n exit",
+    "answers an address": "r0 = r10\n exit",
+    "keeps an address in its map": AT_VALUE + "*(u64 *)(r0 + 0) = r10\n r0 = 0\n exit",
+    "writes into the context": "*(u32 *)(r1 + 0) = 0\n r0 = 0\n exit",
+    "calls a helper that the host does not have": "call 6\n exit",
+    "loops": "again:\n r0 = 0\n goto again",
+    "falls off its end": "r0 = 0",
+    "jumps out of the program": "r0 = 0\n goto +5\n exit",
+}
+
+FRAMES = {
+    "looks into the other tenant's map": client.map_lookup(HOSTILE, FOREIGN_MAP, bytes(4)),
+    "runs the other tenant's program": client.prog_test_run(HOSTILE, FOREIGN_PROGRAM),
+    "closes the other tenant's program": client.close(HOSTILE, FOREIGN_PROGRAM),
+    "runs its map as a program": client.prog_test_run(HOSTILE, OWN_MAP),
+    "closes a descriptor of a tenant that is not served": client.close(NOT_SERVED, 3),
+    "sends a frame without a tenant": bytes([3, 0, 0, 0]) + b"bad",
+    "sends a command that there is not": client.frame(HOSTILE, 7),
+    "sends a body that is cut off": client.frame(HOSTILE, client.Command.MAP_UPDATE_ELEM, bytes(7)),
+    "sends a frame that is too long": client.frame(HOSTILE, client.Command.PROG_TEST_RUN, bytes(65533)),
+    "loads bytes that are no instructions": client.prog_load(HOSTILE, b"\xff" * 8),
+    "loads half a slot": client.prog_load(HOSTILE, bytes(4)),
+    "asks for a map of 16 MiB": client.map_create(HOSTILE, client.MapType.HASH, 4, 4096, 4096),
+}
+
+
+# An accepted program: it leaves 0xff all over its stack, its map's value and the registers.
+LITTER = (
+    AT_VALUE
+    + "*(u64 *)(r0 + 0) = -1\n"
+    + "".join(f"*(u64 *)(r10 - {at}) = -1\n" for at in range(8, 513, 8))
+    + "".join(f"r{number} = -1\n" for number in range(10))
+    + "exit"
+)
+OWN_PROGRAM, OWN_HASH = 4, 5
+
+
+def floods(program):
+    """Frames that fill each of the tenant's own tables."""
+    run, long_run = (client.prog_test_run(HOSTILE, OWN_PROGRAM, packet) for packet in (b"", bytes(32769)))
+    small_map = client.map_create(HOSTILE, client.MapType.HASH, 4, 8, 2)
+    keys = [number.to_bytes(4, "little") for number in range(5)]
+    tried = {
+        "loads a program that leaves 0xff all over its stack and its value": [program],
+        "runs it on three packets": [run] * 3,
+        "runs it on a packet that is too long": [long_run],
+        "makes a hash map for two keys": [small_map],
+        "puts five keys into it": [client.map_update(HOSTILE, OWN_HASH, key, bytes(8)) for key in keys],
+        "makes 20 maps more": [small_map] * 20,
+        "loads 60 programs more": [program] * 60,
+    }
+    return [Attack(does, tuple(frames), False) for does, frames in tried.items()]
+
+
+def attacks(bpfhost):
+    """All of them, in order."""
+
+    def load(text):
+        return client.prog_load(HOSTILE, client.assemble(bpfhost, text))
+
+    programs = {does: load(text) for does, text in PROGRAMS.items()}
+    refused = [Attack(does, (frame,), True) for does, frame in {**programs, **FRAMES}.items()]
+    return [Attack("makes a map of its own", (OWN_MAP_FRAME,), False), *refused, *floods(load(LITTER))]

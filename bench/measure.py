@@ -1,7 +1,7 @@
 #!/usr/bin/env python3
-"""Measures a built bpfhost, and a plain C interpreter beside it. bench/README.md says what is printed.
+"""Measures a built bpfhost, and other interpreters beside it. bench/README.md says what is printed.
 
-usage: measure.py [--rounds N] [--only WORD] BPFHOST [PLAIN]
+usage: measure.py [--rounds N] [--only WORD] BPFHOST [PLAIN [DPDK]]
 """
 
 import argparse
@@ -23,10 +23,13 @@ LOADS, COUNTED_RUNS, COUNTED_LOADS = 60, 60, 2
 
 
 class Host:
-    """A program that reads frames and writes replies."""
+    """A program that reads frames and writes replies. With no calls it runs only programs that call no helper."""
 
-    def __init__(self, name, command):
-        self.name, self.command = name, command
+    def __init__(self, name, command, calls=True):
+        self.name, self.command, self.calls = name, command, calls
+
+    def runs(self, program):
+        return self.calls or not program.calls
 
     def replies(self, stream):
         with open(stream, "rb") as frames:
@@ -107,8 +110,9 @@ def runs_for(program):
 def same_replies(streams, programs, hosts):
     for name, program in programs.items():
         stream = streams.of(runs_of, program, 100)
-        if len({host.replies(stream) for host in hosts}) > 1:
-            sys.exit(f"{name}: {' and '.join(host.name for host in hosts)} answer differently")
+        asked = [host for host in hosts if host.runs(program)]
+        if len({host.replies(stream) for host in asked}) > 1:
+            sys.exit(f"{name}: {' and '.join(host.name for host in asked)} answer differently")
 
 
 def measured_runs(streams, programs, hosts, rounds):
@@ -117,11 +121,11 @@ def measured_runs(streams, programs, hosts, rounds):
         name: (streams.of(runs_of, program, 0), streams.of(runs_of, program, runs_for(program)))
         for name, program in programs.items()
     }
-    best = least(rounds, [(host, stream) for pair in pairs.values() for host in hosts for stream in pair])
+    asked = [(name, host) for name, program in programs.items() for host in hosts if host.runs(program)]
+    best = least(rounds, [(host, stream) for name, host in asked for stream in pairs[name]])
     return {
-        (name, host.name): (best[host, many] - best[host, none]) / runs_for(programs[name])
-        for name, (none, many) in pairs.items()
-        for host in hosts
+        (name, host.name): (best[host, pairs[name][1]] - best[host, pairs[name][0]]) / runs_for(programs[name])
+        for name, host in asked
     }
 
 
@@ -130,7 +134,7 @@ def counted_runs(streams, programs, hosts, count):
     found = {}
     for name, program in programs.items():
         few, more = (streams.of(runs_of, program, runs) for runs in (COUNTED_RUNS, 2 * COUNTED_RUNS))
-        for host in hosts:
+        for host in (host for host in hosts if host.runs(program)):
             found[name, host.name] = (count_of(count, host, more) - count_of(count, host, few)) / COUNTED_RUNS
     return found
 
@@ -142,18 +146,29 @@ def print_runs(streams, programs, hosts, rounds, count):
         told = f", {counts['empty', host.name]:.0f} machine instructions" if counts else ""
         print(f"a frame with a run of two instructions, {host.name}: {seconds['empty', host.name] * 1e9:.0f} ns{told}")
     head = f"{'':18}{'executed':>9}" + "".join(f"{host.name + ', ns':>14}" for host in hosts)
-    head += f"{'ratio':>8}" if len(hosts) > 1 else ""
+    head += "".join(f"{'to ' + host.name:>9}" for host in hosts[1:])
     print(head + "".join(f"{host.name + ', ins.':>15}" for host in hosts if counts))
     for name, program in programs.items():
         if name == "empty":
             continue
         executed = program.executed - programs["empty"].executed
-        alone = [(seconds[name, host.name] - seconds["empty", host.name]) * 1e9 / executed for host in hosts]
-        line = f"{name:18}{program.executed:>9}" + "".join(f"{it:>14.3f}" for it in alone)
-        line += f"{alone[0] / alone[1]:>8.2f}" if len(hosts) > 1 else ""
+        alone = [told_of(seconds, name, host, 1e9 / executed) for host in hosts]
+        line = f"{name:18}{program.executed:>9}" + "".join(f"{shown(it, 3):>14}" for it in alone)
+        line += "".join(f"{shown(it and alone[0] / it, 2):>9}" for it in alone[1:])
         if counts:
-            line += "".join(f"{(counts[name, host.name] - counts['empty', host.name]) / executed:>15.2f}" for host in hosts)
+            line += "".join(f"{shown(told_of(counts, name, host, 1 / executed), 2):>15}" for host in hosts)
         print(line)
+
+
+def told_of(found, name, host, scale):
+    """What a run takes beyond the empty program's, or None where this host does not run the program."""
+    if (name, host.name) not in found:
+        return None
+    return (found[name, host.name] - found["empty", host.name]) * scale
+
+
+def shown(number, digits):
+    return "" if number is None else f"{number:.{digits}f}"
 
 
 def print_loads(streams, programs, host, rounds, count):
@@ -183,10 +198,13 @@ def main():
     parser.add_argument("--only", default="", help="a word of the programs' names")
     parser.add_argument("bpfhost")
     parser.add_argument("plain", nargs="?")
+    parser.add_argument("dpdk", nargs="?")
     given = parser.parse_args()
     hosts = [Host("bpfhost", [given.bpfhost, *SERVE])]
     if given.plain:
         hosts.append(Host("C", [given.plain]))
+    if given.dpdk:
+        hosts.append(Host("DPDK", [given.dpdk], calls=False))
     tool, count = counter()
     print(f"machine instructions are counted by {tool}" if tool else "machine instructions are not counted: no perf, no valgrind")
     with tempfile.TemporaryDirectory() as folder:

@@ -41,6 +41,11 @@ class Program:
     # How many instructions a run executes, where it is known.
     executed: int = 0
 
+    @property
+    def calls(self):
+        """Whether it calls a helper."""
+        return any(slot[0] == CALL for slot in self.slots)
+
 
 def empty():
     return Program(returns(0), executed=2)

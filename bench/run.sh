@@ -15,6 +15,11 @@ plain=()
 if command -v "${CC:-cc}" > /dev/null; then
     "${CC:-cc}" -std=gnu11 -O3 -fno-strict-aliasing -o "$scratch/plain" bench/plain.c
     plain=("$scratch/plain")
+    if command -v pkg-config > /dev/null && pkg-config --exists libdpdk; then
+        read -ra dpdk <<< "$(pkg-config --cflags libdpdk)"
+        "${CC:-cc}" -std=gnu11 -O3 -fno-strict-aliasing -DDPDK "${dpdk[@]}" -o "$scratch/dpdk" bench/plain.c -lrte_bpf -lrte_eal
+        plain+=("$scratch/dpdk")
+    fi
 else
     echo "no C compiler ${CC:-cc}: nothing to compare with"
 fi

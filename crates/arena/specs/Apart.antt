@@ -1,6 +1,6 @@
 -- What is written in one part leaves the others as they were. Parts are this project's own.
 use Rattle.std.specs.Prelude.{◌≡◌, ◌≢◌, ℕ, ◌+◌, ◌*◌, ◌<◌, ◌≤◌, List, length, Option, Some}
-use Rattle.interval.specs.Bytes.{number_of, low_bytes}
+use Rattle.words.specs.Bytes.{number_of, low_bytes}
 use Rattle.arena.specs.Bytes.{bytes_at, written_at}
 use Rattle.arena.specs.Memory.{Memory, size_of, base, place_of, loaded, stored, copied, part_start, part_bytes, with_bytes, with_part}
 

@@ -2,7 +2,7 @@
 -- little-endian machine; addresses from 2 ^ 32 on and a part for each tenant are this project's own.
 use Rattle.std.specs.Prelude.{ℕ, ◌+◌, ◌-◌, ◌*◌, ◌&&◌, List, length, Option, Some, None, nat_le, if◌then◌else◌, refl, take, drop, ◌++◌}
 use Rattle.std.specs.Coded.{Coded, code_by, coded×, coded_ℕ, coded_list}
-use Rattle.interval.specs.Bytes.{number_of, low_bytes}
+use Rattle.words.specs.Bytes.{number_of, low_bytes}
 use Rattle.arena.specs.Bytes.{bytes_at, written_at}
 
 -- all bytes, how many parts they are, and how many bytes each part has

@@ -1,7 +1,7 @@
 //! What a caller can tell of a tenant's part from the contracts alone.
 
 ghost use Rattle.std.specs.Prelude.{◌+◌, ◌<◌, ◌≤◌};
-ghost use Rattle.interval.specs.Bytes.{low_bytes};
+ghost use Rattle.words.specs.Bytes.{low_bytes};
 ghost use Rattle.arena.specs.Bytes.{bytes_at};
 ghost use Rattle.arena.specs.Memory.{part_bytes};
 ghost use Rattle.arena.specs.Apart.{IsWrittenAt};

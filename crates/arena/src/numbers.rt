@@ -1,7 +1,7 @@
 //! Numbers in bytes, the lowest byte first.
 
 ghost use Rattle.std.specs.Prelude.{◌≡◌, ◌+◌, ◌≤◌, ◌<◌, ◌^◌, length};
-ghost use Rattle.interval.specs.Bytes.{number_of, low_bytes};
+ghost use Rattle.words.specs.Bytes.{number_of, low_bytes};
 ghost use Rattle.arena.specs.Bytes.{bytes_at, written_at, IsSize};
 
 /// The number that so many bytes make.

@@ -3,19 +3,20 @@ use Rattle.std.proofs.Common.{◌≡◌, ◌≢◌, ◌⊎◌, inl, inr, ℕ, �
 use Rattle.std.specs.Option.{IsSome}
 use Rattle.std.specs.Map.{values_of}
 use Rattle.std.proofs.lemmas.Bool.{cond-true, cond-false, ne_eqb, cases_lt}
-use Rattle.interval.specs.Bytes.{bytes_at}
+use Rattle.words.specs.Bytes.{bytes_at}
 use Rattle.tagged_model.specs.declared.shape.MapShape.{MapShape}
 use Rattle.tagged_model.specs.Table.{Table, with_key, with_values, with_new}
 use Rattle.tagged_model.specs.State.{RunMap, set_at}
 use Rattle.tagged_model.specs.Admits.{KeysHaveObjects}
 use Rattle.tagged_model.specs.Helpers.{with_object}
+use Rattle.tagged_model.specs.StateLaws.{owns_more, owns_with}
 use Rattle.arena.specs.Memory.{base}
 use Rattle.bpf_maps.specs.Places.{PlaceTable, table_of, times, IsFree, with_place}
 use Rattle.bpf_maps.specs.Live.{LiveMaps, live_at, places_at, shape_at, offset_at}
 use Rattle.bpf_maps.specs.Laws.{CallsRefineValues}
 use Rattle.bpf_helpers.specs.Layout.{Layout}
 use Rattle.bpf_helpers.specs.Stands.{HasObject, HasMap}
-use Rattle.bpf_helpers.proofs.Owned.{owns_more, owns_with, times_with, counted_once}
+use Rattle.bpf_helpers.proofs.Owned.{times_with, counted_once}
 use Rattle.bpf_helpers.proofs.Wider.{extended, extended_same, extended_here}
 
 module _ (place : ℕ → ℕ) where

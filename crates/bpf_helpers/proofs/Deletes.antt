@@ -1,26 +1,25 @@
 -- After a delete words, bytes and live maps stand for the state after the machine's delete.
 use Rattle.std.proofs.Common.{◌≡◌, ℕ, ◌+◌, ◌<◌, false, ◌||◌, List, [], ◌∷◌, length-append, slice_get, Some, Result, Ok, Err, refl, sym, ap, subst, ◌∙◌, arith}
 use Rattle.std.specs.Prelude.{slice_index}
-use Rattle.std.specs.Option.{IsSome}
 use Rattle.std.specs.Map.{values_of}
 use Rattle.std.specs.Result.{result_map_both}
 use Rattle.std.proofs.lemmas.Option.{same_Some, slice_get_within}
-use Rattle.interval.specs.Bytes.{bytes_at}
+use Rattle.words.specs.Bytes.{bytes_at}
 use Rattle.tagged_model.specs.declared.fault.MapFault.{MapFault}
 use Rattle.tagged_model.specs.declared.shape.MapShape.{MapShape}
 use Rattle.tagged_model.specs.Table.{Table, look_up, removal, without, with_values, with_deleted}
 use Rattle.tagged_model.specs.State.{RunState, RunMap, set_at, with_map, with_refusal}
 use Rattle.tagged_model.specs.Helpers.{taken_out, removed, without_key, with_reply}
+use Rattle.tagged_model.specs.StateLaws.{owns_without}
 use Rattle.arena.specs.Memory.{Memory, base, part_start}
 use Rattle.bpf_maps.specs.Places.{PlaceTable, table_of, times, with_kept, Removes}
-use Rattle.bpf_maps.specs.Live.{LiveMaps, live_at, places_at, shape_at, offset_at, SameAreas}
+use Rattle.bpf_maps.specs.Live.{LiveMaps, places_at, shape_at, offset_at, OnlyKeysChange}
 use Rattle.bpf_helpers.specs.inside.Below.{LawsBelow}
 use Rattle.bpf_helpers.specs.Layout.{Layout}
 use Rattle.bpf_helpers.specs.Stands.{HasObject, HasMap, MapsStandFor, StandsFor}
 use Rattle.bpf_helpers.specs.inside.Flat.{removal_word, Deletes}
 use Rattle.bpf_helpers.specs.inside.Laws.{DeletesStand}
 use Rattle.bpf_helpers.proofs.Outputs.{others_moved}
-use Rattle.bpf_helpers.proofs.Owned.{owns_without}
 use Rattle.bpf_helpers.proofs.Verdicts.{removal_found}
 use Rattle.bpf_helpers.proofs.Flags.{or_none}
 use Rattle.bpf_helpers.proofs.Moved.{maps_moved, maps_again, map_replaced}
@@ -30,10 +29,7 @@ table_kept t key p = ap (λ (n : ℕ). let m : Table ℕ = record { shape = t.sh
 
 -- ---- the map without the key
 
-module _ (below : LawsBelow) (l : Layout) (start : ℕ) (memory : List ℕ) (old new : LiveMaps) (k m : ℕ) (t : RunMap) (key : List ℕ) (p : ℕ) (h : HasMap l start memory old k m t) (found : look_up (table_of (places_at old k)) key ≡ Some p) (places : places_at new k ≡ with_kept (places_at old k) key p) (live : IsSome (live_at new k)) (areas : SameAreas old new) where
-  shape_stays : shape_at new k ≡ shape_at old k
-  shape_stays = ap (λ (x : PlaceTable). x.shape) places
-
+module _ (below : LawsBelow) (l : Layout) (start : ℕ) (memory : List ℕ) (old new : LiveMaps) (k m : ℕ) (t : RunMap) (key : List ℕ) (p : ℕ) (h : HasMap l start memory old k m t) (found : look_up (table_of (places_at old k)) key ≡ Some p) (places : places_at new k ≡ with_kept (places_at old k) key p) (rest : OnlyKeysChange k old new) where
   uses : (q : ℕ) → times q (values_of (places_at new k).entries) + times q (places_at new k).kept ≡ times q (values_of (places_at old k).entries) + times q (places_at old k).kept
   uses q = ap (λ (x : PlaceTable). times q (values_of x.entries) + times q x.kept) places ∙ below.deletes (places_at old k) key p q found
 
@@ -43,17 +39,17 @@ module _ (below : LawsBelow) (l : Layout) (start : ℕ) (memory : List ℕ) (old
   object_after : (number : ℕ) → number < t.count → HasObject l start memory new k m number (t.values number) (h.place number)
   object_after number lt =
       let o = h.objects number lt in
-      let off = below.areas old new k (h.place number) areas live in
+      let off = below.areas old new k (h.place number) rest.areas rest.live in
       record {
-        within = subst (λ (s : MapShape). h.place number < s.max_entries) (sym shape_stays) o.within;
+        within = subst (λ (s : MapShape). h.place number < s.max_entries) (sym rest.shape) o.within;
         in_use = let used = o.in_use in let same = uses (h.place number) in omega arith;
         address = o.address ∙ ap (λ (a : ℕ). base + (start + a)) (sym off);
-        bytes = ap (λ (a : ℕ). bytes_at memory (start + a) (shape_at new k).value_size) off ∙ ap (λ (s : MapShape). bytes_at memory (start + offset_at old k (h.place number)) s.value_size) shape_stays ∙ o.bytes;
+        bytes = ap (λ (a : ℕ). bytes_at memory (start + a) (shape_at new k).value_size) off ∙ ap (λ (s : MapShape). bytes_at memory (start + offset_at old k (h.place number)) s.value_size) rest.shape ∙ o.bytes;
       }
 
   pub map_without : HasMap l start memory new k m (without_key t key)
   map_without = record {
-    live = live;
+    live = rest.live;
     place = h.place;
     table = table_after;
     owns = owns_without t.count key t.table.entries h.owns;
@@ -88,7 +84,7 @@ module _ (below : LawsBelow) (l : Layout) (bind : List ℕ) (old : Memory) (t at
     words = stands.words;
     context = stands.context;
     maps = maps;
-    elsewhere = others_moved bind (part_start old t) old.bytes memory.bytes tenant new i (let count = stands.maps.count in let fits = slice_get_within l.maps i m named in omega arith) d.others stands.elsewhere;
+    elsewhere = others_moved bind (part_start old t) old.bytes memory.bytes tenant new i (let count = stands.maps.count in let fits = slice_get_within l.maps i m named in omega arith) d.rest.others stands.elsewhere;
     flag = d.flag ∙ stands.flag ∙ ap (λ b. l.refused || b) (or_none s.refused);
   }
 
@@ -96,7 +92,7 @@ module _ (below : LawsBelow) (l : Layout) (bind : List ℕ) (old : Memory) (t at
   unfolding Done
   done (Err fault) e c = (
     d.word_is ∙ ap removal_word c.0,
-    with_maps map (maps_again l bind (part_start old t) memory.bytes new s.maps m map is (maps_moved l bind (part_start old t) memory.bytes tenant new k d.live d.others d.areas d.laid below.areas s.maps c.1 stands.maps)),
+    with_maps map (maps_again l bind (part_start old t) memory.bytes new s.maps m map is (maps_moved l bind (part_start old t) memory.bytes tenant new k d.rest below.areas s.maps c.1 stands.maps)),
   )
   done (Ok number) e c =
       let there : look_up (table_of (places_at tenant k)) key ≡ Some (has.place number) =
@@ -104,8 +100,8 @@ module _ (below : LawsBelow) (l : Layout) (bind : List ℕ) (old : Memory) (t at
       (ap (λ (x : Table ℕ). removal x key) has.table ∙ below.along.removal has.place map.table key ∙ ap (result_map_both has.place (λ fault. fault)) e) in (
         d.word_is ∙ ap removal_word c.0,
         with_maps (without_key map key)
-            (map_replaced l bind (part_start old t) memory.bytes tenant new s.maps i m (without_key map key) stands.maps named d.live d.others d.areas d.laid
-            (map_without below l (part_start old t) memory.bytes tenant new k m map key (has.place number) has there c.1 d.live d.areas)),
+            (map_replaced l bind (part_start old t) memory.bytes tenant new s.maps i m (without_key map key) stands.maps named d.rest
+            (map_without below l (part_start old t) memory.bytes tenant new k m map key (has.place number) has there c.1 d.rest)),
       )
 
   pub delete_stands : (word ≡ (removed map key).answer) × StandsFor l bind old t at registers memory new (with_reply s m (removed map key))

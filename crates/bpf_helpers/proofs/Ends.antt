@@ -3,7 +3,7 @@ use Rattle.std.proofs.Common.{◌≡◌, ◌⊎◌, inl, inr, ℕ, zero, suc, �
 use Rattle.std.specs.Prelude.{slice_index, slice_index_or}
 use Rattle.std.specs.Map.{values_of}
 use Rattle.std.proofs.lemmas.Bool.{cond-true, ltb-true}
-use Rattle.interval.specs.Bytes.{bytes_at}
+use Rattle.words.specs.Bytes.{bytes_at}
 use Rattle.tagged_model.specs.Table.{Table, with_values}
 use Rattle.tagged_model.specs.Step.{numbered}
 use Rattle.tagged_model.specs.Admits.{KeysHaveObjects}

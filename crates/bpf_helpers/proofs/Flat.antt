@@ -1,29 +1,18 @@
 -- What the code of a look-up answers.
 use Rattle.std.proofs.Common.{◌≡◌, ℕ, ◌+◌, ◌-◌, ◌*◌, ◌<◌, ◌≤◌, List, length, take, drop, slice_range, Option, Some, sym, ap, ◌∙◌, arith}
-use Rattle.std.proofs.lemmas.Nat.{mul-le}
-use Rattle.interval.specs.Bytes.{bytes_at}
+use Rattle.words.specs.Bytes.{bytes_at}
+use Rattle.words.specs.ByteLaws.{bytes_within, range_is_bytes}
 use Rattle.tagged_model.specs.Cells.{also}
 use Rattle.tagged_model.specs.Table.{look_up}
 use Rattle.arena.specs.Memory.{Memory, size_of, part_start, part_bytes}
 use Rattle.bpf_maps.specs.Places.{table_of}
 use Rattle.bpf_maps.specs.Live.{LiveMaps, places_at, shape_at}
 use Rattle.bpf_helpers.specs.inside.Flat.{bound_map, part_place, part_input, value_word, flat_look_up}
-use Rattle.bpf_helpers.proofs.Inputs.{bytes_within}
-
-pub start_within : (m : Memory) (t : ℕ) → size_of m ≡ m.parts * m.part → t < m.parts → part_start m t ≤ length m.bytes
-start_within m t parts lt =
-    let below : t * m.part ≤ m.parts * m.part = mul-le t m.part m.parts m.part (omega arith) (omega arith) in
-    omega arith
 
 -- a range of a part
-pub part_range : (memory : Memory) (t at n : ℕ) (part : List ℕ) → part ≡ part_bytes memory t → length part ≡ memory.part → part_start memory t ≤ length memory.bytes → at + n ≤ memory.part
-    → slice_range part at (at + n) ≡ bytes_at memory.bytes (part_start memory t + at) n
-part_range memory t at n part is long from fits =
-    let few : at + n - at ≡ n = omega arith in
-    let whole : length (part_bytes memory t) ≡ memory.part = ap length (sym is) ∙ long in
-    ap (λ (k : ℕ). take k (drop at part)) few
-    ∙ ap (λ (x : List ℕ). bytes_at x at n) is
-    ∙ sym (bytes_within memory.bytes (part_start memory t) memory.part at n from (omega arith))
+pub part_range : (memory : Memory) (t at n : ℕ) (part : List ℕ) → part ≡ part_bytes memory t → at + n ≤ memory.part → slice_range part at (at + n) ≡ bytes_at memory.bytes (part_start memory t + at) n
+part_range memory t at n part is fits =
+    range_is_bytes part at n ∙ ap (λ (x : List ℕ). bytes_at x at n) is ∙ bytes_within memory.bytes (part_start memory t) memory.part at n fits
 
 module _ (memory : Memory) (t : ℕ) (tenant : LiveMaps) (bind : List ℕ) (map key k at n : ℕ) (bound : Some k ≡ bound_map bind map) (size : n ≡ (shape_at tenant k).key_size) (place : Some at ≡ part_place (part_start memory t) memory.part n key) where
   pub answers : (bytes : List ℕ) (o : Option ℕ) → bytes ≡ bytes_at memory.bytes (part_start memory t + at) n → o ≡ look_up (table_of (places_at tenant k)) bytes → flat_look_up memory t tenant bind map key ≡ Some (value_word memory t tenant k o)

@@ -3,7 +3,8 @@ use Rattle.std.proofs.Common.{◌≡◌, ◌≢◌, ℕ, ◌+◌, ◌-◌, ◌*�
 use Rattle.std.specs.Prelude.{slice_index, slice_set, ok_or}
 use Rattle.std.proofs.lemmas.Bool.{cond-false, ne_eqb, false≢true, and_parts, leb-true, eqb-true, eqb-false, cases_Bool}
 use Rattle.std.proofs.lemmas.Option.{same_Some, cond_some, slice_get-get_or, slice_get_within}
-use Rattle.interval.specs.Bytes.{bytes_at}
+use Rattle.words.specs.Bytes.{bytes_at}
+use Rattle.words.specs.ByteLaws.{length-bytes_at}
 use Rattle.tagged_model.specs.declared.helper.Helper.TheVariants.{LookUp, Update, Delete, LoadBytes}
 use Rattle.tagged_model.specs.declared.shape.MapShape.{MapShape}
 use Rattle.tagged_model.specs.declared.value.Tagged.{Tagged}
@@ -13,31 +14,29 @@ use Rattle.tagged_model.specs.Cells.{also}
 use Rattle.tagged_model.specs.State.{RunState, input}
 use Rattle.tagged_model.specs.Helpers.{GivenMap, map_argument, argument, number_given, with_reply, replies, returns, updated, removed, packet_bytes, packet_answer, called}
 use Rattle.arena.specs.Memory.{Memory, base, part_start, with_bytes}
+use Rattle.arena.specs.PartLaws.{part_within}
 use Rattle.bpf_helpers.specs.inside.Below.{LawsBelow}
-use Rattle.bpf_maps.specs.Live.{LiveMaps, LiveMap, live_at, live_or, shape_at, holds_at, SameAreas}
+use Rattle.bpf_maps.specs.Live.{LiveMaps, LiveMap, live_or, shape_at, holds_at, OnlyKeysChange}
+use Rattle.bpf_maps.specs.LiveLaws.{same_areas}
 use Rattle.bpf_helpers.specs.Layout.{Layout}
 use Rattle.bpf_helpers.specs.Stands.{IsRoom, StandsFor}
 use Rattle.bpf_helpers.specs.inside.Flat.{bound_map, part_place, part_input, flat_look_up, Updates, UpdatesBy, DeletesBy, LoadsBy}
 use Rattle.bpf_helpers.specs.Calls.{AreArguments, ResultFollows}
 use Rattle.bpf_helpers.specs.inside.Laws.{GivesWord, ReturnsStand}
-use Rattle.bpf_helpers.proofs.Bytes.{length-bytes_at}
 use Rattle.bpf_helpers.proofs.Many.{also_some}
-use Rattle.bpf_helpers.proofs.Inputs.{input_there, part_within}
+use Rattle.bpf_helpers.proofs.Inputs.{input_there}
 use Rattle.bpf_helpers.proofs.LookUps.{is_given, look_ups_follow}
 use Rattle.bpf_helpers.proofs.Loads.{number_word, load_stands}
 use Rattle.bpf_helpers.proofs.Wider.{extends_itself}
 use Rattle.bpf_helpers.proofs.Updates.{updates_stand}
 use Rattle.bpf_helpers.proofs.Deletes.{deletes_stand}
 
-same_areas : (tenant : LiveMaps) → SameAreas tenant tenant
-same_areas tenant k l e = (l, e, refl, refl, refl)
-
--- one map has the holds that it had, and the others are as they were
-same_holds : (old new : LiveMaps) (k : ℕ) → holds_at new k ≡ holds_at old k → ((other : ℕ) → other ≢ k → live_at new other ≡ live_at old other) → (key : ℕ) → holds_at new key ≡ holds_at old key
-same_holds old new k own others key =
+-- where only the keys of one map change, each map has the holds that it had
+same_holds : (old new : LiveMaps) (k : ℕ) → OnlyKeysChange k old new → (key : ℕ) → holds_at new key ≡ holds_at old key
+same_holds old new k rest key =
     ⊎_elim
-    (λ b. let same : k ≡ key = sym (eqb-true key k b) in subst (λ (x : ℕ). holds_at new x ≡ holds_at old x) same own)
-    (λ b. ap (λ (o : Option LiveMap). (live_or o).holds) (others key (eqb-false key k b)))
+    (λ b. let same : k ≡ key = sym (eqb-true key k b) in subst (λ (x : ℕ). holds_at new x ≡ holds_at old x) same rest.holds)
+    (λ b. ap (λ (o : Option LiveMap). (live_or o).holds) (rest.others key (eqb-false key k b)))
     (cases_Bool (eqb key k))
 
 -- the bytes that are read are as many as were asked for
@@ -55,7 +54,7 @@ input_long memory t n w bs fits e =
 module _ (l : Layout) (bind : List ℕ) (old : Memory) (t at : ℕ) (registers : List ℕ) (memory : Memory) (tenant : LiveMaps) (s : RunState) (room : IsRoom old t) (stands : StandsFor l bind old t at registers memory tenant s) (words : List ℕ) (args : AreArguments words registers) where
   part_fits : part_start memory t + memory.part ≤ length memory.bytes
   part_fits =
-      let within = part_within old t room in
+      let within = part_within old t room.is_part in
       let begin : part_start memory t ≡ part_start old t = ap (λ (n : ℕ). t * n) stands.changed.part in
       let size = stands.changed.size in
       let part = stands.changed.part in
@@ -159,9 +158,9 @@ module _ (l : Layout) (bind : List ℕ) (old : Memory) (t at : ℕ) (registers :
               word = r.0;
               answered = answered r.0 r.1;
               stands = returned st.layout bind old t at registers after new (with_reply s g.descriptor reply) (Scalar reply.answer) r.0 st.stands st.answer;
-              others = λ x away. r.2.others x (other_key m.index x m.within away);
-              areas = r.2.areas;
-              holds = same_holds tenant new k r.2.holds r.2.others;
+              others = λ x away. r.2.rest.others x (other_key m.index x m.within away);
+              areas = r.2.rest.areas;
+              holds = same_holds tenant new k r.2.rest;
             }
 
     pub delete_followed : (new : LiveMaps) (u : RunState) → DeletesBy memory t tenant bind (slice_index words 0) (slice_index words 1) o new → called false Delete s ≡ Some u → ResultFollows l bind old t at registers tenant s Delete answer memory new
@@ -186,9 +185,9 @@ module _ (l : Layout) (bind : List ℕ) (old : Memory) (t at : ℕ) (registers :
           answered = answered r.0 r.1;
           stands = subst (λ (x : RunState). StandsFor l bind old t at (slice_set registers 0 r.0) memory new x) (same_Some (replies s g.descriptor reply) u b.2)
               (returned l bind old t at registers memory new (with_reply s g.descriptor reply) (Scalar reply.answer) r.0 st.1 st.0);
-          others = λ x away. r.2.others x (other_key m.index x m.within away);
-          areas = r.2.areas;
-          holds = same_holds tenant new k r.2.holds r.2.others;
+          others = λ x away. r.2.rest.others x (other_key m.index x m.within away);
+          areas = r.2.rest.areas;
+          holds = same_holds tenant new k r.2.rest;
         }
 
     pub load_followed : (packet : List ℕ) → s.packet ≡ packet → (after : Memory) (u : RunState) → LoadsBy memory t packet (slice_index words 1) (slice_index words 2) (slice_index words 3) o after → called false LoadBytes s ≡ Some u → ResultFollows l bind old t at registers tenant s LoadBytes answer after tenant

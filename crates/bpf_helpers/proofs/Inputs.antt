@@ -7,44 +7,25 @@ use Rattle.std.proofs.lemmas.Int.{ints}
 use Rattle.std.proofs.lemmas.Nat.{mul-le}
 use Rattle.std.proofs.lemmas.Option.{none-some, same_Some, cond_some}
 use Rattle.std.proofs.lemmas.List.{length-take, length-drop}
-use Rattle.interval.specs.Bytes.{bytes_at}
+use Rattle.words.specs.Bytes.{bytes_at}
+use Rattle.words.specs.ByteLaws.{bytes_within}
 use Rattle.reg_kinds.specs.Stack.{is_in_stack, place}
+use Rattle.reg_kinds.specs.StackLaws.{in_stack}
 use Rattle.tagged_model.specs.declared.value.Object.TheVariants as object
 use Rattle.tagged_model.specs.declared.value.Tagged.{Tagged}
 use Rattle.tagged_model.specs.declared.value.Tagged.TheVariants.{Pointer}
 use Rattle.tagged_model.specs.Cells.{also, gathered}
 use Rattle.tagged_model.specs.State.{RunState, RunMap, stack_byte, stack_bytes, value_bytes, object_bytes, input}
 use Rattle.arena.specs.Memory.{Memory, base, size_of, part_start}
+use Rattle.arena.specs.PartLaws.{part_within}
 use Rattle.bpf_maps.specs.declared.part.TheConstants.{PART}
 use Rattle.bpf_maps.specs.Live.{LiveMaps, LiveMap, live_at, live_or, shape_at, offset, offset_at, LiesInPart, IsLaid}
 use Rattle.bpf_helpers.specs.Layout.{Layout, IsWord}
 use Rattle.bpf_helpers.specs.Stands.{IsRoom, HasObject, MapsStandFor, StandsFor}
 use Rattle.bpf_helpers.specs.inside.Flat.{part_place, part_input}
-use Rattle.bpf_helpers.proofs.Bytes.{byte_of, bytes_are}
-use Rattle.bpf_helpers.proofs.Many.{also_some, in_stack, bytes_there}
-
--- ---- bytes of bytes
-
-pub bytes_within : (memory : List ℕ) (p size y n : ℕ) → p ≤ length memory → y + n ≤ length (bytes_at memory p size) → bytes_at memory (p + y) n ≡ bytes_at (bytes_at memory p size) y n
-bytes_within memory p size y n from h =
-    let inner = bytes_at memory p size in
-    let long : length (bytes_at inner y n) ≡ n = omega (arith, length-take n (drop y inner), length-drop y inner) in
-    let few : y + n ≤ size = omega (arith, length-take size (drop p memory)) in
-    let room : p + y + n ≤ length memory = omega (arith, length-take size (drop p memory), length-drop p memory) in
-    bytes_are memory (bytes_at inner y n) (p + y) n long room
-    (λ k lt.
-    let at : p + y + k ≡ p + (y + k) = omega arith in
-    ap (λ (q : ℕ). get_or memory q 0) at ∙ sym (byte_of inner y n k lt ∙ byte_of memory p size (y + k) (omega arith)))
+use Rattle.bpf_helpers.proofs.Many.{also_some, bytes_there}
 
 -- ---- parts
-
-module _ (old : Memory) (t : ℕ) (room : IsRoom old t) where
-  pub part_within : part_start old t + old.part ≤ size_of old
-  part_within =
-      let below : suc t * old.part ≤ old.parts * old.part = mul-le (suc t) old.part old.parts old.part room.is_part.1 (omega arith) in
-      let next : suc t * old.part ≡ t * old.part + old.part = omega arith in
-      let size = room.is_part.0 in
-      omega arith
 
 pub part_place_is : (start part n address at : ℕ) → address ≡ base + (start + at) → at + n ≤ part → part_place start part n address ≡ Some at
 part_place_is start part n address at e h =
@@ -108,7 +89,7 @@ module _ (l : Layout) (bind : List ℕ) (old : Memory) (t at : ℕ) (registers :
       ∙ ap (λ (a : ℕ). Some (bytes_at memory.bytes (a + q) n)) start_same ∙ ap (λ (x : List ℕ). Some x) same
 
   pub memory_long : part_start old t + PART ≤ length memory.bytes
-  memory_long = let within = part_within old t room in let size = stands.changed.size in let part = room.room in omega arith
+  memory_long = let within = part_within old t room.is_part in let size = stands.changed.size in let part = room.room in omega arith
 
   stack_there : (x : ℤ) (w n : ℕ) (bs : List ℕ) → pos w ≡ pos l.front +ℤ x → stack_bytes s x n ≡ Some bs → part_input memory t n w ≡ Some bs
   stack_there x w n bs h e =
@@ -145,7 +126,7 @@ module _ (l : Layout) (bind : List ℕ) (old : Memory) (t at : ℕ) (registers :
       let whole = memory_long in
       let at : part_start old t + off + y ≡ part_start old t + (off + y) = omega arith in
       there w n (off + y) bs (omega (arith, ints)) (omega arith)
-      (ap (λ (p : ℕ). bytes_at memory.bytes p n) (sym at) ∙ bytes_within memory.bytes (part_start old t + off) size y n (omega arith) (omega arith) ∙ ap (λ (v : List ℕ). bytes_at v y n) is ∙ c.1)
+      (ap (λ (p : ℕ). bytes_at memory.bytes p n) (sym at) ∙ sym (bytes_within memory.bytes (part_start old t + off) size y n (omega arith)) ∙ ap (λ (v : List ℕ). bytes_at v y n) is ∙ c.1)
 
   pub input_there : (p : Tagged) (w n : ℕ) (bs : List ℕ) → IsWord l p w → input s p n ≡ Some bs → part_input memory t n w ≡ Some bs
   input_there (Pointer object.Stack x) w n bs h e = stack_there x w n bs h.0 e

@@ -1,4 +1,3 @@
-pub mod Bytes
 pub mod Many
 pub mod Inputs
 pub mod LookUps

@@ -4,7 +4,8 @@ use Rattle.std.specs.Prelude.{slice_index}
 use Rattle.std.proofs.lemmas.Bool.{cond_both, and_parts, leb-true}
 use Rattle.std.proofs.lemmas.Option.{none-some, same_Some}
 use Rattle.std.proofs.lemmas.List.{length-replicate}
-use Rattle.interval.specs.Bytes.{bytes_at}
+use Rattle.words.specs.Bytes.{bytes_at}
+use Rattle.words.specs.ByteLaws.{length-bytes_at}
 use Rattle.tagged_model.specs.declared.helper.Helper.TheVariants.{LoadBytes}
 use Rattle.tagged_model.specs.declared.value.Tagged.{Tagged}
 use Rattle.tagged_model.specs.declared.value.Tagged.TheVariants.{Scalar, Map, Pointer}
@@ -18,7 +19,6 @@ use Rattle.bpf_helpers.specs.Layout.{Layout, IsWord}
 use Rattle.bpf_helpers.specs.Stands.{IsRoom, StandsFor}
 use Rattle.bpf_helpers.specs.inside.Flat.{part_place}
 use Rattle.bpf_helpers.specs.inside.Laws.{LoadStands}
-use Rattle.bpf_helpers.proofs.Bytes.{length-bytes_at}
 use Rattle.bpf_helpers.proofs.Many.{also_some}
 use Rattle.bpf_helpers.proofs.Outputs.{outputs_stand}
 

@@ -12,6 +12,7 @@ use Rattle.tagged_model.specs.Table.{Table, look_up}
 use Rattle.tagged_model.specs.Cells.{also}
 use Rattle.tagged_model.specs.State.{RunState, RunMap, input}
 use Rattle.tagged_model.specs.Helpers.{GivenMap, map_given, argument, map_argument, looked_up, called, returns}
+use Rattle.tagged_model.specs.StateLaws.{found_owned}
 use Rattle.arena.specs.Memory.{Memory, part_start}
 use Rattle.bpf_maps.specs.Places.{table_of}
 use Rattle.bpf_maps.specs.Live.{LiveMaps, places_at, shape_at}
@@ -22,7 +23,6 @@ use Rattle.bpf_helpers.specs.inside.Flat.{bound_map, part_input, value_word, fla
 use Rattle.bpf_helpers.specs.inside.Laws.{GivesWord, LookUpsFollow}
 use Rattle.bpf_helpers.proofs.Many.{also_some}
 use Rattle.bpf_helpers.proofs.Inputs.{input_there}
-use Rattle.bpf_helpers.proofs.Owned.{found_owned}
 
 -- ---- arguments
 

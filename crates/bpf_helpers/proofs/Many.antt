@@ -3,15 +3,16 @@ use Rattle.std.proofs.Common.{◌≡◌, ◌⊎◌, inl, inr, ℕ, zero, suc, �
 use Rattle.std.proofs.lemmas.Bool.{cond_both, and_parts, and_cases, ltb-true, ltb-false, leb-true, leb-false}
 use Rattle.std.proofs.lemmas.Int.{ints}
 use Rattle.std.proofs.lemmas.Option.{none-some, same_Some, cond_some, get_or_from_slice_get}
-use Rattle.interval.specs.Bytes.{number_of, written_at}
+use Rattle.words.specs.Bytes.{number_of, written_at}
+use Rattle.words.specs.ByteLaws.{written_in, written_out, bytes_are, bytes_stay}
 use Rattle.reg_kinds.specs.Stack.{is_in_stack, place}
 use Rattle.reg_kinds.specs.Many.{touches}
+use Rattle.reg_kinds.specs.StackLaws.{in_stack}
 use Rattle.tagged_model.specs.declared.value.Tagged.{Tagged}
 use Rattle.tagged_model.specs.Cells.{Cell, holds, bytes, also, byte_at, gathered, cell_over}
 use Rattle.tagged_model.specs.State.{RunState, with_cells, stack_byte}
 use Rattle.bpf_helpers.specs.Layout.{Layout, IsWord, HasCell, HasStack}
 use Rattle.bpf_helpers.specs.inside.Laws.{StackBytesAreThere, StackBytesAreWritten}
-use Rattle.bpf_helpers.proofs.Bytes.{written_in, written_out, bytes_are, bytes_stay}
 
 pub also_some : {A B : Type 0} (o : Option A) (f : A → Option B) (y : B) → also o f ≡ Some y → (x : A) × (o ≡ Some x) × (f x ≡ Some y)
 also_some None f y e = absurd (none-some y e)
@@ -38,24 +39,6 @@ are_from byte (suc n) p list e =
     let a = also_some (byte p) (λ b. also (gathered byte (suc p) n) (λ bs. Some (b ∷ bs))) list e in
     let r = also_some (gathered byte (suc p) n) (λ bs. Some (a.0 ∷ bs)) list a.2 in
     subst (AreFrom byte p (suc n)) (same_Some (a.0 ∷ r.0) list r.2) (one_more byte p n a.0 r.0 a.1 (are_from byte n (suc p) r.0 r.1))
-
--- ---- places
-
-pub in_stack : (n : ℕ) (y : ℤ) → is_in_stack y n ≡ true → (pos (place y) ≡ pos 512 +ℤ y) × (place y + n ≤ 512)
-in_stack n (pos y) h =
-    let a = and_parts (int_le (negsuc 511) (pos y)) (int_le (pos y +ℤ pos n) (pos 0)) h in
-    let p = a.1 in
-    let high : (pos y +ℤ pos n) ≤ℤ pos 0 = grind (arith, ints) in
-    (omega (arith, ints), omega (arith, ints))
-in_stack n (negsuc y) h =
-    let a = and_parts (int_le (negsuc 511) (negsuc y)) (int_le (negsuc y +ℤ pos n) (pos 0)) h in
-    let p = a.0 in
-    let r = a.1 in
-    let low : negsuc 511 ≤ℤ negsuc y = grind (arith, ints) in
-    let high : (negsuc y +ℤ pos n) ≤ℤ pos 0 = grind (arith, ints) in
-    let above : negsuc y +ℤ pos 512 ≡ pos (511 - y) = omega (arith, ints) in
-    let same : place (negsuc y) ≡ 511 - y = ap unsigned_abs above in
-    (omega (arith, ints), omega (arith, ints))
 
 -- ---- reading
 
@@ -86,7 +69,7 @@ module _ (l : Layout) (memory : List ℕ) (start : ℕ) (fits : start + 512 ≤ 
   cell_stays i c lt away has =
       record {
         present = λ j b few e. written_out memory new (start + p) (start + 8 * i + j) (omega arith) (apart j few away) ∙ has.present j b few e;
-        whole = λ v e. subst (λ (list : List ℕ). IsWord l v (number_of list)) (sym (bytes_stay memory new (start + p) (start + 8 * i) 8 (omega arith) (omega arith) (beside away))) (has.whole v e);
+        whole = λ v e. subst (λ (list : List ℕ). IsWord l v (number_of list)) (sym (bytes_stay memory new (start + p) (start + 8 * i) 8 (omega arith) (beside away))) (has.whole v e);
       }
     where
       apart : (j : ℕ) → j < 8 → (8 * i + 8 ≤ p) ⊎ (p + length new ≤ 8 * i) → (start + 8 * i + j < start + p) ⊎ (start + p + length new ≤ start + 8 * i + j)

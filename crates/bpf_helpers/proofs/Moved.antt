@@ -5,11 +5,11 @@ use Rattle.std.specs.Option.{IsSome}
 use Rattle.std.specs.Map.{values_of}
 use Rattle.std.proofs.lemmas.Bool.{cond_both, eqb-true, eqb-false, cases_Bool}
 use Rattle.std.proofs.lemmas.Option.{same_Some, slice_get_within}
-use Rattle.interval.specs.Bytes.{bytes_at}
+use Rattle.words.specs.Bytes.{bytes_at}
 use Rattle.tagged_model.specs.State.{RunMap, set_at}
 use Rattle.arena.specs.Memory.{base}
 use Rattle.bpf_maps.specs.Places.{PlaceTable, table_of, times}
-use Rattle.bpf_maps.specs.Live.{LiveMaps, LiveMap, live_at, live_or, places_at, shape_at, offset, offset_at, SameAreas, IsLaid}
+use Rattle.bpf_maps.specs.Live.{LiveMaps, LiveMap, live_at, live_or, places_at, shape_at, offset, offset_at, OnlyKeysChange}
 use Rattle.bpf_maps.specs.Laws.{AreasKeepPlaces}
 use Rattle.bpf_helpers.specs.Layout.{Layout}
 use Rattle.bpf_helpers.specs.Stands.{HasMap, MapsStandFor}
@@ -50,10 +50,10 @@ live_offsets : (old new : LiveMaps) (k p : ℕ) → live_at new k ≡ live_at ol
 live_offsets old new k p e = ap (λ (o : Option LiveMap). offset (live_or o) p) e
 
 -- the maps other than the one under key k are as they were, and so are the places of this one
-module _ (l : Layout) (bind : List ℕ) (start : ℕ) (memory : List ℕ) (old new : LiveMaps) (k : ℕ) (live : IsSome (live_at new k)) (others : (other : ℕ) → other ≢ k → live_at new other ≡ live_at old other) (areas : SameAreas old new) (laid : IsLaid new) where
+module _ (l : Layout) (bind : List ℕ) (start : ℕ) (memory : List ℕ) (old new : LiveMaps) (k : ℕ) (rest : OnlyKeysChange k old new) where
   pub other_moved : (j n : ℕ) (u : RunMap) → j ≢ k → HasMap l start memory old j n u → HasMap l start memory new j n u
   other_moved j n u differ h =
-      map_moved l start memory old new j n u (live_places old new j (others j differ)) (λ p. live_offsets old new j p (others j differ)) (subst IsSome (sym (others j differ)) h.live) h
+      map_moved l start memory old new j n u (live_places old new j (rest.others j differ)) (λ p. live_offsets old new j p (rest.others j differ)) (subst IsSome (sym (rest.others j differ)) h.live) h
 
   pub maps_moved : AreasKeepPlaces → (maps : ℕ → Option RunMap) → places_at new k ≡ places_at old k → MapsStandFor l bind start memory old maps → MapsStandFor l bind start memory new maps
   maps_moved keep maps places has = record {
@@ -63,14 +63,14 @@ module _ (l : Layout) (bind : List ℕ) (start : ℕ) (memory : List ℕ) (old n
       g.1,
       ⊎_elim
           (λ b. let same : slice_index bind i ≡ k = eqb-true (slice_index bind i) k b in
-          subst (λ (j : ℕ). HasMap l start memory new j m g.0) (sym same) (map_moved l start memory old new k m g.0 places (λ p. keep old new k p areas live) live (subst (λ (j : ℕ). HasMap l start memory old j m g.0) same g.2)))
+          subst (λ (j : ℕ). HasMap l start memory new j m g.0) (sym same) (map_moved l start memory old new k m g.0 places (λ p. keep old new k p rest.areas rest.live) rest.live (subst (λ (j : ℕ). HasMap l start memory old j m g.0) same g.2)))
           (λ b. other_moved (slice_index bind i) m g.0 (eqb-false (slice_index bind i) k b) g.2)
           (cases_Bool (eqb (slice_index bind i) k)),
     );
     listed = has.listed;
     keys = has.keys;
     names = has.names;
-    laid = laid;
+    laid = rest.laid;
   }
 
 -- the same map again
@@ -88,8 +88,8 @@ maps_again l bind start memory tenant maps m t is has = record {
 }
 
 -- one map is another
-module _ (l : Layout) (bind : List ℕ) (start : ℕ) (memory : List ℕ) (old new : LiveMaps) (maps : ℕ → Option RunMap) (i m : ℕ) (t : RunMap) (has : MapsStandFor l bind start memory old maps) (named : slice_get l.maps i ≡ Some m) (live : IsSome (live_at new (slice_index bind i)))
-    (others : (other : ℕ) → other ≢ slice_index bind i → live_at new other ≡ live_at old other) (areas : SameAreas old new) (laid : IsLaid new) (own : HasMap l start memory new (slice_index bind i) m t) where
+module _ (l : Layout) (bind : List ℕ) (start : ℕ) (memory : List ℕ) (old new : LiveMaps) (maps : ℕ → Option RunMap) (i m : ℕ) (t : RunMap) (has : MapsStandFor l bind start memory old maps) (named : slice_get l.maps i ≡ Some m)
+    (rest : OnlyKeysChange (slice_index bind i) old new) (own : HasMap l start memory new (slice_index bind i) m t) where
   pub map_replaced : MapsStandFor l bind start memory new (set_at maps m (Some t))
   map_replaced = record {
     count = has.count;
@@ -97,9 +97,9 @@ module _ (l : Layout) (bind : List ℕ) (start : ℕ) (memory : List ℕ) (old n
         cond_both (n == m) (Some t) (maps n) (λ o. (v : RunMap) × (o ≡ Some v) × HasMap l start memory new (slice_index bind j) n v)
         (λ b. let same : m ≡ n = sym (eqb-true n m b) in let one : i ≡ j = has.names i j m named (e ∙ ap (λ (x : ℕ). Some x) (sym same)) in
         (t, refl, subst (λ (x : ℕ). HasMap l start memory new (slice_index bind x) n t) one (subst (λ (x : ℕ). HasMap l start memory new (slice_index bind i) x t) same own)))
-        (λ b. (g.0, g.1, other_moved l bind start memory old new (slice_index bind i) live others areas laid (slice_index bind j) n g.0 (other_key l bind start memory old maps has i m j n named e (eqb-false n m b)) g.2));
+        (λ b. (g.0, g.1, other_moved l bind start memory old new (slice_index bind i) rest (slice_index bind j) n g.0 (other_key l bind start memory old maps has i m j n named e (eqb-false n m b)) g.2));
     listed = has.listed;
     keys = has.keys;
     names = has.names;
-    laid = laid;
+    laid = rest.laid;
   }

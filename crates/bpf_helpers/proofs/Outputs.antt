@@ -6,8 +6,10 @@ use Rattle.std.proofs.lemmas.Bool.{cond_both, eqb-true, eqb-false, leb-true, fal
 use Rattle.std.proofs.lemmas.Int.{ints}
 use Rattle.std.proofs.lemmas.Option.{none-some, same_Some, cond_some, slice_get_within}
 use Rattle.std.proofs.lemmas.List.{length-take}
-use Rattle.interval.specs.Bytes.{number_of, bytes_at, written_at}
+use Rattle.words.specs.Bytes.{number_of, bytes_at, written_at}
+use Rattle.words.specs.ByteLaws.{written_out, length-written_at, bytes_stay, over_within}
 use Rattle.reg_kinds.specs.Stack.{is_in_stack, place}
+use Rattle.reg_kinds.specs.StackLaws.{in_stack}
 use Rattle.tagged_model.specs.declared.value.Object.TheVariants as object
 use Rattle.tagged_model.specs.declared.value.Tagged.{Tagged}
 use Rattle.tagged_model.specs.declared.value.Tagged.TheVariants.{Pointer}
@@ -17,13 +19,11 @@ use Rattle.arena.specs.Memory.{Memory, base, part_start, with_bytes}
 use Rattle.arena.specs.Apart.{IsPart, WritesStayInside}
 use Rattle.bpf_maps.specs.declared.part.TheConstants.{PART}
 use Rattle.bpf_maps.specs.Live.{LiveMaps, LiveMap, live_at, live_or, shape_at, offset, offset_at, LiesInPart, IsLaid}
-use Rattle.arena.proofs.Within.{over_within}
 use Rattle.bpf_helpers.specs.Layout.{Layout, IsWord, HasCell, HasStack, HasWords}
 use Rattle.bpf_helpers.specs.Stands.{top, IsRoom, IsOnlyChanged, HasObject, HasMap, MapsStandFor, KeepsUnboundValues, StandsFor}
 use Rattle.bpf_helpers.specs.inside.Flat.{part_place}
 use Rattle.bpf_helpers.specs.inside.Laws.{OutputsStand}
-use Rattle.bpf_helpers.proofs.Bytes.{written_out, length-written_at, bytes_stay}
-use Rattle.bpf_helpers.proofs.Many.{also_some, in_stack, bytes_over}
+use Rattle.bpf_helpers.proofs.Many.{also_some, bytes_over}
 use Rattle.bpf_helpers.proofs.Inputs.{part_place_is, laid_inside, start_same, memory_long}
 
 -- ---- what is apart from what is written stays
@@ -32,32 +32,32 @@ module _ (l : Layout) (memory new : List ℕ) (from : ℕ) (fits : from + length
   abbrev IsApart : ℕ → ℕ → Type 0
   IsApart place n = (place + n ≤ from) ⊎ (from + length new ≤ place)
 
-  pub cell_kept : (at : ℕ) (c : Cell) → at + 8 ≤ length memory → IsApart at 8 → HasCell l memory at c → HasCell l (written_at memory from new) at c
-  cell_kept at c room away has =
+  pub cell_kept : (at : ℕ) (c : Cell) → IsApart at 8 → HasCell l memory at c → HasCell l (written_at memory from new) at c
+  cell_kept at c away has =
       record {
         present = λ j b few e. written_out memory new from (at + j) (omega arith) (apart j few away) ∙ has.present j b few e;
-        whole = λ v e. subst (λ (list : List ℕ). IsWord l v (number_of list)) (sym (bytes_stay memory new from at 8 fits room away)) (has.whole v e);
+        whole = λ v e. subst (λ (list : List ℕ). IsWord l v (number_of list)) (sym (bytes_stay memory new from at 8 fits away)) (has.whole v e);
       }
     where
       apart : (j : ℕ) → j < 8 → IsApart at 8 → (at + j < from) ⊎ (from + length new ≤ at + j)
       apart j few (inl below) = inl (omega arith)
       apart j few (inr above) = inr (omega arith)
 
-  pub words_kept : (at : ℕ) (words : List ℕ) → at + 44 ≤ length memory → IsApart at 44 → HasWords memory at words → HasWords (written_at memory from new) at words
-  words_kept at words room away has k lt = ap number_of (bytes_stay memory new from (at + 4 * k) 4 fits (omega arith) (apart away)) ∙ has k lt
+  pub words_kept : (at : ℕ) (words : List ℕ) → IsApart at 44 → HasWords memory at words → HasWords (written_at memory from new) at words
+  words_kept at words away has k lt = ap number_of (bytes_stay memory new from (at + 4 * k) 4 fits (apart away)) ∙ has k lt
     where
       apart : IsApart at 44 → IsApart (at + 4 * k) 4
       apart (inl below) = inl (omega arith)
       apart (inr above) = inr (omega arith)
 
-  pub object_kept : (start : ℕ) (tenant : LiveMaps) (key m number : ℕ) (value : List ℕ) (place : ℕ) → start + offset_at tenant key place + (shape_at tenant key).value_size ≤ length memory → IsApart (start + offset_at tenant key place) (shape_at tenant key).value_size
+  pub object_kept : (start : ℕ) (tenant : LiveMaps) (key m number : ℕ) (value : List ℕ) (place : ℕ) → IsApart (start + offset_at tenant key place) (shape_at tenant key).value_size
       → HasObject l start memory tenant key m number value place → HasObject l start (written_at memory from new) tenant key m number value place
-  object_kept start tenant key m number value place room away has =
+  object_kept start tenant key m number value place away has =
       record {
         within = has.within;
         in_use = has.in_use;
         address = has.address;
-        bytes = bytes_stay memory new from (start + offset_at tenant key place) (shape_at tenant key).value_size fits room away ∙ has.bytes;
+        bytes = bytes_stay memory new from (start + offset_at tenant key place) (shape_at tenant key).value_size fits away ∙ has.bytes;
       }
 
 -- ---- the values of maps lie apart
@@ -91,7 +91,7 @@ module _ (l : Layout) (bind : List ℕ) (start : ℕ) (memory new : List ℕ) (t
             let o = h.objects number lt in
             let is = laid_inside tenant has.laid key (h.place number) h.live o.within in
             let within = is.within in let behind = is.behind in
-            object_kept l memory new (start + q) (omega arith) start tenant key m number (t.values number) (h.place number) (omega arith) (inr (omega arith)) o;
+            object_kept l memory new (start + q) (omega arith) start tenant key m number (t.values number) (h.place number) (inr (omega arith)) o;
         apart = h.apart;
       }
 
@@ -136,7 +136,7 @@ module _ (l : Layout) (bind : List ℕ) (start : ℕ) (memory new : List ℕ) (t
         let q = laid_inside tenant has.laid other p live o.within in
         let within = q.within in
         let mine = inside.within in
-        object_kept l memory new (start + (off + y)) fits start tenant other n k value p (omega arith)
+        object_kept l memory new (start + (off + y)) fits start tenant other n k value p
         (⊎_elim (λ below. inl (omega arith)) (λ above. inr (omega arith)) (laid_apart tenant has.laid other p key (h.place number) live h.live o.within (h.objects number lt).within differ)) o
 
     own_after : HasMap l start after tenant key m (with_value t number (written_at (t.values number) y new))
@@ -195,7 +195,7 @@ module _ (bind : List ℕ) (start : ℕ) (old memory new : List ℕ) (tenant : L
   others_behind q low key p away live lt =
       let is = laid_inside tenant laid key p live lt in
       let within = is.within in let behind = is.behind in
-      bytes_stay memory new (start + q) (start + offset_at tenant key p) (shape_at tenant key).value_size (omega arith) (omega arith) (inr (omega arith)) ∙ has key p away live lt
+      bytes_stay memory new (start + q) (start + offset_at tenant key p) (shape_at tenant key).value_size (omega arith) (inr (omega arith)) ∙ has key p away live lt
 
   -- a place of a map that it names is written
   pub others_over : (i at y : ℕ) → i < length bind → IsSome (live_at tenant (slice_index bind i)) → at < (shape_at tenant (slice_index bind i)).max_entries → y + length new ≤ (shape_at tenant (slice_index bind i)).value_size
@@ -204,7 +204,7 @@ module _ (bind : List ℕ) (start : ℕ) (old memory new : List ℕ) (tenant : L
       let is = laid_inside tenant laid key p there few in
       let mine = laid_inside tenant laid (slice_index bind i) at live lt in
       let a = is.within in let b = mine.within in
-      bytes_stay memory new (start + (offset_at tenant (slice_index bind i) at + y)) (start + offset_at tenant key p) (shape_at tenant key).value_size (omega arith) (omega arith)
+      bytes_stay memory new (start + (offset_at tenant (slice_index bind i) at + y)) (start + offset_at tenant key p) (shape_at tenant key).value_size (omega arith)
       (⊎_elim (λ below. inl (omega arith)) (λ above. inr (omega arith)) (laid_apart tenant laid key p (slice_index bind i) at there live few lt (λ same. absurd (away i within (sym same)))))
       ∙ has key p away there few
 
@@ -268,7 +268,7 @@ module _ (writes : WritesStayInside) (l : Layout) (bind : List ℕ) (old : Memor
         values = stands.values;
         stack = cells;
         words = stands.words;
-        context = words_kept l memory.bytes bs (start + place x) (omega arith) (top old t) s.words (omega arith) (inr (omega arith)) stands.context;
+        context = words_kept l memory.bytes bs (start + place x) (omega arith) (top old t) s.words (inr (omega arith)) stands.context;
         maps = maps_behind l bind start memory.bytes bs tenant s.maps stands.maps long (place x) within;
         elsewhere = others_behind bind start old.bytes memory.bytes bs tenant stands.maps.laid long stands.elsewhere (place x) within;
         flag = stands.flag;
@@ -312,9 +312,9 @@ module _ (writes : WritesStayInside) (l : Layout) (bind : List ℕ) (old : Memor
         changed = changed_after (off + y) bs (omega arith);
         front = stands.front;
         values = stands.values;
-        stack = λ k few. cell_kept l memory.bytes bs (start + (off + y)) (omega arith) (start + 8 * k) (s.cells k) (omega arith) (inl (omega arith)) (stands.stack k few);
+        stack = λ k few. cell_kept l memory.bytes bs (start + (off + y)) (omega arith) (start + 8 * k) (s.cells k) (inl (omega arith)) (stands.stack k few);
         words = stands.words;
-        context = words_kept l memory.bytes bs (start + (off + y)) (omega arith) (top old t) s.words (omega arith) (inl (omega arith)) stands.context;
+        context = words_kept l memory.bytes bs (start + (off + y)) (omega arith) (top old t) s.words (inl (omega arith)) stands.context;
         maps = maps_over l bind start memory.bytes bs tenant s.maps stands.maps long m number g.0 g.1 i listed.1 g.2 lt y small;
         elsewhere = let count = stands.maps.count in let fits = slice_get_within l.maps i m listed.1 in others_over bind start old.bytes memory.bytes bs tenant stands.maps.laid long stands.elsewhere i (g.2.place number) y (omega arith) g.2.live o.within small;
         flag = stands.flag;

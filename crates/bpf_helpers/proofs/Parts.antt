@@ -2,7 +2,7 @@
 use Rattle.std.proofs.Common.{◌≡◌, ℕ, suc, ◌+◌, ◌-◌, ◌*◌, ◌<◌, ◌≤◌, List, ◌++◌, length, take, drop, ap, ◌∙◌, arith}
 use Rattle.std.proofs.lemmas.Nat.{mul-le}
 use Rattle.std.proofs.lemmas.List.{length-take, length-drop, drop-drop}
-use Rattle.interval.specs.Bytes.{written_at}
+use Rattle.words.specs.Bytes.{written_at}
 use Rattle.arena.specs.Memory.{Memory, size_of, part_start, part_bytes, with_bytes, with_part}
 use Rattle.arena.specs.Apart.{WritesAreInParts}
 

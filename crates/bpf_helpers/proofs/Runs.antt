@@ -6,7 +6,8 @@ use Rattle.std.specs.Map.{values_of}
 use Rattle.std.proofs.lemmas.Bool.{eqb-true, eqb-false}
 use Rattle.std.proofs.lemmas.Int.{ints}
 use Rattle.std.proofs.lemmas.Option.{none-some, same_Some, slice_get_within}
-use Rattle.interval.specs.Bytes.{bytes_at}
+use Rattle.words.specs.Bytes.{bytes_at}
+use Rattle.words.specs.ByteLaws.{bytes_within}
 use Rattle.tagged_model.specs.declared.shape.MapShape.{MapShape}
 use Rattle.tagged_model.specs.declared.value.Object.TheVariants as object
 use Rattle.tagged_model.specs.declared.value.Tagged.{Tagged}
@@ -15,6 +16,7 @@ use Rattle.tagged_model.specs.Cells.{holds, bytes}
 use Rattle.tagged_model.specs.State.{RunState}
 use Rattle.tagged_model.specs.Step.{MapsByDescriptor, begins_with, begin, first_map, last_map}
 use Rattle.arena.specs.Memory.{Memory, base, size_of, part_start, part_bytes}
+use Rattle.arena.specs.PartLaws.{part_within}
 use Rattle.bpf_maps.specs.declared.part.TheConstants.{PART}
 use Rattle.bpf_maps.specs.Places.{PlaceTable, after_run}
 use Rattle.bpf_maps.specs.Live.{LiveMaps, live_at, places_at, shape_at, offset_at, value_in, map_in, SameAreas}
@@ -22,8 +24,7 @@ use Rattle.bpf_maps.specs.Laws.{AreasKeepPlaces}
 use Rattle.bpf_helpers.specs.Layout.{Layout, IsWord}
 use Rattle.bpf_helpers.specs.Stands.{top, IsRoom, HasMap, StandsFor}
 use Rattle.bpf_helpers.specs.Runs.{AreReady, HasContext, first_registers, RunBeginsWith, RunsBegin, RunsEnd, OthersStay}
-use Rattle.bpf_helpers.proofs.Bytes.{length-bytes_at}
-use Rattle.bpf_helpers.proofs.Inputs.{bytes_within, part_within, laid_inside}
+use Rattle.bpf_helpers.proofs.Inputs.{laid_inside}
 use Rattle.bpf_helpers.proofs.Ends.{maps_begin, maps_end}
 use Rattle.bpf_helpers.proofs.Flags.{or_none}
 
@@ -63,11 +64,9 @@ module _ (old : Memory) (t : ℕ) (room : IsRoom old t) (memory : Memory) (size 
   -- n bytes of a part are bytes of the memory
   pub in_part : (off n : ℕ) → off + n ≤ PART → bytes_at (part_bytes memory t) off n ≡ bytes_at memory.bytes (part_start old t + off) n
   in_part off n fits =
-      let within = part_within old t room in
       let large = room.room in
       let start : part_start memory t ≡ part_start old t = ap (λ (k : ℕ). t * k) parts in
-      let long = length-bytes_at memory.bytes (part_start memory t) memory.part (omega arith) in
-      sym (ap (λ (p : ℕ). bytes_at memory.bytes (p + off) n) (sym start) ∙ bytes_within memory.bytes (part_start memory t) memory.part off n (omega arith) (omega arith))
+      bytes_within memory.bytes (part_start memory t) memory.part off n (omega arith) ∙ ap (λ (p : ℕ). bytes_at memory.bytes (p + off) n) start
 
 -- ---- the beginning
 
@@ -98,7 +97,7 @@ module _ (bind descriptors : List ℕ) (old : Memory) (t : ℕ) (memory : Memory
       let is = laid_inside tenant ready.laid k p live lt in
       let behind = is.behind in
       let within = is.within in
-      let fits = part_within old t room in
+      let fits = part_within old t room.is_part in
       let large = room.room in
       context.behind (part_start old t + offset_at tenant k p) (shape_at tenant k).value_size (omega arith) (omega arith)
 

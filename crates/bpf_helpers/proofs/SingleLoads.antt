@@ -1,10 +1,11 @@
 -- What single loads give on words and bytes.
 use Rattle.std.proofs.Common.{◌≡◌, ℕ, ◌+◌, ◌*◌, ◌/◌, ◌%◌, ◌<◌, ◌≤◌, ◌^◌, ℤ, pos, ◌+ℤ◌, Bool, false, List, Option, Some, None, option_map, refl, sym, ap, subst, ◌∙◌, arith}
 use Rattle.std.proofs.lemmas.Option.{none-some, same_Some, slice_get_within, get_or_from_slice_get}
-use Rattle.interval.specs.Bytes.{number_of, bytes_at}
+use Rattle.words.specs.Bytes.{number_of, bytes_at}
 use Rattle.reg_kinds.specs.declared.stack.AccessSize.{AccessSize}
 use Rattle.reg_kinds.specs.declared.stack.AccessSize.TheVariants.{Word}
 use Rattle.reg_kinds.specs.Stack.{bytes_of}
+use Rattle.reg_kinds.specs.StackLaws.{in_one_slot}
 use Rattle.tagged_model.specs.declared.value.Object.TheVariants as object
 use Rattle.tagged_model.specs.declared.value.Tagged.{Tagged}
 use Rattle.tagged_model.specs.declared.value.Tagged.TheVariants.{Scalar, Pointer}
@@ -12,15 +13,16 @@ use Rattle.tagged_model.specs.Cells.{widened, number_from, read_cell}
 use Rattle.tagged_model.specs.State.{RunState, stack_place, stack_load, word_at, context_load, object_bytes, load}
 use Rattle.arena.specs.Memory.{Memory, base, size_of, place_of, part_start}
 use Rattle.arena.specs.Ranges.{IsInside}
+use Rattle.arena.specs.PartLaws.{part_within}
 use Rattle.bpf_maps.specs.Live.{LiveMaps}
 use Rattle.bpf_helpers.specs.Layout.{Layout, IsWord}
 use Rattle.bpf_helpers.specs.Stands.{top, IsRoom, StandsFor}
 use Rattle.bpf_helpers.specs.inside.Flat.{part_place}
 use Rattle.bpf_helpers.specs.Accesses.{MayExtend, address_from, LoadsGiveWords}
 use Rattle.bpf_helpers.proofs.Many.{also_some}
-use Rattle.bpf_helpers.proofs.Inputs.{part_within, object_there}
+use Rattle.bpf_helpers.proofs.Inputs.{object_there}
 use Rattle.bpf_helpers.proofs.Cells.{number_some, cell_loaded}
-use Rattle.bpf_helpers.proofs.Addresses.{in_front, part_place_told, is_at, in_stack, in_one_slot, slot_of, slot_within, in_context, value_read}
+use Rattle.bpf_helpers.proofs.Addresses.{in_front, part_place_told, is_at, in_stack, slot_of, slot_within, in_context, value_read}
 
 mapped_some : {A B : Type 0} (f : A → B) (o : Option A) (y : B) → option_map f o ≡ Some y → (x : A) × (o ≡ Some x) × (f x ≡ y)
 mapped_some f None y e = absurd (none-some y e)
@@ -38,7 +40,7 @@ module _ (l : Layout) (bind : List ℕ) (old : Memory) (t at : ℕ) (registers :
       (part_start old t + q, a.0, a.1, word)
 
   start_small : part_start old t + 576 ≤ 2 ^ 28
-  start_small = let bound = room.bound in let large = room.room in let within = part_within old t room in omega arith
+  start_small = let bound = room.bound in let large = room.room in let within = part_within old t room.is_part in omega arith
 
   stack_loaded : (size : AccessSize) (signed : Bool) (x off : ℤ) (w : ℕ) (v : Tagged) → MayExtend size signed → pos w ≡ pos l.front +ℤ x → stack_load s (x +ℤ off) size signed ≡ Some v → Loads size signed (address_from w off) v
   stack_loaded size signed x off w v may h e =
@@ -49,7 +51,7 @@ module _ (l : Layout) (bind : List ℕ) (old : Memory) (t at : ℕ) (registers :
       let within = is.within in
       let small = start_small in
       let same = stands.changed.size in
-      let whole = part_within old t room in
+      let whole = part_within old t room.is_part in
       let large = room.room in
       let lt = slot_within size q within in
       let got = cell_loaded l memory.bytes (start + 8 * (q / 8)) (s.cells (q / 8)) (q % 8) size signed v may (stands.stack (q / 8) lt) (omega arith) (in_one_slot size q is.aligned) a.2 in

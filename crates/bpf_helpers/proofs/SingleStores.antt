@@ -2,9 +2,11 @@
 use Rattle.std.proofs.Common.{◌≡◌, ◌⊎◌, inl, inr, ℕ, ◌+◌, ◌*◌, ◌/◌, ◌%◌, ◌<◌, ◌≤◌, ◌^◌, eqb, ℤ, pos, ◌+ℤ◌, List, length, Some, refl, sym, ap, subst, ⊎_elim, arith}
 use Rattle.std.proofs.lemmas.Bool.{cond_both, eqb-true, eqb-false, cases_lt}
 use Rattle.std.proofs.lemmas.Option.{none-some, same_Some}
-use Rattle.interval.specs.Bytes.{low_bytes, written_at}
+use Rattle.words.specs.Bytes.{low_bytes, written_at}
+use Rattle.words.specs.ByteLaws.{length-low_bytes}
 use Rattle.reg_kinds.specs.declared.stack.AccessSize.{AccessSize}
 use Rattle.reg_kinds.specs.Stack.{bytes_of}
+use Rattle.reg_kinds.specs.StackLaws.{in_one_slot}
 use Rattle.tagged_model.specs.declared.value.Object.TheVariants as object
 use Rattle.tagged_model.specs.declared.value.Tagged.{Tagged}
 use Rattle.tagged_model.specs.declared.value.Tagged.TheVariants.{Scalar, Map, Pointer}
@@ -13,16 +15,16 @@ use Rattle.tagged_model.specs.State.{RunState, set_at, with_cell, stack_place, s
 use Rattle.arena.specs.Memory.{Memory, size_of, place_of, part_start, with_bytes}
 use Rattle.arena.specs.Apart.{WritesStayInside}
 use Rattle.arena.specs.Ranges.{IsInside}
+use Rattle.arena.specs.PartLaws.{part_within}
 use Rattle.bpf_maps.specs.Live.{LiveMaps}
 use Rattle.bpf_helpers.specs.Layout.{Layout, IsWord, HasCell}
 use Rattle.bpf_helpers.specs.Stands.{top, IsRoom, StandsFor}
 use Rattle.bpf_helpers.specs.Accesses.{address_from, StoresStand}
-use Rattle.bpf_helpers.proofs.Bytes.{length-low_bytes}
 use Rattle.bpf_helpers.proofs.Many.{also_some}
-use Rattle.bpf_helpers.proofs.Inputs.{part_within, memory_long}
+use Rattle.bpf_helpers.proofs.Inputs.{memory_long}
 use Rattle.bpf_helpers.proofs.Outputs.{cell_kept, words_kept, maps_behind, others_behind, changed_after, object_overwritten}
 use Rattle.bpf_helpers.proofs.Cells.{cell_stored}
-use Rattle.bpf_helpers.proofs.Addresses.{in_front, part_place_told, is_at, in_stack, in_one_slot, slot_of, slot_within, value_overwritten}
+use Rattle.bpf_helpers.proofs.Addresses.{in_front, part_place_told, is_at, in_stack, slot_of, slot_within, value_overwritten}
 
 module _ (writes : WritesStayInside) (l : Layout) (bind : List ℕ) (old : Memory) (t at : ℕ) (registers : List ℕ) (memory : Memory) (tenant : LiveMaps) (s : RunState) (room : IsRoom old t) (stands : StandsFor l bind old t at registers memory tenant s) where
   -- where bytes are stored, and what stands then
@@ -46,7 +48,7 @@ module _ (writes : WritesStayInside) (l : Layout) (bind : List ℕ) (old : Memor
       subst (λ (i : ℕ). HasCell l (written_at memory.bytes (start + q) new) (start + 8 * i) d) (sym same)
       (subst (λ (a : ℕ). HasCell l (written_at memory.bytes a new) (start + 8 * (q / 8)) d) (slot_of start q)
       (cell_stored l memory.bytes (start + 8 * (q / 8)) (s.cells (q / 8)) d (q % 8) size v w one (omega arith) (stands.stack (q / 8) i_small) h small e)))
-      (λ f. cell_kept l memory.bytes new (start + q) (omega arith) (start + 8 * k) (s.cells k) (omega arith) (apart start k q n (length new) count one (eqb-false k (q / 8) f)) (stands.stack k lt))
+      (λ f. cell_kept l memory.bytes new (start + q) (omega arith) (start + 8 * k) (s.cells k) (apart start k q n (length new) count one (eqb-false k (q / 8) f)) (stands.stack k lt))
     where
       apart : (start k q n l : ℕ) → l ≡ n → q % 8 + n ≤ 8 → (k ≡ q / 8 → ⊥) → (start + 8 * k + 8 ≤ start + q) ⊎ (start + q + l ≤ start + 8 * k)
       apart start k q n l e r other = ⊎_elim (λ below. inl (omega arith)) (λ above. inr (omega arith)) (cases_lt k (q / 8))
@@ -65,7 +67,7 @@ module _ (writes : WritesStayInside) (l : Layout) (bind : List ℕ) (old : Memor
       let within = is.within in
       let bound = room.bound in
       let large = room.room in
-      let whole = part_within old t room in
+      let whole = part_within old t room.is_part in
       let long = memory_long l bind old t at registers memory tenant s room stands in
       let c = is_at old t room (size_of memory) n (address_from w off) q stands.changed.size (in_front start w q l.front x off stands.front h is.value (omega arith)) (omega arith) in (
         start + q,
@@ -80,7 +82,7 @@ module _ (writes : WritesStayInside) (l : Layout) (bind : List ℕ) (old : Memor
               values = stands.values;
               stack = λ k lt. cells_after size q y v b.0 within is.aligned word small b.1 k lt;
               words = stands.words;
-              context = words_kept l memory.bytes new (start + q) (omega arith) (top old t) s.words (omega arith) (inr (omega arith)) stands.context;
+              context = words_kept l memory.bytes new (start + q) (omega arith) (top old t) s.words (inr (omega arith)) stands.context;
               maps = maps_behind l bind start memory.bytes new tenant s.maps stands.maps long q (omega arith);
               elsewhere = others_behind bind start old.bytes memory.bytes new tenant stands.maps.laid long stands.elsewhere q (omega arith);
               flag = stands.flag;

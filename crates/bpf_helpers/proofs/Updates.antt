@@ -6,7 +6,8 @@ use Rattle.std.proofs.lemmas.Bool.{cond_both, cond-true, eqb-true, eqb-false, le
 use Rattle.std.proofs.lemmas.Int.{ints}
 use Rattle.std.proofs.lemmas.Option.{same_Some, slice_get_within}
 use Rattle.std.proofs.lemmas.List.{length-take, length-drop, drop_all, append-nil}
-use Rattle.interval.specs.Bytes.{bytes_at, written_at}
+use Rattle.words.specs.Bytes.{bytes_at, written_at}
+use Rattle.words.specs.ByteLaws.{bytes_stay, bytes_written}
 use Rattle.tagged_model.specs.declared.fault.MapFault.{MapFault}
 use Rattle.tagged_model.specs.declared.fault.MapFault.TheVariants.{NoEntry, TooBig, Memory, Exists, Invalid, NoSpace}
 use Rattle.tagged_model.specs.declared.value.Object.TheVariants as object
@@ -15,6 +16,7 @@ use Rattle.tagged_model.specs.Table.{Table, Verdict, Refused, Present, New, verd
 use Rattle.tagged_model.specs.Cells.{also}
 use Rattle.tagged_model.specs.State.{RunState, RunMap, set_at, with_value, with_map, with_refusal, value_written, output}
 use Rattle.tagged_model.specs.Helpers.{put, with_object, with_reply, negative, errno}
+use Rattle.tagged_model.specs.StateLaws.{found_owned}
 use Rattle.arena.specs.Memory.{Memory as Bytes, base, part_start, with_bytes}
 use Rattle.bpf_maps.specs.Places.{table_of, IsFree, with_place, Claims}
 use Rattle.bpf_maps.specs.Live.{LiveMaps, live_at, places_at, shape_at, offset_at, is_memory}
@@ -23,12 +25,10 @@ use Rattle.bpf_helpers.specs.Layout.{Layout, IsWord}
 use Rattle.bpf_helpers.specs.Stands.{top, IsRoom, HasMap, MapsStandFor, StandsFor}
 use Rattle.bpf_maps.specs.declared.part.TheConstants.{PART}
 use Rattle.bpf_helpers.specs.inside.Flat.{part_place, Updates, claim_word, with_claimed}
-use Rattle.bpf_helpers.proofs.Bytes.{bytes_stay, bytes_written}
 use Rattle.bpf_helpers.proofs.Inputs.{laid_inside, part_place_is, memory_long, start_same}
 use Rattle.bpf_helpers.proofs.Outputs.{changed_after, cell_kept, words_kept, laid_apart, others_moved, outputs_stand}
 use Rattle.bpf_helpers.specs.Calls.{Extends}
 use Rattle.bpf_helpers.specs.inside.Laws.{UpdateStands, UpdatesStand}
-use Rattle.bpf_helpers.proofs.Owned.{found_owned}
 use Rattle.bpf_helpers.proofs.Verdicts.{present_found, never_memory}
 use Rattle.bpf_helpers.proofs.Flags.{or_once_more}
 use Rattle.bpf_helpers.proofs.Moved.{other_key, other_moved, maps_moved, maps_again}
@@ -83,8 +83,8 @@ module _ (below : LawsBelow) (l : Layout) (bind : List ℕ) (old : Bytes) (t at 
         words = stands.words;
         context = stands.context;
         maps = maps_again l bind (part_start old t) memory.bytes new s.maps m map is
-            (maps_moved l bind (part_start old t) memory.bytes tenant new k u.live u.others u.areas u.laid below.areas s.maps places stands.maps);
-        elsewhere = others_moved bind (part_start old t) old.bytes memory.bytes tenant new i index_within u.others stands.elsewhere;
+            (maps_moved l bind (part_start old t) memory.bytes tenant new k u.rest below.areas s.maps places stands.maps);
+        elsewhere = others_moved bind (part_start old t) old.bytes memory.bytes tenant new i index_within u.rest.others stands.elsewhere;
         flag = flag;
       }))
 
@@ -109,8 +109,8 @@ module _ (below : LawsBelow) (l : Layout) (bind : List ℕ) (old : Bytes) (t at 
     stack = st.stack;
     words = st.words;
     context = st.context;
-    maps = maps_moved l bind (part_start old t) n.bytes tenant new k u.live u.others u.areas u.laid below.areas x.maps places st.maps;
-    elsewhere = others_moved bind (part_start old t) old.bytes n.bytes tenant new i index_within u.others st.elsewhere;
+    maps = maps_moved l bind (part_start old t) n.bytes tenant new k u.rest below.areas x.maps places st.maps;
+    elsewhere = others_moved bind (part_start old t) old.bytes n.bytes tenant new i index_within u.rest.others st.elsewhere;
     flag = flag_after (Ok p) false told refl ∙ ap (λ b. l.refused || (b || false)) (sym same);
   }
 
@@ -194,20 +194,20 @@ module _ (below : LawsBelow) (l : Layout) (bind : List ℕ) (old : Bytes) (t at 
         let b = (laid_inside tenant stands.maps.laid j q live lt).within in
         let large = long_memory in
         let sized = value_size_is in
-        bytes_stay memory.bytes value (begin + off) (begin + offset_at tenant j q) (shape_at tenant j).value_size (omega arith) (omega arith)
+        bytes_stay memory.bytes value (begin + off) (begin + offset_at tenant j q) (shape_at tenant j).value_size (omega arith)
         (⊎_elim (λ below. inl (omega arith)) (λ above. inr (omega arith)) (laid_apart tenant stands.maps.laid j q k p live has.live lt free.within differ))
 
     value_there : bytes_at bytes (begin + off) (shape_at tenant k).value_size ≡ value
     value_there = let a = room_there in ap (bytes_at bytes (begin + off)) value_size_is ∙ bytes_written memory.bytes value (begin + off) (omega arith)
 
     own : HasMap wider begin bytes new k m (with_object map key value)
-    own = map_with_new l begin memory.bytes bytes tenant new k m map key value p has free places u.live (λ q. below.areas tenant new k q u.areas u.live) (λ q lt differ. place_kept k q has.live lt (λ _. differ)) value_there below.along
+    own = map_with_new l begin memory.bytes bytes tenant new k m map key value p has free places u.rest.live (λ q. below.areas tenant new k q u.rest.areas u.rest.live) (λ q lt differ. place_kept k q has.live lt (λ _. differ)) value_there below.along
 
     other : (j n : ℕ) (v : RunMap) → slice_get l.maps j ≡ Some n → n ≢ m → HasMap l begin memory.bytes tenant (slice_index bind j) n v → HasMap wider begin bytes new (slice_index bind j) n v
     other j n v e differ h =
         let key_differs = other_key l bind begin memory.bytes tenant s.maps stands.maps i m j n named e differ in
         map_extended l begin bytes new m (base + (begin + off)) (slice_index bind j) n v differ
-        (other_moved l bind begin bytes tenant new k u.live u.others u.areas u.laid (slice_index bind j) n v key_differs
+        (other_moved l bind begin bytes tenant new k u.rest (slice_index bind j) n v key_differs
         (record {
           live = h.live;
           place = h.place;
@@ -235,7 +235,7 @@ module _ (below : LawsBelow) (l : Layout) (bind : List ℕ) (old : Bytes) (t at 
           (λ _ lt. stands.maps.listed n number lt);
       keys = stands.maps.keys;
       names = stands.maps.names;
-      laid = u.laid;
+      laid = u.rest.laid;
     }
 
     new_stands : Done New
@@ -255,11 +255,11 @@ module _ (below : LawsBelow) (l : Layout) (bind : List ℕ) (old : Bytes) (t at 
             changed = changed_after below.writes l bind old t at registers memory tenant s room stands off value b;
             front = stands.front;
             values = λ r v lt e. word_more l wider more v (slice_index registers r) (stands.values r v lt e);
-            stack = λ x lt. cell_more l wider more bytes (begin + 8 * x) (s.cells x) (cell_kept l memory.bytes value (begin + off) (omega arith) (begin + 8 * x) (s.cells x) (omega arith) (inl (omega arith)) (stands.stack x lt));
+            stack = λ x lt. cell_more l wider more bytes (begin + 8 * x) (s.cells x) (cell_kept l memory.bytes value (begin + off) (omega arith) (begin + 8 * x) (s.cells x) (inl (omega arith)) (stands.stack x lt));
             words = stands.words;
-            context = words_kept l memory.bytes value (begin + off) (omega arith) (top old t) s.words (omega arith) (inl (omega arith)) stands.context;
+            context = words_kept l memory.bytes value (begin + off) (omega arith) (top old t) s.words (inl (omega arith)) stands.context;
             maps = maps_after;
-            elsewhere = others_moved bind (part_start old t) old.bytes bytes tenant new i index_within u.others
+            elsewhere = others_moved bind (part_start old t) old.bytes bytes tenant new i index_within u.rest.others
                 (λ other q away live lt. place_kept other q live lt (λ same. absurd (away i index_within (sym same))) ∙ stands.elsewhere other q away live lt);
             flag = flag_after (Ok p) false told refl;
           });

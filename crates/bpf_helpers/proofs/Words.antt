@@ -1,7 +1,7 @@
 -- What words name, and what is read by them.
 use Rattle.std.proofs.Common.{◌≡◌, ℕ, ◌+◌, List, Option, Some, sym, ap, subst, ◌∙◌}
 use Rattle.std.proofs.lemmas.Option.{same_Some}
-use Rattle.interval.specs.Bytes.{bytes_at}
+use Rattle.words.specs.Bytes.{bytes_at}
 use Rattle.tagged_model.specs.Cells.{also}
 use Rattle.arena.specs.Memory.{Memory, part_start}
 use Rattle.bpf_helpers.specs.inside.Flat.{part_place, part_input}

@@ -30,7 +30,6 @@ pub(crate) fn take_out(
     ensures inside { AddsInside arena.now tenant trace.old.ranges trace.new.ranges }
     ensures steps { trace.new.steps ≡ trace.old.steps }
 {
-    arena.memory_is_its_parts();
     let map = bound(bind, map)?;
     let size = maps.shape(map).key_size as usize;
     let at = asked_place(arena, tenant, size, key, trace)?;

@@ -4,7 +4,7 @@ use Rattle.std.proofs.lemmas.Bool.{lt-ltb, le-ltb}
 use Rattle.std.proofs.lemmas.Bool.Decides.{nat_tests}
 use Rattle.std.specs.Cmp.Lexicographic.{bytes_decides}
 use Rattle.std.specs.Map.{values_of}
-use Rattle.interval.specs.Bytes.{number_of}
+use Rattle.words.specs.Bytes.{number_of}
 use Rattle.tagged_model.specs.Table.{is_key, found, first_key, key_behind, key_after, index_key, indexed}
 use Rattle.bpf_maps.specs.Places.{times, IsSized}
 

@@ -11,6 +11,7 @@ pub mod Totals
 pub mod InAreas
 pub mod Whole
 pub mod Changes
+pub mod KeyChanges
 pub mod Along
 pub mod Written
 pub mod Created

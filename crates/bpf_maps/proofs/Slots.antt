@@ -52,7 +52,9 @@ pub offset_same : (l m : LiveMap) (p : ℕ) → l.start ≡ m.start → l.stride
 unfolding offset
 offset_same l m p e f = λ i. e i + p * f i
 
--- the same areas keep where each value lies
+-- ---- the same areas
+
+-- they keep where each value lies
 pub offsets_stay : (old new : LiveMaps) (k p : ℕ) → SameAreas old new → IsSome (live_at new k) → offset_at new k p ≡ offset_at old k p
 offsets_stay old new k p areas live = by (live_at new k) refl live
   where

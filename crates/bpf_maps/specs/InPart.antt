@@ -1,7 +1,7 @@
 -- What writes and calls do to live maps, seen as keys with the bytes of their values. The calls are those of bpf(2);
 -- where values lie is this project's own.
 use Rattle.std.specs.Prelude.{◌≡◌, ◌≢◌, ℕ, ◌<◌, List, length, take, Some, IsSome, Ok}
-use Rattle.interval.specs.Bytes.{written_at}
+use Rattle.words.specs.Bytes.{written_at}
 use Rattle.tagged_model.specs.Table as map
 use Rattle.bpf_maps.specs.declared.part.TheConstants.{FRONT, PART}
 use Rattle.bpf_maps.specs.Places.{table_of, Claims, with_kept, after_run}

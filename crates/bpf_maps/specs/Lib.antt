@@ -1,8 +1,11 @@
 pub mod Places
 pub mod Index
 pub mod Laws
+pub mod LiveLaws
 pub mod Any
 pub mod Live
 pub mod InMaps
 pub mod InPart
 pub mod inside
+-- what public contracts cite of crates below
+pub use Rattle.tagged_model.specs.Table

@@ -126,6 +126,21 @@ pub record HasOneMore (fewer more : LiveMaps) (shape : MapShape) : Type 0 where
   pub maps : count more ≡ count fewer + 1
   pub bytes : areas more ≡ areas fewer + area shape.value_size shape.max_entries
 
+-- ---- the keys of one map change
+
+-- only the map under this key may have changed, and that one only in its keys and their places. It says nothing of `refused`
+pub record OnlyKeysChange (k : ℕ) (old new : LiveMaps) : Type 0 where
+  pub live : IsSome (live_at new k)
+  pub holds : holds_at new k ≡ holds_at old k
+  pub shape : shape_at new k ≡ shape_at old k
+  -- no two of its keys have one place
+  pub sound : IsSound (places_at new k)
+  pub others : (other : ℕ) → other ≢ k → live_at new other ≡ live_at old other
+  pub areas : SameAreas old new
+  pub room : SameRoom old new
+  -- the values of all live maps lie apart
+  pub laid : IsLaid new
+
 -- ---- a new map
 
 -- there are too many maps, or their values take too many bytes

@@ -5,7 +5,7 @@ ghost use Rattle.tagged_model.specs.declared.shape.MapKind.TheVariants.{Array};
 ghost use Rattle.tagged_model.specs.Table.{look_up, verdict, removal, next_of, new_table};
 ghost use Rattle.bpf_maps.specs.declared.part.TheConstants.{PART, FRONT, MAPS, AREA, LARGEST_SUM};
 ghost use Rattle.bpf_maps.specs.Places.{table_of, IsSound, Claims, Removes, GivesKey, after_run};
-ghost use Rattle.bpf_maps.specs.Live.{live_at, places_at, shape_at, holds_at, held_at, offset_at, value_in, map_in, LiesInPart, IsLaid, AreSound, SameAreas, SameValues, KeepsMap, KeepsMaps, KeepsOthers, count, areas, SameRoom, HasOneMore, create_fault, Creates, one_more, one_less, is_memory};
+ghost use Rattle.bpf_maps.specs.Live.{live_at, places_at, shape_at, holds_at, held_at, offset_at, value_in, map_in, LiesInPart, IsLaid, AreSound, SameAreas, SameValues, KeepsMap, KeepsMaps, KeepsOthers, count, areas, SameRoom, OnlyKeysChange, HasOneMore, create_fault, Creates, one_more, one_less, is_memory};
 ghost use Rattle.bpf_maps.specs.InMaps.{times_true};
 
 use crate::any_map::AnyMap;
@@ -256,15 +256,7 @@ impl Maps {
         ensures claimed { Claims (verdict (table_of (places_at self.old map)) key.now flags) key.now
             (places_at self.old map) result (places_at self.new map) }
         ensures within { IfOk result (λ place. place < (shape_at self.new map).max_entries) }
-        ensures sound { IsSound (places_at self.new map) }
-        ensures live { IsSome (live_at self.new map) }
-        ensures holds { holds_at self.new map ≡ holds_at self.old map }
-        ensures shape { shape_at self.new map ≡ shape_at self.old map }
-        ensures others { (other : ℕ) → other ≢ map → live_at self.new other
-            ≡ live_at self.old other }
-        ensures areas { SameAreas self.old self.new }
-        ensures room { SameRoom self.old self.new }
-        ensures laid { IsLaid self.new }
+        ensures rest { OnlyKeysChange map self.old self.new }
         ensures refused { self.new.refused ≡ (self.old.refused || is_memory result) }
     {
         let entry = &mut self.slots[map.number];
@@ -283,15 +275,7 @@ impl Maps {
         requires size { length key.now ≡ (shape_at self.old map).key_size }
         ensures removed { Removes (removal (table_of (places_at self.old map)) key.now) key.now
             (places_at self.old map) result (places_at self.new map) }
-        ensures sound { IsSound (places_at self.new map) }
-        ensures live { IsSome (live_at self.new map) }
-        ensures holds { holds_at self.new map ≡ holds_at self.old map }
-        ensures shape { shape_at self.new map ≡ shape_at self.old map }
-        ensures others { (other : ℕ) → other ≢ map → live_at self.new other
-            ≡ live_at self.old other }
-        ensures areas { SameAreas self.old self.new }
-        ensures room { SameRoom self.old self.new }
-        ensures laid { IsLaid self.new }
+        ensures rest { OnlyKeysChange map self.old self.new }
         ensures refused { self.new.refused ≡ self.old.refused }
     {
         let entry = &mut self.slots[map.number];
@@ -322,15 +306,7 @@ impl Maps {
     pub fn end_run(&mut self, map: MapKey)
         requires { IsSome (live_at self.old map) }
         ensures ended { places_at self.new map ≡ after_run (places_at self.old map) }
-        ensures sound { IsSound (places_at self.new map) }
-        ensures live { IsSome (live_at self.new map) }
-        ensures holds { holds_at self.new map ≡ holds_at self.old map }
-        ensures shape { shape_at self.new map ≡ shape_at self.old map }
-        ensures others { (other : ℕ) → other ≢ map → live_at self.new other
-            ≡ live_at self.old other }
-        ensures areas { SameAreas self.old self.new }
-        ensures room { SameRoom self.old self.new }
-        ensures laid { IsLaid self.new }
+        ensures rest { OnlyKeysChange map self.old self.new }
         ensures refused { self.new.refused ≡ self.old.refused }
     {
         let entry = &mut self.slots[map.number];

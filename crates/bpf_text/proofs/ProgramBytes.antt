@@ -1,15 +1,12 @@
 -- The slots of a program are bytes, eight for each slot.
-use Rattle.std.proofs.Common.{◌≡◌, ℕ, zero, suc, ◌+◌, ◌*◌, ◌/◌, ◌%◌, ◌^◌, ◌<◌, ◌≤◌, Bool, true, false, List, [], ◌∷◌, ◌++◌, length, refl, ap, arith, lit≤, lit<, length-append}
+use Rattle.std.proofs.Common.{ℕ, zero, suc, ◌+◌, ◌*◌, ◌/◌, ◌%◌, ◌^◌, ◌<◌, ◌≤◌, Bool, true, false, List, [], ◌∷◌, ◌++◌, arith, lit≤, lit<}
 use Rattle.std.specs.Int.{byte_at}
 use Rattle.std.specs.List.{AllByRecursion}
-use Rattle.std.proofs.lemmas.List.Sums.{sum_by-cons}
 use Rattle.hex.specs.Hex.{IsBytes}
 use Rattle.insn_codec.specs.declared.insn.AluOp.{AluOp}
 use Rattle.insn_codec.specs.declared.insn.AluOp.TheVariants.{Add, Sub, Mul, Div, SignedDiv, Or, And, ShiftLeft, ShiftRight, Mod, SignedMod, Xor, Mov, SignedShiftRight}
 use Rattle.insn_codec.specs.declared.insn.ByteOrder.{ByteOrder}
 use Rattle.insn_codec.specs.declared.insn.ByteOrder.TheVariants.{Little, Big, Swap}
-use Rattle.insn_codec.specs.declared.insn.Condition.{Condition}
-use Rattle.insn_codec.specs.declared.insn.Condition.TheVariants.{Equal, Above, AboveOrEqual, CommonBit, NotEqual, SignedAbove, SignedAboveOrEqual, Below, BelowOrEqual, SignedBelow, SignedBelowOrEqual}
 use Rattle.insn_codec.specs.declared.insn.Size.{Size}
 use Rattle.insn_codec.specs.declared.insn.Size.TheVariants as size
 use Rattle.insn_codec.specs.declared.insn.Operand.{Operand}
@@ -18,9 +15,10 @@ use Rattle.insn_codec.specs.declared.insn.Insn.{Insn}
 use Rattle.insn_codec.specs.declared.insn.Insn.TheVariants.{Alu, Movsx, Neg, End, Ja, Jal, Jump, Call, Exit, Load, Store, Const, MapFd}
 use Rattle.insn_codec.specs.declared.slot.SlotFields.{SlotFields}
 use Rattle.insn_codec.specs.Slot.{slot, slot_bytes}
-use Rattle.insn_codec.specs.Numbers.{opcode, alu_number, alu_class, jump_class, condition_number, end_opcode, size_number, load_mode, memory_opcode}
-use Rattle.insn_codec.specs.Spelling.{source_bit, src_field, first, slots, spelling, IsInsn, IsOperand}
+use Rattle.insn_codec.specs.Numbers.{opcode, alu_number, alu_class, end_opcode, size_number, load_mode, memory_opcode}
+use Rattle.insn_codec.specs.Spelling.{source_bit, src_field, first, spelling, IsInsn, IsOperand}
 use Rattle.insn_codec.specs.Program.{program_bytes, slot_count, IsProgram}
+use Rattle.insn_codec.specs.SpellingLaws.{condition_number_le, alu_class_le, jump_class_le, length-program_bytes}
 use Rattle.bpf_text.specs.HexText.{hex_text, IsHexText}
 use Rattle.bpf_text.proofs.HexLaw.{hex_text_is_read}
 
@@ -73,19 +71,6 @@ alu_code Xor = lit≤ tt
 alu_code Mov = lit≤ tt
 alu_code SignedShiftRight = lit≤ tt
 
-condition_code : (cond : Condition) → condition_number cond ≤ 13
-condition_code Equal = lit≤ tt
-condition_code Above = lit≤ tt
-condition_code AboveOrEqual = lit≤ tt
-condition_code CommonBit = lit≤ tt
-condition_code NotEqual = lit≤ tt
-condition_code SignedAbove = lit≤ tt
-condition_code SignedAboveOrEqual = lit≤ tt
-condition_code Below = lit≤ tt
-condition_code BelowOrEqual = lit≤ tt
-condition_code SignedBelow = lit≤ tt
-condition_code SignedBelowOrEqual = lit≤ tt
-
 source_small : (src : Operand) → source_bit src ≤ 1
 source_small (Imm n) = lit≤ tt
 source_small (Reg r) = lit≤ tt
@@ -93,14 +78,6 @@ source_small (Reg r) = lit≤ tt
 src_small : (src : Operand) → IsOperand src → src_field src ≤ 10
 src_small (Imm n) h = lit≤ tt
 src_small (Reg r) h = h
-
-alu_small : (wide : Bool) → alu_class wide ≤ 7
-alu_small true = lit≤ tt
-alu_small false = lit≤ tt
-
-jump_small : (wide : Bool) → jump_class wide ≤ 7
-jump_small true = lit≤ tt
-jump_small false = lit≤ tt
 
 end_small : (how : ByteOrder) → end_opcode how < 256
 end_small Little = lit< tt
@@ -121,13 +98,13 @@ memory_small : (mode class : ℕ) (s : Size) → mode ≤ 4 → class ≤ 3 → 
 memory_small mode class s a b = omega (arith, size_small s)
 
 first_small : (i : Insn) → IsInsn i → IsSmall (first i)
-first_small (Alu wide op dst src) h = record { opcode = opcode_small _ _ _ (alu_code op) (source_small src) (alu_small wide); dst = h.0; src = src_small src h.1 }
-first_small (Movsx m) h = record { opcode = opcode_small 11 1 (alu_class m.wide) (lit≤ tt) (lit≤ tt) (alu_small m.wide); dst = h.0; src = h.1 }
-first_small (Neg wide dst) h = record { opcode = opcode_small 8 0 (alu_class wide) (lit≤ tt) (lit≤ tt) (alu_small wide); dst = h; src = lit≤ tt }
+first_small (Alu wide op dst src) h = record { opcode = opcode_small _ _ _ (alu_code op) (source_small src) (alu_class_le wide); dst = h.0; src = src_small src h.1 }
+first_small (Movsx m) h = record { opcode = opcode_small 11 1 (alu_class m.wide) (lit≤ tt) (lit≤ tt) (alu_class_le m.wide); dst = h.0; src = h.1 }
+first_small (Neg wide dst) h = record { opcode = opcode_small 8 0 (alu_class wide) (lit≤ tt) (lit≤ tt) (alu_class_le wide); dst = h; src = lit≤ tt }
 first_small (End how width dst) h = record { opcode = end_small how; dst = h; src = lit≤ tt }
 first_small (Ja off) h = record { opcode = lit< tt; dst = lit≤ tt; src = lit≤ tt }
 first_small (Jal off) h = record { opcode = lit< tt; dst = lit≤ tt; src = lit≤ tt }
-first_small (Jump wide cond dst src off) h = record { opcode = opcode_small _ _ _ (condition_code cond) (source_small src) (jump_small wide); dst = h.0; src = src_small src h.1 }
+first_small (Jump wide cond dst src off) h = record { opcode = opcode_small _ _ _ (condition_number_le cond) (source_small src) (jump_class_le wide); dst = h.0; src = src_small src h.1 }
 first_small (Call id) h = record { opcode = lit< tt; dst = lit≤ tt; src = lit≤ tt }
 first_small Exit h = record { opcode = lit< tt; dst = lit≤ tt; src = lit≤ tt }
 first_small (Load l) h = record { opcode = memory_small (load_mode l.signed) 1 l.size (mode_small l.signed) (lit≤ tt); dst = h.0; src = h.1 }
@@ -146,25 +123,12 @@ spelling_are_bytes (MapFd dst fd) h =
     are_bytes-append (slot_bytes (first (MapFd dst fd))) (slot_bytes (slot 0 0 0 0 0)) (slot_are_bytes (first (MapFd dst fd)) (first_small (MapFd dst fd) h)) (slot_are_bytes (slot 0 0 0 0 0) (none_small 0))
 spelling_are_bytes i h = slot_are_bytes (first i) (first_small i h)
 
-length-spelling : (i : Insn) → length (spelling i) ≡ 8 * length (slots i)
-unfolding spelling
-length-spelling (Const dst value) = refl
-length-spelling (MapFd dst fd) = refl
-length-spelling _ = refl
-
 program_are_bytes : (insns : List Insn) → AllByRecursion IsInsn insns → IsBytes (program_bytes insns)
 program_are_bytes insns each = is_bytes (program_bytes insns) (bytes_of insns each)
   where
     bytes_of : (insns : List Insn) → AllByRecursion IsInsn insns → AreBytes (program_bytes insns)
     bytes_of [] each = tt
     bytes_of (i ∷ insns) each = are_bytes-append (spelling i) (program_bytes insns) (spelling_are_bytes i each.0) (bytes_of insns each.1)
-
-length-program_bytes : (insns : List Insn) → length (program_bytes insns) ≡ 8 * slot_count insns
-length-program_bytes [] = refl
-length-program_bytes (i ∷ insns) =
-    let bytes : program_bytes (i ∷ insns) ≡ spelling i ++ program_bytes insns = refl in
-    let count : slot_count (i ∷ insns) ≡ length (slots i) + slot_count insns = sum_by-cons (λ (j : Insn). length (slots j)) i insns in
-    omega (arith, ap length bytes, length-append (spelling i) (program_bytes insns), length-spelling i, length-program_bytes insns)
 
 pub hex_lines_is : (insns : List Insn) → IsProgram insns → IsHexText (hex_text (program_bytes insns)) (program_bytes insns)
 hex_lines_is insns program = hex_text_is_read (slot_count insns) (program_bytes insns) (program_are_bytes insns program.each) (length-program_bytes insns) program.some program.room

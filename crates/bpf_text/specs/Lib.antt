@@ -5,3 +5,5 @@ pub mod Printed
 pub mod Assembly
 pub mod inside
 pub mod Law
+-- what public contracts cite of crates below
+pub use Rattle.insn_codec.specs.Program

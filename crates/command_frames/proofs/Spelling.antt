@@ -53,8 +53,8 @@ readings_agree (f ∷ fs) (g ∷ gs) rest left all all_too partial partial_too e
     let (frames_are, rest_is) = readings_agree fs gs rest left all.1 all_too.1 partial partial_too more in
     (ap₂ (λ (x : List ℕ) (xs : List (List ℕ)). x ∷ xs) here frames_are, rest_is)
 
-pub one_reading_is : (bytes : List ℕ) (frames others : List (List ℕ)) (rest left : List ℕ) → IsStream bytes frames rest → IsStream bytes others left → (frames ≡ others) × (rest ≡ left)
-one_reading_is bytes frames others rest left is is_too = readings_agree frames others rest left is.each is_too.each is.partial is_too.partial (sym is.spelled ∙ is_too.spelled)
+pub one_stream_is : (bytes : List ℕ) (frames others : List (List ℕ)) (rest left : List ℕ) → IsStream bytes frames rest → IsStream bytes others left → (frames ≡ others) × (rest ≡ left)
+one_stream_is bytes frames others rest left is is_too = readings_agree frames others rest left is.each is_too.each is.partial is_too.partial (sym is.spelled ∙ is_too.spelled)
 
 -- ---- each byte list is a stream
 
@@ -179,10 +179,10 @@ framed_told t c s p =
     let same : 8 + length p ≡ length (told t c s p) = omega arith in
     ap (λ n. little_bytes 4 n ++ told t c s p) same
 
-pub one_reply_is : (t u c d : ℕ) (s z : ℤ) (p q rest left : List ℕ) → IsReply t c s p → IsReply u d z q → reply_bytes t c s p ++ rest ≡ reply_bytes u d z q ++ left
+pub one_reply_in_front_is : (t u c d : ℕ) (s z : ℤ) (p q rest left : List ℕ) → IsReply t c s p → IsReply u d z q → reply_bytes t c s p ++ rest ≡ reply_bytes u d z q ++ left
     → (t ≡ u) × (c ≡ d) × (s ≡ z) × (p ≡ q) × (rest ≡ left)
 unfolding told from_command from_status
-one_reply_is t u c d s z p q rest left is is_too e =
+one_reply_in_front_is t u c d s z p q rest left is is_too e =
     let small : IsFrame (told t c s p) = omega (arith, is.short) in
     let small_too : IsFrame (told u d z q) = omega (arith, is_too.short) in
     let framed_e : framed (told t c s p) ++ rest ≡ framed (told u d z q) ++ left =

@@ -49,11 +49,11 @@ longest_frame = 65536
 -- ---- the body
 
 -- the number in four bytes, or in eight, the lowest first, behind so many bytes
-abbrev pub word : ℕ → List ℕ → ℕ
-word at body = little_number 4 (drop at body)
+abbrev pub word_behind : ℕ → List ℕ → ℕ
+word_behind at body = little_number 4 (drop at body)
 
-abbrev pub long : ℕ → List ℕ → ℕ
-long at body = little_number 8 (drop at body)
+abbrev pub long_behind : ℕ → List ℕ → ℕ
+long_behind at body = little_number 8 (drop at body)
 
 -- so many words one after the other
 unfoldable pub words : ℕ → List ℕ → List ℕ
@@ -70,14 +70,14 @@ at_least n body command = if nat_le n (length body) then Ok command else Err Bod
 -- the command of a number with this body
 abbrev pub command_in : ℕ → List ℕ → Result Command BadFrame
 command_in n body =
-    if n == 0 then exactly create_body body (map_create (word 0 body) (word 4 body) (word 8 body) (word 12 body) (word 16 body)) else
-    (if n == 1 then at_least word_length body (map_lookup (word 0 body) (drop word_length body)) else
-    (if n == 2 then at_least before_key_and_value body (map_update (word 0 body) (long word_length body) (drop before_key_and_value body)) else
-    (if n == 3 then at_least word_length body (map_delete (word 0 body) (drop word_length body)) else
-    (if n == 4 then at_least word_length body (map_next_key (word 0 body) (drop word_length body)) else
-    (if n == 5 then at_least word_length body (prog_load (word 0 body) (drop word_length body)) else
-    (if n == 10 then at_least before_packet body (prog_test_run (word 0 body) (words given_words (drop word_length body)) (drop before_packet body)) else
-    (if n == 256 then exactly word_length body (close (word 0 body)) else Err Unknown)))))))
+    if n == 0 then exactly create_body body (map_create (word_behind 0 body) (word_behind 4 body) (word_behind 8 body) (word_behind 12 body) (word_behind 16 body)) else
+    (if n == 1 then at_least word_length body (map_lookup (word_behind 0 body) (drop word_length body)) else
+    (if n == 2 then at_least before_key_and_value body (map_update (word_behind 0 body) (long_behind word_length body) (drop before_key_and_value body)) else
+    (if n == 3 then at_least word_length body (map_delete (word_behind 0 body) (drop word_length body)) else
+    (if n == 4 then at_least word_length body (map_next_key (word_behind 0 body) (drop word_length body)) else
+    (if n == 5 then at_least word_length body (prog_load (word_behind 0 body) (drop word_length body)) else
+    (if n == 10 then at_least before_packet body (prog_test_run (word_behind 0 body) (words given_words (drop word_length body)) (drop before_packet body)) else
+    (if n == 256 then exactly word_length body (close (word_behind 0 body)) else Err Unknown)))))))
 
 -- ---- the frame
 

@@ -18,8 +18,8 @@ EachIsStream =
     (bytes : List ℕ) → ((i : ℕ) → slice_index bytes i < 256)
     → (frames : List (List ℕ)) × (rest : List ℕ) × IsStream bytes frames rest
 
-abbrev pub OneReading : Type 0
-OneReading =
+abbrev pub OneStream : Type 0
+OneStream =
     (bytes : List ℕ) (frames others : List (List ℕ)) (rest left : List ℕ)
     → IsStream bytes frames rest → IsStream bytes others left → (frames ≡ others) × (rest ≡ left)
 
@@ -33,8 +33,8 @@ pub record IsReply (tenant command : ℕ) (status : ℤ) (payload : List ℕ) : 
   pub short : length payload ≤ longest_payload
 
 -- bytes begin with one reply at most
-abbrev pub OneReply : Type 0
-OneReply =
+abbrev pub OneReplyInFront : Type 0
+OneReplyInFront =
     (tenant other command number : ℕ) (status sign : ℤ) (payload load rest left : List ℕ)
     → IsReply tenant command status payload → IsReply other number sign load
     → reply_bytes tenant command status payload ++ rest ≡ reply_bytes other number sign load ++ left

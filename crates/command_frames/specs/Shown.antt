@@ -6,15 +6,15 @@ use Rattle.command_frames.specs.declared.command.Command.{Command as CodeCommand
 use Rattle.command_frames.specs.declared.command.Command.TheVariants as code
 use Rattle.command_frames.specs.Command.{Command, map_create, map_lookup, map_update, map_delete, map_next_key, prog_load, prog_test_run, close}
 
-abbrev pub shown : CodeCommand → Command
-shown (code.MapCreate kind key_size value_size max_entries flags) = map_create kind key_size value_size max_entries flags
-shown (code.MapLookup fd key) = map_lookup fd key.now
-shown (code.MapUpdate fd flags rest) = map_update fd flags rest.now
-shown (code.MapDelete fd key) = map_delete fd key.now
-shown (code.MapNextKey fd key) = map_next_key fd key.now
-shown (code.ProgLoad kind slots) = prog_load kind slots.now
-shown (code.ProgTestRun fd words packet) = prog_test_run fd words packet.now
-shown (code.Close fd) = close fd
+abbrev pub shown_command : CodeCommand → Command
+shown_command (code.MapCreate kind key_size value_size max_entries flags) = map_create kind key_size value_size max_entries flags
+shown_command (code.MapLookup fd key) = map_lookup fd key.now
+shown_command (code.MapUpdate fd flags rest) = map_update fd flags rest.now
+shown_command (code.MapDelete fd key) = map_delete fd key.now
+shown_command (code.MapNextKey fd key) = map_next_key fd key.now
+shown_command (code.ProgLoad kind slots) = prog_load kind slots.now
+shown_command (code.ProgTestRun fd words packet) = prog_test_run fd words packet.now
+shown_command (code.Close fd) = close fd
 
 abbrev pub shown_result : Result CodeCommand BadFrame → Result Command BadFrame
-shown_result r = result_map_both shown (λ e. e) r
+shown_result r = result_map_both shown_command (λ e. e) r

@@ -1,6 +1,6 @@
 //! Laws of frames and replies. Each is the contract of a function that does nothing.
 
-ghost use Rattle.command_frames.specs.Laws.{EachIsStream, OneReading, OneReply};
+ghost use Rattle.command_frames.specs.Laws.{EachIsStream, OneStream, OneReplyInFront};
 
 /// Bytes are a list of frames, and a rest that is no whole frame.
 pub fn each_is_stream()
@@ -8,11 +8,11 @@ pub fn each_is_stream()
 {}
 
 /// Bytes are one list of frames and one rest: a stream is read in one way.
-pub fn one_reading()
-    ensures { OneReading }
+pub fn one_stream()
+    ensures { OneStream }
 {}
 
 /// Bytes begin with one reply at most: it tells its tenant, command, status and payload.
-pub fn one_reply()
-    ensures { OneReply }
+pub fn one_reply_in_front()
+    ensures { OneReplyInFront }
 {}

@@ -10,5 +10,5 @@ mod reply;
 pub use body::GIVEN_WORDS;
 pub use command::{BadFrame, Command, Head};
 pub use frame::{HEAD_LENGTH, LONGEST_FRAME, head, parse};
-pub use laws::{each_is_stream, one_reading, one_reply};
+pub use laws::{each_is_stream, one_reply_in_front, one_stream};
 pub use reply::{LONGEST_PAYLOAD, ReplyBuf, write_reply};

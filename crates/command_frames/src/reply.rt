@@ -1,7 +1,6 @@
 //! Replies.
 
-ghost use Rattle.std.specs.Prelude.{◌≡◌, ◌+◌, ◌≤◌, ◌++◌, ◌^◌, ◌<◌, ℤ, [], length, IfOk, FitsSigned};
-ghost use Rattle.byteorder.specs.Endian.{little_bytes};
+ghost use Rattle.std.specs.Prelude.{◌≡◌, ◌+◌, ◌≤◌, ◌++◌, ◌<◌, [], length, IfOk};
 ghost use Rattle.command_frames.specs.Frame.{front_bytes, longest_payload, longest_reply, reply_bytes};
 
 use crate::command::Head;

@@ -1,7 +1,8 @@
 //! Frames and the commands that they carry, as text.
 
-use crate::bytes::{bytes_of, shown};
+use crate::bytes::shown;
 use anyhow::{Result, bail};
+use case_lines::bytes_of;
 use command_frames::{BadFrame, Command, HEAD_LENGTH, head, parse};
 use std::alloc::{AllocError, Global};
 

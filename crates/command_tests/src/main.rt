@@ -14,20 +14,13 @@
 
 mod bytes;
 mod commands;
-mod session;
+mod player;
 
 use anyhow::Result;
-use session::Session;
+use case_lines::play_lines;
+use player::CommandPlayer;
 
 fn main(rt: HostRuntime) -> Result<()> {
-    let alloc = rt.alloc();
-    let mut session = Session::new(alloc)?;
-    for line in rt.lines(alloc) {
-        let line = line?;
-        match session.play(line.as_str()) {
-            Ok(answer) => println!(rt; "{answer}")?,
-            Err(fault) => println!(rt; "{fault}")?,
-        }
-    }
-    Ok(())
+    let mut player = CommandPlayer::new(rt.alloc())?;
+    play_lines(&rt, &mut player)
 }

@@ -1,6 +1,6 @@
 -- Worked cases of the definitions.
 use Rattle.std.proofs.Common.{◌≡◌, ℕ, List, [], ◌∷◌, Option, Some, None, refl}
-use Rattle.fd_table.specs.Table.{nothing_open, named, lowest, with_open, without}
+use Rattle.fd_table.specs.Table.{nothing_open, named, lowest, with_open, with_closed}
 
 -- 3 and 5 are open, and 4 is not
 three_and_five : List (Option ℕ)
@@ -26,7 +26,7 @@ past_the_end : named three_and_five 67 ≡ None
 unfolding three_and_five
 past_the_end = refl
 
-closed_is_free_again : lowest (without three_and_five 3) ≡ Some 3
+closed_is_free_again : lowest (with_closed three_and_five 3) ≡ Some 3
 unfolding three_and_five
 closed_is_free_again = refl
 

@@ -3,8 +3,8 @@
 use Rattle.std.specs.Prelude.{◌≡◌, ℕ, ◌+◌, ◌-◌, nat_lt, is_none, List, Option, Some, None, option_map, option_and_then, position, replicate, slice_get, slice_set, Result, Ok, Err, if◌then◌else◌}
 
 -- the lowest number
-abbrev pub first : ℕ
-first = 3
+abbrev pub first_descriptor : ℕ
+first_descriptor = 3
 
 -- so many may be open
 abbrev pub most : ℕ
@@ -20,18 +20,18 @@ module _ {A : Type 0} where
 
   -- what a descriptor names, if it is open
   abbrev pub named : List (Option A) → ℕ → Option A
-  named table fd = if nat_lt fd first then None else flattened (slice_get table (fd - first))
+  named table fd = if nat_lt fd first_descriptor then None else flattened (slice_get table (fd - first_descriptor))
 
   -- the lowest descriptor that is not open
   abbrev pub lowest : List (Option A) → Option ℕ
-  lowest table = option_map (λ place. first + place) (position is_none table)
+  lowest table = option_map (λ place. first_descriptor + place) (position is_none table)
 
   abbrev pub with_open : List (Option A) → ℕ → A → List (Option A)
-  with_open table fd x = slice_set table (fd - first) (Some x)
+  with_open table fd x = slice_set table (fd - first_descriptor) (Some x)
 
   -- a descriptor that is closed. What is not open stays so
-  abbrev pub without : List (Option A) → ℕ → List (Option A)
-  without table fd = if nat_lt fd first then table else slice_set table (fd - first) None
+  abbrev pub with_closed : List (Option A) → ℕ → List (Option A)
+  with_closed table fd = if nat_lt fd first_descriptor then table else slice_set table (fd - first_descriptor) None
 
   -- the lowest one is given; where there is none, what was to be opened is handed back
   abbrev pub OpensLowest : Option ℕ → List (Option A) → A → Result ℕ A → List (Option A) → Type 0

@@ -2,7 +2,7 @@
 
 ghost use Rattle.std.specs.Prelude.{◌≡◌, ◌+◌, ◌<◌, ◌≤◌, IfOk, IfSome, is_none, position};
 ghost use Rattle.std.specs.Option.{option_copied};
-ghost use Rattle.fd_table.specs.Table.{first, most, nothing_open, named, lowest, with_open, without, OpensLowest};
+ghost use Rattle.fd_table.specs.Table.{first_descriptor, most, nothing_open, named, lowest, with_closed, OpensLowest};
 
 use std::alloc::{AllocError, Global};
 use std::marker::Model;
@@ -80,7 +80,8 @@ impl<T: Drop> FdTable<T> {
     /// The object itself, where none is free.
     pub fn place(&mut self, object: T) -> Result<u32, T>
         ensures placed { OpensLowest (lowest self.old) self.old object result self.new }
-        ensures bounds { IfOk result (λ fd. (first ≤ fd) × (fd < first + most)) }
+        ensures bounds { IfOk result (λ fd.
+            (first_descriptor ≤ fd) × (fd < first_descriptor + most)) }
     {
         let Some(place) = self.free_place() else {
             return Err(object);
@@ -101,7 +102,7 @@ impl<T: Drop> FdTable<T> {
     /// Closes a descriptor, and hands out what it named. It is free from then on.
     pub fn close(&mut self, fd: u32) -> Option<T>
         ensures named { result ≡ named self.old fd }
-        ensures closed { self.new ≡ without self.old fd }
+        ensures closed { self.new ≡ with_closed self.old fd }
     {
         let Some(place) = fd.checked_sub(FIRST) else {
             return None;

@@ -1,4 +1,3 @@
-pub mod Bytes
 pub mod Words
 pub mod States
 pub mod Accesses
@@ -11,7 +10,7 @@ pub mod Ended
 pub mod Packets
 pub mod Ahead
 pub mod Turns
-pub mod Spots
+pub mod GroupTurns
 pub mod Distances
 pub mod Branches
 pub mod Opcodes

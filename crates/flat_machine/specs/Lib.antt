@@ -1,2 +1,6 @@
 pub mod Runs
 pub mod inside
+-- what public contracts cite of crates below
+pub use Rattle.arena.specs.Memory
+pub use Rattle.arena.specs.Ranges
+pub use Rattle.insn_codec.specs.Program

@@ -3,4 +3,4 @@ pub mod Ranges
 pub mod Steps
 pub mod Ends
 pub mod Laws
-pub mod Spots
+pub mod Turns

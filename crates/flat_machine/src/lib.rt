@@ -4,10 +4,10 @@
 mod arms;
 mod calls;
 mod execution;
+mod fetch;
 mod laws;
 mod map_words;
 mod running;
-mod spot;
 mod turn;
 
 pub use laws::clear_runs_have_no_refusal;

@@ -21,22 +21,14 @@
 //! written as it stands, and so is one that has no answer.
 #![tactic(auto)]
 
-mod bytes;
-mod session;
+mod player;
 mod streams;
 
 use anyhow::Result;
-use session::Session;
+use case_lines::play_lines;
+use player::HostPlayer;
 
 fn main(rt: HostRuntime) -> Result<()> {
-    let alloc = rt.alloc();
-    let mut session = Session::new(alloc)?;
-    for line in rt.lines(alloc) {
-        let line = line?;
-        match session.play(line.as_str()) {
-            Ok(answer) => println!(rt; "{answer}")?,
-            Err(fault) => println!(rt; "{fault}")?,
-        }
-    }
-    Ok(())
+    let mut player = HostPlayer::new(rt.alloc())?;
+    play_lines(&rt, &mut player)
 }

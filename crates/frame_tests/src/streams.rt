@@ -1,8 +1,8 @@
 //! Whole streams, and runs of the program.
 
-use crate::bytes::{bytes_of, first_word, groups};
-use crate::session::new_host;
+use crate::player::{GROUP, new_host};
 use anyhow::{Result, bail};
+use case_lines::{bytes_of, first_word, hex_groups};
 use host::{Counted, Host, MOST_FRAMES, ServeFault, ServeFaultKind, run_words, serve};
 use std::alloc::{AllocError, Global};
 
@@ -32,7 +32,7 @@ fn served(alloc: Global, mut host: Host, limit: &str, input: &[u8]) -> Result<St
     let mut writer = Counted::new(Vec::new(alloc));
     let end = serve(alloc, &mut host, &mut reader, &mut writer, limit);
     let end = end_of(alloc, end)?;
-    let output = groups(alloc, &writer.into_inner())?;
+    let output = hex_groups(alloc, &writer.into_inner(), GROUP)?;
     Ok(format!(in alloc; "{end} [{output}]")?)
 }
 
@@ -70,7 +70,7 @@ pub fn program(alloc: Global, line: &str) -> Result<String> {
     let mut output = Vec::new(alloc);
     let mut faults = Vec::new(alloc);
     let status = run_words(alloc, &words, input.as_slice(), &mut output, &mut faults);
-    let output = groups(alloc, &output)?;
+    let output = hex_groups(alloc, &output, GROUP)?;
     let Ok(fault) = String::from_utf8(faults) else {
         bail!("the fault line is no text");
     };

@@ -18,7 +18,7 @@ use Rattle.tagged_model.specs.declared.shape.Target.{Target}
 use Rattle.tagged_model.specs.declared.shape.Target.TheVariants.{Map}
 use Rattle.host.specs.program.Decimal.{decimal_number}
 use Rattle.host.specs.program.Shapes.{colon, descriptor_number, kind_name, IsMapArgument, IsShapeOf}
-use Rattle.host.specs.inside.program.MapFields.{fields}
+use Rattle.host.specs.inside.program.MapFields.{map_fields}
 
 abbrev is_colon : ℕ → Bool
 is_colon b = b == colon
@@ -29,26 +29,26 @@ is_colon b = b == colon
 abbrev Lacks : Text → Type 0
 Lacks text = All (λ b. is_colon b ≡ false) text
 
-one_field : (text : Text) → Lacks text → fields text ≡ text ∷ []
+one_field : (text : Text) → Lacks text → map_fields text ≡ text ∷ []
 one_field text lacks = slice_split_none is_colon text lacks
 
 -- what is cut at the first colon
 pub first_cut : (text : Text) (r : Option (Bor Text × Bor Text))
     → MatchOption r (position_or_len is_colon text ≡ length text)
     (λ cut. (position_or_len is_colon text < length text) × (cut.0.now ≡ before_first is_colon text) × (cut.1.now ≡ after_first is_colon text))
-    → IfSome r (λ cut. fields text ≡ cut.0.now ∷ fields cut.1.now)
+    → IfSome r (λ cut. map_fields text ≡ cut.0.now ∷ map_fields cut.1.now)
 first_cut text None is = tt
-first_cut text (Some cut) is = slice_split_first is_colon text 0 is.0 ∙ sym (ap (λ front. front ∷ fields cut.1.now) is.1 ∙ ap (λ rest. before_first is_colon text ∷ fields rest) is.2)
+first_cut text (Some cut) is = slice_split_first is_colon text 0 is.0 ∙ sym (ap (λ front. front ∷ map_fields cut.1.now) is.1 ∙ ap (λ rest. before_first is_colon text ∷ map_fields rest) is.2)
 
 pub no_cut : (text : Text) (r : Option (Bor Text × Bor Text))
     → MatchOption r (position_or_len is_colon text ≡ length text)
     (λ cut. (position_or_len is_colon text < length text) × (cut.0.now ≡ before_first is_colon text) × (cut.1.now ≡ after_first is_colon text))
-    → IfNone r (fields text ≡ text ∷ [])
+    → IfNone r (map_fields text ≡ text ∷ [])
 no_cut text None is = one_field text (λ k d below. fails_before_first is_colon text k d (omega (arith, is)))
 no_cut text (Some cut) is = tt
 
 -- fields without a colon, joined by colons, are these fields
-fields_joined : (first : Text) (more : List Text) → AllByRecursion Lacks (first ∷ more) → fields (join_with_byte colon (first ∷ more)) ≡ first ∷ more
+fields_joined : (first : Text) (more : List Text) → AllByRecursion Lacks (first ∷ more) → map_fields (join_with_byte colon (first ∷ more)) ≡ first ∷ more
 fields_joined first [] lack = one_field first lack.0
 fields_joined first (second ∷ more) lack =
     slice_split_at is_colon first colon (join_with_byte colon (second ∷ more)) lack.0 refl
@@ -71,9 +71,9 @@ kind_lacks Array = All-from_recursion (λ b. is_colon b ≡ false) (codes "array
 kind_lacks Hash = All-from_recursion (λ b. is_colon b ≡ false) (codes "hash") (refl, (refl, (refl, (refl, tt))))
 
 five_fields : (argument : Text) (map : Named) (is : IsMapArgument argument map)
-    → fields argument ≡ is.fd ∷ is.kind ∷ is.key_size ∷ is.value_size ∷ is.max_entries ∷ []
+    → map_fields argument ≡ is.fd ∷ is.kind ∷ is.key_size ∷ is.value_size ∷ is.max_entries ∷ []
 five_fields argument map is =
-    ap fields is.spelled
+    ap map_fields is.spelled
     ∙ fields_joined is.fd (is.kind ∷ is.key_size ∷ is.value_size ∷ is.max_entries ∷ []) (
       descriptor_lacks is.fd map.fd is.descriptor,
       (
@@ -94,7 +94,7 @@ pub none_named : (argument : Text) (r : Option Named) → r ≡ None → ((map :
     → (map : Named) → (r ≡ Some map → IsMapArgument argument map) × (IsMapArgument argument map → r ≡ Some map)
 none_named argument r none never map = ((λ some. absurd (let both : None ≡ Some map = sym none ∙ some in cc both)), (λ is. absurd (never map is)))
 
-pub few_fields : (argument : Text) → length (fields argument) < 5 → (map : Named) → ¬ IsMapArgument argument map
+pub few_fields : (argument : Text) → length (map_fields argument) < 5 → (map : Named) → ¬ IsMapArgument argument map
 few_fields argument few map is = omega (arith, ap length (five_fields argument map is))
 
 -- the fields of an argument that was cut at four colons
@@ -105,7 +105,7 @@ pub record SameFields (argument fd kind key_size value_size max_entries : Text) 
   pub value_size_is : is.value_size ≡ value_size
   pub max_entries_is : is.max_entries ≡ max_entries
 
-whole : (text field : Text) → fields text ≡ field ∷ [] → field ≡ text
+whole : (text field : Text) → map_fields text ≡ field ∷ [] → field ≡ text
 whole text field is = sym (ap (join_with_byte colon) is) ∙ join_with_byte-slice_split colon text
 
 head : List Text → Text
@@ -117,7 +117,7 @@ tail [] = []
 tail (x ∷ xs) = xs
 
 pub same_fields : (argument fd kind key_size value_size max_entries : Text)
-    → fields argument ≡ fd ∷ kind ∷ key_size ∷ value_size ∷ fields max_entries
+    → map_fields argument ≡ fd ∷ kind ∷ key_size ∷ value_size ∷ map_fields max_entries
     → (map : Named) (is : IsMapArgument argument map) → SameFields argument fd kind key_size value_size max_entries map is
 unfolding head tail
 same_fields argument fd kind key_size value_size max_entries cut map is =
@@ -131,7 +131,7 @@ same_fields argument fd kind key_size value_size max_entries cut map is =
     }
 
 pub no_shape : (argument fd kind key_size value_size max_entries : Text)
-    → fields argument ≡ fd ∷ kind ∷ key_size ∷ value_size ∷ fields max_entries
+    → map_fields argument ≡ fd ∷ kind ∷ key_size ∷ value_size ∷ map_fields max_entries
     → ((shape : MapShape) → ¬ IsShapeOf shape kind key_size value_size max_entries) → (map : Named) → ¬ IsMapArgument argument map
 no_shape argument fd kind key_size value_size max_entries cut never map is =
     let same = same_fields argument fd kind key_size value_size max_entries cut map is in
@@ -143,7 +143,7 @@ no_shape argument fd kind key_size value_size max_entries cut never map is =
     })
 
 pub no_descriptor : (argument fd kind key_size value_size max_entries : Text)
-    → fields argument ≡ fd ∷ kind ∷ key_size ∷ value_size ∷ fields max_entries
+    → map_fields argument ≡ fd ∷ kind ∷ key_size ∷ value_size ∷ map_fields max_entries
     → descriptor_number fd ≡ None → (map : Named) → ¬ IsMapArgument argument map
 no_descriptor argument fd kind key_size value_size max_entries cut none map is =
     let same = same_fields argument fd kind key_size value_size max_entries cut map is in
@@ -193,7 +193,7 @@ some_map : (a b : Named) → Some a ≡ Some b → a ≡ b
 some_map a b e = cc e
 
 same_map : (argument fd kind key_size value_size max_entries : Text) (descriptor : ℕ) (shape : MapShape)
-    → fields argument ≡ fd ∷ kind ∷ key_size ∷ value_size ∷ fields max_entries → Some descriptor ≡ descriptor_number fd
+    → map_fields argument ≡ fd ∷ kind ∷ key_size ∷ value_size ∷ map_fields max_entries → Some descriptor ≡ descriptor_number fd
     → IsShapeOf shape kind key_size value_size max_entries
     → (map : Named) → IsMapArgument argument map → record { fd = descriptor; target = Map shape } ≡ map
 unfolding named_with
@@ -210,7 +210,7 @@ same_map argument fd kind key_size value_size max_entries descriptor shape cut n
 
 -- the argument names this map and no other
 pub one_named : (argument fd kind key_size value_size max_entries : Text) (descriptor : ℕ) (shape : MapShape)
-    → fields argument ≡ fd ∷ kind ∷ key_size ∷ value_size ∷ fields max_entries → Some descriptor ≡ descriptor_number fd
+    → map_fields argument ≡ fd ∷ kind ∷ key_size ∷ value_size ∷ map_fields max_entries → Some descriptor ≡ descriptor_number fd
     → IsShapeOf shape kind key_size value_size max_entries
     → (map : Named) → (Some (record { fd = descriptor; target = Map shape }) ≡ Some map → IsMapArgument argument map)
     × (IsMapArgument argument map → Some (record { fd = descriptor; target = Map shape }) ≡ Some map)

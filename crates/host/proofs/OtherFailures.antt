@@ -1,5 +1,5 @@
 -- No failure of a run over streams is that the arguments are wrong.
-use Rattle.std.proofs.Common.{◌≡◌, ◌≢◌, ◌∙◌, ℕ, List, ap, subst, sym, inl, inr, arith}
+use Rattle.std.proofs.Common.{◌≢◌, ◌∙◌, ℕ, List, ap, subst, sym, inl, inr, arith}
 use Rattle.bpf_text.specs.declared.fault.TextFaultKind.{TextFaultKind}
 use Rattle.bpf_text.specs.declared.fault.TextFaultKind.TheVariants as text
 use Rattle.insn_codec.specs.declared.fault.FaultKind.{FaultKind}

@@ -15,7 +15,7 @@ use Rattle.tenant.specs.Alone.{frames_of, replies_of, MayReply, IsFault, AloneWi
 use Rattle.host.specs.declared.server.ServeFaultKind.{ServeFaultKind}
 use Rattle.host.specs.declared.server.ServeFaultKind.TheVariants.{Read, Write, Truncated, TooManyFrames, Memory}
 use Rattle.host.specs.Laws.{UnrefusedAreToldAlone}
-use Rattle.host.specs.Served.{EachIsToldByItsMachine, StreamState, NoCallFailed, Serves, ServesAlone, AnswersFrames, CutsLastReply, joined, ServesToEnd, StopsWithFault}
+use Rattle.host.specs.Served.{EachIsToldByItsMachine, StreamState, NoCallFailed, Serves, ServesAlone, AnswersFrames, CutsLastReply, joined_replies, ServesToEnd, StopsWithFault}
 use Rattle.host.specs.inside.Frame.{Handles, ServesOneFrame, ReadsOnly, ServesFrameOrEnds, StopsInFrame}
 
 alone_more : (a b c : Option TenantState) (frames others replies more : List (List ℕ)) → AloneWithRefusals a frames replies b → AloneWithRefusals b others more c → AloneWithRefusals a (frames ++ others) (replies ++ more) c
@@ -82,18 +82,18 @@ pub read_rest : (a b c : Option (List ℕ)) (frames : List (List ℕ)) (rest : L
 read_rest a b c frames rest first later =
     subst (Consumes a c) (ap (λ l. l ++ rest) (append-nil (flat_map framed frames))) (Consumes-trans a b c (flat_map framed frames ++ []) rest first later)
 
-pub joined-push : (replies : List (List ℕ)) (reply : List ℕ) → joined (replies ++ reply ∷ []) ≡ joined replies ++ reply
-joined-push replies reply = flat_map-append (λ r. r) replies (reply ∷ []) ∙ ap (λ l. joined replies ++ l) (append-nil reply)
+pub joined-push : (replies : List (List ℕ)) (reply : List ℕ) → joined_replies (replies ++ reply ∷ []) ≡ joined_replies replies ++ reply
+joined-push replies reply = flat_map-append (λ r. r) replies (reply ∷ []) ∙ ap (λ l. joined_replies replies ++ l) (append-nil reply)
 
--- ---- moments
+-- ---- from one stream state to the next
 
-serves_more : (old mid new : StreamState) (frames replies : List (List ℕ)) (frame reply out : List ℕ) → Serves old mid frames replies [] (joined replies) → ServesOneFrame mid new frame reply out
-    → Serves old new (frames ++ frame ∷ []) (replies ++ reply ∷ []) [] (joined replies ++ out)
+serves_more : (old mid new : StreamState) (frames replies : List (List ℕ)) (frame reply out : List ℕ) → Serves old mid frames replies [] (joined_replies replies) → ServesOneFrame mid new frame reply out
+    → Serves old new (frames ++ frame ∷ []) (replies ++ reply ∷ []) [] (joined_replies replies ++ out)
 serves_more old mid new frames replies frame reply out s h = record {
   each = all_push IsFrame frames frame s.each h.is_frame;
   paired = omega (arith, s.paired, length-append frames (frame ∷ []), length-append replies (reply ∷ []));
   read = read_more old.input mid.input new.input frames frame [] s.read (subst (Consumes mid.input new.input) (sym (append-nil (framed frame))) h.read);
-  written = Appends-trans old.output mid.output new.output (joined replies) out s.written h.written;
+  written = Appends-trans old.output mid.output new.output (joined_replies replies) out s.written h.written;
   served = served_more old.states mid.states new.states frames replies frame reply s.paired s.served h.handled;
   no_fault = all_push (λ (r : List ℕ). ¬ IsFault r) replies reply s.no_fault h.handled.no_fault;
 }
@@ -118,7 +118,7 @@ answered_rest old mid new count rest (frames, replies, len, s) h = (
     each = s.each;
     paired = s.paired;
     read = read_rest old.input mid.input new.input frames rest s.read h.read;
-    written = subst (λ (o : Option (List ℕ)). Appends old.output o (joined replies)) (sym h.written) s.written;
+    written = subst (λ (o : Option (List ℕ)). Appends old.output o (joined_replies replies)) (sym h.written) s.written;
     served = subst (λ (x : List TenantState). EachIsToldByItsMachine old.states frames replies x) (sym h.states) s.served;
     no_fault = s.no_fault;
   },

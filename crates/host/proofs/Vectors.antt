@@ -3,11 +3,10 @@ use Rattle.std.proofs.Common.{◌≡◌, ◌∷◌, [], Some, None, codes, refl}
 use Rattle.clap.proofs.OnLiterals.{clap_on_literals}
 use Rattle.tagged_model.specs.declared.shape.MapKind.TheVariants.{Array, Hash}
 use Rattle.tagged_model.specs.declared.shape.MapShape.{MapShape}
-use Rattle.tagged_model.specs.declared.shape.Named.{Named}
 use Rattle.tagged_model.specs.declared.shape.Target.TheVariants.{Map}
 use Rattle.host.specs.program.Decimal.{decimal_number}
 use Rattle.host.specs.program.Shapes.{descriptor_number, IsMapArgument}
-use Rattle.host.specs.program.Arguments.{Verifies, asked, chosen_subcommand, refusal_kinds}
+use Rattle.host.specs.program.Arguments.{Verifies, asked_by_arguments, chosen_subcommand, refusal_kinds}
 
 array_of_8_bytes : MapShape
 array_of_8_bytes = record { kind = Array; key_size = 4; value_size = 8; max_entries = 1; listed = refl }
@@ -77,14 +76,14 @@ above_the_table = refl
 
 -- ---- the command line
 
-two_maps : asked (codes "verify" ∷ codes "3:array:4:8:1" ∷ codes "-" ∷ []) ≡ Some (Verifies (codes "3:array:4:8:1" ∷ codes "-" ∷ []))
+two_maps : asked_by_arguments (codes "verify" ∷ codes "3:array:4:8:1" ∷ codes "-" ∷ []) ≡ Some (Verifies (codes "3:array:4:8:1" ∷ codes "-" ∷ []))
 unfolding clap_on_literals refusal_kinds chosen_subcommand
 two_maps = refl
 
-behind_two_dashes : asked (codes "verify" ∷ codes "--" ∷ codes "-h" ∷ codes "--" ∷ []) ≡ Some (Verifies (codes "-h" ∷ codes "--" ∷ []))
+behind_two_dashes : asked_by_arguments (codes "verify" ∷ codes "--" ∷ codes "-h" ∷ codes "--" ∷ []) ≡ Some (Verifies (codes "-h" ∷ codes "--" ∷ []))
 unfolding clap_on_literals refusal_kinds chosen_subcommand
 behind_two_dashes = refl
 
-an_option : asked (codes "verify" ∷ codes "-3:array:4:8:1" ∷ []) ≡ None
+an_option : asked_by_arguments (codes "verify" ∷ codes "-3:array:4:8:1" ∷ []) ≡ None
 unfolding clap_on_literals refusal_kinds chosen_subcommand
 an_option = refl

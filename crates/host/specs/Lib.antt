@@ -4,3 +4,7 @@ pub mod Served
 pub mod Laws
 pub mod program
 pub mod inside
+-- what public contracts cite of crates below
+pub use Rattle.command_frames.specs.Frame
+pub use Rattle.tenant.specs.Alone
+pub use Rattle.tenant.specs.State

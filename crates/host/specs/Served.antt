@@ -42,9 +42,9 @@ pub record StreamState : Type 0 where
   pub read_failures : ℕ
   pub write_failures : ℕ
 
--- the moment of these states, this reader and this writer, by what is told of the two
-abbrev pub moment : {R W : Type 0} → (R → Option (List ℕ)) → (R → ℕ) → (W → Option (List ℕ)) → (W → ℕ) → List TenantState → R → W → StreamState
-moment remaining read_failures contents write_failures states reader writer = record {
+-- these states, this reader and this writer, by what is told of the two
+abbrev pub stream_state : {R W : Type 0} → (R → Option (List ℕ)) → (R → ℕ) → (W → Option (List ℕ)) → (W → ℕ) → List TenantState → R → W → StreamState
+stream_state remaining read_failures contents write_failures states reader writer = record {
   states = states;
   input = remaining reader;
   output = contents writer;
@@ -66,14 +66,14 @@ pub record Serves (old new : StreamState) (frames replies : List (List ℕ)) (re
   pub no_fault : NoneFaults replies
 
 -- replies one after another
-abbrev pub joined : List (List ℕ) → List ℕ
-joined replies = flat_map (λ reply. reply) replies
+abbrev pub joined_replies : List (List ℕ) → List ℕ
+joined_replies replies = flat_map (λ reply. reply) replies
 
 -- so many frames are answered, and each reply was written whole
 abbrev pub AnswersFrames : StreamState → StreamState → ℕ → List ℕ → Type 0
 AnswersFrames old new count rest =
     (frames : List (List ℕ)) × (replies : List (List ℕ)) × (length frames ≡ count)
-    × Serves old new frames replies rest (joined replies)
+    × Serves old new frames replies rest (joined_replies replies)
 
 -- So many frames came in, and the replies to them went out, one after another. Each tenant was told what its machine alone
 -- tells it, and no test run faulted.
@@ -82,7 +82,7 @@ pub record ServesAlone (old new : StreamState) (count : ℕ) : Type 0 where
   pub replies : List (List ℕ)
   pub many : (length frames ≡ count) × (length replies ≡ count)
   pub read : Consumes old.input new.input (flat_map framed frames)
-  pub written : Appends old.output new.output (joined replies)
+  pub written : Appends old.output new.output (joined_replies replies)
   pub alone : EachIsToldAlone old.states frames replies new.states
   pub no_fault : NoneFaults replies
 
@@ -90,7 +90,7 @@ pub record ServesAlone (old new : StreamState) (count : ℕ) : Type 0 where
 abbrev pub CutsLastReply : StreamState → StreamState → ℕ → Type 0
 CutsLastReply old new count =
     (frames : List (List ℕ)) × (replies : List (List ℕ)) × (last : List ℕ) × (n : ℕ) × (length frames ≡ count + 1)
-    × (length replies ≡ count) × Serves old new frames (replies ++ last ∷ []) [] (joined replies ++ take n last)
+    × (length replies ≡ count) × Serves old new frames (replies ++ last ∷ []) [] (joined_replies replies ++ take n last)
 
 -- the end of a call that answers so many frames: the input is at its end
 abbrev pub ServesToEnd : StreamState → StreamState → ℕ → Type 0

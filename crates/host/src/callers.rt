@@ -1,8 +1,8 @@
 //! What a caller can tell of a stream from the contracts alone.
 
-ghost use Rattle.std.specs.Prelude.{◌≡◌, ◌≤◌, ◌<◌, ◌-◌, ◌^◌, ℕ, List, replicate, IfSome};
+ghost use Rattle.std.specs.Prelude.{◌≤◌, ◌<◌, ◌-◌, ◌^◌, List, replicate, IfSome};
 ghost use Rattle.tenant.specs.State.{TenantState, new_tenant};
-ghost use Rattle.host.specs.Served.{moment, ServesAlone};
+ghost use Rattle.host.specs.Served.{stream_state, ServesAlone};
 ghost use Rattle.host.specs.declared.host.TheConstants.{MOST_TENANTS};
 
 use crate::host::Host;
@@ -22,9 +22,9 @@ fn serve_from_the_beginning<R: Source, W: Sink>(
     requires reader { R.failures reader.old < 2 ^ 64 - 1 }
     requires writer { W.failures writer.old < 2 ^ 64 - 1 }
     ensures { IfSome result (λ count. (after : List TenantState) × ServesAlone
-        (moment R.remaining R.failures W.contents W.failures
+        (stream_state R.remaining R.failures W.contents W.failures
         (replicate tenants new_tenant) reader.old writer.old)
-        (moment R.remaining R.failures W.contents W.failures after reader.new writer.new)
+        (stream_state R.remaining R.failures W.contents W.failures after reader.new writer.new)
         count) }
 {
     let mut host = Host::new(alloc, tenants).ok()?;

@@ -1,6 +1,6 @@
 //! The host of all tenants.
 
-ghost use Rattle.std.specs.Prelude.{◌≡◌, ◌≢◌, ℕ, ◌+◌, ◌*◌, ◌<◌, ◌≤◌, ◌^◌, [], length, replicate, slice_get, IfOk, IfSome, None};
+ghost use Rattle.std.specs.Prelude.{◌≡◌, ◌≢◌, ℕ, ◌<◌, ◌≤◌, [], length, replicate, slice_get, IfOk, IfSome, None};
 ghost use Rattle.arena.specs.Memory.{Memory};
 ghost use Rattle.command_frames.specs.Frame.{head_length, owner, reply_to};
 ghost use Rattle.tenant.specs.Alone.{unserved_errno, MayReply, IsFault};

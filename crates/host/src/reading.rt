@@ -1,10 +1,9 @@
 //! Frames out of a reader.
 
-ghost use Rattle.std.specs.Prelude.{◌≡◌, ℕ, ◌+◌, ◌-◌, ◌<◌, ◌≤◌, ◌^◌, ◌++◌, [], List, length, take, drop, min, IfOk, IfErr, IfSome, IfNone, Ok, OnOk, OnErr};
+ghost use Rattle.std.specs.Prelude.{◌≡◌, ℕ, ◌+◌, ◌-◌, ◌<◌, ◌≤◌, ◌^◌, [], List, length, take, min, IfOk, IfErr, IfSome, IfNone, Ok, OnOk, OnErr};
 ghost use Rattle.std.specs.Io.KnownBytes.{IsAtEnd};
-ghost use Rattle.byteorder.specs.Endian.{little_number};
 ghost use Rattle.byteorder.specs.Endian.{little_bytes};
-ghost use Rattle.command_frames.specs.Frame.{framed, IsFrame, IsPartial};
+ghost use Rattle.command_frames.specs.Frame.{framed, IsFrame};
 ghost use Rattle.host.specs.declared.reading.TheConstants.{KEPT};
 ghost use Rattle.host.specs.inside.Reading.{ReadsFewer, ReadsPartial, StopsAt, IsKeptFrontOf, Takes};
 

@@ -1,13 +1,13 @@
 //! A whole stream.
 
-ghost use Rattle.std.specs.Prelude.{◌≡◌, ◌≢◌, ℕ, ◌+◌, ◌-◌, ◌<◌, ◌≤◌, ◌^◌, [], List, length, take, IfOk, IfErr, OnOk, OnErr, IsTrue, true, false, slice_get};
+ghost use Rattle.std.specs.Prelude.{◌≡◌, ℕ, ◌-◌, ◌<◌, ◌≤◌, ◌^◌, [], length, IfOk, IfErr, OnOk, OnErr, true, false};
 ghost use Rattle.std.specs.Prelude.{◌∷◌};
 ghost use Rattle.std.specs.Io.KnownBytes.{IsAtEnd};
 ghost use Rattle.host.specs.declared.reading.TheConstants.{KEPT};
 ghost use Rattle.host.specs.declared.server.TheConstants.{MOST_FRAMES};
 ghost use Rattle.host.specs.inside.Reading.{Takes};
-ghost use Rattle.host.specs.Served.{moment, StreamState, NoCallFailed, AnswersFrames, CutsLastReply, ServesToEnd, StopsWithFault, ServesAlone};
-ghost use Rattle.host.specs.inside.Frame.{ServesOneFrame, ReadsOnly, ServesFrameOrEnds, StopsInFrame};
+ghost use Rattle.host.specs.Served.{stream_state, ServesToEnd, StopsWithFault, ServesAlone};
+ghost use Rattle.host.specs.inside.Frame.{ServesFrameOrEnds, StopsInFrame};
 
 use crate::host::Host;
 use crate::laws::unrefused_are_told_alone;
@@ -69,12 +69,12 @@ fn serve_frame<R: Source, W: Sink>(
     requires reader { R.failures reader.old < 2 ^ 64 - 1 }
     requires writer { W.failures writer.old < 2 ^ 64 - 1 }
     ensures done { IfOk result (λ more. ServesFrameOrEnds
-        (moment R.remaining R.failures W.contents W.failures host.old reader.old writer.old)
-        (moment R.remaining R.failures W.contents W.failures host.new reader.new writer.new)
+        (stream_state R.remaining R.failures W.contents W.failures host.old reader.old writer.old)
+        (stream_state R.remaining R.failures W.contents W.failures host.new reader.new writer.new)
         more) }
     ensures fault { IfErr result (λ kind. StopsInFrame
-        (moment R.remaining R.failures W.contents W.failures host.old reader.old writer.old)
-        (moment R.remaining R.failures W.contents W.failures host.new reader.new writer.new)
+        (stream_state R.remaining R.failures W.contents W.failures host.old reader.old writer.old)
+        (stream_state R.remaining R.failures W.contents W.failures host.new reader.new writer.new)
         kind) }
 {
     let Some(kept) = read_frame(reader, &mut rooms.frame)? else {
@@ -121,17 +121,17 @@ pub fn serve<R: Source, W: Sink>(
     requires reader { R.failures reader.old < 2 ^ 64 - 1 }
     requires writer { W.failures writer.old < 2 ^ 64 - 1 }
     ensures done { IfOk result (λ count. ServesToEnd
-        (moment R.remaining R.failures W.contents W.failures host.old reader.old writer.old)
-        (moment R.remaining R.failures W.contents W.failures host.new reader.new writer.new)
+        (stream_state R.remaining R.failures W.contents W.failures host.old reader.old writer.old)
+        (stream_state R.remaining R.failures W.contents W.failures host.new reader.new writer.new)
         count) }
     ensures alone { IfOk result (λ count. ServesAlone
-        (moment R.remaining R.failures W.contents W.failures host.old reader.old writer.old)
-        (moment R.remaining R.failures W.contents W.failures host.new reader.new writer.new)
+        (stream_state R.remaining R.failures W.contents W.failures host.old reader.old writer.old)
+        (stream_state R.remaining R.failures W.contents W.failures host.new reader.new writer.new)
         count) }
     ensures few { IfOk result (λ count. count ≤ limit) }
     ensures fault { IfErr result (λ fault. StopsWithFault
-        (moment R.remaining R.failures W.contents W.failures host.old reader.old writer.old)
-        (moment R.remaining R.failures W.contents W.failures host.new reader.new writer.new)
+        (stream_state R.remaining R.failures W.contents W.failures host.old reader.old writer.old)
+        (stream_state R.remaining R.failures W.contents W.failures host.new reader.new writer.new)
         fault.kind fault.frames) }
     ensures few_before { IfErr result (λ fault. fault.frames ≤ limit) }
     ensures too_many { IfErr result (λ fault. fault.kind ≡ ServeFaultKind.TooManyFrames

@@ -5,5 +5,7 @@ pub mod Spelling
 pub mod Spelled
 pub mod Fault
 pub mod Program
+pub mod BeginLaws
+pub mod SpellingLaws
 pub mod inside
 pub mod Flow

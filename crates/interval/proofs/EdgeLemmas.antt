@@ -6,10 +6,10 @@ use Rattle.std.proofs.lemmas.Bool.Decides.{nat_tests}
 use Rattle.interval.specs.declared.range.Range.{Range}
 use Rattle.interval.specs.Ranges.{IsMember}
 use Rattle.interval.specs.Refine.{RangePair, turned, where_equal, where_different, where_above, where_at_most, IsPairOn, EdgePairs, edges, unchanged, refined}
-use Rattle.interval.specs.declared.operator.Comparison.{Comparison}
-use Rattle.interval.specs.declared.operator.Comparison.TheVariants.{Equal, NotEqual, Above, AboveOrEqual, Below, BelowOrEqual, SignedAbove, SignedAboveOrEqual, SignedBelow, SignedBelowOrEqual, CommonBit}
-use Rattle.interval.specs.Operate.{operand}
-use Rattle.interval.specs.Compare.{holds, compares}
+use Rattle.words.specs.declared.operator.Comparison.{Comparison}
+use Rattle.words.specs.declared.operator.Comparison.TheVariants.{Equal, NotEqual, Above, AboveOrEqual, Below, BelowOrEqual, SignedAbove, SignedAboveOrEqual, SignedBelow, SignedBelowOrEqual, CommonBit}
+use Rattle.words.specs.Operate.{operand}
+use Rattle.words.specs.Compare.{holds, compares}
 use Rattle.interval.specs.Laws.{IsOfWords, IsPairOfWords}
 
 equal_keeps : (a b : Range) (x y : ℕ) → IsMember x a → IsMember y b → x ≡ y → IsPairOn (where_equal a b) x y

@@ -3,11 +3,11 @@ use Rattle.std.proofs.Common.{◌≡◌, ℕ, ◌^◌, ◌<◌, ◌≤◌, true,
 use Rattle.std.proofs.Math.Nat.{mod-eq_of_lt}
 use Rattle.std.proofs.lemmas.Bool.{cond-true, cond-false}
 use Rattle.interval.specs.declared.range.Range.{Range}
-use Rattle.interval.specs.declared.operator.KeptBits.{KeptBits}
-use Rattle.interval.specs.declared.operator.OrderChange.{OrderChange}
-use Rattle.interval.specs.declared.operator.Operator.{Operator}
-use Rattle.interval.specs.declared.operator.Operator.TheVariants.{Add, Sub, Mul, Div, SignedDiv, Or, And, ShiftLeft, ShiftRight, Mod, SignedMod, Xor, Mov, SignedShiftRight, Neg, SignExtend, End}
-use Rattle.interval.specs.Operate.{combined, operate}
+use Rattle.words.specs.declared.operator.KeptBits.{KeptBits}
+use Rattle.words.specs.declared.operator.OrderChange.{OrderChange}
+use Rattle.words.specs.declared.operator.Operator.{Operator}
+use Rattle.words.specs.declared.operator.Operator.TheVariants.{Add, Sub, Mul, Div, SignedDiv, Or, And, ShiftLeft, ShiftRight, Mod, SignedMod, Xor, Mov, SignedShiftRight, Neg, SignExtend, End}
+use Rattle.words.specs.Operate.{combined, operate}
 use Rattle.interval.specs.Ranges.{IsMember, constant}
 use Rattle.interval.specs.Table.{are_constants, spread, result_range, seen, range_of}
 use Rattle.interval.proofs.Sound.{Sees, table_sound}

@@ -5,12 +5,12 @@ use Rattle.std.proofs.lemmas.Bool.{cond_both, ltb-true, leb-true}
 use Rattle.std.proofs.lemmas.Nat.{pow_pos, shr_le, mul-le}
 use Rattle.std.proofs.Math.Nat.{mul-le-mul_right}
 use Rattle.interval.specs.declared.range.Range.{Range}
-use Rattle.interval.specs.declared.operator.KeptBits.{KeptBits}
-use Rattle.interval.specs.declared.operator.KeptBits.TheVariants as bits
-use Rattle.interval.specs.declared.operator.OrderChange.{OrderChange}
-use Rattle.interval.specs.declared.operator.Operator.{Operator}
-use Rattle.interval.specs.declared.operator.Operator.TheVariants.{Add, Sub, Mul, Div, SignedDiv, Or, And, ShiftLeft, ShiftRight, Mod, SignedMod, Xor, Mov, SignedShiftRight, Neg, SignExtend, End}
-use Rattle.interval.specs.Operate.{kept_bits, narrow_bits, combined, byte_order}
+use Rattle.words.specs.declared.operator.KeptBits.{KeptBits}
+use Rattle.words.specs.declared.operator.KeptBits.TheVariants as bits
+use Rattle.words.specs.declared.operator.OrderChange.{OrderChange}
+use Rattle.words.specs.declared.operator.Operator.{Operator}
+use Rattle.words.specs.declared.operator.Operator.TheVariants.{Add, Sub, Mul, Div, SignedDiv, Or, And, ShiftLeft, ShiftRight, Mod, SignedMod, Xor, Mov, SignedShiftRight, Neg, SignExtend, End}
+use Rattle.words.specs.Operate.{kept_bits, narrow_bits, combined, byte_order}
 use Rattle.interval.specs.Ranges.{IsMember, span, full, constant, is_constant}
 use Rattle.interval.specs.Table.{sum_range, difference_range, product_range, quotient_range, remainder_range, digits_end, binary_digits, scaled_range, shift_right_range, spread, are_constants, result_range, seen, range_of}
 use Rattle.interval.proofs.Sound.{spread_sound, byte_order_below}

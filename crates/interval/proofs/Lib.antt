@@ -7,7 +7,6 @@ pub mod Members
 pub mod Numbers
 pub mod Ranges
 pub mod ShiftLemmas
-pub mod Signed
 pub mod Sound
 pub mod SoundBits
 pub mod SoundSums

@@ -6,14 +6,14 @@ use Rattle.std.proofs.lemmas.Nat.{pow_pos}
 use Rattle.std.specs.Prelude.{◌-ℤ◌, ◌*ℤ◌, int_div}
 use Rattle.std.specs.Int.{w16, w32, w64, swap_bytes}
 use Rattle.interval.specs.declared.range.Range.{Range}
-use Rattle.interval.specs.declared.operator.KeptBits.{KeptBits}
-use Rattle.interval.specs.declared.operator.KeptBits.TheVariants as bits
-use Rattle.interval.specs.declared.operator.OrderChange.{OrderChange}
-use Rattle.interval.specs.declared.operator.OrderChange.TheVariants.{Little, Big, Swap}
-use Rattle.interval.specs.declared.operator.Operator.{Operator}
-use Rattle.interval.specs.declared.operator.Operator.TheVariants.{Add, Sub, Mul, Div, SignedDiv, Or, And, ShiftLeft, ShiftRight, Mod, SignedMod, Xor, Mov, SignedShiftRight, Neg, SignExtend, End}
-use Rattle.interval.specs.Words.{signed, unsigned, negate, signed_divide, signed_remainder, sign_extend}
-use Rattle.interval.specs.Operate.{operand, combined, operate, byte_order, reversed_bytes, kept_bits, narrow_bits}
+use Rattle.words.specs.declared.operator.KeptBits.{KeptBits}
+use Rattle.words.specs.declared.operator.KeptBits.TheVariants as bits
+use Rattle.words.specs.declared.operator.OrderChange.{OrderChange}
+use Rattle.words.specs.declared.operator.OrderChange.TheVariants.{Little, Big, Swap}
+use Rattle.words.specs.declared.operator.Operator.{Operator}
+use Rattle.words.specs.declared.operator.Operator.TheVariants.{Add, Sub, Mul, Div, SignedDiv, Or, And, ShiftLeft, ShiftRight, Mod, SignedMod, Xor, Mov, SignedShiftRight, Neg, SignExtend, End}
+use Rattle.words.specs.Words.{signed, unsigned, negate, signed_divide, signed_remainder, sign_extend}
+use Rattle.words.specs.Operate.{operand, combined, operate, byte_order, reversed_bytes, kept_bits, narrow_bits}
 use Rattle.interval.specs.Ranges.{IsMember, constant, is_constant, full}
 use Rattle.interval.specs.Table.{are_constants, spread, result_range, cut, seen, range_of}
 use Rattle.interval.proofs.Members.{in_full, in_constant, only_member, where_lt, where_constant}

@@ -6,7 +6,7 @@ use Rattle.std.proofs.lemmas.Bool.{lt-ltb, cond-true}
 use Rattle.std.proofs.lemmas.Nat.{and_le_l, and_le_r, or_lt, xor_lt, le_or_l, le_or_r, shr_le, pow_pos}
 use Rattle.std.specs.Int.{int_shr}
 use Rattle.interval.specs.declared.range.Range.{Range}
-use Rattle.interval.specs.Words.{signed, unsigned, shift_left, shift_right, signed_shift_right, sign_extend}
+use Rattle.words.specs.Words.{signed, unsigned, shift_left, shift_right, signed_shift_right, sign_extend}
 use Rattle.interval.specs.Ranges.{IsMember}
 use Rattle.interval.specs.Table.{and_range, or_range, xor_range, binary_digits, scaled_range, shift_left_range, shift_right_range, signed_shift_right_range, sign_extend_range}
 use Rattle.interval.proofs.Members.{in_full, in_span, where_lt, where_constant}

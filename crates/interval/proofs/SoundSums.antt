@@ -4,7 +4,7 @@ use Rattle.std.proofs.Math.Nat.{mod-eq_of_lt, div-le_self, mod-le}
 use Rattle.std.proofs.lemmas.Bool.{cond_both, eqb-true, eqb-false}
 use Rattle.std.proofs.lemmas.Nat.{mod_below, mul-le}
 use Rattle.interval.specs.declared.range.Range.{Range}
-use Rattle.interval.specs.Words.{add, subtract, multiply, divide, remainder}
+use Rattle.words.specs.Words.{add, subtract, multiply, divide, remainder}
 use Rattle.interval.specs.Ranges.{IsMember}
 use Rattle.interval.specs.Table.{sum_range, difference_range, product_range, quotient_range, remainder_range}
 use Rattle.interval.proofs.Members.{in_full, in_span, where_lt, where_le}

@@ -1,10 +1,10 @@
 -- What holds of the definitions, for all ranges of words. This project's own.
 use Rattle.std.specs.Prelude.{◌≡◌, ℕ, ◌^◌, ◌<◌, IsTrue, IsFalse, Option, Some, None}
 use Rattle.interval.specs.declared.range.Range.{Range}
-use Rattle.interval.specs.declared.operator.Operator.{Operator}
-use Rattle.interval.specs.declared.operator.Comparison.{Comparison}
-use Rattle.interval.specs.Operate.{operate}
-use Rattle.interval.specs.Compare.{compares}
+use Rattle.words.specs.declared.operator.Operator.{Operator}
+use Rattle.words.specs.declared.operator.Comparison.{Comparison}
+use Rattle.words.specs.Operate.{operate}
+use Rattle.words.specs.Compare.{compares}
 use Rattle.interval.specs.Ranges.{IsMember, hull}
 use Rattle.interval.specs.Table.{range_of}
 use Rattle.interval.specs.Refine.{RangePair, refined, IsPairOn}

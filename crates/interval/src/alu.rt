@@ -1,17 +1,16 @@
 //! The range of an operator's results.
 
 ghost use Rattle.std.specs.Prelude.{◌≡◌, ℕ, ◌<◌, ◌^◌};
-ghost use Rattle.interval.specs.Widths.{bits_of};
-ghost use Rattle.interval.specs.Operate.{operate, combined, kept_bits};
+ghost use Rattle.words.specs.Widths.{bits_of};
+ghost use Rattle.words.specs.Operate.{operate, combined, kept_bits};
 ghost use Rattle.interval.specs.Ranges.{IsMember, full};
 ghost use Rattle.interval.specs.Table.{are_constants, spread, result_range, seen, range_of};
 
 use crate::arithmetic::{difference, product, quotient, remainder, sum};
 use crate::bitwise::{and, exclusive_or, or};
-use crate::operator::{KeptBits, Operator};
 use crate::range::{Range, greatest};
 use crate::shifts::{shift_left, shift_right, sign_extend, signed_shift_right};
-use crate::{words32, words64};
+use words::{KeptBits, Operator, words32, words64};
 
 /// The range of an operator's results on 64 bits: the one that the table of ranges gives, which holds the result of each
 /// two members. An operand that the operator does not read is ignored.

@@ -1,7 +1,7 @@
 //! The ranges of sums, differences, products, quotients and remainders.
 
 ghost use Rattle.std.specs.Prelude.{◌≡◌, ◌<◌, ◌^◌};
-ghost use Rattle.interval.specs.Widths.{bits_of};
+ghost use Rattle.words.specs.Widths.{bits_of};
 ghost use Rattle.interval.specs.Table.{sum_range, difference_range, product_range, quotient_range, remainder_range};
 
 use crate::range::{Range, greatest};

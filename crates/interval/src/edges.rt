@@ -1,13 +1,13 @@
 //! What a conditional jump tells of its operands.
 
 ghost use Rattle.std.specs.Prelude.{◌≡◌, ℕ, ◌+◌, ◌-◌, IsTrue, IsFalse, Option};
-ghost use Rattle.interval.specs.Widths.{bits_of};
-ghost use Rattle.interval.specs.Compare.{compares};
+ghost use Rattle.words.specs.Widths.{bits_of};
+ghost use Rattle.words.specs.Compare.{compares};
 ghost use Rattle.interval.specs.Ranges.{IsMember};
 ghost use Rattle.interval.specs.Refine.{without, where_equal, where_different, where_above, where_at_most, refined, IsPairOn, turned};
 
-use crate::operator::Comparison;
 use crate::range::{Range, greatest};
+use words::Comparison;
 
 /// The ranges of both operands on an edge, and `None` where the edge can't be taken.
 pub type Edge = Option<(Range, Range)>;

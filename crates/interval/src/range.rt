@@ -1,7 +1,7 @@
 //! A range of unsigned numbers.
 
 ghost use Rattle.std.specs.Prelude.{◌≡◌, ◌+◌, ◌^◌, ◌≤◌};
-ghost use Rattle.interval.specs.Widths.{bits_of};
+ghost use Rattle.words.specs.Widths.{bits_of};
 
 /// The whole numbers from `lo` to `hi`, both included. There is at least one.
 #[derive(Clone, Copy, Debug, PartialEq, Eq)]

@@ -1,12 +1,12 @@
 //! The ranges of shifts and of sign extensions.
 
 ghost use Rattle.std.specs.Prelude.{◌≡◌, ◌<◌, ◌^◌, ◌%◌};
-ghost use Rattle.interval.specs.Widths.{bits_of};
-ghost use Rattle.interval.specs.Operate.{narrow_bits};
+ghost use Rattle.words.specs.Widths.{bits_of};
+ghost use Rattle.words.specs.Operate.{narrow_bits};
 ghost use Rattle.interval.specs.Table.{scaled_range, shift_left_range, shift_right_range, signed_shift_right_range, sign_extend_range};
 
-use crate::operator::ExtendedBits;
 use crate::range::{Range, greatest};
+use words::ExtendedBits;
 
 /// How many places a shift moves by: the second operand modulo the number of bits.
 fn places(wide: bool, by: u64) -> u64

@@ -10,7 +10,8 @@ use Rattle.reg_kinds.specs.Kinds.{kind_at, slot_at}
 use Rattle.reg_kinds.specs.Join.{kind_join, spilled, slot_join, facts_join}
 use Rattle.reg_kinds.specs.Laws.{KindsCommute, KindsAssociate, SlotsCommute, SlotsAssociate, FactsCommute, FactsAssociate}
 use Rattle.reg_kinds.proofs.KindGroups.{nothing_last}
-use Rattle.reg_kinds.proofs.Tables.{tabulate-at, same_table, same_facts}
+use Rattle.reg_kinds.specs.TableLaws.{tabulate-at}
+use Rattle.reg_kinds.proofs.Tables.{same_table, same_facts}
 
 -- ---- slots
 

@@ -1,15 +1,15 @@
 -- Tests of each slot, and bits that stand for bytes.
 use Rattle.std.proofs.Common.{◌≡◌, ℕ, zero, suc, ◌+◌, ◌-◌, ◌*◌, ◌%◌, ◌^◌, ◌<◌, ◌≤◌, Bool, true, false, refl, sym, ap, subst, ◌∙◌, ⊎_elim, arith}
 use Rattle.std.specs.Prelude.{◌||◌, if◌then◌else◌, not, ℤ, Result, Ok, Err, Some, None}
-use Rattle.std.proofs.lemmas.Bool.{cases_lt}
+use Rattle.std.proofs.lemmas.Bool.{cases_lt, or_from, or_left, or_right}
 use Rattle.std.proofs.Math.Nat.{mod-eq_of_lt, pow-le-pow_right}
-use Rattle.std.proofs.lemmas.Nat.{pow-add, pow_pos}
 use Rattle.std.proofs.lemmas.Option.{cond_some}
 use Rattle.reg_kinds.specs.declared.facts.Facts.{Facts}
 use Rattle.reg_kinds.specs.declared.reason.Reason.{Reason}
 use Rattle.reg_kinds.specs.declared.reason.Reason.TheVariants.{OutsideStack, UnwrittenStack, PartOfSpill}
 use Rattle.reg_kinds.specs.Kinds.{slot_at}
 use Rattle.reg_kinds.specs.Stack.{is_in_stack, place}
+use Rattle.reg_kinds.specs.StackLaws.{ones_small}
 use Rattle.reg_kinds.specs.Many.{any_below, is_touched_spill, touches, lacks, bits_in, stack_input}
 
 -- ---- tests
@@ -18,29 +18,17 @@ pub none_first : (test : ℕ → Bool) → any_below 0 test ≡ false
 unfolding any_below
 none_first test = refl
 
-or_false : (a b : Bool) → a ≡ false → b ≡ false → (a || b) ≡ false
-or_false true b e f = e
-or_false false b e f = f
-
-or_true : (a b : Bool) → b ≡ true → (a || b) ≡ true
-or_true true b e = refl
-or_true false b e = e
-
-or_first : (a b : Bool) → a ≡ true → (a || b) ≡ true
-or_first true b e = refl
-or_first false b e = absurd (let z : ⊥ = cc in z)
-
 pub none_more : (n : ℕ) (test : ℕ → Bool) → any_below n test ≡ false → test n ≡ false → any_below (n + 1) test ≡ false
 unfolding any_below
-none_more n test e f = let one : suc n ≡ n + 1 = omega arith in subst (λ k. any_below k test ≡ false) one (or_false (test n) (any_below n test) f e)
+none_more n test e f = let one : suc n ≡ n + 1 = omega arith in subst (λ k. any_below k test ≡ false) one (or_from (test n) (any_below n test) f e)
 
 pub one_below : (n i : ℕ) (test : ℕ → Bool) → i < n → test i ≡ true → any_below n test ≡ true
 unfolding any_below
 one_below zero i test lt e = absurd (omega arith)
 one_below (suc n) i test lt e =
     ⊎_elim
-    (λ below. or_true (test n) (any_below n test) (one_below n i test below e))
-    (λ le. let same : i ≡ n = omega arith in or_first (test n) (any_below n test) (subst (λ k. test k ≡ true) same e))
+    (λ below. or_right (test n) (any_below n test) (one_below n i test below e))
+    (λ le. let same : i ≡ n = omega arith in or_left (test n) (any_below n test) (subst (λ k. test k ≡ true) same e))
     (cases_lt i n)
 
 -- ---- what may be read
@@ -66,22 +54,6 @@ pub input_is : (f : Facts) (x y : ℤ) (n p : ℕ) (a b : Bool) → y ≡ x → 
 input_is f x y n p a b same at e g = input_at f x n p a b (subst (λ z. (if is_in_stack z n then Some (place z) else None) ≡ Some p) same at) e g
 
 -- ---- bits
-
-less_one : (x y : ℕ) → 0 < x → (x - 1) * y + y ≡ x * y
-less_one zero y h = absurd (omega arith)
-less_one (suc x) y h = let back : suc x - 1 ≡ x = omega arith in ap (λ (k : ℕ). k * y + y) back ∙ next x y
-  where
-    next : (x y : ℕ) → x * y + y ≡ suc x * y
-    next x y = grind arith
-
-pub ones_small : (a b : ℕ) → a + b ≤ 8 → (2 ^ a - 1) * 2 ^ b < 256
-ones_small a b h =
-    let some : 0 < 2 = omega arith in
-    let most : 2 ^ (a + b) ≤ 2 ^ 8 = pow-le-pow_right some h in
-    let sum = pow-add 2 a b in
-    let less = less_one (2 ^ a) (2 ^ b) (pow_pos a) in
-    let one = pow_pos b in
-    omega arith
 
 pub ones_are : (a b : ℕ) → a + b ≤ 8 → ((1 * 2 ^ a % 65536 - 1) * 2 ^ b) % 65536 ≡ (2 ^ a - 1) * 2 ^ b
 ones_are a b h =

@@ -1,18 +1,11 @@
 -- Lists made of a function, and a list after one more write.
 use Rattle.std.proofs.Common.{◌≡◌, ℕ, ◌+◌, ◌<◌, ◌≤◌, List, length, get_or, set, ap, ◌∙◌, arith, below_more, get_or-set_same, get_or-set_other}
-use Rattle.std.proofs.lemmas.List.FromFn.{fill_by_all, get_or-map-range_with_len, length-map-range_with_len}
+use Rattle.std.proofs.lemmas.List.FromFn.{fill_by_all}
 use Rattle.reg_kinds.specs.declared.kind.Kind.{Kind}
 use Rattle.reg_kinds.specs.declared.kind.Slot.{Slot}
 use Rattle.reg_kinds.specs.declared.facts.Facts.{Facts}
 use Rattle.reg_kinds.specs.Kinds.{tabulate}
-
-pub tabulate-at : {X : Type 0} (f : ℕ → X) (n i : ℕ) (d : X) → i < n → get_or (tabulate n f) i d ≡ f i
-unfolding tabulate
-tabulate-at f n i d h = get_or-map-range_with_len f 0 n i i d h (omega arith)
-
-pub length-tabulate : {X : Type 0} (f : ℕ → X) (n : ℕ) → length (tabulate n f) ≡ n
-unfolding tabulate
-length-tabulate f n = length-map-range_with_len f 0 n
+use Rattle.reg_kinds.specs.TableLaws.{tabulate-at, length-tabulate}
 
 pub filled : {X : Type 0} (f : ℕ → X) (xs : List X) (n : ℕ) (d : X) → length xs ≡ n → ((k : ℕ) → k < n → get_or xs k d ≡ f k) → xs ≡ tabulate n f
 unfolding tabulate

@@ -6,4 +6,6 @@ pub mod Pointers
 pub mod Reason
 pub mod Settle
 pub mod Stack
+pub mod StackLaws
+pub mod TableLaws
 pub mod inside

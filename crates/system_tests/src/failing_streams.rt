@@ -32,11 +32,11 @@ impl Read for Broken<'_> {
 
 /// A writer that takes so many bytes, and then none.
 #[derive(Drop)]
-struct Narrow {
+struct NarrowWriter {
     room: usize,
 }
 
-impl Write for Narrow {
+impl Write for NarrowWriter {
     fn write(&mut self, buf: &[u8]) -> io::Result<usize> {
         let taken = buf.len().min(self.room);
         self.room -= taken;
@@ -104,7 +104,7 @@ fn a_reader_that_fails(rt: HostRuntime) -> Result<(), Fail> {
 #[test]
 fn a_writer_that_takes_no_more(rt: HostRuntime) -> Result<(), Fail> {
     for (room, frames) in [(5, 0), (12, 1), (17, 1)] {
-        let (end, failures) = served_to(rt.alloc(), Narrow { room })?;
+        let (end, failures) = served_to(rt.alloc(), NarrowWriter { room })?;
         assert_eq!(rt; end, write_fault(frames), "room for {room}");
         assert_eq!(rt; failures, 1);
     }
@@ -145,7 +145,7 @@ fn a_text_that_is_not_read(rt: HostRuntime) -> Result<(), Fail> {
 #[test]
 fn a_text_that_is_not_written(rt: HostRuntime) -> Result<(), Fail> {
     let alloc = rt.alloc();
-    let (status, line) = assembled(alloc, b"exit".as_slice(), Narrow { room: 5 })?;
+    let (status, line) = assembled(alloc, b"exit".as_slice(), NarrowWriter { room: 5 })?;
     assert_eq!(rt; status, 3);
     assert_eq!(rt; line.as_str(), "write fault\n");
     let (status, line) = assembled(alloc, b"exit".as_slice(), Stuck)?;

@@ -9,6 +9,7 @@ use Rattle.reg_kinds.specs.declared.kind.Slot.TheVariants as slot
 use Rattle.reg_kinds.specs.declared.facts.Facts.{Facts}
 use Rattle.reg_kinds.specs.Kinds.{kind_at, slot_at}
 use Rattle.reg_kinds.specs.Many.{call_kind}
+use Rattle.reg_kinds.specs.TableLaws.{in_table}
 use Rattle.tagged_model.specs.declared.shape.MapShape.{MapShape}
 use Rattle.tagged_model.specs.declared.value.Tagged.{Tagged}
 use Rattle.tagged_model.specs.Cells.{Cell}
@@ -16,7 +17,6 @@ use Rattle.tagged_model.specs.State.{RunState, RunMap, set_at}
 use Rattle.tagged_model.specs.Helpers.{after_call}
 use Rattle.tagged_model.specs.Admits.{Witness, IsOfKind, IsLookup, HasKind, HoldsNull, HasSlot, AdmitsBy, objects_of, IsMapOf, IsKindBelow, IsSlotBelow, witness_at}
 use Rattle.tagged_model.specs.Laws.{MapChangeAdmits, CallAdmits, SiteAdmits}
-use Rattle.tagged_model.proofs.Tables.{in_table}
 use Rattle.tagged_model.proofs.Unknown.{has_kind}
 use Rattle.tagged_model.proofs.Objects.{map_admits, map_proper}
 

@@ -2,7 +2,7 @@
 use Rattle.std.proofs.Common.{◌≡◌, ℕ, zero, suc, ◌+◌, ◌*◌, ◌^◌, ◌<◌, List, [], ◌∷◌, length, Option, Some, refl, ap, ◌∙◌, arith}
 use Rattle.std.proofs.Math.Nat.{pow-suc}
 use Rattle.std.specs.List.{All}
-use Rattle.interval.specs.Bytes.{number_of}
+use Rattle.words.specs.Bytes.{number_of}
 use Rattle.tagged_model.specs.Cells.{Cell, also, byte_at, gathered}
 
 -- all that stands in the cell is a byte

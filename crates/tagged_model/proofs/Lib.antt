@@ -1,4 +1,3 @@
-pub mod Tables
 pub mod Unknown
 pub mod Joins
 pub mod NullTests

@@ -2,7 +2,7 @@
 use Rattle.std.proofs.Common.{◌≡◌, ℕ, zero, suc, ◌+◌, ◌-◌, ◌*◌, ◌/◌, ◌%◌, ◌<◌, ◌≤◌, ltb, ◌==◌, bit_and, int_le, ℤ, pos, negsuc, ◌+ℤ◌, ◌≤ℤ◌, unsigned_abs, Bool, true, false, not, if◌then◌else◌, List, length, Some, None, Result, Ok, Err, refl, sym, ap, subst, ◌∙◌, ⊎_elim, arith}
 use Rattle.std.specs.Prelude.{◌||◌}
 use Rattle.std.specs.Int.{bit_at}
-use Rattle.std.proofs.lemmas.Bool.{cond-true, and_parts, and_from, eqb-true, lt-ltb, cases_lt, false≢true}
+use Rattle.std.proofs.lemmas.Bool.{cond-true, and_parts, and_from, eqb-true, lt-ltb, cases_lt, false≢true, or_parts, not-false}
 use Rattle.std.proofs.lemmas.Int.{ints}
 use Rattle.reg_kinds.specs.declared.kind.Slot.{Slot}
 use Rattle.reg_kinds.specs.declared.kind.Slot.TheVariants as slot
@@ -11,6 +11,7 @@ use Rattle.reg_kinds.specs.declared.reason.Reason.{Reason}
 use Rattle.reg_kinds.specs.declared.reason.Reason.TheVariants.{OutsideStack, UnwrittenStack, PartOfSpill}
 use Rattle.reg_kinds.specs.Kinds.{slot_at}
 use Rattle.reg_kinds.specs.Stack.{is_in_stack, place}
+use Rattle.reg_kinds.specs.StackLaws.{in_stack}
 use Rattle.reg_kinds.specs.Many.{touches, bits_in, any_below, is_touched_spill, lacks, stack_input}
 use Rattle.tagged_model.specs.Cells.{Cell, byte_at, gathered}
 use Rattle.tagged_model.specs.State.{RunState, stack_byte, stack_bytes}
@@ -21,34 +22,12 @@ use Rattle.tagged_model.proofs.Places.{refused}
 
 -- ---- tests of every slot
 
-neither : (a b : Bool) → (a || b) ≡ false → (a ≡ false) × (b ≡ false)
-neither true b e = absurd (false≢true (sym e))
-neither false b e = (refl, e)
-
 pub none_below : (n : ℕ) (test : ℕ → Bool) → any_below n test ≡ false → (i : ℕ) → i < n → test i ≡ false
 unfolding any_below
 none_below zero test e i lt = absurd (omega arith)
 none_below (suc n) test e i lt =
-    let h = neither (test n) (any_below n test) e in
+    let h = or_parts (test n) (any_below n test) e in
     ⊎_elim (λ below. none_below n test h.1 i below) (λ le. let same : n ≡ i = omega arith in subst (λ k. test k ≡ false) same h.0) (cases_lt i n)
-
--- ---- places
-
-pub in_stack : (n : ℕ) (y : ℤ) → is_in_stack y n ≡ true → (pos (place y) ≡ pos 512 +ℤ y) × (place y + n ≤ 512)
-in_stack n (pos y) h =
-    let a = and_parts (int_le (negsuc 511) (pos y)) (int_le (pos y +ℤ pos n) (pos 0)) h in
-    let p = a.1 in
-    let high : (pos y +ℤ pos n) ≤ℤ pos 0 = grind (arith, ints) in
-    (omega (arith, ints), omega (arith, ints))
-in_stack n (negsuc y) h =
-    let a = and_parts (int_le (negsuc 511) (negsuc y)) (int_le (negsuc y +ℤ pos n) (pos 0)) h in
-    let p = a.0 in
-    let r = a.1 in
-    let low : negsuc 511 ≤ℤ negsuc y = grind (arith, ints) in
-    let high : (negsuc y +ℤ pos n) ≤ℤ pos 0 = grind (arith, ints) in
-    let above : negsuc y +ℤ pos 512 ≡ pos (511 - y) = omega (arith, ints) in
-    let same : place (negsuc y) ≡ 511 - y = ap unsigned_abs above in
-    (omega (arith, ints), omega (arith, ints))
 
 -- ---- what the facts tell
 
@@ -70,11 +49,7 @@ may_read f x n e =
 
 -- a bit that is told, and the byte
 set_there : (mask bits j : ℕ) → not (bit_and mask bits == bits) ≡ false → bit_at bits j ≡ 1 → bit_at mask j ≡ 1
-set_there mask bits j e one = each_in_mask mask bits j (eqb-true (bit_and mask bits) bits (unnot (bit_and mask bits == bits) e)) one
-  where
-    unnot : (b : Bool) → not b ≡ false → b ≡ true
-    unnot true e = refl
-    unnot false e = absurd (false≢true (sym e))
+set_there mask bits j e one = each_in_mask mask bits j (eqb-true (bit_and mask bits) bits (not-false (bit_and mask bits == bits) e)) one
 
 slot_there : (witness : Witness) (t : Slot) (c : Cell) (p n i j : ℕ) → j < 8 → p ≤ 8 * i + j → 8 * i + j < p + n → HasSlot witness t c → is_touched_spill t (touches p n i) ≡ false → lacks t (bits_in p n i) ≡ false → (b : ℕ) × (byte_at c j ≡ Some b)
 slot_there witness (slot.Bytes mask) c p n i j few from to has s l = has j few (set_there mask (bits_in p n i) j l (bit_in p n i j few from to))

@@ -10,12 +10,12 @@ use Rattle.reg_kinds.specs.declared.reason.Reason.TheVariants.{OutsideStack}
 use Rattle.reg_kinds.specs.Kinds.{slot_at}
 use Rattle.reg_kinds.specs.Stack.{is_in_stack, place, bytes_over}
 use Rattle.reg_kinds.specs.Many.{touches, bits_in, filled, stack_filled}
+use Rattle.reg_kinds.specs.TableLaws.{in_table}
 use Rattle.tagged_model.specs.Cells.{Cell, bytes, byte_at, cell_over}
 use Rattle.tagged_model.specs.State.{RunState, with_cells, stack_written}
 use Rattle.tagged_model.specs.Admits.{Witness, HasBytes, HasSlot, AdmitsBy, IsInRange}
 use Rattle.tagged_model.specs.Admits.{AreBytes as AreSmall}
-use Rattle.tagged_model.proofs.Tables.{in_table}
-use Rattle.tagged_model.proofs.Unknown.{no_bytes}
+use Rattle.tagged_model.specs.StateLaws.{no_bytes}
 use Rattle.tagged_model.proofs.CellBytes.{AreBytes}
 use Rattle.tagged_model.proofs.MaskBits.{only_in, of_either}
 use Rattle.tagged_model.proofs.Places.{chosen}

@@ -11,34 +11,9 @@ use Rattle.tagged_model.specs.State.{RunMap, set_at, with_value}
 use Rattle.tagged_model.specs.Helpers.{with_object, put, updated, taken_out, removed}
 use Rattle.tagged_model.specs.Admits.{AreBytes, KeysHaveObjects, IsMapOf}
 use Rattle.tagged_model.specs.Laws.{KeepsShape}
+use Rattle.tagged_model.specs.StateLaws.{found_owned, owns_more, owns_with, owns_without}
 use Rattle.tagged_model.proofs.Objects.{values_small}
 use Rattle.std.proofs.lemmas.Bool.{cond_both, eqb-false}
-
--- ---- the objects of keys
-
-pub found_owned : (count : ℕ) (key : List ℕ) (es : List (List ℕ × ℕ)) (number : ℕ) → KeysHaveObjects count es → found key es ≡ Some number → number < count
-found_owned count key [] number owns e = absurd (none-some number e)
-found_owned count key (x ∷ es) number owns e = by (λ f. found_owned count key es number owns.1 f) (is_key key x.0) e
-  where
-    by : (found key es ≡ Some number → number < count) → (b : Bool) → cond b (Some x.1) (found key es) ≡ Some number → number < count
-    by rest true e = let same : x.1 ≡ number = same_Some x.1 number e in let lt = owns.0 in omega arith
-    by rest false e = rest e
-
-owns_more : (n m : ℕ) (es : List (List ℕ × ℕ)) → n ≤ m → KeysHaveObjects n es → KeysHaveObjects m es
-owns_more n m [] le h = tt
-owns_more n m (e ∷ es) le h = let lt = h.0 in (omega arith, owns_more n m es le h.1)
-
-owns_with : (n : ℕ) (key : List ℕ) (number : ℕ) (es : List (List ℕ × ℕ)) → number < n → KeysHaveObjects n es → KeysHaveObjects n (with_key key number es)
-owns_with n key number [] lt h = (lt, tt)
-owns_with n key number (e ∷ es) lt h = (h.0, owns_with n key number es lt h.1)
-
-owns_without : (n : ℕ) (key : List ℕ) (es : List (List ℕ × ℕ)) → KeysHaveObjects n es → KeysHaveObjects n (without key es)
-owns_without n key [] h = tt
-owns_without n key (e ∷ es) h = by (is_key key e.0) (owns_without n key es h.1)
-  where
-    by : (b : Bool) → KeysHaveObjects n (without key es) → KeysHaveObjects n (cond b es (e ∷ without key es))
-    by true g = h.1
-    by false g = (h.0, g)
 
 -- ---- only a hash map gets a new key, and only it loses one
 

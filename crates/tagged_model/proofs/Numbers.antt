@@ -1,6 +1,7 @@
 -- The numbers that loads give are words of the kind that is told.
 use Rattle.std.proofs.Common.{ℕ, ◌-◌, ◌*◌, ◌%◌, ◌^◌, ◌<◌, ◌≤◌, ℤ, pos, negsuc, Bool, true, false, refl, arith}
-use Rattle.interval.specs.Words.{unsigned, signed}
+use Rattle.words.specs.Words.{signed}
+use Rattle.words.specs.SignLaws.{unsigned_small}
 use Rattle.interval.specs.Ranges.{full}
 use Rattle.reg_kinds.specs.declared.stack.AccessSize.{AccessSize}
 use Rattle.reg_kinds.specs.declared.stack.AccessSize.TheVariants.{Byte, Half, Word, Double}
@@ -8,10 +9,6 @@ use Rattle.reg_kinds.specs.Stack.{bytes_of, loaded}
 use Rattle.tagged_model.specs.declared.value.Tagged.TheVariants.{Scalar}
 use Rattle.tagged_model.specs.Cells.{widened}
 use Rattle.tagged_model.specs.Admits.{Witness, IsOfKind, IsScalarOf}
-
-word_of : (z : ℤ) → unsigned 64 z < 2 ^ 64
-word_of (pos m) = omega arith
-word_of (negsuc m) = omega arith
 
 in_full : (x y w : ℕ) → x < y → y ≤ w → (0 ≤ x) × (x ≤ y - 1) × (x < w)
 in_full x y w h g = (omega arith, omega arith, omega arith)
@@ -21,7 +18,7 @@ full_scalar k x h g = let p = in_full x (2 ^ k) (2 ^ 64) h g in (x, refl, record
 
 -- a number of so many bytes, with its sign or with zeros above
 pub widened_is : (witness : Witness) (size : AccessSize) (signed : Bool) (x : ℕ) → x < 256 ^ bytes_of size → IsOfKind witness (loaded size signed) (Scalar (widened size signed x))
-widened_is witness size true x h = full_scalar 64 (widened size true x) (word_of (signed (8 * bytes_of size) (x % 2 ^ (8 * bytes_of size)))) (omega arith)
+widened_is witness size true x h = full_scalar 64 (widened size true x) (unsigned_small (signed (8 * bytes_of size) (x % 2 ^ (8 * bytes_of size)))) (omega arith)
 widened_is witness Byte false x h = full_scalar 8 x h (omega arith)
 widened_is witness Half false x h = full_scalar 16 x h (omega arith)
 widened_is witness Word false x h = full_scalar 32 x h (omega arith)

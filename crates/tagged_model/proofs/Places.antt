@@ -45,13 +45,6 @@ at_place offset size f y e =
       h.2,
     )
 
--- an aligned access ends in the slot where it begins
-pub in_one_slot : (size : AccessSize) (p : ℕ) → p % bytes_of size ≡ 0 → p % 8 + bytes_of size ≤ 8
-in_one_slot Byte p h = omega arith
-in_one_slot Half p h = omega arith
-in_one_slot Word p h = omega arith
-in_one_slot Double p h = omega arith
-
 pub some_bytes : (size : AccessSize) → 0 < bytes_of size
 some_bytes Byte = omega arith
 some_bytes Half = omega arith

@@ -2,7 +2,7 @@
 use Rattle.std.proofs.Common.{◌≡◌, ℕ, ◌+◌, ◌/◌, ◌%◌, ◌<◌, ◌==◌, ℤ, bit_and, Bool, true, false, Some, Ok, refl, sym, ap, subst, ◌∙◌, inl, inr, arith}
 use Rattle.std.proofs.lemmas.Bool.{eqb-true}
 use Rattle.std.proofs.lemmas.Option.{none-some}
-use Rattle.interval.specs.Bytes.{number_of}
+use Rattle.words.specs.Bytes.{number_of}
 use Rattle.reg_kinds.specs.declared.reason.Reason.TheVariants.{UnwrittenStack, PartOfSpill}
 use Rattle.reg_kinds.specs.declared.kind.Kind.{Kind}
 use Rattle.reg_kinds.specs.declared.kind.Kind.TheVariants as kind
@@ -13,6 +13,7 @@ use Rattle.reg_kinds.specs.declared.stack.AccessSize.TheVariants.{Double}
 use Rattle.reg_kinds.specs.declared.facts.Facts.{Facts}
 use Rattle.reg_kinds.specs.Kinds.{slot_at}
 use Rattle.reg_kinds.specs.Stack.{bytes_of, byte_bits, place, loaded, read_slot, stack_read}
+use Rattle.reg_kinds.specs.StackLaws.{in_one_slot}
 use Rattle.tagged_model.specs.declared.value.Tagged.{Tagged}
 use Rattle.tagged_model.specs.declared.value.Tagged.TheVariants.{Scalar}
 use Rattle.tagged_model.specs.Cells.{Cell, holds, bytes, also, byte_at, widened, number_from, read_cell}
@@ -21,7 +22,7 @@ use Rattle.tagged_model.specs.Admits.{Witness, IsOfKind, HoldsNull, HasBytes, Ha
 use Rattle.tagged_model.proofs.CellBytes.{AreBytes, AreRead, all_read, zeros_read}
 use Rattle.tagged_model.proofs.MaskBits.{in_mask}
 use Rattle.tagged_model.proofs.Numbers.{widened_is}
-use Rattle.tagged_model.proofs.Places.{refused, same_ok, chosen, at_place, in_one_slot, some_bytes}
+use Rattle.tagged_model.proofs.Places.{refused, same_ok, chosen, at_place, some_bytes}
 
 -- ---- what a load of a cell gives
 

@@ -2,7 +2,7 @@
 use Rattle.std.proofs.Common.{◌≡◌, ℕ, ◌/◌, ◌%◌, ◌==◌, ℤ, true, if◌then◌else◌, Some, Ok, Err, refl, sym, ap, subst, ◌∙◌, ⊎_elim, inl, inr}
 use Rattle.std.proofs.lemmas.Bool.{cond_both, false≢true}
 use Rattle.std.proofs.lemmas.Option.{none-some}
-use Rattle.interval.specs.Bytes.{low_bytes}
+use Rattle.words.specs.Bytes.{low_bytes}
 use Rattle.reg_kinds.specs.declared.reason.Reason.TheVariants.{UnreadableRegister, PartOfSpill}
 use Rattle.reg_kinds.specs.declared.kind.Kind.{Kind}
 use Rattle.reg_kinds.specs.declared.kind.Kind.TheVariants as kind
@@ -14,13 +14,13 @@ use Rattle.reg_kinds.specs.declared.facts.Facts.{Facts}
 use Rattle.reg_kinds.specs.Reason.{given}
 use Rattle.reg_kinds.specs.Kinds.{is_pointer, slot_at, with_slot}
 use Rattle.reg_kinds.specs.Stack.{bytes_of, byte_bits, place, touched, is_whole, bytes_over, slot_written, facts_written, stack_write}
+use Rattle.reg_kinds.specs.TableLaws.{in_written}
 use Rattle.tagged_model.specs.declared.value.Tagged.{Tagged}
 use Rattle.tagged_model.specs.declared.value.Tagged.TheVariants.{Scalar, Map, Pointer}
 use Rattle.tagged_model.specs.Cells.{Cell, holds, also, written_over, write_cell}
 use Rattle.tagged_model.specs.State.{RunState, with_cell, stack_store}
 use Rattle.tagged_model.specs.Admits.{Witness, IsOfKind, IsKeptWhole, HasSlot, AdmitsBy, IsInRange}
-use Rattle.tagged_model.proofs.Tables.{in_written}
-use Rattle.tagged_model.proofs.Unknown.{no_bytes}
+use Rattle.tagged_model.specs.StateLaws.{no_bytes}
 use Rattle.tagged_model.proofs.CellBytes.{AreBytes}
 use Rattle.tagged_model.proofs.WrittenBytes.{over_small, touched_there, both_there, zeros}
 use Rattle.tagged_model.proofs.Places.{refused, same_ok, given_ok, at_place}

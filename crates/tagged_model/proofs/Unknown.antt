@@ -1,20 +1,16 @@
 -- Kinds and slots of which nothing is known, and facts made of what is known of each register and slot.
 use Rattle.std.proofs.Common.{◌≡◌, ℕ, ◌≤◌, Option, Some, arith}
-use Rattle.std.proofs.lemmas.Nat.Bits.{bit_at-zero}
 use Rattle.reg_kinds.specs.declared.kind.Kind.{Kind}
 use Rattle.reg_kinds.specs.declared.kind.Kind.TheVariants.{Unreadable}
 use Rattle.reg_kinds.specs.declared.kind.Slot.{Slot}
 use Rattle.reg_kinds.specs.declared.kind.Slot.TheVariants.{Bytes}
 use Rattle.reg_kinds.specs.Kinds.{facts_of}
+use Rattle.reg_kinds.specs.TableLaws.{in_table}
 use Rattle.tagged_model.specs.declared.value.Tagged.{Tagged}
 use Rattle.tagged_model.specs.Cells.{Cell}
 use Rattle.tagged_model.specs.State.{RunState}
 use Rattle.tagged_model.specs.Admits.{Witness, IsOfKind, HasKind, HasBytes, HasSlot, AdmitsBy, objects_of}
-use Rattle.tagged_model.proofs.Tables.{in_table}
-
--- of no byte is it told that it is there
-pub no_bytes : (c : Cell) → HasBytes 0 c
-no_bytes c j h e = absurd (omega (arith, bit_at-zero j, e))
+use Rattle.tagged_model.specs.StateLaws.{no_bytes}
 
 -- of a register that may not be read nothing is asked
 pub has_kind : (witness : Witness) (k : Kind) (o : Option Tagged) (v : Tagged) → o ≡ Some v → IsOfKind witness k v → HasKind witness k o

@@ -1,13 +1,13 @@
 -- Loads and stores within the values of maps.
 use Rattle.std.proofs.Common.{ℕ, zero, suc, ◌+◌, ◌*◌, ◌/◌, ◌<◌, ◌^◌, List, [], ◌∷◌, length, sym, ap, subst, arith, pos, ◌+ℤ◌, ◌≤ℤ◌}
-use Rattle.interval.specs.Bytes.{number_of, low_bytes}
+use Rattle.words.specs.Bytes.{number_of, low_bytes}
+use Rattle.words.specs.ByteLaws.{length-low_bytes}
 use Rattle.reg_kinds.specs.Stack.{bytes_of}
 use Rattle.tagged_model.specs.declared.value.Tagged.TheVariants.{Scalar}
 use Rattle.tagged_model.specs.Cells.{widened, number_from}
 use Rattle.tagged_model.specs.Admits.{AreBytes}
 use Rattle.tagged_model.specs.Laws.{ValueLoadAdmits, ValueStoreAdmits}
 use Rattle.tagged_model.proofs.Numbers.{widened_is}
-use Rattle.tagged_model.proofs.WrittenBytes.{length-low_bytes}
 use Rattle.tagged_model.proofs.Objects.{object_read, object_over}
 
 -- ---- bytes and numbers

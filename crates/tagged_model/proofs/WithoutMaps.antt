@@ -1,7 +1,7 @@
 -- A run without maps puts no key, so it is refused no memory.
 use Rattle.std.proofs.Common.{◌≡◌, ℕ, zero, suc, ◌+◌, ◌/◌, ◌%◌, ℤ, pos, ◌+ℤ◌, Bool, true, false, List, [], length, Option, Some, None, option_map, refl, sym, ap, subst, ◌∙◌}
 use Rattle.std.proofs.lemmas.Bool.{cond_both}
-use Rattle.interval.specs.Words.{unsigned}
+use Rattle.words.specs.Words.{unsigned}
 use Rattle.insn_codec.specs.declared.insn.Insn.{Insn}
 use Rattle.insn_codec.specs.declared.insn.Insn.TheVariants.{Alu, Movsx, Neg, End, Ja, Jal, Jump, Call, Exit, Load, Store, Const, MapFd}
 use Rattle.insn_codec.specs.Program.{begins_at, slot_count}

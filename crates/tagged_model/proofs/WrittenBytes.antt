@@ -3,7 +3,8 @@ use Rattle.std.proofs.Common.{◌≡◌, ℕ, zero, suc, ◌+◌, ◌-◌, ◌/�
 use Rattle.std.proofs.lemmas.Bool.{cond_both, cond-true, and_parts, and_from, ltb-true, leb-true, lt-ltb, le-leb}
 use Rattle.std.proofs.lemmas.List.{get_or-replicate}
 use Rattle.std.proofs.lemmas.Option.{none-some, slice_get-get_or}
-use Rattle.interval.specs.Bytes.{low_bytes}
+use Rattle.words.specs.Bytes.{low_bytes}
+use Rattle.words.specs.ByteLaws.{length-low_bytes}
 use Rattle.reg_kinds.specs.Stack.{byte_bits}
 use Rattle.tagged_model.specs.Cells.{Cell, byte_at, written_over}
 use Rattle.tagged_model.specs.Admits.{HasBytes}
@@ -11,10 +12,6 @@ use Rattle.tagged_model.proofs.CellBytes.{AreBytes}
 use Rattle.tagged_model.proofs.MaskBits.{only_touched, of_either}
 
 -- ---- the bytes of a number
-
-pub length-low_bytes : (n x : ℕ) → length (low_bytes n x) ≡ n
-length-low_bytes zero x = refl
-length-low_bytes (suc n) x = ap suc (length-low_bytes n (x / 256))
 
 low_byte_small : (n x k b : ℕ) → slice_get (low_bytes n x) k ≡ Some b → b < 256
 low_byte_small zero x k b e = absurd (none-some b e)

@@ -1,8 +1,10 @@
--- The functions that a program may call: their numbers and arguments are the kernel's (linux/bpf.h, bpf_func_id). What maps
--- answer is the definition of a map; that a failed load of bytes writes zeros is this project's own.
+-- The functions that a program may call: their numbers and arguments are the kernel's (linux/bpf.h, bpf_func_id); a call is
+-- that of RFC 9669, section 4.3.1, and which registers it takes and leaves is the kernel documentation's calling convention
+-- (bpf/standardization/abi.rst). What maps answer is the definition of a map. That a failed load of bytes writes zeros no
+-- documentation says: it is this project's own, and as the kernel does.
 use Rattle.std.specs.Prelude.{ℕ, ◌+◌, ◌-◌, ◌%◌, ◌^◌, ◌==◌, ℤ, pos, Bool, true, false, ◌&&◌, nat_le, if◌then◌else◌, List, [], ◌∷◌, length, replicate, find, Option, Some, None, Result, Ok, Err}
 use Rattle.std.specs.Ordering.{int_eq}
-use Rattle.interval.specs.Bytes.{bytes_at}
+use Rattle.words.specs.Bytes.{bytes_at}
 use Rattle.tagged_model.specs.declared.fault.MapFault.{MapFault}
 use Rattle.tagged_model.specs.declared.fault.MapFault.TheVariants.{NoEntry, TooBig, Memory, Exists, Invalid, NoSpace}
 use Rattle.tagged_model.specs.declared.helper.Helper.{Helper}

@@ -10,3 +10,4 @@ pub mod Helpers
 pub mod Step
 pub mod Admits
 pub mod Laws
+pub mod StateLaws

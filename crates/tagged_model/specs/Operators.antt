@@ -13,16 +13,16 @@ use Rattle.insn_codec.specs.declared.insn.Narrow.{Narrow}
 use Rattle.insn_codec.specs.declared.insn.Narrow.TheVariants as narrow
 use Rattle.insn_codec.specs.declared.insn.Size.{Size}
 use Rattle.insn_codec.specs.declared.insn.Size.TheVariants as size
-use Rattle.interval.specs.declared.operator.Operator.{Operator}
-use Rattle.interval.specs.declared.operator.Operator.TheVariants.{Add, Sub, Mul, Div, SignedDiv, Or, And, ShiftLeft, ShiftRight, Mod, SignedMod, Xor, Mov, SignedShiftRight}
-use Rattle.interval.specs.declared.operator.Comparison.{Comparison}
-use Rattle.interval.specs.declared.operator.Comparison.TheVariants.{Equal, NotEqual, Above, AboveOrEqual, Below, BelowOrEqual, SignedAbove, SignedAboveOrEqual, SignedBelow, SignedBelowOrEqual, CommonBit}
-use Rattle.interval.specs.declared.operator.KeptBits.{KeptBits}
-use Rattle.interval.specs.declared.operator.KeptBits.TheVariants.{Bits16, Bits32, Bits64}
-use Rattle.interval.specs.declared.operator.ExtendedBits.{ExtendedBits}
-use Rattle.interval.specs.declared.operator.ExtendedBits.TheVariants as word
-use Rattle.interval.specs.declared.operator.OrderChange.{OrderChange}
-use Rattle.interval.specs.declared.operator.OrderChange.TheVariants.{Little, Big, Swap}
+use Rattle.words.specs.declared.operator.Operator.{Operator}
+use Rattle.words.specs.declared.operator.Operator.TheVariants.{Add, Sub, Mul, Div, SignedDiv, Or, And, ShiftLeft, ShiftRight, Mod, SignedMod, Xor, Mov, SignedShiftRight}
+use Rattle.words.specs.declared.operator.Comparison.{Comparison}
+use Rattle.words.specs.declared.operator.Comparison.TheVariants.{Equal, NotEqual, Above, AboveOrEqual, Below, BelowOrEqual, SignedAbove, SignedAboveOrEqual, SignedBelow, SignedBelowOrEqual, CommonBit}
+use Rattle.words.specs.declared.operator.KeptBits.{KeptBits}
+use Rattle.words.specs.declared.operator.KeptBits.TheVariants.{Bits16, Bits32, Bits64}
+use Rattle.words.specs.declared.operator.ExtendedBits.{ExtendedBits}
+use Rattle.words.specs.declared.operator.ExtendedBits.TheVariants as word
+use Rattle.words.specs.declared.operator.OrderChange.{OrderChange}
+use Rattle.words.specs.declared.operator.OrderChange.TheVariants.{Little, Big, Swap}
 use Rattle.reg_kinds.specs.declared.stack.AccessSize.{AccessSize}
 use Rattle.reg_kinds.specs.declared.stack.AccessSize.TheVariants.{Byte, Half, Word, Double}
 

@@ -4,7 +4,7 @@ ghost use Rattle.std.specs.Prelude.{◌≡◌};
 ghost use Rattle.tagged_model.specs.Operators.{operator_of, comparison_of, narrow_of, order_of, kept_of, size_of};
 
 use insn_codec::{AluOp, Bits, ByteOrder, Condition, Narrow, Size};
-use interval::{Comparison, Operator};
+use words::{Comparison, Operator};
 
 /// The operator on words.
 #[inline(always)]
@@ -51,37 +51,37 @@ pub fn comparison(condition: Condition) -> Comparison
 
 /// The bits that a sign extension starts from.
 #[inline(always)]
-pub fn narrow(bits: Narrow) -> interval::ExtendedBits
+pub fn narrow(bits: Narrow) -> words::ExtendedBits
     ensures { result ≡ narrow_of bits }
 {
     match bits {
-        Narrow::Bits8 => interval::ExtendedBits::Bits8,
-        Narrow::Bits16 => interval::ExtendedBits::Bits16,
-        Narrow::Bits32 => interval::ExtendedBits::Bits32,
+        Narrow::Bits8 => words::ExtendedBits::Bits8,
+        Narrow::Bits16 => words::ExtendedBits::Bits16,
+        Narrow::Bits32 => words::ExtendedBits::Bits32,
     }
 }
 
 /// The change of byte order.
 #[inline(always)]
-pub fn byte_order(how: ByteOrder) -> interval::OrderChange
+pub fn byte_order(how: ByteOrder) -> words::OrderChange
     ensures { result ≡ order_of how }
 {
     match how {
-        ByteOrder::Little => interval::OrderChange::Little,
-        ByteOrder::Big => interval::OrderChange::Big,
-        ByteOrder::Swap => interval::OrderChange::Swap,
+        ByteOrder::Little => words::OrderChange::Little,
+        ByteOrder::Big => words::OrderChange::Big,
+        ByteOrder::Swap => words::OrderChange::Swap,
     }
 }
 
 /// The bits that a change of byte order keeps.
 #[inline(always)]
-pub fn kept_bits(bits: Bits) -> interval::KeptBits
+pub fn kept_bits(bits: Bits) -> words::KeptBits
     ensures { result ≡ kept_of bits }
 {
     match bits {
-        Bits::Bits16 => interval::KeptBits::Bits16,
-        Bits::Bits32 => interval::KeptBits::Bits32,
-        Bits::Bits64 => interval::KeptBits::Bits64,
+        Bits::Bits16 => words::KeptBits::Bits16,
+        Bits::Bits32 => words::KeptBits::Bits32,
+        Bits::Bits64 => words::KeptBits::Bits64,
     }
 }
 

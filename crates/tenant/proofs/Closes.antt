@@ -8,12 +8,12 @@ use Rattle.std.proofs.lemmas.Bool.{eq-eqb}
 use Rattle.std.proofs.lemmas.List.{ext_get_or}
 use Rattle.std.proofs.lemmas.Option.{none-some, get_or_from_slice_get}
 use Rattle.bpf_maps.specs.Live.{LiveMaps, holds_at, shape_at, map_in}
-use Rattle.fd_table.specs.Table.{first, named, without, flattened}
+use Rattle.fd_table.specs.Table.{first_descriptor, named, with_closed, flattened}
 use Rattle.tenant.specs.declared.object.OpenObject.{OpenObject}
 use Rattle.tenant.specs.declared.object.OpenObject.TheVariants as object
 use Rattle.tenant.specs.Loaded.{LoadedProgram}
 use Rattle.tenant.specs.State.{Map, total, names, is_named, named_from, with_objects}
-use Rattle.tenant.specs.Kept.{KeptTenant, IsWellFormedTenant, MapsAreAtPlaces, IsBound, holds_in, times, weight, by_descriptor, holders, maps_in, state_in}
+use Rattle.tenant.specs.Kept.{KeptTenant, IsWellFormedTenant, MapsAreAtPlaces, IsBound, holds_in, times_listed, times_named, by_descriptor, holders, maps_in, state_in}
 use Rattle.tenant.specs.inside.Leaves.{LeavesHeldMaps}
 use Rattle.tenant.proofs.Sums.{total-unset, total-part}
 use Rattle.tenant.proofs.Opened.{unset_cases}
@@ -37,17 +37,17 @@ tells_or a b m n (inl (a_is, some)) h = inl (ap (λ (x : Bool). x || b) a_is ∙
 tells_or a b m n (inr (a_is, none)) (inl (b_is, some)) = inl (ap₂ (λ (x y : Bool). x || y) a_is b_is, omega arith)
 tells_or a b m n (inr (a_is, none)) (inr (b_is, too)) = inr (ap₂ (λ (x y : Bool). x || y) a_is b_is, omega arith)
 
-tells_times : (place : ℕ) (ms : List (ℕ × ℕ)) → Tells (list_any (λ m. m.1 == place) ms) (times place ms)
-unfolding times
+tells_times : (place : ℕ) (ms : List (ℕ × ℕ)) → Tells (list_any (λ m. m.1 == place) ms) (times_listed place ms)
+unfolding times_listed
 tells_times place [] = inr (refl, refl)
 tells_times place (m ∷ ms) =
-    tells_or (m.1 == place) (list_any (λ m. m.1 == place) ms) (if m.1 == place then 1 else 0) (times place ms) (tells_if (m.1 == place)) (tells_times place ms)
+    tells_or (m.1 == place) (list_any (λ m. m.1 == place) ms) (if m.1 == place then 1 else 0) (times_listed place ms) (tells_if (m.1 == place)) (tells_times place ms)
 
-tells_names : (place : ℕ) (o : OpenObject) → Tells (names place o) (weight place o)
+tells_names : (place : ℕ) (o : OpenObject) → Tells (names place o) (times_named place o)
 tells_names place (object.Map p) = tells_if (p == place)
 tells_names place (object.Program l) = tells_times place l.maps
 
-tells_first : (place : ℕ) (o : Option OpenObject) → Tells (option_map_or (names place) o false) (option_map_or (weight place) o 0)
+tells_first : (place : ℕ) (o : Option OpenObject) → Tells (option_map_or (names place) o false) (option_map_or (times_named place) o 0)
 tells_first place None = inr (refl, refl)
 tells_first place (Some o) = tells_names place o
 
@@ -56,7 +56,7 @@ tells_named : (place : ℕ) (objects : List (Option OpenObject)) → Tells (is_n
 unfolding total
 tells_named place [] = inr (refl, refl)
 tells_named place (o ∷ os) =
-    tells_or (option_map_or (names place) o false) (is_named os place) (option_map_or (weight place) o 0) (holders place os) (tells_first place o) (tells_named place os)
+    tells_or (option_map_or (names place) o false) (is_named os place) (option_map_or (times_named place) o 0) (holders place os) (tells_first place o) (tells_named place os)
 
 -- ---- the maps that are still named
 
@@ -119,23 +119,23 @@ still_named objects keys after live t part later is left held =
 -- ---- a descriptor that is closed
 
 abbrev pub kept_closed : KeptTenant → LiveMaps → List (Option ℕ) → ℕ → KeptTenant
-kept_closed k t after fd = record { objects = without k.objects fd; keys = after; live = t; refused = k.refused }
+kept_closed k t after fd = record { objects = with_closed k.objects fd; keys = after; live = t; refused = k.refused }
 
 -- what it named stood at its place
-pub closed_at : (objects : List (Option OpenObject)) (fd : ℕ) (o : OpenObject) → named objects fd ≡ Some o → (without objects fd ≡ set objects (fd - first) None) × (get_or objects (fd - first) None ≡ Some o)
-closed_at objects fd o opened = by_test (nat_lt fd first) opened
+pub closed_at : (objects : List (Option OpenObject)) (fd : ℕ) (o : OpenObject) → named objects fd ≡ Some o → (with_closed objects fd ≡ set objects (fd - first_descriptor) None) × (get_or objects (fd - first_descriptor) None ≡ Some o)
+closed_at objects fd o opened = by_test (nat_lt fd first_descriptor) opened
   where
-    at : (x : Option (Option OpenObject)) → slice_get objects (fd - first) ≡ x → flattened x ≡ Some o → get_or objects (fd - first) None ≡ Some o
+    at : (x : Option (Option OpenObject)) → slice_get objects (fd - first_descriptor) ≡ x → flattened x ≡ Some o → get_or objects (fd - first_descriptor) None ≡ Some o
     at None e opened = absurd (none-some o opened)
-    at (Some x) e opened = get_or_from_slice_get objects (fd - first) x None e ∙ opened
+    at (Some x) e opened = get_or_from_slice_get objects (fd - first_descriptor) x None e ∙ opened
 
-    by_test : (low : Bool) → (if low then None else flattened (slice_get objects (fd - first))) ≡ Some o
-        → ((if low then objects else set objects (fd - first) None) ≡ set objects (fd - first) None) × (get_or objects (fd - first) None ≡ Some o)
+    by_test : (low : Bool) → (if low then None else flattened (slice_get objects (fd - first_descriptor))) ≡ Some o
+        → ((if low then objects else set objects (fd - first_descriptor) None) ≡ set objects (fd - first_descriptor) None) × (get_or objects (fd - first_descriptor) None ≡ Some o)
     by_test true e = absurd (none-some o e)
-    by_test false e = (refl, at (slice_get objects (fd - first)) refl e)
+    by_test false e = (refl, at (slice_get objects (fd - first_descriptor)) refl e)
 
-bound_times : (ms : List (ℕ × ℕ)) (fd p : ℕ) → lookup (λ m. m == fd) ms ≡ Some p → 1 ≤ times p ms
-unfolding times
+bound_times : (ms : List (ℕ × ℕ)) (fd p : ℕ) → lookup (λ m. m == fd) ms ≡ Some p → 1 ≤ times_listed p ms
+unfolding times_listed
 bound_times [] fd p e = absurd (none-some p e)
 bound_times (m ∷ ms) fd p e = by_test (m.0 == fd) (λ found. bound_times ms fd p found) e
   where
@@ -152,21 +152,21 @@ bound_times (m ∷ ms) fd p e = by_test (m.0 == fd) (λ found. bound_times ms fd
     begins : (a b : ℕ) → 1 ≤ a → 1 ≤ a + b
     begins a b h = omega arith
 
-    by_test : (here : Bool) → (lookup (λ m. m == fd) ms ≡ Some p → 1 ≤ times p ms) → (if here then Some m.1 else lookup (λ m. m == fd) ms) ≡ Some p → 1 ≤ (if m.1 == p then 1 else 0) + times p ms
-    by_test true later e = begins (if m.1 == p then 1 else 0) (times p ms) (one_if (m.1 == p) (eq-eqb m.1 p (inside m.1 p e)))
-    by_test false later e = rest (if m.1 == p then 1 else 0) (times p ms) (later e)
+    by_test : (here : Bool) → (lookup (λ m. m == fd) ms ≡ Some p → 1 ≤ times_listed p ms) → (if here then Some m.1 else lookup (λ m. m == fd) ms) ≡ Some p → 1 ≤ (if m.1 == p then 1 else 0) + times_listed p ms
+    by_test true later e = begins (if m.1 == p then 1 else 0) (times_listed p ms) (one_if (m.1 == p) (eq-eqb m.1 p (inside m.1 p e)))
+    by_test false later e = rest (if m.1 == p then 1 else 0) (times_listed p ms) (later e)
 
 pub closed_kept : (k : KeptTenant) (t : LiveMaps) (after : List (Option ℕ)) (part later : List ℕ) (fd : ℕ) (o : OpenObject) → IsWellFormedTenant k → named k.objects fd ≡ Some o
-    → LeavesHeldMaps (record { keys = k.keys; live = k.live; part = part }) (record { keys = after; live = t; part = later }) → ((q : ℕ) → holds_in after t q + weight q o ≡ holds_in k.keys k.live q)
+    → LeavesHeldMaps (record { keys = k.keys; live = k.live; part = part }) (record { keys = after; live = t; part = later }) → ((q : ℕ) → holds_in after t q + times_named q o ≡ holds_in k.keys k.live q)
     → IsWellFormedTenant (kept_closed k t after fd)
 closed_kept k t after part later fd o is opened left fewer =
     let (gone, there) = closed_at k.objects fd o opened in
-    let n = fd - first in
+    let n = fd - first_descriptor in
     let objects = set k.objects n None in
     let held : (q : ℕ) → holds_in after t q ≡ holders q objects = λ q.
     let now = fewer q in
     let was = is.held q in
-    let sum = total-unset (weight q) k.objects n o there in
+    let sum = total-unset (times_named q) k.objects n o there in
     omega arith in
     let kept : IsWellFormedTenant (record { objects = objects; keys = after; live = t; refused = k.refused }) = record {
       all = length-set {A = Option OpenObject} k.objects n None ∙ is.all;
@@ -192,7 +192,7 @@ closed_kept k t after part later fd o is opened left fewer =
       shaped = λ f p found.
           let (key, key_is, shaped) = was.shaped f p found in
           let some = bound_times l.maps f p found in
-          let most = total-part (weight p) objects i (object.Program l) at in
+          let most = total-part (times_named p) objects i (object.Program l) at in
           let all = held p in
           let (now, there) = key_of p (get_or after p None) refl (omega arith) in
           let (was_there, same) = left.stays p now there in
@@ -202,20 +202,20 @@ closed_kept k t after part later fd o is opened left fewer =
 
 pub closed_state : (k : KeptTenant) (t : LiveMaps) (after : List (Option ℕ)) (part later : List ℕ) (fd : ℕ) (o : OpenObject) → IsWellFormedTenant k → named k.objects fd ≡ Some o
     → LeavesHeldMaps (record { keys = k.keys; live = k.live; part = part }) (record { keys = after; live = t; part = later }) → IsWellFormedTenant (kept_closed k t after fd)
-    → state_in later (kept_closed k t after fd) ≡ with_objects (state_in part k) (without k.objects fd)
+    → state_in later (kept_closed k t after fd) ≡ with_objects (state_in part k) (with_closed k.objects fd)
 closed_state k t after part later fd o is opened left now =
-    ap₂ (λ (ms : List (Option Map)) (refused : Bool). record { objects = without k.objects fd; maps = ms; refused = k.refused || refused })
-    (still_named (without k.objects fd) k.keys after k.live t part later is.placed left now.held) left.refused
+    ap₂ (λ (ms : List (Option Map)) (refused : Bool). record { objects = with_closed k.objects fd; maps = ms; refused = k.refused || refused })
+    (still_named (with_closed k.objects fd) k.keys after k.live t part later is.placed left now.held) left.refused
 
 -- a descriptor that is not open
-pub nothing_closed : (objects : List (Option OpenObject)) (fd : ℕ) → named objects fd ≡ None → without objects fd ≡ objects
-nothing_closed objects fd e = by_test (nat_lt fd first) e
+pub nothing_closed : (objects : List (Option OpenObject)) (fd : ℕ) → named objects fd ≡ None → with_closed objects fd ≡ objects
+nothing_closed objects fd e = by_test (nat_lt fd first_descriptor) e
   where
     same : (xs : List (Option OpenObject)) (n : ℕ) → flattened (slice_get xs n) ≡ None → set xs n None ≡ xs
     same [] n e = refl
     same (x ∷ xs) zero e = ap (λ (y : Option OpenObject). y ∷ xs) (sym e)
     same (x ∷ xs) (suc n) e = ap (λ (ys : List (Option OpenObject)). x ∷ ys) (same xs n e)
 
-    by_test : (low : Bool) → (if low then None else flattened (slice_get objects (fd - first))) ≡ None → (if low then objects else set objects (fd - first) None) ≡ objects
+    by_test : (low : Bool) → (if low then None else flattened (slice_get objects (fd - first_descriptor))) ≡ None → (if low then objects else set objects (fd - first_descriptor) None) ≡ objects
     by_test true e = refl
-    by_test false e = same objects (fd - first) e
+    by_test false e = same objects (fd - first_descriptor) e

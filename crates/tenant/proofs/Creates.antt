@@ -8,7 +8,7 @@ use Rattle.std.proofs.lemmas.Option.{none-some}
 use Rattle.bpf_maps.specs.declared.part.TheConstants.{MAPS, LARGEST_SUM}
 use Rattle.bpf_maps.specs.Live.{LiveMaps, LiveMap, live_or, live_at, holds_at, shape_at, map_in, count, areas, create_fault, Creates, IsCreated, HasOneMore, KeepsMaps}
 use Rattle.bpf_maps.specs.Places.{PlaceTable}
-use Rattle.fd_table.specs.Table.{first, lowest, with_open}
+use Rattle.fd_table.specs.Table.{first_descriptor, lowest, with_open}
 use Rattle.tagged_model.specs.declared.fault.MapFault.{MapFault}
 use Rattle.tagged_model.specs.declared.fault.MapFault.TheVariants as fault
 use Rattle.tagged_model.specs.declared.shape.MapShape.{MapShape}
@@ -17,11 +17,11 @@ use Rattle.tenant.specs.declared.object.OpenObject.{OpenObject}
 use Rattle.tenant.specs.declared.object.OpenObject.TheVariants as object
 use Rattle.tenant.specs.Loaded.{LoadedProgram}
 use Rattle.tenant.specs.State as state
-use Rattle.tenant.specs.State.{Map, TenantState, most_bytes, most_maps, total, free_place}
+use Rattle.tenant.specs.State.{Map, most_bytes, free_place, shape_area}
 use Rattle.tenant.specs.declared.errno.Errno.TheVariants.{NoMemory}
 use Rattle.tenant.specs.Errno.{map_errno}
 use Rattle.tenant.specs.Machine.{refuses, room_for, new_map, created, created_under, created_as, created_at}
-use Rattle.tenant.specs.Kept.{KeptTenant, IsWellFormedTenant, MapsAreAtPlaces, IsLive, IsBound, key_at, holds_in, weight, by_descriptor, holders, descriptors, filled, area_of, maps_in, state_in}
+use Rattle.tenant.specs.Kept.{KeptTenant, IsWellFormedTenant, MapsAreAtPlaces, IsLive, IsBound, key_at, holds_in, times_named, by_descriptor, holders, descriptors, places_taken, maps_in, state_in}
 use Rattle.tenant.proofs.Sums.{total-map, total-set, total-same, total-less}
 use Rattle.tenant.proofs.Opened.{set_cases, set_here, set_there, place_free, descriptor_free, opened_sum}
 use Rattle.tenant.proofs.Places.{all_taken, none_free, position-map}
@@ -31,7 +31,7 @@ use Rattle.tenant.proofs.StillKept.{with_live, still_kept}
 -- ---- room
 
 -- the machine counts the bytes of the maps at their places, which are those of all live maps
-areas_are : (part : List ℕ) (k : KeptTenant) → MapsAreAtPlaces k.keys k.live → state.areas (state_in part k).maps ≡ areas k.live
+areas_are : (part : List ℕ) (k : KeptTenant) → MapsAreAtPlaces k.keys k.live → state.maps_area (state_in part k).maps ≡ areas k.live
 areas_are part k is = total-map (λ (t : Map). area t.shape.value_size t.shape.max_entries) (map_in part k.live) k.keys ∙ sym is.summed
 
 free_is : (part : List ℕ) (k : KeptTenant) → free_place (state_in part k) ≡ position is_none k.keys
@@ -48,19 +48,19 @@ large_room part k n large is e =
 
 -- there is no room where the call says so
 pub room_lost : (part : List ℕ) (k : KeptTenant) (shape : MapShape) (f : MapFault) → MapsAreAtPlaces k.keys k.live → create_fault k.live shape ≡ Some f
-    → (f ≡ fault.NoSpace) × (room_for (state_in part k) (area_of shape) ≡ None)
-room_lost part k shape f is e = by_tests (nat_le MAPS (count k.live)) (nat_lt LARGEST_SUM (areas k.live + area_of shape)) refl refl e
+    → (f ≡ fault.NoSpace) × (room_for (state_in part k) (shape_area shape) ≡ None)
+room_lost part k shape f is e = by_tests (nat_le MAPS (count k.live)) (nat_lt LARGEST_SUM (areas k.live + shape_area shape)) refl refl e
   where
     same_some : (g : MapFault) → Some fault.NoSpace ≡ Some g → g ≡ fault.NoSpace
     same_some g e = cc
 
-    by_tests : (many large : Bool) → nat_le MAPS (count k.live) ≡ many → nat_lt LARGEST_SUM (areas k.live + area_of shape) ≡ large → no_room many large ≡ Some f
-        → (f ≡ fault.NoSpace) × (room_for (state_in part k) (area_of shape) ≡ None)
-    by_tests true true m l e = (same_some f e, large_room part k (area_of shape) true is l)
-    by_tests false true m l e = (same_some f e, large_room part k (area_of shape) true is l)
+    by_tests : (many large : Bool) → nat_le MAPS (count k.live) ≡ many → nat_lt LARGEST_SUM (areas k.live + shape_area shape) ≡ large → no_room many large ≡ Some f
+        → (f ≡ fault.NoSpace) × (room_for (state_in part k) (shape_area shape) ≡ None)
+    by_tests true true m l e = (same_some f e, large_room part k (shape_area shape) true is l)
+    by_tests false true m l e = (same_some f e, large_room part k (shape_area shape) true is l)
     by_tests true false m l e =
-        let full : length k.keys ≤ filled k.keys = all_full (count k.live) (filled k.keys) (length k.keys) m is.counted is.all in
-        (same_some f e, large_room part k (area_of shape) false is l ∙ all_taken k.keys full)
+        let full : length k.keys ≤ places_taken k.keys = all_full (count k.live) (places_taken k.keys) (length k.keys) m is.counted is.all in
+        (same_some f e, large_room part k (shape_area shape) false is l ∙ all_taken k.keys full)
       where
         all_full : (n f len : ℕ) → nat_le 16 n ≡ true → n ≡ f → len ≡ 16 → len ≤ f
         all_full n f len many same all = let le : 16 ≤ n = grind (arith, nat_tests) in omega arith
@@ -68,13 +68,13 @@ room_lost part k shape f is e = by_tests (nat_le MAPS (count k.live)) (nat_lt LA
 
 -- and there is where it says nothing
 pub room_there : (part : List ℕ) (k : KeptTenant) (shape : MapShape) (place : ℕ) → MapsAreAtPlaces k.keys k.live → create_fault k.live shape ≡ None → position is_none k.keys ≡ Some place
-    → room_for (state_in part k) (area_of shape) ≡ Some place
-room_there part k shape place is e free = by_tests (nat_le MAPS (count k.live)) (nat_lt LARGEST_SUM (areas k.live + area_of shape)) refl e
+    → room_for (state_in part k) (shape_area shape) ≡ Some place
+room_there part k shape place is e free = by_tests (nat_le MAPS (count k.live)) (nat_lt LARGEST_SUM (areas k.live + shape_area shape)) refl e
   where
-    by_tests : (many large : Bool) → nat_lt LARGEST_SUM (areas k.live + area_of shape) ≡ large → no_room many large ≡ None → room_for (state_in part k) (area_of shape) ≡ Some place
+    by_tests : (many large : Bool) → nat_lt LARGEST_SUM (areas k.live + shape_area shape) ≡ large → no_room many large ≡ None → room_for (state_in part k) (shape_area shape) ≡ Some place
     by_tests true large l e = absurd (none-some fault.NoSpace (sym e))
     by_tests false true l e = absurd (none-some fault.NoSpace (sym e))
-    by_tests false false l e = large_room part k (area_of shape) false is l ∙ free
+    by_tests false false l e = large_room part k (shape_area shape) false is l ∙ free
 
 -- ---- a creation that is refused
 
@@ -121,10 +121,10 @@ placed_created keys old t shape m place is within free new older more = record {
   apart = λ p q key a b. apart_of p q key (set_cases keys place p m key within a) (set_cases keys place q m key within b);
   counted = more.maps ∙ ap (λ (n : ℕ). n + 1) is.counted ∙ sym (total-set (λ key. 1) keys place m within free);
   summed =
-      more.bytes ∙ ap (λ (n : ℕ). n + area_of shape) is.summed
-      ∙ ap₂ (λ (a b : ℕ). a + b) (sym (total-same (λ key. area_of (shape_at t key)) (λ key. area_of (shape_at old key)) keys (λ q key there. ap (λ (o : Option LiveMap). area_of (live_or o).places.shape) (older key (is.each q key there).there))))
-      (sym (ap (λ (p : PlaceTable). area_of p.shape) new.places))
-      ∙ sym (total-set (λ key. area_of (shape_at t key)) keys place m within free);
+      more.bytes ∙ ap (λ (n : ℕ). n + shape_area shape) is.summed
+      ∙ ap₂ (λ (a b : ℕ). a + b) (sym (total-same (λ key. shape_area (shape_at t key)) (λ key. shape_area (shape_at old key)) keys (λ q key there. ap (λ (o : Option LiveMap). shape_area (live_or o).places.shape) (older key (is.each q key there).there))))
+      (sym (ap (λ (p : PlaceTable). shape_area p.shape) new.places))
+      ∙ sym (total-set (λ key. shape_area (shape_at t key)) keys place m within free);
 }
   where
     here : IsLive t m
@@ -152,7 +152,7 @@ placed_created keys old t shape m place is within free new older more = record {
     apart_of p q key (inr (other, there)) (inl (b, same)) = absurd (not_old p (there ∙ ap Some same))
     apart_of p q key (inr (other, there)) (inr (o, too)) = is.apart p q key there too
 
-less_weight : (place : ℕ) (o : OpenObject) → by_descriptor place o ≤ weight place o
+less_weight : (place : ℕ) (o : OpenObject) → by_descriptor place o ≤ times_named place o
 less_weight place (object.Map p) = omega arith
 less_weight place (object.Program l) = omega arith
 
@@ -167,7 +167,7 @@ pub created_kept : (k : KeptTenant) (t : LiveMaps) (shape : MapShape) (m place f
     → HasOneMore k.live t shape → IsWellFormedTenant (kept_created k t fd place m)
 created_kept k t shape m place fd is free low new older more =
     let (within, empty) = place_free k.keys place free in record {
-      all = length-set {A = Option OpenObject} k.objects (fd - first) (Some (object.Map place)) ∙ is.all;
+      all = length-set {A = Option OpenObject} k.objects (fd - first_descriptor) (Some (object.Map place)) ∙ is.all;
       placed = placed_created k.keys k.live t shape m place is.placed within empty new older more;
       held = λ q. held_of q within empty (cases_eq q place);
       single = λ q. single_of q within empty (cases_eq q place);
@@ -178,10 +178,10 @@ created_kept k t shape m place fd is free low new older more =
     unnamed : get_or k.keys place None ≡ None → holders place k.objects ≡ 0
     unnamed empty = sym (is.held place) ∙ ap (λ (o : Option ℕ). option_map_or (holds_at k.live) o 0) empty
 
-    one_weight : weight place (object.Map place) ≡ 1
+    one_weight : times_named place (object.Map place) ≡ 1
     one_weight = let same : (place == place) ≡ true = eq-eqb place place refl in rw same refl
 
-    no_weight : (q : ℕ) → q ≢ place → weight q (object.Map place) ≡ 0
+    no_weight : (q : ℕ) → q ≢ place → times_named q (object.Map place) ≡ 0
     no_weight q other = let no : (place == q) ≡ false = ne_eqb place q (λ e. other (sym e)) in rw no refl
 
     held_of : (q : ℕ) → place < length k.keys → get_or k.keys place None ≡ None → (q ≡ place) ⊎ (q ≡ place → ⊥) → holds_in (set k.keys place (Some m)) t q ≡ holders q (with_open k.objects fd (object.Map place))
@@ -189,14 +189,14 @@ created_kept k t shape m place fd is free low new older more =
         ap (holds_in (set k.keys place (Some m)) t) same
         ∙ holds_once (set k.keys place (Some m)) t place (Some m) (set_here k.keys place m within)
         ∙ new.holds
-        ∙ sym (opened_sum (weight place) k.objects fd (object.Map place) low ∙ ap₂ (λ (a b : ℕ). a + b) (unnamed empty) one_weight)
+        ∙ sym (opened_sum (times_named place) k.objects fd (object.Map place) low ∙ ap₂ (λ (a b : ℕ). a + b) (unnamed empty) one_weight)
         ∙ ap (λ (p : ℕ). holders p (with_open k.objects fd (object.Map place))) (sym same)
     held_of q within empty (inr other) =
         holds_once (set k.keys place (Some m)) t q (key_at k q) (set_there k.keys place q (Some m) other)
         ∙ same_holds k.live t (key_at k q) (λ key there. older key (is.placed.each q key there).there)
         ∙ is.held q
-        ∙ nothing_more (holders q k.objects) (weight q (object.Map place)) (no_weight q other)
-        ∙ sym (opened_sum (weight q) k.objects fd (object.Map place) low)
+        ∙ nothing_more (holders q k.objects) (times_named q (object.Map place)) (no_weight q other)
+        ∙ sym (opened_sum (times_named q) k.objects fd (object.Map place) low)
       where
         nothing_more : (a b : ℕ) → b ≡ 0 → a ≡ a + b
         nothing_more a b e = omega arith
@@ -204,7 +204,7 @@ created_kept k t shape m place fd is free low new older more =
     single_of : (q : ℕ) → place < length k.keys → get_or k.keys place None ≡ None → (q ≡ place) ⊎ (q ≡ place → ⊥) → descriptors q (with_open k.objects fd (object.Map place)) ≤ 1
     single_of q within empty (inl same) =
         let none = unnamed empty in
-        let few : descriptors place k.objects ≤ holders place k.objects = total-less (by_descriptor place) (weight place) k.objects (less_weight place) in
+        let few : descriptors place k.objects ≤ holders place k.objects = total-less (by_descriptor place) (times_named place) k.objects (less_weight place) in
         let sum = opened_sum (by_descriptor place) k.objects fd (object.Map place) low in
         let one = one_weight in
         subst (λ (p : ℕ). descriptors p (with_open k.objects fd (object.Map place)) ≤ 1) (sym same) (omega arith)
@@ -215,7 +215,7 @@ created_kept k t shape m place fd is free low new older more =
         omega arith
 
     bound_of : place < length k.keys → get_or k.keys place None ≡ None → (n : ℕ) (l : LoadedProgram) → get_or (with_open k.objects fd (object.Map place)) n None ≡ Some (object.Program l) → IsBound (kept_created k t fd place m) l
-    bound_of within empty n l there = by_object (set_cases k.objects (fd - first) n (object.Map place) (object.Program l) (descriptor_free k.objects fd low).0 there)
+    bound_of within empty n l there = by_object (set_cases k.objects (fd - first_descriptor) n (object.Map place) (object.Program l) (descriptor_free k.objects fd low).0 there)
       where
         no_program : object.Program l ≢ object.Map place
         no_program e = cc
@@ -223,7 +223,7 @@ created_kept k t shape m place fd is free low new older more =
         not_there : (p key : ℕ) → key_at k p ≡ Some key → p ≢ place
         not_there p key at same = none-some key (sym empty ∙ ap (λ (q : ℕ). key_at k q) (sym same) ∙ at)
 
-        by_object : ((n ≡ fd - first) × (object.Program l ≡ object.Map place)) ⊎ ((n ≢ fd - first) × (get_or k.objects n None ≡ Some (object.Program l))) → IsBound (kept_created k t fd place m) l
+        by_object : ((n ≡ fd - first_descriptor) × (object.Program l ≡ object.Map place)) ⊎ ((n ≢ fd - first_descriptor) × (get_or k.objects n None ≡ Some (object.Program l))) → IsBound (kept_created k t fd place m) l
         by_object (inl (at, wrong)) = absurd (no_program wrong)
         by_object (inr (other, at)) = let was = is.bound n l at in record {
           each = was.each;
@@ -260,7 +260,7 @@ create_refused part k t shape f fd is low made = by_cause (created_err (create_f
 
     has_place : (o : Option ℕ) → position is_none k.keys ≡ o → create_fault k.live shape ≡ None → (place : ℕ) × (position is_none k.keys ≡ Some place)
     has_place (Some place) e room = (place, e)
-    has_place None e room = absurd (full_fault (count k.live) (nat_lt LARGEST_SUM (areas k.live + area_of shape)) (nat_le MAPS (count k.live)) refl (is.placed.counted ∙ none_free k.keys e ∙ is.placed.all) room)
+    has_place None e room = absurd (full_fault (count k.live) (nat_lt LARGEST_SUM (areas k.live + shape_area shape)) (nat_le MAPS (count k.live)) refl (is.placed.counted ∙ none_free k.keys e ∙ is.placed.all) room)
       where
         full_fault : (n : ℕ) (large many : Bool) → nat_le 16 n ≡ many → n ≡ 16 → no_room many large ≡ None → ⊥
         full_fault n large true e all room = none-some fault.NoSpace (sym room)

@@ -1,10 +1,10 @@
 -- What a delete leaves.
-use Rattle.std.proofs.Common.{◌≡◌, ◌≢◌, ℕ, Bool, true, List, length, take, drop, Some, IsSome, Result, Ok, Err, refl, sym, ap, ap₂, ◌∙◌}
+use Rattle.std.proofs.Common.{◌≡◌, ◌≢◌, ℕ, Bool, true, List, length, take, drop, Some, Result, Ok, Err, refl, sym, ap, ap₂, ◌∙◌}
 use Rattle.std.specs.Prelude.{◌==◌, if◌then◌else◌}
 use Rattle.std.specs.Result.{result_map_both}
 use Rattle.std.proofs.Math.Path.{fun_ext}
 use Rattle.std.proofs.lemmas.Bool.{eq-eqb}
-use Rattle.bpf_maps.specs.Live.{LiveMaps, live_at, places_at, shape_at, map_in, value_in, SameAreas}
+use Rattle.bpf_maps.specs.Live.{LiveMaps, places_at, shape_at, map_in, value_in, OnlyKeysChange}
 use Rattle.bpf_maps.specs.Places.{PlaceTable, table_of, Removes, with_kept, after_run}
 use Rattle.bpf_maps.specs.Laws.{CallsAreThoseOfAMap, AreasKeepPlaces}
 use Rattle.fd_table.specs.Table.{named}
@@ -16,28 +16,28 @@ use Rattle.tagged_model.specs.Table.{removal, with_deleted, with_values}
 use Rattle.tenant.specs.declared.errno.Errno.TheVariants.{Invalid}
 use Rattle.tenant.specs.declared.object.OpenObject.TheVariants as object
 use Rattle.tenant.specs.State.{Map, TenantState}
-use Rattle.tenant.specs.Machine.{Answer, refuses, taken_out, deleted}
+use Rattle.tenant.specs.Machine.{Answer, refuses, element_taken_out, element_deleted}
 use Rattle.tenant.specs.Kept.{KeptTenant, key_at, state_in}
 use Rattle.tenant.proofs.LookUps.{on_map_is}
 
 abbrev answer_to : TenantState → List ℕ → ℕ → Map → Answer
-answer_to s key place t = if length key == t.shape.key_size then taken_out s place t key (removal t key) else refuses Invalid s
+answer_to s key place t = if length key == t.shape.key_size then element_taken_out s place t key (removal t key) else refuses Invalid s
 
 -- the answer is what becomes of the map
 pub delete_is : CallsRefineValues ℕ (List ℕ) → (part : List ℕ) (k : KeptTenant) (fd place m : ℕ) (key : List ℕ) → named k.objects fd ≡ Some (object.Map place) → key_at k place ≡ Some m
     → length key ≡ (shape_at k.live m).key_size
-    → deleted (state_in part k) fd key ≡ taken_out (state_in part k) place (map_in part k.live m) key (result_map_both (value_in part k.live m) (λ fault. fault) (removal (table_of (places_at k.live m)) key))
+    → element_deleted (state_in part k) fd key ≡ element_taken_out (state_in part k) place (map_in part k.live m) key (result_map_both (value_in part k.live m) (λ fault. fault) (removal (table_of (places_at k.live m)) key))
 delete_is along part k fd place m key opened there size =
     let s = state_in part k in
     let right : (length key == (shape_at k.live m).key_size) ≡ true = eq-eqb (length key) (shape_at k.live m).key_size size in
     on_map_is part k fd place m (λ p t. answer_to s key p t) opened there
-    ∙ ap (λ (b : Bool). if b then taken_out s place (map_in part k.live m) key (removal (map_in part k.live m) key) else refuses Invalid s) right
-    ∙ ap (taken_out s place (map_in part k.live m) key) (along.removal (value_in part k.live m) (table_of (places_at k.live m)) key)
+    ∙ ap (λ (b : Bool). if b then element_taken_out s place (map_in part k.live m) key (removal (map_in part k.live m) key) else refuses Invalid s) right
+    ∙ ap (element_taken_out s place (map_in part k.live m) key) (along.removal (value_in part k.live m) (table_of (places_at k.live m)) key)
 
 -- the values lie where they lay
-pub same_values : AreasKeepPlaces → (part : List ℕ) (old new : LiveMaps) (m : ℕ) → SameAreas old new → IsSome (live_at new m) → shape_at new m ≡ shape_at old m → value_in part new m ≡ value_in part old m
-same_values areas part old new m same live shape =
-    fun_ext (λ p. ap₂ (λ (size start : ℕ). take size (drop start part)) (ap (λ (s : MapShape). s.value_size) shape) (areas old new m p same live))
+pub same_values : AreasKeepPlaces → (part : List ℕ) (old new : LiveMaps) (m : ℕ) → OnlyKeysChange m old new → value_in part new m ≡ value_in part old m
+same_values areas part old new m rest =
+    fun_ext (λ p. ap₂ (λ (size start : ℕ). take size (drop start part)) (ap (λ (s : MapShape). s.value_size) rest.shape) (areas old new m p rest.areas rest.live))
 
 -- where its places are the same too, the map is the same
 pub same_map : (part : List ℕ) (old new : LiveMaps) (m : ℕ) → value_in part new m ≡ value_in part old m → places_at new m ≡ places_at old m → map_in part new m ≡ map_in part old m

@@ -25,7 +25,7 @@ use Rattle.tenant.specs.declared.object.OpenObject.TheVariants as object
 use Rattle.command_frames.specs.Frame.{owner, command_number, reply_to}
 use Rattle.tenant.specs.Alone.{AnswersFrame, MayReply, IsFault}
 use Rattle.tenant.specs.Errno.{status_of}
-use Rattle.tenant.specs.Machine.{Answer, targets, ran, refuses, codec_errno, verdict_errno, created_as, created_under, created, room_for, kind_of, shape_of, of_object, of_place, on_map, found, put, taken_out, LoadJudgement, accepted, rejected, Judges, judged, LoadsUnder, ended, run_of, longest_packet, closed, Answers}
+use Rattle.tenant.specs.Machine.{Answer, targets, ran, refuses, codec_errno, verdict_errno, created_as, created_under, created, room_for, kind_of, asked_shape, of_object, of_place, on_map, gives_if_found, element_put, element_taken_out, LoadJudgement, accepted, rejected, Judges, judged, LoadsUnder, outcome_answer, run_of, longest_packet, closed, Answers}
 use Rattle.tenant.specs.State.{Map, TenantState, live}
 
 -- the lowest byte of a status
@@ -120,17 +120,17 @@ bare_if : (right : Bool) (errno : Errno) (s : TenantState) (a : Answer) → IsBa
 bare_if true errno s a bare = bare
 bare_if false errno s a bare = λ e. refl
 
-bare_found : (s : TenantState) (o : Option (List ℕ)) → IsBare (found s o)
+bare_found : (s : TenantState) (o : Option (List ℕ)) → IsBare (gives_if_found s o)
 bare_found s None e = refl
 bare_found s (Some value) e = no_zero value e
 
-bare_put : (b : Bool) (s : TenantState) (place : ℕ) (t : Map) (key value : List ℕ) (v : call.Verdict (List ℕ)) → IsBare (put b s place t key value v)
+bare_put : (b : Bool) (s : TenantState) (place : ℕ) (t : Map) (key value : List ℕ) (v : call.Verdict (List ℕ)) → IsBare (element_put b s place t key value v)
 bare_put b s place t key value (call.Refused fault) e = refl
 bare_put b s place t key value (call.Present old) e = refl
 bare_put true s place t key value call.New e = refl
 bare_put false s place t key value call.New e = refl
 
-bare_taken : (s : TenantState) (place : ℕ) (t : Map) (key : List ℕ) (r : Result (List ℕ) MapFault) → IsBare (taken_out s place t key r)
+bare_taken : (s : TenantState) (place : ℕ) (t : Map) (key : List ℕ) (r : Result (List ℕ) MapFault) → IsBare (element_taken_out s place t key r)
 bare_taken s place t key (Err fault) e = refl
 bare_taken s place t key (Ok value) e = refl
 
@@ -151,7 +151,7 @@ bare_loads : (right b : Bool) (s : TenantState) (slots : List ℕ) (a x : Answer
 bare_loads true b s slots a x plain h = bare_load b s (table.lowest s.objects) slots a h
 bare_loads false b s slots a x plain h = λ e. ap (λ (y : Answer). y.payload) h ∙ plain
 
-bare_ended : (o : Outcome) (s : TenantState) → IsBare (ended o s)
+bare_ended : (o : Outcome) (s : TenantState) → IsBare (outcome_answer o s)
 bare_ended (Value n) s e = no_zero (little_bytes 4 n) e
 bare_ended Fault s e = refl
 
@@ -169,16 +169,16 @@ bare_closed s fd None e = refl
 bare_closed s fd (Some o) e = refl
 
 bare_answer : (refusals : List Bool) (s : TenantState) (command : Command) (a : Answer) → Answers refusals s command a → IsBare a
-bare_answer refusals s (map_create kind key value max flags) a h = bare_told a _ h (bare_created (first refusals) s (shape_of (kind_of kind) key value max flags))
+bare_answer refusals s (map_create kind key value max flags) a h = bare_told a _ h (bare_created (first refusals) s (asked_shape (kind_of kind) key value max flags))
 bare_answer refusals s (map_lookup fd key) a h =
-    bare_told a _ h (bare_on_map s fd _ (λ place t. bare_if (length key == t.shape.key_size) Invalid s (found s (look_up t key)) (bare_found s (look_up t key))))
+    bare_told a _ h (bare_on_map s fd _ (λ place t. bare_if (length key == t.shape.key_size) Invalid s (gives_if_found s (look_up t key)) (bare_found s (look_up t key))))
 bare_answer refusals s (map_update fd flags bytes) a h =
     bare_told a _ h (bare_on_map s fd _ (λ place t. bare_if (length bytes == t.shape.key_size + t.shape.value_size) Invalid s _
     (bare_put (first refusals) s place t (take t.shape.key_size bytes) (drop t.shape.key_size bytes) (verdict t (take t.shape.key_size bytes) flags))))
 bare_answer refusals s (map_delete fd key) a h =
-    bare_told a _ h (bare_on_map s fd _ (λ place t. bare_if (length key == t.shape.key_size) Invalid s (taken_out s place t key (removal t key)) (bare_taken s place t key (removal t key))))
+    bare_told a _ h (bare_on_map s fd _ (λ place t. bare_if (length key == t.shape.key_size) Invalid s (element_taken_out s place t key (removal t key)) (bare_taken s place t key (removal t key))))
 bare_answer refusals s (map_next_key fd key) a h =
-    bare_told a _ h (bare_on_map s fd _ (λ place t. bare_if (length key == 0 || length key == t.shape.key_size) Invalid s (found s (next_of t key)) (bare_found s (next_of t key))))
+    bare_told a _ h (bare_on_map s fd _ (λ place t. bare_if (length key == 0 || length key == t.shape.key_size) Invalid s (gives_if_found s (next_of t key)) (bare_found s (next_of t key))))
 bare_answer refusals s (prog_load kind slots) a h = bare_loads (kind == 1) (first refusals) s slots a (refuses Invalid s) refl h
 bare_answer refusals s (prog_test_run fd words packet) a h = bare_told a _ h (bare_run refusals s words packet (table.named s.objects fd))
 bare_answer refusals s (close fd) a h = bare_told a _ h (bare_closed s fd (table.named s.objects fd))

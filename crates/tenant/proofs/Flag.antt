@@ -20,7 +20,7 @@ use Rattle.tenant.specs.Loaded.{LoadedProgram}
 use Rattle.tenant.specs.State.{Map, TenantState, live}
 use Rattle.command_frames.specs.declared.command.BadFrame.{BadFrame}
 use Rattle.tenant.specs.Alone.{AnswersFrame, RepliesUnder, MayReply, Alone, AloneWithRefusals}
-use Rattle.tenant.specs.Machine.{Answer, of_object, of_place, on_map, put, created_at, created_as, created_under, created, room_for, kind_of, shape_of, refuses, maps_left, maps_given, ended, ran, run_of, longest_packet, LoadsAs, LoadsUnder, Answers, LoadJudgement, accepted, rejected, judged, found, taken_out, closed}
+use Rattle.tenant.specs.Machine.{Answer, of_object, of_place, on_map, element_put, created_at, created_as, created_under, created, room_for, kind_of, asked_shape, refuses, maps_left, maps_given, outcome_answer, ran, run_of, longest_packet, LoadsAs, LoadsUnder, Answers, LoadJudgement, accepted, rejected, judged, gives_if_found, element_taken_out, closed}
 
 -- an answer with these refusals, and the one without: where the flag is clear after the first, they are one, and it was clear
 abbrev pub Clear : TenantState → Answer → Answer → Type 0
@@ -59,7 +59,7 @@ clear_on_map s fd f g each e = of_objects (table.named s.objects fd) e
     of_objects (Some (object.Program l)) e = (refl, e)
     of_objects (Some (object.Map place)) e = of_places place (live s place) e
 
-clear_put : (b : Bool) (s : TenantState) (place : ℕ) (t : Map) (key value : List ℕ) (v : call.Verdict (List ℕ)) → Clear s (put b s place t key value v) (put false s place t key value v)
+clear_put : (b : Bool) (s : TenantState) (place : ℕ) (t : Map) (key value : List ℕ) (v : call.Verdict (List ℕ)) → Clear s (element_put b s place t key value v) (element_put false s place t key value v)
 clear_put b s place t key value (call.Refused fault) e = (refl, e)
 clear_put b s place t key value (call.Present old) e = (refl, e)
 clear_put true s place t key value call.New e = no _ e
@@ -75,7 +75,7 @@ or_both : (a b : Bool) → (a || b) ≡ false → (a ≡ false) × (b ≡ false)
 or_both true b e = no _ e
 or_both false b e = (refl, e)
 
-ended_after : (o : Outcome) (s : TenantState) → (ended o s).after ≡ s
+ended_after : (o : Outcome) (s : TenantState) → (outcome_answer o s).after ≡ s
 ended_after (Value n) s = refl
 ended_after Fault s = refl
 
@@ -85,7 +85,7 @@ with_run s maps refused = record s { maps = maps; refused = s.refused || refused
 -- the answer to a run that came to this
 abbrev came_to : TenantState → LoadedProgram → Ending → Answer
 came_to s l e =
-    ended e.outcome (with_run s (maps_left (λ m. option_map last_map (e.state.maps m)) l.maps s.maps) e.state.refused)
+    outcome_answer e.outcome (with_run s (maps_left (λ m. option_map last_map (e.state.maps m)) l.maps s.maps) e.state.refused)
 
 clear_ran : RefusalsAreTold → (r : List Bool) (s : TenantState) (l : LoadedProgram) (words packet : List ℕ) → Clear s (ran r s l words packet) (ran [] s l words packet)
 clear_ran tell r s l words packet e =
@@ -130,7 +130,7 @@ told_by s x y a clear is e = is ∙ (clear (sym (ap (λ (b : Answer). b.after.re
 -- where the flag is clear after a command, it is as if no memory might be refused
 pub clear_answer : RefusalsAreTold → (r : List Bool) (s : TenantState) (command : Command) (a : Answer) → Answers r s command a → a.after.refused ≡ false → Answers [] s command a
 clear_answer tell r s (prog_load kind slots) a is e = loads_by (first r) (kind == 1) s (table.lowest s.objects) slots _ a is e
-clear_answer tell r s (map_create kind key value max flags) a is e = told_by s _ _ a (clear_created (first r) s (shape_of (kind_of kind) key value max flags)) is e
+clear_answer tell r s (map_create kind key value max flags) a is e = told_by s _ _ a (clear_created (first r) s (asked_shape (kind_of kind) key value max flags)) is e
 clear_answer tell r s (map_lookup fd key) a is e = is
 clear_answer tell r s (map_update fd flags bytes) a is e =
     told_by s _ _ a (clear_on_map s fd _ _ (λ place t. clear_if (length bytes == t.shape.key_size + t.shape.value_size) s _ _ (refuses Invalid s)
@@ -142,11 +142,11 @@ clear_answer tell r s (close fd) a is e = is
 
 -- ---- and it was clear before
 
-kept_found : (s : TenantState) (o : Option (List ℕ)) → Clear s (found s o) (found s o)
+kept_found : (s : TenantState) (o : Option (List ℕ)) → Clear s (gives_if_found s o) (gives_if_found s o)
 kept_found s None e = (refl, e)
 kept_found s (Some v) e = (refl, e)
 
-kept_taken : (s : TenantState) (place : ℕ) (t : Map) (key : List ℕ) (r : Result (List ℕ) MapFault) → Clear s (taken_out s place t key r) (taken_out s place t key r)
+kept_taken : (s : TenantState) (place : ℕ) (t : Map) (key : List ℕ) (r : Result (List ℕ) MapFault) → Clear s (element_taken_out s place t key r) (element_taken_out s place t key r)
 kept_taken s place t key (Err fault) e = (refl, e)
 kept_taken s place t key (Ok v) e = (refl, e)
 
@@ -176,7 +176,7 @@ was_by s x y a clear is e = (clear (sym (ap (λ (b : Answer). b.after.refused) i
 
 was_clear : RefusalsAreTold → (r : List Bool) (s : TenantState) (command : Command) (a : Answer) → Answers r s command a → a.after.refused ≡ false → s.refused ≡ false
 was_clear tell r s (prog_load kind slots) a is e = kept_loads (first r) (kind == 1) s (table.lowest s.objects) slots a is e
-was_clear tell r s (map_create kind key value max flags) a is e = was_by s _ _ a (clear_created (first r) s (shape_of (kind_of kind) key value max flags)) is e
+was_clear tell r s (map_create kind key value max flags) a is e = was_by s _ _ a (clear_created (first r) s (asked_shape (kind_of kind) key value max flags)) is e
 was_clear tell r s (map_lookup fd key) a is e = was_by s _ _ a (clear_on_map s fd _ _ (λ place t. clear_if (length key == t.shape.key_size) s _ _ (refuses Invalid s) (kept_found s (look_up t key)) refl)) is e
 was_clear tell r s (map_update fd flags bytes) a is e =
     was_by s _ _ a (clear_on_map s fd _ _ (λ place t. clear_if (length bytes == t.shape.key_size + t.shape.value_size) s _ _ (refuses Invalid s)

@@ -7,7 +7,7 @@ use Rattle.byteorder.specs.Endian.{little_number}
 use Rattle.command_frames.specs.declared.command.BadFrame.{BadFrame}
 use Rattle.command_frames.specs.declared.command.BadFrame.TheVariants.{TooLong, Body}
 use Rattle.tenant.specs.inside.Frames.{tail_length}
-use Rattle.command_frames.specs.Command.{Command, map_create, map_lookup, map_update, map_delete, map_next_key, prog_load, prog_test_run, close, exactly, at_least, command_in, parsed, longest_frame, word, long, words}
+use Rattle.command_frames.specs.Command.{Command, map_create, map_lookup, map_update, map_delete, map_next_key, prog_load, prog_test_run, close, exactly, at_least, command_in, parsed, longest_frame, word_behind, long_behind, words}
 
 abbrev IsWithin : ℕ → Result Command BadFrame → Type 0
 IsWithin n (Ok command) = tail_length command ≤ n
@@ -28,14 +28,14 @@ behind n body = omega (arith, length-drop n body)
 
 body_within : (n : ℕ) (body : List ℕ) → IsWithin (length body) (command_in n body)
 body_within n body =
-    if_within (length body) (n == 0) _ _ (exactly_within 20 body (map_create (word 0 body) (word 4 body) (word 8 body) (word 12 body) (word 16 body)) (omega arith))
-    (if_within (length body) (n == 1) _ _ (at_least_within 4 body (map_lookup (word 0 body) (drop 4 body)) (behind 4 body))
-    (if_within (length body) (n == 2) _ _ (at_least_within 12 body (map_update (word 0 body) (long 4 body) (drop 12 body)) (behind 12 body))
-    (if_within (length body) (n == 3) _ _ (at_least_within 4 body (map_delete (word 0 body) (drop 4 body)) (behind 4 body))
-    (if_within (length body) (n == 4) _ _ (at_least_within 4 body (map_next_key (word 0 body) (drop 4 body)) (behind 4 body))
-    (if_within (length body) (n == 5) _ _ (at_least_within 4 body (prog_load (word 0 body) (drop 4 body)) (behind 4 body))
-    (if_within (length body) (n == 10) _ _ (at_least_within 44 body (prog_test_run (word 0 body) (words 10 (drop 4 body)) (drop 44 body)) (behind 44 body))
-    (if_within (length body) (n == 256) _ _ (exactly_within 4 body (close (word 0 body)) (omega arith)) tt)))))))
+    if_within (length body) (n == 0) _ _ (exactly_within 20 body (map_create (word_behind 0 body) (word_behind 4 body) (word_behind 8 body) (word_behind 12 body) (word_behind 16 body)) (omega arith))
+    (if_within (length body) (n == 1) _ _ (at_least_within 4 body (map_lookup (word_behind 0 body) (drop 4 body)) (behind 4 body))
+    (if_within (length body) (n == 2) _ _ (at_least_within 12 body (map_update (word_behind 0 body) (long_behind 4 body) (drop 12 body)) (behind 12 body))
+    (if_within (length body) (n == 3) _ _ (at_least_within 4 body (map_delete (word_behind 0 body) (drop 4 body)) (behind 4 body))
+    (if_within (length body) (n == 4) _ _ (at_least_within 4 body (map_next_key (word_behind 0 body) (drop 4 body)) (behind 4 body))
+    (if_within (length body) (n == 5) _ _ (at_least_within 4 body (prog_load (word_behind 0 body) (drop 4 body)) (behind 4 body))
+    (if_within (length body) (n == 10) _ _ (at_least_within 44 body (prog_test_run (word_behind 0 body) (words 10 (drop 4 body)) (drop 44 body)) (behind 44 body))
+    (if_within (length body) (n == 256) _ _ (exactly_within 4 body (close (word_behind 0 body)) (omega arith)) tt)))))))
 
 no_command : (fault : BadFrame) (command : Command) → let a : Result Command BadFrame = Err fault in a ≡ Ok command → ⊥
 no_command fault command e = cc

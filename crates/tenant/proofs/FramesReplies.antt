@@ -1,5 +1,5 @@
 -- Replies to frames, by their heads.
-use Rattle.std.proofs.Common.{Result, Ok, Err, ◌≡◌, ◌≢◌, ℕ, List, [], length, drop, Some, None, refl, sym, ap, subst, ◌∙◌}
+use Rattle.std.proofs.Common.{Result, Ok, Err, ◌≡◌, ◌≢◌, ℕ, List, [], length, drop, Some, refl, sym, ap, subst, ◌∙◌}
 use Rattle.std.specs.Prelude.{ℤ, nat_lt}
 use Rattle.byteorder.specs.Endian.{little_number}
 use Rattle.command_frames.specs.declared.command.BadFrame.{BadFrame}
@@ -9,7 +9,7 @@ use Rattle.command_frames.specs.Command.{Command, parsed}
 use Rattle.command_frames.specs.Frame.{head_of, owner, reply_bytes, reply_to}
 use Rattle.tenant.specs.declared.errno.Errno.{Errno}
 use Rattle.tenant.specs.declared.errno.Errno.TheVariants.{BadAddress}
-use Rattle.tenant.specs.Alone.{AnswersFrame, RepliesUnder, MayReply, frame_errno}
+use Rattle.tenant.specs.Alone.{AnswersFrame, MayReply, frame_errno}
 use Rattle.tenant.specs.Errno.{status_of}
 use Rattle.tenant.specs.Machine.{refuses}
 use Rattle.tenant.specs.State.{TenantState}

@@ -20,7 +20,7 @@ use Rattle.tenant.specs.declared.object.OpenObject.{OpenObject}
 use Rattle.tenant.specs.declared.object.OpenObject.TheVariants as object
 use Rattle.tenant.specs.Errno.{status_of, map_errno}
 use Rattle.tenant.specs.inside.Frames.{Writes}
-use Rattle.tenant.specs.Machine.{Answer, targets, refuses, created_as, created_under, created, room_for, kind_of, shape_of, shape_where, of_object, of_place, on_map, found, put, taken_out, LoadJudgement, accepted, rejected, Judges, judged, LoadsUnder, closed, Answers}
+use Rattle.tenant.specs.Machine.{Answer, targets, refuses, created_as, created_under, created, room_for, kind_of, asked_shape, shape_where, of_object, of_place, on_map, gives_if_found, element_put, element_taken_out, LoadJudgement, accepted, rejected, Judges, judged, LoadsUnder, closed, Answers}
 use Rattle.tenant.specs.State.{Map, TenantState, live}
 use Rattle.tenant.proofs.Faults.{low, codec_other, verdict_other}
 use Rattle.tenant.proofs.Opened.{descriptor_free}
@@ -94,7 +94,7 @@ if_plain : (valid : Bool) (r : Result MapShape Errno) → HasPlainError r → Ha
 if_plain true r plain = plain
 if_plain false r plain = invalid
 
-shape_plain : (o : Option MapKind) (key value max flags : ℕ) → HasPlainError (shape_of o key value max flags)
+shape_plain : (o : Option MapKind) (key value max flags : ℕ) → HasPlainError (asked_shape o key value max flags)
 shape_plain None key value max flags = invalid
 shape_plain (Some kind) key value max flags = if_plain (is_valid kind key value max flags) (shape_where (is_shape kind key value max) _) (where_plain (is_shape kind key value max) _)
 
@@ -130,17 +130,17 @@ plain_if : (right : Bool) (s : TenantState) (a : Answer) → IsPlain s a → IsP
 plain_if true s a plain = plain
 plain_if false s a plain = inr (inr (Invalid, invalid, refl))
 
-plain_found : (s : TenantState) (o : Option (List ℕ)) → IsPlain s (found s o)
+plain_found : (s : TenantState) (o : Option (List ℕ)) → IsPlain s (gives_if_found s o)
 plain_found s None = inr (inr (NoEntry, no_entry, refl))
 plain_found s (Some value) = inl refl
 
-plain_put : (b : Bool) (s : TenantState) (place : ℕ) (t : Map) (key value : List ℕ) (v : call.Verdict (List ℕ)) → IsPlain s (put b s place t key value v)
+plain_put : (b : Bool) (s : TenantState) (place : ℕ) (t : Map) (key value : List ℕ) (v : call.Verdict (List ℕ)) → IsPlain s (element_put b s place t key value v)
 plain_put b s place t key value (call.Refused fault) = inr (inr (map_errno fault, map_other fault, refl))
 plain_put b s place t key value (call.Present old) = inl refl
 plain_put true s place t key value call.New = inr (inr (NoMemory, no_memory, refl))
 plain_put false s place t key value call.New = inl refl
 
-plain_taken : (s : TenantState) (place : ℕ) (t : Map) (key : List ℕ) (r : Result (List ℕ) MapFault) → IsPlain s (taken_out s place t key r)
+plain_taken : (s : TenantState) (place : ℕ) (t : Map) (key : List ℕ) (r : Result (List ℕ) MapFault) → IsPlain s (element_taken_out s place t key r)
 plain_taken s place t key (Err fault) = inr (inr (map_errno fault, map_other fault, refl))
 plain_taken s place t key (Ok value) = inl refl
 
@@ -180,16 +180,16 @@ RunsNothing (close fd) = Unit {0}
 
 pub plain_answer : (refusals : List Bool) (s : TenantState) (command : Command) (a : Answer) → RunsNothing command → Answers refusals s command a → IsPlain s a
 plain_answer refusals s (map_create kind key value max flags) a nothing h =
-    plain_told s a _ h (plain_created (first refusals) s (shape_of (kind_of kind) key value max flags) (shape_plain (kind_of kind) key value max flags))
+    plain_told s a _ h (plain_created (first refusals) s (asked_shape (kind_of kind) key value max flags) (shape_plain (kind_of kind) key value max flags))
 plain_answer refusals s (map_lookup fd key) a nothing h =
-    plain_told s a _ h (plain_on_map s fd _ (λ place t. plain_if (length key == t.shape.key_size) s (found s (look_up t key)) (plain_found s (look_up t key))))
+    plain_told s a _ h (plain_on_map s fd _ (λ place t. plain_if (length key == t.shape.key_size) s (gives_if_found s (look_up t key)) (plain_found s (look_up t key))))
 plain_answer refusals s (map_update fd flags bytes) a nothing h =
     plain_told s a _ h (plain_on_map s fd _ (λ place t. plain_if (length bytes == t.shape.key_size + t.shape.value_size) s _
     (plain_put (first refusals) s place t (take t.shape.key_size bytes) (drop t.shape.key_size bytes) (verdict t (take t.shape.key_size bytes) flags))))
 plain_answer refusals s (map_delete fd key) a nothing h =
-    plain_told s a _ h (plain_on_map s fd _ (λ place t. plain_if (length key == t.shape.key_size) s (taken_out s place t key (removal t key)) (plain_taken s place t key (removal t key))))
+    plain_told s a _ h (plain_on_map s fd _ (λ place t. plain_if (length key == t.shape.key_size) s (element_taken_out s place t key (removal t key)) (plain_taken s place t key (removal t key))))
 plain_answer refusals s (map_next_key fd key) a nothing h =
-    plain_told s a _ h (plain_on_map s fd _ (λ place t. plain_if (length key == 0 || length key == t.shape.key_size) s (found s (next_of t key)) (plain_found s (next_of t key))))
+    plain_told s a _ h (plain_on_map s fd _ (λ place t. plain_if (length key == 0 || length key == t.shape.key_size) s (gives_if_found s (next_of t key)) (plain_found s (next_of t key))))
 plain_answer refusals s (prog_load kind slots) a nothing h = plain_loads (kind == 1) (first refusals) s slots a h
 plain_answer refusals s (prog_test_run fd words packet) a nothing h = absurd nothing
 plain_answer refusals s (close fd) a nothing h = plain_told s a _ h (plain_closed s fd (table.named s.objects fd))

@@ -10,9 +10,9 @@ use Rattle.verdict.specs.Laws.{LoadedMapsHaveShapes, MapsAreListed}
 use Rattle.verdict.specs.Maps.{maps_of}
 use Rattle.verdict.specs.Verdict.{IsAccepted}
 use Rattle.tenant.specs.declared.object.OpenObject.TheVariants as object
-use Rattle.tenant.specs.Kept.{KeptTenant, IsWellFormedTenant, IsBound, key_at, times, state_in}
+use Rattle.tenant.specs.Kept.{KeptTenant, IsWellFormedTenant, IsBound, key_at, times_listed, state_in}
 use Rattle.tenant.specs.Loaded.{LoadedProgram}
-use Rattle.tenant.specs.Machine.{loaded, places_from, targets}
+use Rattle.tenant.specs.Machine.{loaded_program, places_from, targets}
 use Rattle.tenant.proofs.LookUps.{live_is}
 use Rattle.tenant.proofs.Named.{named_has_key}
 use Rattle.tenant.proofs.LoadingPlaces.{AreMaps, places_keys, lookup_named, times_named, times_once}
@@ -34,10 +34,10 @@ key_named k is fd place opened = by_key (key_at k place) refl (named_has_key k i
     by_key (Some key) e some = (key, e)
 
 -- the place of a map of the program has a map
-pub loaded_there : (k : KeptTenant) → IsWellFormedTenant k → (fds : List ℕ) (place : ℕ) → 1 ≤ times place (places_from k.objects fds) → IsSome (key_at k place)
+pub loaded_there : (k : KeptTenant) → IsWellFormedTenant k → (fds : List ℕ) (place : ℕ) → 1 ≤ times_listed place (places_from k.objects fds) → IsSome (key_at k place)
 loaded_there k is fds place some = let (i, fd, at, opened) = times_named k.objects fds place some in named_has_key k is fd place (object.Map place) (sym opened) refl
 
-pub loaded_bound : LoadedMapsHaveShapes → MapsAreListed → (k : KeptTenant) (part : List ℕ) (insns : List Insn) → IsWellFormedTenant k → IsAccepted insns (targets (state_in part k)) → IsBound k (loaded (state_in part k) insns)
+pub loaded_bound : LoadedMapsHaveShapes → MapsAreListed → (k : KeptTenant) (part : List ℕ) (insns : List Insn) → IsWellFormedTenant k → IsAccepted insns (targets (state_in part k)) → IsBound k (loaded_program (state_in part k) insns)
 loaded_bound have listed k part insns is accepted = record {
   each = places_keys k.objects (maps_of insns) are_maps;
   once = times_once k.objects (maps_of insns) is.single (λ i j fd a b. listed.once insns i j fd a b);

@@ -5,7 +5,8 @@ use Rattle.std.specs.Option.{option_map_or}
 use Rattle.std.proofs.lemmas.Bool.{ne_eqb, cases_eq}
 use Rattle.bpf_maps.specs.Live.{LiveMaps, LiveMap, live_or, live_at, holds_at, places_at, shape_at, map_in, offset, one_more, SameRoom}
 use Rattle.bpf_maps.specs.Places.{PlaceTable}
-use Rattle.tenant.specs.Kept.{MapsAreAtPlaces, IsLive, holds_in, area_of}
+use Rattle.tenant.specs.Kept.{MapsAreAtPlaces, IsLive, holds_in}
+use Rattle.tenant.specs.State.{shape_area}
 use Rattle.tenant.specs.inside.Loading.{IsHeldMore}
 use Rattle.tenant.proofs.OneMap.{map_of, others_keep}
 use Rattle.tenant.proofs.Releases.{one_at, here_one}
@@ -39,7 +40,7 @@ placed_held keys old new place key is there h = record {
   each = λ q k at. each_of q k at (cases_eq k key);
   apart = is.apart;
   counted = h.room.maps ∙ is.counted;
-  summed = h.room.bytes ∙ is.summed ∙ sym (total-same (λ k. area_of (shape_at new k)) (λ k. area_of (shape_at old k)) keys (λ q k at. shape_of k (cases_eq k key)));
+  summed = h.room.bytes ∙ is.summed ∙ sym (total-same (λ k. shape_area (shape_at new k)) (λ k. shape_area (shape_at old k)) keys (λ q k at. shape_of k (cases_eq k key)));
 }
   where
     here : IsLive new key
@@ -53,9 +54,9 @@ placed_held keys old new place key is there h = record {
     each_of q k at (inl same) = subst (λ (n : ℕ). IsLive new n) (sym same) here
     each_of q k at (inr other) = other_live old new k (h.others k other) (is.each q k at)
 
-    shape_of : (k : ℕ) → (k ≡ key) ⊎ (k ≡ key → ⊥) → area_of (shape_at new k) ≡ area_of (shape_at old k)
-    shape_of k (inl same) = subst (λ (n : ℕ). area_of (shape_at new n) ≡ area_of (shape_at old n)) (sym same) (ap (λ (p : PlaceTable). area_of p.shape) h.places)
-    shape_of k (inr other) = ap (λ (o : Option LiveMap). area_of (live_or o).places.shape) (h.others k other)
+    shape_of : (k : ℕ) → (k ≡ key) ⊎ (k ≡ key → ⊥) → shape_area (shape_at new k) ≡ shape_area (shape_at old k)
+    shape_of k (inl same) = subst (λ (n : ℕ). shape_area (shape_at new n) ≡ shape_area (shape_at old n)) (sym same) (ap (λ (p : PlaceTable). shape_area p.shape) h.places)
+    shape_of k (inr other) = ap (λ (o : Option LiveMap). shape_area (live_or o).places.shape) (h.others k other)
 
 pub held_one : (keys : List (Option ℕ)) (old new : LiveMaps) (place key : ℕ) → MapsAreAtPlaces keys old → get_or keys place None ≡ Some key → IsHeld old new key → IsHeldMore keys old new
 held_one keys old new place key is there h = record {

@@ -2,10 +2,10 @@
 use Rattle.std.proofs.Common.{◌≡◌, ◌≢◌, ℕ, ◌+◌, ◌-◌, ◌≤◌, ◌<◌, Bool, true, false, List, [], get_or, Option, Some, None, sym, ap, ap₂, subst, ◌∙◌, inl, inr, arith, length-set}
 use Rattle.std.specs.Prelude.{◌==◌, ◌||◌, ◌⊎◌, if◌then◌else◌}
 use Rattle.bpf_maps.specs.Live.{LiveMaps, map_in}
-use Rattle.fd_table.specs.Table.{first, lowest, with_open}
+use Rattle.fd_table.specs.Table.{first_descriptor, lowest, with_open}
 use Rattle.tenant.specs.declared.object.OpenObject.{OpenObject}
 use Rattle.tenant.specs.declared.object.OpenObject.TheVariants as object
-use Rattle.tenant.specs.Kept.{KeptTenant, IsWellFormedTenant, IsBound, holds_in, times, weight, by_descriptor, state_in}
+use Rattle.tenant.specs.Kept.{KeptTenant, IsWellFormedTenant, IsBound, holds_in, times_listed, times_named, by_descriptor, state_in}
 use Rattle.tenant.specs.Loaded.{LoadedProgram}
 use Rattle.tenant.specs.inside.Loading.{IsHeldMore, with_program}
 use Rattle.tenant.specs.State.{Map}
@@ -22,14 +22,14 @@ one_at_most : (b : Bool) → (if b then 1 else 0) ≤ 1
 one_at_most true = omega arith
 one_at_most false = omega arith
 
-weight-most : (k : KeptTenant) → IsWellFormedTenant k → (q i : ℕ) (o : OpenObject) → get_or k.objects i None ≡ Some o → weight q o ≤ 1
+weight-most : (k : KeptTenant) → IsWellFormedTenant k → (q i : ℕ) (o : OpenObject) → get_or k.objects i None ≡ Some o → times_named q o ≤ 1
 weight-most k is q i (object.Map p) there = one_at_most (p == q)
 weight-most k is q i (object.Program l) there = (is.bound i l there).once q
 
-pub few_hold : (k : KeptTenant) (l : LoadedProgram) → IsWellFormedTenant k → IsBound k l → (q : ℕ) → holds_in k.keys k.live q + times q l.maps < 4294967296
+pub few_hold : (k : KeptTenant) (l : LoadedProgram) → IsWellFormedTenant k → IsBound k l → (q : ℕ) → holds_in k.keys k.live q + times_listed q l.maps < 4294967296
 few_hold k l is bound q =
     let held = is.held q in
-    let most = total-most (weight q) k.objects (λ i o there. weight-most k is q i o there) in
+    let most = total-most (times_named q) k.objects (λ i o there. weight-most k is q i o there) in
     let all = is.all in
     let once = bound.once q in
     omega arith
@@ -47,16 +47,16 @@ same_program : (l m : LoadedProgram) → object.Program m ≡ object.Program l �
 same_program l m e = cc
 
 pub opened_kept : (k : KeptTenant) (t : LiveMaps) (fd : ℕ) (l : LoadedProgram) → IsWellFormedTenant k → lowest k.objects ≡ Some fd → IsBound k l → IsHeldMore k.keys k.live t
-    → ((q : ℕ) → holds_in k.keys t q ≡ holds_in k.keys k.live q + times q l.maps) → IsWellFormedTenant (kept_opened k t fd l)
+    → ((q : ℕ) → holds_in k.keys t q ≡ holds_in k.keys k.live q + times_listed q l.maps) → IsWellFormedTenant (kept_opened k t fd l)
 opened_kept k t fd l is low bound more holds = record {
-  all = length-set {A = Option OpenObject} k.objects (fd - first) (Some (object.Program l)) ∙ is.all;
+  all = length-set {A = Option OpenObject} k.objects (fd - first_descriptor) (Some (object.Program l)) ∙ is.all;
   placed = more.placed;
-  held = λ q. holds q ∙ ap (λ (n : ℕ). n + times q l.maps) (is.held q) ∙ sym (opened_sum (weight q) k.objects fd (object.Program l) low);
+  held = λ q. holds q ∙ ap (λ (n : ℕ). n + times_listed q l.maps) (is.held q) ∙ sym (opened_sum (times_named q) k.objects fd (object.Program l) low);
   single = λ q. let was = is.single q in let sum = opened_sum (by_descriptor q) k.objects fd (object.Program l) low in omega arith;
-  bound = λ n m there. bound_of m n (set_cases k.objects (fd - first) n (object.Program l) (object.Program m) (descriptor_free k.objects fd low).0 there);
+  bound = λ n m there. bound_of m n (set_cases k.objects (fd - first_descriptor) n (object.Program l) (object.Program m) (descriptor_free k.objects fd low).0 there);
 }
   where
-    bound_of : (m : LoadedProgram) (n : ℕ) → ((n ≡ fd - first) × (object.Program m ≡ object.Program l)) ⊎ ((n ≢ fd - first) × (get_or k.objects n None ≡ Some (object.Program m))) → IsBound (kept_opened k t fd l) m
+    bound_of : (m : LoadedProgram) (n : ℕ) → ((n ≡ fd - first_descriptor) × (object.Program m ≡ object.Program l)) ⊎ ((n ≢ fd - first_descriptor) × (get_or k.objects n None ≡ Some (object.Program m))) → IsBound (kept_opened k t fd l) m
     bound_of m n (inl (here, same)) = subst (IsBound (kept_opened k t fd l)) (same_program l m same) (still_bound k t fd l l more bound)
     bound_of m n (inr (other, there)) = still_bound k t fd l m more (is.bound n m there)
 

@@ -5,11 +5,11 @@ use Rattle.std.specs.Map.{lookup, keys_of}
 use Rattle.std.proofs.lemmas.Bool.{eqb-true, eq-eqb, cases_eq}
 use Rattle.std.proofs.lemmas.Bool.Decides.{nat_tests}
 use Rattle.std.proofs.lemmas.Option.{none-some}
-use Rattle.fd_table.specs.Table.{first, named, flattened}
+use Rattle.fd_table.specs.Table.{first_descriptor, named, flattened}
 use Rattle.tenant.specs.declared.object.OpenObject.{OpenObject}
 use Rattle.tenant.specs.declared.object.OpenObject.TheVariants as object
-use Rattle.tenant.specs.Kept.{times, by_descriptor, descriptors}
-use Rattle.tenant.specs.Machine.{place_of, places_from}
+use Rattle.tenant.specs.Kept.{times_listed, by_descriptor, descriptors}
+use Rattle.tenant.specs.Machine.{named_place, places_from}
 use Rattle.tenant.specs.State.{total}
 use Rattle.tenant.proofs.Closes.{closed_at}
 use Rattle.tenant.proofs.Opened.{set_there}
@@ -26,7 +26,7 @@ abbrev pub listed : Option ℕ → ℕ → List (ℕ × ℕ)
 listed None fd = []
 listed (Some place) fd = (fd, place) ∷ []
 
-pub listed_at : (o : Option OpenObject) (fd : ℕ) → place_at o fd ≡ listed (place_of o) fd
+pub listed_at : (o : Option OpenObject) (fd : ℕ) → place_at o fd ≡ listed (named_place o) fd
 listed_at None fd = refl
 listed_at (Some (object.Map place)) fd = refl
 listed_at (Some (object.Program l)) fd = refl
@@ -114,28 +114,28 @@ among_later : (objects : List (Option OpenObject)) (x : ℕ) (fds : List ℕ) (p
 among_later objects x fds place (i, fd, at, is) = (suc i, fd, at, is)
 
 -- a place that stands among them is that of a map that one of them names
-pub times_named : (objects : List (Option OpenObject)) (fds : List ℕ) (place : ℕ) → 1 ≤ times place (places_from objects fds)
+pub times_named : (objects : List (Option OpenObject)) (fds : List ℕ) (place : ℕ) → 1 ≤ times_listed place (places_from objects fds)
     → (i fd : ℕ) × (slice_get fds i ≡ Some fd) × (named objects fd ≡ Some (object.Map place))
-unfolding times
-times_named objects [] place some = absurd (let none : times place (places_from objects []) ≡ 0 = ap (times place) (places_none objects) in omega arith)
+unfolding times_listed
+times_named objects [] place some = absurd (let none : times_listed place (places_from objects []) ≡ 0 = ap (times_listed place) (places_none objects) in omega arith)
 times_named objects (x ∷ fds) place some = by_object (λ more. among_later objects x fds place (times_named objects fds place more)) (named objects x) refl
   where
-    by_test : (1 ≤ times place (places_from objects fds) → IsAmong objects (x ∷ fds) place) → (p : ℕ) (here : Bool) → (p == place) ≡ here → named objects x ≡ Some (object.Map p)
-        → 1 ≤ (if here then 1 else 0) + times place (places_from objects fds) → IsAmong objects (x ∷ fds) place
+    by_test : (1 ≤ times_listed place (places_from objects fds) → IsAmong objects (x ∷ fds) place) → (p : ℕ) (here : Bool) → (p == place) ≡ here → named objects x ≡ Some (object.Map p)
+        → 1 ≤ (if here then 1 else 0) + times_listed place (places_from objects fds) → IsAmong objects (x ∷ fds) place
     by_test rest p true same is e = (0, x, refl, is ∙ ap (λ (q : ℕ). Some (object.Map q)) (eqb-true p place same))
     by_test rest p false same is e = rest (omega arith)
 
-    by_object : (1 ≤ times place (places_from objects fds) → IsAmong objects (x ∷ fds) place) → (o : Option OpenObject) → named objects x ≡ o → IsAmong objects (x ∷ fds) place
-    by_object rest None is = rest (subst (λ (ms : List (ℕ × ℕ)). 1 ≤ times place ms) (places_cons objects x fds None is) some)
-    by_object rest (Some (object.Program l)) is = rest (subst (λ (ms : List (ℕ × ℕ)). 1 ≤ times place ms) (places_cons objects x fds (Some (object.Program l)) is) some)
-    by_object rest (Some (object.Map p)) is = by_test rest p (p == place) refl is (subst (λ (ms : List (ℕ × ℕ)). 1 ≤ times place ms) (places_cons objects x fds (Some (object.Map p)) is) some)
+    by_object : (1 ≤ times_listed place (places_from objects fds) → IsAmong objects (x ∷ fds) place) → (o : Option OpenObject) → named objects x ≡ o → IsAmong objects (x ∷ fds) place
+    by_object rest None is = rest (subst (λ (ms : List (ℕ × ℕ)). 1 ≤ times_listed place ms) (places_cons objects x fds None is) some)
+    by_object rest (Some (object.Program l)) is = rest (subst (λ (ms : List (ℕ × ℕ)). 1 ≤ times_listed place ms) (places_cons objects x fds (Some (object.Program l)) is) some)
+    by_object rest (Some (object.Map p)) is = by_test rest p (p == place) refl is (subst (λ (ms : List (ℕ × ℕ)). 1 ≤ times_listed place ms) (places_cons objects x fds (Some (object.Map p)) is) some)
 
 -- ---- no place stands twice
 
-pub named_low : (objects : List (Option OpenObject)) (fd : ℕ) (o : OpenObject) → named objects fd ≡ Some o → first ≤ fd
-named_low objects fd o is = by_test (nat_lt fd first) refl is
+pub named_low : (objects : List (Option OpenObject)) (fd : ℕ) (o : OpenObject) → named objects fd ≡ Some o → first_descriptor ≤ fd
+named_low objects fd o is = by_test (nat_lt fd first_descriptor) refl is
   where
-    by_test : (low : Bool) → nat_lt fd first ≡ low → (if low then None else flattened (slice_get objects (fd - first))) ≡ Some o → first ≤ fd
+    by_test : (low : Bool) → nat_lt fd first_descriptor ≡ low → (if low then None else flattened (slice_get objects (fd - first_descriptor))) ≡ Some o → first_descriptor ≤ fd
     by_test true e is = absurd (none-some o is)
     by_test false e is = grind (arith, nat_tests)
 
@@ -150,18 +150,18 @@ one_descriptor place = let same : (place == place) ≡ true = eq-eqb place place
 
 -- one descriptor names it
 pub one_names : (objects : List (Option OpenObject)) (a b place : ℕ) → descriptors place objects ≤ 1 → named objects a ≡ Some (object.Map place) → named objects b ≡ Some (object.Map place) → b ≡ a
-one_names objects a b place single m n = by_place (cases_eq (b - first) (a - first))
+one_names objects a b place single m n = by_place (cases_eq (b - first_descriptor) (a - first_descriptor))
   where
-    low : first ≤ a
+    low : first_descriptor ≤ a
     low = named_low objects a (object.Map place) m
 
-    too : first ≤ b
+    too : first_descriptor ≤ b
     too = named_low objects b (object.Map place) n
 
-    by_place : (b - first ≡ a - first) ⊎ (b - first ≡ a - first → ⊥) → b ≡ a
+    by_place : (b - first_descriptor ≡ a - first_descriptor) ⊎ (b - first_descriptor ≡ a - first_descriptor → ⊥) → b ≡ a
     by_place (inl same) = let p = low in let q = too in omega arith
     by_place (inr other) =
-        let two = total-two (by_descriptor place) objects (a - first) (b - first) (object.Map place) (object.Map place) other (closed_at objects a (object.Map place) m).1 (closed_at objects b (object.Map place) n).1 in
+        let two = total-two (by_descriptor place) objects (a - first_descriptor) (b - first_descriptor) (object.Map place) (object.Map place) other (closed_at objects a (object.Map place) m).1 (closed_at objects b (object.Map place) n).1 in
         let one = one_descriptor place in
         absurd (omega arith)
 
@@ -172,9 +172,9 @@ times_zero : (n : ℕ) → (1 ≤ n → ⊥) → n ≡ 0
 times_zero zero h = refl
 times_zero (suc n) h = absurd (h (omega arith))
 
-pub times_once : (objects : List (Option OpenObject)) (fds : List ℕ) → ((place : ℕ) → descriptors place objects ≤ 1) → AreApart fds → (place : ℕ) → times place (places_from objects fds) ≤ 1
-unfolding times
-times_once objects [] single apart place = let none : times place (places_from objects []) ≡ 0 = ap (times place) (places_none objects) in omega arith
+pub times_once : (objects : List (Option OpenObject)) (fds : List ℕ) → ((place : ℕ) → descriptors place objects ≤ 1) → AreApart fds → (place : ℕ) → times_listed place (places_from objects fds) ≤ 1
+unfolding times_listed
+times_once objects [] single apart place = let none : times_listed place (places_from objects []) ≡ 0 = ap (times_listed place) (places_none objects) in omega arith
 times_once objects (x ∷ fds) single apart place =
     by_object (times_once objects fds single (λ i j fd a b. let same = apart (suc i) (suc j) fd a b in omega arith) place) (named objects x) refl
   where
@@ -185,14 +185,14 @@ times_once objects (x ∷ fds) single apart place =
         let wrong : 0 ≡ suc i = apart 0 (suc i) x refl (at ∙ ap Some same) in
         omega arith
 
-    by_test : times place (places_from objects fds) ≤ 1 → (p : ℕ) (here : Bool) → (p == place) ≡ here → named objects x ≡ Some (object.Map p) → (if here then 1 else 0) + times place (places_from objects fds) ≤ 1
+    by_test : times_listed place (places_from objects fds) ≤ 1 → (p : ℕ) (here : Bool) → (p == place) ≡ here → named objects x ≡ Some (object.Map p) → (if here then 1 else 0) + times_listed place (places_from objects fds) ≤ 1
     by_test few p true same is =
         let here : named objects x ≡ Some (object.Map place) = is ∙ ap (λ (q : ℕ). Some (object.Map q)) (eqb-true p place same) in
-        let none : times place (places_from objects fds) ≡ 0 = times_zero (times place (places_from objects fds)) (λ some. not_there (times_named objects fds place some) here) in
+        let none : times_listed place (places_from objects fds) ≡ 0 = times_zero (times_listed place (places_from objects fds)) (λ some. not_there (times_named objects fds place some) here) in
         omega arith
     by_test few p false same is = omega arith
 
-    by_object : times place (places_from objects fds) ≤ 1 → (o : Option OpenObject) → named objects x ≡ o → times place (places_from objects (x ∷ fds)) ≤ 1
-    by_object few None is = subst (λ (ms : List (ℕ × ℕ)). times place ms ≤ 1) (sym (places_cons objects x fds None is)) few
-    by_object few (Some (object.Program l)) is = subst (λ (ms : List (ℕ × ℕ)). times place ms ≤ 1) (sym (places_cons objects x fds (Some (object.Program l)) is)) few
-    by_object few (Some (object.Map p)) is = subst (λ (ms : List (ℕ × ℕ)). times place ms ≤ 1) (sym (places_cons objects x fds (Some (object.Map p)) is)) (by_test few p (p == place) refl is)
+    by_object : times_listed place (places_from objects fds) ≤ 1 → (o : Option OpenObject) → named objects x ≡ o → times_listed place (places_from objects (x ∷ fds)) ≤ 1
+    by_object few None is = subst (λ (ms : List (ℕ × ℕ)). times_listed place ms ≤ 1) (sym (places_cons objects x fds None is)) few
+    by_object few (Some (object.Program l)) is = subst (λ (ms : List (ℕ × ℕ)). times_listed place ms ≤ 1) (sym (places_cons objects x fds (Some (object.Program l)) is)) few
+    by_object few (Some (object.Map p)) is = subst (λ (ms : List (ℕ × ℕ)). times_listed place ms ≤ 1) (sym (places_cons objects x fds (Some (object.Map p)) is)) (by_test few p (p == place) refl is)

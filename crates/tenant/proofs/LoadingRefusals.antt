@@ -19,7 +19,7 @@ use Rattle.tenant.specs.declared.errno.Errno.{Errno}
 use Rattle.tenant.specs.declared.errno.Errno.TheVariants.{Invalid}
 use Rattle.tenant.specs.Loaded.{LoadedProgram}
 use Rattle.tenant.specs.inside.Loading.{with_program}
-use Rattle.tenant.specs.Machine.{Answer, refuses, refuses_at, opens, accepted, rejected, loaded, targets, Judges, LoadsAs, LoadsUnder, Loads}
+use Rattle.tenant.specs.Machine.{Answer, refuses, refuses_at, opens, accepted, rejected, loaded_program, targets, Judges, LoadsAs, LoadsUnder, Loads}
 use Rattle.tenant.specs.State.{TenantState}
 
 -- ---- the slot of a refusal
@@ -66,7 +66,7 @@ pub refused_at : (s : TenantState) (kind fd : ℕ) (slots : List ℕ) (errno : E
 refused_at s kind fd slots errno slot number socket low is =
     (false, under_free false s kind fd slots (refuses_at errno slot number s) socket low (rejected errno slot number, is, refl))
 
-pub program_opened : (s : TenantState) (kind fd : ℕ) (slots : List ℕ) (l : LoadedProgram) → kind ≡ 1 → lowest s.objects ≡ Some fd → Judges (targets s) slots (accepted l.insns) → l ≡ loaded s l.insns
+pub program_opened : (s : TenantState) (kind fd : ℕ) (slots : List ℕ) (l : LoadedProgram) → kind ≡ 1 → lowest s.objects ≡ Some fd → Judges (targets s) slots (accepted l.insns) → l ≡ loaded_program s l.insns
     → MayLoad s kind slots (opens fd (with_program s fd l))
 program_opened s kind fd slots l socket low is same =
     (false, under_free false s kind fd slots (opens fd (with_program s fd l)) socket low (accepted l.insns, is, ap (λ (m : LoadedProgram). opens fd (with_program s fd m)) same))

@@ -11,7 +11,7 @@ use Rattle.tenant.specs.declared.errno.Errno.TheVariants.{Invalid}
 use Rattle.tenant.specs.declared.object.OpenObject.{OpenObject}
 use Rattle.tenant.specs.declared.object.OpenObject.TheVariants as object
 use Rattle.tenant.specs.State.{Map, TenantState, live}
-use Rattle.tenant.specs.Machine.{Answer, refuses, found, of_object, of_place, on_map, looked_up}
+use Rattle.tenant.specs.Machine.{Answer, refuses, gives_if_found, of_object, of_place, on_map, element_looked_up}
 use Rattle.tenant.specs.Kept.{KeptTenant, key_at, state_in}
 
 pub get_or-map_some : {A B : Type 0} (f : A → B) (xs : List (Option A)) (i : ℕ) → get_or (map (λ o. option_map f o) xs) i None ≡ option_map f (get_or xs i None)
@@ -30,21 +30,21 @@ on_map_is part k fd place key f opened there =
     ap (λ (o : Option OpenObject). of_object (state_in part k) f o) opened ∙ ap (λ (o : Option Map). of_place (state_in part k) place f o) (live_is part k place key there)
 
 abbrev answer_by : TenantState → List ℕ → Map → Answer
-answer_by s key t = if length key == t.shape.key_size then found s (look_up t key) else refuses Invalid s
+answer_by s key t = if length key == t.shape.key_size then gives_if_found s (look_up t key) else refuses Invalid s
 
 -- a key of another size
 pub refused_size : (part : List ℕ) (k : KeptTenant) (fd place m : ℕ) (key : List ℕ) → named k.objects fd ≡ Some (object.Map place) → key_at k place ≡ Some m
-    → (length key == (shape_at k.live m).key_size) ≡ false → refuses Invalid (state_in part k) ≡ looked_up (state_in part k) fd key
+    → (length key == (shape_at k.live m).key_size) ≡ false → refuses Invalid (state_in part k) ≡ element_looked_up (state_in part k) fd key
 refused_size part k fd place m key opened there other =
-    sym (on_map_is part k fd place m (λ p t. answer_by (state_in part k) key t) opened there ∙ ap (λ (b : Bool). if b then found (state_in part k) (look_up (map_in part k.live m) key) else refuses Invalid (state_in part k)) other)
+    sym (on_map_is part k fd place m (λ p t. answer_by (state_in part k) key t) opened there ∙ ap (λ (b : Bool). if b then gives_if_found (state_in part k) (look_up (map_in part k.live m) key) else refuses Invalid (state_in part k)) other)
 
 -- the value at the place that was found, if one was
 pub found_at : CallsRefineValues ℕ (List ℕ) → (part : List ℕ) (k : KeptTenant) (fd place m : ℕ) (key : List ℕ) (r : Option ℕ) → named k.objects fd ≡ Some (object.Map place) → key_at k place ≡ Some m
     → length key ≡ (shape_at k.live m).key_size → r ≡ look_up (table_of (places_at k.live m)) key
-    → found (state_in part k) (option_map (value_in part k.live m) r) ≡ looked_up (state_in part k) fd key
+    → gives_if_found (state_in part k) (option_map (value_in part k.live m) r) ≡ element_looked_up (state_in part k) fd key
 found_at along part k fd place m key r opened there size is =
     let right : (length key == (shape_at k.live m).key_size) ≡ true = eq-eqb (length key) (shape_at k.live m).key_size size in
     let value : look_up (map_in part k.live m) key ≡ option_map (value_in part k.live m) r = along.found (value_in part k.live m) (table_of (places_at k.live m)) key ∙ ap (option_map (value_in part k.live m)) (sym is) in
     sym (on_map_is part k fd place m (λ p t. answer_by (state_in part k) key t) opened there
-    ∙ ap (λ (b : Bool). if b then found (state_in part k) (look_up (map_in part k.live m) key) else refuses Invalid (state_in part k)) right
-    ∙ ap (found (state_in part k)) value)
+    ∙ ap (λ (b : Bool). if b then gives_if_found (state_in part k) (look_up (map_in part k.live m) key) else refuses Invalid (state_in part k)) right
+    ∙ ap (gives_if_found (state_in part k)) value)

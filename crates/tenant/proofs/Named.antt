@@ -7,11 +7,11 @@ use Rattle.std.proofs.lemmas.Option.{none-some}
 use Rattle.fd_table.specs.Table.{named, flattened}
 use Rattle.tenant.specs.declared.object.OpenObject.{OpenObject}
 use Rattle.tenant.specs.declared.object.OpenObject.TheVariants as object
-use Rattle.tenant.specs.Kept.{KeptTenant, IsWellFormedTenant, key_at, weight, holders}
+use Rattle.tenant.specs.Kept.{KeptTenant, IsWellFormedTenant, key_at, times_named, holders}
 use Rattle.bpf_maps.specs.Live.{holds_at}
 use Rattle.tenant.specs.State.{total}
 
-names_once : (place : ℕ) → weight place (object.Map place) ≡ 1
+names_once : (place : ℕ) → times_named place (object.Map place) ≡ 1
 names_once place = let same : (place == place) ≡ true = eq-eqb place place refl in rw same refl
 
 first_one : (a b : ℕ) → a ≡ 1 → 1 ≤ a + b
@@ -28,8 +28,8 @@ held_at : (objects : List (Option OpenObject)) (n place : ℕ) → flattened (sl
 unfolding total
 held_at [] n place e = absurd (none-some (object.Map place) e)
 held_at (None ∷ os) zero place e = absurd (none-some (object.Map place) e)
-held_at (Some o ∷ os) zero place e = first_one (weight place o) (holders place os) (ap (λ (x : Option OpenObject). weight place (or_first x)) e ∙ names_once place)
-held_at (o ∷ os) (suc n) place e = some_later (option_map_or (weight place) o 0) (holders place os) (held_at os n place e)
+held_at (Some o ∷ os) zero place e = first_one (times_named place o) (holders place os) (ap (λ (x : Option OpenObject). times_named place (or_first x)) e ∙ names_once place)
+held_at (o ∷ os) (suc n) place e = some_later (option_map_or (times_named place) o 0) (holders place os) (held_at os n place e)
 
 held_by : (low : Bool) (objects : List (Option OpenObject)) (n place : ℕ) → (if low then None else flattened (slice_get objects n)) ≡ Some (object.Map place) → 1 ≤ holders place objects
 held_by true objects n place e = absurd (none-some (object.Map place) e)

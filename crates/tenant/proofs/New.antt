@@ -6,8 +6,8 @@ use Rattle.bpf_maps.specs.Live.{LiveMaps, holds_at, shape_at, count, areas}
 use Rattle.fd_table.specs.Table.{nothing_open, most}
 use Rattle.tenant.specs.declared.object.OpenObject.{OpenObject}
 use Rattle.tenant.specs.declared.object.OpenObject.TheVariants as object
-use Rattle.tenant.specs.State.{most_maps}
-use Rattle.tenant.specs.Kept.{KeptTenant, IsWellFormedTenant, weight, by_descriptor, descriptors, area_of}
+use Rattle.tenant.specs.State.{most_maps, shape_area}
+use Rattle.tenant.specs.Kept.{KeptTenant, IsWellFormedTenant, times_named, by_descriptor, descriptors}
 use Rattle.tenant.proofs.Sums.{total-none}
 
 get_or-none : {A : Type 0} (n i : ℕ) → get_or (replicate {A = Option A} n None) i None ≡ None
@@ -30,9 +30,9 @@ new_is_kept live none_live no_bytes = record {
     each = λ place key there. absurd (none-some key (sym (get_or-none most_maps place) ∙ there));
     apart = λ p q key there too. absurd (none-some key (sym (get_or-none most_maps p) ∙ there));
     counted = none_live ∙ sym (total-none (λ key. 1) most_maps);
-    summed = no_bytes ∙ sym (total-none (λ key. area_of (shape_at live key)) most_maps);
+    summed = no_bytes ∙ sym (total-none (λ key. shape_area (shape_at live key)) most_maps);
   };
-  held = λ place. holds_nothing live _ (get_or-none most_maps place) ∙ sym (total-none (weight place) most);
+  held = λ place. holds_nothing live _ (get_or-none most_maps place) ∙ sym (total-none (times_named place) most);
   single = λ place. let none : descriptors place nothing_open ≡ 0 = total-none (by_descriptor place) most in omega arith;
   bound = λ n l there. absurd (none-some (object.Program l) (sym (get_or-none most n) ∙ there));
 }

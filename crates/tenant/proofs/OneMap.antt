@@ -5,7 +5,7 @@ use Rattle.std.proofs.lemmas.Bool.{cases_eq}
 use Rattle.bpf_maps.specs.Live.{LiveMaps, LiveMap, live_or, live_at, offset, map_in}
 use Rattle.bpf_maps.specs.Places.{table_of}
 use Rattle.tagged_model.specs.Table.{with_values}
-use Rattle.tenant.specs.State.{Map, with_map}
+use Rattle.tenant.specs.State.{Map, with_map_at}
 use Rattle.tenant.specs.Kept.{KeptTenant, IsWellFormedTenant, key_at, maps_in, state_in}
 use Rattle.tenant.proofs.Changes.{one_changed, all_same}
 use Rattle.tenant.proofs.StillKept.{with_live}
@@ -22,7 +22,7 @@ others_keep part old new m same other apart = ap (map_of part) (same other apart
 pub one_map : (part later : List ℕ) (k : KeptTenant) (t : LiveMaps) (place m : ℕ) (changed : Map) → IsWellFormedTenant k → key_at k place ≡ Some m
     → ((i other : ℕ) → key_at k i ≡ Some other → other ≢ m → map_in later t other ≡ map_in part k.live other)
     → map_in later t m ≡ changed → t.refused ≡ k.live.refused
-    → state_in later (with_live k t) ≡ with_map (state_in part k) place changed
+    → state_in later (with_live k t) ≡ with_map_at (state_in part k) place changed
 one_map part later k t place m changed is there others here flag =
     let maps : maps_in later t k.keys ≡ set (maps_in part k.live k.keys) place (Some changed) =
     one_changed (map_in later t) (map_in part k.live) k.keys place m there (λ i other apart at. others i other at (λ same. apart (is.placed.apart i place m (at ∙ ap Some same) there)))

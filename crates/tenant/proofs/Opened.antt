@@ -4,7 +4,7 @@ use Rattle.std.specs.Prelude.{◌⊎◌, is_none, position, option_map}
 use Rattle.std.proofs.lemmas.Bool.{cases_eq}
 use Rattle.std.proofs.lemmas.Option.{none-some}
 use Rattle.std.proofs.lemmas.List.Quantifiers.{position-Some}
-use Rattle.fd_table.specs.Table.{first, lowest, with_open}
+use Rattle.fd_table.specs.Table.{first_descriptor, lowest, with_open}
 use Rattle.tenant.specs.State.{total}
 use Rattle.tenant.proofs.Sums.{total-set}
 
@@ -48,21 +48,21 @@ pub place_free : {A : Type 0} (xs : List (Option A)) (n : ℕ) → position is_n
 place_free xs n e = let (within, free, lower) = position-Some is_none xs n None e in (within, is_free (get_or xs n None) free)
 
 -- and a descriptor that is
-pub descriptor_free : {A : Type 0} (xs : List (Option A)) (fd : ℕ) → lowest xs ≡ Some fd → (fd - first < length xs) × (get_or xs (fd - first) None ≡ None)
+pub descriptor_free : {A : Type 0} (xs : List (Option A)) (fd : ℕ) → lowest xs ≡ Some fd → (fd - first_descriptor < length xs) × (get_or xs (fd - first_descriptor) None ≡ None)
 descriptor_free xs fd e = by_position (position is_none xs) refl e
   where
     place_of : (n : ℕ) → Some (3 + n) ≡ Some fd → n ≡ fd - 3
     place_of n e = let same : fd ≡ 3 + n = same_inside (3 + n) fd e in omega arith
 
-    by_position : (o : Option ℕ) → position is_none xs ≡ o → option_map (λ place. first + place) o ≡ Some fd → (fd - first < length xs) × (get_or xs (fd - first) None ≡ None)
+    by_position : (o : Option ℕ) → position is_none xs ≡ o → option_map (λ place. first_descriptor + place) o ≡ Some fd → (fd - first_descriptor < length xs) × (get_or xs (fd - first_descriptor) None ≡ None)
     by_position None p e = absurd (none-some fd e)
     by_position (Some n) p e =
-        let same : n ≡ fd - first = place_of n e in
+        let same : n ≡ fd - first_descriptor = place_of n e in
         let (within, free) = place_free xs n p in
         (omega (arith, within, same), ap (λ (m : ℕ). get_or xs m None) (sym same) ∙ free)
 
 pub opened_sum : {A : Type 0} (f : A → ℕ) (xs : List (Option A)) (fd : ℕ) (x : A) → lowest xs ≡ Some fd → total f (with_open xs fd x) ≡ total f xs + f x
-opened_sum f xs fd x e = let (within, free) = descriptor_free xs fd e in total-set f xs (fd - first) x within free
+opened_sum f xs fd x e = let (within, free) = descriptor_free xs fd e in total-set f xs (fd - first_descriptor) x within free
 
 pub some_lowest : {A : Type 0} (xs : List (Option A)) → is_none (lowest xs) ≡ false → (fd : ℕ) × (lowest xs ≡ Some fd)
 some_lowest xs e = by_option (lowest xs) refl e

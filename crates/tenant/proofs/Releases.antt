@@ -7,7 +7,8 @@ use Rattle.std.proofs.lemmas.Bool.Decides.{nat_tests}
 use Rattle.bpf_maps.specs.declared.part.TheConstants.{PART}
 use Rattle.bpf_maps.specs.Live.{LiveMaps, LiveMap, live_or, live_at, holds_at, places_at, shape_at, map_in, MapWithoutArea, held_at, without_area, one_less, no_live, SameRoom, HasOneMore, KeepsMap, KeepsOthers}
 use Rattle.bpf_maps.specs.Places.{PlaceTable}
-use Rattle.tenant.specs.Kept.{MapsAreAtPlaces, IsLive, holds_in, area_of, areas_by}
+use Rattle.tenant.specs.Kept.{MapsAreAtPlaces, IsLive, holds_in, areas_by}
+use Rattle.tenant.specs.State.{shape_area}
 use Rattle.tenant.specs.inside.Leaves.{LeavesHeldMaps}
 use Rattle.tenant.proofs.Sums.{total-unset, total-same}
 use Rattle.tenant.proofs.Opened.{set_there, unset_here, unset_cases}
@@ -75,8 +76,8 @@ other_live old new part later key other r apart was = record {
   ended = ap (λ (p : PlaceTable). p.kept) (same_places old new other (r.others other apart)) ∙ was.ended;
 }
 
-other_shape : (old new : LiveMaps) (key : ℕ) → held_at new key ≡ held_at old key → area_of (shape_at new key) ≡ area_of (shape_at old key)
-other_shape old new key same = ap (λ (p : PlaceTable). area_of p.shape) (same_places old new key same)
+other_shape : (old new : LiveMaps) (key : ℕ) → held_at new key ≡ held_at old key → shape_area (shape_at new key) ≡ shape_area (shape_at old key)
+other_shape old new key same = ap (λ (p : PlaceTable). shape_area p.shape) (same_places old new key same)
 
 -- ---- the last one
 
@@ -93,10 +94,10 @@ placed_last keys old new part later place key is there r last = record {
       omega arith;
   summed =
       let freed = (r.freed last).bytes in
-      let fewer = total-unset (λ k. area_of (shape_at old k)) keys place key there in
+      let fewer = total-unset (λ k. shape_area (shape_at old k)) keys place key there in
       let was = is.summed in
       let same : areas_by new (set keys place None) ≡ areas_by old (set keys place None) =
-      total-same (λ k. area_of (shape_at new k)) (λ k. area_of (shape_at old k)) (set keys place None)
+      total-same (λ k. shape_area (shape_at new k)) (λ k. shape_area (shape_at old k)) (set keys place None)
       (λ q k at. let (other, stood) = unset_cases keys place q k at in other_shape old new k (r.others k (not_key q k other stood))) in
       omega arith;
 }
@@ -131,15 +132,15 @@ placed_more keys old new part later place key is there r more =
       apart = is.apart;
       counted = (r.room more).maps ∙ is.counted;
       summed = (r.room more).bytes ∙ is.summed
-          ∙ sym (total-same (λ k. area_of (shape_at new k)) (λ k. area_of (shape_at old k)) keys (λ q k at. shape_of (ap (λ (p : PlaceTable). area_of p.shape) fewer.1) k (cases_eq k key)));
+          ∙ sym (total-same (λ k. shape_area (shape_at new k)) (λ k. shape_area (shape_at old k)) keys (λ q k at. shape_of (ap (λ (p : PlaceTable). shape_area p.shape) fewer.1) k (cases_eq k key)));
     }
   where
     each_of : IsLive new key → (q k : ℕ) → get_or keys q None ≡ Some k → (k ≡ key) ⊎ (k ≡ key → ⊥) → IsLive new k
     each_of here q k at (inl same) = subst (λ (n : ℕ). IsLive new n) (sym same) here
     each_of here q k at (inr other) = other_live old new part later key k r other (is.each q k at)
 
-    shape_of : area_of (shape_at new key) ≡ area_of (shape_at old key) → (k : ℕ) → (k ≡ key) ⊎ (k ≡ key → ⊥) → area_of (shape_at new k) ≡ area_of (shape_at old k)
-    shape_of here k (inl same) = subst (λ (n : ℕ). area_of (shape_at new n) ≡ area_of (shape_at old n)) (sym same) here
+    shape_of : shape_area (shape_at new key) ≡ shape_area (shape_at old key) → (k : ℕ) → (k ≡ key) ⊎ (k ≡ key → ⊥) → shape_area (shape_at new k) ≡ shape_area (shape_at old k)
+    shape_of here k (inl same) = subst (λ (n : ℕ). shape_area (shape_at new n) ≡ shape_area (shape_at old n)) (sym same) here
     shape_of here k (inr other) = other_shape old new k (r.others k other)
 
 pub left_more : (keys : List (Option ℕ)) (old new : LiveMaps) (part later : List ℕ) (place key : ℕ) → MapsAreAtPlaces keys old → get_or keys place None ≡ Some key → IsReleased old new part later key → 1 < holds_at old key

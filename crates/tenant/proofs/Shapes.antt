@@ -9,7 +9,7 @@ use Rattle.tagged_model.specs.declared.shape.ShapeFault.TheVariants as fault
 use Rattle.tagged_model.specs.Shape.{is_shape, shape_fault, has_key, is_from_to, fits}
 use Rattle.tenant.specs.declared.errno.Errno.{Errno}
 use Rattle.tenant.specs.declared.errno.Errno.TheVariants.{Invalid}
-use Rattle.tenant.specs.Machine.{shape_where, shape_of}
+use Rattle.tenant.specs.Machine.{shape_where, asked_shape}
 
 IsTrue-prop : (b : Bool) → IsProp (IsTrue b)
 IsTrue-prop b = hlevel props
@@ -43,7 +43,7 @@ abbrev in_limits : MapKind → ℕ → ℕ → ℕ → Bool
 in_limits kind key value max = (has_key kind key && is_from_to 1 4096 value) && is_from_to 1 4096 max
 
 pub shape_ok : (kind : MapKind) (key value max flags : ℕ) (s : MapShape) → shape_fault kind key value max flags ≡ None → (s.kind ≡ kind) × (s.key_size ≡ key) × (s.value_size ≡ value) × (s.max_entries ≡ max)
-    → Ok s ≡ shape_of (Some kind) key value max flags
+    → Ok s ≡ asked_shape (Some kind) key value max flags
 shape_ok kind key value max flags s none (kind_is, key_is, value_is, max_is) =
     asked_ok (in_limits kind key value max) (flags == 0) (fits value max) (λ listed. record { kind = kind; key_size = key; value_size = value; max_entries = max; listed = listed }) s none
     (same_shape s kind key value max kind_is key_is value_is max_is)

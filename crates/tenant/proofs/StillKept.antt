@@ -3,10 +3,11 @@ use Rattle.std.proofs.Common.{◌≡◌, ◌≢◌, ℕ, ◌≤◌, [], Option, 
 use Rattle.std.specs.Prelude.{◌⊎◌}
 use Rattle.std.specs.Option.{option_map_or}
 use Rattle.std.proofs.lemmas.Bool.{cases_eq}
-use Rattle.bpf_maps.specs.Live.{LiveMaps, LiveMap, live_or, live_at, holds_at, shape_at, places_at, SameRoom}
+use Rattle.bpf_maps.specs.Live.{LiveMaps, LiveMap, live_or, live_at, holds_at, shape_at, places_at, SameRoom, OnlyKeysChange}
 use Rattle.tagged_model.specs.declared.shape.MapShape.{MapShape}
 use Rattle.tenant.proofs.Sums.{total-same}
-use Rattle.tenant.specs.Kept.{KeptTenant, IsWellFormedTenant, key_at, area_of}
+use Rattle.tenant.specs.Kept.{KeptTenant, IsWellFormedTenant, key_at}
+use Rattle.tenant.specs.State.{shape_area}
 
 abbrev pub with_live : KeptTenant → LiveMaps → KeptTenant
 with_live k t = record { objects = k.objects; keys = k.keys; live = t; refused = k.refused }
@@ -28,7 +29,7 @@ other_still k t is place key there same =
     }
 
 -- where one map is so, and the others are the same, all are
-pub each_still : (k : KeptTenant) (t : LiveMaps) (m : ℕ) → IsWellFormedTenant k → IsLiveStill k.live t m → ((other : ℕ) → other ≢ m → live_at t other ≡ live_at k.live other)
+each_still : (k : KeptTenant) (t : LiveMaps) (m : ℕ) → IsWellFormedTenant k → IsLiveStill k.live t m → ((other : ℕ) → other ≢ m → live_at t other ≡ live_at k.live other)
     → (place key : ℕ) → key_at k place ≡ Some key → IsLiveStill k.live t key
 each_still k t m is here others place key there = by_key (cases_eq key m)
   where
@@ -54,7 +55,7 @@ still_kept k t is each room = record {
     };
     apart = is.placed.apart;
     counted = room.maps ∙ is.placed.counted;
-    summed = room.bytes ∙ is.placed.summed ∙ sym (total-same (λ key. area_of (shape_at t key)) (λ key. area_of (shape_at k.live key)) k.keys (λ place key there. ap (λ (s : MapShape). area_of s) (each place key there).shape));
+    summed = room.bytes ∙ is.placed.summed ∙ sym (total-same (λ key. shape_area (shape_at t key)) (λ key. shape_area (shape_at k.live key)) k.keys (λ place key there. ap (λ (s : MapShape). shape_area s) (each place key there).shape));
   };
   held = λ place. same_holds k.live t (key_at k place) (λ key there. (each place key there).holds) ∙ is.held place;
   single = is.single;
@@ -64,3 +65,9 @@ still_kept k t is each room = record {
     shaped = λ fd place found. let (key, at, shaped) = was.shaped fd place found in (key, at, shaped ∙ ap Some (sym (each place key at).shape));
   };
 }
+
+-- where only the keys of one map change, and no place of it is kept apart
+pub keys_kept : (k : KeptTenant) (t : LiveMaps) (m : ℕ) → IsWellFormedTenant k → OnlyKeysChange m k.live t → (places_at t m).kept ≡ [] → IsWellFormedTenant (with_live k t)
+keys_kept k t m is rest ended =
+    let here : IsLiveStill k.live t m = record { live = rest.live; holds = rest.holds; shape = rest.shape; ended = ended } in
+    still_kept k t is (each_still k t m is here rest.others) rest.room

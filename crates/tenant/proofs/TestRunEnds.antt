@@ -11,7 +11,7 @@ use Rattle.tenant.specs.declared.errno.Errno.TheVariants.{TooBig}
 use Rattle.tenant.specs.declared.object.OpenObject.TheVariants as object
 use Rattle.tenant.specs.Kept.{KeptTenant, IsWellFormedTenant, IsBound, state_in}
 use Rattle.tenant.specs.Loaded.{LoadedProgram}
-use Rattle.tenant.specs.Machine.{ended, ran, run_of, refuses, maps_given, longest_packet}
+use Rattle.tenant.specs.Machine.{outcome_answer, ran, run_of, refuses, maps_given, longest_packet}
 use Rattle.tenant.specs.State.{Map, TenantState}
 use Rattle.tenant.specs.inside.TestRun.{HasKeys}
 use Rattle.tenant.proofs.StillKept.{with_live}
@@ -39,7 +39,7 @@ pub record HasRun (part later : List ℕ) (k : KeptTenant) (new : LiveMaps) (l :
   pub values : KeepsValues bind k.live part new later
 
 pub ran_as : MapsAreListed → (part later : List ℕ) (k : KeptTenant) (new : LiveMaps) (l : LoadedProgram) (bind words packet : List ℕ) (before steps : ℕ) (outcome : Outcome) → HasRun part later k new l bind words packet before steps outcome
-    → (refusals : List Bool) × (ended outcome (state_in later (with_live k new)) ≡ ran refusals (state_in part k) l words packet)
+    → (refusals : List Bool) × (outcome_answer outcome (state_in later (with_live k new)) ≡ ran refusals (state_in part k) l words packet)
 ran_as listed part later k new l bind words packet before steps outcome h =
     let s = state_in part k in
     let given = maps_given s l in
@@ -51,5 +51,5 @@ ran_as listed part later k new l bind words packet before steps outcome h =
     let flag : (k.refused || new.refused) ≡ (s.refused || refused) = ap (λ (b : Bool). k.refused || b) r.flag ∙ or_assoc k.refused k.live.refused refused in
     let state : state_in later (with_live k new) ≡ _ = ap₂ (λ (ms : List (Option Map)) (b : Bool). record { objects = k.objects; maps = ms; refused = b }) (sym maps) flag in (
       r.refusals,
-      ap₂ ended r.value state,
+      ap₂ outcome_answer r.value state,
     )

@@ -7,7 +7,7 @@ use Rattle.std.proofs.lemmas.List.{get_or-take}
 use Rattle.std.proofs.lemmas.Option.{same_Some, slice_get-get_or}
 use Rattle.bpf_maps.specs.declared.part.TheConstants.{MAPS}
 use Rattle.bpf_maps.specs.Live.{shape_at}
-use Rattle.fd_table.specs.Table.{first, named}
+use Rattle.fd_table.specs.Table.{first_descriptor, named}
 use Rattle.flat_machine.specs.Runs.{AreBound}
 use Rattle.tagged_model.specs.Named.{shapes_named}
 use Rattle.verdict.specs.Laws.{MapsAreListed}
@@ -16,7 +16,7 @@ use Rattle.verifier.specs.Verified.{Accepted}
 use Rattle.tenant.specs.declared.object.OpenObject.TheVariants as object
 use Rattle.tenant.specs.Kept.{KeptTenant, IsWellFormedTenant, IsBound, key_at}
 use Rattle.tenant.specs.Loaded.{LoadedProgram}
-use Rattle.tenant.specs.inside.TestRun.{place_at, AreThere, HasKeys}
+use Rattle.tenant.specs.inside.TestRun.{listed_place, AreThere, HasKeys}
 use Rattle.tenant.proofs.Closes.{closed_at}
 use Rattle.tenant.proofs.TestRunPlaces.{same_entry, few_places}
 
@@ -35,13 +35,13 @@ length-keys (m ∷ ms) = let rest = length-keys ms in omega arith
 once_later : (x : ℕ) (xs : List ℕ) → AreOnce (x ∷ xs) → AreOnce xs
 once_later x xs once i j fd a b = let e = once (suc i) (suc j) fd a b in omega arith
 
-pub lookup_at : (maps : List (ℕ × ℕ)) → AreOnce (keys_of maps) → (i : ℕ) → i < length maps → lookup (λ m. m == descriptor_at maps i) maps ≡ Some (place_at maps i)
+pub lookup_at : (maps : List (ℕ × ℕ)) → AreOnce (keys_of maps) → (i : ℕ) → i < length maps → lookup (λ m. m == descriptor_at maps i) maps ≡ Some (listed_place maps i)
 lookup_at [] once i lt = absurd (omega arith)
 lookup_at (m ∷ ms) once zero lt = ap (λ (b : Bool). cond b (Some m.1) (lookup (λ k. k == m.0) ms)) (eq-eqb m.0 m.0 refl)
 lookup_at (m ∷ ms) once (suc i) lt = by (m.0 == descriptor_at ms i) refl (lookup_at ms (once_later m.0 (keys_of ms) once) i (omega arith))
   where
-    by : (b : Bool) → (m.0 == descriptor_at ms i) ≡ b → lookup (λ k. k == descriptor_at ms i) ms ≡ Some (place_at ms i)
-        → cond (m.0 == descriptor_at ms i) (Some m.1) (lookup (λ k. k == descriptor_at ms i) ms) ≡ Some (place_at ms i)
+    by : (b : Bool) → (m.0 == descriptor_at ms i) ≡ b → lookup (λ k. k == descriptor_at ms i) ms ≡ Some (listed_place ms i)
+        → cond (m.0 == descriptor_at ms i) (Some m.1) (lookup (λ k. k == descriptor_at ms i) ms) ≡ Some (listed_place ms i)
     by true e rest =
         let long = length-keys ms in
         let here : Some m.0 ≡ Some (descriptor_at ms i) = ap (λ (n : ℕ). Some n) (eqb-true m.0 (descriptor_at ms i) e) in
@@ -62,14 +62,14 @@ module _ (k : KeptTenant) (l : LoadedProgram) (is : IsWellFormedTenant k) (bound
   once = subst (λ (fds : List ℕ). AreOnce fds) (sym bound.each) (λ i j fd a b. listed.once l.insns i j fd a b)
 
   -- a map of the shape that was verified
-  entry : (i : ℕ) → i < length l.maps → (key : ℕ) × (key_at k (place_at l.maps i) ≡ Some key) × (shapes_named l.named (descriptor_at l.maps i) ≡ Some (shape_at k.live key))
-  entry i lt = bound.shaped (descriptor_at l.maps i) (place_at l.maps i) (lookup_at l.maps once i lt)
+  entry : (i : ℕ) → i < length l.maps → (key : ℕ) × (key_at k (listed_place l.maps i) ≡ Some key) × (shapes_named l.named (descriptor_at l.maps i) ≡ Some (shape_at k.live key))
+  entry i lt = bound.shaped (descriptor_at l.maps i) (listed_place l.maps i) (lookup_at l.maps once i lt)
 
   pub are_there : AreThere k.keys l.maps
   are_there i lt = let (key, there, shaped) = entry i lt in subst IsSome (sym there) (let some : IsSome (Some key) = search rules in some)
 
-  pub place_within : (i : ℕ) → i < length l.maps → place_at l.maps i < MAPS
-  place_within i lt = let within = is_within k.keys (place_at l.maps i) (are_there i lt) in let all = is.placed.all in omega arith
+  pub place_within : (i : ℕ) → i < length l.maps → listed_place l.maps i < MAPS
+  place_within i lt = let within = is_within k.keys (listed_place l.maps i) (are_there i lt) in let all = is.placed.all in omega arith
 
   pub few_maps : length l.maps ≤ MAPS
   few_maps = few_places MAPS l.maps bound.once place_within
@@ -81,7 +81,7 @@ module _ (k : KeptTenant) (l : LoadedProgram) (is : IsWellFormedTenant k) (bound
   pub are_bound : (a : Accepted) (bind : List ℕ) → a.code ≡ l.insns → a.entries ≡ l.named → length bind ≡ length l.maps → HasKeys k.keys l.maps bind → AreBound a bind k.live
   are_bound a bind code entries count keys = record {
     count = count ∙ as_many ∙ ap (λ insns. length (maps_of insns)) (sym code);
-    live = λ i lt. (is.placed.each (place_at l.maps i) (slice_index bind i) (keys i (omega arith))).there;
+    live = λ i lt. (is.placed.each (listed_place l.maps i) (slice_index bind i) (keys i (omega arith))).there;
     shapes = λ i lt.
         let (key, there, shaped) = entry i (omega arith) in
         let same : key ≡ slice_index bind i = same_Some key (slice_index bind i) (sym there ∙ keys i (omega arith)) in
@@ -91,8 +91,8 @@ module _ (k : KeptTenant) (l : LoadedProgram) (is : IsWellFormedTenant k) (bound
         ∙ shaped ∙ ap (λ (n : ℕ). Some (shape_at k.live n)) same;
     once = λ i j i_lt j_lt same.
         same_entry l.maps bound.once i j (omega arith) (omega arith)
-        (is.placed.apart (place_at l.maps i) (place_at l.maps j) (slice_index bind j) (keys i (omega arith) ∙ ap (λ (n : ℕ). Some n) same) (keys j (omega arith)));
-    free = λ i lt. (is.placed.each (place_at l.maps i) (slice_index bind i) (keys i (omega arith))).ended;
+        (is.placed.apart (listed_place l.maps i) (listed_place l.maps j) (slice_index bind j) (keys i (omega arith) ∙ ap (λ (n : ℕ). Some n) same) (keys j (omega arith)));
+    free = λ i lt. (is.placed.each (listed_place l.maps i) (slice_index bind i) (keys i (omega arith))).ended;
   }
 
 -- ---- what is bound
@@ -111,7 +111,7 @@ no_keys keys maps none = (sym none, λ i lt. absurd (omega arith))
 
 -- a program that is open
 pub bound_of : (k : KeptTenant) (fd : ℕ) (l : LoadedProgram) → IsWellFormedTenant k → named k.objects fd ≡ Some (object.Program l) → IsBound k l
-bound_of k fd l is opened = is.bound (fd - first) l (closed_at k.objects fd (object.Program l) opened).1
+bound_of k fd l is opened = is.bound (fd - first_descriptor) l (closed_at k.objects fd (object.Program l) opened).1
 
 -- keys of a program's maps, in their order
 pub record Binds (k : KeptTenant) (l : LoadedProgram) (bind : List ℕ) : Type 0 where

@@ -13,11 +13,11 @@ use Rattle.flat_machine.specs.Runs.{given_maps, bound_key, RunKeepsMaps, KeepsVa
 use Rattle.tagged_model.specs.Cells.{also}
 use Rattle.tagged_model.specs.Step.{MapsByDescriptor}
 use Rattle.verdict.specs.Maps.{maps_of}
-use Rattle.tenant.specs.Kept.{KeptTenant, IsWellFormedTenant, IsBound, key_at, times, maps_in, state_in}
+use Rattle.tenant.specs.Kept.{KeptTenant, IsWellFormedTenant, IsBound, key_at, times_listed, maps_in, state_in}
 use Rattle.tenant.specs.Loaded.{LoadedProgram}
 use Rattle.tenant.specs.Machine.{maps_given, maps_left}
 use Rattle.tenant.specs.State.{Map, live}
-use Rattle.tenant.specs.inside.TestRun.{place_at, HasKeys}
+use Rattle.tenant.specs.inside.TestRun.{listed_place, HasKeys}
 use Rattle.tenant.proofs.LookUps.{get_or-map_some, live_is}
 use Rattle.tenant.proofs.Releases.{one_at}
 use Rattle.tenant.proofs.TestRunPlaces.{times_here}
@@ -47,30 +47,30 @@ module _ (p : ℕ → Bool) where
       by false true e f = absurd (let ge = ltb-false (position_or_len p xs) (length xs) e in let lt = ltb-true (1 + position_or_len p xs) (length (x ∷ xs)) f in omega arith)
 
 -- the entry of a descriptor is at the place where it stands
-lookup_is : (maps : List (ℕ × ℕ)) (fd : ℕ) → lookup (λ m. m == fd) maps ≡ option_map (λ i. place_at maps i) (position (λ m. m == fd) (keys_of maps))
+lookup_is : (maps : List (ℕ × ℕ)) (fd : ℕ) → lookup (λ m. m == fd) maps ≡ option_map (λ i. listed_place maps i) (position (λ m. m == fd) (keys_of maps))
 lookup_is [] fd = refl
 lookup_is (m ∷ ms) fd = by (m.0 == fd) refl (lookup_is ms fd)
   where
-    later : (o : Option ℕ) → option_map (λ i. place_at ms i) o ≡ option_map (λ i. place_at (m ∷ ms) i) (option_map (λ i. suc i) o)
+    later : (o : Option ℕ) → option_map (λ i. listed_place ms i) o ≡ option_map (λ i. listed_place (m ∷ ms) i) (option_map (λ i. suc i) o)
     later None = refl
     later (Some i) = refl
 
-    by : (b : Bool) → (m.0 == fd) ≡ b → lookup (λ k. k == fd) ms ≡ option_map (λ i. place_at ms i) (position (λ k. k == fd) (keys_of ms))
-        → cond (m.0 == fd) (Some m.1) (lookup (λ k. k == fd) ms) ≡ option_map (λ i. place_at (m ∷ ms) i) (position (λ k. k == fd) (m.0 ∷ keys_of ms))
+    by : (b : Bool) → (m.0 == fd) ≡ b → lookup (λ k. k == fd) ms ≡ option_map (λ i. listed_place ms i) (position (λ k. k == fd) (keys_of ms))
+        → cond (m.0 == fd) (Some m.1) (lookup (λ k. k == fd) ms) ≡ option_map (λ i. listed_place (m ∷ ms) i) (position (λ k. k == fd) (m.0 ∷ keys_of ms))
     by true e rest =
         ap (λ (b : Bool). cond b (Some m.1) (lookup (λ k. k == fd) ms)) e
-        ∙ sym (ap (option_map (λ i. place_at (m ∷ ms) i)) (found_first (λ k. k == fd) m.0 (keys_of ms) e))
+        ∙ sym (ap (option_map (λ i. listed_place (m ∷ ms) i)) (found_first (λ k. k == fd) m.0 (keys_of ms) e))
     by false e rest =
         ap (λ (b : Bool). cond b (Some m.1) (lookup (λ k. k == fd) ms)) e
         ∙ rest
         ∙ later (position (λ k. k == fd) (keys_of ms))
-        ∙ sym (ap (option_map (λ i. place_at (m ∷ ms) i)) (found_later (λ k. k == fd) m.0 (keys_of ms) e))
+        ∙ sym (ap (option_map (λ i. listed_place (m ∷ ms) i)) (found_later (λ k. k == fd) m.0 (keys_of ms) e))
 
 module _ (part : List ℕ) (k : KeptTenant) (l : LoadedProgram) (bind : List ℕ) (each : keys_of l.maps ≡ maps_of l.insns) (count : length bind ≡ length l.maps) (keys : HasKeys k.keys l.maps bind) where
   given_at : (o : Option ℕ) → ((i : ℕ) → o ≡ Some i → i < length l.maps)
-      → option_map (map_in part k.live) (option_map (λ i. slice_index bind i) o) ≡ also (option_map (λ i. place_at l.maps i) o) (λ place. live (state_in part k) place)
+      → option_map (map_in part k.live) (option_map (λ i. slice_index bind i) o) ≡ also (option_map (λ i. listed_place l.maps i) o) (λ place. live (state_in part k) place)
   given_at None within = refl
-  given_at (Some i) within = sym (live_is part k (place_at l.maps i) (slice_index bind i) (keys i (within i refl)))
+  given_at (Some i) within = sym (live_is part k (listed_place l.maps i) (slice_index bind i) (keys i (within i refl)))
 
   stands_within : (fd i : ℕ) → position (λ m. m == fd) (keys_of l.maps) ≡ Some i → i < length l.maps
   stands_within fd i e = let there = position-Some (λ m. m == fd) (keys_of l.maps) i 0 e in let long = length-keys l.maps in let within = there.0 in omega arith
@@ -86,15 +86,15 @@ module _ (part : List ℕ) (k : KeptTenant) (l : LoadedProgram) (bind : List ℕ
 
 -- where each map that is left is another list's at its place, and the other places are that list's, all are
 left_all : (left : MapsByDescriptor) (target : List (Option Map)) (ms : List (ℕ × ℕ)) (maps : List (Option Map)) → length maps ≡ length target
-    → ((i : ℕ) → i < length ms → (place_at ms i < length target) × (left (descriptor_at ms i) ≡ get_or target (place_at ms i) None))
-    → ((place : ℕ) → times place ms ≡ 0 → get_or maps place None ≡ get_or target place None)
+    → ((i : ℕ) → i < length ms → (listed_place ms i < length target) × (left (descriptor_at ms i) ≡ get_or target (listed_place ms i) None))
+    → ((place : ℕ) → times_listed place ms ≡ 0 → get_or maps place None ≡ get_or target place None)
     → maps_left left ms maps ≡ target
-unfolding maps_left times
+unfolding maps_left times_listed
 left_all left target [] maps long h rest = ext_get_or None maps target long (λ i lt. rest i refl)
 left_all left target (m ∷ ms) maps long h rest =
     left_all left target ms (set maps m.1 (left m.0)) (length-set maps m.1 (left m.0) ∙ long) (λ i lt. h (suc i) (omega arith)) (λ place none. by place none (cases_eq place m.1))
   where
-    by : (place : ℕ) → times place ms ≡ 0 → (place ≡ m.1) ⊎ (place ≡ m.1 → ⊥) → get_or (set maps m.1 (left m.0)) place None ≡ get_or target place None
+    by : (place : ℕ) → times_listed place ms ≡ 0 → (place ≡ m.1) ⊎ (place ≡ m.1 → ⊥) → get_or (set maps m.1 (left m.0)) place None ≡ get_or target place None
     by place none (inl same) =
         let (within, is) = h 0 (omega arith) in
         ap (λ (p : ℕ). get_or (set maps m.1 (left m.0)) p None) same
@@ -108,22 +108,22 @@ left_all left target (m ∷ ms) maps long h rest =
 module _ (part later : List ℕ) (k : KeptTenant) (new : LiveMaps) (l : LoadedProgram) (bind : List ℕ) (is : IsWellFormedTenant k) (bound : IsBound k l) (count : length bind ≡ length l.maps) (keys : HasKeys k.keys l.maps bind)
     (kept : RunKeepsMaps bind k.live new) (values : KeepsValues bind k.live part new later) where
   -- a map that is not bound is what it was
-  other_map : (place key : ℕ) → key_at k place ≡ Some key → times place l.maps ≡ 0 → map_in part k.live key ≡ map_in later new key
+  other_map : (place key : ℕ) → key_at k place ≡ Some key → times_listed place l.maps ≡ 0 → map_in part k.live key ≡ map_in later new key
   other_map place key there none =
       let away : IsElsewhere bind key = λ i lt same.
-      let at : place ≡ place_at l.maps i = is.placed.apart place (place_at l.maps i) key there (keys i (omega arith) ∙ ap (λ (n : ℕ). Some n) same) in
+      let at : place ≡ listed_place l.maps i = is.placed.apart place (listed_place l.maps i) key there (keys i (omega arith) ∙ ap (λ (n : ℕ). Some n) same) in
       let here = times_here l.maps i (omega arith) in
-      let same_times : times (place_at l.maps i) l.maps ≡ 0 = subst (λ (p : ℕ). times p l.maps ≡ 0) at none in
+      let same_times : times_listed (listed_place l.maps i) l.maps ≡ 0 = subst (λ (p : ℕ). times_listed p l.maps ≡ 0) at none in
       omega arith in
       let stays : IsSome (live_at new key) = subst IsSome (sym (kept.others key away)) (is.placed.each place key there).there in
       sym (values.pairs key away stays)
 
-  other_place : (place : ℕ) (o : Option ℕ) → key_at k place ≡ o → times place l.maps ≡ 0 → option_map (map_in part k.live) o ≡ option_map (map_in later new) o
+  other_place : (place : ℕ) (o : Option ℕ) → key_at k place ≡ o → times_listed place l.maps ≡ 0 → option_map (map_in part k.live) o ≡ option_map (map_in later new) o
   other_place place None there none = refl
   other_place place (Some key) there none = ap (λ (t : Map). Some t) (other_map place key there none)
 
   pub left_is : (left : MapsByDescriptor) → ((i : ℕ) → i < length bind → left (slice_index (maps_of l.insns) i) ≡ Some (map_in later new (slice_index bind i)))
-      → ((i : ℕ) → i < length l.maps → place_at l.maps i < MAPS) → maps_left left l.maps (maps_in part k.live k.keys) ≡ maps_in later new k.keys
+      → ((i : ℕ) → i < length l.maps → listed_place l.maps i < MAPS) → maps_left left l.maps (maps_in part k.live k.keys) ≡ maps_in later new k.keys
   left_is left each within =
       let long = length-mapped (map_in later new) k.keys in
       let all = is.placed.all in
@@ -132,7 +132,7 @@ module _ (part later : List ℕ) (k : KeptTenant) (new : LiveMaps) (l : LoadedPr
         omega arith,
         ap (λ (fds : List ℕ). left (slice_index fds i)) bound.each
             ∙ each i (omega arith)
-            ∙ sym (get_or-map_some (map_in later new) k.keys (place_at l.maps i) ∙ ap (option_map (map_in later new)) (keys i lt)),
+            ∙ sym (get_or-map_some (map_in later new) k.keys (listed_place l.maps i) ∙ ap (option_map (map_in later new)) (keys i lt)),
       ))
       (λ place none.
       get_or-map_some (map_in part k.live) k.keys place

@@ -3,23 +3,23 @@ use Rattle.std.proofs.Common.{◌≡◌, ℕ, zero, suc, ◌+◌, ◌≤◌, ◌
 use Rattle.std.specs.Option.{option_map_or}
 use Rattle.bpf_maps.specs.declared.part.TheConstants.{PART}
 use Rattle.bpf_maps.specs.Live.{LiveMaps, holds_at}
-use Rattle.tenant.specs.Kept.{times, holds_in, MapsAreAtPlaces}
+use Rattle.tenant.specs.Kept.{times_listed, holds_in, MapsAreAtPlaces}
 use Rattle.tenant.specs.inside.Leaves.{HeldMaps, LeavesHeldMaps}
 use Rattle.tenant.proofs.Releases.{one_at}
 
 -- the first so many of these, and one more
-times-next : (ms : List (ℕ × ℕ)) (i : ℕ) (m d : ℕ × ℕ) (q : ℕ) → i < length ms → m ≡ get_or ms i d → times q (take (suc i) ms) ≡ times q (take i ms) + one_at m.1 q
-unfolding times
+times-next : (ms : List (ℕ × ℕ)) (i : ℕ) (m d : ℕ × ℕ) (q : ℕ) → i < length ms → m ≡ get_or ms i d → times_listed q (take (suc i) ms) ≡ times_listed q (take i ms) + one_at m.1 q
+unfolding times_listed
 times-next [] i m d q within at = absurd (omega arith)
 times-next (x ∷ ms) zero m d q within at = let same : one_at x.1 q ≡ one_at m.1 q = ap (λ (y : ℕ × ℕ). one_at y.1 q) (sym at) in omega arith
 times-next (x ∷ ms) (suc i) m d q within at = let rest = times-next ms i m d q (omega arith) at in omega arith
 
-pub times-more : (ms : List (ℕ × ℕ)) (i : ℕ) (m d : ℕ × ℕ) (q : ℕ) → i < length ms → m ≡ get_or ms i d → times q (take (i + 1) ms) ≡ times q (take i ms) + one_at m.1 q
-times-more ms i m d q within at = let e : i + 1 ≡ suc i = omega arith in ap (λ (n : ℕ). times q (take n ms)) e ∙ times-next ms i m d q within at
+pub times-more : (ms : List (ℕ × ℕ)) (i : ℕ) (m d : ℕ × ℕ) (q : ℕ) → i < length ms → m ≡ get_or ms i d → times_listed q (take (i + 1) ms) ≡ times_listed q (take i ms) + one_at m.1 q
+times-more ms i m d q within at = let e : i + 1 ≡ suc i = omega arith in ap (λ (n : ℕ). times_listed q (take n ms)) e ∙ times-next ms i m d q within at
 
 -- are no more than all
-pub times-first : (ms : List (ℕ × ℕ)) (i q : ℕ) → times q (take i ms) ≤ times q ms
-unfolding times
+pub times-first : (ms : List (ℕ × ℕ)) (i q : ℕ) → times_listed q (take i ms) ≤ times_listed q ms
+unfolding times_listed
 times-first [] zero q = omega arith
 times-first [] (suc i) q = omega arith
 times-first (m ∷ ms) zero q = omega arith
@@ -44,6 +44,6 @@ leaves_then a b c h k = record {
   whole = k.whole;
 }
 
-pub times-none : (q : ℕ) → times q [] ≡ 0
-unfolding times
+pub times-none : (q : ℕ) → times_listed q [] ≡ 0
+unfolding times_listed
 times-none q = refl

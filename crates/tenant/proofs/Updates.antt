@@ -2,7 +2,7 @@
 use Rattle.std.proofs.Common.{◌≡◌, ◌≢◌, ℕ, ◌+◌, Bool, true, false, List, [], length, take, drop, Option, Some, IsSome, Result, Ok, Err, refl, sym, ap, subst, ◌∙◌}
 use Rattle.std.specs.Prelude.{◌==◌, ◌||◌, if◌then◌else◌}
 use Rattle.std.proofs.lemmas.Bool.{eq-eqb}
-use Rattle.bpf_maps.specs.Live.{LiveMaps, live_at, holds_at, places_at, shape_at, map_in, value_in, SameAreas, SameRoom, is_memory}
+use Rattle.bpf_maps.specs.Live.{LiveMaps, places_at, shape_at, map_in, value_in, OnlyKeysChange, is_memory}
 use Rattle.bpf_maps.specs.Places.{PlaceTable, table_of, Claims}
 use Rattle.bpf_maps.specs.InPart.{updated as change, IsValueAt, with_value, ValuesAreWritten, LiveMapsRefineValues}
 use Rattle.fd_table.specs.Table.{named}
@@ -13,16 +13,16 @@ use Rattle.tagged_model.specs.Table.{Verdict, Refused, Present, New, verdict, ve
 use Rattle.tenant.specs.declared.errno.Errno.TheVariants.{Invalid}
 use Rattle.tenant.specs.declared.object.OpenObject.TheVariants as object
 use Rattle.tenant.specs.Errno.{map_errno}
-use Rattle.tenant.specs.State.{Map, TenantState, with_map}
-use Rattle.tenant.specs.Machine.{Answer, refuses, gives, put, updated}
+use Rattle.tenant.specs.State.{Map, TenantState, with_map_at}
+use Rattle.tenant.specs.Machine.{Answer, refuses, gives, element_put, element_updated}
 use Rattle.tenant.specs.Kept.{KeptTenant, IsWellFormedTenant, key_at, state_in}
 use Rattle.tenant.proofs.LookUps.{on_map_is}
-use Rattle.tenant.proofs.StillKept.{with_live, IsLiveStill, each_still, still_kept}
+use Rattle.tenant.proofs.StillKept.{with_live, keys_kept}
 use Rattle.tenant.proofs.OneMap.{one_map, all_maps, each_same, others_keep}
 
 abbrev put_of : Bool → TenantState → ℕ → Map → List ℕ → ℕ → Answer
 put_of refused s place t bytes flags =
-    put refused s place t (take t.shape.key_size bytes) (drop t.shape.key_size bytes) (verdict t (take t.shape.key_size bytes) flags)
+    element_put refused s place t (take t.shape.key_size bytes) (drop t.shape.key_size bytes) (verdict t (take t.shape.key_size bytes) flags)
 
 abbrev answer_to : Bool → TenantState → ℕ → List ℕ → ℕ → Map → Answer
 answer_to refused s flags bytes place t =
@@ -32,8 +32,8 @@ answer_to refused s flags bytes place t =
 pub update_is : (refused : Bool) (part : List ℕ) (k : KeptTenant) (fd place m flags : ℕ) (bytes : List ℕ) → named k.objects fd ≡ Some (object.Map place) → key_at k place ≡ Some m
     → length bytes ≡ (shape_at k.live m).key_size + (shape_at k.live m).value_size
     → let key = take (shape_at k.live m).key_size bytes in
-    updated refused (state_in part k) fd flags bytes
-    ≡ put refused (state_in part k) place (map_in part k.live m) key (drop (shape_at k.live m).key_size bytes) (verdict (map_in part k.live m) key flags)
+    element_updated refused (state_in part k) fd flags bytes
+    ≡ element_put refused (state_in part k) place (map_in part k.live m) key (drop (shape_at k.live m).key_size bytes) (verdict (map_in part k.live m) key flags)
 update_is refused part k fd place m flags bytes opened there size =
     let s = state_in part k in
     let T = map_in part k.live m in
@@ -44,7 +44,7 @@ update_is refused part k fd place m flags bytes opened there size =
 
 -- a key and a value of other sizes
 pub refused_sizes : (part : List ℕ) (k : KeptTenant) (fd place m flags : ℕ) (bytes : List ℕ) → named k.objects fd ≡ Some (object.Map place) → key_at k place ≡ Some m
-    → (length bytes == (shape_at k.live m).key_size + (shape_at k.live m).value_size) ≡ false → updated false (state_in part k) fd flags bytes ≡ refuses Invalid (state_in part k)
+    → (length bytes == (shape_at k.live m).key_size + (shape_at k.live m).value_size) ≡ false → element_updated false (state_in part k) fd flags bytes ≡ refuses Invalid (state_in part k)
 refused_sizes part k fd place m flags bytes opened there other =
     let s = state_in part k in
     let T = map_in part k.live m in
@@ -87,15 +87,15 @@ refused_claim New key old fault.NoSpace new h = absurd h
 
 -- a key that was claimed is put
 done_by : (v : Verdict ℕ) (key : List ℕ) (old : PlaceTable) (p : ℕ) (new : PlaceTable) → Claims v key old (Ok p) new → (f : ℕ → List ℕ) (s : TenantState) (place : ℕ) (T : Map) (value : List ℕ)
-    → put false s place T key value (verdict_with f v) ≡ gives [] (with_map s place (change (verdict_with f v) T key value))
+    → element_put false s place T key value (verdict_with f v) ≡ gives [] (with_map_at s place (change (verdict_with f v) T key value))
 done_by (Refused g) key old p new (is, same) f s place T value = absurd (not_ok g p (sym is))
 done_by (Present q) key old p new h f s place T value = refl
 done_by New key old p new h f s place T value = refl
 
 pub done_put : (v : Verdict ℕ) (w : Verdict (List ℕ)) (key : List ℕ) (old : PlaceTable) (p : ℕ) (new : PlaceTable) → Claims v key old (Ok p) new → (f : ℕ → List ℕ) → w ≡ verdict_with f v
-    → (s : TenantState) (place : ℕ) (T : Map) (value : List ℕ) → put false s place T key value w ≡ gives [] (with_map s place (change w T key value))
+    → (s : TenantState) (place : ℕ) (T : Map) (value : List ℕ) → element_put false s place T key value w ≡ gives [] (with_map_at s place (change w T key value))
 done_put v w key old p new claimed f same s place T value =
-    subst (λ (x : Verdict (List ℕ)). put false s place T key value x ≡ gives [] (with_map s place (change x T key value))) (sym same) (done_by v key old p new claimed f s place T value)
+    subst (λ (x : Verdict (List ℕ)). element_put false s place T key value x ≡ gives [] (with_map_at s place (change x T key value))) (sym same) (done_by v key old p new claimed f s place T value)
 
 -- ---- a refused claim
 
@@ -106,7 +106,7 @@ flagged false s = s
 
 -- the refusal is memory's, or not
 abbrev pub Fails : Verdict (List ℕ) → MapFault → List ℕ → TenantState → ℕ → Map → List ℕ → Type 0
-Fails w f key s place T value = (refused : Bool) × (is_memory (Err f) ≡ refused) × (put refused s place T key value w ≡ refuses (map_errno f) (flagged refused s))
+Fails w f key s place T value = (refused : Bool) × (is_memory (Err f) ≡ refused) × (element_put refused s place T key value w ≡ refuses (map_errno f) (flagged refused s))
 
 no_memory : (f : MapFault) → f ≢ fault.Memory → is_memory (Err f) ≡ false
 no_memory fault.Memory other = absurd (other refl)
@@ -155,30 +155,19 @@ flag_of a b r t is s refused same was = by_choice refused (same)
 -- what a claim for a key of the map under m leaves of the live maps
 pub record IsClaimed (k : KeptTenant) (t : LiveMaps) (m flags : ℕ) (key : List ℕ) (r : Claim) : Type 0 where
   pub claimed : Claims (verdict (table_of (places_at k.live m)) key flags) key (places_at k.live m) r (places_at t m)
-  pub live : IsSome (live_at t m)
-  pub holds : holds_at t m ≡ holds_at k.live m
-  pub shape : shape_at t m ≡ shape_at k.live m
-  pub others : (other : ℕ) → other ≢ m → live_at t other ≡ live_at k.live other
-  pub areas : SameAreas k.live t
-  pub room : SameRoom k.live t
+  pub rest : OnlyKeysChange m k.live t
   pub refused : t.refused ≡ (k.live.refused || is_memory r)
 
 pub still_claimed : (k : KeptTenant) (t : LiveMaps) (place m flags : ℕ) (key : List ℕ) (r : Claim) → IsWellFormedTenant k → key_at k place ≡ Some m → IsClaimed k t m flags key r → IsWellFormedTenant (with_live k t)
 still_claimed k t place m flags key r is there c =
-    let here : IsLiveStill k.live t m = record {
-      live = c.live;
-      holds = c.holds;
-      shape = c.shape;
-      ended = claimed_kept (verdict (table_of (places_at k.live m)) key flags) key (places_at k.live m) r (places_at t m) c.claimed ∙ (is.placed.each place m there).ended;
-    } in
-    still_kept k t is (each_still k t m is here c.others) c.room
+    keys_kept k t m is c.rest (claimed_kept (verdict (table_of (places_at k.live m)) key flags) key (places_at k.live m) r (places_at t m) c.claimed ∙ (is.placed.each place m there).ended)
 
 pub updated_at : LiveMapsRefineValues → ValuesAreWritten → CallsRefineValues ℕ (List ℕ) → (part : List ℕ) (k : KeptTenant) (t : LiveMaps) (fd place m flags p : ℕ) (bytes : List ℕ) → IsWellFormedTenant k
     → named k.objects fd ≡ Some (object.Map place) → key_at k place ≡ Some m → length bytes ≡ (shape_at k.live m).key_size + (shape_at k.live m).value_size
     → let key = take (shape_at k.live m).key_size bytes in
     let value = drop (shape_at k.live m).key_size bytes in
     IsClaimed k t m flags key (Ok p) → IsValueAt part t m p value
-    → gives [] (state_in (with_value part t m p value) (with_live k t)) ≡ updated false (state_in part k) fd flags bytes
+    → gives [] (state_in (with_value part t m p value) (with_live k t)) ≡ element_updated false (state_in part k) fd flags bytes
 updated_at along written calls part k t fd place m flags p bytes is opened there size c at =
     let key = take (shape_at k.live m).key_size bytes in
     let value = drop (shape_at k.live m).key_size bytes in
@@ -190,9 +179,9 @@ updated_at along written calls part k t fd place m flags p bytes is opened there
     let whole = written part t m p value at in
     let others : (i other : ℕ) → key_at k i ≡ Some other → other ≢ m → map_in later t other ≡ map_in part k.live other =
     λ i other stands apart.
-    whole.others other apart (subst IsSome (sym (c.others other apart)) (is.placed.each i other stands).there) ∙ others_keep part k.live t m c.others other apart in
-    let state : state_in later (with_live k t) ≡ with_map s place (change w T key value) =
-    one_map part later k t place m (change w T key value) is there others ((along part k.live t m c.areas c.live).update flags p key value at c.claimed) (c.refused ∙ or_false k.live.refused) in
+    whole.others other apart (subst IsSome (sym (c.rest.others other apart)) (is.placed.each i other stands).there) ∙ others_keep part k.live t m c.rest.others other apart in
+    let state : state_in later (with_live k t) ≡ with_map_at s place (change w T key value) =
+    one_map part later k t place m (change w T key value) is there others ((along part k.live t m c.rest.areas c.rest.live).update flags p key value at c.claimed) (c.refused ∙ or_false k.live.refused) in
     ap (gives []) state
     ∙ sym (done_put v w key (places_at k.live m) p (places_at t m) c.claimed (value_in part k.live m) (calls.verdict (value_in part k.live m) (table_of (places_at k.live m)) key flags) s place T value)
     ∙ sym (update_is false part k fd place m flags bytes opened there size)
@@ -200,7 +189,7 @@ updated_at along written calls part k t fd place m flags p bytes is opened there
 pub update_refused : LiveMapsRefineValues → CallsRefineValues ℕ (List ℕ) → MapVerdictsMatchLookUps ℕ → (part : List ℕ) (k : KeptTenant) (t : LiveMaps) (fd place m flags : ℕ) (f : MapFault) (bytes : List ℕ) → IsWellFormedTenant k
     → named k.objects fd ≡ Some (object.Map place) → key_at k place ≡ Some m → length bytes ≡ (shape_at k.live m).key_size + (shape_at k.live m).value_size
     → IsClaimed k t m flags (take (shape_at k.live m).key_size bytes) (Err f)
-    → (refused : Bool) × (refuses (map_errno f) (state_in part (with_live k t)) ≡ updated refused (state_in part k) fd flags bytes)
+    → (refused : Bool) × (refuses (map_errno f) (state_in part (with_live k t)) ≡ element_updated refused (state_in part k) fd flags bytes)
 update_refused along calls tell part k t fd place m flags f bytes is opened there size c =
     let key = take (shape_at k.live m).key_size bytes in
     let value = drop (shape_at k.live m).key_size bytes in
@@ -209,8 +198,8 @@ update_refused along calls tell part k t fd place m flags f bytes is opened ther
     let v = verdict (table_of (places_at k.live m)) key flags in
     let w = verdict T key flags in
     let same = refused_claim v key (places_at k.live m) f (places_at t m) c.claimed in
-    let here : map_in part t m ≡ T = (along part k.live t m c.areas c.live).same same in
-    let maps = all_maps part part k t (λ i other stands. each_same part part k.live t m here (others_keep part k.live t m c.others) other) in
+    let here : map_in part t m ≡ T = (along part k.live t m c.rest.areas c.rest.live).same same in
+    let maps = all_maps part part k t (λ i other stands. each_same part part k.live t m here (others_keep part k.live t m c.rest.others) other) in
     let (refused, memory, put_is) = failed_put v w key (places_at k.live m) f (places_at t m) (tell.memory (table_of (places_at k.live m)) key flags) c.claimed (value_in part k.live m) (calls.verdict (value_in part k.live m) (table_of (places_at k.live m)) key flags) s place T value in
     let state : state_in part (with_live k t) ≡ flagged refused s =
     ap (λ (ms : List (Option Map)). record { objects = k.objects; maps = ms; refused = k.refused || t.refused }) maps

@@ -4,14 +4,12 @@ use Rattle.std.specs.Map.{lookup, keys_of}
 use Rattle.std.specs.Option.{option_map_or}
 use Rattle.bpf_maps.specs.Live.{LiveMaps, live_at, holds_at, shape_at, places_at, map_in, count, areas}
 use Rattle.fd_table.specs.Table.{most}
-use Rattle.tagged_model.specs.declared.shape.MapShape.{MapShape}
-use Rattle.tagged_model.specs.Shape.{area}
 use Rattle.tagged_model.specs.Named.{shapes_named}
 use Rattle.verdict.specs.Maps.{maps_of}
 use Rattle.tenant.specs.declared.object.OpenObject.{OpenObject}
 use Rattle.tenant.specs.declared.object.OpenObject.TheVariants as object
 use Rattle.tenant.specs.Loaded.{LoadedProgram}
-use Rattle.tenant.specs.State.{Map, TenantState, most_maps, total}
+use Rattle.tenant.specs.State.{Map, TenantState, most_maps, shape_area, total}
 
 -- the objects by descriptors, the key of the map at each place, the live maps by keys, and whether memory was refused to a load
 pub record KeptTenant : Type 0 where
@@ -41,17 +39,17 @@ abbrev pub holds_in : List (Option ℕ) → LiveMaps → ℕ → ℕ
 holds_in keys live place = option_map_or (holds_at live) (slice_index_or keys place None) 0
 
 -- how often a place stands in a program's list
-unfoldable pub times : ℕ → List (ℕ × ℕ) → ℕ
-times place [] = 0
-times place (m ∷ ms) = (if m.1 == place then 1 else 0) + times place ms
+unfoldable pub times_listed : ℕ → List (ℕ × ℕ) → ℕ
+times_listed place [] = 0
+times_listed place (m ∷ ms) = (if m.1 == place then 1 else 0) + times_listed place ms
 
 -- how often an object names the map at a place
-abbrev pub weight : ℕ → OpenObject → ℕ
-weight place (object.Map p) = if p == place then 1 else 0
-weight place (object.Program l) = times place l.maps
+abbrev pub times_named : ℕ → OpenObject → ℕ
+times_named place (object.Map p) = if p == place then 1 else 0
+times_named place (object.Program l) = times_listed place l.maps
 
 abbrev pub holders : ℕ → List (Option OpenObject) → ℕ
-holders place objects = total (weight place) objects
+holders place objects = total (times_named place) objects
 
 -- how many descriptors name it
 abbrev pub by_descriptor : ℕ → OpenObject → ℕ
@@ -64,14 +62,11 @@ descriptors place objects = total (by_descriptor place) objects
 -- ---- how much room the maps take
 
 -- how many places have a map
-abbrev pub filled : List (Option ℕ) → ℕ
-filled keys = total (λ key. 1) keys
-
-abbrev pub area_of : MapShape → ℕ
-area_of shape = area shape.value_size shape.max_entries
+abbrev pub places_taken : List (Option ℕ) → ℕ
+places_taken keys = total (λ key. 1) keys
 
 abbrev pub areas_by : LiveMaps → List (Option ℕ) → ℕ
-areas_by live keys = total (λ key. area_of (shape_at live key)) keys
+areas_by live keys = total (λ key. shape_area (shape_at live key)) keys
 
 -- ---- what always holds
 
@@ -86,13 +81,13 @@ pub record MapsAreAtPlaces (keys : List (Option ℕ)) (live : LiveMaps) : Type 0
   pub all : length keys ≡ most_maps
   pub each : (place key : ℕ) → slice_index_or keys place None ≡ Some key → IsLive live key
   pub apart : (p q key : ℕ) → slice_index_or keys p None ≡ Some key → slice_index_or keys q None ≡ Some key → p ≡ q
-  pub counted : count live ≡ filled keys
+  pub counted : count live ≡ places_taken keys
   pub summed : areas live ≡ areas_by live keys
 
 -- a program has a place for each map that it loads, no place twice, and the maps there have the shapes that it was verified with
 pub record IsBound (k : KeptTenant) (l : LoadedProgram) : Type 0 where
   pub each : keys_of l.maps ≡ maps_of l.insns
-  pub once : (place : ℕ) → times place l.maps ≤ 1
+  pub once : (place : ℕ) → times_listed place l.maps ≤ 1
   pub shaped : (fd place : ℕ) → lookup (λ m. m == fd) l.maps ≡ Some place
       → (key : ℕ) × (key_at k place ≡ Some key) × (shapes_named l.named fd ≡ Some (shape_at k.live key))
 

@@ -1,5 +1,5 @@
--- The machine is told what it answers: with the same refusals of memory there is one answer to a command, and one
--- list of replies to a list of frames. This project's own.
+-- The machine has no choice: with the same refusals of memory there is one answer to a command, and one list of replies to a
+-- list of frames. This project's own.
 use Rattle.std.specs.Prelude.{◌≡◌, ℕ, Bool, false, [], List, Option, Some}
 use Rattle.tagged_model.specs.declared.shape.Named.{Named}
 use Rattle.command_frames.specs.Command.{Command}

@@ -7,3 +7,7 @@ pub mod Laws
 pub mod Kept
 pub mod Replies
 pub mod inside
+-- what public contracts cite of crates below
+pub use Rattle.arena.specs.Memory
+pub use Rattle.command_frames.specs.Frame
+pub use Rattle.fd_table.specs.Table

@@ -24,7 +24,7 @@ use Rattle.tagged_model.specs.declared.fault.MapFault.{MapFault}
 use Rattle.tagged_model.specs.declared.value.Outcome.{Outcome}
 use Rattle.tagged_model.specs.declared.value.Outcome.TheVariants.{Value, Fault}
 use Rattle.tagged_model.specs.Cells.{also}
-use Rattle.tagged_model.specs.Shape.{area, is_shape, is_valid}
+use Rattle.tagged_model.specs.Shape.{is_shape, is_valid}
 use Rattle.tagged_model.specs.Step.{first, MapsByDescriptor, result_with, left_with, was_refused}
 use Rattle.tagged_model.specs.Table as call
 use Rattle.tagged_model.specs.Table.{look_up, verdict, removal, next_of, with_new, with_object, with_deleted, after_run, new_table}
@@ -36,7 +36,7 @@ use Rattle.tenant.specs.declared.object.OpenObject.{OpenObject}
 use Rattle.tenant.specs.declared.object.OpenObject.TheVariants as object
 use Rattle.tenant.specs.Loaded.{LoadedProgram}
 use Rattle.tenant.specs.Errno.{status_of, map_errno}
-use Rattle.tenant.specs.State.{Map, TenantState, most_bytes, live, free_place, areas, with_map, with_objects}
+use Rattle.tenant.specs.State.{Map, TenantState, most_bytes, live, free_place, shape_area, maps_area, with_map_at, with_objects}
 
 -- ---- answers
 
@@ -50,8 +50,8 @@ abbrev pub refuses : Errno → TenantState → Answer
 refuses errno s = record { status = status_of errno; payload = []; after = s }
 
 -- where memory is refused, that alone is noted
-abbrev pub has_no_memory : TenantState → Answer
-has_no_memory s = record { status = status_of NoMemory; payload = []; after = record s { refused = true } }
+abbrev pub refuses_for_memory : TenantState → Answer
+refuses_for_memory s = record { status = status_of NoMemory; payload = []; after = record s { refused = true } }
 
 -- a refused load tells the slot and the reason
 abbrev pub refuses_at : Errno → ℕ → ℕ → TenantState → Answer
@@ -75,9 +75,9 @@ shape_where true shape = Ok (shape refl)
 shape_where false shape = Err TooBig
 
 -- the shape of these fields, or why no map has it
-abbrev pub shape_of : Option MapKind → ℕ → ℕ → ℕ → ℕ → Result MapShape Errno
-shape_of None key value max flags = Err Invalid
-shape_of (Some kind) key value max flags =
+abbrev pub asked_shape : Option MapKind → ℕ → ℕ → ℕ → ℕ → Result MapShape Errno
+asked_shape None key value max flags = Err Invalid
+asked_shape (Some kind) key value max flags =
     if is_valid kind key value max flags
     then shape_where (is_shape kind key value max) (λ listed. record { kind = kind; key_size = key; value_size = value; max_entries = max; listed = listed })
     else Err Invalid
@@ -88,10 +88,10 @@ new_map shape = new_table (λ i. replicate shape.value_size 0) shape
 
 -- the place of one more map with so large an area
 abbrev pub room_for : TenantState → ℕ → Option ℕ
-room_for s size = if nat_lt most_bytes (areas s.maps + size) then None else free_place s
+room_for s size = if nat_lt most_bytes (maps_area s.maps + size) then None else free_place s
 
 abbrev pub created_at : Bool → TenantState → MapShape → ℕ → ℕ → Answer
-created_at true s shape fd place = has_no_memory s
+created_at true s shape fd place = refuses_for_memory s
 created_at false s shape fd place = opens fd (record s { objects = table.with_open s.objects fd (object.Map place); maps = slice_set s.maps place (Some (new_map shape)) })
 
 abbrev pub created_as : Bool → TenantState → MapShape → ℕ → Option ℕ → Answer
@@ -100,7 +100,7 @@ created_as refused s shape fd (Some place) = created_at refused s shape fd place
 
 abbrev pub created_under : Bool → TenantState → MapShape → Option ℕ → Answer
 created_under refused s shape None = refuses TooManyOpen s
-created_under refused s shape (Some fd) = created_as refused s shape fd (room_for s (area shape.value_size shape.max_entries))
+created_under refused s shape (Some fd) = created_as refused s shape fd (room_for s (shape_area shape))
 
 abbrev pub created : Bool → TenantState → Result MapShape Errno → Answer
 created refused s (Err errno) = refuses errno s
@@ -122,38 +122,38 @@ abbrev pub on_map : TenantState → ℕ → (ℕ → Map → Answer) → Answer
 on_map s fd f = of_object s f (table.named s.objects fd)
 
 -- MAP_LOOKUP_ELEM
-abbrev pub found : TenantState → Option (List ℕ) → Answer
-found s None = refuses NoEntry s
-found s (Some value) = gives value s
+abbrev pub gives_if_found : TenantState → Option (List ℕ) → Answer
+gives_if_found s None = refuses NoEntry s
+gives_if_found s (Some value) = gives value s
 
-abbrev pub looked_up : TenantState → ℕ → List ℕ → Answer
-looked_up s fd key = on_map s fd (λ place t. if length key == t.shape.key_size then found s (look_up t key) else refuses Invalid s)
+abbrev pub element_looked_up : TenantState → ℕ → List ℕ → Answer
+element_looked_up s fd key = on_map s fd (λ place t. if length key == t.shape.key_size then gives_if_found s (look_up t key) else refuses Invalid s)
 
 -- MAP_UPDATE_ELEM: a present key keeps its place in the order, and a new one goes last
-abbrev pub put : Bool → TenantState → ℕ → Map → List ℕ → List ℕ → call.Verdict (List ℕ) → Answer
-put refused s place t key value (call.Refused fault) = refuses (map_errno fault) s
-put refused s place t key value (call.Present old) = gives [] (with_map s place (with_object t key value))
-put true s place t key value call.New = has_no_memory s
-put false s place t key value call.New = gives [] (with_map s place (with_new t key value))
+abbrev pub element_put : Bool → TenantState → ℕ → Map → List ℕ → List ℕ → call.Verdict (List ℕ) → Answer
+element_put refused s place t key value (call.Refused fault) = refuses (map_errno fault) s
+element_put refused s place t key value (call.Present old) = gives [] (with_map_at s place (with_object t key value))
+element_put true s place t key value call.New = refuses_for_memory s
+element_put false s place t key value call.New = gives [] (with_map_at s place (with_new t key value))
 
-abbrev pub updated : Bool → TenantState → ℕ → ℕ → List ℕ → Answer
-updated refused s fd flags bytes =
+abbrev pub element_updated : Bool → TenantState → ℕ → ℕ → List ℕ → Answer
+element_updated refused s fd flags bytes =
     on_map s fd (λ place t. if length bytes == t.shape.key_size + t.shape.value_size
-    then put refused s place t (take t.shape.key_size bytes) (drop t.shape.key_size bytes) (verdict t (take t.shape.key_size bytes) flags)
+    then element_put refused s place t (take t.shape.key_size bytes) (drop t.shape.key_size bytes) (verdict t (take t.shape.key_size bytes) flags)
     else refuses Invalid s)
 
 -- MAP_DELETE_ELEM: no run goes on, so what is deleted is gone
-abbrev pub taken_out : TenantState → ℕ → Map → List ℕ → Result (List ℕ) MapFault → Answer
-taken_out s place t key (Err fault) = refuses (map_errno fault) s
-taken_out s place t key (Ok value) = gives [] (with_map s place (after_run (with_deleted t key)))
+abbrev pub element_taken_out : TenantState → ℕ → Map → List ℕ → Result (List ℕ) MapFault → Answer
+element_taken_out s place t key (Err fault) = refuses (map_errno fault) s
+element_taken_out s place t key (Ok value) = gives [] (with_map_at s place (after_run (with_deleted t key)))
 
-abbrev pub deleted : TenantState → ℕ → List ℕ → Answer
-deleted s fd key = on_map s fd (λ place t. if length key == t.shape.key_size then taken_out s place t key (removal t key) else refuses Invalid s)
+abbrev pub element_deleted : TenantState → ℕ → List ℕ → Answer
+element_deleted s fd key = on_map s fd (λ place t. if length key == t.shape.key_size then element_taken_out s place t key (removal t key) else refuses Invalid s)
 
 -- MAP_GET_NEXT_KEY: of no bytes, the first key
 abbrev pub given_next : TenantState → ℕ → List ℕ → Answer
 given_next s fd key =
-    on_map s fd (λ place t. if length key == 0 || length key == t.shape.key_size then found s (next_of t key) else refuses Invalid s)
+    on_map s fd (λ place t. if length key == 0 || length key == t.shape.key_size then gives_if_found s (next_of t key) else refuses Invalid s)
 
 -- ---- PROG_LOAD
 
@@ -218,9 +218,9 @@ Judges named slots (accepted insns) = IsProgram insns × (slots ≡ program_byte
 Judges named slots (rejected errno slot number) = IsNoProgram slots errno slot number ⊎ IsRefusedProgram named slots errno slot number
 
 -- what an open object is for the verdict: a map of its shape, or a program
-abbrev pub target_of : TenantState → OpenObject → Option Target
-target_of s (object.Map place) = option_map (λ t. target.Map t.shape) (live s place)
-target_of s (object.Program l) = Some target.Program
+abbrev pub object_target : TenantState → OpenObject → Option Target
+object_target s (object.Map place) = option_map (λ t. target.Map t.shape) (live s place)
+object_target s (object.Program l) = Some target.Program
 
 abbrev pub entry_of : ℕ → Option Target → List Named
 entry_of fd None = []
@@ -229,28 +229,28 @@ entry_of fd (Some t) = record { fd = fd; target = t } ∷ []
 -- what each open descriptor names, from this one on
 unfoldable pub targets_from : TenantState → ℕ → List (Option OpenObject) → List Named
 targets_from s fd [] = []
-targets_from s fd (o ∷ os) = entry_of fd (also o (target_of s)) ++ targets_from s (fd + 1) os
+targets_from s fd (o ∷ os) = entry_of fd (also o (object_target s)) ++ targets_from s (fd + 1) os
 
 abbrev pub targets : TenantState → List Named
-targets s = targets_from s table.first s.objects
+targets s = targets_from s table.first_descriptor s.objects
 
 -- the place of the map that a descriptor names
-abbrev pub place_of : Option OpenObject → Option ℕ
-place_of (Some (object.Map place)) = Some place
-place_of (Some (object.Program l)) = None
-place_of None = None
+abbrev pub named_place : Option OpenObject → Option ℕ
+named_place (Some (object.Map place)) = Some place
+named_place (Some (object.Program l)) = None
+named_place None = None
 
 -- the maps that the program loads, each by its descriptor, in the order of first use
 unfoldable pub places_from : List (Option OpenObject) → List ℕ → List (ℕ × ℕ)
 places_from objects [] = []
-places_from objects (fd ∷ fds) = bound (place_of (table.named objects fd)) fd (places_from objects fds)
+places_from objects (fd ∷ fds) = bound (named_place (table.named objects fd)) fd (places_from objects fds)
   where
     bound : Option ℕ → ℕ → List (ℕ × ℕ) → List (ℕ × ℕ)
     bound None fd rest = rest
     bound (Some place) fd rest = (fd, place) ∷ rest
 
-abbrev pub loaded : TenantState → List Insn → LoadedProgram
-loaded s insns = record {
+abbrev pub loaded_program : TenantState → List Insn → LoadedProgram
+loaded_program s insns = record {
   insns = insns;
   named = entries_of (maps_of insns) (targets s);
   maps = places_from s.objects (maps_of insns);
@@ -258,11 +258,11 @@ loaded s insns = record {
 
 abbrev pub judged : TenantState → ℕ → LoadJudgement → Answer
 judged s fd (rejected errno slot number) = refuses_at errno slot number s
-judged s fd (accepted insns) = opens fd (record s { objects = table.with_open s.objects fd (object.Program (loaded s insns)) })
+judged s fd (accepted insns) = opens fd (record s { objects = table.with_open s.objects fd (object.Program (loaded_program s insns)) })
 
 -- where memory is refused, that is the answer whatever the slots are
 abbrev pub LoadsAs : Bool → TenantState → ℕ → List ℕ → Answer → Type 0
-LoadsAs true s fd slots answer = answer ≡ has_no_memory s
+LoadsAs true s fd slots answer = answer ≡ refuses_for_memory s
 LoadsAs false s fd slots answer = (j : LoadJudgement) × Judges (targets s) slots j × (answer ≡ judged s fd j)
 
 abbrev pub LoadsUnder : Bool → TenantState → Option ℕ → List ℕ → Answer → Type 0
@@ -288,15 +288,15 @@ unfoldable pub maps_left : MapsByDescriptor → List (ℕ × ℕ) → List (Opti
 maps_left left [] maps = maps
 maps_left left (m ∷ ms) maps = maps_left left ms (slice_set maps m.1 (left m.0))
 
-abbrev pub ended : Outcome → TenantState → Answer
-ended (Value n) s = gives (little_bytes 4 n) s
-ended Fault s = refuses BadAddress s
+abbrev pub outcome_answer : Outcome → TenantState → Answer
+outcome_answer (Value n) s = gives (little_bytes 4 n) s
+outcome_answer Fault s = refuses BadAddress s
 
 -- word 0 of the context is the packet's length
 abbrev pub ran : List Bool → TenantState → LoadedProgram → List ℕ → List ℕ → Answer
 ran refusals s l words packet =
     let given = maps_given s l in
-    ended (result_with refusals l.insns given (length packet ∷ words) packet) (record s {
+    outcome_answer (result_with refusals l.insns given (length packet ∷ words) packet) (record s {
       maps = maps_left (left_with refusals l.insns given (length packet ∷ words) packet) l.maps s.maps;
       refused = s.refused || was_refused refusals l.insns given (length packet ∷ words) packet;
     })
@@ -310,17 +310,17 @@ run_of refusals s words packet (Some (object.Program l)) = if nat_lt longest_pac
 
 abbrev pub closed : TenantState → ℕ → Option OpenObject → Answer
 closed s fd None = refuses BadDescriptor s
-closed s fd (Some o) = gives [] (with_objects s (table.without s.objects fd))
+closed s fd (Some o) = gives [] (with_objects s (table.with_closed s.objects fd))
 
 -- ---- every command
 
 -- What a command may answer. Memory may be refused to it: where the first of the refusals says so, and in a test run at the
 -- steps that they say.
 abbrev pub Answers : List Bool → TenantState → Command → Answer → Type 0
-Answers refusals s (map_create kind key value max flags) a = a ≡ created (first refusals) s (shape_of (kind_of kind) key value max flags)
-Answers refusals s (map_lookup fd key) a = a ≡ looked_up s fd key
-Answers refusals s (map_update fd flags bytes) a = a ≡ updated (first refusals) s fd flags bytes
-Answers refusals s (map_delete fd key) a = a ≡ deleted s fd key
+Answers refusals s (map_create kind key value max flags) a = a ≡ created (first refusals) s (asked_shape (kind_of kind) key value max flags)
+Answers refusals s (map_lookup fd key) a = a ≡ element_looked_up s fd key
+Answers refusals s (map_update fd flags bytes) a = a ≡ element_updated (first refusals) s fd flags bytes
+Answers refusals s (map_delete fd key) a = a ≡ element_deleted s fd key
 Answers refusals s (map_next_key fd key) a = a ≡ given_next s fd key
 Answers refusals s (prog_load kind slots) a = Loads (first refusals) s kind slots a
 Answers refusals s (prog_test_run fd words packet) a = a ≡ run_of refusals s words packet (table.named s.objects fd)

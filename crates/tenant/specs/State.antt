@@ -4,6 +4,7 @@ use Rattle.std.specs.Prelude.{ℕ, ◌+◌, ◌==◌, Bool, false, if◌then◌e
 use Rattle.std.specs.List.{list_any}
 use Rattle.std.specs.Option.{option_map_or}
 use Rattle.bpf_maps.specs.declared.part.TheConstants.{LARGEST_SUM, MAPS}
+use Rattle.tagged_model.specs.declared.shape.MapShape.{MapShape}
 use Rattle.tagged_model.specs.Shape.{area}
 use Rattle.tagged_model.specs.Table.{Table}
 use Rattle.tenant.specs.declared.object.OpenObject.{OpenObject}
@@ -46,15 +47,19 @@ live s place = slice_index_or s.maps place None
 abbrev pub free_place : TenantState → Option ℕ
 free_place s = position is_none s.maps
 
--- the bytes that the values of the live maps take
-abbrev pub area_of : Map → ℕ
-area_of t = area t.shape.value_size t.shape.max_entries
+-- the bytes that the values of a map of this shape take
+abbrev pub shape_area : MapShape → ℕ
+shape_area shape = area shape.value_size shape.max_entries
 
-abbrev pub areas : List (Option Map) → ℕ
-areas maps = total area_of maps
+abbrev pub map_area : Map → ℕ
+map_area t = shape_area t.shape
 
-abbrev pub with_map : TenantState → ℕ → Map → TenantState
-with_map s place t = record s { maps = slice_set s.maps place (Some t) }
+-- and those that the values of the live maps take
+abbrev pub maps_area : List (Option Map) → ℕ
+maps_area maps = total map_area maps
+
+abbrev pub with_map_at : TenantState → ℕ → Map → TenantState
+with_map_at s place t = record s { maps = slice_set s.maps place (Some t) }
 
 -- ---- what names a map
 

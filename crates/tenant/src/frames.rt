@@ -6,11 +6,11 @@ ghost use Rattle.bpf_maps.specs.declared.part.TheConstants.{KEY_ROOM, PART};
 ghost use Rattle.tagged_model.specs.declared.shape.MapShape.{MapShape};
 ghost use Rattle.command_frames.specs.Command.{longest_frame, map_create, map_lookup, map_update, map_delete, map_next_key, prog_load, prog_test_run, close};
 ghost use Rattle.command_frames.specs.Frame.{head_length, longest_payload, reply_to};
-ghost use Rattle.command_frames.specs.Shown.{shown};
+ghost use Rattle.command_frames.specs.Shown.{shown_command};
 ghost use Rattle.tenant.specs.Alone.{MayReply, frame_errno};
 ghost use Rattle.tenant.specs.Errno.{status_of};
 ghost use Rattle.tenant.specs.Kept.{state_in};
-ghost use Rattle.tenant.specs.Machine.{kind_of, shape_of};
+ghost use Rattle.tenant.specs.Machine.{kind_of, asked_shape};
 ghost use Rattle.tenant.specs.Replies.{lent_answer, front_answer, done_answer, opened_answer};
 ghost use Rattle.tenant.specs.inside.Answers.{load_answer, run_answer};
 ghost use Rattle.tenant.specs.State.{TenantState};
@@ -127,7 +127,7 @@ impl Tenant {
     )
         requires { length part.old ≡ PART }
         ensures told { (kind key value max flags : ℕ)
-            → shape ≡ shape_of (kind_of kind) key value max flags
+            → shape ≡ asked_shape (kind_of kind) key value max flags
             → AnswersCommand (map_create kind key value max flags) head room.new
             (state_in part.old self.old) (state_in part.new self.new) }
         ensures length { length part.new ≡ PART }
@@ -254,10 +254,10 @@ impl Tenant {
         arena: &mut Arena,
         reply: &mut ReplyBuf,
     )
-        requires short { tail_length (shown command) ≤ longest_frame }
+        requires short { tail_length (shown_command command) ≤ longest_frame }
         requires tenant { tenant < arena.old.parts }
         requires part { arena.old.part ≡ PART }
-        ensures told { AnswersCommand (shown command.entry) head reply.new
+        ensures told { AnswersCommand (shown_command command.entry) head reply.new
             (state_in (part_bytes arena.old tenant) self.old)
             (state_in (part_bytes arena.new tenant) self.new) }
         ensures changes { ChangesPart tenant arena.old arena.new }

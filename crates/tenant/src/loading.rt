@@ -1,11 +1,11 @@
 //! PROG_LOAD.
 
-ghost use Rattle.std.specs.Prelude.{◌≡◌, ◌+◌, ◌<◌, ◌≤◌, ◌==◌, ◌^◌, ℕ, Bool, false, List, IfOk, IfErr, IsSome, None, Some, length, is_none, slice_index_or, if◌then◌else◌};
+ghost use Rattle.std.specs.Prelude.{◌≡◌, ◌+◌, ◌<◌, ◌==◌, ◌^◌, ℕ, Bool, false, List, IfOk, IfErr, IsSome, None, Some, length, is_none, slice_index_or, if◌then◌else◌};
 ghost use Rattle.fd_table.specs.Table.{named, lowest};
 ghost use Rattle.verdict.specs.Maps.{maps_of, entries_of};
-ghost use Rattle.tenant.specs.Kept.{times, holds_in, MapsAreAtPlaces, IsBound, state_in};
+ghost use Rattle.tenant.specs.Kept.{times_listed, holds_in, MapsAreAtPlaces, IsBound, state_in};
 ghost use Rattle.tenant.specs.inside.Loading.{codec_told, verdict_told, with_program, ProgramMapsAreThere, IsHeldMore, IsLoadFault};
-ghost use Rattle.tenant.specs.Machine.{accepted, codec_errno, verdict_errno, loaded, place_of, places_from, targets, Judges, Loads};
+ghost use Rattle.tenant.specs.Machine.{accepted, codec_errno, verdict_errno, loaded_program, named_place, places_from, targets, Judges, Loads};
 ghost use Rattle.tenant.specs.inside.Answers.{load_answer};
 
 use crate::errno::Errno;
@@ -164,10 +164,10 @@ fn hold_all(keys: &[Option<MapKey>; MAPS], maps: &mut Maps, held: &[(u32, u8)])
     requires placed { MapsAreAtPlaces keys.now maps.old }
     requires there { ProgramMapsAreThere keys.now held.now }
     requires few { (place : ℕ) →
-        holds_in keys.now maps.old place + times place held.now < 2 ^ 32 }
+        holds_in keys.now maps.old place + times_listed place held.now < 2 ^ 32 }
     ensures held { IsHeldMore keys.now maps.old maps.new }
     ensures holds { (place : ℕ) → holds_in keys.now maps.new place
-        ≡ holds_in keys.now maps.old place + times place held.now }
+        ≡ holds_in keys.now maps.old place + times_listed place held.now }
 {
     for map in held {
         hold(keys, maps, map.1);
@@ -176,7 +176,7 @@ fn hold_all(keys: &[Option<MapKey>; MAPS], maps: &mut Maps, held: &[(u32, u8)])
 
 /// The place of the map that a descriptor names.
 fn place_named(objects: &FdTable<OpenObject>, fd: u32) -> Option<u8>
-    ensures { result ≡ place_of (named objects.now fd) }
+    ensures { result ≡ named_place (named objects.now fd) }
 {
     match objects.get(fd)? {
         OpenObject::Map(place) => Some(*place),
@@ -208,7 +208,7 @@ impl Tenant {
         ensures judges { IfOk result (λ l. (part : List ℕ) →
             Judges (targets (state_in part self.now)) slots.now (accepted l.insns)) }
         ensures found { IfOk result (λ l. (part : List ℕ) →
-            l ≡ loaded (state_in part self.now) l.insns) }
+            l ≡ loaded_program (state_in part self.now) l.insns) }
         ensures bound { IfOk result (λ l. IsBound self.now l) }
         ensures there { IfOk result (λ l. ProgramMapsAreThere self.now.keys l.maps) }
         ensures refused { IfErr result (λ fault. (part : List ℕ) →

@@ -1,7 +1,7 @@
 //! The shape of a map that a command asks for.
 
 ghost use Rattle.std.specs.Prelude.{◌≡◌};
-ghost use Rattle.tenant.specs.Machine.{kind_of, shape_of};
+ghost use Rattle.tenant.specs.Machine.{kind_of, asked_shape};
 
 use crate::errno::Errno;
 use tagged_model::{MapKind, MapShape, ShapeFault};
@@ -29,7 +29,7 @@ pub(crate) fn asked_shape(
     max_entries: u32,
     flags: u32,
 ) -> Result<MapShape, Errno>
-    ensures { result ≡ shape_of (kind_of kind) key_size value_size max_entries flags }
+    ensures { result ≡ asked_shape (kind_of kind) key_size value_size max_entries flags }
 {
     let Some(kind) = map_kind(kind) else {
         return Err(Errno::Invalid);

@@ -1,7 +1,7 @@
 //! One tenant.
 
-ghost use Rattle.std.specs.Prelude.{◌≡◌, ◌≢◌, ◌+◌, ◌<◌, ◌≤◌, ◌==◌, if◌then◌else◌, slice_index_or, ℕ, Bool, false, List, [], is_none, position, None, Ok, length, IfOk, IfErr, Some, IsSome};
-ghost use Rattle.interval.specs.Bytes.{written_at};
+ghost use Rattle.std.specs.Prelude.{◌≡◌, ◌+◌, ◌<◌, ◌≤◌, ◌==◌, if◌then◌else◌, slice_index_or, ℕ, Bool, false, List, [], is_none, position, None, Ok, length, IfOk, IfErr, Some, IsSome};
+ghost use Rattle.words.specs.Bytes.{written_at};
 ghost use Rattle.bpf_maps.specs.declared.part.TheConstants.{KEY_ROOM, MAPS, PART};
 ghost use Rattle.bpf_maps.specs.Live.{live_at};
 ghost use Rattle.tagged_model.specs.Cells.{also};
@@ -10,8 +10,8 @@ ghost use Rattle.tenant.specs.declared.object.OpenObject.TheVariants as object;
 ghost use Rattle.tenant.specs.Errno.{status_of};
 ghost use Rattle.tenant.specs.State.{new_tenant};
 ghost use Rattle.command_frames.specs.Frame.{longest_payload, reply_bytes};
-ghost use Rattle.tenant.specs.Machine.{created, looked_up, updated, deleted, given_next, closed, target_of, targets};
-ghost use Rattle.tenant.specs.Kept.{key_at, times, filled, holds_in, MapsAreAtPlaces, state_in};
+ghost use Rattle.tenant.specs.Machine.{created, element_looked_up, element_updated, element_deleted, given_next, closed, object_target, targets};
+ghost use Rattle.tenant.specs.Kept.{key_at, times_listed, places_taken, holds_in, MapsAreAtPlaces, state_in};
 ghost use Rattle.tenant.specs.inside.Leaves.{LeavesHeldMaps};
 ghost use Rattle.tenant.specs.Replies.{lent_answer, front_answer, done_answer, opened_answer};
 ghost use Rattle.tenant.specs.inside.Answers.{map_fault};
@@ -75,7 +75,7 @@ fn lowest_place(keys: &[Option<MapKey>; MAPS]) -> Option<usize>
 
 /// The lowest place where no map is, where not all have one.
 fn free_place(keys: &[Option<MapKey>; MAPS]) -> u8
-    requires { filled keys.now < MAPS }
+    requires { places_taken keys.now < MAPS }
     ensures { position is_none keys.now ≡ Some result }
 {
     match lowest_place(keys) {
@@ -126,12 +126,12 @@ fn release_all(
     part: &mut [u8],
 )
     requires placed { MapsAreAtPlaces keys.old maps.old }
-    requires held { (place : ℕ) → times place held.now ≤ holds_in keys.old maps.old place }
+    requires held { (place : ℕ) → times_listed place held.now ≤ holds_in keys.old maps.old place }
     requires whole { length part.old ≡ PART }
     ensures left { LeavesHeldMaps
         (record { keys = keys.old; live = maps.old; part = part.old })
         (record { keys = keys.new; live = maps.new; part = part.new }) }
-    ensures holds { (place : ℕ) → holds_in keys.new maps.new place + times place held.now
+    ensures holds { (place : ℕ) → holds_in keys.new maps.new place + times_listed place held.now
         ≡ holds_in keys.old maps.old place }
 {
     for map in held {
@@ -185,7 +185,7 @@ impl Tenant {
     /// What a descriptor names, for the verdict.
     fn target(&self, fd: u32) -> Option<Target>
         ensures { (part : List ℕ) →
-            result ≡ also (named self.now.objects fd) (target_of (state_in part self.now)) }
+            result ≡ also (named self.now.objects fd) (object_target (state_in part self.now)) }
     {
         match self.objects.get(fd)? {
             OpenObject::Map(place) => Some(Target::Map(self.maps.shape(self.key_at(*place)))),
@@ -213,7 +213,7 @@ impl Tenant {
     pub fn look_up<'a>(&self, fd: u32, key: &[u8], part: &'a [u8]) -> Result<&'a [u8], Errno>
         requires { length part.now ≡ PART }
         ensures answer { lent_answer result (state_in part.now self.now)
-            ≡ looked_up (state_in part.now self.now) fd key.now }
+            ≡ element_looked_up (state_in part.now self.now) fd key.now }
         ensures bound { IfOk result (λ value. length value.now ≤ longest_payload) }
     {
         calls_refine_values();
@@ -261,7 +261,7 @@ impl Tenant {
         requires { length part.old ≡ PART }
         ensures answer { (refused : Bool)
             × (done_answer result (state_in part.new self.new)
-            ≡ updated refused (state_in part.old self.old) fd flags key_and_value.now) }
+            ≡ element_updated refused (state_in part.old self.old) fd flags key_and_value.now) }
         ensures length { length part.new ≡ PART }
     {
         calls_refine_values();
@@ -289,7 +289,7 @@ impl Tenant {
     /// MAP_DELETE_ELEM: takes a key and its value out.
     pub fn delete(&mut self, fd: u32, key: &[u8]) -> Result<(), Errno>
         ensures { (part : List ℕ) → done_answer result (state_in part self.new)
-            ≡ deleted (state_in part self.old) fd key.now }
+            ≡ element_deleted (state_in part self.old) fd key.now }
     {
         calls_refine_values();
         calls_are_those_of_a_map();

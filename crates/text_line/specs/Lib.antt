@@ -8,3 +8,5 @@ pub mod Written
 pub mod Ranges
 pub mod Law
 pub mod inside
+-- what public contracts cite of crates below
+pub use Rattle.insn_codec.specs.Spelling

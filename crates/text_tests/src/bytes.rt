@@ -3,9 +3,13 @@
 use crate::notation::{shown, text_of, times, written};
 use crate::refusal::Refusal;
 use bpf_text::disassemble;
+use case_lines::hex_groups;
 use insn_codec::{FaultKind, Insn, Program, decode, encode, read_program};
 use std::alloc::{AllocError, Global};
 use std::fmt::Write;
+
+/// The bytes of a slot.
+const SLOT: usize = 8;
 
 /// The bytes of hex digits.
 fn bytes_of(alloc: Global, text: &str) -> Result<Vec<u8>, Refusal> {
@@ -18,14 +22,7 @@ fn bytes_of(alloc: Global, text: &str) -> Result<Vec<u8>, Refusal> {
 
 /// Bytes as hex digits, with a blank after each slot but the last one.
 pub fn grouped(alloc: Global, bytes: &[u8]) -> Result<String, AllocError> {
-    let mut text = String::new(alloc);
-    for (index, slot) in bytes.chunks(8).enumerate() {
-        if index != 0 {
-            text.push_str(" ")?;
-        }
-        text.push_str(&hex::encode(alloc, slot)?)?;
-    }
-    Ok(text)
+    hex_groups(alloc, bytes, SLOT)
 }
 
 /// An instruction, in how many slots it is spelled, and how it is written.

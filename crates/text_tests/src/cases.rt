@@ -4,11 +4,12 @@ use crate::arguments::{map_named, ran};
 use crate::bytes::{decoded, disassembled, known_opcodes, made_of_exits, places};
 use crate::refusal::Refusal;
 use crate::texts::{assembled, printed, read_hex_lines};
+use case_lines::{first_word, is_remark};
 use std::alloc::{AllocError, Global};
 
 /// What a case gives: its first word says what is done with the rest of the line.
 fn outcome(alloc: Global, case: &str) -> Result<String, Refusal> {
-    let (word, rest) = case.split_once(' ').unwrap_or((case, ""));
+    let (word, rest) = first_word(case);
     match word {
         "codec" => decoded(alloc, rest),
         "dis" => disassembled(alloc, rest),
@@ -26,7 +27,7 @@ fn outcome(alloc: Global, case: &str) -> Result<String, Refusal> {
 
 /// The answer to a line.
 pub fn answer(alloc: Global, line: &str) -> Result<String, AllocError> {
-    if line.is_empty() || line.starts_with('#') {
+    if is_remark(line) {
         return line.to_string(alloc);
     }
     match outcome(alloc, line) {

@@ -1,10 +1,10 @@
 -- Each instruction is covered.
 use Rattle.std.proofs.Common.{◌≡◌, ℕ, ◌+◌, ℤ, pos, ◌+ℤ◌, Bool, true, Option, Some, None, Result, Ok, refl, sym, ap, subst, inl, arith}
 use Rattle.std.specs.Option.{IsSome}
-use Rattle.interval.specs.declared.operator.Operator.TheVariants as on_words
-use Rattle.interval.specs.declared.operator.Operator.{Operator}
+use Rattle.words.specs.declared.operator.Operator.TheVariants as on_words
+use Rattle.words.specs.declared.operator.Operator.{Operator}
 use Rattle.interval.specs.Ranges.{constant}
-use Rattle.interval.specs.Operate.{operate, byte_order}
+use Rattle.words.specs.Operate.{operate, byte_order}
 use Rattle.insn_codec.specs.declared.insn.AluOp.{AluOp}
 use Rattle.insn_codec.specs.declared.insn.Condition.{Condition}
 use Rattle.insn_codec.specs.declared.insn.Size.{Size}
@@ -23,7 +23,7 @@ use Rattle.tagged_model.specs.Admits.{IsKindBelow, IsSlotBelow, AreBelow}
 use Rattle.tagged_model.specs.declared.helper.Helper.{Helper}
 use Rattle.tagged_model.specs.declared.shape.MapShape.{MapShape}
 use Rattle.tagged_model.specs.Helpers.{helper_of, called}
-use Rattle.interval.specs.Words.{unsigned}
+use Rattle.words.specs.Words.{unsigned}
 use Rattle.reg_kinds.specs.declared.kind.Slot.{Slot}
 use Rattle.reg_kinds.specs.declared.kind.Slot.TheVariants.{Bytes, Spill}
 use Rattle.tagged_model.specs.declared.value.Tagged.{Tagged}

@@ -7,7 +7,7 @@ use Rattle.std.proofs.lemmas.List.{length-take, length-drop, length-replicate, g
 use Rattle.std.proofs.lemmas.List.Elements.{All-take, All-drop}
 use Rattle.interval.specs.declared.range.Range.{Range}
 use Rattle.interval.specs.Ranges.{IsMember}
-use Rattle.interval.specs.Bytes.{bytes_at}
+use Rattle.words.specs.Bytes.{bytes_at}
 use Rattle.reg_kinds.specs.declared.kind.ValuePointer.{ValuePointer}
 use Rattle.reg_kinds.specs.declared.kind.Kind.{Kind}
 use Rattle.reg_kinds.specs.declared.kind.Kind.TheVariants as kind

@@ -7,8 +7,8 @@ use Rattle.std.proofs.lemmas.Bool.Decides.{Decides-int_eq}
 use Rattle.std.proofs.lemmas.Option.{same_Some}
 use Rattle.interval.specs.declared.range.Range.{Range}
 use Rattle.interval.specs.Ranges.{IsMember}
-use Rattle.interval.specs.Words.{unsigned}
-use Rattle.interval.specs.Compare.{compares}
+use Rattle.words.specs.Words.{unsigned}
+use Rattle.words.specs.Compare.{compares}
 use Rattle.interval.specs.Refine.{RangePair, refined, IsPairOn}
 use Rattle.interval.specs.Laws.{EdgesKeepMembers, EdgesAreWords, IsPairOfWords}
 use Rattle.insn_codec.specs.declared.insn.Condition.{Condition}

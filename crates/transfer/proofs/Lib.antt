@@ -1,5 +1,4 @@
 pub mod Parts
-pub mod Tables
 pub mod Words
 pub mod States
 pub mod Rooms

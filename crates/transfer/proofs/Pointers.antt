@@ -1,12 +1,13 @@
 -- Pointers that are moved: where the kind of what comes out is told, the machine gives a value of it.
-use Rattle.std.proofs.Common.{◌≡◌, ℕ, ◌<◌, ◌≤◌, ◌^◌, ltb, ℤ, pos, ◌+ℤ◌, ◌-ℤ◌, neg_ℤ, ◌≤ℤ◌, true, false, if◌then◌else◌, Option, Result, Some, None, Ok, Err, refl, sym, ap, subst, ◌∙◌, ⊎_elim, arith}
+use Rattle.std.proofs.Common.{◌≡◌, ℕ, ◌<◌, ◌≤◌, ◌^◌, ℤ, pos, ◌+ℤ◌, ◌-ℤ◌, neg_ℤ, ◌≤ℤ◌, true, false, if◌then◌else◌, Option, Result, Some, None, Ok, Err, refl, sym, ap, subst, ◌∙◌, arith}
 use Rattle.std.specs.Prelude.{nat_lt, nat_le, int_le}
 use Rattle.std.specs.Int.{int_max}
 use Rattle.std.proofs.lemmas.Int.{ints, clamps}
-use Rattle.std.proofs.lemmas.Bool.{cases_Bool, cond_both, eqb-true, ltb-true, leb-true, lt-ltb, cond-true, cond-false, and_parts, and_from}
+use Rattle.std.proofs.lemmas.Bool.{cond_both, eqb-true, ltb-true, leb-true, cond-true, and_from}
 use Rattle.interval.specs.declared.range.Range.{Range}
 use Rattle.interval.specs.Ranges.{is_constant, IsMember}
-use Rattle.interval.specs.Words.{signed}
+use Rattle.words.specs.Words.{signed}
+use Rattle.words.specs.SignLaws.{signed_low, signed_high}
 use Rattle.reg_kinds.specs.declared.kind.ValuePointer.{ValuePointer}
 use Rattle.reg_kinds.specs.declared.kind.Kind.{Kind}
 use Rattle.reg_kinds.specs.declared.kind.Kind.TheVariants as kind
@@ -17,6 +18,7 @@ use Rattle.reg_kinds.specs.Pointers.{value_span}
 use Rattle.tagged_model.specs.declared.value.Object.TheVariants as object
 use Rattle.tagged_model.specs.declared.value.Tagged.TheVariants.{Pointer}
 use Rattle.tagged_model.specs.Values.{is_near, moved}
+use Rattle.tagged_model.specs.StateLaws.{near_parts}
 use Rattle.tagged_model.specs.Cells.{also}
 use Rattle.transfer.specs.declared.arithmetic.Direction.{Direction}
 use Rattle.transfer.specs.declared.arithmetic.Direction.TheVariants.{Forwards, Backwards}
@@ -28,15 +30,6 @@ shifted Forwards x d = x +ℤ d
 shifted Backwards x d = x -ℤ d
 
 -- ---- how far a number of a range moves a pointer
-
-signed_low : (n : ℕ) → n < 2 ^ 63 → signed 64 n ≡ pos n
-signed_low n h = cond-true (nat_lt n (2 ^ 63)) (pos n) (pos n -ℤ pos (2 ^ 64)) (lt-ltb n (2 ^ 63) h)
-
-not_below : (a b : ℕ) → b ≤ a → ltb a b ≡ false
-not_below a b h = ⊎_elim (λ e. absurd (let l = ltb-true a b e in omega arith)) (λ e. e) (cases_Bool (ltb a b))
-
-signed_high : (n : ℕ) → 2 ^ 63 ≤ n → signed 64 n ≡ pos n -ℤ pos (2 ^ 64)
-signed_high n h = cond-false (nat_lt n (2 ^ 63)) (pos n) (pos n -ℤ pos (2 ^ 64)) (not_below n (2 ^ 63) h)
 
 -- the number, read as signed, is one of those between the ends, and the least end is the least number
 record IsBetween (lo n : ℕ) (d : Distance) : Type 0 where
@@ -65,11 +58,6 @@ distance_holds r n m =
     (λ _. tt))
 
 -- ---- what is near
-
-near_parts : (x : ℤ) → is_near x ≡ true → (neg_ℤ (pos (2 ^ 29)) ≤ℤ x) × (x ≤ℤ pos (2 ^ 29))
-near_parts x e =
-    let h = and_parts (int_le (neg_ℤ (pos (2 ^ 29))) x) (int_le x (pos (2 ^ 29))) e in
-    let p = h.0 in let q = h.1 in (grind (arith, ints), grind (arith, ints))
 
 near_between : (x z y : ℤ) → is_near x ≡ true → is_near y ≡ true → x ≤ℤ z → z ≤ℤ y → is_near z ≡ true
 near_between x z y e f h g =

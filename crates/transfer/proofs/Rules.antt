@@ -3,8 +3,8 @@ use Rattle.std.proofs.Common.{◌≡◌, ◌≢◌, ℕ, ◌==◌, ℤ, ◌+ℤ�
 use Rattle.std.specs.Prelude.{◌||◌, ◌&&◌, ◌^◌, pos, int_le, nat_le, bit_and}
 use Rattle.std.proofs.lemmas.Bool.{cond_both}
 use Rattle.interval.specs.declared.range.Range.{Range}
-use Rattle.interval.specs.declared.operator.Operator.{Operator}
-use Rattle.interval.specs.declared.operator.Operator.TheVariants as on_words
+use Rattle.words.specs.declared.operator.Operator.{Operator}
+use Rattle.words.specs.declared.operator.Operator.TheVariants as on_words
 use Rattle.interval.specs.Ranges.{is_constant, full}
 use Rattle.insn_codec.specs.declared.insn.AluOp.{AluOp}
 use Rattle.insn_codec.specs.declared.insn.AluOp.TheVariants as alu
@@ -34,7 +34,7 @@ use Rattle.transfer.specs.Branches.{Edges, falls, pointer_edges, branch_edges}
 use Rattle.transfer.specs.Effects.{source_kind, first_kind, assigns, is_word, context_read, load_kind, stored_outside, store_facts, map_of, known, exits_with, effect}
 use Rattle.transfer.specs.Reasons.{IsOfOperands, IsReasonOf, TransferReasons}
 use Rattle.transfer.specs.Calls.{shaped, map_kind, room_of, input_kind, output_facts, number_kind, length_kind, context_kind, call_facts}
-use Rattle.interval.specs.Words.{unsigned}
+use Rattle.words.specs.Words.{unsigned}
 use Rattle.reg_kinds.specs.declared.kind.ValuePointer.{ValuePointer}
 use Rattle.reg_kinds.specs.Many.{touches, bits_in, any_below, is_touched_spill, lacks, stack_input, filled}
 use Rattle.tagged_model.specs.declared.helper.Helper.{Helper}

@@ -4,7 +4,7 @@ use Rattle.std.proofs.Common.{◌≡◌, ℕ, ◌+◌, ◌<◌, ◌≤◌, ◌^�
 use Rattle.std.proofs.lemmas.Bool.{cases_Bool, cond-true, cond-false, eqb-true}
 use Rattle.interval.specs.declared.range.Range.{Range}
 use Rattle.interval.specs.Ranges.{constant, IsMember}
-use Rattle.interval.specs.Words.{unsigned}
+use Rattle.words.specs.Words.{unsigned}
 use Rattle.insn_codec.specs.declared.insn.AluOp.{AluOp}
 use Rattle.insn_codec.specs.declared.insn.AluOp.TheVariants as alu
 use Rattle.insn_codec.specs.declared.insn.Operand.{Operand}
@@ -13,6 +13,7 @@ use Rattle.reg_kinds.specs.declared.kind.Kind.{Kind}
 use Rattle.reg_kinds.specs.declared.kind.Kind.TheVariants as kind
 use Rattle.reg_kinds.specs.declared.facts.Facts.{Facts}
 use Rattle.reg_kinds.specs.Kinds.{kind_at, with_kind}
+use Rattle.reg_kinds.specs.TableLaws.{in_written}
 use Rattle.tagged_model.specs.declared.value.Tagged.{Tagged}
 use Rattle.tagged_model.specs.declared.value.Tagged.TheVariants.{Scalar}
 use Rattle.tagged_model.specs.Operators.{width}
@@ -25,7 +26,6 @@ use Rattle.transfer.specs.Branches.{falls}
 use Rattle.transfer.specs.Effects.{source_kind, first_kind}
 use Rattle.transfer.specs.Sound.{IsKindAt, EdgeAdmits}
 use Rattle.transfer.proofs.Parts.{Here, Agree, IsKindOf, IsReadable, IsFound, IsKnown, still_of, IsCoveredIf}
-use Rattle.transfer.proofs.Tables.{in_written}
 use Rattle.transfer.proofs.Words.{kind_words}
 
 -- ---- numbers

@@ -4,8 +4,8 @@ use Rattle.std.specs.Prelude.{◌||◌}
 use Rattle.std.specs.Option.{option_map}
 use Rattle.std.proofs.lemmas.Bool.{cond_both}
 use Rattle.interval.specs.declared.range.Range.{Range}
-use Rattle.interval.specs.declared.operator.Operator.{Operator}
-use Rattle.interval.specs.declared.operator.Operator.TheVariants as on_words
+use Rattle.words.specs.declared.operator.Operator.{Operator}
+use Rattle.words.specs.declared.operator.Operator.TheVariants as on_words
 use Rattle.interval.specs.Ranges.{is_constant, full}
 use Rattle.interval.specs.Refine.{RangePair, refined}
 use Rattle.interval.specs.Laws.{ResultsAreWords, EdgesAreWords, IsPairOfWords}
@@ -27,11 +27,9 @@ use Rattle.reg_kinds.specs.declared.stack.AccessSize.TheVariants.{Word}
 use Rattle.reg_kinds.specs.declared.reason.Reason.{Reason}
 use Rattle.reg_kinds.specs.declared.reason.Reason.TheVariants.{PointerArithmetic, MaybeNull, ContextAccess, PointerComparison, PointerStored}
 use Rattle.reg_kinds.specs.Reason.{given}
-use Rattle.reg_kinds.specs.Kinds.{is_pointer, kind_at, slot_at, with_kind}
+use Rattle.reg_kinds.specs.Kinds.{is_pointer, kind_at, with_kind}
 use Rattle.reg_kinds.specs.Stack.{bytes_of, loaded}
-use Rattle.reg_kinds.specs.declared.kind.Slot.{Slot}
-use Rattle.reg_kinds.specs.declared.kind.Slot.TheVariants.{Bytes, Spill}
-use Rattle.interval.specs.Words.{unsigned}
+use Rattle.words.specs.Words.{unsigned}
 use Rattle.tagged_model.specs.declared.helper.Helper.{Helper}
 use Rattle.tagged_model.specs.declared.helper.Helper.TheVariants.{LookUp, Update, Delete, LoadBytes}
 use Rattle.tagged_model.specs.declared.shape.MapShape.{MapShape}
@@ -46,7 +44,8 @@ use Rattle.transfer.specs.Arithmetic.{readable, near, stack_moved, value_by, dis
 use Rattle.transfer.specs.Branches.{Edges, falls, with_source, with_pair, is_same, number_edges, null_edges, pointer_edges, branch_edges}
 use Rattle.transfer.specs.Effects.{source_kind, first_kind, assigns, is_word, context_read, load_kind, stored_outside, store_facts, map_of, known, exits_with, effect}
 use Rattle.transfer.specs.Calls.{map_kind, room_of, input_kind, output_facts, number_kind, length_kind, context_kind, any_number, call_facts}
-use Rattle.transfer.specs.Sound.{IsKindAt, IsSlotAt, AreWellFormedAt, AreWellFormedOn, TransferKeepsWellFormed}
+use Rattle.transfer.specs.Sound.{IsKindAt, AreWellFormedAt, AreWellFormedOn, TransferKeepsWellFormed}
+use Rattle.transfer.specs.FactLaws.{facts_of_later_slots}
 use Rattle.transfer.proofs.Parts.{OkIs, then_ok, ok_is}
 use Rattle.transfer.proofs.Words.{kind_words, loaded_words, read_words, written_words, settled_words, filled_words, called_words}
 use Rattle.transfer.proofs.States.{word_of}
@@ -275,20 +274,8 @@ module _ (bound : ℕ) (shapes : Shapes) (at : ℕ) (lt : at < bound) where
     insn_words (Const dst value) is = falls_words _ (kind_words bound f dst _ h is.1)
     insn_words (MapFd dst fd) is = assigns_words dst (map_of (unsigned 32 fd) (shapes (unsigned 32 fd))) (map_words (unsigned 32 fd) (shapes (unsigned 32 fd)))
 
--- ---- facts before a slot are facts before each later one
-
-kind_raised : (at n : ℕ) (k : Kind) → at < n → IsKindAt at k → IsKindAt n k
-kind_raised at n (kind.Scalar r) lt h = h
-kind_raised at n (kind.MaybeValue m site) lt h = omega arith
-kind_raised at n k lt h = tt
-
-slot_raised : (at n : ℕ) (s : Slot) → at < n → IsSlotAt at s → IsSlotAt n s
-slot_raised at n (Bytes mask) lt h = h
-slot_raised at n (Spill k) lt h = kind_raised at n k lt h
-
-pub raised : (at n : ℕ) (f : Facts) → at < n → AreWellFormedAt at f → AreWellFormedAt n f
-raised at n f lt h = record { registers = λ r. kind_raised at n (kind_at f r) lt (h.registers r); slots = λ i. slot_raised at n (slot_at f i) lt (h.slots i) }
+-- ---- what an instruction leaves
 
 pub transfer_keeps_well_formed : WordLaws → TransferKeepsWellFormed
 transfer_keeps_well_formed laws shapes at n i f edges is h lt e =
-    ok_is (λ (e : Edges). AreWellFormedOn n e.falling × AreWellFormedOn n e.jumping) (effect shapes at i f) edges (insn_words n shapes at lt laws f (raised at n f lt h) i is) e
+    ok_is (λ (e : Edges). AreWellFormedOn n e.falling × AreWellFormedOn n e.jumping) (effect shapes at i f) edges (insn_words n shapes at lt laws f (facts_of_later_slots at n f lt h) i is) e

@@ -3,10 +3,10 @@ use Rattle.std.proofs.Common.{◌≡◌, ℕ, ◌<◌, ◌^◌, Bool, true, fals
 use Rattle.std.specs.Prelude.{◌||◌}
 use Rattle.std.proofs.lemmas.Bool.{cond_both}
 use Rattle.interval.specs.declared.range.Range.{Range}
-use Rattle.interval.specs.declared.operator.Operator.{Operator}
-use Rattle.interval.specs.declared.operator.Operator.TheVariants.{Add, Sub}
+use Rattle.words.specs.declared.operator.Operator.{Operator}
+use Rattle.words.specs.declared.operator.Operator.TheVariants.{Add, Sub}
 use Rattle.interval.specs.Ranges.{IsMember}
-use Rattle.interval.specs.Operate.{operate}
+use Rattle.words.specs.Operate.{operate}
 use Rattle.interval.specs.Table.{range_of}
 use Rattle.interval.specs.Laws.{ResultsAreMembers, ResultsAreWords}
 use Rattle.insn_codec.specs.declared.insn.AluOp.{AluOp}

@@ -1,10 +1,8 @@
 -- Facts before a slot still are such after a load, a store, a call and a test.
-use Rattle.std.proofs.Common.{◌≡◌, ℕ, ◌+◌, ◌-◌, ◌*◌, ◌%◌, ◌<◌, ◌≤◌, ◌^◌, ◌==◌, if◌then◌else◌, min, ℤ, Bool, true, false, not, bit_and, Ok, Err, refl, sym, subst, ⊎_elim, arith}
+use Rattle.std.proofs.Common.{◌≡◌, ℕ, ◌%◌, ◌<◌, ◌≤◌, ◌^◌, ◌==◌, if◌then◌else◌, ℤ, Bool, true, false, not, bit_and, Ok, Err, arith}
 use Rattle.std.specs.Prelude.{nat_le}
-use Rattle.std.proofs.lemmas.Bool.{cases_lt}
-use Rattle.reg_kinds.specs.Many.{touches, bits_in, filled, stack_filled, call_kind, called_facts}
 use Rattle.std.proofs.Math.Pow.{pow_mono}
-use Rattle.std.proofs.lemmas.Bool.{cond_both, eqb-true}
+use Rattle.std.proofs.lemmas.Bool.{cond_both, eqb-true, not-false}
 use Rattle.std.proofs.lemmas.Nat.{or_lt}
 use Rattle.reg_kinds.specs.declared.kind.Kind.{Kind}
 use Rattle.reg_kinds.specs.declared.kind.Kind.TheVariants as kind
@@ -16,11 +14,12 @@ use Rattle.reg_kinds.specs.declared.stack.AccessSize.TheVariants.{Byte, Half, Wo
 use Rattle.reg_kinds.specs.declared.reason.Reason.TheVariants.{OutsideStack, UnwrittenStack, PartOfSpill}
 use Rattle.reg_kinds.specs.Kinds.{is_pointer, kind_at, slot_at, with_kind, with_slot}
 use Rattle.reg_kinds.specs.Stack.{bytes_of, is_whole, is_in_stack, is_aligned, place, byte_bits, touched, loaded, read_slot, stack_read, bytes_over, slot_written, facts_written, stack_write}
+use Rattle.reg_kinds.specs.Many.{touches, bits_in, filled, stack_filled, call_kind, called_facts}
 use Rattle.reg_kinds.specs.Settle.{settled_value, kind_settled, settled_spill, slot_settled, facts_settled}
-use Rattle.reg_kinds.proofs.SlotTests.{ones_small}
+use Rattle.reg_kinds.specs.TableLaws.{in_table, in_set}
+use Rattle.reg_kinds.specs.StackLaws.{bits_in_small}
 use Rattle.transfer.specs.Sound.{IsKindAt, IsSlotAt, AreWellFormedAt}
 use Rattle.transfer.proofs.Parts.{OkIs, then_ok}
-use Rattle.transfer.proofs.Tables.{in_table, in_set}
 
 -- `bound` is above the slots of the look-ups
 module _ (bound : ℕ) where
@@ -37,10 +36,6 @@ module _ (bound : ℕ) where
 
   -- ---- where an access is
 
-  not_not : (b : Bool) → not b ≡ false → b ≡ true
-  not_not true e = refl
-  not_not false e = absurd (let z : ⊥ = cc in z)
-
   -- the bits of an aligned access are those of one slot
   bits_small : (size : AccessSize) (p : ℕ) → p % bytes_of size ≡ 0 → byte_bits p (bytes_of size) < 256
   bits_small Byte p h = let m : 2 ^ (p % 8) ≤ 2 ^ 7 = pow_mono {i = p % 8} {j = 7} (omega arith) in omega arith
@@ -55,7 +50,7 @@ module _ (bound : ℕ) where
   touched_small offset size =
       cond_both (not (is_in_stack offset (bytes_of size))) _ _ (OkIs AreSmall) (λ _. tt)
       (λ _. cond_both (not (is_aligned offset (bytes_of size))) _ _ (OkIs AreSmall) (λ _. tt)
-      (λ e. bits_small size (place offset) (eqb-true (place offset % bytes_of size) 0 (not_not (is_aligned offset (bytes_of size)) e))))
+      (λ e. bits_small size (place offset) (eqb-true (place offset % bytes_of size) 0 (not-false (is_aligned offset (bytes_of size)) e))))
 
   -- ---- loads
 
@@ -125,15 +120,6 @@ module _ (bound : ℕ) where
       }
 
   -- ---- calls
-
-  bits_in_small : (p n i : ℕ) → bits_in p n i < 256
-  bits_in_small p n i =
-      let a = min 8 (p + n - 8 * i) - (p - 8 * i) in
-      let b = p - 8 * i in
-      ⊎_elim
-      (λ lt. let few : a + b ≤ 8 = omega arith in ones_small a b few)
-      (λ le. let none : a ≡ 0 = omega arith in subst (λ k. (2 ^ k - 1) * 2 ^ b < 256) (sym none) (omega arith))
-      (cases_lt b 8)
 
   pub filled_words : (f : Facts) (x : ℤ) (lo hi : ℕ) → AreWellFormedAt bound f → OkIs (AreWellFormedAt bound) (stack_filled f x lo hi)
   filled_words f x lo hi h =

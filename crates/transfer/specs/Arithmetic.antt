@@ -2,7 +2,7 @@
 -- operators are those of RFC 9669, section 4.1; the rules are this project's own.
 use Rattle.std.specs.Prelude.{ℕ, ◌^◌, ℤ, pos, ◌+ℤ◌, ◌-ℤ◌, Bool, true, false, ◌||◌, nat_lt, nat_le, if◌then◌else◌, Option, Some, None, Result, Ok, Err}
 use Rattle.interval.specs.declared.range.Range.{Range}
-use Rattle.interval.specs.declared.operator.Operator.{Operator}
+use Rattle.words.specs.declared.operator.Operator.{Operator}
 use Rattle.interval.specs.Ranges.{is_constant}
 use Rattle.interval.specs.Table.{range_of}
 use Rattle.insn_codec.specs.declared.insn.AluOp.{AluOp}

@@ -1,9 +1,9 @@
 -- The facts on the edges out of an instruction, from those before it; or why the instruction may not be run. The
 -- conditions are tried in the order in which they stand. The rules and their order are this project's own.
 use Rattle.std.specs.Prelude.{ℕ, ◌*◌, ◌%◌, ℤ, pos, negsuc, ◌+ℤ◌, ◌==◌, Bool, true, false, ◌&&◌, nat_lt, if◌then◌else◌, Option, Some, None, Result, Ok, Err}
-use Rattle.interval.specs.declared.operator.Operator.TheVariants as on_words
+use Rattle.words.specs.declared.operator.Operator.TheVariants as on_words
 use Rattle.interval.specs.Ranges.{constant, full}
-use Rattle.interval.specs.Words.{unsigned}
+use Rattle.words.specs.Words.{unsigned}
 use Rattle.insn_codec.specs.declared.insn.AluOp.{AluOp}
 use Rattle.insn_codec.specs.declared.insn.AluOp.TheVariants as alu
 use Rattle.insn_codec.specs.declared.insn.Operand.{Operand}

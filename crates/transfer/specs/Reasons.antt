@@ -1,6 +1,6 @@
 -- Why an instruction may be refused. This project's own.
 use Rattle.std.specs.Prelude.{◌≡◌, ℕ, None, Err}
-use Rattle.interval.specs.Words.{unsigned}
+use Rattle.words.specs.Words.{unsigned}
 use Rattle.insn_codec.specs.declared.insn.Insn.{Insn}
 use Rattle.insn_codec.specs.declared.insn.Insn.TheVariants.{Call, MapFd}
 use Rattle.reg_kinds.specs.declared.facts.Facts.{Facts}

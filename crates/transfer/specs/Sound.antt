@@ -2,7 +2,7 @@
 -- is RFC 9669, section 4.3; the rest is this project's own.
 use Rattle.std.specs.Prelude.{◌≡◌, ◌⊎◌, ℕ, ◌<◌, ◌^◌, Bool, Option, Some, None, IsSome, Ok}
 use Rattle.insn_codec.specs.declared.insn.Insn.{Insn}
-use Rattle.insn_codec.specs.Spelling.{slots, IsInsn}
+use Rattle.insn_codec.specs.Spelling.{IsInsn}
 use Rattle.reg_kinds.specs.declared.kind.Kind.{Kind}
 use Rattle.reg_kinds.specs.declared.kind.Kind.TheVariants.{Scalar, MaybeValue}
 use Rattle.reg_kinds.specs.declared.kind.Slot.{Slot}
@@ -38,7 +38,7 @@ pub record AreWellFormedAt (n : ℕ) (f : Facts) : Type 0 where
 
 -- ---- the state after a step
 
--- the edge is there, leads to the state's slot, and its facts admit the state, whatever is told there
+-- the edge is there and leads to the state's slot, and its facts describe the state, by some witness
 abbrev pub EdgeAdmits : Shapes → Option Facts → Option ℕ → RunState → Type 0
 EdgeAdmits shapes None slot t = ⊥
 EdgeAdmits shapes (Some f) slot t = (slot ≡ Some t.at) × (witness : Witness) × Describes witness f shapes t
@@ -67,7 +67,8 @@ TransferKeepsWellFormed = (shapes : Shapes) (at n : ℕ) (i : Insn) (f : Facts) 
 
 -- ---- calls
 
--- what is known after a call, which does not go on by itself. A look-up tells more than was told
+-- after a call the state is at the slot where it was, and these facts describe it, by a witness that may be another one: a
+-- look-up has given something
 pub record CallIsAdmitted (g : Facts) (shapes : Shapes) (s u : RunState) : Type 0 where
   pub witness : Witness
   pub still : Describes witness g shapes u

@@ -7,9 +7,10 @@ ghost use Rattle.tagged_model.specs.Operators.{width};
 ghost use Rattle.transfer.specs.Arithmetic.{readable, distance, moved_offset, stack_moved, value_by, value_moved, pointer_moved, is_maybe, of_scalars, sum_kind, difference_kind, arithmetic_kind, of_scalar};
 
 use insn_codec::AluOp;
-use interval::{Operator, Range, alu32, alu64};
+use interval::{Range, alu32, alu64};
 use reg_kinds::{Kind, Reason, ValuePointer};
 use tagged_model::operator;
+use words::Operator;
 
 /// The farthest that an offset may lie, in bytes.
 const FARTHEST: i64 = 0x2000_0000;

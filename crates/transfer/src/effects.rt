@@ -1,7 +1,7 @@
 //! What each instruction does to what is known.
 
 ghost use Rattle.std.specs.Prelude.{◌≡◌, ◌<◌, ℕ, if◌then◌else◌, ◌+ℤ◌, false, IfOk, IfErr, OnErr, OnOk, Ok, Err};
-ghost use Rattle.interval.specs.Words.{unsigned};
+ghost use Rattle.words.specs.Words.{unsigned};
 ghost use Rattle.tagged_model.specs.Operators.{width, size_of};
 ghost use Rattle.transfer.specs.Arithmetic.{arithmetic_kind, of_scalar};
 ghost use Rattle.transfer.specs.Branches.{branch_edges, ends, falls};
@@ -17,11 +17,12 @@ use crate::arithmetic::{arithmetic, of_scalar, readable};
 use crate::branches::{Flow, branch};
 use crate::calls::{call, room_of};
 use insn_codec::{AluOp, Insn, Load, Movsx, Operand, Reg, Size};
-use interval::{Operator, Range};
+use interval::Range;
 use reg_kinds::{Facts, Kind, Reason, loaded, read_stack, write_stack};
 use tagged_model::{
     CONTEXT_WORDS, Named, access_size, byte_order, kept_bits, known_helper, narrow, shape_of,
 };
+use words::Operator;
 
 /// The bytes of the context.
 const CONTEXT_SIZE: i16 = 4 * CONTEXT_WORDS as i16;

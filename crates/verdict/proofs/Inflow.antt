@@ -1,13 +1,15 @@
 -- The pass over what is known, against the definition that asks the slots below.
-use Rattle.std.proofs.Common.{◌≡◌, ℕ, ◌+◌, ◌<◌, ◌≤◌, inl, inr, Bool, true, false, ◌&&◌, List, [], ◌∷◌, length, get_or, replicate, Option, Some, None, Result, Ok, Err, IsSome, refl, sym, ap, subst, ◌∙◌, add-one, arith}
+use Rattle.std.proofs.Common.{◌≡◌, ℕ, ◌+◌, ◌<◌, ◌≤◌, inl, inr, Bool, true, false, ◌&&◌, List, [], ◌∷◌, length, replicate, Option, Some, None, Result, Ok, Err, IsSome, refl, sym, ap, subst, ◌∙◌, add-one, arith}
 use Rattle.std.specs.Prelude.{◌==◌, nat_lt, is_some, if◌then◌else◌}
 use Rattle.std.proofs.Math.Bool.{and-true}
 use Rattle.std.proofs.lemmas.Bool.{false≢true, cases_order, cases_eq, eq-eqb, ne_eqb, lt-ltb}
 use Rattle.std.proofs.lemmas.List.{get_or-replicate, length-replicate}
+use Rattle.std.proofs.lemmas.Option.{none-some}
 use Rattle.insn_codec.specs.declared.insn.Insn.{Insn}
 use Rattle.insn_codec.specs.declared.insn.Insn.TheVariants.{Alu, Movsx, Neg, End, Ja, Jal, Jump, Call, Exit, Load, Store, Const, MapFd}
 use Rattle.insn_codec.specs.Spelling.{slots}
 use Rattle.insn_codec.specs.Program.{begins_at, slot_count, Adjoins}
+use Rattle.insn_codec.specs.BeginLaws.{some_slots, none_begins_inside, first_begins}
 use Rattle.reg_kinds.specs.declared.facts.Facts.{Facts}
 use Rattle.reg_kinds.specs.declared.kind.Kind.{Kind}
 use Rattle.reg_kinds.specs.declared.kind.Kind.TheVariants.{Scalar}
@@ -22,11 +24,12 @@ use Rattle.transfer.specs.Arithmetic.{readable}
 use Rattle.transfer.specs.Branches.{Edges}
 use Rattle.transfer.specs.Effects.{effect, exits_with}
 use Rattle.insn_codec.specs.Flow.{falls_to, jumps_to, falls, jumps, jump_target}
+use Rattle.verdict.specs.declared.pass.Pass.{Pass}
 use Rattle.verdict.specs.Shape.{is_slot, falls_into, jumps_into}
 use Rattle.verdict.specs.Before.{joined, on, edges_into, sent, inflow, before}
+use Rattle.verdict.specs.inside.Arriving.{brought_to, Brings, arriving_at}
 use Rattle.verdict.specs.inside.Edges.{falling_of, jumping_of, falling_from, jumping_from, reason_from}
 use Rattle.verdict.specs.Verdict.{reason_of, safety_fault, IsFirstFault}
-use Rattle.verdict.proofs.Slots.{EachAdjoins, some_slots, not_both, none_inside}
 
 -- ---- joins in another order
 
@@ -44,6 +47,10 @@ joined_swap comm assoc (Some f) (Some g) (Some h) =
 on_none : (b : Bool) → on b None ≡ None
 on_none true = refl
 on_none false = refl
+
+-- what a program's law says
+abbrev pub EachAdjoins : List Insn → Type 0
+EachAdjoins code = (n : ℕ) (i : Insn) → begins_at code n ≡ Some i → Adjoins code (n + length (slots i))
 
 -- by the shapes of the maps
 module _ (shapes : Shapes) where
@@ -99,18 +106,13 @@ module _ (shapes : Shapes) where
   -- ---- what is in hand before a slot, and what is kept for those ahead
 
   -- the facts in hand are due at the next instruction; with them the entry of each slot ahead is what the slots below send
-  pub record IsBefore (code : List Insn) (slot : ℕ) (falling : Option Facts) (entries : List (Option Facts)) : Type 0 where
+  pub record IsBefore (code : List Insn) (slot : ℕ) (pass : Pass) : Type 0 where
     pub due : ℕ
     pub ahead : slot ≤ due
     pub adjoins : Adjoins code due
     pub between : (k : ℕ) → slot ≤ k → k < due → begins_at code k ≡ None
-    pub long : length entries ≡ slot_count code
-    pub each : (i : ℕ) → slot ≤ i → i < slot_count code → joined (on (due == i) falling) (get_or entries i None) ≡ inflow shapes code i slot
-
-  begins_first : (code : List Insn) → 1 ≤ slot_count code → IsSome (begins_at code 0)
-  unfolding begins_at
-  begins_first [] some = absurd (omega arith)
-  begins_first (i ∷ is) some = refl
+    pub long : length pass.entries ≡ slot_count code
+    pub each : (i : ℕ) → slot ≤ i → i < slot_count code → joined (on (due == i) pass.falling) (brought_to i pass.entries) ≡ inflow shapes code i slot
 
   inflow_first : (code : List Insn) (i : ℕ) → inflow shapes code i 0 ≡ (if i == 0 then Some entry else None)
   unfolding inflow
@@ -120,16 +122,18 @@ module _ (shapes : Shapes) where
   unfolding inflow
   inflow_next code i n = ap (λ (k : ℕ). inflow shapes code i k) (add-one n)
 
-  pub at_start : (code : List Insn) → 1 ≤ slot_count code → IsBefore code 0 (Some entry) (replicate (slot_count code) None)
-  at_start code some =
+  pub at_start : (code : List Insn) (pass : Pass) → 1 ≤ slot_count code → pass.falling ≡ Some entry → pass.entries ≡ replicate (slot_count code) None → IsBefore code 0 pass
+  at_start code pass some first empty =
       record {
         due = 0;
         ahead = omega arith;
-        adjoins = inr (omega arith, begins_first code some);
+        adjoins = inr (omega arith, first_begins code some);
         between = λ k above lt. absurd (omega arith);
-        long = length-replicate (slot_count code) None;
+        long = ap length empty ∙ length-replicate (slot_count code) None;
         each = λ i above lt.
-            ap (joined (on (0 == i) (Some entry))) (get_or-replicate (slot_count code) i None None lt)
+            ap (λ (f : Option Facts). joined (on (0 == i) f) (brought_to i pass.entries)) first
+            ∙ ap (λ (es : List (Option Facts)). joined (on (0 == i) (Some entry)) (brought_to i es)) empty
+            ∙ ap (joined (on (0 == i) (Some entry))) (get_or-replicate (slot_count code) i None None lt)
             ∙ joined_none (on (0 == i) (Some entry))
             ∙ elim (cases_eq i 0) [
               | inl same ↦
@@ -141,55 +145,55 @@ module _ (shapes : Shapes) where
       }
 
   -- where an instruction begins, the facts in hand are due
-  due_here : (code : List Insn) (slot : ℕ) (falling : Option Facts) (entries : List (Option Facts)) (b : IsBefore code slot falling entries) (insn : Insn) → begins_at code slot ≡ Some insn → b.due ≡ slot
-  due_here code slot falling entries b insn begins =
+  due_here : (code : List Insn) (slot : ℕ) (pass : Pass) (b : IsBefore code slot pass) (insn : Insn) → begins_at code slot ≡ Some insn → b.due ≡ slot
+  due_here code slot pass b insn begins =
       elim (cases_order b.due slot) [
         | inl same ↦ same
         | inr (inl below) ↦ absurd (omega (arith, b.ahead))
-        | inr (inr above) ↦ absurd (not_both insn (sym begins ∙ b.between slot (omega arith) above))
+        | inr (inr above) ↦ absurd (none-some insn (sym (b.between slot (omega arith) above) ∙ begins))
       ]
 
   -- what is known before the instruction
-  pub here_is : (code : List Insn) (slot : ℕ) (falling : Option Facts) (entries : List (Option Facts)) → IsBefore code slot falling entries → (insn : Insn) → begins_at code slot ≡ Some insn → slot < slot_count code → joined falling (get_or entries slot None) ≡ before shapes code slot
-  here_is code slot falling entries b insn begins lt =
-      sym (ap (λ (t : Bool). joined (on t falling) (get_or entries slot None)) (eq-eqb b.due slot (due_here code slot falling entries b insn begins)))
+  pub here_is : (code : List Insn) (slot : ℕ) (pass : Pass) → IsBefore code slot pass → (insn : Insn) → begins_at code slot ≡ Some insn → slot < slot_count code → arriving_at slot pass ≡ before shapes code slot
+  here_is code slot pass b insn begins lt =
+      sym (ap (λ (t : Bool). joined (on t pass.falling) (brought_to slot pass.entries)) (eq-eqb b.due slot (due_here code slot pass b insn begins)))
       ∙ b.each slot (omega arith) lt
 
-  entry_is : (code : List Insn) (slot : ℕ) (falling : Option Facts) (entries : List (Option Facts)) (b : IsBefore code slot falling entries) → (i : ℕ) → slot ≤ i → i < slot_count code → (b.due ≡ i → ⊥) → get_or entries i None ≡ inflow shapes code i slot
-  entry_is code slot falling entries b i above lt other =
-      sym (ap (λ (t : Bool). joined (on t falling) (get_or entries i None)) (ne_eqb b.due i other)) ∙ b.each i above lt
+  entry_is : (code : List Insn) (slot : ℕ) (pass : Pass) (b : IsBefore code slot pass) → (i : ℕ) → slot ≤ i → i < slot_count code → (b.due ≡ i → ⊥) → brought_to i pass.entries ≡ inflow shapes code i slot
+  entry_is code slot pass b i above lt other =
+      sym (ap (λ (t : Bool). joined (on t pass.falling) (brought_to i pass.entries)) (ne_eqb b.due i other)) ∙ b.each i above lt
 
   sent_is : (code : List Insn) (n i : ℕ) (insn : Insn) (here : Option Facts) → begins_at code n ≡ Some insn → sent shapes code n i here ≡ also here (λ f. edges_into insn n i (effect shapes n insn f))
   sent_is code n i insn None begins = refl
   sent_is code n i insn (Some f) begins = ap (λ (o : Option Insn). also o (λ insn. edges_into insn n i (effect shapes n insn f))) begins
 
   -- past an instruction that may be run
-  pub after_insn : FactsCommute → FactsAssociate → (code : List Insn) → EachAdjoins code → (slot : ℕ) (falling new : Option Facts) (entries kept : List (Option Facts)) → IsBefore code slot falling entries → (insn : Insn) → begins_at code slot ≡ Some insn → slot < slot_count code
-      → (let here = joined falling (get_or entries slot None) in new ≡ falling_from shapes slot insn here)
-      → (let here = joined falling (get_or entries slot None) in (i : ℕ) → slot < i → get_or kept i None ≡ joined (get_or entries i None) (on (is_slot (jump_target insn slot) i) (jumping_from shapes slot insn here)))
-      → length kept ≡ length entries → IsBefore code (slot + 1) new kept
-  after_insn comm assoc code adjoins slot falling new entries kept b insn begins lt fall jump long =
-      let here : Option Facts = joined falling (get_or entries slot None) in
+  pub after_insn : FactsCommute → FactsAssociate → (code : List Insn) → EachAdjoins code → (slot : ℕ) (old new : Pass) → IsBefore code slot old → (insn : Insn) → begins_at code slot ≡ Some insn → slot < slot_count code
+      → new.falling ≡ falling_from shapes slot insn (arriving_at slot old)
+      → ((i : ℕ) → slot < i → Brings (jump_target insn slot) (jumping_from shapes slot insn (arriving_at slot old)) old.entries new.entries i)
+      → length new.entries ≡ length old.entries → IsBefore code (slot + 1) new
+  after_insn comm assoc code adjoins slot old new b insn begins lt fall jump long =
+      let here : Option Facts = arriving_at slot old in
       let falling_edge : Option Facts = falling_from shapes slot insn here in
       let jumping_edge : Option Facts = jumping_from shapes slot insn here in
-      let due = due_here code slot falling entries b insn begins in
+      let due = due_here code slot old b insn begins in
       record {
         due = slot + length (slots insn);
         ahead = omega (arith, some_slots insn);
         adjoins = adjoins slot insn begins;
-        between = λ k above below. none_inside code slot insn begins k (omega arith) below;
+        between = λ k above below. none_begins_inside code slot insn begins k (omega arith) below;
         long = long ∙ b.long;
         each = λ i above within.
-            let old : get_or entries i None ≡ inflow shapes code i slot = entry_is code slot falling entries b i (omega arith) within (λ e. omega arith) in
-            let known = here_is code slot falling entries b insn begins lt in
+            let was : brought_to i old.entries ≡ inflow shapes code i slot = entry_is code slot old b i (omega arith) within (λ e. omega arith) in
+            let known = here_is code slot old b insn begins lt in
             let fall_edge : Option Facts = on (falls_to insn slot == i) falling_edge in
             let jump_edge : Option Facts = on (is_slot (jump_target insn slot) i) jumping_edge in
-            ap (λ (f : Option Facts). joined (on (falls_to insn slot == i) f) (get_or kept i None)) fall
+            ap (λ (f : Option Facts). joined (on (falls_to insn slot == i) f) (brought_to i new.entries)) fall
             ∙ ap (joined fall_edge) (jump i (omega arith))
-            ∙ joined_swap comm assoc fall_edge (get_or entries i None) jump_edge
-            ∙ ap (joined (get_or entries i None)) (edges_are insn slot i (omega arith) here)
-            ∙ ap (joined (get_or entries i None)) (sym (sent_is code slot i insn here begins))
-            ∙ ap (λ (f : Option Facts). joined f (sent shapes code slot i here)) old
+            ∙ joined_swap comm assoc fall_edge (brought_to i old.entries) jump_edge
+            ∙ ap (joined (brought_to i old.entries)) (edges_are insn slot i (omega arith) here)
+            ∙ ap (joined (brought_to i old.entries)) (sym (sent_is code slot i insn here begins))
+            ∙ ap (λ (f : Option Facts). joined f (sent shapes code slot i here)) was
             ∙ ap (λ (h : Option Facts). joined (inflow shapes code i slot) (sent shapes code slot i h)) known
             ∙ sym (inflow_next code i slot);
       }
@@ -203,8 +207,8 @@ module _ (shapes : Shapes) where
   not_first code slot (inr more) lt none = false≢true (sym (ap is_some none) ∙ more.1)
 
   -- past a slot where no instruction begins
-  pub after_none : (code : List Insn) (slot : ℕ) (falling : Option Facts) (entries : List (Option Facts)) → IsBefore code slot falling entries → begins_at code slot ≡ None → slot < slot_count code → IsBefore code (slot + 1) falling entries
-  after_none code slot falling entries b none lt =
+  pub after_none : (code : List Insn) (slot : ℕ) (pass : Pass) → IsBefore code slot pass → begins_at code slot ≡ None → slot < slot_count code → IsBefore code (slot + 1) pass
+  after_none code slot pass b none lt =
       let later : b.due ≡ slot → ⊥ = λ e. not_first code slot (subst (λ (n : ℕ). Adjoins code n) e b.adjoins) lt none in
       record {
         due = b.due;

@@ -2,7 +2,6 @@ pub mod EntryLists
 pub mod Inflow
 pub mod OneVerdict
 pub mod Reached
-pub mod Slots
 pub mod Rules
 pub mod Loads
 pub mod LoadedShapes

@@ -6,10 +6,11 @@ use Rattle.std.specs.List.{All, AllByRecursion, list_any, filter_map, cons_optio
 use Rattle.std.proofs.lemmas.Bool.{eq-eqb, ne_eqb, cond-false, true≢false, or_left, or_right}
 use Rattle.std.proofs.lemmas.Option.{none-some, same_Some}
 use Rattle.std.proofs.lemmas.List.Elements.{All-cons, All-filter}
-use Rattle.interval.specs.Words.{unsigned}
+use Rattle.words.specs.Words.{unsigned}
 use Rattle.insn_codec.specs.declared.insn.Insn.{Insn}
 use Rattle.insn_codec.specs.declared.insn.Insn.TheVariants.{Call, MapFd}
 use Rattle.insn_codec.specs.Program.{begins_at}
+use Rattle.insn_codec.specs.BeginLaws.{each_where_it_begins, all_that_begin}
 use Rattle.reg_kinds.specs.declared.facts.Facts.{Facts}
 use Rattle.reg_kinds.specs.declared.reason.Reason.{Reason}
 use Rattle.reg_kinds.specs.declared.reason.Reason.TheVariants.{UnknownHelper, DescriptorNotMap}
@@ -26,9 +27,8 @@ use Rattle.verdict.specs.Before.{before}
 use Rattle.verdict.specs.Maps.{without, distinct, maps_of, is_among, entries_of, shapes_of}
 use Rattle.verdict.specs.Verdict.{reason_of, safety_fault, HasNoFault}
 use Rattle.verdict.specs.Laws.{SafetyFollowsShape, LoadedMapsHaveShapes}
+use Rattle.verdict.specs.ShapeLaws.{each_is_fine}
 use Rattle.verdict.proofs.Loads.{still_there}
-use Rattle.verdict.proofs.Reached.{fine_at}
-use Rattle.verdict.proofs.Slots.{by_slots, all_slots}
 
 -- ---- the entries that are kept name the same
 
@@ -53,7 +53,7 @@ any_more p (Some m) fds h = or_right (p m) (list_any p fds) h
 
 among_loads : (is : List Insn) (n : ℕ) (i : Insn) → begins_at is n ≡ Some i → (fd : ℕ) → descriptor i ≡ Some fd → is_among (filter_map descriptor is) fd ≡ true
 among_loads =
-    by_slots (λ is n i. (fd : ℕ) → descriptor i ≡ Some fd → is_among (filter_map descriptor is) fd ≡ true)
+    each_where_it_begins (λ is n i. (fd : ℕ) → descriptor i ≡ Some fd → is_among (filter_map descriptor is) fd ≡ true)
     (λ i is fd e. ap (λ o. is_among (cons_option o (filter_map descriptor is)) fd) e ∙ or_left (fd == fd) (is_among (filter_map descriptor is) fd) (eq-eqb fd fd refl))
     (λ j is n i h fd e. any_more (λ m. m == fd) (descriptor j) (filter_map descriptor is) (h fd e))
 
@@ -79,7 +79,7 @@ shaped_target (Some target.Program) h g = absurd (true≢false g)
 module _ (code : List Insn) (named : List Named) (none : HasNoFault (shape_fault code named)) where
   shaped : (n : ℕ) (i : Insn) → begins_at code n ≡ Some i → (fd : ℕ) → descriptor i ≡ Some fd → IsSome (shapes_named named fd)
   shaped n i begins fd e =
-      let fine = fine_at code named none n i begins in
+      let fine = each_is_fine code named none n i begins in
       shaped_target (target_of named fd) (subst (λ o. is_not_open named o ≡ false) e fine.is_open) (subst (λ o. is_not_map named o ≡ false) e fine.map)
 
   shaped_in : (n : ℕ) (i : Insn) → begins_at code n ≡ Some i → (fd : ℕ) → descriptor i ≡ Some fd → IsSome (shapes_of code named fd)
@@ -103,7 +103,7 @@ module _ (P : ℕ → Type 0) where
   all_distinct (fd ∷ fds) h = All-cons P fd (without fd (distinct fds)) h.0 (All-filter (λ other. not (other == fd)) P (distinct fds) (all_distinct fds h.1))
 
   all_maps : (code : List Insn) → ((n : ℕ) (i : Insn) → begins_at code n ≡ Some i → (fd : ℕ) → descriptor i ≡ Some fd → P fd) → All P (maps_of code)
-  all_maps code h = all_distinct (filter_map descriptor code) (all_loads code (all_slots (λ i. (fd : ℕ) → descriptor i ≡ Some fd → P fd) code h))
+  all_maps code h = all_distinct (filter_map descriptor code) (all_loads code (all_that_begin (λ i. (fd : ℕ) → descriptor i ≡ Some fd → P fd) code h))
 
 pub maps_have_shapes : LoadedMapsHaveShapes
 maps_have_shapes = record {
@@ -150,7 +150,7 @@ pub safety_follows : TransferReasons → SafetyFollowsShape
 safety_follows law = record {
   helpers = λ code named slot none h.
       let t = safety_told law (shapes_of code named) code slot UnknownHelper h in
-      none_unknown t.insn (fine_at code named none slot t.insn t.begins).known t.is;
+      none_unknown t.insn (each_is_fine code named none slot t.insn t.begins).known t.is;
   maps = λ code named slot none h.
       let t = safety_told law (shapes_of code named) code slot DescriptorNotMap h in
       none_unshaped (shapes_of code named) t.insn (shaped_in code named none slot t.insn t.begins) t.is;

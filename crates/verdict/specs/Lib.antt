@@ -1,4 +1,5 @@
 pub mod Shape
+pub mod ShapeLaws
 pub mod Maps
 pub mod Before
 pub mod Verdict

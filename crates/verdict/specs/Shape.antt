@@ -2,7 +2,7 @@
 -- the registers hold. The rules and their order are this project's own.
 use Rattle.std.specs.Prelude.{ℕ, zero, suc, ◌==◌, Bool, true, false, not, ◌&&◌, ◌||◌, nat_lt, nat_le, List, [], ◌∷◌, Option, Some, None, is_some, if◌then◌else◌}
 use Rattle.std.specs.Option.{option_map_or}
-use Rattle.interval.specs.Words.{unsigned}
+use Rattle.words.specs.Words.{unsigned}
 use Rattle.insn_codec.specs.declared.insn.Insn.{Insn}
 use Rattle.insn_codec.specs.declared.insn.Insn.TheVariants.{Call, MapFd}
 use Rattle.insn_codec.specs.Program.{begins_at, slot_count}

@@ -2,3 +2,4 @@
 pub mod Edges
 pub mod Descriptors
 pub mod Jumps
+pub mod Arriving

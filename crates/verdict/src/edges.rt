@@ -1,6 +1,6 @@
 //! Where an instruction leads.
 
-ghost use Rattle.std.specs.Prelude.{◌≡◌, ◌≤◌, None, if◌then◌else◌};
+ghost use Rattle.std.specs.Prelude.{◌≡◌, ◌≤◌, None};
 ghost use Rattle.insn_codec.specs.Flow.{jump_offset, jumps_to, falls, jumps, jump_target};
 
 use insn_codec::{Insn, MAX_SLOTS};

@@ -1,9 +1,9 @@
 //! What jumps bring to the slots ahead.
 
-ghost use Rattle.std.specs.Prelude.{◌≡◌, ◌<◌, length, slice_index_or, slice_set, replicate, option_map, box_value, None, Some, IfOk, IfSome, OnOk, ℕ};
+ghost use Rattle.std.specs.Prelude.{◌≡◌, ◌⊎◌, ◌≤◌, ◌<◌, ◌++◌, ◌∷◌, [], length, vec_len, vec_capacity, slice_set, replicate, option_map, box_value, None, Some, IfOk, IfSome, OnOk, ℕ};
 ghost use Rattle.std.specs.Option.{option_copied};
-ghost use Rattle.verdict.specs.Before.{joined, on};
-ghost use Rattle.verdict.specs.Shape.{is_slot};
+ghost use Rattle.verdict.specs.Before.{joined};
+ghost use Rattle.verdict.specs.inside.Arriving.{Brings, brought_to};
 
 use crate::edge_facts::EdgeFacts;
 use reg_kinds::{Facts, join_into};
@@ -47,7 +47,10 @@ fn place_of(
 }
 
 /// Keeps a place for other facts. Where there is no memory to note it, it is given back.
-fn keep(places: &mut Vec<Box<Facts>>, place: Box<Facts>) {
+fn keep(places: &mut Vec<Box<Facts>>, place: Box<Facts>)
+    ensures { (places.new.items ≡ places.old.items ++ place ∷ [])
+        ⊎ ((places.new.items ≡ places.old.items) × (vec_capacity places.old ≤ vec_len places.old)) }
+{
     let _ = places.push(place);
 }
 
@@ -84,7 +87,7 @@ impl Entries {
     /// Joins what came to a slot into what else is known there. Nothing is left of it.
     pub(crate) fn join_at(&mut self, slot: usize, known: &mut EdgeFacts)
         requires { slot < length self.old }
-        ensures known { known.new ≡ joined known.old (slice_index_or self.old slot None) }
+        ensures known { known.new ≡ joined known.old (brought_to slot self.old) }
         ensures taken { self.new ≡ slice_set self.old slot None }
     {
         if let Some(entry) = self.facts[slot].take() {
@@ -97,7 +100,7 @@ impl Entries {
     fn put(&mut self, slot: usize, facts: &Facts) -> Result<(), AllocError>
         requires { slot < length self.old }
         ensures { OnOk result (self.new ≡ slice_set self.old slot
-            (joined (slice_index_or self.old slot None) (Some facts.now))) }
+            (joined (brought_to slot self.old) (Some facts.now))) }
     {
         let alloc = *self.facts.allocator();
         join_entry(&mut self.facts[slot], facts, &mut self.places, alloc)
@@ -110,9 +113,8 @@ impl Entries {
         facts: Option<&Facts>,
     ) -> Result<(), AllocError>
         requires { IfSome target (λ slot. slot < length self.old) }
-        ensures sent { OnOk result ((i : ℕ) → slice_index_or self.new i None
-            ≡ joined (slice_index_or self.old i None)
-            (on (is_slot target i) (option_copied facts.entry))) }
+        ensures sent { OnOk result ((i : ℕ)
+            → Brings target (option_copied facts.entry) self.old self.new i) }
         ensures long { OnOk result (length self.new ≡ length self.old) }
     {
         if let (Some(slot), Some(facts)) = (target, facts) {

@@ -1,12 +1,9 @@
 //! Whether each instruction may be run with what is known before it.
 
-ghost use Rattle.std.specs.Prelude.{◌≡◌, ◌⊎◌, ◌<◌, ◌≤◌, ℕ, Some, None, length, slice_index_or, IsSome, IfSome, IfErr, OnOk};
-ghost use Rattle.tagged_model.specs.Cells.{also};
+ghost use Rattle.std.specs.Prelude.{◌≡◌, ◌⊎◌, ◌<◌, ℕ, length, IsSome, IfSome, IfErr, OnOk};
 ghost use Rattle.tagged_model.specs.Named.{shapes_named};
-ghost use Rattle.transfer.specs.Flows.{edges_of};
-ghost use Rattle.verdict.specs.Before.{joined, on};
-ghost use Rattle.verdict.specs.inside.Edges.{falling_from, jumping_from, reason_from};
-ghost use Rattle.verdict.specs.Shape.{is_slot};
+ghost use Rattle.verdict.specs.inside.Edges.{falling_from, jumping_from, MayRun, IsFaultFrom};
+ghost use Rattle.verdict.specs.inside.Arriving.{Brings, arriving_at, on_falling_edge, on_jumping_edge};
 ghost use Rattle.verdict.specs.inside.Jumps.{JumpsLand};
 ghost use Rattle.insn_codec.specs.Flow.{jump_target};
 ghost use Rattle.verdict.specs.Verdict.{IsFirstFault, HasNoFault, safety_fault, memory_fault};
@@ -37,12 +34,9 @@ impl Pass {
     fn leave(&mut self, flow: Flow, target: Option<usize>) -> Result<(), AllocError>
         requires known { IsSome self.old.falling }
         requires lands { IfSome target (λ to. to < length self.old.entries) }
-        ensures falling { OnOk result (self.new.falling ≡ also self.old.falling
-            (λ f. (edges_of flow f self.old.taken).falling)) }
-        ensures sent { OnOk result ((i : ℕ) → slice_index_or self.new.entries i None
-            ≡ joined (slice_index_or self.old.entries i None)
-            (on (is_slot target i) (also self.old.falling
-            (λ f. (edges_of flow f self.old.taken).jumping)))) }
+        ensures falling { OnOk result (self.new.falling ≡ on_falling_edge flow self.old) }
+        ensures sent { OnOk result ((i : ℕ)
+            → Brings target (on_jumping_edge flow self.old) self.old.entries self.new.entries i) }
         ensures long { OnOk result (length self.new.entries ≡ length self.old.entries) }
     {
         match flow {
@@ -68,21 +62,16 @@ impl Pass {
         requires room { slot < MAX_SLOTS }
         requires within { slot < length self.old.entries }
         requires lands { IfSome (jump_target insn.now slot) (λ to. to < length self.old.entries) }
-        ensures ok { OnOk result (reason_from (shapes_named named.now) slot insn.now
-            (joined self.old.falling (slice_index_or self.old.entries slot None)) ≡ None) }
+        ensures ok { OnOk result
+            (MayRun (shapes_named named.now) slot insn.now (arriving_at slot self.old)) }
         ensures falling { OnOk result (self.new.falling
-            ≡ falling_from (shapes_named named.now) slot insn.now
-            (joined self.old.falling (slice_index_or self.old.entries slot None))) }
-        ensures sent { OnOk result ((i : ℕ) → slot < i → slice_index_or self.new.entries i None
-            ≡ joined (slice_index_or self.old.entries i None)
-            (on (is_slot (jump_target insn.now slot) i)
-            (jumping_from (shapes_named named.now) slot insn.now
-            (joined self.old.falling (slice_index_or self.old.entries slot None))))) }
+            ≡ falling_from (shapes_named named.now) slot insn.now (arriving_at slot self.old)) }
+        ensures sent { OnOk result ((i : ℕ) → slot < i → Brings (jump_target insn.now slot)
+            (jumping_from (shapes_named named.now) slot insn.now (arriving_at slot self.old))
+            self.old.entries self.new.entries i) }
         ensures long { OnOk result (length self.new.entries ≡ length self.old.entries) }
         ensures refused { IfErr result (λ e. (e ≡ memory_fault)
-            ⊎ ((e.slot ≡ slot) × (reason_from (shapes_named named.now) slot insn.now
-            (joined self.old.falling (slice_index_or self.old.entries slot None))
-            ≡ Some e.reason))) }
+            ⊎ IsFaultFrom (shapes_named named.now) slot insn.now (arriving_at slot self.old) e) }
     {
         self.entries.join_at(slot, &mut self.falling);
         if self.falling.is_known {

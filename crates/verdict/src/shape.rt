@@ -1,7 +1,6 @@
 //! The shape of a program.
 
-ghost use Rattle.std.specs.Prelude.{◌≡◌, ◌⊎◌, ◌+◌, ◌<◌, ◌≤◌, ◌&&◌, ◌||◌, not, nat_le, ℕ, Bool, false, [], ◌∷◌, length, slice_index_or, IsTrue, IfSome, IfErr, OnOk, Some};
-ghost use Rattle.insn_codec.specs.Program.{begins_at, slot_count};
+ghost use Rattle.std.specs.Prelude.{◌≡◌, ◌⊎◌, ◌+◌, ◌<◌, ◌≤◌, ◌&&◌, ◌||◌, ℕ, false, [], ◌∷◌, length, slice_index_or, IsTrue, IfSome, IfErr, OnOk, Some};
 ghost use Rattle.reg_kinds.specs.declared.reason.Reason.TheVariants.{JumpOutside, JumpBackward, DescriptorNotOpen, DescriptorNotMap};
 ghost use Rattle.insn_codec.specs.Flow.{falls_to, jumps_to, falls, jumps, jump_target, written_register};
 ghost use Rattle.verdict.specs.Shape.{leads_into, is_reachable, is_slot, calls_unknown, descriptor, is_not_open, is_not_map, leads_outside, leads_backward, first_reason, shape_reason, shape_fault};
@@ -150,7 +149,6 @@ pub(crate) fn check_shape(
     ensures refused { IfErr result (λ e. (e ≡ memory_fault)
         ⊎ IsFirstFault (shape_fault program.now named.now) e.slot e.reason) }
 {
-    program.insns_adjoin();
     let slots = program.slots();
     let mut reached = vec![in alloc; false; slots]?;
     reached[0] = true;

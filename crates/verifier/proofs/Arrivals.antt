@@ -4,6 +4,7 @@ use Rattle.std.specs.Option.{IsSome}
 use Rattle.std.proofs.lemmas.Bool.{cond_both, cond-true, eqb-true}
 use Rattle.insn_codec.specs.declared.insn.Insn.{Insn}
 use Rattle.insn_codec.specs.Program.{IsProgram, begins_at}
+use Rattle.insn_codec.specs.BeginLaws.{first_begins}
 use Rattle.reg_kinds.specs.declared.facts.Facts.{Facts}
 use Rattle.reg_kinds.specs.declared.reason.Reason.{Reason}
 use Rattle.reg_kinds.specs.Kinds.{entry}
@@ -18,7 +19,6 @@ use Rattle.transfer.specs.Effects.{effect}
 use Rattle.verdict.specs.Shape.{falls_into, jumps_into, shape_fault}
 use Rattle.verdict.specs.Before.{joined, on, edges_into, sent, inflow, before}
 use Rattle.verdict.specs.Verdict.{HasNoFault}
-use Rattle.verifier.proofs.Slots.{begins_first}
 use Rattle.verifier.proofs.Edges.{AreThere}
 use Rattle.verifier.proofs.Leads.{IsShaped, shaped, falls_begins, jumps_begins}
 
@@ -53,7 +53,7 @@ module _ (shapes : Shapes) (code : List Insn) (named : List Named) (program : Is
   sent_begin n m (Some f) h = begun_begin n m f (begins_at code n) refl h
 
   entry_begin : (m : ℕ) → m ≡ 0 → IsSome (begins_at code m)
-  entry_begin m e = subst (λ n. IsSome (begins_at code n)) (sym e) (begins_first code program.some)
+  entry_begin m e = subst (λ n. IsSome (begins_at code n)) (sym e) (first_begins code program.some)
 
   inflow_begin : (n m : ℕ) → AreThere (inflow shapes code m n) → IsSome (begins_at code m)
   unfolding inflow

@@ -1,6 +1,6 @@
 -- Facts are on an edge only where the instruction leads there.
 use Rattle.std.proofs.Common.{◌≡◌, ℕ, ℤ, Bool, true, Option, Some, None, Result, Ok, Err, refl, subst}
-use Rattle.interval.specs.declared.operator.Operator.TheVariants as on_words
+use Rattle.words.specs.declared.operator.Operator.TheVariants as on_words
 use Rattle.interval.specs.Ranges.{constant}
 use Rattle.insn_codec.specs.declared.insn.AluOp.{AluOp}
 use Rattle.insn_codec.specs.declared.insn.Size.{Size}
@@ -21,7 +21,7 @@ use Rattle.transfer.specs.Effects.{source_kind, first_kind, assigns, load_kind, 
 use Rattle.transfer.specs.Calls.{call_facts}
 use Rattle.tagged_model.specs.Named.{Shapes}
 use Rattle.tagged_model.specs.Helpers.{helper_of}
-use Rattle.interval.specs.Words.{unsigned}
+use Rattle.words.specs.Words.{unsigned}
 use Rattle.insn_codec.specs.Flow.{falls, jumps}
 
 -- ---- facts are there

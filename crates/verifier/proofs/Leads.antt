@@ -6,13 +6,13 @@ use Rattle.std.proofs.lemmas.Bool.{and_parts, and_from, and_cases, both_ways, fa
 use Rattle.insn_codec.specs.declared.insn.Insn.{Insn}
 use Rattle.insn_codec.specs.declared.insn.Insn.TheVariants.{Ja, Jal, Jump}
 use Rattle.insn_codec.specs.Program.{slot_count, begins_at}
+use Rattle.insn_codec.specs.BeginLaws.{next_begins}
 use Rattle.tagged_model.specs.declared.shape.Named.{Named}
-use Rattle.insn_codec.specs.Flow.{falls_to, jumps_to, falls, jumps, jump_target}
+use Rattle.insn_codec.specs.Flow.{falls_to, jumps_to, falls, jumps}
 use Rattle.verdict.specs.Shape.{is_slot, falls_into, jumps_into, leads_outside, leads_backward, shape_fault}
 use Rattle.verdict.specs.Verdict.{HasNoFault}
-use Rattle.verdict.proofs.Reached.{fine_at}
+use Rattle.verdict.specs.ShapeLaws.{each_is_fine}
 use Rattle.verifier.specs.Verified.{GoesAhead}
-use Rattle.verifier.proofs.Slots.{begins_next}
 
 -- ---- the shape of an instruction
 
@@ -23,7 +23,7 @@ pub record IsShaped (code : List Insn) (i : Insn) (n : ℕ) : Type 0 where
   pub on : (falls i && nat_le (slot_count code) (falls_to i n)) ≡ false
 
 pub shaped : (code : List Insn) (named : List Named) → HasNoFault (shape_fault code named) → (n : ℕ) (i : Insn) → begins_at code n ≡ Some i → IsShaped code i n
-shaped code named none n i begins = let fine = fine_at code named none n i begins in record { inside = fine.inside; forward = fine.forward; on = fine.goes_on }
+shaped code named none n i begins = let fine = each_is_fine code named none n i begins in record { inside = fine.inside; forward = fine.forward; on = fine.goes_on }
 
 -- ---- where its edges lead
 
@@ -59,7 +59,7 @@ module _ (code : List Insn) (n : ℕ) (i : Insn) (shape : IsShaped code i n) whe
   falls_begins m begins t =
       let h = and_parts (falls i) (falls_to i n == m) t in
       let within = leb-false (slot_count code) (falls_to i n) (second_false (falls i) (nat_le (slot_count code) (falls_to i n)) shape.on h.0) in
-      subst (λ k. IsSome (begins_at code k)) (eqb-true (falls_to i n) m h.1) (begins_next code n i begins within)
+      subst (λ k. IsSome (begins_at code k)) (eqb-true (falls_to i n) m h.1) (next_begins code n i begins within)
 
   pub jump_at : (m : ℕ) → jumps i ≡ true → jumps_to i n ≡ Some m → (n < m) × IsSome (begins_at code m)
   jump_at m h e = (

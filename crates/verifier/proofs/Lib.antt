@@ -1,4 +1,3 @@
-pub mod Slots
 pub mod Edges
 pub mod Leads
 pub mod Words

@@ -3,27 +3,27 @@ use Rattle.std.proofs.Common.{◌≡◌, ◌≢◌, ℕ, zero, suc, ◌+◌, ◌
 use Rattle.std.specs.Option.{IsSome}
 use Rattle.std.proofs.lemmas.Bool.{false≢true}
 use Rattle.std.proofs.lemmas.Option.{none-some}
-use Rattle.std.proofs.lemmas.Nat.Bits.{bit_at-zero}
 use Rattle.insn_codec.specs.declared.insn.Insn.{Insn}
 use Rattle.insn_codec.specs.Program.{IsProgram, slot_count, begins_at}
+use Rattle.insn_codec.specs.BeginLaws.{begins_within}
 use Rattle.reg_kinds.specs.declared.kind.Kind.TheVariants as kind
 use Rattle.reg_kinds.specs.declared.kind.Slot.TheVariants.{Bytes}
 use Rattle.reg_kinds.specs.Kinds.{entry_kind, entry}
+use Rattle.reg_kinds.specs.TableLaws.{in_table}
 use Rattle.tagged_model.specs.declared.shape.Named.{Named}
 use Rattle.tagged_model.specs.declared.value.Object.TheVariants as object
 use Rattle.tagged_model.specs.Named.{Shapes}
 use Rattle.tagged_model.specs.declared.value.Tagged.TheVariants.{Scalar, Pointer}
 use Rattle.tagged_model.specs.declared.value.Outcome.TheVariants.{Value, Fault}
-use Rattle.tagged_model.specs.Cells.{Cell, bytes}
+use Rattle.tagged_model.specs.Cells.{bytes}
 use Rattle.tagged_model.specs.State.{RunState}
 use Rattle.tagged_model.specs.Step.{Step, goes, ends, faults, step, Ending, after, first, others, run, begins_with, MapsByDescriptor, begin}
-use Rattle.tagged_model.specs.Admits.{Witness, objects_of, HasKind, HasSlot, HasBytes, AdmitsBy}
+use Rattle.tagged_model.specs.Admits.{Witness, objects_of, HasKind, HasSlot, AdmitsBy}
+use Rattle.tagged_model.specs.StateLaws.{no_bytes}
 use Rattle.verdict.specs.Maps.{shapes_of}
 use Rattle.verdict.specs.Before.{inflow, before}
 use Rattle.verdict.specs.Verdict.{IsAccepted}
 use Rattle.verifier.specs.Sound.{IsAdmitted, NextIsAdmitted, StepsGoOn, AreRunInputs, NeverFaults}
-use Rattle.verifier.proofs.Slots.{begins_within}
-use Rattle.verifier.proofs.Words.{in_table}
 use Rattle.verifier.proofs.FirstMaps.{first_values, first_maps}
 use Rattle.verifier.proofs.Arrivals.{begins_before}
 
@@ -38,9 +38,6 @@ begins_of : (a b : Bool) → HasKind nothing (if a then kind.Ctx else (if b then
 begins_of true b = (Pointer object.Context (pos 0), refl, refl)
 begins_of false true = (Pointer object.Stack (pos 0), refl, refl)
 begins_of false false = tt
-
-no_bytes : (c : Cell) → HasBytes 0 c
-no_bytes c j h e = absurd (omega (arith, bit_at-zero j, e))
 
 least : (n : ℕ) → 0 ≤ n
 least n = omega arith

@@ -19,12 +19,11 @@ use Rattle.transfer.specs.Branches.{Edges}
 use Rattle.transfer.specs.Effects.{effect}
 use Rattle.transfer.specs.Sound.{AreWellFormedAt, AreWellFormedOn, TransferKeepsWellFormed, EdgeAdmits, CoversStep, TransferIsSound}
 use Rattle.insn_codec.specs.Flow.{falls_to, jumps_to}
+use Rattle.insn_codec.specs.BeginLaws.{some_slots, begun_is_insn}
 use Rattle.verdict.specs.Maps.{shapes_of}
 use Rattle.verdict.specs.Before.{before}
 use Rattle.verdict.specs.Verdict.{reason_of, safety_fault, IsAccepted}
 use Rattle.verifier.specs.Sound.{StepIsSound, IsAdmitted, NextIsAdmitted, StepsGoOn}
-use Rattle.verdict.proofs.Slots.{some_slots}
-use Rattle.verifier.proofs.Slots.{begins_one}
 use Rattle.verifier.proofs.Edges.{leads_only}
 use Rattle.verifier.proofs.Leads.{IsShaped, target_is, falls_lead, jump_at, jumps_lead}
 use Rattle.verifier.proofs.Words.{inflow_words}
@@ -39,7 +38,7 @@ pub slots_covered : TransferIsSound → TransferKeepsWellFormed → StepIsSound
 slots_covered cover stay code named witness refused s i f edges program fine begins known still e =
     let shapes = shapes_of code named in
     let shape = shape_at shapes code named program fine s.at i begins in
-    cover witness shapes refused i f s edges (begins_one code s.at i begins program.each) (target_is code s.at i shape) (facts_before stay shapes code program s.at f known) still e
+    cover witness shapes refused i f s edges (begun_is_insn code s.at i begins program.each) (target_is code s.at i shape) (facts_before stay shapes code program s.at f known) still e
 
 -- the laws that a step stands on
 pub record Laws : Type 0 where

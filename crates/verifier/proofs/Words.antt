@@ -1,50 +1,31 @@
 -- The facts before each slot are facts before it: ranges of words, and look-ups at slots below.
-use Rattle.std.proofs.Common.{◌≡◌, ℕ, zero, suc, ◌<◌, ◌≤◌, ◌==◌, Bool, List, Option, Some, None, Result, Ok, Err, get_or, if◌then◌else◌, refl, sym, subst, ⊎_elim, arith}
+use Rattle.std.proofs.Common.{◌≡◌, ℕ, zero, suc, ◌<◌, ◌==◌, Bool, List, Option, Some, None, Result, Ok, Err, if◌then◌else◌, refl, arith}
 use Rattle.std.specs.Prelude.{◌&&◌}
 use Rattle.std.specs.List.{AllByRecursion}
-use Rattle.std.proofs.lemmas.Bool.{cases_lt, cond_both}
+use Rattle.std.proofs.lemmas.Bool.{cond_both}
 use Rattle.std.proofs.lemmas.Nat.{and_le_l}
-use Rattle.std.proofs.lemmas.List.{get_or_past}
-use Rattle.std.proofs.lemmas.List.FromFn.{get_or-map-range_with_len, length-map-range_with_len}
 use Rattle.insn_codec.specs.declared.insn.Insn.{Insn}
 use Rattle.insn_codec.specs.Spelling.{IsInsn}
 use Rattle.insn_codec.specs.Program.{begins_at}
+use Rattle.insn_codec.specs.BeginLaws.{begun_is_insn}
 use Rattle.reg_kinds.specs.declared.kind.Kind.{Kind}
 use Rattle.reg_kinds.specs.declared.kind.Kind.TheVariants.{Unreadable, Scalar, MapRef, Stack, Ctx, Value, MaybeValue}
 use Rattle.reg_kinds.specs.declared.kind.Slot.{Slot}
 use Rattle.reg_kinds.specs.declared.kind.Slot.TheVariants.{Bytes, Spill}
 use Rattle.reg_kinds.specs.declared.facts.Facts.{Facts}
 use Rattle.reg_kinds.specs.declared.reason.Reason.{Reason}
-use Rattle.reg_kinds.specs.Kinds.{tabulate, kind_at, slot_at, facts_of, entry_kind, entry}
+use Rattle.reg_kinds.specs.Kinds.{kind_at, slot_at, facts_of, entry_kind, entry}
 use Rattle.reg_kinds.specs.Pointers.{offsets_hull}
 use Rattle.reg_kinds.specs.Join.{kind_join, spilled, slot_join, facts_join}
+use Rattle.reg_kinds.specs.TableLaws.{in_table}
 use Rattle.tagged_model.specs.Cells.{also}
 use Rattle.tagged_model.specs.Named.{Shapes}
 use Rattle.transfer.specs.Branches.{Edges}
 use Rattle.transfer.specs.Effects.{effect}
 use Rattle.transfer.specs.Sound.{IsKindAt, IsSlotAt, AreWellFormedAt, AreWellFormedOn, TransferKeepsWellFormed}
-use Rattle.transfer.proofs.Stays.{raised}
+use Rattle.transfer.specs.FactLaws.{facts_of_later_slots}
 use Rattle.verdict.specs.Shape.{falls_into, jumps_into}
 use Rattle.verdict.specs.Before.{joined, on, edges_into, sent, inflow}
-use Rattle.verifier.proofs.Slots.{begins_one}
-
--- ---- tables
-
-at_place : {X : Type 0} (f : ℕ → X) (n i : ℕ) (d : X) → i < n → get_or (tabulate n f) i d ≡ f i
-unfolding tabulate
-at_place f n i d h = get_or-map-range_with_len f 0 n i i d h (omega arith)
-
-past_end : {X : Type 0} (f : ℕ → X) (n i : ℕ) (d : X) → n ≤ i → get_or (tabulate n f) i d ≡ d
-unfolding tabulate
-past_end f n i d h = let l = length-map-range_with_len f 0 n in get_or_past (tabulate n f) i d (omega arith)
-
--- what holds of the function's value at i, and of what stands for those past the end
-pub in_table : {X : Type 0} (P : X → Type 0) (f : ℕ → X) (n i : ℕ) (d : X) → P (f i) → P d → P (get_or (tabulate n f) i d)
-in_table P f n i d here past =
-    ⊎_elim
-    (λ lt. subst P (sym (at_place f n i d lt)) here)
-    (λ le. subst P (sym (past_end f n i d le)) past)
-    (cases_lt i n)
 
 -- above the slots of the look-ups
 module _ (bound : ℕ) where
@@ -109,7 +90,7 @@ module _ (bound : ℕ) where
 
 on_raised : (n : ℕ) (o : Option Facts) → AreWellFormedOn n o → AreWellFormedOn (suc n) o
 on_raised n None h = tt
-on_raised n (Some f) h = let farther : n < suc n = omega arith in raised n (suc n) f farther h
+on_raised n (Some f) h = let farther : n < suc n = omega arith in facts_of_later_slots n (suc n) f farther h
 
 module _ (law : TransferKeepsWellFormed) (shapes : Shapes) (code : List Insn) (each : AllByRecursion IsInsn code) where
   edges_words : (n m : ℕ) (i : Insn) (f : Facts) → IsInsn i → AreWellFormedAt n f → (r : Result Edges Reason) → effect shapes n i f ≡ r → AreWellFormedOn (suc n) (edges_into i n m r)
@@ -121,7 +102,7 @@ module _ (law : TransferKeepsWellFormed) (shapes : Shapes) (code : List Insn) (e
 
   begun_words : (n m : ℕ) (f : Facts) → AreWellFormedAt n f → (o : Option Insn) → begins_at code n ≡ o → AreWellFormedOn (suc n) (also o (λ i. edges_into i n m (effect shapes n i f)))
   begun_words n m f h None e = tt
-  begun_words n m f h (Some i) e = edges_words n m i f (begins_one code n i e each) h (effect shapes n i f) refl
+  begun_words n m f h (Some i) e = edges_words n m i f (begun_is_insn code n i e each) h (effect shapes n i f) refl
 
   sent_words : (n m : ℕ) (before : Option Facts) → AreWellFormedOn n before → AreWellFormedOn (suc n) (sent shapes code n m before)
   sent_words n m None h = tt

@@ -1,2 +1,6 @@
 pub mod Sound
 pub mod Verified
+-- what public contracts cite of crates below
+pub use Rattle.tagged_model.specs.Step
+pub use Rattle.verdict.specs.Maps
+pub use Rattle.verdict.specs.Verdict

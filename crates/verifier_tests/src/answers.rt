@@ -3,14 +3,14 @@
 use crate::descriptors::{named_map, named_program};
 use crate::error::CaseError;
 use crate::jumps::jumping;
-use crate::lines::lines_of;
 use bpf_text::assemble;
+use case_lines::{first_word, program_lines};
 use std::alloc::Global;
 use verifier::{Named, Verified, verify};
 
 /// The program of a text once it is accepted.
 fn accepted(alloc: Global, text: &str, named: &[Named]) -> Result<Verified, CaseError> {
-    let lines = lines_of(alloc, text)?;
+    let lines = program_lines(alloc, text)?;
     let program = assemble(alloc, lines.as_str())?;
     Ok(verify(alloc, &program, named)?)
 }
@@ -50,7 +50,7 @@ fn open(alloc: Global, named: &mut Vec<Named>, new: Named) -> Result<String, Cas
 
 /// The answer to a line.
 pub fn answer(alloc: Global, named: &mut Vec<Named>, line: &str) -> Result<String, CaseError> {
-    let (word, rest) = line.split_once(' ').unwrap_or((line, ""));
+    let (word, rest) = first_word(line);
     match word {
         "verify" => verdict_of(alloc, rest, named),
         "start" => verdict_of_start(alloc, rest, named),

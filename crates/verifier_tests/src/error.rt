@@ -1,6 +1,7 @@
 //! Lines that have no other answer.
 
 use bpf_text::TextFault;
+use case_lines::LineFault;
 use std::alloc::AllocError;
 use std::num::ParseIntError;
 use tagged_model::ShapeFault;
@@ -18,6 +19,8 @@ pub enum CaseError {
     Text(#[from] TextFault),
     #[error("no number")]
     Number(#[from] ParseIntError),
+    #[error(transparent)]
+    Line(#[from] LineFault),
     #[error("no such map")]
     Shape(#[from] ShapeFault),
     #[error(transparent)]

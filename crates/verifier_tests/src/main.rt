@@ -17,9 +17,9 @@ mod answers;
 mod descriptors;
 mod error;
 mod jumps;
-mod lines;
 
 use answers::answer;
+use case_lines::is_remark;
 use std::io;
 
 fn main(rt: HostRuntime) -> io::Result<()> {
@@ -28,7 +28,7 @@ fn main(rt: HostRuntime) -> io::Result<()> {
     for line in rt.lines(alloc) {
         let line = line?;
         let line = line.as_str();
-        if line.is_empty() || line.starts_with('#') {
+        if is_remark(line) {
             println!(rt; "{line}")?;
             continue;
         }

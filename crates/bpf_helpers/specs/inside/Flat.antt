@@ -1,14 +1,14 @@
 -- The functions that a program may call, on words and bytes. The functions are those of linux/bpf.h (bpf_func_id);
 -- their form on words is this project's own.
-use Rattle.std.specs.Prelude.{◌≡◌, ◌≢◌, Result, Ok, Err, ℕ, ◌+◌, ◌-◌, ◌==◌, ◌&&◌, ◌||◌, nat_le, if◌then◌else◌, List, slice_get, Option, Some, None, IsSome}
-use Rattle.interval.specs.Bytes.{bytes_at}
+use Rattle.std.specs.Prelude.{◌≡◌, Result, Ok, Err, ℕ, ◌+◌, ◌-◌, ◌==◌, ◌&&◌, ◌||◌, nat_le, if◌then◌else◌, List, slice_get, Option, Some, None}
+use Rattle.words.specs.Bytes.{bytes_at}
 use Rattle.tagged_model.specs.Cells.{also}
 use Rattle.tagged_model.specs.Table.{look_up, verdict, removal}
 use Rattle.tagged_model.specs.declared.fault.MapFault.{MapFault}
 use Rattle.tagged_model.specs.Helpers.{negative, errno, packet_bytes, packet_answer}
 use Rattle.arena.specs.Memory.{Memory, base, part_start, with_bytes}
 use Rattle.bpf_maps.specs.Places.{table_of, Claims, Removes}
-use Rattle.bpf_maps.specs.Live.{LiveMaps, live_at, places_at, shape_at, holds_at, offset_at, SameAreas, IsLaid, is_memory}
+use Rattle.bpf_maps.specs.Live.{LiveMaps, places_at, shape_at, offset_at, OnlyKeysChange, is_memory}
 
 -- the key of the map that a word names: the i-th is named by i + 1
 abbrev pub bound_map : List ℕ → ℕ → Option ℕ
@@ -73,11 +73,7 @@ pub record Updates (memory : Memory) (t : ℕ) (old : LiveMaps) (k : ℕ) (key v
   pub answer : Result ℕ MapFault
   pub claimed : Claims (verdict (table_of (places_at old k)) key flags) key (places_at old k) answer
       (places_at new k)
-  pub live : IsSome (live_at new k)
-  pub holds : holds_at new k ≡ holds_at old k
-  pub others : (other : ℕ) → other ≢ k → live_at new other ≡ live_at old other
-  pub areas : SameAreas old new
-  pub laid : IsLaid new
+  pub rest : OnlyKeysChange k old new
   pub flag : new.refused ≡ (old.refused || is_memory answer)
   pub word_is : word ≡ claim_word answer
   pub memory_is : after ≡ with_claimed memory t old k value answer
@@ -101,11 +97,7 @@ pub record Deletes (old : LiveMaps) (k : ℕ) (key : List ℕ) (word : ℕ) (new
   pub answer : Result (Unit {0}) MapFault
   pub removed : Removes (removal (table_of (places_at old k)) key) key (places_at old k) answer
       (places_at new k)
-  pub live : IsSome (live_at new k)
-  pub holds : holds_at new k ≡ holds_at old k
-  pub others : (other : ℕ) → other ≢ k → live_at new other ≡ live_at old other
-  pub areas : SameAreas old new
-  pub laid : IsLaid new
+  pub rest : OnlyKeysChange k old new
   pub flag : new.refused ≡ old.refused
   pub word_is : word ≡ removal_word answer
 

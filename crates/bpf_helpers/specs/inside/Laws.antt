@@ -1,7 +1,7 @@
 -- What holds of the words and bytes that stand for a state, helper by helper. This project's own.
 use Rattle.std.specs.Prelude.{◌≡◌, ℕ, ◌+◌, ◌<◌, ◌≤◌, ℤ, Bool, true, List, [], length, slice_get, slice_index, slice_set, Option, Some, None, IsSome}
 use Rattle.std.specs.Map.{values_of}
-use Rattle.interval.specs.Bytes.{bytes_at, written_at}
+use Rattle.words.specs.Bytes.{bytes_at, written_at}
 use Rattle.reg_kinds.specs.Kinds.{stack_size}
 use Rattle.reg_kinds.specs.Stack.{place}
 use Rattle.tagged_model.specs.declared.helper.Helper.TheVariants.{LookUp}

@@ -89,8 +89,8 @@ abbrev pub asked_of : Option (Text × List Row) → Option Asked
 asked_of chosen = option_and_then (λ (subcommand : Text × List Row). asked_with subcommand.0 subcommand.1) chosen
 
 -- what the arguments ask for: none where they are wrong, whatever the arguments for maps name
-abbrev pub asked : List Text → Option Asked
-asked arguments = if is_empty (refusal_kinds arguments) then asked_of (chosen_subcommand arguments) else None
+abbrev pub asked_by_arguments : List Text → Option Asked
+asked_by_arguments arguments = if is_empty (refusal_kinds arguments) then asked_of (chosen_subcommand arguments) else None
 
 -- an argument for a map is wrong
 abbrev pub HasWrongMapArgument : List Text → Type 0
@@ -98,8 +98,8 @@ HasWrongMapArgument maps = (number : ℕ) × IsFirstWrongArgument maps number
 
 -- the arguments ask for nothing, or one for a map is wrong
 abbrev pub AreWrongArguments : List Text → Type 0
-AreWrongArguments arguments = (asked arguments ≡ None) ⊎ ((maps : List Text) × (asked arguments ≡ Some (Verifies maps)) × HasWrongMapArgument maps)
+AreWrongArguments arguments = (asked_by_arguments arguments ≡ None) ⊎ ((maps : List Text) × (asked_by_arguments arguments ≡ Some (Verifies maps)) × HasWrongMapArgument maps)
 
 -- where the arguments ask for a verdict, the input has a program that is accepted, where the bytes are known
 abbrev pub AcceptsAsked : List Text → Option (List ℕ) → Type 0
-AcceptsAsked arguments input = (maps : List Text) → asked arguments ≡ Some (Verifies maps) → AcceptsIfKnown maps input
+AcceptsAsked arguments input = (maps : List Text) → asked_by_arguments arguments ≡ Some (Verifies maps) → AcceptsIfKnown maps input

@@ -9,8 +9,14 @@ use Rattle.host.specs.declared.program.failure.Failure.TheVariants.{Slot, Memory
 
 -- the failure, by the kind of fault at a slot of a program
 abbrev pub failure_at : ℕ → FaultKind → Failure
+failure_at slot codec.Opcode = Slot slot (fault_number codec.Opcode)
+failure_at slot codec.Reserved = Slot slot (fault_number codec.Reserved)
+failure_at slot codec.Register = Slot slot (fault_number codec.Register)
+failure_at slot codec.SecondSlot = Slot slot (fault_number codec.SecondSlot)
+failure_at slot codec.Ragged = Slot slot (fault_number codec.Ragged)
+failure_at slot codec.Empty = Slot slot (fault_number codec.Empty)
+failure_at slot codec.TooLong = Slot slot (fault_number codec.TooLong)
 failure_at slot codec.Memory = Memory
-failure_at slot kind = Slot slot (fault_number kind)
 
 abbrev pub codec_failure : CodecFault → Failure
 codec_failure found = failure_at found.slot found.kind

@@ -21,7 +21,7 @@ colon = 58
 
 -- a descriptor is one of the numbers that a table has
 abbrev pub is_descriptor : ℕ → Bool
-is_descriptor fd = is_from_to fds.first (fds.first + fds.most - 1) fd
+is_descriptor fd = is_from_to fds.first_descriptor (fds.first_descriptor + fds.most - 1) fd
 
 abbrev pub descriptor_number : Text → Option ℕ
 descriptor_number text = option_and_then (λ fd. if is_descriptor fd then Some fd else None) (decimal_number text)

@@ -1,7 +1,7 @@
 //! The program's arguments, and what it does at them.
 
-ghost use Rattle.std.specs.Prelude.{◌≡◌, ◌≢◌, ◌≤◌, ◌⊎◌, List, Some, Err, IfErr, IfOk, IfSome, option_and_then, option_map};
-ghost use Rattle.clap.specs.Words.{FailsBy, Text, app_of, found_of, rows_of, subcommand_rows_of};
+ghost use Rattle.std.specs.Prelude.{◌≡◌, ◌≢◌, ◌≤◌, ◌⊎◌, Some, Err, IfErr, IfOk, IfSome, option_and_then, option_map};
+ghost use Rattle.clap.specs.Words.{FailsBy, app_of, found_of, rows_of, subcommand_rows_of};
 ghost use Rattle.clap.specs.Walk.{texts};
 ghost use Rattle.host.specs.inside.program.Statuses.{exit_status};
 ghost use Rattle.host.specs.program.Shapes.{AreMapArguments};
@@ -9,7 +9,7 @@ ghost use Rattle.host.specs.inside.program.MapFields.{IsWrongMapArgument};
 ghost use Rattle.host.specs.program.Judging.{AcceptsIfKnown};
 ghost use Rattle.host.specs.declared.host.TheConstants.{MOST_TENANTS};
 ghost use Rattle.host.specs.inside.program.Outcomes.{Fails, FailsOnly};
-ghost use Rattle.host.specs.program.Arguments.{asked, asked_of, asked_with, chosen_subcommand, refusal_kinds, serve_command, tenant_number, tenants_value, verify_command, AcceptsAsked, AreWrongArguments, HasWrongMapArgument};
+ghost use Rattle.host.specs.program.Arguments.{asked_of, asked_with, chosen_subcommand, refusal_kinds, serve_command, tenant_number, tenants_value, verify_command, AcceptsAsked, AreWrongArguments, HasWrongMapArgument};
 ghost use Rattle.host.specs.inside.program.Asked.{asked_by, texts_given, HasTenants};
 
 use crate::host::{Host, MOST_TENANTS};

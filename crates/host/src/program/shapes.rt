@@ -1,11 +1,10 @@
 //! The arguments that name maps: `FD:KIND:KEY:VALUE:MAX`.
 
-ghost use Rattle.std.specs.Prelude.{◌≡◌, ◌≢◌, ◌↔◌, ◌∷◌, [], ◌<◌, ℕ, false, length, true, IfNone, IfOk, IfSome, None, Ok, Some};
-ghost use Rattle.std.specs.List.{list_any};
+ghost use Rattle.std.specs.Prelude.{◌≡◌, ◌≢◌, ◌↔◌, ◌∷◌, [], ◌<◌, false, length, true, IfNone, IfOk, IfSome, None, Ok, Some};
 ghost use Rattle.clap.specs.Walk.{texts};
 ghost use Rattle.host.specs.inside.program.Outcomes.{FailsOnly};
 ghost use Rattle.host.specs.program.Shapes.{descriptor_number, has_descriptor, kind_name, AreMapArguments, IsMapArgument, IsShapeOf};
-ghost use Rattle.host.specs.inside.program.MapFields.{fields, IsWrongMapArgument};
+ghost use Rattle.host.specs.inside.program.MapFields.{map_fields, IsWrongMapArgument};
 ghost use Rattle.tagged_model.specs.declared.shape.MapKind.{MapKind as AnyKind};
 ghost use Rattle.tagged_model.specs.declared.shape.MapShape.{MapShape as AnyShape};
 ghost use Rattle.tagged_model.specs.declared.shape.Named.{Named as AnyNamed};
@@ -24,17 +23,17 @@ pub struct BadShape;
 
 /// What stands before the first colon, and what stands behind it.
 fn first_field(text: &str) -> Option<(&str, &str)>
-    ensures first { IfSome result (λ cut. fields text.now ≡ cut.0.now ∷ fields cut.1.now) }
-    ensures last { IfNone result (fields text.now ≡ text.now ∷ []) }
+    ensures first { IfSome result (λ cut. map_fields text.now ≡ cut.0.now ∷ map_fields cut.1.now) }
+    ensures last { IfNone result (map_fields text.now ≡ text.now ∷ []) }
 {
     text.split_once(':')
 }
 
 /// The first four fields, and what stands behind them.
 fn five_parts(argument: &str) -> Option<(&str, &str, &str, &str, &str)>
-    ensures parts { IfSome result (λ cut. fields argument.now
-        ≡ cut.0.now ∷ cut.1.now ∷ cut.2.now ∷ cut.3.now ∷ fields cut.4.now) }
-    ensures few { IfNone result (length (fields argument.now) < 5) }
+    ensures parts { IfSome result (λ cut. map_fields argument.now
+        ≡ cut.0.now ∷ cut.1.now ∷ cut.2.now ∷ cut.3.now ∷ map_fields cut.4.now) }
+    ensures few { IfNone result (length (map_fields argument.now) < 5) }
 {
     let (first, rest) = first_field(argument)?;
     let (second, rest) = first_field(rest)?;

@@ -4,7 +4,7 @@ use Rattle.arena.specs.Memory.{Memory, part_bytes}
 use Rattle.command_frames.specs.declared.command.Head.{Head}
 use Rattle.command_frames.specs.Command.{Command, map_create, map_lookup, map_update, map_delete, map_next_key, prog_load, prog_test_run, close}
 use Rattle.command_frames.specs.Frame.{reply_bytes}
-use Rattle.fd_table.specs.Table.{first, most}
+use Rattle.fd_table.specs.Table.{first_descriptor, most}
 use Rattle.tenant.specs.declared.errno.Errno.TheVariants.{BadAddress}
 use Rattle.tenant.specs.declared.loading.LoadReply.{LoadReply}
 use Rattle.tenant.specs.declared.loading.LoadReply.TheVariants.{Opened, Refused, RefusedAt}
@@ -25,7 +25,7 @@ tail_length (close fd) = 0
 
 -- the highest descriptor
 abbrev pub last_descriptor : ℕ
-last_descriptor = first + most - 1
+last_descriptor = first_descriptor + most - 1
 
 -- what a load opens has a descriptor
 abbrev pub OpensBelow : LoadReply → Type 0

@@ -1,5 +1,5 @@
 -- The facts on each edge alone. This project's own.
-use Rattle.std.specs.Prelude.{ℕ, Option, None, Result, Ok, Err}
+use Rattle.std.specs.Prelude.{◌≡◌, ℕ, Option, Some, None, Result, Ok, Err}
 use Rattle.insn_codec.specs.declared.insn.Insn.{Insn}
 use Rattle.reg_kinds.specs.declared.facts.Facts.{Facts}
 use Rattle.reg_kinds.specs.declared.reason.Reason.{Reason}
@@ -7,6 +7,7 @@ use Rattle.tagged_model.specs.Cells.{also}
 use Rattle.tagged_model.specs.Named.{Shapes}
 use Rattle.transfer.specs.Branches.{Edges}
 use Rattle.transfer.specs.Effects.{effect}
+use Rattle.verdict.specs.declared.fault.VerifyFault.{VerifyFault}
 use Rattle.verdict.specs.Verdict.{reason_of}
 
 -- the facts on an edge out of an instruction; none of one that may not be run
@@ -28,3 +29,11 @@ jumping_from shapes n insn known = also known (λ f. jumping_of (effect shapes n
 -- the first condition that fails of an instruction at slot n; none where nothing is known
 abbrev pub reason_from : Shapes → ℕ → Insn → Option Facts → Option Reason
 reason_from shapes n insn known = also known (λ f. reason_of (effect shapes n insn f))
+
+-- it may be run: no condition fails (where nothing is known, no run comes there)
+abbrev pub MayRun : Shapes → ℕ → Insn → Option Facts → Type 0
+MayRun shapes n insn known = reason_from shapes n insn known ≡ None
+
+-- it may not, and is told with its slot and the first condition that fails
+abbrev pub IsFaultFrom : Shapes → ℕ → Insn → Option Facts → VerifyFault → Type 0
+IsFaultFrom shapes n insn known fault = (fault.slot ≡ n) × (reason_from shapes n insn known ≡ Some fault.reason)

@@ -1,5 +1,5 @@
 use Rattle.std.proofs.Common.{◌≡◌, ℕ, ◌+◌, ap, sym, subst, ◌∙◌, arith}
-use Rattle.interval.specs.Bytes.{low_bytes}
+use Rattle.words.specs.Bytes.{low_bytes}
 use Rattle.arena.specs.Memory.{Memory, size_of, base, place_of, stored, part_start}
 use Rattle.arena.specs.Apart.{IsWrittenAt}
 use Rattle.arena.proofs.callers.store_within.Goals as goal

@@ -1,12 +1,12 @@
 use Rattle.std.proofs.Common.{◌≡◌, ℕ, ◌+◌, List, slice_range, Some, Ok, Err, refl, ap, subst, ◌∙◌}
-use Rattle.interval.specs.Bytes.{bytes_at}
+use Rattle.words.specs.Bytes.{bytes_at}
 use Rattle.tagged_model.specs.declared.shape.MapShape.{MapShape}
 use Rattle.tagged_model.specs.Table.{removal}
 use Rattle.arena.specs.Memory.{part_start}
 use Rattle.bpf_maps.specs.Places.{table_of, Removes}
 use Rattle.bpf_maps.specs.Live.{places_at, shape_at}
 use Rattle.bpf_helpers.specs.inside.Flat.{bound_map, part_input, Deletes}
-use Rattle.bpf_helpers.proofs.Flat.{start_within, part_range}
+use Rattle.bpf_helpers.proofs.Flat.{part_range}
 use Rattle.bpf_helpers.proofs.Words.{by_some, by_input}
 use Rattle.bpf_helpers.proofs.delete.take_out.Goals as goal
 
@@ -22,7 +22,7 @@ returns-in-Ok-clause-deleted c =
     let part = c.part-part.result.now in
     let size : n ≡ (shape_at old k).key_size = ap (λ (s : MapShape). s.key_size) c.shape-size.ensures in
     let same : slice_range part at (at + n) ≡ bytes_at memory.bytes (part_start memory t + at) (shape_at old k).key_size =
-    part_range memory t at n part c.part-part.ensures.bytes c.part-part.ensures.length (start_within memory t c.memory_is_its_parts.ensures.parts c.requires.tenant) c.in_ok-at.ensures.within
+    part_range memory t at n part c.part-part.ensures.bytes c.in_ok-at.ensures.within
     ∙ ap (λ (m : ℕ). bytes_at memory.bytes (part_start memory t + at) m) size in
     let P : ℕ → Type 0 = λ k. (bs : List ℕ) → part_input memory t (shape_at old k).key_size c.args.key ≡ Some bs → (word : ℕ) × (Some 0 ≡ Some word) × Deletes old k bs word new in
     λ k' bs named. by_some P k (bound_map c.args.bind.now c.args.map) c.in_ok-map.ensures.value
@@ -33,11 +33,7 @@ returns-in-Ok-clause-deleted c =
       record {
         answer = (Ok tt);
         removed = subst (λ (b : List ℕ). Removes (removal (table_of (places_at old k)) b) b (places_at old k) (Ok tt) (places_at new k)) same c.in-Ok.ensures.removed;
-        live = c.in-Ok.ensures.live;
-        holds = c.in-Ok.ensures.holds;
-        others = c.in-Ok.ensures.others;
-        areas = c.in-Ok.ensures.areas;
-        laid = c.in-Ok.ensures.laid;
+        rest = c.in-Ok.ensures.rest;
         flag = c.in-Ok.ensures.refused;
         word_is = refl;
       },
@@ -55,7 +51,7 @@ returns-in-Err-clause-deleted c =
     let part = c.part-part.result.now in
     let size : n ≡ (shape_at old k).key_size = ap (λ (s : MapShape). s.key_size) c.shape-size.ensures in
     let same : slice_range part at (at + n) ≡ bytes_at memory.bytes (part_start memory t + at) (shape_at old k).key_size =
-    part_range memory t at n part c.part-part.ensures.bytes c.part-part.ensures.length (start_within memory t c.memory_is_its_parts.ensures.parts c.requires.tenant) c.in_ok-at.ensures.within
+    part_range memory t at n part c.part-part.ensures.bytes c.in_ok-at.ensures.within
     ∙ ap (λ (m : ℕ). bytes_at memory.bytes (part_start memory t + at) m) size in
     let P : ℕ → Type 0 = λ k. (bs : List ℕ) → part_input memory t (shape_at old k).key_size c.args.key ≡ Some bs → (word : ℕ) × (Some c.refusal.result ≡ Some word) × Deletes old k bs word new in
     λ k' bs named. by_some P k (bound_map c.args.bind.now c.args.map) c.in_ok-map.ensures.value
@@ -66,11 +62,7 @@ returns-in-Err-clause-deleted c =
       record {
         answer = (Err c.in-Err.fault);
         removed = subst (λ (b : List ℕ). Removes (removal (table_of (places_at old k)) b) b (places_at old k) (Err c.in-Err.fault) (places_at new k)) same c.in-Err.ensures.removed;
-        live = c.in-Err.ensures.live;
-        holds = c.in-Err.ensures.holds;
-        others = c.in-Err.ensures.others;
-        areas = c.in-Err.ensures.areas;
-        laid = c.in-Err.ensures.laid;
+        rest = c.in-Err.ensures.rest;
         flag = c.in-Err.ensures.refused;
         word_is = c.refusal.ensures;
       },

@@ -1,11 +1,11 @@
 use Rattle.std.proofs.Common.{◌≡◌, ℕ, ◌+◌, ◌≤◌, List, slice_range, Ok, Err, refl, ap, subst, ◌∙◌, arith}
-use Rattle.interval.specs.Bytes.{bytes_at}
+use Rattle.words.specs.Bytes.{bytes_at}
 use Rattle.tagged_model.specs.declared.shape.MapShape.{MapShape}
 use Rattle.tagged_model.specs.Table.{verdict}
 use Rattle.arena.specs.Memory.{part_start, with_bytes}
 use Rattle.bpf_maps.specs.Places.{table_of, Claims}
 use Rattle.bpf_maps.specs.Live.{places_at, shape_at, offset_at}
-use Rattle.bpf_helpers.proofs.Flat.{start_within, part_range}
+use Rattle.bpf_helpers.proofs.Flat.{part_range}
 use Rattle.bpf_helpers.proofs.Copied.{copied_is}
 use Rattle.bpf_helpers.proofs.update.put.Goals as goal
 
@@ -20,22 +20,18 @@ returns-in-Ok-clause-updated c =
     let part = c.part-part.result.now in
     let size : n ≡ (shape_at old k).key_size = ap (λ (s : MapShape). s.key_size) c.shape-shape.ensures in
     let value : c.shape-shape.result.value_size ≡ (shape_at old k).value_size = ap (λ (s : MapShape). s.value_size) c.shape-shape.ensures in
-    let after : (shape_at new k).value_size ≡ (shape_at old k).value_size = ap (λ (s : MapShape). s.value_size) c.in-Ok.ensures.shape in
+    let after : (shape_at new k).value_size ≡ (shape_at old k).value_size = ap (λ (s : MapShape). s.value_size) c.in-Ok.ensures.rest.shape in
     let fits : c.args.key + n ≤ memory.part = omega (arith, size, c.requires.key, c.requires.part) in
     let same : slice_range part c.args.key (c.args.key + n) ≡ bytes_at memory.bytes (part_start memory t + c.args.key) (shape_at old k).key_size =
-    part_range memory t c.args.key n part c.part-part.ensures.bytes c.part-part.ensures.length (start_within memory t c.memory_is_its_parts.ensures.parts c.requires.tenant) fits
+    part_range memory t c.args.key n part c.part-part.ensures.bytes fits
     ∙ ap (λ (m : ℕ). bytes_at memory.bytes (part_start memory t + c.args.key) m) size in
-    let stays = c.areas_keep_places.ensures old new k c.in-Ok.place c.in-Ok.ensures.areas c.in-Ok.ensures.live in
+    let stays = c.areas_keep_places.ensures old new k c.in-Ok.place c.in-Ok.ensures.rest.areas c.in-Ok.ensures.rest.live in
     let inside = c.value_at.ensures.inside in
     let within = inside.within in
     record {
       answer = Ok c.in-Ok.place;
       claimed = subst (λ (b : List ℕ). Claims (verdict (table_of (places_at old k)) b c.args.flags) b (places_at old k) (Ok c.in-Ok.place) (places_at new k)) same c.in-Ok.ensures.claimed;
-      live = c.in-Ok.ensures.live;
-      holds = c.in-Ok.ensures.holds;
-      others = c.in-Ok.ensures.others;
-      areas = c.in-Ok.ensures.areas;
-      laid = c.in-Ok.ensures.laid;
+      rest = c.in-Ok.ensures.rest;
       flag = c.in-Ok.ensures.refused;
       word_is = refl;
       memory_is = c.copy.ensures.bytes
@@ -59,16 +55,12 @@ returns-in-Err-clause-updated c =
     let size : n ≡ (shape_at old k).key_size = ap (λ (s : MapShape). s.key_size) c.shape-shape.ensures in
     let fits : c.args.key + n ≤ memory.part = omega (arith, size, c.requires.key, c.requires.part) in
     let same : slice_range part c.args.key (c.args.key + n) ≡ bytes_at memory.bytes (part_start memory t + c.args.key) (shape_at old k).key_size =
-    part_range memory t c.args.key n part c.part-part.ensures.bytes c.part-part.ensures.length (start_within memory t c.memory_is_its_parts.ensures.parts c.requires.tenant) fits
+    part_range memory t c.args.key n part c.part-part.ensures.bytes fits
     ∙ ap (λ (m : ℕ). bytes_at memory.bytes (part_start memory t + c.args.key) m) size in
     record {
       answer = Err c.in-Err.fault;
       claimed = subst (λ (b : List ℕ). Claims (verdict (table_of (places_at old k)) b c.args.flags) b (places_at old k) (Err c.in-Err.fault) (places_at new k)) same c.in-Err.ensures.claimed;
-      live = c.in-Err.ensures.live;
-      holds = c.in-Err.ensures.holds;
-      others = c.in-Err.ensures.others;
-      areas = c.in-Err.ensures.areas;
-      laid = c.in-Err.ensures.laid;
+      rest = c.in-Err.ensures.rest;
       flag = c.in-Err.ensures.refused;
       word_is = c.refusal.ensures;
       memory_is = refl;

@@ -8,7 +8,7 @@ use Rattle.bpf_maps.proofs.callers.update.Goals as goal
 pub returns-in_err-place-clause-refused : goal.returns-in_err-place-clause-refused
 returns-in_err-place-clause-refused c =
     on_err c.from_residual.result
-    (keeps c.live_maps_refine_values.ensures c.args.part.now c.args.maps.now c.claim.new.self c.args.map c.claim.ensures.areas c.claim.ensures.live
+    (keeps c.live_maps_refine_values.ensures c.args.part.now c.args.maps.now c.claim.new.self c.args.map c.claim.ensures.rest.areas c.claim.ensures.rest.live
     (not_claimed _ c.args.key.now _ _ _ c.in_err-place.ensures.claimed))
 
 module _ (c : goal.After-slice_known-2-1) where
@@ -17,9 +17,9 @@ module _ (c : goal.After-slice_known-2-1) where
     whole = c.requires.part;
     laid = c.maps_are_laid.ensures.laid;
     sound = c.maps_are_laid.ensures.sound;
-    live = c.claim.ensures.live;
+    live = c.claim.ensures.rest.live;
     within = c.in_ok-place.ensures.within;
-    size = c.requires.value ∙ ap (λ (s : MapShape). s.value_size) (sym c.claim.ensures.shape);
+    size = c.requires.value ∙ ap (λ (s : MapShape). s.value_size) (sym c.claim.ensures.rest.shape);
   }
 
   abbrev after : List ℕ
@@ -31,10 +31,10 @@ module _ (c : goal.After-slice_known-2-1) where
 pub returns-clause-done : goal.returns-clause-done
 returns-clause-done c =
     ap (λ (part : List ℕ). map_in part c.claim.new.self c.args.map) (written c)
-    ∙ (c.live_maps_refine_values.ensures c.args.part.now c.args.maps.now c.claim.new.self c.args.map c.claim.ensures.areas c.claim.ensures.live).update c.args.flags c.in_ok-place.place c.args.key.now c.args.value.now (is_value c) c.in_ok-place.ensures.claimed
+    ∙ (c.live_maps_refine_values.ensures c.args.part.now c.args.maps.now c.claim.new.self c.args.map c.claim.ensures.rest.areas c.claim.ensures.rest.live).update c.args.flags c.in_ok-place.place c.args.key.now c.args.value.now (is_value c) c.in_ok-place.ensures.claimed
 
 pub returns-clause-others : goal.returns-clause-others
 returns-clause-others c = λ other differ.
     subst (λ (part : List ℕ). KeepsMap other c.args.maps.now c.args.part.now c.claim.new.self part) (sym (written c))
     (keeps_written c.values_are_written.ensures c.args.part.now c.args.maps.now c.claim.new.self c.args.map c.in_ok-place.place c.args.value.now other (is_value c) differ
-    (others_stay c.live_maps_refine_values.ensures c.args.part.now c.args.maps.now c.claim.new.self c.args.map c.claim.ensures.areas c.claim.ensures.live other (c.claim.ensures.others other differ)))
+    (others_stay c.live_maps_refine_values.ensures c.args.part.now c.args.maps.now c.claim.new.self c.args.map c.claim.ensures.rest.areas c.claim.ensures.rest.live other (c.claim.ensures.rest.others other differ)))

@@ -7,8 +7,8 @@ use Rattle.host.specs.declared.program.failure.Failure.TheVariants.{MapArgument}
 use Rattle.host.specs.program.Shapes.{colon, IsFirstWrongArgument}
 
 -- the fields of a text, which colons part
-abbrev pub fields : Text → List Text
-fields text = slice_split (λ b. b == colon) text
+abbrev pub map_fields : Text → List Text
+map_fields text = slice_split (λ b. b == colon) text
 
 abbrev pub IsWrongMapArgument : List Text → Failure → Type 0
 IsWrongMapArgument arguments failure = (number : ℕ) × IsFirstWrongArgument arguments number × (failure ≡ MapArgument number)

@@ -1,7 +1,7 @@
 -- How a failure ends the program, and which failure stands for which fault. This project's own.
 use Rattle.std.specs.Prelude.{ℕ}
 use Rattle.clap.specs.declared.error.kind.ErrorKind.{ErrorKind}
-use Rattle.clap.specs.declared.error.kind.ErrorKind.TheVariants.{OutOfMemory}
+use Rattle.clap.specs.declared.error.kind.ErrorKind.TheVariants as error
 use Rattle.bpf_text.specs.Fault.{kind_number}
 use Rattle.bpf_text.specs.declared.fault.TextFault.{TextFault}
 use Rattle.bpf_text.specs.declared.fault.TextFaultKind.{TextFaultKind}
@@ -28,8 +28,23 @@ exit_status Memory = 4
 
 -- the failure, by clap's kind of error
 abbrev pub arguments_failure : ErrorKind → Failure
-arguments_failure OutOfMemory = Memory
-arguments_failure _ = WrongArguments
+arguments_failure error.InvalidValue = WrongArguments
+arguments_failure error.UnknownArgument = WrongArguments
+arguments_failure error.InvalidSubcommand = WrongArguments
+arguments_failure error.NoEquals = WrongArguments
+arguments_failure error.ValueValidation = WrongArguments
+arguments_failure error.TooManyValues = WrongArguments
+arguments_failure error.TooFewValues = WrongArguments
+arguments_failure error.WrongNumberOfValues = WrongArguments
+arguments_failure error.ArgumentConflict = WrongArguments
+arguments_failure error.MissingRequiredArgument = WrongArguments
+arguments_failure error.MissingSubcommand = WrongArguments
+arguments_failure error.DisplayHelp = WrongArguments
+arguments_failure error.DisplayHelpOnMissingArgumentOrSubcommand = WrongArguments
+arguments_failure error.DisplayVersion = WrongArguments
+arguments_failure error.Io = WrongArguments
+arguments_failure error.Format = WrongArguments
+arguments_failure error.OutOfMemory = Memory
 
 -- the failure, by the fault that ends a stream after so many frames
 abbrev pub failure_after : ServeFaultKind → ℕ → Failure
@@ -44,8 +59,13 @@ stream_failure ended = failure_after ended.kind ended.frames
 
 -- the failure, by the kind of fault on a line of a text
 abbrev pub failure_on : ℕ → TextFaultKind → Failure
+failure_on line text.Syntax = Line line (kind_number text.Syntax)
+failure_on line text.Range = Line line (kind_number text.Range)
+failure_on line text.UnknownLabel = Line line (kind_number text.UnknownLabel)
+failure_on line text.LabelTwice = Line line (kind_number text.LabelTwice)
+failure_on line text.TooLong = Line line (kind_number text.TooLong)
+failure_on line text.Empty = Line line (kind_number text.Empty)
 failure_on line text.Memory = Memory
-failure_on line kind = Line line (kind_number kind)
 
 abbrev pub text_failure : TextFault → Failure
 text_failure found = failure_on found.line found.kind

@@ -1,5 +1,6 @@
 use Rattle.std.proofs.Common.{arith}
-use Rattle.reg_kinds.proofs.SlotTests.{ones_small, ones_are}
+use Rattle.reg_kinds.specs.StackLaws.{ones_small}
+use Rattle.reg_kinds.proofs.SlotTests.{ones_are}
 use Rattle.reg_kinds.proofs.many.ones.Goals as goal
 
 pub overflow_cast-result-3 : goal.overflow_cast-result-3

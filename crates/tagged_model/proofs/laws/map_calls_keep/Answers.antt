@@ -1,4 +1,5 @@
-use Rattle.tagged_model.proofs.MapCalls.{found_owned, updated_keeps, removed_keeps}
+use Rattle.tagged_model.specs.StateLaws.{found_owned}
+use Rattle.tagged_model.proofs.MapCalls.{updated_keeps, removed_keeps}
 use Rattle.tagged_model.proofs.laws.map_calls_keep.Goals as goal
 
 pub returns : goal.returns

@@ -1,6 +1,6 @@
 use Rattle.std.proofs.Common.{◌≡◌, ℕ, ◌+◌, List, length, take, get_or, refl, ap, ◌∙◌, arith}
 use Rattle.std.proofs.Math.Seq.{take-length}
-use Rattle.tenant.specs.Kept.{times, holds_in}
+use Rattle.tenant.specs.Kept.{times_listed, holds_in}
 use Rattle.tenant.proofs.LoadingHolds.{held_all, held_then}
 use Rattle.tenant.proofs.Releases.{one_at, here_one}
 use Rattle.tenant.proofs.Times.{times-more, times-first, times-none}
@@ -54,5 +54,5 @@ returns c = record {
   holds = λ q.
       let all : c.loop-map.map-index ≡ length c.args.held.now = omega arith in
       let taken : take c.loop-map.map-index c.args.held.now ≡ c.args.held.now = ap (λ (n : ℕ). take n c.args.held.now) all ∙ take-length c.args.held.now in
-      c.loop-map.invariant.holds q ∙ ap (λ (ms : List (ℕ × ℕ)). holds_in c.args.keys.now c.args.maps.now q + times q ms) taken;
+      c.loop-map.invariant.holds q ∙ ap (λ (ms : List (ℕ × ℕ)). holds_in c.args.keys.now c.args.maps.now q + times_listed q ms) taken;
 }

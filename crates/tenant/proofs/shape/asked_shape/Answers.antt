@@ -1,10 +1,10 @@
 use Rattle.std.proofs.Common.{Option, sym, ap, ◌∙◌}
 use Rattle.tagged_model.specs.declared.shape.MapKind.{MapKind}
-use Rattle.tenant.specs.Machine.{shape_of}
+use Rattle.tenant.specs.Machine.{asked_shape}
 use Rattle.tenant.proofs.Shapes.{shape_ok}
 use Rattle.tenant.proofs.shape.asked_shape.Goals as goal
 
 pub returns-in-Ok : goal.returns-in-Ok
 returns-in-Ok c =
     shape_ok c.in-Some.kind c.args.key_size c.args.value_size c.args.max_entries c.args.flags c.in-Ok.shape c.in-Ok.ensures.listed c.in-Ok.ensures.made
-    ∙ ap (λ (kind : Option MapKind). shape_of kind c.args.key_size c.args.value_size c.args.max_entries c.args.flags) (sym c.in-Some.is ∙ c.map_kind.ensures)
+    ∙ ap (λ (kind : Option MapKind). asked_shape kind c.args.key_size c.args.value_size c.args.max_entries c.args.flags) (sym c.in-Some.is ∙ c.map_kind.ensures)

@@ -1,6 +1,6 @@
 use Rattle.std.proofs.Common.{◌≡◌, ℕ, ◌+◌, List, length, take, get_or, refl, sym, ap, ◌∙◌, arith}
 use Rattle.std.proofs.Math.Seq.{take-length}
-use Rattle.tenant.specs.Kept.{times, holds_in}
+use Rattle.tenant.specs.Kept.{times_listed, holds_in}
 use Rattle.tenant.proofs.Releases.{one_at, here_one}
 use Rattle.tenant.proofs.Times.{times-more, times-first, times-none, some_hold, leaves_all, leaves_then}
 use Rattle.tenant.proofs.tenant.release_all.Goals as goal
@@ -47,5 +47,5 @@ returns c = record {
   holds = λ q.
       let all : c.loop-map.map-index ≡ length c.args.held.now = omega arith in
       let taken : take c.loop-map.map-index c.args.held.now ≡ c.args.held.now = ap (λ (n : ℕ). take n c.args.held.now) all ∙ take-length c.args.held.now in
-      ap (λ (ms : List (ℕ × ℕ)). holds_in c.loop-map.keys c.loop-map.maps q + times q ms) (sym taken) ∙ c.loop-map.invariant.holds q;
+      ap (λ (ms : List (ℕ × ℕ)). holds_in c.loop-map.keys c.loop-map.maps q + times_listed q ms) (sym taken) ∙ c.loop-map.invariant.holds q;
 }

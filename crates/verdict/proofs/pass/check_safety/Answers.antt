@@ -1,15 +1,14 @@
-use Rattle.std.proofs.Common.{◌≡◌, ℕ, ◌+◌, ◌<◌, ◌≤◌, replicate, List, Option, Some, None, sym, subst, ap, ◌∙◌, inl, inr, arith, below_more}
+use Rattle.std.proofs.Common.{◌≡◌, ℕ, ◌+◌, ◌<◌, ◌≤◌, replicate, Some, None, sym, subst, ap, ◌∙◌, inl, inr, arith, below_more}
 use Rattle.std.specs.Option.{option_copied}
 use Rattle.std.specs.Prelude.{IfSome}
 use Rattle.std.proofs.lemmas.Bool.{cases_lt}
 use Rattle.std.proofs.lemmas.Result.{err_from_is_err_and}
+use Rattle.insn_codec.specs.BeginLaws.{none_begins_past}
 use Rattle.insn_codec.specs.Program.{begins_at, slot_count}
-use Rattle.reg_kinds.specs.declared.facts.Facts.{Facts}
 use Rattle.tagged_model.specs.Named.{shapes_named}
 use Rattle.insn_codec.specs.Flow.{jump_target}
 use Rattle.verdict.specs.Verdict.{safety_fault}
 use Rattle.verdict.specs.declared.pass.Pass.{Pass}
-use Rattle.verdict.proofs.Slots.{none_past}
 use Rattle.verdict.proofs.Inflow.{IsBefore, at_start, here_is, after_insn, after_none, safety_is, safe_none, first_at}
 use Rattle.verdict.proofs.pass.check_safety.Goals.{in-Some+in_ok-step, in_default}
 use Rattle.verdict.proofs.pass.check_safety.Goals as goal
@@ -21,9 +20,7 @@ loop-slot-init c =
     let filled : c.in_ok-new.field-0 ≡ replicate (slot_count code) None = c.in_ok-new.ensures ∙ ap (λ (n : ℕ). replicate n None) count in
     let some : 1 ≤ slot_count code = subst (λ (n : ℕ). 1 ≤ n) count c.slots-slots.ensures.some in
     record {
-      known =
-          subst (λ (es : List (Option Facts)). IsBefore (shapes_named c.args.named.now) code 0 (Some c.at_entry.result) es) (sym filled)
-          (subst (λ (f : Facts). IsBefore (shapes_named c.args.named.now) code 0 (Some f) (replicate (slot_count code) None)) (sym c.at_entry.ensures) (at_start (shapes_named c.args.named.now) code some));
+      known = at_start (shapes_named c.args.named.now) code _ some (ap Some c.at_entry.ensures) filled;
       none_below = λ n lt. absurd (omega arith);
     }
 
@@ -46,7 +43,7 @@ returns-in_err-step-clause-refused c =
       | inl memory ↦ inl memory
       | inr told ↦
           inr (first_at (shapes_named c.args.named.now) (safety_fault (shapes_named c.args.named.now) code) c.in_err-step.field-0.0.slot slot c.in_err-step.field-0.0.reason told.0
-          (safety_is (shapes_named c.args.named.now) code slot c.in-Some.insn.now _ (Some c.in_err-step.field-0.0.reason) (here_is (shapes_named c.args.named.now) code slot _ _ known c.in-Some.insn.now begins lt) begins told.1)
+          (safety_is (shapes_named c.args.named.now) code slot c.in-Some.insn.now _ (Some c.in_err-step.field-0.0.reason) (here_is (shapes_named c.args.named.now) code slot _ known c.in-Some.insn.now begins lt) begins told.1)
           c.loop-slot.invariant.none_below)
     ])
 
@@ -62,16 +59,16 @@ loop-slot-preserved c =
           let told = w.in_ok-step.ensures in
           record {
             known =
-                subst (λ (p : Pass). IsBefore (shapes_named c.args.named.now) code (slot + 1) p.falling p.entries) (sym w.pass-is)
-                (after_insn (shapes_named c.args.named.now) c.joins_commute.ensures.facts c.joins_associate.ensures.facts code c.insns_adjoin.ensures slot _ _ _ _ known w.in-Some.insn.now begins lt told.falling told.sent told.long);
-            none_below = below_more _ _ c.loop-slot.invariant.none_below (safety_is (shapes_named c.args.named.now) code slot w.in-Some.insn.now _ None (here_is (shapes_named c.args.named.now) code slot _ _ known w.in-Some.insn.now begins lt) begins told.ok);
+                subst (λ (p : Pass). IsBefore (shapes_named c.args.named.now) code (slot + 1) p) (sym w.pass-is)
+                (after_insn (shapes_named c.args.named.now) c.joins_commute.ensures.facts c.joins_associate.ensures.facts code c.insns_adjoin.ensures slot _ _ known w.in-Some.insn.now begins lt told.falling told.sent told.long);
+            none_below = below_more _ _ c.loop-slot.invariant.none_below (safety_is (shapes_named c.args.named.now) code slot w.in-Some.insn.now _ None (here_is (shapes_named c.args.named.now) code slot _ known w.in-Some.insn.now begins lt) begins told.ok);
           }
       | in_default w ↦
           let begins : begins_at code slot ≡ None = sym c.get.ensures ∙ ap option_copied w.in_default.is in
           record {
             known =
-                subst (λ (p : Pass). IsBefore (shapes_named c.args.named.now) code (slot + 1) p.falling p.entries) (sym w.pass-is)
-                (after_none (shapes_named c.args.named.now) code slot _ _ known begins lt);
+                subst (λ (p : Pass). IsBefore (shapes_named c.args.named.now) code (slot + 1) p) (sym w.pass-is)
+                (after_none (shapes_named c.args.named.now) code slot _ known begins lt);
             none_below = below_more _ _ c.loop-slot.invariant.none_below (safe_none (shapes_named c.args.named.now) code slot begins);
           }
     ]
@@ -80,5 +77,5 @@ pub returns-clause-sound : goal.returns-clause-sound
 returns-clause-sound c = λ n.
     elim (cases_lt n (slot_count c.args.program.now)) [
       | inl lt ↦ c.loop-slot.invariant.none_below n (omega arith)
-      | inr past ↦ safe_none (shapes_named c.args.named.now) c.args.program.now n (none_past c.args.program.now c.insns_adjoin.ensures n past)
+      | inr past ↦ safe_none (shapes_named c.args.named.now) c.args.program.now n (none_begins_past c.args.program.now n past)
     ]

@@ -8,6 +8,6 @@ use Rattle.verdict.proofs.pass.check_safety.Given as goal
 abbrev pub invariant-loop-slot : goal.invariant-loop-slot
 invariant-loop-slot l =
     record {
-      known : IsBefore (shapes_named l.named) l.program l.slot l.pass.falling l.pass.entries;
+      known : IsBefore (shapes_named l.named) l.program l.slot l.pass;
       none_below : (n : ℕ) → n < l.slot → safety_fault (shapes_named l.named) l.program n ≡ None;
     }

@@ -4,10 +4,11 @@ use Rattle.std.specs.Prelude.{IfSome}
 use Rattle.std.proofs.lemmas.List.{length-set, length-replicate, with_items_is}
 use Rattle.std.proofs.lemmas.Bool.{cases_lt}
 use Rattle.insn_codec.specs.Program.{begins_at, slot_count}
+use Rattle.insn_codec.specs.BeginLaws.{none_begins_past}
 use Rattle.verdict.specs.Shape.{shape_fault}
 use Rattle.insn_codec.specs.Flow.{jump_target}
-use Rattle.verdict.proofs.Slots.{none_past}
-use Rattle.verdict.proofs.Reached.{fine, jump_lands, marked_first, marked_next, marked_past, shape_is, each_lands}
+use Rattle.verdict.specs.ShapeLaws.{unrefused_is_fine}
+use Rattle.verdict.proofs.Reached.{jump_lands, marked_first, marked_next, marked_past, shape_is, each_lands}
 use Rattle.verdict.proofs.shape.check_shape.Goals.{in-Some+in_default-shape_reason, in_default}
 use Rattle.verdict.proofs.shape.check_shape.Goals as goal
 
@@ -34,7 +35,7 @@ mark_edges-requires-clause-jumps c =
     let insn = c.in-Some.insn.now in
     let long : slot_count code ≡ length c.deref_mut.result.now = sym (ap length c.deref_mut.ensures.value ∙ c.loop-slot.invariant.long) in
     subst (λ (n : ℕ). IfSome (jump_target insn c.loop-slot.slot) (λ to. to < n)) long
-    (jump_lands code c.args.named.now c.insns_adjoin.ensures insn c.loop-slot.slot (fine code c.args.named.now insn c.loop-slot.slot (sym c.in_default-shape_reason.ensures)))
+    (jump_lands code c.args.named.now insn c.loop-slot.slot (unrefused_is_fine code c.args.named.now insn c.loop-slot.slot (sym c.in_default-shape_reason.ensures)))
 
 pub loop-slot-preserved : goal.loop-slot-preserved
 loop-slot-preserved c =
@@ -43,7 +44,7 @@ loop-slot-preserved c =
     elim c.match-get.branch [
       | in-Some+in_default-shape_reason w ↦
           let begins : Some w.in-Some.insn.now ≡ begins_at code slot = sym (ap option_copied w.in-Some.is) ∙ c.get.ensures in
-          let is_fine = fine code c.args.named.now w.in-Some.insn.now slot (sym w.in_default-shape_reason.ensures) in
+          let is_fine = unrefused_is_fine code c.args.named.now w.in-Some.insn.now slot (sym w.in_default-shape_reason.ensures) in
           let flags = w.mark_edges.new.reached in
           let items : c.match-get.reached.items ≡ flags =
           ap (λ v. v.items) w.reached-is ∙ with_items_is c.loop-slot.reached flags (w.mark_edges.auto.reached ∙ w.deref_mut.ensures.len) in
@@ -69,11 +70,11 @@ sound : (c : goal.After-drop-reached-2) (n : ℕ) → shape_fault c.args.program
 sound c n =
     elim (cases_lt n (slot_count c.args.program.now)) [
       | inl lt ↦ c.loop-slot.invariant.none_below n (omega arith)
-      | inr past ↦ shape_is c.args.program.now c.args.named.now n None None (sym (none_past c.args.program.now c.insns_adjoin.ensures n past)) refl
+      | inr past ↦ shape_is c.args.program.now c.args.named.now n None None (sym (none_begins_past c.args.program.now n past)) refl
     ]
 
 pub returns-clause-sound : goal.returns-clause-sound
 returns-clause-sound c = sound c
 
 pub returns-clause-lands : goal.returns-clause-lands
-returns-clause-lands c = each_lands c.args.program.now c.args.named.now (sound c) c.insns_adjoin.ensures
+returns-clause-lands c = each_lands c.args.program.now c.args.named.now (sound c)

@@ -1,7 +1,8 @@
 use Rattle.std.proofs.Common.{◌≡◌, ℕ, ◌*◌, List, refl, ap, ◌∙◌}
+use Rattle.words.specs.ByteLaws.{range_is_bytes}
 use Rattle.arena.specs.Bytes.{written_at, bytes_at}
 use Rattle.arena.specs.Memory.{Memory, with_part, part_bytes, refilled}
-use Rattle.arena.proofs.Parts.{relent, lent}
+use Rattle.arena.proofs.Parts.{relent}
 use Rattle.arena.proofs.memory.Arena.part_mut.Goals as goal
 
 pub returns : goal.returns
@@ -21,6 +22,6 @@ returns c =
       ),
       record {
         lends = tt;
-        bytes = c.slice_mut.ensures.value ∙ lent v.items start size ∙ ap (λ (n : ℕ). bytes_at v.items n size) start_is ∙ ap (λ (m : Memory). part_bytes m t) c.self.view_is;
+        bytes = c.slice_mut.ensures.value ∙ range_is_bytes v.items start size ∙ ap (λ (n : ℕ). bytes_at v.items n size) start_is ∙ ap (λ (m : Memory). part_bytes m t) c.self.view_is;
       },
     )

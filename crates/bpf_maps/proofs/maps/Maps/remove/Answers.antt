@@ -1,65 +1,24 @@
-use Rattle.std.proofs.Common.{◌≡◌, refl, ap, sym, subst, ◌∙◌, Some, is_some}
-use Rattle.bpf_maps.specs.Places.{IsSound}
-use Rattle.bpf_maps.specs.Live.{live_at}
-use Rattle.bpf_maps.specs.InMaps.{live_of, seen}
-use Rattle.bpf_maps.specs.declared.maps.Entry.{Entry}
-use Rattle.bpf_maps.proofs.Changes.{IsChange, with_entry, live_old, live_new, others_stay, areas_stay, whole_stays, laid_stays, room_stays, told_of}
+use Rattle.bpf_maps.proofs.KeyChanges.{IsKeyChange, places_before, places_after, keys_whole, only_keys}
 use Rattle.bpf_maps.proofs.Along.{removes_shape, removes_along}
 use Rattle.bpf_maps.proofs.maps.Maps.remove.Goals as goal
 
 module _ (c : goal.After-self-1) where
-  abbrev old : Entry
-  old = c.index_mut-entry.result.now
-
-  abbrev new : Entry
-  new = record { map = c.remove.new.self; number = old.number; stride = old.stride; holds = old.holds }
-
-  change : IsChange c.self.inside c.args.self.now c.map.inside.number c.args.map old new
+  change : IsKeyChange c.self.inside c.args.self.now c.map.inside.number c.args.map c.index_mut-entry.result.now c.remove.new.self
   change = record {
     view = c.self.view_is;
     whole = c.self.invariant;
     same = c.map.view_is;
     here = c.index_mut-entry.ensures.value;
-    number = refl;
-    stride = refl;
     shape = removes_shape _ c.args.key.now _ _ c.remove.result c.remove.ensures.removed;
-    held = (c.self.invariant.placed c.map.inside.number old c.index_mut-entry.ensures.value).held;
     sound = c.remove.ensures.sound;
   }
 
-  was : live_at c.args.self.now c.args.map ≡ Some (live_of old)
-  was = live_old c.self.inside c.args.self.now c.map.inside.number c.args.map old new c.self.inside.refused change
-
-  is : live_at (seen (with_entry c.self.inside c.map.inside.number new c.self.inside.refused)) c.args.map ≡ Some (live_of new)
-  is = live_new c.self.inside c.args.self.now c.map.inside.number c.args.map old new c.self.inside.refused change
-
 pub invariant_of-self : goal.invariant_of-self
-invariant_of-self c = whole_stays c.self.inside c.args.self.now c.map.inside.number c.args.map (old c) (new c) c.self.inside.refused (change c)
+invariant_of-self c = keys_whole c.self.inside c.args.self.now c.map.inside.number c.args.map c.index_mut-entry.result.now c.remove.new.self c.self.inside.refused (change c)
 
 pub returns-clause-removed : goal.returns-clause-removed
 returns-clause-removed c =
-    removes_along c.args.key.now c.remove.result _ _ _ _ (sym (told_of (λ l. l.places) _ _ (was c))) (sym (told_of (λ l. l.places) _ _ (is c))) c.remove.ensures.removed
+    removes_along c.args.key.now c.remove.result _ _ _ _ (places_before _ _ _ _ _ _ c.self.inside.refused (change c)) (places_after _ _ _ _ _ _ c.self.inside.refused (change c)) c.remove.ensures.removed
 
-pub returns-clause-sound : goal.returns-clause-sound
-returns-clause-sound c = subst IsSound (sym (told_of (λ l. l.places) _ _ (is c))) c.remove.ensures.sound
-
-pub returns-clause-live : goal.returns-clause-live
-returns-clause-live c = ap is_some (is c)
-
-pub returns-clause-holds : goal.returns-clause-holds
-returns-clause-holds c = told_of (λ l. l.holds) _ _ (is c) ∙ sym (told_of (λ l. l.holds) _ _ (was c))
-
-pub returns-clause-others : goal.returns-clause-others
-returns-clause-others c = others_stay c.self.inside c.args.self.now c.map.inside.number c.args.map (old c) (new c) c.self.inside.refused (change c)
-
-pub returns-clause-areas : goal.returns-clause-areas
-returns-clause-areas c = areas_stay c.self.inside c.args.self.now c.map.inside.number c.args.map (old c) (new c) c.self.inside.refused (change c)
-
-pub returns-clause-laid : goal.returns-clause-laid
-returns-clause-laid c = laid_stays c.self.inside c.args.self.now c.map.inside.number c.args.map (old c) (new c) c.self.inside.refused (change c)
-
-pub returns-clause-shape : goal.returns-clause-shape
-returns-clause-shape c = told_of (λ l. l.places.shape) _ _ (is c) ∙ (change c).shape ∙ sym (told_of (λ l. l.places.shape) _ _ (was c))
-
-pub returns-clause-room : goal.returns-clause-room
-returns-clause-room c = room_stays c.self.inside c.args.self.now c.map.inside.number c.args.map (old c) (new c) c.self.inside.refused (change c)
+pub returns-clause-rest : goal.returns-clause-rest
+returns-clause-rest c = only_keys c.self.inside c.args.self.now c.map.inside.number c.args.map c.index_mut-entry.result.now c.remove.new.self c.self.inside.refused (change c)

@@ -1,9 +1,9 @@
 use Rattle.std.proofs.Common.{◌≡◌, ℕ, ◌+◌, ◌-◌, ◌≤◌, List, [], Option, Some, None, sym, ap, subst, ◌∙◌}
-use Rattle.fd_table.specs.Table.{first, named}
+use Rattle.fd_table.specs.Table.{first_descriptor, named}
 use Rattle.tenant.specs.declared.errno.Errno.TheVariants.{BadDescriptor}
 use Rattle.tenant.specs.declared.object.OpenObject.{OpenObject}
 use Rattle.tenant.specs.declared.object.OpenObject.TheVariants as object
-use Rattle.tenant.specs.Kept.{KeptTenant, IsWellFormedTenant, holds_in, times, weight, holders, state_in}
+use Rattle.tenant.specs.Kept.{KeptTenant, IsWellFormedTenant, holds_in, times_listed, times_named, holders, state_in}
 use Rattle.tenant.specs.Machine.{gives, refuses, closed}
 use Rattle.tenant.proofs.Sums.{total-part}
 use Rattle.tenant.proofs.Named.{named_has_key}
@@ -33,8 +33,8 @@ release_all-requires-clause-held c = λ q.
     let k : KeptTenant = record { objects = c.self.inside.objects; keys = c.self.inside.keys; live = c.self.inside.maps; refused = c.self.inside.refused } in
     let o = object.Program c.in-Program.program in
     let opened : named k.objects c.args.fd ≡ Some o = sym c.close.ensures.named ∙ c.in-Some.is ∙ ap Some c.in-Program.is in
-    subst (λ (n : ℕ). times q c.maps.result.now ≤ n) (sym (c.self.invariant.held q))
-    (subst (λ (ms : List (ℕ × ℕ)). times q ms ≤ holders q k.objects) (sym c.maps.ensures) (total-part (weight q) k.objects (c.args.fd - first) o (closed_at k.objects c.args.fd o opened).1))
+    subst (λ (n : ℕ). times_listed q c.maps.result.now ≤ n) (sym (c.self.invariant.held q))
+    (subst (λ (ms : List (ℕ × ℕ)). times_listed q ms ≤ holders q k.objects) (sym c.maps.ensures) (total-part (times_named q) k.objects (c.args.fd - first_descriptor) o (closed_at k.objects c.args.fd o opened).1))
 
 pub invariant_of-self-in-Program : goal.invariant_of-self-in-Program
 invariant_of-self-in-Program c =
@@ -43,7 +43,7 @@ invariant_of-self-in-Program c =
     let opened : named k.objects c.args.fd ≡ Some o = sym c.close.ensures.named ∙ c.in-Some.is ∙ ap Some c.in-Program.is in
     let t = c.release_all.new.maps in
     let after = c.release_all.new.keys in
-    let fewer : (q : ℕ) → holds_in after t q + weight q o ≡ holds_in k.keys k.live q = λ q. ap (λ (ms : List (ℕ × ℕ)). holds_in after t q + times q ms) (sym c.maps.ensures) ∙ c.release_all.ensures.holds q in
+    let fewer : (q : ℕ) → holds_in after t q + times_named q o ≡ holds_in k.keys k.live q = λ q. ap (λ (ms : List (ℕ × ℕ)). holds_in after t q + times_listed q ms) (sym c.maps.ensures) ∙ c.release_all.ensures.holds q in
     subst (λ (os : List (Option OpenObject)). IsWellFormedTenant (record { objects = os; keys = after; live = t; refused = k.refused })) (sym c.close.ensures.closed)
     (closed_kept k t after c.args.part.now c.release_all.new.part c.args.fd o c.self.invariant opened c.release_all.ensures.left fewer)
 
@@ -56,7 +56,7 @@ returns-in-Program-clause-answer c =
     let after = c.release_all.new.keys in
     let part = c.args.part.now in
     let later = c.release_all.new.part in
-    let fewer : (q : ℕ) → holds_in after t q + weight q o ≡ holds_in k.keys k.live q = λ q. ap (λ (ms : List (ℕ × ℕ)). holds_in after t q + times q ms) (sym c.maps.ensures) ∙ c.release_all.ensures.holds q in
+    let fewer : (q : ℕ) → holds_in after t q + times_named q o ≡ holds_in k.keys k.live q = λ q. ap (λ (ms : List (ℕ × ℕ)). holds_in after t q + times_listed q ms) (sym c.maps.ensures) ∙ c.release_all.ensures.holds q in
     let kept = closed_kept k t after part later c.args.fd o c.self.invariant opened c.release_all.ensures.left fewer in
     ap (λ (os : List (Option OpenObject)). gives [] (state_in later (record { objects = os; keys = after; live = t; refused = k.refused }))) c.close.ensures.closed
     ∙ ap (gives []) (closed_state k t after part later c.args.fd o c.self.invariant opened c.release_all.ensures.left kept)

@@ -1,15 +1,16 @@
-use Rattle.std.proofs.Common.{◌≡◌, ◌≢◌, ℕ, [], length, Result, sym, ap, ap₂, ◌∙◌}
+use Rattle.std.proofs.Common.{◌≡◌, ℕ, [], length, Result, sym, ap, ap₂, ◌∙◌}
 use Rattle.std.specs.Result.{result_map_both}
-use Rattle.bpf_maps.specs.Live.{live_at, places_at, shape_at, map_in, value_in}
+use Rattle.bpf_maps.specs.Live.{places_at, shape_at, map_in, value_in}
 use Rattle.bpf_maps.specs.Places.{PlaceTable, table_of, with_kept, after_run}
 use Rattle.tagged_model.specs.declared.shape.MapShape.{MapShape}
 use Rattle.tagged_model.specs.declared.fault.MapFault.{MapFault}
 use Rattle.tagged_model.specs.Table as call
 use Rattle.tagged_model.specs.Table.{removal, with_deleted}
 use Rattle.tenant.specs.Kept.{KeptTenant, state_in}
+use Rattle.bpf_maps.specs.LiveLaws.{keys_along}
 use Rattle.tenant.proofs.Named.{named_in}
-use Rattle.tenant.specs.Machine.{gives, refuses, taken_out, deleted}
-use Rattle.tenant.proofs.StillKept.{IsLiveStill, each_still, still_kept, with_live}
+use Rattle.tenant.specs.Machine.{gives, refuses, element_taken_out, element_deleted}
+use Rattle.tenant.proofs.StillKept.{with_live, keys_kept}
 use Rattle.tenant.proofs.OneMap.{one_map, no_map, each_same, others_keep}
 use Rattle.tenant.proofs.Deletes.{delete_is, same_values, same_map, map_without, refused_delete, done_delete}
 use Rattle.tenant.proofs.tenant.Tenant.delete.Goals as goal
@@ -22,13 +23,7 @@ invariant_of-self c =
     let t = c.remove.new.self in
     let e = c.in-Err.ensures in
     let (found, same) = refused_delete c.in-Err.fault (removal (table_of (places_at k.live m)) c.args.key.now) c.args.key.now (places_at k.live m) (places_at t m) e.removed in
-    let here : IsLiveStill k.live t m = record {
-      live = e.live;
-      holds = e.holds;
-      shape = e.shape;
-      ended = ap (λ (p : PlaceTable). p.kept) same ∙ (c.self.invariant.placed.each place m there).ended;
-    } in
-    still_kept k t c.self.invariant (each_still k t m c.self.invariant here e.others) e.room
+    keys_kept k t m c.self.invariant e.rest (ap (λ (p : PlaceTable). p.kept) same ∙ (c.self.invariant.placed.each place m there).ended)
 
 pub returns-in-Err : goal.returns-in-Err
 returns-in-Err c = λ part.
@@ -41,29 +36,22 @@ returns-in-Err c = λ part.
     let T = map_in part k.live m in
     let e = c.in-Err.ensures in
     let (found, same) = refused_delete c.in-Err.fault (removal (table_of (places_at k.live m)) key) key (places_at k.live m) (places_at t m) e.removed in
-    let values : value_in part t m ≡ value_in part k.live m = same_values c.areas_keep_places.ensures part k.live t m e.areas e.live e.shape in
+    let values : value_in part t m ≡ value_in part k.live m = same_values c.areas_keep_places.ensures part k.live t m e.rest in
     let here : map_in part t m ≡ T = same_map part k.live t m values same in
-    let state : state_in part (with_live k t) ≡ s = no_map part part k t (λ i other at. each_same part part k.live t m here (others_keep part k.live t m e.others) other) e.refused in
+    let state : state_in part (with_live k t) ≡ s = no_map part part k t (λ i other at. each_same part part k.live t m here (others_keep part k.live t m e.rest.others) other) e.refused in
     let size : length key ≡ (shape_at k.live m).key_size = c.if-key-shape.false ∙ ap (λ (s : MapShape). s.key_size) c.shape.ensures in
     ap₂ refuses c.of_map.ensures state
-    ∙ ap (λ (r : Result ℕ MapFault). taken_out s place T key (result_map_both (value_in part k.live m) (λ fault. fault) r)) (sym found)
+    ∙ ap (λ (r : Result ℕ MapFault). element_taken_out s place T key (result_map_both (value_in part k.live m) (λ fault. fault) r)) (sym found)
     ∙ sym (delete_is c.calls_refine_values.ensures.bytes part k c.args.fd place m key opened there size)
-    ∙ ap (λ (old : KeptTenant). deleted (state_in part old) c.args.fd key) c.self.view_is
+    ∙ ap (λ (old : KeptTenant). element_deleted (state_in part old) c.args.fd key) c.self.view_is
 
 pub invariant_of-self-2 : goal.invariant_of-self-2
 invariant_of-self-2 c =
     let k : KeptTenant = record { objects = c.self.inside.objects; keys = c.self.inside.keys; live = c.self.inside.maps; refused = c.self.inside.refused } in
     let m = c.in_ok-map.map in
     let t = c.end_run.new.self in
-    let here : IsLiveStill k.live t m = record {
-      live = c.end_run.ensures.live;
-      holds = c.end_run.ensures.holds ∙ c.in_default.ensures.holds;
-      shape = c.end_run.ensures.shape ∙ c.in_default.ensures.shape;
-      ended = ap (λ (p : PlaceTable). p.kept) c.end_run.ensures.ended;
-    } in
-    let others : (other : ℕ) → other ≢ m → live_at t other ≡ live_at k.live other = λ o apart. c.end_run.ensures.others o apart ∙ c.in_default.ensures.others o apart in
-    still_kept k t c.self.invariant (each_still k t m c.self.invariant here others)
-    (record { maps = c.end_run.ensures.room.maps ∙ c.in_default.ensures.room.maps; bytes = c.end_run.ensures.room.bytes ∙ c.in_default.ensures.room.bytes })
+    let rest = keys_along m k.live c.remove.new.self t c.in_default.ensures.rest c.end_run.ensures.rest in
+    keys_kept k t m c.self.invariant rest (ap (λ (p : PlaceTable). p.kept) c.end_run.ensures.ended)
 
 pub returns : goal.returns
 returns c = λ part.
@@ -76,14 +64,13 @@ returns c = λ part.
     let T = map_in part k.live m in
     let (p, found, kept) = done_delete (removal (table_of (places_at k.live m)) key) key (places_at k.live m) (places_at c.remove.new.self m) c.in_default.ensures.removed in
     let ended : places_at t m ≡ after_run (with_kept (places_at k.live m) key p) = c.end_run.ensures.ended ∙ ap after_run kept in
-    let values : value_in part t m ≡ value_in part k.live m =
-    same_values c.areas_keep_places.ensures part c.remove.new.self t m c.end_run.ensures.areas c.end_run.ensures.live c.end_run.ensures.shape
-    ∙ same_values c.areas_keep_places.ensures part k.live c.remove.new.self m c.in_default.ensures.areas c.in_default.ensures.live c.in_default.ensures.shape in
-    let others = others_keep part k.live t m (λ o apart. c.end_run.ensures.others o apart ∙ c.in_default.ensures.others o apart) in
+    let rest = keys_along m k.live c.remove.new.self t c.in_default.ensures.rest c.end_run.ensures.rest in
+    let values : value_in part t m ≡ value_in part k.live m = same_values c.areas_keep_places.ensures part k.live t m rest in
+    let others = others_keep part k.live t m rest.others in
     let changed : map_in part t m ≡ call.after_run (with_deleted T key) = map_without c.calls_are_those_of_a_map.ensures c.calls_refine_values.ensures.bytes part k.live t m p key values ended in
     let state : state_in part (with_live k t) ≡ _ = one_map part part k t place m (call.after_run (with_deleted T key)) c.self.invariant there (λ i o at apart. others o apart) changed (c.end_run.ensures.refused ∙ c.in_default.ensures.refused) in
     let size : length key ≡ (shape_at k.live m).key_size = c.if-key-shape.false ∙ ap (λ (s : MapShape). s.key_size) c.shape.ensures in
     ap (gives []) state
-    ∙ ap (λ (r : Result ℕ MapFault). taken_out s place T key (result_map_both (value_in part k.live m) (λ fault. fault) r)) (sym found)
+    ∙ ap (λ (r : Result ℕ MapFault). element_taken_out s place T key (result_map_both (value_in part k.live m) (λ fault. fault) r)) (sym found)
     ∙ sym (delete_is c.calls_refine_values.ensures.bytes part k c.args.fd place m key opened there size)
-    ∙ ap (λ (old : KeptTenant). deleted (state_in part old) c.args.fd key) c.self.view_is
+    ∙ ap (λ (old : KeptTenant). element_deleted (state_in part old) c.args.fd key) c.self.view_is

@@ -1,17 +1,17 @@
 use Rattle.std.proofs.Common.{sym, ◌∙◌}
 use Rattle.arena.specs.Memory.{part_bytes}
-use Rattle.command_frames.specs.Shown.{shown}
+use Rattle.command_frames.specs.Shown.{shown_command}
 use Rattle.tenant.specs.Kept.{state_in}
 use Rattle.tenant.proofs.FramesLengths.{parsed_within}
 use Rattle.tenant.proofs.FramesReplies.{may_tell, no_fault_told, refused_frame, refused_no_fault}
 use Rattle.tenant.proofs.tenant.Tenant.handle.Goals as goal
 
 pub reply_to_command-requires-clause-short : goal.reply_to_command-requires-clause-short
-reply_to_command-requires-clause-short c = parsed_within c.args.frame.now (shown c.in-Ok.command) (sym c.in-Ok.ensures)
+reply_to_command-requires-clause-short c = parsed_within c.args.frame.now (shown_command c.in-Ok.command) (sym c.in-Ok.ensures)
 
 pub returns-in-Ok-clause-told : goal.returns-in-Ok-clause-told
 returns-in-Ok-clause-told c =
-    may_tell c.args.frame.now (shown c.in-Ok.command) c.in-Some.head c.reply_to_command.new.reply (state_in (part_bytes c.args.arena.now c.args.tenant) c.args.self.now)
+    may_tell c.args.frame.now (shown_command c.in-Ok.command) c.in-Some.head c.reply_to_command.new.reply (state_in (part_bytes c.args.arena.now c.args.tenant) c.args.self.now)
     (state_in (part_bytes c.reply_to_command.new.arena c.args.tenant) c.reply_to_command.new.self) (sym c.head.ensures ∙ c.in-Some.is) (sym c.in-Ok.ensures) c.reply_to_command.ensures.told
 
 pub returns-in-Ok-clause-no_fault : goal.returns-in-Ok-clause-no_fault

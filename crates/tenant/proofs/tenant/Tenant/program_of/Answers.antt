@@ -3,9 +3,9 @@ use Rattle.std.proofs.lemmas.Result.{err_from_is_err_and}
 use Rattle.tagged_model.specs.declared.shape.Named.{Named}
 use Rattle.verdict.specs.Maps.{maps_of, entries_of}
 use Rattle.verdict.specs.Verdict.{IsAccepted}
-use Rattle.tenant.specs.Kept.{KeptTenant, IsWellFormedTenant, IsBound, times, state_in}
+use Rattle.tenant.specs.Kept.{KeptTenant, IsWellFormedTenant, IsBound, times_listed, state_in}
 use Rattle.tenant.specs.inside.Loading.{IsLoadFault}
-use Rattle.tenant.specs.Machine.{loaded, places_from, targets}
+use Rattle.tenant.specs.Machine.{loaded_program, places_from, targets}
 use Rattle.tenant.proofs.LoadingBound.{loaded_is, loaded_bound, loaded_there}
 use Rattle.tenant.proofs.tenant.Tenant.program_of.Goals as goal
 
@@ -22,7 +22,7 @@ returns-in-Ok-places-clause-bound c =
     let listed : c.deref.result.now ≡ targets (state_in [] k) = c.deref.ensures.value ∙ c.in-Ok.ensures [] in
     let maps : c.new.result.maps ≡ places_from k.objects (maps_of insns) =
     c.new.ensures.maps ∙ c.in-Ok-places.ensures ∙ ap₂ places_from (ap (λ (k : KeptTenant). k.objects) c.self.view_is) c.maps.ensures in
-    let same : c.new.result ≡ loaded (state_in [] k) insns =
+    let same : c.new.result ≡ loaded_program (state_in [] k) insns =
     loaded_is c.new.result insns (entries_of (maps_of insns) (targets (state_in [] k))) (places_from k.objects (maps_of insns)) c.new.ensures.insns
     (c.new.ensures.named ∙ c.in_ok-program.ensures.entries ∙ ap (entries_of (maps_of insns)) listed) maps in
     subst (IsBound k) (sym same)
@@ -34,4 +34,4 @@ returns-in-Ok-places-clause-there c = λ place some.
     let is : IsWellFormedTenant k = subst (λ (k : KeptTenant). IsWellFormedTenant k) c.self.view_is c.self.invariant in
     let maps : c.new.result.maps ≡ places_from k.objects (maps_of c.in_ok-program.program.code) =
     c.new.ensures.maps ∙ c.in-Ok-places.ensures ∙ ap₂ places_from (ap (λ (k : KeptTenant). k.objects) c.self.view_is) c.maps.ensures in
-    loaded_there k is (maps_of c.in_ok-program.program.code) place (subst (λ (ms : List (ℕ × ℕ)). 1 ≤ times place ms) maps some)
+    loaded_there k is (maps_of c.in_ok-program.program.code) place (subst (λ (ms : List (ℕ × ℕ)). 1 ≤ times_listed place ms) maps some)

@@ -2,7 +2,7 @@ use Rattle.std.proofs.Common.{◌≡◌, ◌∷◌, ℕ, ◌≤◌, List, length
 use Rattle.fd_table.specs.Table.{named}
 use Rattle.arena.specs.Memory.{part_bytes}
 use Rattle.flat_machine.specs.Runs.{SimulatesRun, given_maps}
-use Rattle.tenant.specs.Machine.{ended, run_of}
+use Rattle.tenant.specs.Machine.{outcome_answer, run_of}
 use Rattle.tenant.specs.inside.Answers.{run_answer}
 use Rattle.tenant.specs.declared.object.OpenObject.TheVariants as object
 use Rattle.tenant.specs.Kept.{KeptTenant, state_in}
@@ -84,10 +84,10 @@ returns-clause-answer c =
     c.run.ensures.runs) in
     let (refusals, is) = ran_as c.maps_are_listed.ensures part later k new l bind words packet before steps c.run.result
     (record { kept = c.self.invariant; bound = bound; count = binds.count; keys = binds.keys; runs = runs; maps = c.run.ensures.maps; values = c.run.ensures.values }) in
-    let answer : run_answer c.match-run.result (state_in later (with_live k new)) ≡ ended c.run.result (state_in later (with_live k new)) =
+    let answer : run_answer c.match-run.result (state_in later (with_live k new)) ≡ outcome_answer c.run.result (state_in later (with_live k new)) =
     elim c.match-run.branch [
-      | in-Value w ↦ ap (λ r. run_answer r (state_in later (with_live k new))) w.result-is ∙ ap (λ o. ended o (state_in later (with_live k new))) (sym w.in-Value.is)
-      | in-Fault w ↦ ap (λ r. run_answer r (state_in later (with_live k new))) w.result-is ∙ ap (λ o. ended o (state_in later (with_live k new))) (sym w.in-Fault.is)
+      | in-Value w ↦ ap (λ r. run_answer r (state_in later (with_live k new))) w.result-is ∙ ap (λ o. outcome_answer o (state_in later (with_live k new))) (sym w.in-Value.is)
+      | in-Fault w ↦ ap (λ r. run_answer r (state_in later (with_live k new))) w.result-is ∙ ap (λ o. outcome_answer o (state_in later (with_live k new))) (sym w.in-Fault.is)
     ] in (
       refusals,
       answer

@@ -1,11 +1,11 @@
 use Rattle.std.proofs.Common.{◌≡◌, ℕ, ◌+◌, false, List, [], length, take, drop, Ok, Err, sym, ap, ap₂, subst, ◌∙◌, arith, length-drop}
 use Rattle.bpf_maps.specs.Live.{shape_at}
 use Rattle.bpf_maps.specs.InPart.{IsValueAt, with_value}
-use Rattle.interval.specs.Bytes.{written_at}
+use Rattle.words.specs.Bytes.{written_at}
 use Rattle.tagged_model.specs.declared.shape.MapShape.{MapShape}
 use Rattle.tenant.specs.declared.errno.Errno.{Errno}
 use Rattle.tenant.specs.Kept.{KeptTenant, state_in}
-use Rattle.tenant.specs.Machine.{gives, refuses, updated}
+use Rattle.tenant.specs.Machine.{gives, refuses, element_updated}
 use Rattle.tenant.proofs.Named.{named_in}
 use Rattle.tenant.proofs.StillKept.{with_live}
 use Rattle.tenant.proofs.Updates.{IsClaimed, still_claimed, updated_at, update_refused}
@@ -21,7 +21,7 @@ invariant_of-self c =
     let (place, opened, there) = named_in c.args.self.now k c.args.fd m c.self.view_is c.in_ok-map.ensures.found in
     let e = c.in-Err.ensures in
     still_claimed k c.claim.new.self place m c.args.flags c.split_at.result.0.now (Err c.in-Err.fault) c.self.invariant there
-    (record { claimed = e.claimed; live = e.live; holds = e.holds; shape = e.shape; others = e.others; areas = e.areas; room = e.room; refused = e.refused })
+    (record { claimed = e.claimed; rest = e.rest; refused = e.refused })
 
 pub returns-in-Err-clause-answer : goal.returns-in-Err-clause-answer
 returns-in-Err-clause-answer c =
@@ -38,12 +38,12 @@ returns-in-Err-clause-answer c =
     let sizes : length bytes ≡ (shape_at k.live m).key_size + (shape_at k.live m).value_size = c.if-key_and_value-key_size.false ∙ ap (λ (s : MapShape). s.key_size + s.value_size) shape in
     let key_is : c.split_at.result.0.now ≡ take (shape_at k.live m).key_size bytes = c.split_at.ensures.front ∙ ap (λ (n : ℕ). take n bytes) keys in
     let claimed : IsClaimed k t m c.args.flags (take (shape_at k.live m).key_size bytes) (Err f) = subst (λ (x : List ℕ). IsClaimed k t m c.args.flags x (Err f)) key_is
-    (record { claimed = e.claimed; live = e.live; holds = e.holds; shape = e.shape; others = e.others; areas = e.areas; room = e.room; refused = e.refused }) in
+    (record { claimed = e.claimed; rest = e.rest; refused = e.refused }) in
     let (refused, is) = update_refused c.live_maps_refine_values.ensures c.calls_refine_values.ensures.bytes c.map_verdicts_match_look_ups.ensures.numbers part k t c.args.fd place m c.args.flags f bytes c.self.invariant opened there sizes claimed in (
       refused,
       ap (λ (errno : Errno). refuses errno (state_in part (with_live k t))) c.of_map.ensures
           ∙ is
-          ∙ ap (λ (old : KeptTenant). updated refused (state_in part old) c.args.fd c.args.flags bytes) c.self.view_is,
+          ∙ ap (λ (old : KeptTenant). element_updated refused (state_in part old) c.args.fd c.args.flags bytes) c.self.view_is,
     )
 
 pub invariant_of-self-2 : goal.invariant_of-self-2
@@ -53,7 +53,7 @@ invariant_of-self-2 c =
     let (place, opened, there) = named_in c.args.self.now k c.args.fd m c.self.view_is c.in_ok-map.ensures.found in
     let e = c.in-Ok.ensures in
     still_claimed k c.claim.new.self place m c.args.flags c.split_at.result.0.now (Ok c.in-Ok.place) c.self.invariant there
-    (record { claimed = e.claimed; live = e.live; holds = e.holds; shape = e.shape; others = e.others; areas = e.areas; room = e.room; refused = e.refused })
+    (record { claimed = e.claimed; rest = e.rest; refused = e.refused })
 
 pub returns-clause-answer : goal.returns-clause-answer
 returns-clause-answer c =
@@ -73,13 +73,13 @@ returns-clause-answer c =
     let key = take (shape_at k.live m).key_size bytes in
     let value = drop (shape_at k.live m).key_size bytes in
     let claimed : IsClaimed k t m c.args.flags key (Ok p) = subst (λ (x : List ℕ). IsClaimed k t m c.args.flags x (Ok p)) key_is
-    (record { claimed = e.claimed; live = e.live; holds = e.holds; shape = e.shape; others = e.others; areas = e.areas; room = e.room; refused = e.refused }) in
+    (record { claimed = e.claimed; rest = e.rest; refused = e.refused }) in
     let size : length value ≡ (shape_at t m).value_size =
-    value_size bytes (shape_at k.live m).key_size (shape_at k.live m).value_size sizes ∙ sym (ap (λ (s : MapShape). s.value_size) e.shape) in
-    let at : IsValueAt part t m p value = record { whole = c.requires; laid = c.maps_are_laid.ensures.laid; sound = c.maps_are_laid.ensures.sound; live = e.live; within = e.within; size = size } in
+    value_size bytes (shape_at k.live m).key_size (shape_at k.live m).value_size sizes ∙ sym (ap (λ (s : MapShape). s.value_size) e.rest.shape) in
+    let at : IsValueAt part t m p value = record { whole = c.requires; laid = c.maps_are_laid.ensures.laid; sound = c.maps_are_laid.ensures.sound; live = e.rest.live; within = e.within; size = size } in
     let later : c.write_at.new.part ≡ with_value part t m p value = c.write_at.ensures ∙ ap₂ (λ (start : ℕ) (bs : List ℕ). written_at part start bs) c.value_at-start.ensures.offset value_is in (
       false,
       ap (λ (ps : List ℕ). gives [] (state_in ps (with_live k t))) later
           ∙ updated_at c.live_maps_refine_values.ensures c.values_are_written.ensures c.calls_refine_values.ensures.bytes part k t c.args.fd place m c.args.flags p bytes c.self.invariant opened there sizes claimed at
-          ∙ ap (λ (old : KeptTenant). updated false (state_in part old) c.args.fd c.args.flags bytes) c.self.view_is,
+          ∙ ap (λ (old : KeptTenant). element_updated false (state_in part old) c.args.fd c.args.flags bytes) c.self.view_is,
     )

@@ -1,0 +1,24 @@
+-- What holds of parts of the memory and of addresses in it: laws of the definitions of `Memory` and `Apart`, proved here for
+-- the proofs of the crates above. This project's own. No contract cites them, so there is nothing in them to believe.
+use Rattle.std.proofs.Common.{◌≡◌, ℕ, suc, ◌+◌, ◌-◌, ◌*◌, ◌<◌, ◌≤◌, ◌&&◌, leb, Some, None, ap, ◌∙◌, arith}
+use Rattle.std.proofs.lemmas.Bool.{cond-true, and_from, le-leb}
+use Rattle.std.proofs.lemmas.Nat.{mul-le}
+use Rattle.arena.specs.Memory.{Memory, base, size_of, place_of, part_start}
+use Rattle.arena.specs.Apart.{IsPart}
+
+-- a part lies in the memory
+pub part_within : (m : Memory) (t : ℕ) → IsPart m t → part_start m t + m.part ≤ size_of m
+part_within m t is =
+    let below : suc t * m.part ≤ m.parts * m.part = mul-le (suc t) m.part m.parts m.part is.1 (omega arith) in
+    let next : suc t * m.part ≡ t * m.part + m.part = omega arith in
+    let size = is.0 in
+    omega arith
+
+-- where so many bytes from a place on lie in the memory, that is the place of its address
+pub place_is : (size n place address : ℕ) → address ≡ base + place → place + n ≤ size → place_of size n address ≡ Some place
+place_is size n place address e h =
+    let from : base ≤ address = omega arith in
+    let to : address + n ≤ base + size = omega arith in
+    let t = and_from (leb base address) (leb (address + n) (base + size)) (le-leb base address from) (le-leb (address + n) (base + size) to) in
+    let at : address - base ≡ place = omega arith in
+    cond-true (leb base address && leb (address + n) (base + size)) (Some (address - base)) None t ∙ ap (λ (q : ℕ). Some q) at

@@ -1,0 +1,52 @@
+//! Bytes as hex digits.
+
+ghost use Rattle.std.specs.Prelude.{◌<◌};
+
+use crate::fault::LineFault;
+use std::alloc::{AllocError, Global};
+
+/// The most copies that a line may ask for.
+const MOST_COPIES: usize = 65_537;
+
+/// Appends so many copies of the bytes of hex digits.
+fn append(
+    alloc: Global,
+    bytes: &mut Vec<u8>,
+    digits: &str,
+    copies: usize,
+) -> Result<(), LineFault> {
+    if copies > MOST_COPIES {
+        return Err(LineFault::TooManyCopies);
+    }
+    let once = hex::decode(alloc, digits)?;
+    for _ in 0..copies {
+        bytes.extend_from_slice(&once)?;
+    }
+    Ok(())
+}
+
+/// The bytes of hex digits. Blanks may part them, and `DIGITS*COUNT` stands for so many copies.
+pub fn bytes_of(alloc: Global, text: &str) -> Result<Vec<u8>, LineFault> {
+    let mut bytes = Vec::new(alloc);
+    for part in text.split_whitespace() {
+        match part.split_once('*') {
+            Some((digits, copies)) => append(alloc, &mut bytes, digits, copies.parse()?)?,
+            None => append(alloc, &mut bytes, part, 1)?,
+        }
+    }
+    Ok(bytes)
+}
+
+/// The hex digits of bytes, in groups of so many bytes with a blank between them.
+pub fn hex_groups(alloc: Global, bytes: &[u8], size: usize) -> Result<String, AllocError>
+    requires { 0 < size }
+{
+    let mut text = String::new(alloc);
+    for group in bytes.chunks(size) {
+        if !text.is_empty() {
+            text.push(' ')?;
+        }
+        text.push_str(&hex::encode(alloc, group)?)?;
+    }
+    Ok(text)
+}

@@ -1,0 +1,12 @@
+//! Lines of worked cases: how they write bytes and programs, and how a program plays those of its input.
+#![tactic(auto)]
+
+mod bytes;
+mod fault;
+mod lines;
+mod playing;
+
+pub use bytes::{bytes_of, hex_groups};
+pub use fault::LineFault;
+pub use lines::{first_word, is_remark, program_lines};
+pub use playing::{Player, play_lines};

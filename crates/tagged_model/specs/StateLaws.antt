@@ -1,0 +1,56 @@
+-- What holds of offsets that are near, of cells of which no byte is told, and of the objects that the keys of a map have: laws of
+-- the definitions of `Values` and `Admits`, proved here for the proofs of the crates above. This project's own. No contract
+-- cites them, so there is nothing in them to believe.
+use Rattle.std.proofs.Common.{◌≡◌, ℕ, ◌^◌, ◌<◌, ◌≤◌, ℤ, pos, neg_ℤ, ◌≤ℤ◌, int_le, Bool, true, false, cond, List, [], ◌∷◌, Some, arith}
+use Rattle.std.proofs.lemmas.Bool.{and_parts}
+use Rattle.std.proofs.lemmas.Int.{ints}
+use Rattle.std.proofs.lemmas.Nat.Bits.{bit_at-zero}
+use Rattle.std.proofs.lemmas.Option.{none-some, same_Some}
+use Rattle.tagged_model.specs.Values.{is_near}
+use Rattle.tagged_model.specs.Cells.{Cell}
+use Rattle.tagged_model.specs.Table.{is_key, found, without, with_key}
+use Rattle.tagged_model.specs.Admits.{HasBytes, KeysHaveObjects}
+
+-- ---- offsets
+
+-- an offset that is near is at most 2 ^ 29 away
+pub near_parts : (x : ℤ) → is_near x ≡ true → (neg_ℤ (pos (2 ^ 29)) ≤ℤ x) × (x ≤ℤ pos (2 ^ 29))
+near_parts x e =
+    let h = and_parts (int_le (neg_ℤ (pos (2 ^ 29))) x) (int_le x (pos (2 ^ 29))) e in
+    let p = h.0 in let q = h.1 in (grind (arith, ints), grind (arith, ints))
+
+-- ---- cells
+
+-- where it is told of no byte that it is there, any cell will do
+pub no_bytes : (c : Cell) → HasBytes 0 c
+no_bytes c j h e = absurd (omega (arith, bit_at-zero j, e))
+
+-- ---- keys, each of which has one of so many objects
+
+-- the object of a key that is found is one of them
+pub found_owned : (count : ℕ) (key : List ℕ) (es : List (List ℕ × ℕ)) (number : ℕ) → KeysHaveObjects count es → found key es ≡ Some number → number < count
+found_owned count key [] number owns e = absurd (none-some number e)
+found_owned count key (x ∷ es) number owns e = by (λ f. found_owned count key es number owns.1 f) (is_key key x.0) e
+  where
+    by : (found key es ≡ Some number → number < count) → (b : Bool) → cond b (Some x.1) (found key es) ≡ Some number → number < count
+    by rest true e = let same : x.1 ≡ number = same_Some x.1 number e in let lt = owns.0 in omega arith
+    by rest false e = rest e
+
+-- they have objects of more too
+pub owns_more : (n m : ℕ) (es : List (List ℕ × ℕ)) → n ≤ m → KeysHaveObjects n es → KeysHaveObjects m es
+owns_more n m [] le h = tt
+owns_more n m (e ∷ es) le h = let lt = h.0 in (omega arith, owns_more n m es le h.1)
+
+-- so do those after a key gets one of these objects
+pub owns_with : (n : ℕ) (key : List ℕ) (number : ℕ) (es : List (List ℕ × ℕ)) → number < n → KeysHaveObjects n es → KeysHaveObjects n (with_key key number es)
+owns_with n key number [] lt h = (lt, tt)
+owns_with n key number (e ∷ es) lt h = (h.0, owns_with n key number es lt h.1)
+
+-- and those after a key goes
+pub owns_without : (n : ℕ) (key : List ℕ) (es : List (List ℕ × ℕ)) → KeysHaveObjects n es → KeysHaveObjects n (without key es)
+owns_without n key [] h = tt
+owns_without n key (e ∷ es) h = by (is_key key e.0) (owns_without n key es h.1)
+  where
+    by : (b : Bool) → KeysHaveObjects n (without key es) → KeysHaveObjects n (cond b es (e ∷ without key es))
+    by true g = h.1
+    by false g = (h.0, g)

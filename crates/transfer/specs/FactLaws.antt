@@ -1,0 +1,23 @@
+-- What holds of facts before a slot: laws of the definitions of `Sound`, proved here for the proofs of the crates above. This
+-- project's own. No contract cites them, so there is nothing in them to believe.
+use Rattle.std.proofs.Common.{ℕ, ◌<◌, arith}
+use Rattle.reg_kinds.specs.declared.kind.Kind.{Kind}
+use Rattle.reg_kinds.specs.declared.kind.Kind.TheVariants as kind
+use Rattle.reg_kinds.specs.declared.kind.Slot.{Slot}
+use Rattle.reg_kinds.specs.declared.kind.Slot.TheVariants.{Bytes, Spill}
+use Rattle.reg_kinds.specs.declared.facts.Facts.{Facts}
+use Rattle.reg_kinds.specs.Kinds.{kind_at, slot_at}
+use Rattle.transfer.specs.Sound.{IsKindAt, IsSlotAt, AreWellFormedAt}
+
+kind_raised : (at n : ℕ) (k : Kind) → at < n → IsKindAt at k → IsKindAt n k
+kind_raised at n (kind.Scalar r) lt h = h
+kind_raised at n (kind.MaybeValue m site) lt h = omega arith
+kind_raised at n k lt h = tt
+
+slot_raised : (at n : ℕ) (s : Slot) → at < n → IsSlotAt at s → IsSlotAt n s
+slot_raised at n (Bytes mask) lt h = h
+slot_raised at n (Spill k) lt h = kind_raised at n k lt h
+
+-- facts before a slot are facts before each later one
+pub facts_of_later_slots : (at n : ℕ) (f : Facts) → at < n → AreWellFormedAt at f → AreWellFormedAt n f
+facts_of_later_slots at n f lt h = record { registers = λ r. kind_raised at n (kind_at f r) lt (h.registers r); slots = λ i. slot_raised at n (slot_at f i) lt (h.slots i) }

@@ -1,0 +1,2 @@
+pub mod Signed
+mod Vectors

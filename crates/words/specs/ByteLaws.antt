@@ -1,0 +1,189 @@
+-- What holds of bytes that are written into a list and read from it, and of the bytes of a number: laws of the definitions
+-- of `Bytes`, proved here for the proofs of the crates above. This project's own. No contract cites them, so there is nothing
+-- in them to believe.
+use Rattle.std.proofs.Common.{◌≡◌, ◌⊎◌, inl, inr, ℕ, zero, suc, ◌+◌, ◌-◌, ◌*◌, ◌/◌, ◌%◌, ◌<◌, ◌≤◌, ◌^◌, List, ◌++◌, length, get_or, take, drop, slice_range, refl, sym, ap, ◌∙◌, ⊎_elim, arith}
+use Rattle.std.proofs.Math.Nat.{pow-suc}
+use Rattle.std.proofs.Math.Seq.{take-take, drop-append-add, take-append_seam, drop-append_seam}
+use Rattle.std.proofs.lemmas.Bool.{cases_lt}
+use Rattle.std.proofs.lemmas.List.{length-take, length-take-le, length-drop, length-append, get_or_append_left, get_or-append-add, get_or-append_right, get_or-take, get_or-drop, ext_get_or, take-append-drop, drop-drop, drop-take, take-append-le, drop-append-le}
+use Rattle.words.specs.Bytes.{number_of, low_bytes, bytes_at, written_at}
+
+-- ---- bytes of a list
+
+-- a byte of those from a place on is the list's
+pub byte_of : (bytes : List ℕ) (place n k : ℕ) → k < n → get_or (bytes_at bytes place n) k 0 ≡ get_or bytes (place + k) 0
+byte_of bytes place n k lt = get_or-take n (drop place bytes) k 0 lt ∙ get_or-drop place bytes k 0
+
+-- n bytes from a place on are n where the list is that long
+pub length-bytes_at : (bytes : List ℕ) (place n : ℕ) → place + n ≤ length bytes → length (bytes_at bytes place n) ≡ n
+length-bytes_at bytes place n h = omega (arith, length-take n (drop place bytes), length-drop place bytes)
+
+-- they are a list where each is that list's
+pub bytes_are : (bytes new : List ℕ) (place n : ℕ) → length new ≡ n → place + n ≤ length bytes → ((k : ℕ) → k < n → get_or bytes (place + k) 0 ≡ get_or new k 0) → bytes_at bytes place n ≡ new
+bytes_are bytes new place n count h same =
+    let long = length-bytes_at bytes place n h in
+    ext_get_or 0 (bytes_at bytes place n) new (long ∙ sym count) (λ k lt. byte_of bytes place n k (omega arith) ∙ same k (omega arith))
+
+-- bytes of some of its bytes are bytes of the list
+pub bytes_within : (bytes : List ℕ) (place size at n : ℕ) → at + n ≤ size → bytes_at (bytes_at bytes place size) at n ≡ bytes_at bytes (place + at) n
+bytes_within bytes place size at n room =
+    let split : size ≡ at + (size - at) = omega arith in
+    ap (λ (k : ℕ). take n (drop at (take k (drop place bytes)))) split
+    ∙ ap (take n) (drop-take at (size - at) (drop place bytes))
+    ∙ take-take n (size - at) (drop at (drop place bytes)) (omega arith)
+    ∙ ap (take n) (drop-drop at place bytes)
+
+-- a range of a list is the bytes from its beginning on
+pub range_is_bytes : (bytes : List ℕ) (place n : ℕ) → slice_range bytes place (place + n) ≡ bytes_at bytes place n
+range_is_bytes bytes place n =
+    let same : place + n - place ≡ n = omega arith in
+    ap (λ (k : ℕ). take k (drop place bytes)) same
+
+-- ---- a list in which bytes are written
+
+-- it is as long as before
+pub length-written_at : (bytes new : List ℕ) (place : ℕ) → place + length new ≤ length bytes → length (written_at bytes place new) ≡ length bytes
+length-written_at bytes new place h =
+    omega (arith, length-append (take place bytes) (new ++ drop (place + length new) bytes), length-append new (drop (place + length new) bytes), length-take place bytes, length-drop (place + length new) bytes)
+
+-- where bytes are written, a byte is theirs
+pub written_in : (bytes new : List ℕ) (place k : ℕ) → place ≤ length bytes → k < length new → get_or (written_at bytes place new) (place + k) 0 ≡ get_or new k 0
+written_in bytes new place k h lt =
+    let long = length-take-le place bytes h in
+    let at : place + k ≡ length (take place bytes) + k = omega arith in
+    ap (λ (q : ℕ). get_or (written_at bytes place new) q 0) at
+    ∙ get_or-append-add (take place bytes) (new ++ drop (place + length new) bytes) k 0
+    ∙ get_or_append_left new (drop (place + length new) bytes) 0 k lt
+
+-- elsewhere a byte is what it was
+pub written_out : (bytes new : List ℕ) (place q : ℕ) → place ≤ length bytes → (q < place) ⊎ (place + length new ≤ q) → get_or (written_at bytes place new) q 0 ≡ get_or bytes q 0
+written_out bytes new place q h (inl below) =
+    let long = length-take-le place bytes h in
+    get_or_append_left (take place bytes) (new ++ drop (place + length new) bytes) 0 q (omega arith) ∙ get_or-take place bytes q 0 below
+written_out bytes new place q h (inr above) =
+    let long = length-take-le place bytes h in
+    let at : place + length new + (q - place - length new) ≡ q = omega arith in
+    get_or-append_right (take place bytes) (new ++ drop (place + length new) bytes) place q 0 long (omega arith)
+    ∙ get_or-append_right new (drop (place + length new) bytes) (length new) (q - place) 0 refl (omega arith)
+    ∙ get_or-drop (place + length new) bytes (q - place - length new) 0
+    ∙ ap (λ (p : ℕ). get_or bytes p 0) at
+
+-- what was written is there
+pub bytes_written : (bytes new : List ℕ) (place : ℕ) → place + length new ≤ length bytes → bytes_at (written_at bytes place new) place (length new) ≡ new
+bytes_written bytes new place h =
+    let long : place ≡ length (take place bytes) = omega (arith, length-take place bytes) in
+    ap (λ (p : ℕ). take (length new) (drop p (written_at bytes place new))) long
+    ∙ ap (take (length new)) (drop-append_seam (take place bytes) (new ++ drop (place + length new) bytes))
+    ∙ take-append_seam new (drop (place + length new) bytes)
+
+before : (bytes rest : List ℕ) (place from n : ℕ) → from + n ≤ place → place ≤ length bytes → bytes_at (take place bytes ++ rest) from n ≡ bytes_at bytes from n
+before bytes rest place from n h k =
+    let long : length (take place bytes) ≡ place = omega (arith, length-take place bytes) in
+    let there : from ≤ length (take place bytes) = omega arith in
+    let left : length (drop from (take place bytes)) ≡ place - from = omega (arith, length-drop from (take place bytes)) in
+    let room : n ≤ length (drop from (take place bytes)) = omega arith in
+    let split : from + (place - from) ≡ place = omega arith in
+    let less : n ≤ length (take (place - from) (drop from bytes)) = omega (arith, length-take (place - from) (drop from bytes), length-drop from bytes) in
+    ap (take n) (drop-append-le from (take place bytes) rest there)
+    ∙ take-append-le n (drop from (take place bytes)) rest room
+    ∙ ap (λ (p : ℕ). take n (drop from (take p bytes))) (sym split)
+    ∙ ap (take n) (drop-take from (place - from) bytes)
+    ∙ sym (take-append-le n (take (place - from) (drop from bytes)) (drop (place - from) (drop from bytes)) less)
+    ∙ ap (take n) (take-append-drop (place - from) (drop from bytes))
+
+behind : (bytes new : List ℕ) (place from : ℕ) → place + length new ≤ from → place ≤ length bytes → drop from (written_at bytes place new) ≡ drop from bytes
+behind bytes new place from h k =
+    let long : length (take place bytes) ≡ place = omega (arith, length-take place bytes) in
+    let far : from ≡ length (take place bytes) + (length new + (from - (place + length new))) = omega arith in
+    let back : place + length new + (from - (place + length new)) ≡ from = omega arith in
+    ap (λ (n : ℕ). drop n (written_at bytes place new)) far
+    ∙ drop-append-add (take place bytes) (new ++ drop (place + length new) bytes) (length new + (from - (place + length new)))
+    ∙ drop-append-add new (drop (place + length new) bytes) (from - (place + length new))
+    ∙ drop-drop (from - (place + length new)) (place + length new) bytes
+    ∙ ap (λ (n : ℕ). drop n bytes) (omega arith)
+
+-- what lies apart from what is written stays
+pub bytes_stay : (bytes new : List ℕ) (place from n : ℕ) → place + length new ≤ length bytes → (from + n ≤ place) ⊎ (place + length new ≤ from) → bytes_at (written_at bytes place new) from n ≡ bytes_at bytes from n
+bytes_stay bytes new place from n k (inl h) = before bytes (new ++ drop (place + length new) bytes) place from n h (omega arith)
+bytes_stay bytes new place from n k (inr h) = ap (take n) (behind bytes new place from h (omega arith))
+
+-- what is written within some bytes changes these as if they were a list of their own
+pub over_within : (bytes new : List ℕ) (place size at : ℕ) → place + size ≤ length bytes → at + length new ≤ size → bytes_at (written_at bytes (place + at) new) place size ≡ written_at (bytes_at bytes place size) at new
+over_within bytes new place size at fits room =
+    let inner = bytes_at bytes place size in
+    let long : length inner ≡ size = omega (arith, length-take size (drop place bytes), length-drop place bytes) in
+    let after = length-written_at bytes new (place + at) (omega arith) in
+    let count : length (written_at inner at new) ≡ size = length-written_at inner new at (omega arith) ∙ long in
+    bytes_are (written_at bytes (place + at) new) (written_at inner at new) place size count (omega arith)
+    (λ k lt. ⊎_elim
+    (λ below. outside k lt long (inl (omega arith)) (inl below))
+    (λ from. ⊎_elim (λ within. inside k lt long from within) (λ above. outside k lt long (inr (omega arith)) (inr above)) (cases_lt k (at + length new)))
+    (cases_lt k at))
+  where
+    outside : (k : ℕ) → k < size → length (bytes_at bytes place size) ≡ size → (place + k < place + at) ⊎ (place + at + length new ≤ place + k) → (k < at) ⊎ (at + length new ≤ k) → get_or (written_at bytes (place + at) new) (place + k) 0 ≡ get_or (written_at (bytes_at bytes place size) at new) k 0
+    outside k lt long far near =
+        written_out bytes new (place + at) (place + k) (omega arith) far ∙ sym (written_out (bytes_at bytes place size) new at k (omega arith) near ∙ byte_of bytes place size k lt)
+
+    inside : (k : ℕ) → k < size → length (bytes_at bytes place size) ≡ size → at ≤ k → k < at + length new → get_or (written_at bytes (place + at) new) (place + k) 0 ≡ get_or (written_at (bytes_at bytes place size) at new) k 0
+    inside k lt long from within =
+        let there : place + k ≡ place + at + (k - at) = omega arith in
+        let here : k ≡ at + (k - at) = omega arith in
+        ap (λ (q : ℕ). get_or (written_at bytes (place + at) new) q 0) there ∙ written_in bytes new (place + at) (k - at) (omega arith) (omega arith)
+        ∙ sym (ap (λ (q : ℕ). get_or (written_at (bytes_at bytes place size) at new) q 0) here ∙ written_in (bytes_at bytes place size) new at (k - at) (omega arith) (omega arith))
+
+-- some bytes with others written within them, written back, are those others written into the whole list
+pub over_part : (bytes new : List ℕ) (start size at : ℕ) → start + size ≤ length bytes → at + length new ≤ size → written_at bytes start (written_at (bytes_at bytes start size) at new) ≡ written_at bytes (start + at) new
+over_part bytes new start size at fits room =
+    let part = bytes_at bytes start size in
+    let long : length part ≡ size = omega (arith, length-take size (drop start bytes), length-drop start bytes) in
+    let inner : length (written_at part at new) ≡ size = length-written_at part new at (omega arith) ∙ long in
+    let left : length (written_at bytes start (written_at part at new)) ≡ length bytes = length-written_at bytes (written_at part at new) start (omega arith) in
+    let right : length (written_at bytes (start + at) new) ≡ length bytes = length-written_at bytes new (start + at) (omega arith) in
+    ext_get_or 0 (written_at bytes start (written_at part at new)) (written_at bytes (start + at) new) (left ∙ sym right)
+    (λ q lt. ⊎_elim
+    (λ below. outside q inner (inl below) (inl (omega arith)))
+    (λ from. ⊎_elim (λ within. inside q from within long inner) (λ above. outside q inner (inr (omega arith)) (inr (omega arith))) (cases_lt q (start + size)))
+    (cases_lt q start))
+  where
+    outside : (q : ℕ) → length (written_at (bytes_at bytes start size) at new) ≡ size → (q < start) ⊎ (start + length (written_at (bytes_at bytes start size) at new) ≤ q) → (q < start + at) ⊎ (start + at + length new ≤ q)
+        → get_or (written_at bytes start (written_at (bytes_at bytes start size) at new)) q 0 ≡ get_or (written_at bytes (start + at) new) q 0
+    outside q inner far near = written_out bytes (written_at (bytes_at bytes start size) at new) start q (omega arith) far ∙ sym (written_out bytes new (start + at) q (omega arith) near)
+
+    through : (q : ℕ) → start ≤ q → q < start + size → length (written_at (bytes_at bytes start size) at new) ≡ size → get_or (written_at bytes start (written_at (bytes_at bytes start size) at new)) q 0 ≡ get_or (written_at (bytes_at bytes start size) at new) (q - start) 0
+    through q from within inner =
+        let there : q ≡ start + (q - start) = omega arith in
+        ap (λ (x : ℕ). get_or (written_at bytes start (written_at (bytes_at bytes start size) at new)) x 0) there ∙ written_in bytes (written_at (bytes_at bytes start size) at new) start (q - start) (omega arith) (omega arith)
+
+    kept : (q : ℕ) → start ≤ q → q < start + size → length (bytes_at bytes start size) ≡ size → (q - start < at) ⊎ (at + length new ≤ q - start) → (q < start + at) ⊎ (start + at + length new ≤ q) → get_or (written_at (bytes_at bytes start size) at new) (q - start) 0 ≡ get_or (written_at bytes (start + at) new) q 0
+    kept q from within long far near =
+        let there : start + (q - start) ≡ q = omega arith in
+        written_out (bytes_at bytes start size) new at (q - start) (omega arith) far ∙ byte_of bytes start size (q - start) (omega arith) ∙ ap (λ (x : ℕ). get_or bytes x 0) there ∙ sym (written_out bytes new (start + at) q (omega arith) near)
+
+    fresh : (q : ℕ) → start ≤ q → at ≤ q - start → q - start < at + length new → length (bytes_at bytes start size) ≡ size → get_or (written_at (bytes_at bytes start size) at new) (q - start) 0 ≡ get_or (written_at bytes (start + at) new) q 0
+    fresh q from low high long =
+        let here : q - start ≡ at + (q - start - at) = omega arith in
+        let there : start + at + (q - start - at) ≡ q = omega arith in
+        ap (λ (x : ℕ). get_or (written_at (bytes_at bytes start size) at new) x 0) here ∙ written_in (bytes_at bytes start size) new at (q - start - at) (omega arith) (omega arith)
+        ∙ sym (ap (λ (x : ℕ). get_or (written_at bytes (start + at) new) x 0) (sym there) ∙ written_in bytes new (start + at) (q - start - at) (omega arith) (omega arith))
+
+    inside : (q : ℕ) → start ≤ q → q < start + size → length (bytes_at bytes start size) ≡ size → length (written_at (bytes_at bytes start size) at new) ≡ size → get_or (written_at bytes start (written_at (bytes_at bytes start size) at new)) q 0 ≡ get_or (written_at bytes (start + at) new) q 0
+    inside q from within long inner =
+        through q from within inner
+        ∙ ⊎_elim (λ below. kept q from within long (inl below) (inl (omega arith)))
+        (λ low. ⊎_elim (λ high. fresh q from low high long) (λ above. kept q from within long (inr above) (inr (omega arith))) (cases_lt (q - start) (at + length new)))
+        (cases_lt (q - start) at)
+
+-- ---- the bytes of a number
+
+-- the low n bytes are n
+pub length-low_bytes : (n x : ℕ) → length (low_bytes n x) ≡ n
+length-low_bytes zero x = refl
+length-low_bytes (suc n) x = ap suc (length-low_bytes n (x / 256))
+
+-- a number of n bytes is the one that its low n bytes make
+pub number_of-low_bytes : (n x : ℕ) → x < 256 ^ n → number_of (low_bytes n x) ≡ x
+number_of-low_bytes zero x h = omega arith
+number_of-low_bytes (suc n) x h =
+    let g = rw pow-suc at h in
+    let small : x / 256 < 256 ^ n = omega arith in
+    ap (λ (y : ℕ). x % 256 + 256 * y) (number_of-low_bytes n (x / 256) small) ∙ omega arith

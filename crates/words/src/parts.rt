@@ -1,0 +1,28 @@
+//! The low bits of a word.
+
+ghost use Rattle.std.specs.Prelude.{◌≡◌};
+ghost use Rattle.words.specs.Words.{low};
+
+/// The low 8 bits.
+#[inline(always)]
+pub(crate) fn low_byte(a: u64) -> u8
+    ensures { result ≡ low 8 a }
+{
+    (a % 0x100) as u8
+}
+
+/// The low 16 bits.
+#[inline(always)]
+pub(crate) fn low_half(a: u64) -> u16
+    ensures { result ≡ low 16 a }
+{
+    (a % 0x1_0000) as u16
+}
+
+/// The low 32 bits.
+#[inline(always)]
+pub(crate) fn low_word(a: u64) -> u32
+    ensures { result ≡ low 32 a }
+{
+    (a % 0x1_0000_0000) as u32
+}

@@ -3,7 +3,7 @@ use Rattle.std.proofs.Common.{◌≡◌, ℕ, ◌+◌, ◌≤◌, List, length, 
 use Rattle.words.specs.Bytes.{number_of, low_bytes}
 use Rattle.words.specs.ByteLaws.{bytes_within, length-bytes_at, length-low_bytes}
 use Rattle.arena.specs.Bytes.{bytes_at}
-use Rattle.arena.specs.Memory.{Memory, size_of, base, place_of, loaded, stored, copied, part_start, part_bytes, with_bytes}
+use Rattle.arena.specs.Memory.{Memory, size_of, base, loaded, stored, copied, part_start, part_bytes, with_bytes}
 use Rattle.arena.specs.Apart.{IsPart, IsWrittenAt, asked_in, HasAccesses, AccessesAreInParts}
 use Rattle.arena.specs.PartLaws.{part_within, place_is}
 use Rattle.arena.proofs.Apart.{stays}

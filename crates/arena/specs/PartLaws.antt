@@ -1,6 +1,6 @@
 -- What holds of parts of the memory and of addresses in it: laws of the definitions of `Memory` and `Apart`, proved here for
 -- the proofs of the crates above. This project's own. No contract cites them, so there is nothing in them to believe.
-use Rattle.std.proofs.Common.{◌≡◌, ℕ, suc, ◌+◌, ◌-◌, ◌*◌, ◌<◌, ◌≤◌, ◌&&◌, leb, Some, None, ap, ◌∙◌, arith}
+use Rattle.std.proofs.Common.{◌≡◌, ℕ, suc, ◌+◌, ◌-◌, ◌*◌, ◌≤◌, ◌&&◌, leb, Some, None, ap, ◌∙◌, arith}
 use Rattle.std.proofs.lemmas.Bool.{cond-true, and_from, le-leb}
 use Rattle.std.proofs.lemmas.Nat.{mul-le}
 use Rattle.arena.specs.Memory.{Memory, base, size_of, place_of, part_start}

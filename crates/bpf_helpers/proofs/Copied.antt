@@ -1,6 +1,5 @@
 -- What a copy within the memory leaves.
-use Rattle.std.proofs.Common.{◌≡◌, ℕ, ◌+◌, ◌-◌, ◌≤◌, ◌&&◌, leb, Some, None, ap, ◌∙◌, arith}
-use Rattle.std.proofs.lemmas.Bool.{cond-true, and_from, le-leb}
+use Rattle.std.proofs.Common.{◌≡◌, ℕ, ◌+◌, ◌≤◌, Some, ap, ◌∙◌}
 use Rattle.words.specs.Bytes.{bytes_at}
 use Rattle.arena.specs.Memory.{Memory, base, size_of, place_of, with_bytes, copied}
 use Rattle.arena.specs.PartLaws.{place_is}

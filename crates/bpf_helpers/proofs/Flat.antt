@@ -1,10 +1,10 @@
 -- What the code of a look-up answers.
-use Rattle.std.proofs.Common.{◌≡◌, ℕ, ◌+◌, ◌-◌, ◌*◌, ◌<◌, ◌≤◌, List, length, take, drop, slice_range, Option, Some, sym, ap, ◌∙◌, arith}
+use Rattle.std.proofs.Common.{◌≡◌, ℕ, ◌+◌, ◌≤◌, List, slice_range, Option, Some, sym, ap, ◌∙◌}
 use Rattle.words.specs.Bytes.{bytes_at}
 use Rattle.words.specs.ByteLaws.{bytes_within, range_is_bytes}
 use Rattle.tagged_model.specs.Cells.{also}
 use Rattle.tagged_model.specs.Table.{look_up}
-use Rattle.arena.specs.Memory.{Memory, size_of, part_start, part_bytes}
+use Rattle.arena.specs.Memory.{Memory, part_start, part_bytes}
 use Rattle.bpf_maps.specs.Places.{table_of}
 use Rattle.bpf_maps.specs.Live.{LiveMaps, places_at, shape_at}
 use Rattle.bpf_helpers.specs.inside.Flat.{bound_map, part_place, part_input, value_word, flat_look_up}

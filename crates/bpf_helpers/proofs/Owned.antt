@@ -1,10 +1,8 @@
 -- How often a place is in use.
-use Rattle.std.proofs.Common.{◌≡◌, ℕ, ◌+◌, ◌<◌, ◌≤◌, nat_eq, Bool, true, false, cond, if◌then◌else◌, List, [], ◌∷◌, Some, eq-eqb, refl, ap, ◌∙◌, arith}
+use Rattle.std.proofs.Common.{◌≡◌, ℕ, ◌+◌, nat_eq, if◌then◌else◌, List, [], ◌∷◌, eq-eqb, refl, ap, ◌∙◌, arith}
 use Rattle.std.specs.Map.{values_of}
 use Rattle.std.proofs.lemmas.Bool.{cond-true}
-use Rattle.std.proofs.lemmas.Option.{none-some, same_Some}
-use Rattle.tagged_model.specs.Table.{without, is_key, found, with_key}
-use Rattle.tagged_model.specs.Admits.{KeysHaveObjects}
+use Rattle.tagged_model.specs.Table.{with_key}
 use Rattle.bpf_maps.specs.Places.{times}
 
 pub times_with : (q p : ℕ) (key : List ℕ) (es : List (List ℕ × ℕ)) → times q (values_of (with_key key p es)) ≡ times q (values_of es) + (if nat_eq q p then 1 else 0)

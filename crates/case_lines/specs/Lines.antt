@@ -6,5 +6,6 @@ abbrev pub is_remark : List ℕ → Bool
 is_remark [] = true
 is_remark (first ∷ rest) = first == 35
 
-abbrev pub is_blank : ℕ → Bool
-is_blank byte = byte == 32
+-- what parts the words of a line
+abbrev pub is_space : ℕ → Bool
+is_space byte = byte == 32

@@ -5,6 +5,9 @@ ghost use Rattle.std.specs.Prelude.{◌<◌};
 use crate::fault::LineFault;
 use std::alloc::{AllocError, Global};
 
+/// How many bytes of a frame or a reply are written in one group.
+pub const GROUP: usize = 4;
+
 /// The most copies that a line may ask for.
 const MOST_COPIES: usize = 65_537;
 

@@ -6,7 +6,7 @@ mod fault;
 mod lines;
 mod playing;
 
-pub use bytes::{bytes_of, hex_groups};
+pub use bytes::{GROUP, bytes_of, hex_groups};
 pub use fault::LineFault;
 pub use lines::{first_word, is_remark, program_lines};
 pub use playing::{Player, play_lines};

@@ -2,7 +2,7 @@
 
 ghost use Rattle.std.specs.Prelude.{◌≡◌, ◌==◌};
 ghost use Rattle.std.specs.List.{after_first, before_first};
-ghost use Rattle.case_lines.specs.Lines.{is_blank, is_remark};
+ghost use Rattle.case_lines.specs.Lines.{is_space, is_remark};
 
 use crate::fault::LineFault;
 use std::alloc::Global;
@@ -19,8 +19,8 @@ pub fn is_remark(line: &str) -> bool
 
 /// The first word of a text, and what follows the blank behind it.
 pub fn first_word(text: &str) -> (&str, &str)
-    ensures word { result.0.now ≡ before_first is_blank text.now }
-    ensures rest { result.1.now ≡ after_first is_blank text.now }
+    ensures word { result.0.now ≡ before_first is_space text.now }
+    ensures rest { result.1.now ≡ after_first is_space text.now }
 {
     text.split_once(' ').unwrap_or((text, ""))
 }

@@ -1,13 +1,10 @@
 //! Bytes as they are written.
 
-use case_lines::hex_groups;
+use case_lines::{GROUP, hex_groups};
 use std::alloc::{AllocError, Global};
 
 /// The most bytes that are written.
 const MOST_WRITTEN: usize = 64;
-
-/// How many of them stand in a group.
-const GROUP: usize = 4;
 
 /// The hex digits of bytes; of many, those of the first, and how many there are.
 pub fn shown(alloc: Global, bytes: &[u8]) -> Result<String, AllocError> {

@@ -3,7 +3,7 @@
 use crate::bytes::shown;
 use anyhow::{Result, bail};
 use case_lines::bytes_of;
-use command_frames::{BadFrame, Command, HEAD_LENGTH, head, parse};
+use command_frames::{BadFrame, Command, GIVEN_WORDS, HEAD_LENGTH, head, parse};
 use std::alloc::{AllocError, Global};
 
 /// The head of a frame.
@@ -17,7 +17,7 @@ pub fn head_line(alloc: Global, digits: &str) -> Result<String> {
 }
 
 /// Words one after another.
-fn words_text(alloc: Global, words: [u32; 10]) -> Result<String, AllocError> {
+fn words_text(alloc: Global, words: [u32; GIVEN_WORDS]) -> Result<String, AllocError> {
     let mut text = String::new(alloc);
     for word in words {
         if !text.is_empty() {

@@ -3,7 +3,7 @@
 use crate::streams::{cut, program, stream};
 use anyhow::{Result, bail};
 use bpf_text::assemble;
-use case_lines::{Player, bytes_of, first_word, hex_groups, program_lines};
+use case_lines::{GROUP, Player, bytes_of, first_word, hex_groups, program_lines};
 use host::{Host, MOST_TENANTS, ReplyBuf};
 use insn_codec::write_program;
 use std::alloc::{AllocError, Global};
@@ -30,9 +30,6 @@ const SOCKET_FILTER: u32 = 1;
 
 /// The bytes of the words of context.
 const WORDS: usize = 40;
-
-/// How many bytes of an answer stand in a group.
-pub const GROUP: usize = 4;
 
 /// A new host for so many tenants.
 pub fn new_host(alloc: Global, tenants: &str) -> Result<Host> {

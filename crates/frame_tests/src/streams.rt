@@ -1,8 +1,8 @@
 //! Whole streams, and runs of the program.
 
-use crate::player::{GROUP, new_host};
+use crate::player::new_host;
 use anyhow::{Result, bail};
-use case_lines::{bytes_of, first_word, hex_groups};
+use case_lines::{GROUP, bytes_of, first_word, hex_groups};
 use host::{Counted, Host, MOST_FRAMES, ServeFault, ServeFaultKind, run_words, serve};
 use std::alloc::{AllocError, Global};
 

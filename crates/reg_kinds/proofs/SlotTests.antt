@@ -1,6 +1,6 @@
 -- Tests of each slot, and bits that stand for bytes.
 use Rattle.std.proofs.Common.{◌≡◌, ℕ, zero, suc, ◌+◌, ◌-◌, ◌*◌, ◌%◌, ◌^◌, ◌<◌, ◌≤◌, Bool, true, false, refl, sym, ap, subst, ◌∙◌, ⊎_elim, arith}
-use Rattle.std.specs.Prelude.{◌||◌, if◌then◌else◌, not, ℤ, Result, Ok, Err, Some, None}
+use Rattle.std.specs.Prelude.{if◌then◌else◌, not, ℤ, Result, Ok, Err, Some, None}
 use Rattle.std.proofs.lemmas.Bool.{cases_lt, or_from, or_left, or_right}
 use Rattle.std.proofs.Math.Nat.{mod-eq_of_lt, pow-le-pow_right}
 use Rattle.std.proofs.lemmas.Option.{cond_some}

@@ -1,6 +1,6 @@
 -- Known answers of runs with maps and calls, worked out by hand from the kernel's documentation of helpers and maps and from
 -- this project's rules. The comments spell the programs.
-use Rattle.std.proofs.Common.{◌≡◌, ℕ, ◌==◌, pos, if◌then◌else◌, Bool, true, false, replicate, List, [], ◌∷◌, ◌++◌, Option, Some, None, refl}
+use Rattle.std.proofs.Common.{◌≡◌, ℕ, ◌==◌, pos, if◌then◌else◌, Bool, true, false, replicate, List, [], ◌∷◌, ◌++◌, Some, None, refl}
 use Rattle.insn_codec.specs.declared.insn.AluOp.TheVariants.{Add}
 use Rattle.insn_codec.specs.declared.insn.Condition.TheVariants.{Equal, NotEqual, Above}
 use Rattle.insn_codec.specs.declared.insn.Size.TheVariants.{Byte, Word, Double}
@@ -15,7 +15,7 @@ use Rattle.tagged_model.specs.Cells.{gathered}
 use Rattle.tagged_model.specs.Helpers.{known_helpers}
 use Rattle.tagged_model.specs.Table.{Table}
 use Rattle.tagged_model.specs.Step.{MapsByDescriptor, run, numbered, result_of, result_with, left_with, was_refused}
-use Rattle.tagged_model.proofs.RunVectors.{minus, context, set, copy, get, put, put_register}
+use Rattle.tagged_model.proofs.RunVectors.{minus, context, set, copy, get, put}
 
 abbrev less : ℕ → ℕ → Insn
 less dst n = Alu true Add dst (Imm (minus n))

@@ -1,9 +1,7 @@
 -- Bytes that are read across slots of the stack, where facts tell that they are there.
-use Rattle.std.proofs.Common.{◌≡◌, ℕ, zero, suc, ◌+◌, ◌-◌, ◌*◌, ◌/◌, ◌%◌, ◌<◌, ◌≤◌, ltb, ◌==◌, bit_and, int_le, ℤ, pos, negsuc, ◌+ℤ◌, ◌≤ℤ◌, unsigned_abs, Bool, true, false, not, if◌then◌else◌, List, length, Some, None, Result, Ok, Err, refl, sym, ap, subst, ◌∙◌, ⊎_elim, arith}
-use Rattle.std.specs.Prelude.{◌||◌}
+use Rattle.std.proofs.Common.{◌≡◌, ℕ, zero, suc, ◌+◌, ◌*◌, ◌/◌, ◌%◌, ◌<◌, ◌≤◌, ltb, ◌==◌, bit_and, ℤ, Bool, true, false, not, if◌then◌else◌, List, length, Some, None, Result, Ok, Err, refl, sym, subst, ◌∙◌, ⊎_elim, arith}
 use Rattle.std.specs.Int.{bit_at}
-use Rattle.std.proofs.lemmas.Bool.{cond-true, and_parts, and_from, eqb-true, lt-ltb, cases_lt, false≢true, or_parts, not-false}
-use Rattle.std.proofs.lemmas.Int.{ints}
+use Rattle.std.proofs.lemmas.Bool.{cond-true, and_from, eqb-true, lt-ltb, cases_lt, false≢true, or_parts, not-false}
 use Rattle.reg_kinds.specs.declared.kind.Slot.{Slot}
 use Rattle.reg_kinds.specs.declared.kind.Slot.TheVariants as slot
 use Rattle.reg_kinds.specs.declared.facts.Facts.{Facts}

@@ -1,17 +1,16 @@
 -- What the calls of a map keep.
-use Rattle.std.proofs.Common.{◌≡◌, ℕ, ◌+◌, ◌<◌, ◌≤◌, Bool, true, false, cond, if◌then◌else◌, nat_le, List, [], ◌∷◌, length, Option, Some, None, Result, Ok, Err, refl, sym, ap, ◌∙◌, arith, ◌==◌}
-use Rattle.std.proofs.lemmas.Option.{none-some, same_Some}
+use Rattle.std.proofs.Common.{◌≡◌, ℕ, ◌+◌, ◌<◌, Bool, true, false, if◌then◌else◌, nat_le, List, length, Option, Some, None, Result, Ok, Err, refl, sym, ap, ◌∙◌, arith, ◌==◌}
 use Rattle.tagged_model.specs.declared.shape.MapKind.{MapKind}
 use Rattle.tagged_model.specs.declared.shape.MapKind.TheVariants.{Hash, Array}
 use Rattle.tagged_model.specs.declared.shape.MapShape.{MapShape}
 use Rattle.tagged_model.specs.declared.fault.MapFault.{MapFault}
 use Rattle.tagged_model.specs.declared.fault.MapFault.TheVariants.{Exists, Invalid}
-use Rattle.tagged_model.specs.Table.{Table, Verdict, Refused, Present, New, is_key, found, without, with_key, no_exist, exist, is_full, of_absent, of_found, look_up, verdict, removal_of, removal}
+use Rattle.tagged_model.specs.Table.{Table, Verdict, Refused, Present, New, no_exist, exist, is_full, of_absent, of_found, look_up, verdict, removal_of, removal}
 use Rattle.tagged_model.specs.State.{RunMap, set_at, with_value}
 use Rattle.tagged_model.specs.Helpers.{with_object, put, updated, taken_out, removed}
-use Rattle.tagged_model.specs.Admits.{AreBytes, KeysHaveObjects, IsMapOf}
+use Rattle.tagged_model.specs.Admits.{AreBytes, IsMapOf}
 use Rattle.tagged_model.specs.Laws.{KeepsShape}
-use Rattle.tagged_model.specs.StateLaws.{found_owned, owns_more, owns_with, owns_without}
+use Rattle.tagged_model.specs.StateLaws.{owns_more, owns_with, owns_without}
 use Rattle.tagged_model.proofs.Objects.{values_small}
 use Rattle.std.proofs.lemmas.Bool.{cond_both, eqb-false}
 

@@ -1,5 +1,5 @@
 -- The numbers that loads give are words of the kind that is told.
-use Rattle.std.proofs.Common.{ℕ, ◌-◌, ◌*◌, ◌%◌, ◌^◌, ◌<◌, ◌≤◌, ℤ, pos, negsuc, Bool, true, false, refl, arith}
+use Rattle.std.proofs.Common.{ℕ, ◌-◌, ◌*◌, ◌%◌, ◌^◌, ◌<◌, ◌≤◌, Bool, true, false, refl, arith}
 use Rattle.words.specs.Words.{signed}
 use Rattle.words.specs.SignLaws.{unsigned_small}
 use Rattle.interval.specs.Ranges.{full}

@@ -1,5 +1,5 @@
 -- Accesses that facts let go ahead lie in the stack, in one slot.
-use Rattle.std.proofs.Common.{◌≡◌, ℕ, ◌+◌, ◌/◌, ◌%◌, ◌<◌, ◌≤◌, ◌&&◌, not, ℤ, Bool, true, false, if◌then◌else◌, Result, Ok, Err, Some, None, refl, arith}
+use Rattle.std.proofs.Common.{◌≡◌, ℕ, ◌/◌, ◌%◌, ◌<◌, ◌&&◌, not, ℤ, Bool, true, false, if◌then◌else◌, Result, Ok, Err, Some, None, refl, arith}
 use Rattle.std.proofs.lemmas.Bool.{cond-true, and_from, eqb-true}
 use Rattle.reg_kinds.specs.declared.reason.Reason.{Reason}
 use Rattle.reg_kinds.specs.declared.reason.Reason.TheVariants.{OutsideStack, UnalignedStack}

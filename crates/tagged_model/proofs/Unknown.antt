@@ -1,5 +1,5 @@
 -- Kinds and slots of which nothing is known, and facts made of what is known of each register and slot.
-use Rattle.std.proofs.Common.{◌≡◌, ℕ, ◌≤◌, Option, Some, arith}
+use Rattle.std.proofs.Common.{◌≡◌, ℕ, ◌≤◌, Option, Some}
 use Rattle.reg_kinds.specs.declared.kind.Kind.{Kind}
 use Rattle.reg_kinds.specs.declared.kind.Kind.TheVariants.{Unreadable}
 use Rattle.reg_kinds.specs.declared.kind.Slot.{Slot}
@@ -7,9 +7,8 @@ use Rattle.reg_kinds.specs.declared.kind.Slot.TheVariants.{Bytes}
 use Rattle.reg_kinds.specs.Kinds.{facts_of}
 use Rattle.reg_kinds.specs.TableLaws.{in_table}
 use Rattle.tagged_model.specs.declared.value.Tagged.{Tagged}
-use Rattle.tagged_model.specs.Cells.{Cell}
 use Rattle.tagged_model.specs.State.{RunState}
-use Rattle.tagged_model.specs.Admits.{Witness, IsOfKind, HasKind, HasBytes, HasSlot, AdmitsBy, objects_of}
+use Rattle.tagged_model.specs.Admits.{Witness, IsOfKind, HasKind, HasSlot, AdmitsBy, objects_of}
 use Rattle.tagged_model.specs.StateLaws.{no_bytes}
 
 -- of a register that may not be read nothing is asked

@@ -1,5 +1,5 @@
 -- A run without maps puts no key, so it is refused no memory.
-use Rattle.std.proofs.Common.{◌≡◌, ℕ, zero, suc, ◌+◌, ◌/◌, ◌%◌, ℤ, pos, ◌+ℤ◌, Bool, true, false, List, [], length, Option, Some, None, option_map, refl, sym, ap, subst, ◌∙◌}
+use Rattle.std.proofs.Common.{◌≡◌, ℕ, zero, suc, ◌+◌, ◌/◌, ◌%◌, ℤ, pos, ◌+ℤ◌, Bool, true, false, List, length, Option, Some, None, option_map, refl, sym, ap, subst, ◌∙◌}
 use Rattle.std.proofs.lemmas.Bool.{cond_both}
 use Rattle.words.specs.Words.{unsigned}
 use Rattle.insn_codec.specs.declared.insn.Insn.{Insn}
@@ -15,9 +15,9 @@ use Rattle.tagged_model.specs.declared.value.Tagged.TheVariants.{Scalar, Pointer
 use Rattle.tagged_model.specs.Operators.{size_of}
 use Rattle.tagged_model.specs.Values.{arithmetic, first_operand, compared}
 use Rattle.tagged_model.specs.Cells.{also, write_cell, cell_over}
-use Rattle.tagged_model.specs.State.{RunState, RunMap, with_cells, with_register, stack_place, stack_store, stack_written, value_written, with_map, with_value, object_written, object_stored, store, output}
-use Rattle.tagged_model.specs.Helpers.{helper_of, packet_bytes, packet_answer, number_given, length_given, context_given, map_given, argument, map_argument, GivenMap, returns, called}
-use Rattle.tagged_model.specs.Step.{Step, goes, ends, faults, need, operand, jumped, branched, ended, advanced, assigned, act, step, first, others, Ending, one_more, after, run, MapsByDescriptor, first_map, begin, was_refused}
+use Rattle.tagged_model.specs.State.{RunState, RunMap, with_cells, stack_place, stack_store, stack_written, value_written, with_map, with_value, object_written, object_stored, store, output}
+use Rattle.tagged_model.specs.Helpers.{helper_of, packet_bytes, packet_answer, number_given, length_given, context_given, map_given, argument, map_argument, returns, called}
+use Rattle.tagged_model.specs.Step.{Step, goes, ends, faults, need, operand, jumped, branched, ended, advanced, assigned, act, step, first, others, Ending, after, run, MapsByDescriptor, first_map, begin, was_refused}
 use Rattle.insn_codec.specs.Flow.{natural}
 
 -- a state without maps in which no memory was refused

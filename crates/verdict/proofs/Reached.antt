@@ -1,16 +1,15 @@
 -- The pass over a program's shape, against the definitions: what can be reached, and what an instruction without a fault is.
-use Rattle.std.proofs.Common.{◌≡◌, ℕ, ◌+◌, ◌<◌, Bool, true, false, not, ◌&&◌, ◌||◌, List, [], ◌∷◌, length, get_or, set, replicate, Option, Some, None, refl, sym, ap, ◌∙◌, add-one, arith, inl, inr}
-use Rattle.std.specs.Prelude.{nat_le, IfSome, is_some, if◌then◌else◌}
+use Rattle.std.proofs.Common.{◌≡◌, ℕ, ◌+◌, ◌<◌, Bool, true, false, ◌&&◌, ◌||◌, List, [], ◌∷◌, length, get_or, set, replicate, Option, Some, None, refl, sym, ap, ◌∙◌, add-one, arith, inl, inr}
+use Rattle.std.specs.Prelude.{IfSome, is_some, if◌then◌else◌}
 use Rattle.std.proofs.lemmas.Bool.{not-false, false≢true, cases_Bool, cond-true, cond-false, cases_eq, eq-eqb, ne_eqb}
 use Rattle.std.proofs.lemmas.List.{get_or-set_same, get_or-set_other, get_or-replicate, length-replicate}
 use Rattle.insn_codec.specs.declared.insn.Insn.{Insn}
 use Rattle.insn_codec.specs.Program.{begins_at, slot_count}
 use Rattle.insn_codec.specs.BeginLaws.{begins_within}
 use Rattle.reg_kinds.specs.declared.reason.Reason.{Reason}
-use Rattle.reg_kinds.specs.declared.reason.Reason.TheVariants.{JumpOutside, JumpBackward, FallsOff, Unreachable, UnknownHelper, FramePointerWritten, DescriptorNotOpen, DescriptorNotMap}
 use Rattle.tagged_model.specs.declared.shape.Named.{Named}
-use Rattle.insn_codec.specs.Flow.{falls_to, jumps_to, falls, jumps, jump_target, written_register}
-use Rattle.verdict.specs.Shape.{leads_into, leads_outside, leads_backward, reached_from, is_reachable, is_slot, calls_unknown, descriptor, is_not_open, is_not_map, first_reason, shape_reason, shape_of, shape_fault}
+use Rattle.insn_codec.specs.Flow.{jumps_to, jumps, jump_target}
+use Rattle.verdict.specs.Shape.{leads_into, leads_outside, reached_from, is_reachable, first_reason, shape_of, shape_fault}
 use Rattle.verdict.specs.ShapeLaws.{IsFine, each_is_fine}
 use Rattle.verdict.specs.inside.Jumps.{JumpsLand}
 use Rattle.verdict.specs.Verdict.{HasNoFault}

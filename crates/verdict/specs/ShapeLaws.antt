@@ -1,5 +1,5 @@
--- What holds of an instruction of a program without a fault of its shape: a law of the definitions of `Shape`, proved here for the
--- proofs of the crates above. This project's own. No contract cites it, so there is nothing in it to believe.
+-- What holds of an instruction of a program without a fault of its shape: laws of the definitions of `Shape`, proved here for the
+-- proofs of this crate and of those above. This project's own. No contract cites them, so there is nothing in them to believe.
 use Rattle.std.proofs.Common.{◌≡◌, ℕ, Bool, true, false, not, ◌&&◌, List, [], ◌∷◌, Some, None, sym, ap, ◌∙◌, inl, inr}
 use Rattle.std.specs.Prelude.{nat_le}
 use Rattle.std.proofs.lemmas.Bool.{not-false, cases_Bool, cond-true, cond-false}
@@ -23,7 +23,7 @@ passed line lines none =
       | inr fails ↦ (fails, sym (cond-false line.0 (Some line.1) (first_reason lines) fails) ∙ none)
     ]
 
--- where it leads another instruction begins, it can be reached, and what it names is there
+-- it is fine: where it leads another instruction begins, it can be reached, and what it names is there
 pub record IsFine (code : List Insn) (named : List Named) (i : Insn) (at : ℕ) : Type 0 where
   pub inside : (jumps i && leads_outside code (jumps_to i at)) ≡ false
   pub forward : (jumps i && leads_backward (jumps_to i at) at) ≡ false
@@ -33,7 +33,7 @@ pub record IsFine (code : List Insn) (named : List Named) (i : Insn) (at : ℕ) 
   pub is_open : is_not_open named (descriptor i) ≡ false
   pub map : is_not_map named (descriptor i) ≡ false
 
--- an instruction against which no reason stands is so
+-- an instruction against which no reason stands is fine
 pub unrefused_is_fine : (code : List Insn) (named : List Named) (i : Insn) (at : ℕ) → shape_reason code named i at ≡ None → IsFine code named i at
 unrefused_is_fine code named i at none =
     let eighth : Bool × Reason = (is_not_map named (descriptor i), DescriptorNotMap) in
@@ -62,7 +62,7 @@ unrefused_is_fine code named i at none =
       map = eight.0;
     }
 
--- where no slot has a fault of its shape, each instruction is so
+-- where no slot has a fault of its shape, each instruction is fine
 pub each_is_fine : (code : List Insn) (named : List Named) → HasNoFault (shape_fault code named) → (n : ℕ) (i : Insn) → begins_at code n ≡ Some i → IsFine code named i n
 unfolding shape_fault
 each_is_fine code named none n i begins = unrefused_is_fine code named i n (sym (ap (shape_of code named n) begins) ∙ none n)

@@ -83,18 +83,26 @@ def branches():
     return Program(slots, executed=executed + 3)
 
 
-def stack():
-    """Stores and loads of eight bytes all over the stack."""
-    traffic = []
-    for number in range(1000):
-        off = -8 * (1 + number % 64)
-        traffic += [
-            slot(STORE_DOUBLE, 10, 2, off=off),
-            slot(LOAD_DOUBLE, 2, 10, off=off),
-            slot(ADD64_K, 2, imm=1),
-        ]
-    slots = [slot(MOV64_K, 2, imm=1), *traffic, slot(MOV64_X, 0, 2), slot(EXIT)]
+def kept_on_stack(registers, count):
+    """Values kept on the stack, all over it, and taken back: all of these registers are stored, loaded and added to in turn."""
+    slots = [slot(MOV64_K, reg, imm=reg) for reg in registers]
+    for number in range(0, count, len(registers)):
+        places = [(reg, -8 * (1 + (number + at) % 64)) for at, reg in enumerate(registers)]
+        slots += [slot(STORE_DOUBLE, 10, reg, off=off) for reg, off in places]
+        slots += [slot(LOAD_DOUBLE, reg, 10, off=off) for reg, off in places]
+        slots += [slot(ADD64_K, reg, imm=1) for reg in registers]
+    slots += [slot(MOV64_X, 0, registers[0]), slot(EXIT)]
     return Program(slots, executed=len(slots))
+
+
+def stack():
+    """A thousand stores and loads of eight bytes, of eight registers in turn, as around a call."""
+    return kept_on_stack(range(2, 10), 1000)
+
+
+def stack_chain():
+    """The same with one register: each load waits for the store before it, and each store for the load."""
+    return kept_on_stack([2], 1000)
 
 
 def copies_of_packet(offset, to, length):
@@ -217,6 +225,7 @@ RUN = {
     "arithmetic, short": lambda: arithmetic(49),
     "branches": branches,
     "stack": stack,
+    "stack, one chain": stack_chain,
     "parser": parser,
     "counter": counter,
 }
@@ -249,12 +258,22 @@ def spills():
     return filled(slots, returns(0))
 
 
-def one_target():
-    """Four thousand jumps to one target."""
-    end, slots = returns(0), full_facts()
+def jumps_to_one_target(slots):
+    """Four thousand tests of one number behind these slots, each of which jumps to the end."""
+    end, slots = returns(0), list(slots)
     for number in range(4000):
         slots.append(slot(JEQ_K, 2, off=SLOTS - len(end) - len(slots) - 1, imm=number))
     return filled(slots, end)
+
+
+def one_target():
+    """Four thousand jumps to one target, where a number is known of one register."""
+    return jumps_to_one_target([slot(LOAD_WORD, 2, 1)])
+
+
+def one_target_full():
+    """The same where something is known of each register and of each stack slot."""
+    return jumps_to_one_target(full_facts())
 
 
 def crossing():
@@ -282,6 +301,7 @@ LOADED = {
     "straight": straight,
     "spills": spills,
     "one target": one_target,
+    "one target, full": one_target_full,
     "crossing jumps": crossing,
     "diamonds": diamonds,
 }

@@ -61,7 +61,11 @@ fn place(memory_size: usize, size: usize, address: u64) -> Option<usize>
 impl Arena {
     ghost use Rattle.arena.specs.Lending.{LendsPart};
 
-    /// So many parts of this size, all bytes zero. An error is want of memory.
+    /// So many parts of so many bytes, all zero: at least one part of at least one byte, and no more than 2^28 bytes in all.
+    ///
+    /// # Errors
+    ///
+    /// `AllocError`: there is no memory for them.
     pub fn new(alloc: Global, parts: usize, part_size: usize) -> Result<Arena, AllocError>
         requires parts { 1 ≤ parts }
         requires part_size { 1 ≤ part_size }
@@ -114,7 +118,7 @@ impl Arena {
         &self.bytes[start..start + self.part_size]
     }
 
-    /// The number that so many bytes at an address make, the lowest first; nothing exactly where they leave the memory.
+    /// The number that 1, 2, 4 or 8 bytes at an address make, the lowest first; nothing exactly where they leave the memory.
     #[inline(always)]
     pub fn load(&self, address: u64, size: usize, trace: &mut Trace) -> Option<u64>
         requires { IsSize size }
@@ -127,8 +131,8 @@ impl Arena {
         Some(read(&self.bytes, at, size))
     }
 
-    /// Writes the low bytes of a number at an address, the lowest first. It answers nothing, and changes nothing, exactly
-    /// where they leave the memory.
+    /// Writes the low 1, 2, 4 or 8 bytes of a number at an address, the lowest first. It answers nothing, and changes nothing,
+    /// exactly where they leave the memory.
     #[inline(always)]
     pub fn store(&mut self, address: u64, size: usize, value: u64, trace: &mut Trace) -> Option<()>
         requires { IsSize size }
@@ -144,7 +148,7 @@ impl Arena {
         Some(())
     }
 
-    /// The number that so many bytes at an address make, the lowest first, where they are known to lie in the memory.
+    /// The number that 1, 2, 4 or 8 bytes at an address make, the lowest first, where they are known to lie in the memory.
     #[inline(always)]
     pub fn load_inside(&self, address: u64, size: usize, trace: &mut Trace) -> u64
         requires size { IsSize size }
@@ -159,7 +163,8 @@ impl Arena {
         read(&self.bytes, start, size)
     }
 
-    /// Writes the low bytes of a number at an address, the lowest first, where as many bytes are known to lie in the memory.
+    /// Writes the low 1, 2, 4 or 8 bytes of a number at an address, the lowest first, where as many bytes are known to lie in
+    /// the memory.
     #[inline(always)]
     pub fn store_inside(&mut self, address: u64, size: usize, value: u64, trace: &mut Trace)
         requires size { IsSize size }
@@ -174,8 +179,8 @@ impl Arena {
         write(&mut self.bytes, start, size, value);
     }
 
-    /// Writes the bytes at one address over those at another, as if through a buffer. It answers nothing, and changes
-    /// nothing, exactly where either leave the memory.
+    /// Writes so many bytes at one address, at least one, over those at another, as if through a buffer. It answers nothing,
+    /// and changes nothing, exactly where either leave the memory.
     pub fn copy(&mut self, to: u64, from: u64, length: usize, trace: &mut Trace) -> Option<()>
         requires { 1 ≤ length }
         ensures found { is_some result ≡ (is_some (place_of (size_of self.old) length from)

@@ -11,7 +11,7 @@ use Rattle.tagged_model.specs.Admits.{KeysHaveObjects}
 use Rattle.tagged_model.specs.Helpers.{with_object}
 use Rattle.tagged_model.specs.StateLaws.{owns_more, owns_with}
 use Rattle.arena.specs.Memory.{base}
-use Rattle.bpf_maps.specs.Places.{PlaceTable, table_of, times, IsFree, with_place}
+use Rattle.bpf_maps.specs.Places.{PlaceTable, table_of, occurrences, IsFree, with_place}
 use Rattle.bpf_maps.specs.Live.{LiveMaps, live_at, places_at, shape_at, offset_at}
 use Rattle.bpf_maps.specs.Laws.{CallsRefineValues}
 use Rattle.bpf_helpers.specs.Layout.{Layout}
@@ -38,8 +38,8 @@ module _ (l : Layout) (start : ℕ) (memory after : List ℕ) (old new : LiveMap
       let used = (h.objects number lt).in_use in
       let none = free.entries in
       let other = free.kept in
-      let a = ap (λ (q : ℕ). times q (values_of (places_at old k).entries)) e in
-      let b = ap (λ (q : ℕ). times q (places_at old k).kept) e in
+      let a = ap (λ (q : ℕ). occurrences q (values_of (places_at old k).entries)) e in
+      let b = ap (λ (q : ℕ). occurrences q (places_at old k).kept) e in
       omega arith
 
   abbrev place : ℕ → ℕ
@@ -54,8 +54,8 @@ module _ (l : Layout) (start : ℕ) (memory after : List ℕ) (old new : LiveMap
   shape_stays : shape_at new k ≡ shape_at old k
   shape_stays = ap (λ (x : PlaceTable). x.shape) places
 
-  uses : (q : ℕ) → times q (values_of (places_at new k).entries) + times q (places_at new k).kept ≡ times q (values_of (places_at old k).entries) + (if nat_eq q p then 1 else 0) + times q (places_at old k).kept
-  uses q = ap (λ (x : PlaceTable). times q (values_of x.entries) + times q x.kept) places ∙ ap (λ (n : ℕ). n + times q (places_at old k).kept) (times_with q p key (places_at old k).entries)
+  uses : (q : ℕ) → occurrences q (values_of (places_at new k).entries) + occurrences q (places_at new k).kept ≡ occurrences q (values_of (places_at old k).entries) + (if nat_eq q p then 1 else 0) + occurrences q (places_at old k).kept
+  uses q = ap (λ (x : PlaceTable). occurrences q (values_of x.entries) + occurrences q x.kept) places ∙ ap (λ (n : ℕ). n + occurrences q (places_at old k).kept) (times_with q p key (places_at old k).entries)
 
   abbrev layout : Layout
   layout = extended l m (base + (start + offset_at old k p))
@@ -76,7 +76,7 @@ module _ (l : Layout) (start : ℕ) (memory after : List ℕ) (old new : LiveMap
   new_object =
       record {
         within = subst (λ (s : MapShape). p < s.max_entries) (sym shape_stays) free.within;
-        in_use = let more = uses p ∙ ap (λ (n : ℕ). times p (values_of (places_at old k).entries) + n + times p (places_at old k).kept) (counted_once p) in omega arith;
+        in_use = let more = uses p ∙ ap (λ (n : ℕ). occurrences p (values_of (places_at old k).entries) + n + occurrences p (places_at old k).kept) (counted_once p) in omega arith;
         address = ap (λ (n : ℕ). layout.object_at m n) (sym h.counted) ∙ extended_here l m (base + (start + offset_at old k p)) ∙ ap (λ (a : ℕ). base + (start + a)) (sym (offsets p));
         bytes = ap (λ (a : ℕ). bytes_at after (start + a) (shape_at new k).value_size) (offsets p) ∙ ap (λ (s : MapShape). bytes_at after (start + offset_at old k p) s.value_size) shape_stays ∙ written;
       }

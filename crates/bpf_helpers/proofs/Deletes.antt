@@ -12,7 +12,7 @@ use Rattle.tagged_model.specs.State.{RunState, RunMap, set_at, with_map, with_re
 use Rattle.tagged_model.specs.Helpers.{taken_out, removed, without_key, with_reply}
 use Rattle.tagged_model.specs.StateLaws.{owns_without}
 use Rattle.arena.specs.Memory.{Memory, base, part_start}
-use Rattle.bpf_maps.specs.Places.{PlaceTable, table_of, times, with_kept, Removes}
+use Rattle.bpf_maps.specs.Places.{PlaceTable, table_of, occurrences, with_kept, Removes}
 use Rattle.bpf_maps.specs.Live.{LiveMaps, places_at, shape_at, offset_at, OnlyKeysChange}
 use Rattle.bpf_helpers.specs.inside.Below.{LawsBelow}
 use Rattle.bpf_helpers.specs.Layout.{Layout}
@@ -30,8 +30,8 @@ table_kept t key p = ap (λ (n : ℕ). let m : Table ℕ = record { shape = t.sh
 -- ---- the map without the key
 
 module _ (below : LawsBelow) (l : Layout) (start : ℕ) (memory : List ℕ) (old new : LiveMaps) (k m : ℕ) (t : RunMap) (key : List ℕ) (p : ℕ) (h : HasMap l start memory old k m t) (found : look_up (table_of (places_at old k)) key ≡ Some p) (places : places_at new k ≡ with_kept (places_at old k) key p) (rest : OnlyKeysChange k old new) where
-  uses : (q : ℕ) → times q (values_of (places_at new k).entries) + times q (places_at new k).kept ≡ times q (values_of (places_at old k).entries) + times q (places_at old k).kept
-  uses q = ap (λ (x : PlaceTable). times q (values_of x.entries) + times q x.kept) places ∙ below.deletes (places_at old k) key p q found
+  uses : (q : ℕ) → occurrences q (values_of (places_at new k).entries) + occurrences q (places_at new k).kept ≡ occurrences q (values_of (places_at old k).entries) + occurrences q (places_at old k).kept
+  uses q = ap (λ (x : PlaceTable). occurrences q (values_of x.entries) + occurrences q x.kept) places ∙ below.deletes (places_at old k) key p q found
 
   table_after : table_of (places_at new k) ≡ with_values h.place (with_deleted t.table key)
   table_after = ap table_of places ∙ table_kept (places_at old k) key p ∙ ap (λ (x : Table ℕ). with_deleted x key) h.table ∙ sym (below.along.delete h.place t.table key)

@@ -8,7 +8,7 @@ use Rattle.tagged_model.specs.Table.{Table, with_values}
 use Rattle.tagged_model.specs.Step.{numbered}
 use Rattle.tagged_model.specs.Admits.{KeysHaveObjects}
 use Rattle.arena.specs.Memory.{base}
-use Rattle.bpf_maps.specs.Places.{PlaceTable, table_of, times, IsSound}
+use Rattle.bpf_maps.specs.Places.{PlaceTable, table_of, occurrences, IsSound}
 use Rattle.bpf_maps.specs.Live.{LiveMaps, places_at, offset_at}
 use Rattle.bpf_helpers.specs.Layout.{Layout}
 use Rattle.bpf_helpers.specs.Stands.{HasObject}
@@ -50,13 +50,13 @@ length_values : (es : List (List ℕ × ℕ)) → length (values_of es) ≡ leng
 length_values [] = refl
 length_values (e ∷ es) = ap suc (length_values es)
 
-at_least_one : (x : ℕ) (xs : List ℕ) (i : ℕ) → i < length xs → slice_index xs i ≡ x → 1 ≤ times x xs
+at_least_one : (x : ℕ) (xs : List ℕ) (i : ℕ) → i < length xs → slice_index xs i ≡ x → 1 ≤ occurrences x xs
 at_least_one x [] i lt e = absurd (omega arith)
 at_least_one x (y ∷ ys) zero lt e =
     let one : ◌≡◌ {A = ℕ} (if nat_eq x y then 1 else 0) 1 = cond-true (nat_eq x y) 1 0 (eq-eqb x y (sym e)) in omega arith
 at_least_one x (y ∷ ys) (suc i) lt e = let rest = at_least_one x ys i (omega arith) e in omega arith
 
-at_most_one : (xs : List ℕ) (i j : ℕ) → i < length xs → j < length xs → ((x : ℕ) → times x xs ≤ 1) → slice_index xs i ≡ slice_index xs j → i ≡ j
+at_most_one : (xs : List ℕ) (i j : ℕ) → i < length xs → j < length xs → ((x : ℕ) → occurrences x xs ≤ 1) → slice_index xs i ≡ slice_index xs j → i ≡ j
 at_most_one [] i j lt few once e = absurd (omega arith)
 at_most_one (x ∷ xs) zero zero lt few once e = refl
 at_most_one (x ∷ xs) zero (suc j) lt few once e =
@@ -89,22 +89,22 @@ module _ (l : Layout) (start : ℕ) (memory : List ℕ) (tenant : LiveMaps) (k m
   in_values : (number : ℕ) → number < length (valued value places.entries) → number < length (values_of places.entries)
   in_values number lt = let long = valued_long value places.entries in let same = length_values places.entries in omega arith
 
-  once : (x : ℕ) → times x (values_of places.entries) ≤ 1
+  once : (x : ℕ) → occurrences x (values_of places.entries) ≤ 1
   once x = ⊎_elim (λ e. let most = sound.once x in omega arith) (λ e. let most = sound.once x in omega arith) (one_or_none (nat_lt x places.shape.max_entries))
 
-  used : (number : ℕ) → number < length places.entries → 1 ≤ times (slice_index (values_of places.entries) number) (values_of places.entries)
+  used : (number : ℕ) → number < length places.entries → 1 ≤ occurrences (slice_index (values_of places.entries) number) (values_of places.entries)
   used number lt = at_least_one (slice_index (values_of places.entries) number) (values_of places.entries) number (let same = length_values places.entries in omega arith) refl
 
   in_range : (number : ℕ) → number < length places.entries → slice_index (values_of places.entries) number < places.shape.max_entries
   in_range number lt =
       let p = slice_index (values_of places.entries) number in
       let some = used number lt in
-      ltb-true p places.shape.max_entries (only_within (times p (values_of places.entries) + times p places.kept) (nat_lt p places.shape.max_entries) (omega arith) (sound.once p))
+      ltb-true p places.shape.max_entries (only_within (occurrences p (values_of places.entries) + occurrences p places.kept) (nat_lt p places.shape.max_entries) (omega arith) (sound.once p))
 
   object : (number : ℕ) → number < length places.entries → HasObject l start memory tenant k m number (slice_index_or (values_of (valued value places.entries)) number []) (slice_index (values_of places.entries) number)
   object number lt = record {
     within = subst (λ (x : PlaceTable). slice_index (values_of places.entries) number < x.shape.max_entries) (sym is) (in_range number lt);
-    in_use = subst (λ (x : PlaceTable). 1 ≤ times (slice_index (values_of places.entries) number) (values_of x.entries) + times (slice_index (values_of places.entries) number) x.kept) (sym is) (let some = used number lt in omega arith);
+    in_use = subst (λ (x : PlaceTable). 1 ≤ occurrences (slice_index (values_of places.entries) number) (values_of x.entries) + occurrences (slice_index (values_of places.entries) number) x.kept) (sym is) (let some = used number lt in omega arith);
     address = addresses number lt;
     bytes = ap (λ (x : PlaceTable). bytes_at memory (start + offset_at tenant k (slice_index (values_of places.entries) number)) x.shape.value_size) is ∙ bytes (slice_index (values_of places.entries) number) (in_range number lt) ∙ sym (value_of value places.entries number lt);
   }

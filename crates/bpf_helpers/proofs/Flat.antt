@@ -2,7 +2,7 @@
 use Rattle.std.proofs.Common.{◌≡◌, ℕ, ◌+◌, ◌≤◌, List, slice_range, Option, Some, sym, ap, ◌∙◌}
 use Rattle.words.specs.Bytes.{bytes_at}
 use Rattle.words.specs.ByteLaws.{bytes_within, range_is_bytes}
-use Rattle.tagged_model.specs.Cells.{also}
+use Rattle.tagged_model.specs.Cells.{and_then}
 use Rattle.tagged_model.specs.Table.{look_up}
 use Rattle.arena.specs.Memory.{Memory, part_start, part_bytes}
 use Rattle.bpf_maps.specs.Places.{table_of}
@@ -17,8 +17,8 @@ part_range memory t at n part is fits =
 module _ (memory : Memory) (t : ℕ) (tenant : LiveMaps) (bind : List ℕ) (map key k at n : ℕ) (bound : Some k ≡ bound_map bind map) (size : n ≡ (shape_at tenant k).key_size) (place : Some at ≡ part_place (part_start memory t) memory.part n key) where
   pub answers : (bytes : List ℕ) (o : Option ℕ) → bytes ≡ bytes_at memory.bytes (part_start memory t + at) n → o ≡ look_up (table_of (places_at tenant k)) bytes → flat_look_up memory t tenant bind map key ≡ Some (value_word memory t tenant k o)
   answers bytes o same found =
-      ap (λ o. also o (λ k. also (part_input memory t (shape_at tenant k).key_size key) (λ bytes. Some (value_word memory t tenant k (look_up (table_of (places_at tenant k)) bytes))))) (sym bound)
-      ∙ ap (λ (m : ℕ). also (part_input memory t m key) (λ bytes. Some (value_word memory t tenant k (look_up (table_of (places_at tenant k)) bytes)))) (sym size)
-      ∙ ap (λ o. also (also o (λ at. Some (bytes_at memory.bytes (part_start memory t + at) n))) (λ bytes. Some (value_word memory t tenant k (look_up (table_of (places_at tenant k)) bytes)))) (sym place)
+      ap (λ o. and_then o (λ k. and_then (part_input memory t (shape_at tenant k).key_size key) (λ bytes. Some (value_word memory t tenant k (look_up (table_of (places_at tenant k)) bytes))))) (sym bound)
+      ∙ ap (λ (m : ℕ). and_then (part_input memory t m key) (λ bytes. Some (value_word memory t tenant k (look_up (table_of (places_at tenant k)) bytes)))) (sym size)
+      ∙ ap (λ o. and_then (and_then o (λ at. Some (bytes_at memory.bytes (part_start memory t + at) n))) (λ bytes. Some (value_word memory t tenant k (look_up (table_of (places_at tenant k)) bytes)))) (sym place)
       ∙ ap (λ (x : List ℕ). Some (value_word memory t tenant k (look_up (table_of (places_at tenant k)) x))) (sym same)
       ∙ ap (λ (o : Option ℕ). Some (value_word memory t tenant k o)) (sym found)

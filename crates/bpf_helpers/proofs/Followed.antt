@@ -10,7 +10,7 @@ use Rattle.tagged_model.specs.declared.shape.MapShape.{MapShape}
 use Rattle.tagged_model.specs.declared.value.Tagged.{Tagged}
 use Rattle.tagged_model.specs.declared.value.Tagged.TheVariants.{Scalar, Map}
 use Rattle.tagged_model.specs.Table.{Table}
-use Rattle.tagged_model.specs.Cells.{also}
+use Rattle.tagged_model.specs.Cells.{and_then}
 use Rattle.tagged_model.specs.State.{RunState, input}
 use Rattle.tagged_model.specs.Helpers.{GivenMap, map_argument, argument, number_given, with_reply, replies, returns, updated, removed, packet_bytes, packet_answer, called}
 use Rattle.arena.specs.Memory.{Memory, base, part_start, with_bytes}
@@ -129,10 +129,10 @@ module _ (l : Layout) (bind : List ℕ) (old : Memory) (t at : ℕ) (registers :
 
     pub update_followed : (after : Memory) (new : LiveMaps) (u : RunState) → UpdatesBy memory t tenant bind (slice_index words 0) (slice_index words 1) (slice_index words 2) (slice_index words 3) o after new → called false Update s ≡ Some u → ResultFollows l bind old t at registers tenant s Update answer after new
     update_followed after new u told e =
-        let a = also_some (map_argument s 1) (λ g. also (argument s 2 (λ p. input s p g.map.table.shape.key_size)) (λ key. also (argument s 3 (λ p. input s p g.map.table.shape.value_size)) (λ value. also (argument s 4 number_given) (λ flags. Some (replies s g.descriptor (updated false g.map key value flags)))))) u e in
+        let a = also_some (map_argument s 1) (λ g. and_then (argument s 2 (λ p. input s p g.map.table.shape.key_size)) (λ key. and_then (argument s 3 (λ p. input s p g.map.table.shape.value_size)) (λ value. and_then (argument s 4 number_given) (λ flags. Some (replies s g.descriptor (updated false g.map key value flags)))))) u e in
         let g = a.0 in
-        let b = also_some (argument s 2 (λ p. input s p g.map.table.shape.key_size)) (λ key. also (argument s 3 (λ p. input s p g.map.table.shape.value_size)) (λ value. also (argument s 4 number_given) (λ flags. Some (replies s g.descriptor (updated false g.map key value flags))))) u a.2 in
-        let c = also_some (argument s 3 (λ p. input s p g.map.table.shape.value_size)) (λ value. also (argument s 4 number_given) (λ flags. Some (replies s g.descriptor (updated false g.map b.0 value flags)))) u b.2 in
+        let b = also_some (argument s 2 (λ p. input s p g.map.table.shape.key_size)) (λ key. and_then (argument s 3 (λ p. input s p g.map.table.shape.value_size)) (λ value. and_then (argument s 4 number_given) (λ flags. Some (replies s g.descriptor (updated false g.map key value flags))))) u a.2 in
+        let c = also_some (argument s 3 (λ p. input s p g.map.table.shape.value_size)) (λ value. and_then (argument s 4 number_given) (λ flags. Some (replies s g.descriptor (updated false g.map b.0 value flags)))) u b.2 in
         let d = also_some (argument s 4 number_given) (λ flags. Some (replies s g.descriptor (updated false g.map b.0 c.0 flags))) u c.2 in
         update_by after new told g b.0 c.0 d.0 a.1 b.1 c.1 d.1 (map_there g a.1)
       where
@@ -149,10 +149,10 @@ module _ (l : Layout) (bind : List ℕ) (old : Memory) (t at : ℕ) (registers :
               refused = st.refused;
               only = λ x. record { given = g; key = key; flags = flags; map_is = first; key_is = second; flags_are = fourth; new = st.only x };
               state = replies s g.descriptor reply;
-              goes = ap (λ o. also o (λ g. also (argument s 2 (λ p. input s p g.map.table.shape.key_size)) (λ key. also (argument s 3 (λ p. input s p g.map.table.shape.value_size)) (λ value. also (argument s 4 number_given) (λ flags. Some (replies s g.descriptor (updated st.refused g.map key value flags))))))) first
-                  ∙ ap (λ o. also o (λ key. also (argument s 3 (λ p. input s p g.map.table.shape.value_size)) (λ value. also (argument s 4 number_given) (λ flags. Some (replies s g.descriptor (updated st.refused g.map key value flags)))))) second
-                  ∙ ap (λ o. also o (λ value. also (argument s 4 number_given) (λ flags. Some (replies s g.descriptor (updated st.refused g.map key value flags))))) third
-                  ∙ ap (λ o. also o (λ flags. Some (replies s g.descriptor (updated st.refused g.map key value flags)))) fourth;
+              goes = ap (λ o. and_then o (λ g. and_then (argument s 2 (λ p. input s p g.map.table.shape.key_size)) (λ key. and_then (argument s 3 (λ p. input s p g.map.table.shape.value_size)) (λ value. and_then (argument s 4 number_given) (λ flags. Some (replies s g.descriptor (updated st.refused g.map key value flags))))))) first
+                  ∙ ap (λ o. and_then o (λ key. and_then (argument s 3 (λ p. input s p g.map.table.shape.value_size)) (λ value. and_then (argument s 4 number_given) (λ flags. Some (replies s g.descriptor (updated st.refused g.map key value flags)))))) second
+                  ∙ ap (λ o. and_then o (λ value. and_then (argument s 4 number_given) (λ flags. Some (replies s g.descriptor (updated st.refused g.map key value flags))))) third
+                  ∙ ap (λ o. and_then o (λ flags. Some (replies s g.descriptor (updated st.refused g.map key value flags)))) fourth;
               layout = st.layout;
               extends = st.extends;
               word = r.0;
@@ -165,7 +165,7 @@ module _ (l : Layout) (bind : List ℕ) (old : Memory) (t at : ℕ) (registers :
 
     pub delete_followed : (new : LiveMaps) (u : RunState) → DeletesBy memory t tenant bind (slice_index words 0) (slice_index words 1) o new → called false Delete s ≡ Some u → ResultFollows l bind old t at registers tenant s Delete answer memory new
     delete_followed new u told e =
-        let a = also_some (map_argument s 1) (λ g. also (argument s 2 (λ p. input s p g.map.table.shape.key_size)) (λ key. Some (replies s g.descriptor (removed g.map key)))) u e in
+        let a = also_some (map_argument s 1) (λ g. and_then (argument s 2 (λ p. input s p g.map.table.shape.key_size)) (λ key. Some (replies s g.descriptor (removed g.map key)))) u e in
         let g = a.0 in
         let b = also_some (argument s 2 (λ p. input s p g.map.table.shape.key_size)) (λ key. Some (replies s g.descriptor (removed g.map key))) u a.2 in
         let m = map_there g a.1 in

@@ -13,12 +13,13 @@ use Rattle.reg_kinds.specs.StackLaws.{in_stack}
 use Rattle.tagged_model.specs.declared.value.Object.TheVariants as object
 use Rattle.tagged_model.specs.declared.value.Tagged.{Tagged}
 use Rattle.tagged_model.specs.declared.value.Tagged.TheVariants.{Pointer}
-use Rattle.tagged_model.specs.Cells.{also, gathered}
+use Rattle.tagged_model.specs.Cells.{and_then, gathered}
 use Rattle.tagged_model.specs.State.{RunState, RunMap, stack_byte, stack_bytes, value_bytes, object_bytes, input}
 use Rattle.arena.specs.Memory.{Memory, base, part_start}
 use Rattle.arena.specs.PartLaws.{part_within}
 use Rattle.bpf_maps.specs.declared.part.TheConstants.{PART}
-use Rattle.bpf_maps.specs.Live.{LiveMaps, LiveMap, live_at, live_or, shape_at, offset, offset_at, LiesInPart, IsLaid}
+use Rattle.bpf_maps.specs.Live.{LiveMaps, live_at, shape_at, offset_at}
+use Rattle.bpf_maps.specs.LiveLaws.{laid_inside}
 use Rattle.bpf_helpers.specs.Layout.{Layout, IsWord}
 use Rattle.bpf_helpers.specs.Stands.{IsRoom, HasObject, MapsStandFor, StandsFor}
 use Rattle.bpf_helpers.specs.inside.Flat.{part_place, part_input}
@@ -35,14 +36,6 @@ part_place_is start part n address at e h =
     cond-true (leb (base + start) address && leb (address + n) (base + start + part)) (Some (address - (base + start))) None t ∙ ap (λ (q : ℕ). Some q) place
 
 -- ---- maps
-
-module _ (tenant : LiveMaps) (laid : IsLaid tenant) where
-  pub laid_inside : (k p : ℕ) → IsSome (live_at tenant k) → p < (shape_at tenant k).max_entries → LiesInPart (offset_at tenant k p) (shape_at tenant k).value_size
-  laid_inside k p live lt = by (live_at tenant k) refl live lt
-    where
-      by : (o : Option LiveMap) → live_at tenant k ≡ o → IsSome o → p < (live_or o).places.shape.max_entries → LiesInPart (offset (live_or o) p) (live_or o).places.shape.value_size
-      by None e some lt = absurd (false≢true some)
-      by (Some l) e some lt = laid.inside k p l e lt
 
 -- an object that is placed
 pub record Found (l : Layout) (start : ℕ) (memory : List ℕ) (bind : List ℕ) (tenant : LiveMaps) (maps : ℕ → Option RunMap) (m number : ℕ) : Type 0 where
@@ -84,7 +77,7 @@ module _ (l : Layout) (bind : List ℕ) (old : Memory) (t at : ℕ) (registers :
   there w n q bs e fits same =
       let begin = start_same in
       let part = part_same in
-      ap (λ o. also o (λ at. Some (bytes_at memory.bytes (part_start memory t + at) n))) (part_place_is (part_start memory t) memory.part n w q (e ∙ ap (λ (a : ℕ). base + (a + q)) (sym start_same)) (omega arith))
+      ap (λ o. and_then o (λ at. Some (bytes_at memory.bytes (part_start memory t + at) n))) (part_place_is (part_start memory t) memory.part n w q (e ∙ ap (λ (a : ℕ). base + (a + q)) (sym start_same)) (omega arith))
       ∙ ap (λ (a : ℕ). Some (bytes_at memory.bytes (a + q) n)) start_same ∙ ap (λ (x : List ℕ). Some x) same
 
   pub memory_long : part_start old t + PART ≤ length memory.bytes

@@ -9,7 +9,7 @@ use Rattle.words.specs.ByteLaws.{length-bytes_at}
 use Rattle.tagged_model.specs.declared.helper.Helper.TheVariants.{LoadBytes}
 use Rattle.tagged_model.specs.declared.value.Tagged.{Tagged}
 use Rattle.tagged_model.specs.declared.value.Tagged.TheVariants.{Scalar, Map, Pointer}
-use Rattle.tagged_model.specs.Cells.{also}
+use Rattle.tagged_model.specs.Cells.{and_then}
 use Rattle.tagged_model.specs.State.{RunState, output}
 use Rattle.tagged_model.specs.Helpers.{argument, number_given, length_given, context_given, packet_bytes, packet_answer, is_in_packet, returns, called}
 use Rattle.arena.specs.Memory.{Memory, part_start, with_bytes}
@@ -70,8 +70,8 @@ module _ (l : Layout) (bind : List ℕ) (old : Memory) (t at : ℕ) (registers :
 
     pub load_stands : (refused : Bool) (u : RunState) → called refused LoadBytes s ≡ Some u → LoadStands l bind old t at registers memory tenant s u
     load_stands refused u e =
-        let a = also_some (argument s 1 context_given) (λ c. also (argument s 2 number_given) (λ offset. also (argument s 4 length_given) (λ n. also (argument s 3 (λ p. output s p (packet_bytes s.packet offset n))) (λ t. Some (returns t (Scalar (packet_answer s.packet offset n))))))) u e in
-        let b = also_some (argument s 2 number_given) (λ offset. also (argument s 4 length_given) (λ n. also (argument s 3 (λ p. output s p (packet_bytes s.packet offset n))) (λ t. Some (returns t (Scalar (packet_answer s.packet offset n)))))) u a.2 in
-        let c = also_some (argument s 4 length_given) (λ n. also (argument s 3 (λ p. output s p (packet_bytes s.packet b.0 n))) (λ t. Some (returns t (Scalar (packet_answer s.packet b.0 n))))) u b.2 in
+        let a = also_some (argument s 1 context_given) (λ c. and_then (argument s 2 number_given) (λ offset. and_then (argument s 4 length_given) (λ n. and_then (argument s 3 (λ p. output s p (packet_bytes s.packet offset n))) (λ t. Some (returns t (Scalar (packet_answer s.packet offset n))))))) u e in
+        let b = also_some (argument s 2 number_given) (λ offset. and_then (argument s 4 length_given) (λ n. and_then (argument s 3 (λ p. output s p (packet_bytes s.packet offset n))) (λ t. Some (returns t (Scalar (packet_answer s.packet offset n)))))) u a.2 in
+        let c = also_some (argument s 4 length_given) (λ n. and_then (argument s 3 (λ p. output s p (packet_bytes s.packet b.0 n))) (λ t. Some (returns t (Scalar (packet_answer s.packet b.0 n))))) u b.2 in
         let d = also_some (argument s 3 (λ p. output s p (packet_bytes s.packet b.0 c.0))) (λ t. Some (returns t (Scalar (packet_answer s.packet b.0 c.0)))) u c.2 in
         written b.0 c.0 u d.0 (number_word 2 b.0 (omega arith) b.1) (length_word 4 c.0 (omega arith) c.1) d.1 d.2

@@ -9,7 +9,7 @@ use Rattle.tagged_model.specs.declared.shape.MapShape.{MapShape}
 use Rattle.tagged_model.specs.declared.value.Tagged.{Tagged}
 use Rattle.tagged_model.specs.declared.value.Tagged.TheVariants.{Scalar, Map, Pointer}
 use Rattle.tagged_model.specs.Table.{Table, look_up}
-use Rattle.tagged_model.specs.Cells.{also}
+use Rattle.tagged_model.specs.Cells.{and_then}
 use Rattle.tagged_model.specs.State.{RunState, RunMap, input}
 use Rattle.tagged_model.specs.Helpers.{GivenMap, map_given, argument, map_argument, looked_up, called, returns}
 use Rattle.tagged_model.specs.StateLaws.{found_owned}
@@ -38,7 +38,7 @@ pub record IsGiven (s : RunState) (r : ℕ) (g : GivenMap) : Type 0 where
 
 pub is_given : (s : RunState) (r : ℕ) (g : GivenMap) → map_argument s r ≡ Some g → IsGiven s r g
 is_given s r g e =
-    let a = also_some (argument s r map_given) (λ m. also (s.maps m) (λ t. Some (record { descriptor = m; map = t }))) g e in
+    let a = also_some (argument s r map_given) (λ m. and_then (s.maps m) (λ t. Some (record { descriptor = m; map = t }))) g e in
     let b = also_some (s.registers r) map_given a.0 a.1 in
     let c = also_some (s.maps a.0) (λ t. Some (record { descriptor = a.0; map = t })) g a.2 in
     let same = same_Some (record { descriptor = a.0; map = c.0 }) g c.2 in
@@ -91,7 +91,7 @@ module _ (l : Layout) (bind : List ℕ) (old : Memory) (t at : ℕ) (registers :
   pub follows : CallsRefineValues ℕ ℕ → (refused : Bool) (u : RunState) → called refused LookUp s ≡ Some u
       → (v : Tagged) × (u ≡ returns s v) × GivesWord l (flat_look_up memory t tenant bind (slice_index registers 1) (slice_index registers 2)) (Some v)
   follows along refused u e =
-      let a = also_some (map_argument s 1) (λ g. also (argument s 2 (λ p. input s p g.map.table.shape.key_size)) (λ key. Some (returns s (looked_up g.descriptor (look_up g.map.table key))))) u e in
+      let a = also_some (map_argument s 1) (λ g. and_then (argument s 2 (λ p. input s p g.map.table.shape.key_size)) (λ key. Some (returns s (looked_up g.descriptor (look_up g.map.table key))))) u e in
       let g = a.0 in
       let given = is_given s 1 g a.1 in
       let b = also_some (argument s 2 (λ p. input s p g.map.table.shape.key_size)) (λ key. Some (returns s (looked_up g.descriptor (look_up g.map.table key)))) u a.2 in
@@ -100,9 +100,9 @@ module _ (l : Layout) (bind : List ℕ) (old : Memory) (t at : ℕ) (registers :
       let size : (shape_at tenant bound.key).key_size ≡ g.map.table.shape.key_size = ap (λ (x : MapShape). x.key_size) (shape_same along g.descriptor bound.key g.map bound.has) in
       let read = input_there l bind old t at registers memory tenant s room stands c.0 (slice_index registers 2) g.map.table.shape.key_size b.0 (stands.values 2 c.0 (omega arith) c.1) c.2 in
       let flat : flat_look_up memory t tenant bind (slice_index registers 1) (slice_index registers 2) ≡ Some (value_word memory t tenant bound.key (look_up (table_of (places_at tenant bound.key)) b.0)) =
-      ap (λ o. also o (λ k. also (part_input memory t (shape_at tenant k).key_size (slice_index registers 2)) (λ bytes. Some (value_word memory t tenant k (look_up (table_of (places_at tenant k)) bytes))))) bound.bound
-      ∙ ap (λ (n : ℕ). also (part_input memory t n (slice_index registers 2)) (λ bytes. Some (value_word memory t tenant bound.key (look_up (table_of (places_at tenant bound.key)) bytes)))) size
-      ∙ ap (λ o. also o (λ bytes. Some (value_word memory t tenant bound.key (look_up (table_of (places_at tenant bound.key)) bytes)))) read in (
+      ap (λ o. and_then o (λ k. and_then (part_input memory t (shape_at tenant k).key_size (slice_index registers 2)) (λ bytes. Some (value_word memory t tenant k (look_up (table_of (places_at tenant k)) bytes))))) bound.bound
+      ∙ ap (λ (n : ℕ). and_then (part_input memory t n (slice_index registers 2)) (λ bytes. Some (value_word memory t tenant bound.key (look_up (table_of (places_at tenant bound.key)) bytes)))) size
+      ∙ ap (λ o. and_then o (λ bytes. Some (value_word memory t tenant bound.key (look_up (table_of (places_at tenant bound.key)) bytes)))) read in (
         looked_up g.descriptor (look_up g.map.table b.0),
         sym (same_Some _ u b.2),
         subst (λ (o : Option ℕ). GivesWord l o (Some (looked_up g.descriptor (look_up g.map.table b.0)))) (sym flat) (look_up_follows along g.descriptor bound.key g.map bound.has b.0),

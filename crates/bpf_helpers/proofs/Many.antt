@@ -8,12 +8,12 @@ use Rattle.reg_kinds.specs.Stack.{is_in_stack, place}
 use Rattle.reg_kinds.specs.Many.{touches}
 use Rattle.reg_kinds.specs.StackLaws.{in_stack}
 use Rattle.tagged_model.specs.declared.value.Tagged.{Tagged}
-use Rattle.tagged_model.specs.Cells.{Cell, holds, bytes, also, byte_at, gathered, cell_over}
+use Rattle.tagged_model.specs.Cells.{Cell, holds, bytes, and_then, byte_at, gathered, cell_over}
 use Rattle.tagged_model.specs.State.{RunState, with_cells, stack_byte}
 use Rattle.bpf_helpers.specs.Layout.{Layout, IsWord, HasCell, HasStack}
 use Rattle.bpf_helpers.specs.inside.Laws.{StackBytesAreThere, StackBytesAreWritten}
 
-pub also_some : {A B : Type 0} (o : Option A) (f : A → Option B) (y : B) → also o f ≡ Some y → (x : A) × (o ≡ Some x) × (f x ≡ Some y)
+pub also_some : {A B : Type 0} (o : Option A) (f : A → Option B) (y : B) → and_then o f ≡ Some y → (x : A) × (o ≡ Some x) × (f x ≡ Some y)
 also_some None f y e = absurd (none-some y e)
 also_some (Some x) f y e = (x, refl, e)
 
@@ -35,7 +35,7 @@ pub are_from : (byte : ℕ → Option ℕ) (n p : ℕ) (list : List ℕ) → gat
 unfolding gathered
 are_from byte zero p list e = subst (AreFrom byte p 0) (same_Some [] list e) (record { count = refl; each = λ k lt. absurd (omega arith) })
 are_from byte (suc n) p list e =
-    let a = also_some (byte p) (λ b. also (gathered byte (suc p) n) (λ bs. Some (b ∷ bs))) list e in
+    let a = also_some (byte p) (λ b. and_then (gathered byte (suc p) n) (λ bs. Some (b ∷ bs))) list e in
     let r = also_some (gathered byte (suc p) n) (λ bs. Some (a.0 ∷ bs)) list a.2 in
     subst (AreFrom byte p (suc n)) (same_Some (a.0 ∷ r.0) list r.2) (one_more byte p n a.0 r.0 a.1 (are_from byte n (suc p) r.0 r.1))
 

@@ -8,7 +8,7 @@ use Rattle.std.proofs.lemmas.Option.{same_Some, slice_get_within}
 use Rattle.words.specs.Bytes.{bytes_at}
 use Rattle.tagged_model.specs.State.{RunMap, set_at}
 use Rattle.arena.specs.Memory.{base}
-use Rattle.bpf_maps.specs.Places.{PlaceTable, table_of, times}
+use Rattle.bpf_maps.specs.Places.{PlaceTable, table_of, occurrences}
 use Rattle.bpf_maps.specs.Live.{LiveMaps, LiveMap, live_at, live_or, places_at, shape_at, offset, offset_at, OnlyKeysChange}
 use Rattle.bpf_maps.specs.Laws.{AreasKeepPlaces}
 use Rattle.bpf_helpers.specs.Layout.{Layout}
@@ -36,7 +36,7 @@ module _ (l : Layout) (start : ℕ) (memory : List ℕ) (old new : LiveMaps) (k 
         let o = h.objects number lt in
         record {
           within = subst (λ (x : PlaceTable). h.place number < x.shape.max_entries) (sym places) o.within;
-          in_use = subst (λ (x : PlaceTable). 1 ≤ times (h.place number) (values_of x.entries) + times (h.place number) x.kept) (sym places) o.in_use;
+          in_use = subst (λ (x : PlaceTable). 1 ≤ occurrences (h.place number) (values_of x.entries) + occurrences (h.place number) x.kept) (sym places) o.in_use;
           address = o.address ∙ ap (λ (a : ℕ). base + (start + a)) (sym (offsets (h.place number)));
           bytes = ap (λ (a : ℕ). bytes_at memory (start + a) (shape_at new k).value_size) (offsets (h.place number)) ∙ ap (λ (x : PlaceTable). bytes_at memory (start + offset_at old k (h.place number)) x.shape.value_size) places ∙ o.bytes;
         };

@@ -13,18 +13,19 @@ use Rattle.reg_kinds.specs.StackLaws.{in_stack}
 use Rattle.tagged_model.specs.declared.value.Object.TheVariants as object
 use Rattle.tagged_model.specs.declared.value.Tagged.{Tagged}
 use Rattle.tagged_model.specs.declared.value.Tagged.TheVariants.{Pointer}
-use Rattle.tagged_model.specs.Cells.{Cell, also, cell_over}
+use Rattle.tagged_model.specs.Cells.{Cell, and_then, cell_over}
 use Rattle.tagged_model.specs.State.{RunState, RunMap, set_at, with_cells, with_value, with_map, stack_written, value_written, object_written, output}
 use Rattle.arena.specs.Memory.{Memory, base, part_start, with_bytes}
 use Rattle.arena.specs.Apart.{IsPart, WritesStayInside}
 use Rattle.bpf_maps.specs.declared.part.TheConstants.{PART}
 use Rattle.bpf_maps.specs.Live.{LiveMaps, LiveMap, live_at, live_or, shape_at, offset, offset_at, LiesInPart, IsLaid}
 use Rattle.bpf_helpers.specs.Layout.{Layout, IsWord, HasCell, HasStack, HasWords}
-use Rattle.bpf_helpers.specs.Stands.{top, IsRoom, IsOnlyChanged, HasObject, HasMap, MapsStandFor, KeepsUnboundValues, StandsFor}
+use Rattle.bpf_helpers.specs.Stands.{stack_top, IsRoom, IsOnlyChanged, HasObject, HasMap, MapsStandFor, KeepsUnboundValues, StandsFor}
 use Rattle.bpf_helpers.specs.inside.Flat.{part_place}
 use Rattle.bpf_helpers.specs.inside.Laws.{OutputsStand}
 use Rattle.bpf_helpers.proofs.Many.{also_some, bytes_over}
-use Rattle.bpf_helpers.proofs.Inputs.{part_place_is, laid_inside, start_same, memory_long}
+use Rattle.bpf_maps.specs.LiveLaws.{laid_inside}
+use Rattle.bpf_helpers.proofs.Inputs.{part_place_is, start_same, memory_long}
 
 -- ---- what is apart from what is written stays
 
@@ -268,7 +269,7 @@ module _ (writes : WritesStayInside) (l : Layout) (bind : List ℕ) (old : Memor
         values = stands.values;
         stack = cells;
         words = stands.words;
-        context = words_kept l memory.bytes bs (start + place x) (omega arith) (top old t) s.words (inr (omega arith)) stands.context;
+        context = words_kept l memory.bytes bs (start + place x) (omega arith) (stack_top old t) s.words (inr (omega arith)) stands.context;
         maps = maps_behind l bind start memory.bytes bs tenant s.maps stands.maps long (place x) within;
         elsewhere = others_behind bind start old.bytes memory.bytes bs tenant stands.maps.laid long stands.elsewhere (place x) within;
         flag = stands.flag;
@@ -276,16 +277,16 @@ module _ (writes : WritesStayInside) (l : Layout) (bind : List ℕ) (old : Memor
 
   object_output : (m number : ℕ) (x : ℤ) (w : ℕ) (bs : List ℕ) (u : RunState) → pos w ≡ pos (l.object_at m number) +ℤ x → number < l.counts m → object_written s m number x bs ≡ Some u → Written w bs u
   object_output m number (negsuc y) w bs u h placed e =
-      let a = also_some (s.maps m) (λ t. also (value_written (t.values number) (negsuc y) bs) (λ value. Some (with_map s m (with_value t number value)))) u e in absurd (none-some u a.2)
+      let a = also_some (s.maps m) (λ t. and_then (value_written (t.values number) (negsuc y) bs) (λ value. Some (with_map s m (with_value t number value)))) u e in absurd (none-some u a.2)
   object_output m number (pos y) w bs u h placed e =
       let start = part_start old t in
       let listed = stands.maps.listed m number placed in
       let i = listed.0 in
       let g = stands.maps.each i m listed.1 in
       let key = slice_index bind i in
-      let a = also_some (s.maps m) (λ t. also (value_written (t.values number) (pos y) bs) (λ value. Some (with_map s m (with_value t number value)))) u e in
+      let a = also_some (s.maps m) (λ t. and_then (value_written (t.values number) (pos y) bs) (λ value. Some (with_map s m (with_value t number value)))) u e in
       let same : a.0 ≡ g.0 = same_Some a.0 g.0 (sym a.1 ∙ g.1) in
-      let got : also (value_written (g.0.values number) (pos y) bs) (λ value. Some (with_map s m (with_value g.0 number value))) ≡ Some u = ap (λ (t : RunMap). also (value_written (t.values number) (pos y) bs) (λ value. Some (with_map s m (with_value t number value)))) (sym same) ∙ a.2 in
+      let got : and_then (value_written (g.0.values number) (pos y) bs) (λ value. Some (with_map s m (with_value g.0 number value))) ≡ Some u = ap (λ (t : RunMap). and_then (value_written (t.values number) (pos y) bs) (λ value. Some (with_map s m (with_value t number value)))) (sym same) ∙ a.2 in
       let b = also_some (value_written (g.0.values number) (pos y) bs) (λ value. Some (with_map s m (with_value g.0 number value))) u got in
       let c = cond_some (leb (y + length bs) (length (g.0.values number))) (written_at (g.0.values number) y bs) b.0 b.1 in
       let few : y + length bs ≤ length (g.0.values number) = leb-true (y + length bs) (length (g.0.values number)) c.0 in
@@ -314,7 +315,7 @@ module _ (writes : WritesStayInside) (l : Layout) (bind : List ℕ) (old : Memor
         values = stands.values;
         stack = λ k few. cell_kept l memory.bytes bs (start + (off + y)) (omega arith) (start + 8 * k) (s.cells k) (inl (omega arith)) (stands.stack k few);
         words = stands.words;
-        context = words_kept l memory.bytes bs (start + (off + y)) (omega arith) (top old t) s.words (inl (omega arith)) stands.context;
+        context = words_kept l memory.bytes bs (start + (off + y)) (omega arith) (stack_top old t) s.words (inl (omega arith)) stands.context;
         maps = maps_over l bind start memory.bytes bs tenant s.maps stands.maps long m number g.0 g.1 i listed.1 g.2 lt y small;
         elsewhere = let count = stands.maps.count in let fits = slice_get_within l.maps i m listed.1 in others_over bind start old.bytes memory.bytes bs tenant stands.maps.laid long stands.elsewhere i (g.2.place number) y (omega arith) g.2.live o.within small;
         flag = stands.flag;

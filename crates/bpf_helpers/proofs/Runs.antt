@@ -14,7 +14,7 @@ use Rattle.tagged_model.specs.declared.value.Tagged.{Tagged}
 use Rattle.tagged_model.specs.declared.value.Tagged.TheVariants.{Pointer}
 use Rattle.tagged_model.specs.Cells.{holds, bytes}
 use Rattle.tagged_model.specs.State.{RunState}
-use Rattle.tagged_model.specs.Step.{MapsByDescriptor, begins_with, begin, first_map, last_map}
+use Rattle.tagged_model.specs.Step.{MapsByDescriptor, begins_with, start_of_run, first_map, last_map}
 use Rattle.arena.specs.Memory.{Memory, base, size_of, part_start, part_bytes}
 use Rattle.arena.specs.PartLaws.{part_within}
 use Rattle.bpf_maps.specs.declared.part.TheConstants.{PART}
@@ -22,9 +22,9 @@ use Rattle.bpf_maps.specs.Places.{PlaceTable, after_run}
 use Rattle.bpf_maps.specs.Live.{LiveMaps, live_at, places_at, shape_at, offset_at, value_in, map_in, SameAreas}
 use Rattle.bpf_maps.specs.Laws.{AreasKeepPlaces}
 use Rattle.bpf_helpers.specs.Layout.{Layout, IsWord}
-use Rattle.bpf_helpers.specs.Stands.{top, IsRoom, HasMap, StandsFor}
+use Rattle.bpf_helpers.specs.Stands.{stack_top, IsRoom, HasMap, StandsFor}
 use Rattle.bpf_helpers.specs.Runs.{AreReady, HasContext, first_registers, RunBeginsWith, RunsBegin, RunsEnd, OthersStay}
-use Rattle.bpf_helpers.proofs.Inputs.{laid_inside}
+use Rattle.bpf_maps.specs.LiveLaws.{laid_inside}
 use Rattle.bpf_helpers.proofs.Ends.{maps_begin, maps_end}
 use Rattle.bpf_helpers.proofs.Flags.{or_none}
 
@@ -83,7 +83,7 @@ module _ (bind descriptors : List ℕ) (old : Memory) (t : ℕ) (memory : Memory
 
   layout : Layout
   layout = record {
-    front = base + top old t;
+    front = base + stack_top old t;
     object_at = λ m number. object_at (place_in descriptors m) number;
     counts = λ m. count_at (place_in descriptors m);
     maps = descriptors;
@@ -133,32 +133,32 @@ module _ (bind descriptors : List ℕ) (old : Memory) (t : ℕ) (memory : Memory
       by None e lt = absurd (omega arith)
       by (Some i) e lt = (i, place_is_there descriptors m i e)
 
-  context_first : IsWord layout (Pointer object.Context (pos 0)) (base + top old t)
+  context_first : IsWord layout (Pointer object.Context (pos 0)) (base + stack_top old t)
   unfolding layout
   context_first = (omega (arith, ints), refl, tt)
 
-  stack_first : IsWord layout (Pointer object.Stack (pos 0)) (base + top old t)
+  stack_first : IsWord layout (Pointer object.Stack (pos 0)) (base + stack_top old t)
   unfolding layout
   stack_first = (omega (arith, ints), refl, tt)
 
   first_words : (r : ℕ) (v : Tagged) → r < 11 → begins_with r ≡ Some v → IsWord layout v (slice_index (first_registers old t) r)
   first_words r v lt e = context_word context_first stack_first (eqb r 1) refl e
     where
-      stack_word : IsWord layout (Pointer object.Stack (pos 0)) (base + top old t) → (b : Bool) → eqb r 10 ≡ b → cond b (Some (Pointer object.Stack (pos 0))) None ≡ Some v → IsWord layout v (slice_index (first_registers old t) r)
+      stack_word : IsWord layout (Pointer object.Stack (pos 0)) (base + stack_top old t) → (b : Bool) → eqb r 10 ≡ b → cond b (Some (Pointer object.Stack (pos 0))) None ≡ Some v → IsWord layout v (slice_index (first_registers old t) r)
       stack_word h true k e = subst (λ (x : ℕ). IsWord layout v (slice_index (first_registers old t) x)) (sym (eqb-true r 10 k))
-          (subst (λ (x : Tagged). IsWord layout x (base + top old t)) (same_Some (Pointer object.Stack (pos 0)) v e) h)
+          (subst (λ (x : Tagged). IsWord layout x (base + stack_top old t)) (same_Some (Pointer object.Stack (pos 0)) v e) h)
       stack_word h false k e = absurd (none-some v e)
 
-      context_word : IsWord layout (Pointer object.Context (pos 0)) (base + top old t) → IsWord layout (Pointer object.Stack (pos 0)) (base + top old t) → (b : Bool) → eqb r 1 ≡ b
+      context_word : IsWord layout (Pointer object.Context (pos 0)) (base + stack_top old t) → IsWord layout (Pointer object.Stack (pos 0)) (base + stack_top old t) → (b : Bool) → eqb r 1 ≡ b
           → cond b (Some (Pointer object.Context (pos 0))) (cond (eqb r 10) (Some (Pointer object.Stack (pos 0))) None) ≡ Some v → IsWord layout v (slice_index (first_registers old t) r)
       context_word h g true k e = subst (λ (x : ℕ). IsWord layout v (slice_index (first_registers old t) x)) (sym (eqb-true r 1 k))
-          (subst (λ (x : Tagged). IsWord layout x (base + top old t)) (same_Some (Pointer object.Context (pos 0)) v e) h)
+          (subst (λ (x : Tagged). IsWord layout x (base + stack_top old t)) (same_Some (Pointer object.Context (pos 0)) v e) h)
       context_word h g false k e = stack_word g (eqb r 10) refl e
 
   not_whole : (b : ℕ → Option ℕ) (v : Tagged) → bytes b ≡ holds v → ⊥
   not_whole b v e = cc
 
-  begins : RunBeginsWith bind descriptors old t memory tenant (begin maps words packet)
+  begins : RunBeginsWith bind descriptors old t memory tenant (start_of_run maps words packet)
   unfolding layout
   begins = record {
     layout = layout;

@@ -16,7 +16,7 @@ use Rattle.arena.specs.Ranges.{IsInside}
 use Rattle.arena.specs.PartLaws.{part_within}
 use Rattle.bpf_maps.specs.Live.{LiveMaps}
 use Rattle.bpf_helpers.specs.Layout.{Layout, IsWord}
-use Rattle.bpf_helpers.specs.Stands.{top, IsRoom, StandsFor}
+use Rattle.bpf_helpers.specs.Stands.{stack_top, IsRoom, StandsFor}
 use Rattle.bpf_helpers.specs.inside.Flat.{part_place}
 use Rattle.bpf_helpers.specs.Accesses.{MayExtend, address_from, LoadsGiveWords}
 use Rattle.bpf_helpers.proofs.Many.{also_some}
@@ -69,8 +69,8 @@ module _ (l : Layout) (bind : List ℕ) (old : Memory) (t at : ℕ) (registers :
       let small = start_small in
       let value : pos (512 + is.offset) ≡ pos 512 +ℤ (x +ℤ off) = ap (λ (z : ℤ). pos 512 +ℤ z) (sym is.is) in
       let last : is.offset + 4 ≤ 44 = whole_word is.offset even (omega arith) in
-      let place : top old t + 4 * (is.offset / 4) ≡ start + (512 + is.offset) = omega arith in
-      let got : number_of (bytes_at memory.bytes (top old t + 4 * (is.offset / 4)) 4) ≡ a.0 = stands.context (is.offset / 4) (omega arith) ∙ get_or_from_slice_get s.words (is.offset / 4) a.0 0 is.word in
+      let place : stack_top old t + 4 * (is.offset / 4) ≡ start + (512 + is.offset) = omega arith in
+      let got : number_of (bytes_at memory.bytes (stack_top old t + 4 * (is.offset / 4)) 4) ≡ a.0 = stands.context (is.offset / 4) (omega arith) ∙ get_or_from_slice_get s.words (is.offset / 4) a.0 0 is.word in
       loads_at Word false (address_from w off) (512 + is.offset) v (in_front start w (512 + is.offset) l.front x off stands.front h value (omega arith)) (omega arith)
       (subst (λ (u : Tagged). IsWord l u (number_of (bytes_at memory.bytes (start + (512 + is.offset)) 4))) a.2
       (subst (λ (p : ℕ). number_of (bytes_at memory.bytes p 4) ≡ a.0) place got))

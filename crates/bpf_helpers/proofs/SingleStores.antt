@@ -10,7 +10,7 @@ use Rattle.reg_kinds.specs.StackLaws.{in_one_slot}
 use Rattle.tagged_model.specs.declared.value.Object.TheVariants as object
 use Rattle.tagged_model.specs.declared.value.Tagged.{Tagged}
 use Rattle.tagged_model.specs.declared.value.Tagged.TheVariants.{Scalar, Map, Pointer}
-use Rattle.tagged_model.specs.Cells.{Cell, also, write_cell}
+use Rattle.tagged_model.specs.Cells.{Cell, and_then, write_cell}
 use Rattle.tagged_model.specs.State.{RunState, set_at, with_cell, stack_place, stack_store, object_written, object_stored, store}
 use Rattle.arena.specs.Memory.{Memory, size_of, place_of, part_start, with_bytes}
 use Rattle.arena.specs.Apart.{WritesStayInside}
@@ -18,7 +18,7 @@ use Rattle.arena.specs.Ranges.{IsInside}
 use Rattle.arena.specs.PartLaws.{part_within}
 use Rattle.bpf_maps.specs.Live.{LiveMaps}
 use Rattle.bpf_helpers.specs.Layout.{Layout, IsWord, HasCell}
-use Rattle.bpf_helpers.specs.Stands.{top, IsRoom, StandsFor}
+use Rattle.bpf_helpers.specs.Stands.{stack_top, IsRoom, StandsFor}
 use Rattle.bpf_helpers.specs.Accesses.{address_from, StoresStand}
 use Rattle.bpf_helpers.proofs.Many.{also_some}
 use Rattle.bpf_helpers.proofs.Inputs.{memory_long}
@@ -60,7 +60,7 @@ module _ (writes : WritesStayInside) (l : Layout) (bind : List ℕ) (old : Memor
       let n = bytes_of size in
       let new = low_bytes n y in
       let count = length-low_bytes n y in
-      let a = also_some (stack_place (x +ℤ off) size) (λ p. also (write_cell (s.cells (p / 8)) (p % 8) size v) (λ c. Some (with_cell s (p / 8) c))) u e in
+      let a = also_some (stack_place (x +ℤ off) size) (λ p. and_then (write_cell (s.cells (p / 8)) (p % 8) size v) (λ c. Some (with_cell s (p / 8) c))) u e in
       let q = a.0 in
       let is = in_stack (x +ℤ off) size q a.1 in
       let b = also_some (write_cell (s.cells (q / 8)) (q % 8) size v) (λ c. Some (with_cell s (q / 8) c)) u a.2 in
@@ -82,7 +82,7 @@ module _ (writes : WritesStayInside) (l : Layout) (bind : List ℕ) (old : Memor
               values = stands.values;
               stack = λ k lt. cells_after size q y v b.0 within is.aligned word small b.1 k lt;
               words = stands.words;
-              context = words_kept l memory.bytes new (start + q) (omega arith) (top old t) s.words (inr (omega arith)) stands.context;
+              context = words_kept l memory.bytes new (start + q) (omega arith) (stack_top old t) s.words (inr (omega arith)) stands.context;
               maps = maps_behind l bind start memory.bytes new tenant s.maps stands.maps long q (omega arith);
               elsewhere = others_behind bind start old.bytes memory.bytes new tenant stands.maps.laid long stands.elsewhere q (omega arith);
               flag = stands.flag;

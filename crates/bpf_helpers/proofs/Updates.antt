@@ -13,7 +13,7 @@ use Rattle.tagged_model.specs.declared.fault.MapFault.TheVariants.{NoEntry, TooB
 use Rattle.tagged_model.specs.declared.value.Object.TheVariants as object
 use Rattle.tagged_model.specs.declared.value.Tagged.TheVariants.{Pointer}
 use Rattle.tagged_model.specs.Table.{Table, Verdict, Refused, Present, New, verdict, verdict_with}
-use Rattle.tagged_model.specs.Cells.{also}
+use Rattle.tagged_model.specs.Cells.{and_then}
 use Rattle.tagged_model.specs.State.{RunState, RunMap, set_at, with_value, with_map, with_refusal, value_written, output}
 use Rattle.tagged_model.specs.Helpers.{put, with_object, with_reply, negative, errno}
 use Rattle.tagged_model.specs.StateLaws.{found_owned}
@@ -22,10 +22,11 @@ use Rattle.bpf_maps.specs.Places.{table_of, IsFree, with_place, Claims}
 use Rattle.bpf_maps.specs.Live.{LiveMaps, live_at, places_at, shape_at, offset_at, is_memory}
 use Rattle.bpf_helpers.specs.inside.Below.{LawsBelow}
 use Rattle.bpf_helpers.specs.Layout.{Layout, IsWord}
-use Rattle.bpf_helpers.specs.Stands.{top, IsRoom, HasMap, MapsStandFor, StandsFor}
+use Rattle.bpf_helpers.specs.Stands.{stack_top, IsRoom, HasMap, MapsStandFor, StandsFor}
 use Rattle.bpf_maps.specs.declared.part.TheConstants.{PART}
 use Rattle.bpf_helpers.specs.inside.Flat.{part_place, Updates, claim_word, with_claimed}
-use Rattle.bpf_helpers.proofs.Inputs.{laid_inside, part_place_is, memory_long, start_same}
+use Rattle.bpf_maps.specs.LiveLaws.{laid_inside}
+use Rattle.bpf_helpers.proofs.Inputs.{part_place_is, memory_long, start_same}
 use Rattle.bpf_helpers.proofs.Outputs.{changed_after, cell_kept, words_kept, laid_apart, others_moved, outputs_stand}
 use Rattle.bpf_helpers.specs.Calls.{Extends}
 use Rattle.bpf_helpers.specs.inside.Laws.{UpdateStands, UpdatesStand}
@@ -141,8 +142,8 @@ module _ (below : LawsBelow) (l : Layout) (bind : List ℕ) (old : Bytes) (t at 
       let fits : 0 + length value ≤ length v = omega arith in
       let writes_value : value_written v (pos 0) value ≡ Some value = cond-true (leb (0 + length value) (length v)) (Some (written_at v 0 value)) None (le-leb (0 + length value) (length v) fits) ∙ ap (λ (x : List ℕ). Some x) now in
       let out : output s (Pointer (object.Value m number) (pos 0)) value ≡ Some (with_map s m (with_value map number value)) =
-      ap (λ o. also o (λ t. also (value_written (t.values number) (pos 0) value) (λ x. Some (with_map s m (with_value t number x))))) is
-      ∙ ap (λ o. also o (λ x. Some (with_map s m (with_value map number x)))) writes_value in
+      ap (λ o. and_then o (λ t. and_then (value_written (t.values number) (pos 0) value) (λ x. Some (with_map s m (with_value t number x))))) is
+      ∙ ap (λ o. and_then o (λ x. Some (with_map s m (with_value map number x)))) writes_value in
       let r = outputs_stand below.writes l bind old t at registers memory tenant s (with_map s m (with_value map number value)) (Pointer (object.Value m number) (pos 0)) w value room stands word_is out in
       let address = o.address in
       let begin = begins in
@@ -257,7 +258,7 @@ module _ (below : LawsBelow) (l : Layout) (bind : List ℕ) (old : Bytes) (t at 
             values = λ r v lt e. word_more l wider more v (slice_index registers r) (stands.values r v lt e);
             stack = λ x lt. cell_more l wider more bytes (begin + 8 * x) (s.cells x) (cell_kept l memory.bytes value (begin + off) (omega arith) (begin + 8 * x) (s.cells x) (inl (omega arith)) (stands.stack x lt));
             words = stands.words;
-            context = words_kept l memory.bytes value (begin + off) (omega arith) (top old t) s.words (inl (omega arith)) stands.context;
+            context = words_kept l memory.bytes value (begin + off) (omega arith) (stack_top old t) s.words (inl (omega arith)) stands.context;
             maps = maps_after;
             elsewhere = others_moved bind (part_start old t) old.bytes bytes tenant new i index_within u.rest.others
                 (λ other q away live lt. place_kept other q live lt (λ same. absurd (away i index_within (sym same))) ∙ stands.elsewhere other q away live lt);

@@ -6,7 +6,7 @@ use Rattle.tagged_model.specs.declared.shape.MapKind.{MapKind}
 use Rattle.tagged_model.specs.declared.shape.MapKind.TheVariants.{Array, Hash}
 use Rattle.tagged_model.specs.declared.shape.MapShape.{MapShape}
 use Rattle.tagged_model.specs.Table.{found, key_after, look_up, next_of, index_key, indexed, new_entries}
-use Rattle.bpf_maps.specs.Places.{PlaceTable, table_of, new_places, after_run, times, IsSound, IsSized}
+use Rattle.bpf_maps.specs.Places.{PlaceTable, table_of, new_places, after_run, occurrences, IsSound, IsSized}
 use Rattle.bpf_maps.proofs.Shapes.{few_entries, array_key, hash_no_array}
 use Rattle.bpf_maps.proofs.Indices.{found_index, none_empty, after_index, after_other, length_indexed, once_indexed, sized_indexed}
 
@@ -19,7 +19,7 @@ module _ (s : MapShape) (array : s.kind ≡ Array) where
   pub sound_array : IsSound (new_places s)
   sound_array = record {
     once = λ p.
-        let e : times p (values_of (new_entries (λ i. i) s.kind s.max_entries)) ≡ (if nat_lt p s.max_entries then 1 else 0) = ap (λ (es : List (List ℕ × ℕ)). times p (values_of es)) entries_are ∙ once_indexed p s.max_entries in
+        let e : occurrences p (values_of (new_entries (λ i. i) s.kind s.max_entries)) ≡ (if nat_lt p s.max_entries then 1 else 0) = ap (λ (es : List (List ℕ × ℕ)). occurrences p (values_of es)) entries_are ∙ once_indexed p s.max_entries in
         omega arith;
     few = let e : length (new_entries (λ i. i) s.kind s.max_entries) ≡ s.max_entries = ap length entries_are ∙ length_indexed 0 s.max_entries in omega arith;
     sized = subst (λ (es : List (List ℕ × ℕ)). IsSized s.key_size es) (sym entries_are) (subst (λ (n : ℕ). IsSized n (indexed (λ i. i) 0 s.max_entries)) (sym (array_key s array)) (sized_indexed 0 s.max_entries));
@@ -113,7 +113,7 @@ no_keys s hash = ap (λ (d : MapKind). new_entries (λ i. i) d s.max_entries) ha
 
 sound_hash : (s : MapShape) → s.kind ≡ Hash → IsSound (new_places s)
 sound_hash s hash = record {
-  once = λ p. let e : times p (values_of (new_entries (λ i. i) s.kind s.max_entries)) ≡ 0 = ap (λ (es : List (List ℕ × ℕ)). times p (values_of es)) (no_keys s hash) in omega arith;
+  once = λ p. let e : occurrences p (values_of (new_entries (λ i. i) s.kind s.max_entries)) ≡ 0 = ap (λ (es : List (List ℕ × ℕ)). occurrences p (values_of es)) (no_keys s hash) in omega arith;
   few = let e : length (new_entries (λ i. i) s.kind s.max_entries) ≡ 0 = ap length (no_keys s hash) in omega arith;
   sized = subst (λ (es : List (List ℕ × ℕ)). IsSized s.key_size es) (sym (no_keys s hash)) tt;
   indices = λ array. absurd (hash_no_array s.kind hash array);

@@ -7,7 +7,7 @@ use Rattle.bpf_maps.specs.declared.maps.Maps.TheInside.{Inside}
 use Rattle.bpf_maps.specs.Places.{IsSound}
 use Rattle.bpf_maps.specs.Any.{places_of}
 use Rattle.bpf_maps.specs.Live.{LiveMap, LiveMaps, live_at, live_or, holds_at, offset, value_in, IsLaid, SameAreas, SameValues, count, areas, SameRoom, MapWithoutArea, without_area, held_at, one_less}
-use Rattle.bpf_maps.specs.InMaps.{live_of, lives, seen, IsWellFormedMaps}
+use Rattle.bpf_maps.specs.InMaps.{live_of, live_maps_of, as_live_maps, IsWellFormedMaps}
 use Rattle.bpf_maps.proofs.Slots.{live_by, others_by, set_here, set_others, one_changed, offset_same}
 use Rattle.bpf_maps.proofs.Whole.{laid, whole_replaced}
 
@@ -16,7 +16,7 @@ abbrev pub with_entry : Inside → ℕ → Entry → Bool → Inside
 with_entry a at new refused = record a { slots = record a.slots { slots = set a.slots.slots at (Some new) }; refused = refused }
 
 pub record IsChange (a : Inside) (t : LiveMaps) (at key : ℕ) (old new : Entry) : Type 0 where
-  pub view : seen a ≡ t
+  pub view : as_live_maps a ≡ t
   pub whole : IsWellFormedMaps a
   pub same : at ≡ key
   pub here : get_or a.slots.slots at None ≡ Some old
@@ -27,9 +27,9 @@ pub record IsChange (a : Inside) (t : LiveMaps) (at key : ℕ) (old new : Entry)
   pub sound : IsSound (places_of new.map)
 
 -- a map is live
-module _ (a : Inside) (t : LiveMaps) (at key : ℕ) (e : Entry) (view : seen a ≡ t) (same : at ≡ key) (here : get_or a.slots.slots at None ≡ Some e) where
+module _ (a : Inside) (t : LiveMaps) (at key : ℕ) (e : Entry) (view : as_live_maps a ≡ t) (same : at ≡ key) (here : get_or a.slots.slots at None ≡ Some e) where
   pub live_here : live_at t key ≡ Some (live_of e)
-  live_here = ap (λ (u : LiveMaps). live_at u key) (sym view) ∙ ap (λ (k : ℕ). get_or (lives a.slots.slots) k None) (sym same) ∙ live_by a.slots.slots a.slots.slots at e here
+  live_here = ap (λ (u : LiveMaps). live_at u key) (sym view) ∙ ap (λ (k : ℕ). get_or (live_maps_of a.slots.slots) k None) (sym same) ∙ live_by a.slots.slots a.slots.slots at e here
 
 module _ (a : Inside) (t : LiveMaps) (at key : ℕ) (old new : Entry) (refused : Bool) (c : IsChange a t at key old new) where
   pub live_old : live_at t key ≡ Some (live_of old)
@@ -38,24 +38,24 @@ module _ (a : Inside) (t : LiveMaps) (at key : ℕ) (old new : Entry) (refused :
   there : get_or (set a.slots.slots at (Some new)) at None ≡ Some new
   there = set_here a.slots.slots at old new c.here
 
-  pub live_new : live_at (seen (with_entry a at new refused)) key ≡ Some (live_of new)
-  live_new = live_here (with_entry a at new refused) (seen (with_entry a at new refused)) at key new refl c.same there
+  pub live_new : live_at (as_live_maps (with_entry a at new refused)) key ≡ Some (live_of new)
+  live_new = live_here (with_entry a at new refused) (as_live_maps (with_entry a at new refused)) at key new refl c.same there
 
-  pub others_stay : (other : ℕ) → other ≢ key → live_at (seen (with_entry a at new refused)) other ≡ live_at t other
+  pub others_stay : (other : ℕ) → other ≢ key → live_at (as_live_maps (with_entry a at new refused)) other ≡ live_at t other
   others_stay other ne =
       others_by a.slots.slots (set a.slots.slots at (Some new)) at (set_others a.slots.slots at old new c.here) other (λ e. ne (e ∙ c.same))
       ∙ ap (λ (u : LiveMaps). live_at u other) c.view
 
-  pub areas_stay : SameAreas t (seen (with_entry a at new refused))
-  areas_stay = one_changed t (seen (with_entry a at new refused)) key (live_of old) (live_of new) live_old live_new c.shape (ap (λ (n : ℕ). FRONT + n * AREA) c.number) c.stride others_stay
+  pub areas_stay : SameAreas t (as_live_maps (with_entry a at new refused))
+  areas_stay = one_changed t (as_live_maps (with_entry a at new refused)) key (live_of old) (live_of new) live_old live_new c.shape (ap (λ (n : ℕ). FRONT + n * AREA) c.number) c.stride others_stay
 
   pub whole_stays : IsWellFormedMaps (with_entry a at new refused)
   whole_stays = whole_replaced a (with_entry a at new refused) at c.whole (set_others a.slots.slots at old new c.here) refl old new c.here there c.number c.stride c.shape c.held c.sound refl refl
 
-  pub laid_stays : IsLaid (seen (with_entry a at new refused))
+  pub laid_stays : IsLaid (as_live_maps (with_entry a at new refused))
   laid_stays = laid (with_entry a at new refused) whole_stays
 
-  pub room_stays : SameRoom t (seen (with_entry a at new refused))
+  pub room_stays : SameRoom t (as_live_maps (with_entry a at new refused))
   room_stays = record {
     maps = sym whole_stays.counted ∙ c.whole.counted ∙ ap count c.view;
     bytes = sym whole_stays.sum ∙ c.whole.sum ∙ ap areas c.view;

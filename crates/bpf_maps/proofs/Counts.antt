@@ -4,21 +4,21 @@ use Rattle.std.proofs.lemmas.Option.{none-some}
 use Rattle.std.proofs.lemmas.Bool.Decides.{nat_tests}
 use Rattle.std.specs.Map.{values_of}
 use Rattle.tagged_model.specs.Table.{is_key, found, without, with_key}
-use Rattle.bpf_maps.specs.Places.{times, IsSized}
+use Rattle.bpf_maps.specs.Places.{occurrences, IsSized}
 
-pub times-append : (p : ℕ) (xs ys : List ℕ) → times p (xs ++ ys) ≡ times p xs + times p ys
+pub times-append : (p : ℕ) (xs ys : List ℕ) → occurrences p (xs ++ ys) ≡ occurrences p xs + occurrences p ys
 times-append p [] ys = omega arith
 times-append p (x ∷ xs) ys = let h = times-append p xs ys in omega arith
 
-pub times_self : (p : ℕ) → times p (p ∷ []) ≡ 1
+pub times_self : (p : ℕ) → occurrences p (p ∷ []) ≡ 1
 times_self p = let e : nat_eq p p ≡ true = eq-eqb p p refl in let P : Bool → Type 0 = λ b. (if b then 1 else 0) + 0 ≡ 1 in subst P (sym e) refl
 
 one_of : (p n : ℕ) → (if nat_lt p n then 1 else 0) + ((if nat_eq p n then 1 else 0) + 0) ≡ (if nat_lt p (n + 1) then 1 else 0)
 one_of p n = grind (arith, nat_tests)
 
 -- the next place
-pub times-next : (p n : ℕ) (xs : List ℕ) → times p xs ≡ (if nat_lt p n then 1 else 0) → times p (xs ++ n ∷ []) ≡ (if nat_lt p (n + 1) then 1 else 0)
-times-next p n xs h = times-append p xs (n ∷ []) ∙ ap (λ (k : ℕ). k + times p (n ∷ [])) h ∙ one_of p n
+pub times-next : (p n : ℕ) (xs : List ℕ) → occurrences p xs ≡ (if nat_lt p n then 1 else 0) → occurrences p (xs ++ n ∷ []) ≡ (if nat_lt p (n + 1) then 1 else 0)
+times-next p n xs h = times-append p xs (n ∷ []) ∙ ap (λ (k : ℕ). k + occurrences p (n ∷ [])) h ∙ one_of p n
 
 pub values_of-append : {K : Type 0} (es fs : List (K × ℕ)) → values_of (es ++ fs) ≡ values_of es ++ values_of fs
 values_of-append [] fs = refl
@@ -32,16 +32,16 @@ one p (Some q) = if nat_eq p q then 1 else 0
 pub times_one : (p : ℕ) → one p (Some p) ≡ 1
 times_one p = let t = times_self p in omega arith
 
-pub times-without : (p : ℕ) (key : List ℕ) (es : List (List ℕ × ℕ)) → times p (values_of (without key es)) + one p (found key es) ≡ times p (values_of es)
+pub times-without : (p : ℕ) (key : List ℕ) (es : List (List ℕ × ℕ)) → occurrences p (values_of (without key es)) + one p (found key es) ≡ occurrences p (values_of es)
 times-without p key [] = omega arith
 times-without p key (e ∷ es) = by (is_key key e.0) (times-without p key es)
   where
-    by : (b : Bool) → times p (values_of (without key es)) + one p (found key es) ≡ times p (values_of es) → times p (values_of (cond b es (e ∷ without key es))) + one p (cond b (Some e.1) (found key es)) ≡ times p (values_of (e ∷ es))
+    by : (b : Bool) → occurrences p (values_of (without key es)) + one p (found key es) ≡ occurrences p (values_of es) → occurrences p (values_of (cond b es (e ∷ without key es))) + one p (cond b (Some e.1) (found key es)) ≡ occurrences p (values_of (e ∷ es))
     by true h = omega arith
     by false h = omega arith
 
 -- the place of a key that goes is kept
-pub times-kept : (p : ℕ) (key : List ℕ) (place : ℕ) (es : List (List ℕ × ℕ)) (kept : List ℕ) → found key es ≡ Some place → times p (values_of (without key es)) + times p (kept ++ place ∷ []) ≡ times p (values_of es) + times p kept
+pub times-kept : (p : ℕ) (key : List ℕ) (place : ℕ) (es : List (List ℕ × ℕ)) (kept : List ℕ) → found key es ≡ Some place → occurrences p (values_of (without key es)) + occurrences p (kept ++ place ∷ []) ≡ occurrences p (values_of es) + occurrences p kept
 times-kept p key place es kept h =
     let w = times-without p key es in
     let o : one p (found key es) ≡ one p (Some place) = ap (one p) h in

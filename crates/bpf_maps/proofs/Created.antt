@@ -13,7 +13,7 @@ use Rattle.bpf_maps.specs.declared.maps.Maps.TheInside.{Inside}
 use Rattle.bpf_maps.specs.Places.{PlaceTable, IsSound, new_places}
 use Rattle.bpf_maps.specs.Any.{places_of}
 use Rattle.bpf_maps.specs.Live.{LiveMap, LiveMaps, live_at, live_or, offset, value_in, count, areas, HasOneMore, create_fault, Creates, IsCreated, IsLaid, SameValues}
-use Rattle.bpf_maps.specs.InMaps.{live_of, seen, IsWellFormedMaps}
+use Rattle.bpf_maps.specs.InMaps.{live_of, as_live_maps, IsWellFormedMaps}
 use Rattle.bpf_maps.proofs.Slots.{some_entry, live_by, none_by, others_by, same_or_other}
 use Rattle.bpf_maps.proofs.Totals.{times_set, times_some, count_entries}
 use Rattle.bpf_maps.proofs.InAreas.{area_fits, value_ends, value_inside, apart_areas}
@@ -31,7 +31,7 @@ no_fault t s few fits =
 
 -- there is room for another map
 pub record IsRoom (a : Inside) (t : LiveMaps) (shape : MapShape) (number size : ℕ) : Type 0 where
-  pub view : seen a ≡ t
+  pub view : as_live_maps a ≡ t
   pub whole : IsWellFormedMaps a
   pub size_is : size ≡ area shape.value_size shape.max_entries
   pub below : number < MAPS
@@ -54,7 +54,7 @@ abbrev pub with_new : Inside → ℕ → ℕ → Slab Entry → Inside
 with_new a number size slots = record a { slots = slots; taken = set a.taken number true; bytes = a.bytes + size }
 
 module _ (a : Inside) (t : LiveMaps) (shape : MapShape) (number size : ℕ) (r : IsRoom a t shape number size) where
-  view : seen a ≡ t
+  view : as_live_maps a ≡ t
   view = r.view
 
   h : IsWellFormedMaps a
@@ -63,7 +63,7 @@ module _ (a : Inside) (t : LiveMaps) (shape : MapShape) (number size : ℕ) (r :
   free : get_or a.taken number false ≡ false
   free = r.free
 
-  few : count (seen a) < MAPS
+  few : count (as_live_maps a) < MAPS
   few =
       let l = h.all in
       let c = h.counted in
@@ -72,31 +72,31 @@ module _ (a : Inside) (t : LiveMaps) (shape : MapShape) (number size : ℕ) (r :
       omega arith
 
   pub no_fault_here : create_fault t shape ≡ None
-  no_fault_here = ap (λ (u : LiveMaps). create_fault u shape) (sym view) ∙ no_fault (seen a) shape few (let s = h.sum in let z = r.size_is in let m = r.room in omega arith)
+  no_fault_here = ap (λ (u : LiveMaps). create_fault u shape) (sym view) ∙ no_fault (as_live_maps a) shape few (let s = h.sum in let z = r.size_is in let m = r.room in omega arith)
 
   -- there is room for its entry
   pub room_here : count_by is_some a.slots.slots + 1 ≤ a.slots.capacity
   room_here = let f = few in let c = count_entries a.slots.slots in let r = h.room in omega arith
 
   -- memory was refused
-  pub creates_none : Creates (create_fault t shape) t shape (Err Memory) (seen (record a { refused = true }))
+  pub creates_none : Creates (create_fault t shape) t shape (Err Memory) (as_live_maps (record a { refused = true }))
   creates_none =
-      subst (λ (o : Option MapFault). Creates o t shape (Err Memory) (seen (record a { refused = true }))) (sym no_fault_here)
+      subst (λ (o : Option MapFault). Creates o t shape (Err Memory) (as_live_maps (record a { refused = true }))) (sym no_fault_here)
       (ap (λ (u : LiveMaps). let v : LiveMaps = record { slots = u.slots; refused = true } in v) view)
 
   module _ (slots : Slab Entry) (k : ℕ) (e : Entry) (d : IsAdded a shape number slots k e) where
     stride : e.stride ≡ (shape.value_size + 7) / 8 * 8
     stride = d.stride
 
-    live_new : live_at (seen (with_new a number size slots)) k ≡ Some (live_of e)
+    live_new : live_at (as_live_maps (with_new a number size slots)) k ≡ Some (live_of e)
     live_new = live_by slots.slots slots.slots k e d.there
 
-    others_stay : (j : ℕ) → j ≢ k → live_at (seen (with_new a number size slots)) j ≡ live_at t j
+    others_stay : (j : ℕ) → j ≢ k → live_at (as_live_maps (with_new a number size slots)) j ≡ live_at t j
     others_stay j ne = others_by a.slots.slots slots.slots k d.others j ne ∙ ap (λ (u : LiveMaps). live_at u j) view
 
-    pub creates_one : Creates (create_fault t shape) t shape (Ok k) (seen (with_new a number size slots))
+    pub creates_one : Creates (create_fault t shape) t shape (Ok k) (as_live_maps (with_new a number size slots))
     creates_one =
-        subst (λ (o : Option MapFault). Creates o t shape (Ok k) (seen (with_new a number size slots))) (sym no_fault_here)
+        subst (λ (o : Option MapFault). Creates o t shape (Ok k) (as_live_maps (with_new a number size slots))) (sym no_fault_here)
         (record {
           was = ap (λ (u : LiveMaps). live_at u k) (sym view) ∙ none_by a.slots.slots a.slots.slots k d.was;
           live = ap is_some live_new;
@@ -120,10 +120,10 @@ module _ (a : Inside) (t : LiveMaps) (shape : MapShape) (number size : ℕ) (r :
         let x : area (places_of e.map).shape.value_size (places_of e.map).shape.max_entries ≡ area shape.value_size shape.max_entries = ap (λ (q : PlaceTable). area q.shape.value_size q.shape.max_entries) d.places in
         whole_added a (with_new a number size slots) k h d.others d.capacity e d.was d.there (let n = d.number_is in let b = r.below in omega arith) (ap (λ (n : ℕ). get_or a.taken n false) d.number_is ∙ free) round (let o = d.holds in omega arith) (subst IsSound (sym d.places) (sound_new shape)) (ap (λ (n : ℕ). set a.taken n true) (sym d.number_is)) (let s = r.size_is in omega arith) r.room
 
-    pub laid_one : IsLaid (seen (with_new a number size slots))
+    pub laid_one : IsLaid (as_live_maps (with_new a number size slots))
     laid_one = laid (with_new a number size slots) whole_one
 
-    pub more_one : HasOneMore t (seen (with_new a number size slots)) shape
+    pub more_one : HasOneMore t (as_live_maps (with_new a number size slots)) shape
     more_one =
         let all = h.all in
         let below = r.below in
@@ -150,7 +150,7 @@ module _ (a : Inside) (t : LiveMaps) (shape : MapShape) (number size : ℕ) (r :
       pub front_kept : take FRONT later ≡ take FRONT bytes
       front_kept = ap (take FRONT) written ∙ front_same bytes (replicate size 0) (FRONT + number * AREA) size (length-replicate size 0) enough FRONT (omega arith)
 
-      pub cleared_one : (p : ℕ) → p < shape.max_entries → value_in later (seen (with_new a number size slots)) k p ≡ replicate shape.value_size 0
+      pub cleared_one : (p : ℕ) → p < shape.max_entries → value_in later (as_live_maps (with_new a number size slots)) k p ≡ replicate shape.value_size 0
       cleared_one p l =
           let o : offset (live_of e) p ≡ FRONT + number * AREA + p * e.stride = offset_of e p ∙ ap (λ (n : ℕ). FRONT + n * AREA + p * e.stride) d.number_is in
           ap (λ (x : Option LiveMap). take (live_or x).places.shape.value_size (drop (offset (live_or x) p) later)) live_new
@@ -174,7 +174,7 @@ module _ (a : Inside) (t : LiveMaps) (shape : MapShape) (number size : ℕ) (r :
           (λ w. after_same bytes (replicate size 0) (FRONT + number * AREA) size (length-replicate size 0) enough (offset (live_of f) p) s.value_size (omega arith))
           (apart_areas f.number number (p * f.stride) 0 s.value_size size ne x (omega arith))
 
-      pub values_kept : SameValues t bytes (seen (with_new a number size slots)) later
+      pub values_kept : SameValues t bytes (as_live_maps (with_new a number size slots)) later
       values_kept j p old_live new_live l =
           same_or_other j k
           (λ (s : j ≡ k). absurd (true≢false (sym old_live ∙ ap is_some (ap (live_at t) s ∙ ap (λ (u : LiveMaps). live_at u k) (sym view) ∙ none_by a.slots.slots a.slots.slots k d.was))))

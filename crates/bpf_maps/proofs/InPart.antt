@@ -7,7 +7,7 @@ use Rattle.tagged_model.specs.declared.fault.MapFault.{MapFault}
 use Rattle.tagged_model.specs.Table as map
 use Rattle.tagged_model.specs.MapLaws.{CallsRefineValues, MapVerdictsMatchLookUps}
 use Rattle.bpf_maps.specs.declared.part.TheConstants.{FRONT}
-use Rattle.bpf_maps.specs.Places.{PlaceTable, table_of, times, IsFree, Claims, with_place, with_kept, after_run}
+use Rattle.bpf_maps.specs.Places.{PlaceTable, table_of, occurrences, IsFree, Claims, with_place, with_kept, after_run}
 use Rattle.bpf_maps.specs.Live.{LiveMap, LiveMaps, live_at, live_or, places_at, shape_at, offset_at, value_in, map_in, LiesInPart, IsLaid, SameAreas}
 use Rattle.bpf_maps.specs.InPart.{IsValueAt, with_value, ValueIsWritten, updated, RefinesValues}
 use Rattle.bpf_maps.proofs.Counts.{times-append, values_of-append}
@@ -63,7 +63,7 @@ module _ (part : List ℕ) (t : LiveMaps) (k p : ℕ) (bytes : List ℕ) (is : I
       (apart_at t is.laid j q k p live is.live lt is.within differ)
 
   -- each value in use of this map
-  each : (q : ℕ) → 1 ≤ times q (values_of (places_at t k).entries) → value_in later t k q ≡ written (value_in part t k) p bytes q
+  each : (q : ℕ) → 1 ≤ occurrences q (values_of (places_at t k).entries) → value_in later t k q ≡ written (value_in part t k) p bytes q
   each q used = ⊎_elim
       (λ b. ap (value_in later t k) (eqb-true q p b) ∙ here ∙ sym (ap (λ (c : Bool). if c then bytes else value_in part t k q) b))
       (λ b. elsewhere k q is.live (used_in_entries (places_at t k) q (is.sound k is.live) used) (λ _. eqb-false q p b) ∙ sym (ap (λ (c : Bool). if c then bytes else value_in part t k q) b))
@@ -133,18 +133,18 @@ module _ (along : CallsRefineValues ℕ (List ℕ)) (tell : MapVerdictsMatchLook
         ∙ ap (λ (t : map.Table (List ℕ)). map.with_object t key bytes) (same places)
 
     -- no value that was there lies at a free place
-    others_stay : IsFree (places_at old k) p → places_at new k ≡ with_place (places_at old k) key p → (q : ℕ) → 1 ≤ times q (values_of (places_at old k).entries) → value_in after new k q ≡ value q
+    others_stay : IsFree (places_at old k) p → places_at new k ≡ with_place (places_at old k) key p → (q : ℕ) → 1 ≤ occurrences q (values_of (places_at old k).entries) → value_in after new k q ≡ value q
     others_stay free places q used =
         elsewhere part new k p bytes is k q live (used_in_entries (places_at new k) q (is.sound k live) still) (λ _. differ) ∙ value_stays old new k areas live part q
       where
-        still : 1 ≤ times q (values_of (places_at new k).entries)
+        still : 1 ≤ occurrences q (values_of (places_at new k).entries)
         still =
             let es = (places_at old k).entries in
-            let more = ap (λ (t : PlaceTable). times q (values_of t.entries)) places ∙ ap (times q) (values_of-append es ((key, p) ∷ [])) ∙ times-append q (values_of es) (p ∷ []) in
+            let more = ap (λ (t : PlaceTable). occurrences q (values_of t.entries)) places ∙ ap (occurrences q) (values_of-append es ((key, p) ∷ [])) ∙ times-append q (values_of es) (p ∷ []) in
             omega arith
 
         differ : q ≢ p
-        differ e = let none = free.entries in let there = ap (λ (n : ℕ). times n (values_of (places_at old k).entries)) e in omega arith
+        differ e = let none = free.entries in let there = ap (λ (n : ℕ). occurrences n (values_of (places_at old k).entries)) e in omega arith
 
     new_key : IsFree (places_at old k) p → places_at new k ≡ with_place (places_at old k) key p → map_in after new k ≡ map.with_new (map_in part old k) key bytes
     new_key free places =

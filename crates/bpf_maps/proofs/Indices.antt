@@ -6,7 +6,7 @@ use Rattle.std.specs.Cmp.Lexicographic.{bytes_decides}
 use Rattle.std.specs.Map.{values_of}
 use Rattle.words.specs.Bytes.{number_of}
 use Rattle.tagged_model.specs.Table.{is_key, found, first_key, key_behind, key_after, index_key, indexed}
-use Rattle.bpf_maps.specs.Places.{times, IsSized}
+use Rattle.bpf_maps.specs.Places.{occurrences, IsSized}
 
 abbrev itself : ℕ → ℕ
 itself i = i
@@ -122,7 +122,7 @@ below p n = if nat_lt p n then 1 else 0
 below_next : (p n : ℕ) → (if nat_eq p n then 1 else 0) + below p n ≡ below p (n + 1)
 below_next p n = grind (arith, nat_tests)
 
-times_indexed : (p first n : ℕ) → times p (values_of (indexed itself first n)) + below p first ≡ below p (first + n)
+times_indexed : (p first n : ℕ) → occurrences p (values_of (indexed itself first n)) + below p first ≡ below p (first + n)
 unfolding indexed
 times_indexed p first zero = let e : below p first ≡ below p (first + 0) = ap (below p) (omega arith) in omega arith
 times_indexed p first (suc n) =
@@ -131,7 +131,7 @@ times_indexed p first (suc n) =
     let e : below p (first + 1 + n) ≡ below p (first + suc n) = ap (below p) (omega arith) in
     omega arith
 
-pub once_indexed : (p n : ℕ) → times p (values_of (indexed itself 0 n)) ≡ (if nat_lt p n then 1 else 0)
+pub once_indexed : (p n : ℕ) → occurrences p (values_of (indexed itself 0 n)) ≡ (if nat_lt p n then 1 else 0)
 once_indexed p n =
     let t = times_indexed p 0 n in
     let z : below p 0 ≡ 0 = ap (λ (b : Bool). let k : ℕ = if b then 1 else 0 in k) (le-ltb p 0 (omega arith)) in

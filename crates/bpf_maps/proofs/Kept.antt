@@ -4,7 +4,7 @@ use Rattle.std.proofs.lemmas.Bool.{ltb-true}
 use Rattle.std.proofs.lemmas.Bool.Decides.{nat_tests}
 use Rattle.std.specs.Map.{values_of}
 use Rattle.tagged_model.specs.Table.{found, without, with_key, is_full}
-use Rattle.bpf_maps.specs.Places.{table_of, times, IsSound, IsSized, IsFree}
+use Rattle.bpf_maps.specs.Places.{table_of, occurrences, IsSound, IsSized, IsFree}
 use Rattle.bpf_maps.specs.Index.{bare, IsWellFormedHash, shown}
 use Rattle.bpf_maps.specs.declared.hash_map.HashMapIx.TheInside.{Inside}
 use Rattle.bpf_maps.proofs.Counts.{times-append, times_self, values_of-append, one, times-without, length-without, sized-without, sized-with}
@@ -27,14 +27,14 @@ module _ (a b : Inside) (h : IsWellFormedHash a) (key : List ℕ) (place : ℕ) 
   free_items : b.free.items ≡ a.free.items
   free_items = ap (λ v. v.items) free
 
-  once : (p : ℕ) → times p (values_of (bare b.index.entries)) + times p b.kept.items + times p b.free.items ≡ (if nat_lt p b.shape.max_entries then 1 else 0)
+  once : (p : ℕ) → occurrences p (values_of (bare b.index.entries)) + occurrences p b.kept.items + occurrences p b.free.items ≡ (if nat_lt p b.shape.max_entries then 1 else 0)
   once p =
       let es = bare a.index.entries in
-      let u : times p (values_of (without key es)) + one p (Some place) ≡ times p (values_of es) = subst (λ (o : Option ℕ). times p (values_of (without key es)) + one p o ≡ times p (values_of es)) at (times-without p key es) in
-      let v : times p (values_of (bare b.index.entries)) ≡ times p (values_of (without key es)) = ap (λ (x : List (List ℕ × ℕ)). times p (values_of x)) index in
-      let w : times p b.kept.items ≡ times p a.kept.items + times p (place ∷ []) = ap (times p) kept ∙ times-append p a.kept.items (place ∷ []) in
-      let f : times p b.free.items ≡ times p a.free.items = ap (times p) free_items in
-      let g : times p (values_of es) + times p a.kept.items + times p a.free.items ≡ (if nat_lt p b.shape.max_entries then 1 else 0) = h.once p ∙ ap (λ (m : ℕ). if nat_lt p m then 1 else 0) (sym max) in
+      let u : occurrences p (values_of (without key es)) + one p (Some place) ≡ occurrences p (values_of es) = subst (λ (o : Option ℕ). occurrences p (values_of (without key es)) + one p o ≡ occurrences p (values_of es)) at (times-without p key es) in
+      let v : occurrences p (values_of (bare b.index.entries)) ≡ occurrences p (values_of (without key es)) = ap (λ (x : List (List ℕ × ℕ)). occurrences p (values_of x)) index in
+      let w : occurrences p b.kept.items ≡ occurrences p a.kept.items + occurrences p (place ∷ []) = ap (occurrences p) kept ∙ times-append p a.kept.items (place ∷ []) in
+      let f : occurrences p b.free.items ≡ occurrences p a.free.items = ap (occurrences p) free_items in
+      let g : occurrences p (values_of es) + occurrences p a.kept.items + occurrences p a.free.items ≡ (if nat_lt p b.shape.max_entries then 1 else 0) = h.once p ∙ ap (λ (m : ℕ). if nat_lt p m then 1 else 0) (sym max) in
       omega arith
 
   all : length b.index.entries + length b.kept.items + length b.free.items ≡ b.shape.max_entries
@@ -71,9 +71,9 @@ module _ (a : Inside) (h : IsWellFormedHash a) (place : ℕ) (rest : List ℕ) (
   zero_by true n e = omega arith
   zero_by false n e = absurd (omega arith)
 
-  counted : times place (values_of (bare a.index.entries)) + times place a.kept.items + times place rest + 1 ≡ (if nat_lt place a.shape.max_entries then 1 else 0)
+  counted : occurrences place (values_of (bare a.index.entries)) + occurrences place a.kept.items + occurrences place rest + 1 ≡ (if nat_lt place a.shape.max_entries then 1 else 0)
   counted =
-      let t : times place a.free.items ≡ times place rest + times place (place ∷ []) = ap (times place) last ∙ times-append place rest (place ∷ []) in
+      let t : occurrences place a.free.items ≡ occurrences place rest + occurrences place (place ∷ []) = ap (occurrences place) last ∙ times-append place rest (place ∷ []) in
       let s = times_self place in
       let g = h.once place in
       omega arith
@@ -101,14 +101,14 @@ module _ (a : Inside) (h : IsWellFormedHash a) (place : ℕ) (rest : List ℕ) (
     kept_items : b.kept.items ≡ a.kept.items
     kept_items = ap (λ v. v.items) kept
 
-    once_added : (p : ℕ) → times p (values_of (bare b.index.entries)) + times p b.kept.items + times p b.free.items ≡ (if nat_lt p b.shape.max_entries then 1 else 0)
+    once_added : (p : ℕ) → occurrences p (values_of (bare b.index.entries)) + occurrences p b.kept.items + occurrences p b.free.items ≡ (if nat_lt p b.shape.max_entries then 1 else 0)
     once_added p =
         let es = bare a.index.entries in
-        let u : times p (values_of (bare b.index.entries)) ≡ times p (values_of es) + times p (place ∷ []) = ap (λ (x : List (List ℕ × ℕ)). times p (values_of x)) index ∙ ap (times p) (values_of-append es ((key, place) ∷ [])) ∙ times-append p (values_of es) (place ∷ []) in
-        let k : times p b.kept.items ≡ times p a.kept.items = ap (times p) kept_items in
-        let f : times p b.free.items ≡ times p rest = ap (times p) free in
-        let t : times p a.free.items ≡ times p rest + times p (place ∷ []) = ap (times p) last ∙ times-append p rest (place ∷ []) in
-        let g : times p (values_of es) + times p a.kept.items + times p a.free.items ≡ (if nat_lt p b.shape.max_entries then 1 else 0) = h.once p ∙ ap (λ (m : ℕ). if nat_lt p m then 1 else 0) (sym most) in
+        let u : occurrences p (values_of (bare b.index.entries)) ≡ occurrences p (values_of es) + occurrences p (place ∷ []) = ap (λ (x : List (List ℕ × ℕ)). occurrences p (values_of x)) index ∙ ap (occurrences p) (values_of-append es ((key, place) ∷ [])) ∙ times-append p (values_of es) (place ∷ []) in
+        let k : occurrences p b.kept.items ≡ occurrences p a.kept.items = ap (occurrences p) kept_items in
+        let f : occurrences p b.free.items ≡ occurrences p rest = ap (occurrences p) free in
+        let t : occurrences p a.free.items ≡ occurrences p rest + occurrences p (place ∷ []) = ap (occurrences p) last ∙ times-append p rest (place ∷ []) in
+        let g : occurrences p (values_of es) + occurrences p a.kept.items + occurrences p a.free.items ≡ (if nat_lt p b.shape.max_entries then 1 else 0) = h.once p ∙ ap (λ (m : ℕ). if nat_lt p m then 1 else 0) (sym most) in
         omega arith
 
     all_added : length b.index.entries + length b.kept.items + length b.free.items ≡ b.shape.max_entries
@@ -144,10 +144,10 @@ kept_by_free a b place h shape index kept free ck cf =
     record {
       kind = ap (λ s. s.kind) shape ∙ h.kind;
       once = λ p.
-          let u : times p (values_of (bare b.index.entries)) ≡ times p (values_of (bare a.index.entries)) = ap (λ (x : List (List ℕ × ℕ)). times p (values_of x)) es in
-          let k : times p a.kept.items ≡ times p b.kept.items + times p (place ∷ []) = ap (times p) kept ∙ times-append p b.kept.items (place ∷ []) in
-          let f : times p b.free.items ≡ times p a.free.items + times p (place ∷ []) = ap (times p) free ∙ times-append p a.free.items (place ∷ []) in
-          let g : times p (values_of (bare a.index.entries)) + times p a.kept.items + times p a.free.items ≡ (if nat_lt p b.shape.max_entries then 1 else 0) = h.once p ∙ ap (λ (m : ℕ). if nat_lt p m then 1 else 0) (sym max) in
+          let u : occurrences p (values_of (bare b.index.entries)) ≡ occurrences p (values_of (bare a.index.entries)) = ap (λ (x : List (List ℕ × ℕ)). occurrences p (values_of x)) es in
+          let k : occurrences p a.kept.items ≡ occurrences p b.kept.items + occurrences p (place ∷ []) = ap (occurrences p) kept ∙ times-append p b.kept.items (place ∷ []) in
+          let f : occurrences p b.free.items ≡ occurrences p a.free.items + occurrences p (place ∷ []) = ap (occurrences p) free ∙ times-append p a.free.items (place ∷ []) in
+          let g : occurrences p (values_of (bare a.index.entries)) + occurrences p a.kept.items + occurrences p a.free.items ≡ (if nat_lt p b.shape.max_entries then 1 else 0) = h.once p ∙ ap (λ (m : ℕ). if nat_lt p m then 1 else 0) (sym max) in
           omega arith;
       all =
           let x : length b.index.entries ≡ length a.index.entries = ap (λ m. length m.entries) index in

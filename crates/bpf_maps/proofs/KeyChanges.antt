@@ -6,7 +6,7 @@ use Rattle.bpf_maps.specs.declared.maps.Maps.TheInside.{Inside}
 use Rattle.bpf_maps.specs.Places.{IsSound}
 use Rattle.bpf_maps.specs.Any.{places_of}
 use Rattle.bpf_maps.specs.Live.{LiveMap, LiveMaps, live_at, live_or, places_at, OnlyKeysChange}
-use Rattle.bpf_maps.specs.InMaps.{live_of, seen, IsWellFormedMaps}
+use Rattle.bpf_maps.specs.InMaps.{live_of, as_live_maps, IsWellFormedMaps}
 use Rattle.bpf_maps.proofs.Changes.{with_entry, IsChange, live_old, live_new, others_stay, areas_stay, whole_stays, laid_stays, room_stays, told_of}
 
 -- the entry with another table of places
@@ -14,7 +14,7 @@ abbrev pub with_map : Entry → AnyMap → Entry
 with_map e map = record { map = map; number = e.number; stride = e.stride; holds = e.holds }
 
 pub record IsKeyChange (a : Inside) (t : LiveMaps) (at key : ℕ) (old : Entry) (map : AnyMap) : Type 0 where
-  pub view : seen a ≡ t
+  pub view : as_live_maps a ≡ t
   pub whole : IsWellFormedMaps a
   pub same : at ≡ key
   pub here : get_or a.slots.slots at None ≡ Some old
@@ -23,7 +23,7 @@ pub record IsKeyChange (a : Inside) (t : LiveMaps) (at key : ℕ) (old : Entry) 
 
 module _ (a : Inside) (t : LiveMaps) (at key : ℕ) (old : Entry) (map : AnyMap) (refused : Bool) (c : IsKeyChange a t at key old map) where
   abbrev new : LiveMaps
-  new = seen (with_entry a at (with_map old map) refused)
+  new = as_live_maps (with_entry a at (with_map old map) refused)
 
   change : IsChange a t at key old (with_map old map)
   change = record {

@@ -8,8 +8,9 @@ use Rattle.bpf_maps.specs.declared.part.TheConstants.{MAPS}
 use Rattle.bpf_maps.specs.declared.maps.Entry.{Entry}
 use Rattle.bpf_maps.specs.declared.maps.Maps.TheInside.{Inside}
 use Rattle.bpf_maps.specs.Any.{places_of}
-use Rattle.bpf_maps.specs.Live.{LiveMap, LiveMaps, live_at, shape_at, count, areas, HasOneMore, without_area, held_at, one_less, weight, area_of, IsLaid, SameAreas}
-use Rattle.bpf_maps.specs.InMaps.{live_of, lives, seen, IsWellFormedMaps}
+use Rattle.bpf_maps.specs.Live.{LiveMap, LiveMaps, live_at, shape_at, count, areas, HasOneMore, without_area, held_at, one_less, area_of, IsLaid, SameAreas}
+use Rattle.bpf_maps.specs.Sum.{weight}
+use Rattle.bpf_maps.specs.InMaps.{live_of, live_maps_of, as_live_maps, IsWellFormedMaps}
 use Rattle.bpf_maps.proofs.Slots.{live_by, none_by, others_by, same_some, set_here, set_others}
 use Rattle.bpf_maps.proofs.Totals.{weight_most, times_set}
 use Rattle.bpf_maps.proofs.Changes.{live_here, none_held, told_of}
@@ -17,7 +18,7 @@ use Rattle.bpf_maps.proofs.Whole.{laid, whole_removed}
 
 -- the entry that was taken out is the one that was there
 pub record IsTaken (a : Inside) (t : LiveMaps) (at key : ℕ) (old gone : Entry) : Type 0 where
-  pub view : seen a ≡ t
+  pub view : as_live_maps a ≡ t
   pub whole : IsWellFormedMaps a
   pub same : at ≡ key
   pub here : get_or a.slots.slots at None ≡ Some old
@@ -41,7 +42,7 @@ module _ (a : Inside) (t : LiveMaps) (at key : ℕ) (old gone : Entry) (c : IsTa
     pub size_most : size ≤ a.bytes
     size_most =
         let s = c.whole.sum in
-        let w = weight_most area_of at (lives a.slots.slots) in
+        let w = weight_most area_of at (live_maps_of a.slots.slots) in
         let x = ap (weight area_of) (live_by a.slots.slots a.slots.slots at gone was) in
         omega arith
 
@@ -52,16 +53,16 @@ module _ (a : Inside) (t : LiveMaps) (at key : ℕ) (old gone : Entry) (c : IsTa
       pub whole_gone : IsWellFormedMaps (without_entry a gone size slots)
       whole_gone = whole_removed a (without_entry a gone size slots) at c.whole others_stay capacity gone was gap refl (let m = size_most in omega arith)
 
-      pub laid_gone : IsLaid (seen (without_entry a gone size slots))
+      pub laid_gone : IsLaid (as_live_maps (without_entry a gone size slots))
       laid_gone = laid (without_entry a gone size slots) whole_gone
 
-      pub freed_gone : HasOneMore (seen (without_entry a gone size slots)) t (shape_at t key)
+      pub freed_gone : HasOneMore (as_live_maps (without_entry a gone size slots)) t (shape_at t key)
       freed_gone =
           let here = live_here a t at key gone c.view c.same was in
           let shape = told_of (λ (l : LiveMap). l.places.shape) (live_at t key) (live_of gone) here in
-          subst (λ (s : MapShape). HasOneMore (seen (without_entry a gone size slots)) t s) (sym shape) more
+          subst (λ (s : MapShape). HasOneMore (as_live_maps (without_entry a gone size slots)) t s) (sym shape) more
         where
-          more : HasOneMore (seen (without_entry a gone size slots)) t (places_of gone.map).shape
+          more : HasOneMore (as_live_maps (without_entry a gone size slots)) t (places_of gone.map).shape
           more =
               let all = c.whole.all in
               let below = below_maps in
@@ -76,19 +77,19 @@ module _ (a : Inside) (t : LiveMaps) (at key : ℕ) (old gone : Entry) (c : IsTa
               let most = size_most in
               record { maps = omega arith; bytes = omega arith }
 
-      pub none_now : live_at (seen (without_entry a gone size slots)) key ≡ None
-      none_now = ap (λ (k : ℕ). get_or (lives slots.slots) k None) (sym c.same) ∙ none_by slots.slots slots.slots at gap
+      pub none_now : live_at (as_live_maps (without_entry a gone size slots)) key ≡ None
+      none_now = ap (λ (k : ℕ). get_or (live_maps_of slots.slots) k None) (sym c.same) ∙ none_by slots.slots slots.slots at gap
 
-      lives_stay : (j : ℕ) → j ≢ key → live_at (seen (without_entry a gone size slots)) j ≡ live_at t j
+      lives_stay : (j : ℕ) → j ≢ key → live_at (as_live_maps (without_entry a gone size slots)) j ≡ live_at t j
       lives_stay j ne = others_by a.slots.slots slots.slots at others_stay j (λ e. ne (e ∙ c.same)) ∙ ap (λ (u : LiveMaps). live_at u j) c.view
 
-      pub less_gone : old.holds ≤ 1 → held_at (seen (without_entry a gone size slots)) key ≡ one_less (held_at t key)
-      less_gone last = none_held t (seen (without_entry a gone size slots)) key (live_of old) (live_here a t at key old c.view c.same c.here) none_now last
+      pub less_gone : old.holds ≤ 1 → held_at (as_live_maps (without_entry a gone size slots)) key ≡ one_less (held_at t key)
+      less_gone last = none_held t (as_live_maps (without_entry a gone size slots)) key (live_of old) (live_here a t at key old c.view c.same c.here) none_now last
 
-      pub others_gone : (j : ℕ) → j ≢ key → held_at (seen (without_entry a gone size slots)) j ≡ held_at t j
+      pub others_gone : (j : ℕ) → j ≢ key → held_at (as_live_maps (without_entry a gone size slots)) j ≡ held_at t j
       others_gone j ne = ap (option_map without_area) (lives_stay j ne)
 
-      pub areas_gone : SameAreas t (seen (without_entry a gone size slots))
+      pub areas_gone : SameAreas t (as_live_maps (without_entry a gone size slots))
       areas_gone j l h =
-          let ne : j ≢ key = λ (s : j ≡ key). none-some l (sym none_now ∙ ap (live_at (seen (without_entry a gone size slots))) (sym s) ∙ h) in
+          let ne : j ≢ key = λ (s : j ≡ key). none-some l (sym none_now ∙ ap (live_at (as_live_maps (without_entry a gone size slots))) (sym s) ∙ h) in
           (l, sym (lives_stay j ne) ∙ h, refl, refl, refl)

@@ -3,9 +3,9 @@ use Rattle.std.proofs.Common.{◌≡◌, ◌≢◌, ℕ, zero, suc, ◌+◌, ◌
 use Rattle.std.proofs.lemmas.Option.{none-some, same_Some}
 use Rattle.bpf_maps.specs.declared.maps.Entry.{Entry}
 use Rattle.bpf_maps.specs.Live.{LiveMap, LiveMaps, live_at, live_or, offset, offset_at, SameAreas}
-use Rattle.bpf_maps.specs.InMaps.{live_of, lives}
+use Rattle.bpf_maps.specs.InMaps.{live_of, live_maps_of}
 
-pub at_lives : (xs : List (Option Entry)) (k : ℕ) → get_or (lives xs) k None ≡ option_map live_of (get_or xs k None)
+pub at_lives : (xs : List (Option Entry)) (k : ℕ) → get_or (live_maps_of xs) k None ≡ option_map live_of (get_or xs k None)
 at_lives [] k = refl
 at_lives (x ∷ xs) zero = refl
 at_lives (x ∷ xs) (suc k) = at_lives xs k
@@ -16,14 +16,14 @@ within (x ∷ xs) zero e h = omega arith
 within (x ∷ xs) (suc k) e h = let r = within xs k e h in omega arith
 
 -- the entry of a live map
-pub entry_of : (xs : List (Option Entry)) (k : ℕ) (l : LiveMap) → get_or (lives xs) k None ≡ Some l → (e : Entry) × (get_or xs k None ≡ Some e) × (live_of e ≡ l)
+pub entry_of : (xs : List (Option Entry)) (k : ℕ) (l : LiveMap) → get_or (live_maps_of xs) k None ≡ Some l → (e : Entry) × (get_or xs k None ≡ Some e) × (live_of e ≡ l)
 entry_of xs k l h = by (get_or xs k None) refl
   where
     by : (o : Option Entry) → get_or xs k None ≡ o → (e : Entry) × (get_or xs k None ≡ Some e) × (live_of e ≡ l)
     by None e = absurd (none-some l (sym (ap (option_map live_of) e) ∙ sym (at_lives xs k) ∙ h))
     by (Some x) e = (x, e, same_Some (live_of x) l (sym (ap (option_map live_of) e) ∙ sym (at_lives xs k) ∙ h))
 
-pub some_entry : (xs : List (Option Entry)) (k : ℕ) → IsSome (get_or (lives xs) k None) → (e : Entry) × (get_or xs k None ≡ Some e)
+pub some_entry : (xs : List (Option Entry)) (k : ℕ) → IsSome (get_or (live_maps_of xs) k None) → (e : Entry) × (get_or xs k None ≡ Some e)
 some_entry xs k h = by (get_or xs k None) refl
   where
     by : (o : Option Entry) → get_or xs k None ≡ o → (e : Entry) × (get_or xs k None ≡ Some e)
@@ -31,14 +31,14 @@ some_entry xs k h = by (get_or xs k None) refl
     by (Some x) e = (x, e)
 
 module _ (xs ys : List (Option Entry)) (k : ℕ) where
-  pub live_by : (e : Entry) → get_or xs k None ≡ Some e → get_or (lives xs) k None ≡ Some (live_of e)
+  pub live_by : (e : Entry) → get_or xs k None ≡ Some e → get_or (live_maps_of xs) k None ≡ Some (live_of e)
   live_by e at = at_lives xs k ∙ ap (option_map live_of) at
 
-  pub none_by : get_or xs k None ≡ None → get_or (lives xs) k None ≡ None
+  pub none_by : get_or xs k None ≡ None → get_or (live_maps_of xs) k None ≡ None
   none_by at = at_lives xs k ∙ ap (option_map live_of) at
 
   -- the other slots
-  pub others_by : ((l : ℕ) → l ≢ k → get_or ys l None ≡ get_or xs l None) → (l : ℕ) → l ≢ k → get_or (lives ys) l None ≡ get_or (lives xs) l None
+  pub others_by : ((l : ℕ) → l ≢ k → get_or ys l None ≡ get_or xs l None) → (l : ℕ) → l ≢ k → get_or (live_maps_of ys) l None ≡ get_or (live_maps_of xs) l None
   others_by h l ne = at_lives ys l ∙ ap (option_map live_of) (h l ne) ∙ sym (at_lives xs l)
 
 module _ (xs : List (Option Entry)) (k : ℕ) (old new : Entry) (at : get_or xs k None ≡ Some old) where

@@ -2,24 +2,19 @@
 use Rattle.std.proofs.Common.{◌≡◌, ◌≢◌, ℕ, zero, suc, ◌+◌, ◌<◌, ◌≤◌, Bool, true, false, if◌then◌else◌, List, [], ◌∷◌, length, Option, Some, None, is_some, refl, ap, get_or, set, arith, count_by, cond}
 use Rattle.std.proofs.lemmas.List.Recursion.{is_count_by}
 use Rattle.bpf_maps.specs.declared.maps.Entry.{Entry}
-use Rattle.bpf_maps.specs.Live.{LiveMap, weight, total}
-use Rattle.bpf_maps.specs.InMaps.{lives, times_true}
+use Rattle.bpf_maps.specs.Live.{LiveMap}
+use Rattle.bpf_maps.specs.Sum.{weight, total}
+use Rattle.bpf_maps.specs.LiveLaws.{total_same}
+use Rattle.bpf_maps.specs.InMaps.{live_maps_of, times_true}
 
 module _ (f : LiveMap → ℕ) where
-  pub total_same : (xs ys : List (Option LiveMap)) → ((j : ℕ) → weight f (get_or ys j None) ≡ weight f (get_or xs j None)) → total f ys ≡ total f xs
-  unfolding total
-  total_same [] [] h = refl
-  total_same [] (y ∷ ys) h = let r = total_same [] ys (λ j. h (suc j)) in let a = h 0 in omega arith
-  total_same (x ∷ xs) [] h = let r = total_same xs [] (λ j. h (suc j)) in let a = h 0 in omega arith
-  total_same (x ∷ xs) (y ∷ ys) h = let r = total_same xs ys (λ j. h (suc j)) in let a = h 0 in omega arith
-
   -- where all slots but one stay
   pub total_but_one : (k : ℕ) (xs ys : List (Option LiveMap)) → ((j : ℕ) → j ≢ k → get_or ys j None ≡ get_or xs j None) → total f ys + weight f (get_or xs k None) ≡ total f xs + weight f (get_or ys k None)
   unfolding total
   total_but_one zero [] [] h = refl
-  total_but_one zero [] (y ∷ ys) h = let r = total_same [] ys (λ j. ap (weight f) (h (suc j) (λ e. absurd (omega arith)))) in omega arith
-  total_but_one zero (x ∷ xs) [] h = let r = total_same xs [] (λ j. ap (weight f) (h (suc j) (λ e. absurd (omega arith)))) in omega arith
-  total_but_one zero (x ∷ xs) (y ∷ ys) h = let r = total_same xs ys (λ j. ap (weight f) (h (suc j) (λ e. absurd (omega arith)))) in omega arith
+  total_but_one zero [] (y ∷ ys) h = let r = total_same f [] ys (λ j. ap (weight f) (h (suc j) (λ e. absurd (omega arith)))) in omega arith
+  total_but_one zero (x ∷ xs) [] h = let r = total_same f xs [] (λ j. ap (weight f) (h (suc j) (λ e. absurd (omega arith)))) in omega arith
+  total_but_one zero (x ∷ xs) (y ∷ ys) h = let r = total_same f xs ys (λ j. ap (weight f) (h (suc j) (λ e. absurd (omega arith)))) in omega arith
   total_but_one (suc k) [] [] h = refl
   total_but_one (suc k) [] (y ∷ ys) h =
       let r = total_but_one k [] ys (λ j ne. h (suc j) (λ e. ne (omega arith))) in
@@ -42,11 +37,11 @@ weight_most f zero (x ∷ xs) = omega arith
 weight_most f (suc k) (x ∷ xs) = let r = weight_most f k xs in omega arith
 
 -- the live maps are the entries
-pub count_entries : (xs : List (Option Entry)) → total (λ l. 1) (lives xs) ≡ count_by is_some xs
+pub count_entries : (xs : List (Option Entry)) → total (λ l. 1) (live_maps_of xs) ≡ count_by is_some xs
 unfolding total
-count_entries xs = is_count_by (λ (ys : List (Option Entry)). total (λ l. 1) (lives ys)) is_some refl step xs
+count_entries xs = is_count_by (λ (ys : List (Option Entry)). total (λ l. 1) (live_maps_of ys)) is_some refl step xs
   where
-    step : (x : Option Entry) (ys : List (Option Entry)) → total (λ l. 1) (lives (x ∷ ys)) ≡ cond (is_some x) (1 + total (λ l. 1) (lives ys)) (total (λ l. 1) (lives ys))
+    step : (x : Option Entry) (ys : List (Option Entry)) → total (λ l. 1) (live_maps_of (x ∷ ys)) ≡ cond (is_some x) (1 + total (λ l. 1) (live_maps_of ys)) (total (λ l. 1) (live_maps_of ys))
     step None ys = omega arith
     step (Some e) ys = omega arith
 

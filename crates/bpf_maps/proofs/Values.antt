@@ -6,7 +6,7 @@ use Rattle.tagged_model.specs.declared.shape.MapKind.{MapKind}
 use Rattle.tagged_model.specs.declared.shape.MapKind.TheVariants.{Hash, Array}
 use Rattle.tagged_model.specs.declared.shape.MapShape.{MapShape}
 use Rattle.tagged_model.specs.Table.{Table, is_key, found, index_key, indexed, new_entries, new_table, with_object, with_values}
-use Rattle.bpf_maps.specs.Places.{PlaceTable, table_of, new_places, IsSound, times}
+use Rattle.bpf_maps.specs.Places.{PlaceTable, table_of, new_places, IsSound, occurrences}
 use Rattle.bpf_maps.specs.Live.{LiveMaps, places_at, value_in, map_in}
 use Rattle.bpf_maps.proofs.Counts.{one, times_one, times-without}
 
@@ -20,24 +20,24 @@ module _ {B : Type 0} (f g : ℕ → B) where
   in_front : (p n : ℕ) → p ≡ p → 1 ≤ (if nat_eq p p then 1 else 0) + n
   in_front p n e = grind arith
 
-  pub agreeing : (es : List (List ℕ × ℕ)) → ((p : ℕ) → 1 ≤ times p (values_of es) → f p ≡ g p) → valued f es ≡ valued g es
+  pub agreeing : (es : List (List ℕ × ℕ)) → ((p : ℕ) → 1 ≤ occurrences p (values_of es) → f p ≡ g p) → valued f es ≡ valued g es
   agreeing [] h = refl
   agreeing (e ∷ es) h =
-      let head = h e.1 (in_front e.1 (times e.1 (values_of es)) refl) in
+      let head = h e.1 (in_front e.1 (occurrences e.1 (values_of es)) refl) in
       let rest = agreeing es (λ p used. h p (omega arith)) in
       λ i. (e.0, head i) ∷ rest i
 
-  pub agreeing_tables : (t : PlaceTable) → ((p : ℕ) → 1 ≤ times p (values_of t.entries) → f p ≡ g p) → with_values f (table_of t) ≡ with_values g (table_of t)
+  pub agreeing_tables : (t : PlaceTable) → ((p : ℕ) → 1 ≤ occurrences p (values_of t.entries) → f p ≡ g p) → with_values f (table_of t) ≡ with_values g (table_of t)
   agreeing_tables t h = ap (λ (es : List (List ℕ × B)). let m : Table B = record { shape = t.shape; entries = es; deleted = (table_of t).deleted } in m) (agreeing t.entries h)
 
 -- a place in use is one of the map
 used_below : (p n m k : ℕ) → n + m ≤ (if nat_lt p k then 1 else 0) → 1 ≤ n + m → p < k
 used_below p n m k h used = grind arith
 
-pub used_within : (t : PlaceTable) (p : ℕ) → IsSound t → 1 ≤ times p (values_of t.entries) + times p t.kept → p < t.shape.max_entries
-used_within t p sound used = used_below p (times p (values_of t.entries)) (times p t.kept) t.shape.max_entries (sound.once p) used
+pub used_within : (t : PlaceTable) (p : ℕ) → IsSound t → 1 ≤ occurrences p (values_of t.entries) + occurrences p t.kept → p < t.shape.max_entries
+used_within t p sound used = used_below p (occurrences p (values_of t.entries)) (occurrences p t.kept) t.shape.max_entries (sound.once p) used
 
-pub used_in_entries : (t : PlaceTable) (p : ℕ) → IsSound t → 1 ≤ times p (values_of t.entries) → p < t.shape.max_entries
+pub used_in_entries : (t : PlaceTable) (p : ℕ) → IsSound t → 1 ≤ occurrences p (values_of t.entries) → p < t.shape.max_entries
 used_in_entries t p sound used = used_within t p sound (omega arith)
 
 -- ---- a value is written
@@ -61,35 +61,35 @@ module _ {B : Type 0} (value : ℕ → B) (p : ℕ) (bytes : B) where
   once_behind : (q n : ℕ) → (if nat_eq p q then 1 else 0) + n ≤ 1 → 1 ≤ n → (q == p) ≡ false
   once_behind q n h m = grind arith
 
-  elsewhere : (es : List (List ℕ × ℕ)) → times p (values_of es) ≡ 0 → valued written es ≡ valued value es
+  elsewhere : (es : List (List ℕ × ℕ)) → occurrences p (values_of es) ≡ 0 → valued written es ≡ valued value es
   elsewhere [] h = refl
   elsewhere (e ∷ es) h =
-      let n = not_among e.1 (times p (values_of es)) h in
+      let n = not_among e.1 (occurrences p (values_of es)) h in
       λ i. (e.0, written_apart e.1 n.0 i) ∷ elsewhere es n.1 i
 
-  stands : (key : List ℕ) (es : List (List ℕ × ℕ)) → found key es ≡ Some p → 1 ≤ times p (values_of es)
+  stands : (key : List ℕ) (es : List (List ℕ × ℕ)) → found key es ≡ Some p → 1 ≤ occurrences p (values_of es)
   stands key es h =
       let counted = times-without p key es in
       let one_is : one p (found key es) ≡ 1 = ap (one p) h ∙ times_one p in
       omega arith
 
-  pub valued_written : (key : List ℕ) (es : List (List ℕ × ℕ)) → times p (values_of es) ≤ 1 → found key es ≡ Some p → valued written es ≡ set_value (is_key key) (valued value es) bytes
+  pub valued_written : (key : List ℕ) (es : List (List ℕ × ℕ)) → occurrences p (values_of es) ≤ 1 → found key es ≡ Some p → valued written es ≡ set_value (is_key key) (valued value es) bytes
   valued_written key [] once h = refl
   valued_written key (e ∷ es) once h = by (valued_written key es) (is_key key e.0) h
     where
-      by : (times p (values_of es) ≤ 1 → found key es ≡ Some p → valued written es ≡ set_value (is_key key) (valued value es) bytes) → (b : Bool) → cond b (Some e.1) (found key es) ≡ Some p → valued written (e ∷ es) ≡ cond b ((e.0, bytes) ∷ valued value es) ((e.0, value e.1) ∷ set_value (is_key key) (valued value es) bytes)
+      by : (occurrences p (values_of es) ≤ 1 → found key es ≡ Some p → valued written es ≡ set_value (is_key key) (valued value es) bytes) → (b : Bool) → cond b (Some e.1) (found key es) ≡ Some p → valued written (e ∷ es) ≡ cond b ((e.0, bytes) ∷ valued value es) ((e.0, value e.1) ∷ set_value (is_key key) (valued value es) bytes)
       by rest true h =
           let same = same_Some e.1 p h in
-          λ i. (e.0, written_here e.1 same i) ∷ elsewhere es (once_here e.1 (times p (values_of es)) same once) i
+          λ i. (e.0, written_here e.1 same i) ∷ elsewhere es (once_here e.1 (occurrences p (values_of es)) same once) i
       by rest false h =
           let there = stands key es h in
-          λ i. (e.0, written_apart e.1 (once_behind e.1 (times p (values_of es)) once there) i) ∷ rest (let all : (if nat_eq p e.1 then 1 else 0) + times p (values_of es) ≤ 1 = once in omega arith) h i
+          λ i. (e.0, written_apart e.1 (once_behind e.1 (occurrences p (values_of es)) once there) i) ∷ rest (let all : (if nat_eq p e.1 then 1 else 0) + occurrences p (values_of es) ≤ 1 = once in omega arith) h i
 
 once_at_most : (p n m k : ℕ) → n + m ≤ (if nat_lt p k then 1 else 0) → n ≤ 1
 once_at_most p n m k h = grind arith
 
-pub places_once : (t : PlaceTable) → IsSound t → (p : ℕ) → times p (values_of t.entries) ≤ 1
-places_once t sound p = once_at_most p (times p (values_of t.entries)) (times p t.kept) t.shape.max_entries (sound.once p)
+pub places_once : (t : PlaceTable) → IsSound t → (p : ℕ) → occurrences p (values_of t.entries) ≤ 1
+places_once t sound p = once_at_most p (occurrences p (values_of t.entries)) (occurrences p t.kept) t.shape.max_entries (sound.once p)
 
 pub table_written : {B : Type 0} (value : ℕ → B) (t : PlaceTable) (key : List ℕ) (place : ℕ) (bytes : B) → IsSound t → found key t.entries ≡ Some place
     → with_values (written value place bytes) (table_of t) ≡ with_object (with_values value (table_of t)) key bytes

@@ -8,8 +8,9 @@ use Rattle.bpf_maps.specs.declared.maps.Entry.{Entry}
 use Rattle.bpf_maps.specs.declared.maps.Maps.TheInside.{Inside}
 use Rattle.bpf_maps.specs.Any.{places_of}
 use Rattle.bpf_maps.specs.Places.{IsSound}
-use Rattle.bpf_maps.specs.Live.{LiveMap, live_at, live_or, places_at, offset, LiesInPart, IsLaid, weight, total, area_of}
-use Rattle.bpf_maps.specs.InMaps.{live_of, lives, seen, times_true, IsInItsArea, IsWellFormedMaps}
+use Rattle.bpf_maps.specs.Live.{LiveMap, live_at, live_or, places_at, offset, LiesInPart, IsLaid, area_of}
+use Rattle.bpf_maps.specs.Sum.{weight, total}
+use Rattle.bpf_maps.specs.InMaps.{live_of, live_maps_of, as_live_maps, times_true, IsInItsArea, IsWellFormedMaps}
 use Rattle.bpf_maps.proofs.Slots.{entry_of, some_entry, live_by, none_by, others_by, same_or_other, same_some}
 use Rattle.bpf_maps.proofs.Totals.{total_but_one, times_set}
 use Rattle.bpf_maps.proofs.InAreas.{area_fits, value_inside, place_inside, apart_places, apart_areas}
@@ -60,7 +61,7 @@ module _ (a : Inside) (h : IsWellFormedMaps a) where
       subst (λ (g : Entry). IsApart (live_of e) (live_of g) p q) is (apart_in_one k p q e at (ne s)))
       (λ (o : k ≢ j). apart_in_two k j p q e f at bt o l m)
 
-  pub laid : IsLaid (seen a)
+  pub laid : IsLaid (as_live_maps a)
   laid = record {
     inside = λ k p l at lt.
         let e = entry_of a.slots.slots k l at in
@@ -73,7 +74,7 @@ module _ (a : Inside) (h : IsWellFormedMaps a) where
   }
 
 -- no two keys of a live map have one place
-pub sound_at : (a : Inside) (h : IsWellFormedMaps a) (k : ℕ) → IsSome (live_at (seen a) k) → IsSound (places_at (seen a) k)
+pub sound_at : (a : Inside) (h : IsWellFormedMaps a) (k : ℕ) → IsSome (live_at (as_live_maps a) k) → IsSound (places_at (as_live_maps a) k)
 sound_at a h k live =
     let e = some_entry a.slots.slots k live in
     subst (λ (o : Option LiveMap). IsSound (live_or o).places) (sym (live_by a.slots.slots a.slots.slots k e.0 e.1)) (h.placed k e.0 e.1).sound
@@ -88,12 +89,12 @@ module _ (a b : Inside) (k : ℕ) (h : IsWellFormedMaps a) (others : (j : ℕ) �
   still : (j : ℕ) (e : Entry) → j ≢ k → entry_at b j e → entry_at a j e
   still j e ne at = sym (others j ne) ∙ at
 
-  changed : (f : LiveMap → ℕ) → total f (lives b.slots.slots) + weight f (get_or (lives a.slots.slots) k None) ≡ total f (lives a.slots.slots) + weight f (get_or (lives b.slots.slots) k None)
-  changed f = total_but_one f k (lives a.slots.slots) (lives b.slots.slots) (others_by a.slots.slots b.slots.slots k others)
+  changed : (f : LiveMap → ℕ) → total f (live_maps_of b.slots.slots) + weight f (get_or (live_maps_of a.slots.slots) k None) ≡ total f (live_maps_of a.slots.slots) + weight f (get_or (live_maps_of b.slots.slots) k None)
+  changed f = total_but_one f k (live_maps_of a.slots.slots) (live_maps_of b.slots.slots) (others_by a.slots.slots b.slots.slots k others)
 
   -- a map that keeps its area
   module _ (e f : Entry) (at : entry_at a k e) (bt : entry_at b k f) (number : f.number ≡ e.number) (stride : f.stride ≡ e.stride) (shape : (places_of f.map).shape ≡ (places_of e.map).shape) (held : 1 ≤ f.holds) (sound : IsSound (places_of f.map)) (taken : b.taken ≡ a.taken) (bytes : b.bytes ≡ a.bytes) where
-    same_total : (w : LiveMap → ℕ) → w (live_of f) ≡ w (live_of e) → total w (lives b.slots.slots) ≡ total w (lives a.slots.slots)
+    same_total : (w : LiveMap → ℕ) → w (live_of f) ≡ w (live_of e) → total w (live_maps_of b.slots.slots) ≡ total w (live_maps_of a.slots.slots)
     same_total w s =
         let c = changed w in
         let x = ap (weight w) (live_by a.slots.slots b.slots.slots k e at) in
@@ -145,7 +146,7 @@ module _ (a b : Inside) (k : ℕ) (h : IsWellFormedMaps a) (others : (j : ℕ) �
 
   -- a map that is new
   module _ (e : Entry) (at : get_or a.slots.slots k None ≡ None) (bt : entry_at b k e) (below : e.number < MAPS) (free : get_or a.taken e.number false ≡ false) (stride : e.stride ≡ ((places_of e.map).shape.value_size + 7) / 8 * 8) (held : 1 ≤ e.holds) (sound : IsSound (places_of e.map)) (taken : b.taken ≡ set a.taken e.number true) (bytes : b.bytes ≡ a.bytes + area_of (live_of e)) (few : b.bytes ≤ AREA) where
-    more_total : (w : LiveMap → ℕ) → total w (lives b.slots.slots) ≡ total w (lives a.slots.slots) + w (live_of e)
+    more_total : (w : LiveMap → ℕ) → total w (live_maps_of b.slots.slots) ≡ total w (live_maps_of a.slots.slots) + w (live_of e)
     more_total w =
         let c = changed w in
         let x = ap (weight w) (none_by a.slots.slots b.slots.slots k at) in
@@ -208,7 +209,7 @@ module _ (a b : Inside) (k : ℕ) (h : IsWellFormedMaps a) (others : (j : ℕ) �
 
   -- a map that goes
   module _ (e : Entry) (at : entry_at a k e) (bt : get_or b.slots.slots k None ≡ None) (taken : b.taken ≡ set a.taken e.number false) (bytes : b.bytes + area_of (live_of e) ≡ a.bytes) where
-    less_total : (w : LiveMap → ℕ) → total w (lives b.slots.slots) + w (live_of e) ≡ total w (lives a.slots.slots)
+    less_total : (w : LiveMap → ℕ) → total w (live_maps_of b.slots.slots) + w (live_of e) ≡ total w (live_maps_of a.slots.slots)
     less_total w =
         let c = changed w in
         let x = ap (weight w) (live_by a.slots.slots b.slots.slots k e at) in

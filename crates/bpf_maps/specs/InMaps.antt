@@ -10,11 +10,11 @@ use Rattle.bpf_maps.specs.Live.{LiveMap, LiveMaps, count, areas}
 abbrev pub live_of : Entry → LiveMap
 live_of e = record { places = places_of e.map; start = FRONT + e.number * AREA; stride = e.stride; holds = e.holds }
 
-abbrev pub lives : List (Option Entry) → List (Option LiveMap)
-lives xs = map (λ o. option_map live_of o) xs
+abbrev pub live_maps_of : List (Option Entry) → List (Option LiveMap)
+live_maps_of xs = map (λ o. option_map live_of o) xs
 
-abbrev pub seen : Inside → LiveMaps
-seen a = record { slots = lives a.slots.slots; refused = a.refused }
+abbrev pub as_live_maps : Inside → LiveMaps
+as_live_maps a = record { slots = live_maps_of a.slots.slots; refused = a.refused }
 
 -- how many areas are taken
 abbrev pub times_true : List Bool → ℕ
@@ -34,7 +34,7 @@ pub record IsWellFormedMaps (a : Inside) : Type 0 where
   pub placed : (k : ℕ) (e : Entry) → slice_index_or a.slots.slots k None ≡ Some e → IsInItsArea a.taken e
   pub apart : (k j : ℕ) (e f : Entry) → slice_index_or a.slots.slots k None ≡ Some e → slice_index_or a.slots.slots j None ≡ Some f → e.number ≡ f.number → k ≡ j
   pub all : length a.taken ≡ MAPS
-  pub counted : times_true a.taken ≡ count (seen a)
+  pub counted : times_true a.taken ≡ count (as_live_maps a)
   pub room : MAPS ≤ a.slots.capacity
-  pub sum : a.bytes ≡ areas (seen a)
+  pub sum : a.bytes ≡ areas (as_live_maps a)
   pub few : a.bytes ≤ LARGEST_SUM

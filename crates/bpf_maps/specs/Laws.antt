@@ -5,7 +5,7 @@ use Rattle.std.specs.Map.{values_of}
 use Rattle.tagged_model.specs.declared.shape.MapShape.{MapShape}
 use Rattle.tagged_model.specs.Table as map
 pub use Rattle.tagged_model.specs.MapLaws.{CallsRefineValues}
-use Rattle.bpf_maps.specs.Places.{PlaceTable, table_of, times, IsSound, new_places, with_place, with_kept, after_run}
+use Rattle.bpf_maps.specs.Places.{PlaceTable, table_of, occurrences, IsSound, new_places, with_place, with_kept, after_run}
 use Rattle.bpf_maps.specs.Live.{LiveMaps, live_at, offset_at, SameAreas}
 
 -- as a map of places
@@ -25,12 +25,12 @@ WritesRefineValues B =
 -- values that agree on the places in use give one map
 abbrev pub ValuesAgree : Type 0 → Type 0
 ValuesAgree B =
-    (f g : ℕ → B) (t : PlaceTable) → ((p : ℕ) → 1 ≤ times p (values_of t.entries) → f p ≡ g p)
+    (f g : ℕ → B) (t : PlaceTable) → ((p : ℕ) → 1 ≤ occurrences p (values_of t.entries) → f p ≡ g p)
     → map.with_values f (table_of t) ≡ map.with_values g (table_of t)
 
 -- a place in use, or kept apart, is one of the map
 abbrev pub PlacesAreWithin : Type 0
-PlacesAreWithin = (t : PlaceTable) (p : ℕ) → IsSound t → 1 ≤ times p (values_of t.entries) + times p t.kept → p < t.shape.max_entries
+PlacesAreWithin = (t : PlaceTable) (p : ℕ) → IsSound t → 1 ≤ occurrences p (values_of t.entries) + occurrences p t.kept → p < t.shape.max_entries
 
 -- ---- a tenant's live maps
 
@@ -42,4 +42,4 @@ AreasKeepPlaces = (old new : LiveMaps) (k p : ℕ) → SameAreas old new → IsS
 abbrev pub DeletesKeepPlaces : Type 0
 DeletesKeepPlaces =
     (t : PlaceTable) (key : List ℕ) (place p : ℕ) → map.look_up (table_of t) key ≡ Some place
-    → times p (values_of (with_kept t key place).entries) + times p (with_kept t key place).kept ≡ times p (values_of t.entries) + times p t.kept
+    → occurrences p (values_of (with_kept t key place).entries) + occurrences p (with_kept t key place).kept ≡ occurrences p (values_of t.entries) + occurrences p t.kept

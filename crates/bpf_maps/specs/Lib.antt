@@ -3,6 +3,7 @@ pub mod Index
 pub mod Laws
 pub mod LiveLaws
 pub mod Any
+pub mod Sum
 pub mod Live
 pub mod InMaps
 pub mod InPart

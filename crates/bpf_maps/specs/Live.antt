@@ -8,6 +8,7 @@ use Rattle.tagged_model.specs.declared.fault.MapFault.TheVariants.{NoEntry, TooB
 use Rattle.tagged_model.specs.Shape.{area}
 use Rattle.bpf_maps.specs.declared.part.TheConstants.{FRONT, LARGEST_SUM, MAPS, PART}
 use Rattle.tagged_model.specs.Table.{Table, with_values}
+use Rattle.bpf_maps.specs.Sum.{total}
 use Rattle.bpf_maps.specs.Places.{PlaceTable, table_of, new_places, IsSound}
 
 -- a live map, where its area begins in the part, how far its values are from one another, and how many hold it
@@ -95,15 +96,6 @@ abbrev pub KeepsOthers : ℕ → LiveMaps → List ℕ → LiveMaps → List ℕ
 KeepsOthers k old bytes new later = (other : ℕ) → other ≢ k → KeepsMap other old bytes new later
 
 -- ---- how much room they take
-
--- a number of the map in a slot, and nothing of an empty slot
-abbrev pub weight : (LiveMap → ℕ) → Option LiveMap → ℕ
-weight f None = 0
-weight f (Some l) = f l
-
-unfoldable pub total : (LiveMap → ℕ) → List (Option LiveMap) → ℕ
-total f [] = 0
-total f (x ∷ xs) = weight f x + total f xs
 
 abbrev pub area_of : LiveMap → ℕ
 area_of l = area l.places.shape.value_size l.places.shape.max_entries

@@ -25,9 +25,9 @@ new_places shape = record { shape = shape; entries = new_entries (λ i. i) shape
 -- ---- what always holds
 
 -- how often a place stands in a list
-abbrev pub times : ℕ → List ℕ → ℕ
-times p [] = 0
-times p (x ∷ xs) = (if nat_eq p x then 1 else 0) + times p xs
+abbrev pub occurrences : ℕ → List ℕ → ℕ
+occurrences p [] = 0
+occurrences p (x ∷ xs) = (if nat_eq p x then 1 else 0) + occurrences p xs
 
 -- each key has this size
 abbrev pub IsSized : ℕ → List (List ℕ × ℕ) → Type 0
@@ -37,7 +37,7 @@ IsSized n (e ∷ es) = (length e.0 ≡ n) × IsSized n es
 -- each place below `max_entries` is in use at most once, and no other is. To be kept apart is a use. An array has all its
 -- indices
 pub record IsSound (t : PlaceTable) : Type 0 where
-  pub once : (p : ℕ) → times p (values_of t.entries) + times p t.kept ≤ (if nat_lt p t.shape.max_entries then 1 else 0)
+  pub once : (p : ℕ) → occurrences p (values_of t.entries) + occurrences p t.kept ≤ (if nat_lt p t.shape.max_entries then 1 else 0)
   pub few : length t.entries + length t.kept ≤ t.shape.max_entries
   pub sized : IsSized t.shape.key_size t.entries
   pub indices : t.shape.kind ≡ Array → keys_of t.entries ≡ keys_of (indexed (λ i. i) 0 t.shape.max_entries)
@@ -47,8 +47,8 @@ pub record IsSound (t : PlaceTable) : Type 0 where
 -- a place that is not in use
 pub record IsFree (t : PlaceTable) (p : ℕ) : Type 0 where
   pub within : p < t.shape.max_entries
-  pub entries : times p (values_of t.entries) ≡ 0
-  pub kept : times p t.kept ≡ 0
+  pub entries : occurrences p (values_of t.entries) ≡ 0
+  pub kept : occurrences p t.kept ≡ 0
 
 abbrev pub with_place : PlaceTable → List ℕ → ℕ → PlaceTable
 with_place t key p = record { shape = t.shape; entries = with_key key p t.entries; kept = t.kept }

@@ -3,7 +3,7 @@
 ghost use Rattle.std.specs.Prelude.{◌≡◌, ℕ, ◌<◌, ◌≤◌, None, IfOk, IfSome, nat_lt, if◌then◌else◌, vec_len, vec_capacity, length, slice_get};
 ghost use Rattle.tagged_model.specs.declared.shape.MapKind.TheVariants.{Hash};
 ghost use Rattle.tagged_model.specs.Table.{look_up, of_absent, is_full, verdict, removal, next_of};
-ghost use Rattle.bpf_maps.specs.Places.{PlaceTable, table_of, IsSound, Claims, Removes, GivesKey, new_places, after_run, times};
+ghost use Rattle.bpf_maps.specs.Places.{PlaceTable, table_of, IsSound, Claims, Removes, GivesKey, new_places, after_run, occurrences};
 ghost use Rattle.bpf_maps.specs.inside.Keys.{key_of};
 
 use crate::part::KEY_ROOM;
@@ -176,7 +176,7 @@ fn copy_of(alloc: Global, key: &[u8]) -> Result<Vec<u8>, AllocError>
 
 /// All places below a number.
 fn all_places(alloc: Global, count: u32) -> Result<Vec<u32>, AllocError>
-    ensures once { IfOk result (λ all. (p : ℕ) → times p all.items
+    ensures once { IfOk result (λ all. (p : ℕ) → occurrences p all.items
         ≡ (if nat_lt p count then 1 else 0)) }
     ensures length { IfOk result (λ all. vec_len all ≡ count) }
     ensures room { IfOk result (λ all. count ≤ vec_capacity all) }

@@ -60,9 +60,9 @@ impl Model for Maps {
 
     ghost Value = { LiveMaps };
 
-    ghost use Rattle.bpf_maps.specs.InMaps.{seen, IsWellFormedMaps};
+    ghost use Rattle.bpf_maps.specs.InMaps.{as_live_maps, IsWellFormedMaps};
 
-    ghost view = { seen };
+    ghost view = { as_live_maps };
 
     ghost invariant = { IsWellFormedMaps };
 }
@@ -96,8 +96,8 @@ impl Maps {
         let _ = &self.slots;
     }
 
-    /// Makes a map, which one holds. Its area is the lowest that is free. A hash map has no key, and the values of an array
-    /// are zero bytes. The maps that were live stay as they are.
+    /// Makes a map, which one holds, with an area of its own in the tenant's part, `PART` bytes. A hash map has no key, and the
+    /// values of an array are zero bytes. The maps that were live stay as they are.
     ///
     /// # Errors
     ///
@@ -140,7 +140,7 @@ impl Maps {
         Ok(MapKey { number: key })
     }
 
-    /// One more holds the map.
+    /// One more holds the map, which fewer than 2^32 - 1 hold.
     pub fn hold(&mut self, map: MapKey)
         requires live { IsSome (live_at self.old map) }
         requires few { holds_at self.old map < 2 ^ 32 - 1 }

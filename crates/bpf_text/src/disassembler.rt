@@ -278,6 +278,10 @@ fn write_insn(text: &mut String, insn: &Insn) -> Result<(), AllocError>
 }
 
 /// The text of a program: an instruction on each line, numbers in decimal, jumps as numbers.
+///
+/// # Errors
+///
+/// `AllocError`: there is no memory for the text.
 pub fn disassemble(alloc: Global, program: &Program) -> Result<String, AllocError>
     ensures text { IfOk result (λ text. string_bytes text ≡ printed program.now) }
     // So `assemble` gives the program again.

@@ -18,6 +18,10 @@ use std::alloc::{AllocError, Global};
 use text_line::stripped;
 
 /// The slots of a program, one on each line, as sixteen lower-case hex digits and a line feed.
+///
+/// # Errors
+///
+/// `AllocError`: there is no memory for the text.
 pub fn hex_lines(alloc: Global, program: &Program) -> Result<String, AllocError>
     ensures text { IfOk result (λ text. string_bytes text ≡ hex_text (program_bytes program.now)) }
     // So `from_hex_lines` gives the slots again.

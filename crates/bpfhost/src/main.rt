@@ -1,17 +1,25 @@
 //! bpfhost: an eBPF host in user space. See the README.
 #![tactic(auto)]
 
-use host::run_words;
+use host::{refuse_unread_words, run_words};
 use std::process::ExitCode;
 use std::{env, io};
 
-fn main(rt: HostRuntime) -> io::Result<ExitCode> {
+/// Runs the program on its arguments. An error is one of reading them.
+fn run(rt: &HostRuntime) -> io::Result<u8> {
     let alloc = rt.alloc();
-    let given: Vec<String> = env::args(&rt)?.skip(1).collect(alloc)?;
+    let given: Vec<String> = env::args(rt)?.skip(1).collect(alloc)?;
     let arguments: Vec<&str> = given
         .iter()
         .map(|argument| argument.as_str())
         .collect(alloc)?;
-    let status = run_words(alloc, &arguments, rt.stdin(), rt.stdout(), rt.stderr());
-    Ok(ExitCode::from(status))
+    Ok(run_words(alloc, &arguments, rt.stdin(), rt.stdout(), rt.stderr()))
+}
+
+fn main(rt: HostRuntime) -> ExitCode {
+    let status = match run(&rt) {
+        Ok(status) => status,
+        Err(error) => refuse_unread_words(&error, rt.stderr()),
+    };
+    ExitCode::from(status)
 }

@@ -80,7 +80,7 @@ fn front(head: Head, status: i32, length: u32) -> [u8; FRONT_LENGTH]
     [a, b, c, d, e, f, g, h, i, j, k, l]
 }
 
-/// Leaves the bytes of a reply in the room for it.
+/// Leaves the bytes of a reply, whose payload has at most 4,096 bytes, in the room for it.
 pub fn write_reply(head: Head, status: i32, payload: &[u8], reply: &mut ReplyBuf)
     requires { length payload.now ≤ longest_payload }
     ensures { reply.new ≡ reply_bytes head.tenant head.command status payload.now }

@@ -165,6 +165,58 @@ impl HostPlayer {
         Ok(self.reply(&frame)?)
     }
 
+    /// The reply to the frame that a line asks for.
+    fn told(&mut self, word: &str, rest: &str) -> Result<String> {
+        let alloc = self.alloc;
+        match word {
+            "frame" => Ok(self.reply(&bytes_of(alloc, rest)?)?),
+            "create" => self.create(rest),
+            "lookup" => self.on_descriptor(MAP_LOOKUP_ELEM, rest),
+            "update" => self.update(rest),
+            "delete" => self.on_descriptor(MAP_DELETE_ELEM, rest),
+            "next" => self.on_descriptor(MAP_GET_NEXT_KEY, rest),
+            "close" => self.on_descriptor(CLOSE, rest),
+            "load" => {
+                let (tenant, text) = first_word(rest);
+                Ok(self.load(tenant.parse()?, &slots_of(alloc, text)?)?)
+            }
+            "slots" => {
+                let (tenant, digits) = first_word(rest);
+                Ok(self.load(tenant.parse()?, &bytes_of(alloc, digits)?)?)
+            }
+            "run" => self.run(rest),
+            _ => bail!("unknown line"),
+        }
+    }
+
+    /// The replies to lines that are parted by `|`.
+    fn round(&mut self, lines: &str) -> Result<String> {
+        let mut replies = String::new(self.alloc);
+        for line in lines.split('|') {
+            let (word, rest) = first_word(line.trim());
+            if !replies.is_empty() {
+                replies.push_str(" | ")?;
+            }
+            replies.push_str(&self.told(word, rest)?)?;
+        }
+        Ok(replies)
+    }
+
+    /// The replies to lines that are played so many times, where they are the same each time.
+    fn rounds(&mut self, rest: &str) -> Result<String> {
+        let alloc = self.alloc;
+        let (count, lines) = first_word(rest);
+        let count: u32 = count.parse()?;
+        let first = self.round(lines)?;
+        for number in 1..count {
+            let replies = self.round(lines)?;
+            if replies != first {
+                return Ok(format!(in alloc; "after {number} rounds: {replies}")?);
+            }
+        }
+        Ok(format!(in alloc; "{count} rounds: {first}")?)
+    }
+
     /// What a line's first word asks for; nothing where it has no answer.
     fn answer(&mut self, word: &str, rest: &str) -> Result<Option<String>> {
         let alloc = self.alloc;
@@ -177,26 +229,11 @@ impl HostPlayer {
                 self.words = bytes_of(alloc, rest)?;
                 return Ok(None);
             }
-            "frame" => self.reply(&bytes_of(alloc, rest)?)?,
-            "create" => self.create(rest)?,
-            "lookup" => self.on_descriptor(MAP_LOOKUP_ELEM, rest)?,
-            "update" => self.update(rest)?,
-            "delete" => self.on_descriptor(MAP_DELETE_ELEM, rest)?,
-            "next" => self.on_descriptor(MAP_GET_NEXT_KEY, rest)?,
-            "close" => self.on_descriptor(CLOSE, rest)?,
-            "load" => {
-                let (tenant, text) = first_word(rest);
-                self.load(tenant.parse()?, &slots_of(alloc, text)?)?
-            }
-            "slots" => {
-                let (tenant, digits) = first_word(rest);
-                self.load(tenant.parse()?, &bytes_of(alloc, digits)?)?
-            }
-            "run" => self.run(rest)?,
+            "rounds" => self.rounds(rest)?,
             "stream" => stream(alloc, rest)?,
             "cut" => cut(alloc, rest)?,
             "program" => program(alloc, rest)?,
-            _ => bail!("unknown line"),
+            _ => self.told(word, rest)?,
         };
         Ok(Some(answer))
     }

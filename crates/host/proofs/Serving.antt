@@ -7,7 +7,7 @@ use Rattle.std.proofs.lemmas.Grind.{flat_map-append}
 use Rattle.std.proofs.KnownBytes.{Consumes-nil, Consumes-trans, Appends-nil, Appends-trans}
 use Rattle.std.specs.List.{flat_map, AllByRecursion}
 use Rattle.std.specs.Io.KnownBytes.{Consumes, Appends, IsAtEnd}
-use Rattle.command_frames.specs.Frame.{owner, framed, IsFrame}
+use Rattle.command_frames.specs.Frame.{owner, framed, IsFrame, IsPartial}
 use Rattle.host.specs.inside.Reading.{IsKeptFrontOf}
 use Rattle.host.proofs.Stands.{stands_owner, stands_tells}
 use Rattle.tenant.specs.State.{TenantState}
@@ -15,7 +15,7 @@ use Rattle.tenant.specs.Alone.{frames_of, replies_of, MayReply, IsFault, AloneWi
 use Rattle.host.specs.declared.server.ServeFaultKind.{ServeFaultKind}
 use Rattle.host.specs.declared.server.ServeFaultKind.TheVariants.{Read, Write, Truncated, TooManyFrames, Memory}
 use Rattle.host.specs.Laws.{UnrefusedAreToldAlone}
-use Rattle.host.specs.Served.{EachIsToldByItsMachine, StreamState, NoCallFailed, Serves, ServesAlone, AnswersFrames, CutsLastReply, joined_replies, ServesToEnd, StopsWithFault}
+use Rattle.host.specs.Served.{EachIsToldByItsMachine, StreamState, NoCallFailed, Serves, ServesAlone, AnswersFrames, CutsLastReply, joined_replies, ServesToEnd, StopsWithFault, StopsAlone}
 use Rattle.host.specs.inside.Frame.{Handles, ServesOneFrame, ReadsOnly, ServesFrameOrEnds, StopsInFrame}
 
 alone_more : (a b c : Option TenantState) (frames others replies more : List (List ℕ)) → AloneWithRefusals a frames replies b → AloneWithRefusals b others more c → AloneWithRefusals a (frames ++ others) (replies ++ more) c
@@ -169,16 +169,43 @@ end_done old mid new count limit same answered sound read written states end mor
     (subst (λ (n : ℕ). AnswersFrames old new n []) same rest, end, sound_both old mid new sound more)
 
 -- each tenant was told what its machine alone tells it
-pub serves_alone : UnrefusedAreToldAlone → (old new : StreamState) (count : ℕ) → ServesToEnd old new count → ServesAlone old new count
-serves_alone law old new count ((frames, replies, many, s), end, sound) = record {
+answered_alone : UnrefusedAreToldAlone → (old new : StreamState) (count : ℕ) (rest : List ℕ) → IsPartial rest → AnswersFrames old new count rest → ServesAlone old new count rest
+answered_alone law old new count rest partial (frames, replies, many, s) = record {
   frames = frames;
   replies = replies;
+  each = s.each;
   many = (many, s.paired ∙ many);
-  read = subst (Consumes old.input new.input) (append-nil (flat_map framed frames)) s.read;
+  partial = partial;
+  read = s.read;
   written = s.written;
   alone = law old.states new.states frames replies s.served;
   no_fault = s.no_fault;
 }
+
+pub serves_alone : UnrefusedAreToldAlone → (old new : StreamState) (count : ℕ) → ServesToEnd old new count → ServesAlone old new count []
+serves_alone law old new count (answered, end, sound) = answered_alone law old new count [] (inl (lit≤ tt)) answered
+
+-- before anything is read nobody is told anything
+pub nothing_served : (m : StreamState) → ServesAlone m m 0 []
+nothing_served m = record {
+  frames = [];
+  replies = [];
+  each = tt;
+  many = (refl, refl);
+  partial = inl (lit≤ tt);
+  read = Consumes-nil m.input;
+  written = Appends-nil m.output;
+  alone = λ t unrefused. refl;
+  no_fault = tt;
+}
+
+pub stops_alone : UnrefusedAreToldAlone → (old new : StreamState) (kind : ServeFaultKind) (count : ℕ) → StopsWithFault old new kind count → StopsAlone old new kind count
+stops_alone law old new Read count (rest, partial, answered, failed) whole = (rest, answered_alone law old new count rest partial answered)
+stops_alone law old new Write count stopped whole = absurd (whole refl)
+stops_alone law old new Truncated count (rest, partial, some, answered, end, sound) whole = (rest, answered_alone law old new count rest partial answered)
+stops_alone law old new TooManyFrames count (byte, answered, sound) whole = (byte ∷ [], answered_alone law old new count (byte ∷ []) (inl (lit≤ tt)) answered)
+stops_alone law old new Memory count (none, same) whole =
+    ([], subst (λ (s : StreamState). ServesAlone old s count []) (sym same) (subst (λ (n : ℕ). ServesAlone old old n []) (sym none) (nothing_served old)))
 
 pub frame_more : (old mid new : StreamState) (count : ℕ) → AnswersFrames old mid count [] → NoCallFailed old mid → ServesFrameOrEnds mid new true → AnswersFrames old new (count + 1) [] × NoCallFailed old new
 frame_more old mid new count answered sound ((frame, reply, turn), more) = (answered_more old mid new count frame reply answered turn, sound_both old mid new sound more)
@@ -188,7 +215,7 @@ pub end_more : (old mid new : StreamState) (count limit byte : ℕ) → count �
     → new.output ≡ mid.output → new.states ≡ mid.states → NoCallFailed mid new → StopsWithFault old new TooManyFrames limit
 end_more old mid new count limit byte same answered sound read written states more =
     let rest = answered_rest old mid new count (byte ∷ []) answered (record { read = read; written = written; states = states }) in
-    (byte ∷ [], lit≤ tt, subst (λ (n : ℕ). AnswersFrames old new n (byte ∷ [])) same rest, sound_both old mid new sound more)
+    (byte, subst (λ (n : ℕ). AnswersFrames old new n (byte ∷ [])) same rest, sound_both old mid new sound more)
 
 -- or the call fails that would tell
 pub end_fails : (old mid new : StreamState) (count limit : ℕ) (kind : ServeFaultKind) → kind ≡ Read → count ≡ limit → AnswersFrames old mid count [] → NoCallFailed old mid

@@ -1,12 +1,12 @@
 -- What a call of `serve` did: the frames that it read, the replies to them, and where it stopped. This project's own.
-use Rattle.std.specs.Prelude.{◌≡◌, false, ℕ, ◌+◌, ◌<◌, List, [], ◌∷◌, ◌++◌, length, take, slice_get, Option, Some, None}
+use Rattle.std.specs.Prelude.{◌≡◌, ◌≢◌, false, ℕ, ◌+◌, ◌<◌, List, [], ◌∷◌, ◌++◌, length, take, slice_get, Option, Some, None}
 use Rattle.std.specs.List.{flat_map, AllByRecursion}
 use Rattle.std.specs.Io.KnownBytes.{Consumes, Appends, IsAtEnd}
 use Rattle.host.specs.declared.server.ServeFaultKind.{ServeFaultKind}
 use Rattle.host.specs.declared.server.ServeFaultKind.TheVariants.{Read, Write, Truncated, TooManyFrames, Memory}
 use Rattle.command_frames.specs.Frame.{framed, IsFrame, IsPartial}
 use Rattle.tenant.specs.State.{TenantState}
-use Rattle.tenant.specs.Alone.{frames_of, replies_of, IsFault, Alone, AloneWithRefusals}
+use Rattle.tenant.specs.Alone.{frames_of, replies_of, IsFault, IsToldAlone, AloneWithRefusals}
 
 -- ---- what the tenants are told
 
@@ -25,7 +25,7 @@ IsUnrefused (Some s) = s.refused ≡ false
 abbrev pub EachIsToldAlone : List TenantState → List (List ℕ) → List (List ℕ) → List TenantState → Type 0
 EachIsToldAlone before frames replies after =
     (t : ℕ) → IsUnrefused (slice_get after t)
-    → Alone (slice_get before t) (frames_of t frames) (replies_of t frames replies) (slice_get after t)
+    → IsToldAlone (slice_get before t) (frames_of t frames) (replies_of t frames replies) (slice_get after t)
 
 -- no test run faulted
 abbrev pub NoneFaults : List (List ℕ) → Type 0
@@ -75,13 +75,15 @@ AnswersFrames old new count rest =
     (frames : List (List ℕ)) × (replies : List (List ℕ)) × (length frames ≡ count)
     × Serves old new frames replies rest (joined_replies replies)
 
--- So many frames came in, and the replies to them went out, one after another. Each tenant was told what its machine alone
--- tells it, and no test run faulted.
-pub record ServesAlone (old new : StreamState) (count : ℕ) : Type 0 where
+-- So many frames came in, and then bytes that are no whole frame; the replies to the frames went out, one after another. Each
+-- tenant was told what its machine alone tells it, and no test run faulted.
+pub record ServesAlone (old new : StreamState) (count : ℕ) (rest : List ℕ) : Type 0 where
   pub frames : List (List ℕ)
   pub replies : List (List ℕ)
+  pub each : AllByRecursion IsFrame frames
   pub many : (length frames ≡ count) × (length replies ≡ count)
-  pub read : Consumes old.input new.input (flat_map framed frames)
+  pub partial : IsPartial rest
+  pub read : Consumes old.input new.input (flat_map framed frames ++ rest)
   pub written : Appends old.output new.output (joined_replies replies)
   pub alone : EachIsToldAlone old.states frames replies new.states
   pub no_fault : NoneFaults replies
@@ -103,5 +105,9 @@ StopsWithFault old new Read count =
 StopsWithFault old new Write count = CutsLastReply old new count × (old.write_failures < new.write_failures)
 StopsWithFault old new Truncated count =
     (rest : List ℕ) × IsPartial rest × (0 < length rest) × AnswersFrames old new count rest × IsAtEnd new.input × NoCallFailed old new
-StopsWithFault old new TooManyFrames count = (rest : List ℕ) × (0 < length rest) × AnswersFrames old new count rest × NoCallFailed old new
+StopsWithFault old new TooManyFrames count = (byte : ℕ) × AnswersFrames old new count (byte ∷ []) × NoCallFailed old new
 StopsWithFault old new Memory count = (count ≡ 0) × (new ≡ old)
+
+-- up to any fault but one that cuts a reply, the frames that are answered are served as those of a whole stream are
+abbrev pub StopsAlone : StreamState → StreamState → ServeFaultKind → ℕ → Type 0
+StopsAlone old new kind count = kind ≢ Write → (rest : List ℕ) × ServesAlone old new count rest

@@ -1,6 +1,6 @@
 //! What a caller can tell of a stream from the contracts alone.
 
-ghost use Rattle.std.specs.Prelude.{◌≤◌, ◌<◌, ◌-◌, ◌^◌, List, replicate, IfSome};
+ghost use Rattle.std.specs.Prelude.{◌≤◌, ◌<◌, ◌-◌, ◌^◌, List, [], replicate, IfSome};
 ghost use Rattle.tenant.specs.State.{TenantState, new_tenant};
 ghost use Rattle.host.specs.Served.{stream_state, ServesAlone};
 ghost use Rattle.host.specs.declared.host.TheConstants.{MOST_TENANTS};
@@ -25,7 +25,7 @@ fn serve_from_the_beginning<R: Source, W: Sink>(
         (stream_state R.remaining R.failures W.contents W.failures
         (replicate tenants new_tenant) reader.old writer.old)
         (stream_state R.remaining R.failures W.contents W.failures after reader.new writer.new)
-        count) }
+        count []) }
 {
     let mut host = Host::new(alloc, tenants).ok()?;
     serve(alloc, &mut host, reader, writer, 100).ok()

@@ -73,7 +73,11 @@ fn write_unserved(frame: &[u8], reply: &mut ReplyBuf)
 }
 
 impl Host {
-    /// A host for so many tenants, of which none has anything open. An error is want of memory.
+    /// A host for 1 to 16 tenants, of which none has anything open.
+    ///
+    /// # Errors
+    ///
+    /// `AllocError`: there is no memory for the tenants' parts.
     pub fn new(alloc: Global, tenants: usize) -> Result<Host, AllocError>
         requires some { 1 ≤ tenants }
         requires few { tenants ≤ MOST_TENANTS }

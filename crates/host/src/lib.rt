@@ -13,7 +13,7 @@ mod writing;
 pub use command_frames::ReplyBuf;
 pub use host::{Host, MOST_TENANTS};
 pub use laws::{same_frames_same_replies, unrefused_are_told_alone};
-pub use program::arguments::run_words;
+pub use program::arguments::{refuse_unread_words, run_words};
 pub use program::shapes::{BadShape, read_shape};
 pub use server::{MOST_FRAMES, ServeFault, ServeFaultKind, serve};
 pub use stream::{Counted, Sink, Source};

@@ -6,7 +6,7 @@ ghost use Rattle.std.specs.Io.KnownBytes.{IsAtEnd};
 ghost use Rattle.host.specs.declared.reading.TheConstants.{KEPT};
 ghost use Rattle.host.specs.declared.server.TheConstants.{MOST_FRAMES};
 ghost use Rattle.host.specs.inside.Reading.{Takes};
-ghost use Rattle.host.specs.Served.{stream_state, ServesToEnd, StopsWithFault, ServesAlone};
+ghost use Rattle.host.specs.Served.{stream_state, ServesToEnd, StopsWithFault, ServesAlone, StopsAlone};
 ghost use Rattle.host.specs.inside.Frame.{ServesFrameOrEnds, StopsInFrame};
 
 use crate::host::Host;
@@ -103,13 +103,14 @@ fn is_at_end<R: Source>(reader: &mut R) -> Result<bool, ServeFaultKind>
 }
 
 /// Serves a stream: reads a frame, handles it, writes its reply, sends it on, and goes on, until the input ends or as
-/// many frames are answered as the limit allows. It says how many.
+/// many frames are answered as the limit allows, which is at most 16,777,216. It says how many. Of the reader's calls, and of the
+/// writer's, fewer than 2^64 - 1 have failed before.
 ///
 /// # Errors
 ///
 /// `Read` and `Write` where a call of the reader or the writer failed; `Truncated` where the input ends inside a
-/// frame; `TooManyFrames` where another byte follows the last frame allowed; `Memory` where the buffers could not be
-/// had, before anything is read.
+/// frame; `TooManyFrames` where another byte, which is taken, follows the last frame allowed; `Memory` where the buffers could
+/// not be had, before anything is read.
 pub fn serve<R: Source, W: Sink>(
     alloc: Global,
     host: &mut Host,
@@ -127,9 +128,13 @@ pub fn serve<R: Source, W: Sink>(
     ensures alone { IfOk result (λ count. ServesAlone
         (stream_state R.remaining R.failures W.contents W.failures host.old reader.old writer.old)
         (stream_state R.remaining R.failures W.contents W.failures host.new reader.new writer.new)
-        count) }
+        count []) }
     ensures few { IfOk result (λ count. count ≤ limit) }
     ensures fault { IfErr result (λ fault. StopsWithFault
+        (stream_state R.remaining R.failures W.contents W.failures host.old reader.old writer.old)
+        (stream_state R.remaining R.failures W.contents W.failures host.new reader.new writer.new)
+        fault.kind fault.frames) }
+    ensures alone_before { IfErr result (λ fault. StopsAlone
         (stream_state R.remaining R.failures W.contents W.failures host.old reader.old writer.old)
         (stream_state R.remaining R.failures W.contents W.failures host.new reader.new writer.new)
         fault.kind fault.frames) }

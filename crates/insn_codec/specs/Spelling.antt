@@ -1,5 +1,5 @@
 -- What bytes spell an instruction: its one or two slots, RFC 9669, sections 3.1 and 3.2; its fields, sections 4 and 5.
-use Rattle.std.specs.Prelude.{◌≡◌, ℕ, ◌+◌, ◌/◌, ◌%◌, ◌^◌, ◌<◌, ◌≤◌, List, [], ◌∷◌, length, take, FitsSigned}
+use Rattle.std.specs.Prelude.{◌≡◌, ℕ, ◌+◌, ◌/◌, ◌%◌, ◌^◌, ◌==◌, ◌<◌, ◌≤◌, Bool, List, [], ◌∷◌, length, take, FitsSigned}
 use Rattle.std.specs.List.{flat_map}
 use Rattle.std.specs.Int.{w16, w32}
 use Rattle.insn_codec.specs.declared.slot.SlotFields.{SlotFields}
@@ -50,6 +50,10 @@ second _ = []
 
 abbrev pub slots : Insn → List SlotFields
 slots i = first i ∷ second i
+
+-- it takes two slots: section 3.2
+abbrev pub is_wide : Insn → Bool
+is_wide i = length (slots i) == 2
 
 -- its bytes
 unfoldable pub spelling : Insn → List ℕ

@@ -214,8 +214,7 @@ pub enum Insn {
 
 impl Insn {
     ghost use Rattle.std.specs.Prelude.{length};
-    ghost use Rattle.insn_codec.specs.Spelling.{slots, IsInsn};
-    ghost use Rattle.insn_codec.specs.inside.Code.{is_wide};
+    ghost use Rattle.insn_codec.specs.Spelling.{slots, is_wide, IsInsn};
 
     /// Whether it takes two slots (RFC 9669, section 3.2).
     pub fn is_wide(&self) -> bool

@@ -5,7 +5,7 @@ use Rattle.std.proofs.lemmas.Bool.{cond_both, eqb-true, eqb-false, ltb-true, ltb
 use Rattle.std.proofs.lemmas.Bool.Decides.{nat_tests}
 use Rattle.interval.specs.declared.range.Range.{Range}
 use Rattle.interval.specs.Ranges.{IsMember}
-use Rattle.interval.specs.Refine.{RangePair, turned, where_equal, where_different, where_above, where_at_most, IsPairOn, EdgePairs, edges, unchanged, refined}
+use Rattle.interval.specs.Refine.{RangePair, swapped, where_equal, where_different, where_above, where_at_most, IsPairOn, EdgePairs, edges, unchanged, refined}
 use Rattle.words.specs.declared.operator.Comparison.{Comparison}
 use Rattle.words.specs.declared.operator.Comparison.TheVariants.{Equal, NotEqual, Above, AboveOrEqual, Below, BelowOrEqual, SignedAbove, SignedAboveOrEqual, SignedBelow, SignedBelowOrEqual, CommonBit}
 use Rattle.words.specs.Operate.{operand}
@@ -24,7 +24,7 @@ at_most_keeps a b x y h k e = grind (arith, nat_tests)
 different_keeps : (a b : Range) (x y : ℕ) → IsMember x a → IsMember y b → x ≢ y → IsPairOn (where_different a b) x y
 different_keeps a b x y h k e = grind (arith, nat_tests)
 
-turned_keeps : (e : Option RangePair) (x y : ℕ) → IsPairOn e y x → IsPairOn (turned e) x y
+turned_keeps : (e : Option RangePair) (x y : ℕ) → IsPairOn e y x → IsPairOn (swapped e) x y
 turned_keeps None x y h = h
 turned_keeps (Some p) x y h = (h.1, h.0)
 
@@ -83,7 +83,7 @@ above_words a b p q = grind (arith, nat_tests)
 at_most_words : (a b : Range) → IsOfWords a → IsOfWords b → IsPairOfWords (where_at_most a b)
 at_most_words a b p q = grind (arith, nat_tests)
 
-turned_words : (e : Option RangePair) → IsPairOfWords e → IsPairOfWords (turned e)
+turned_words : (e : Option RangePair) → IsPairOfWords e → IsPairOfWords (swapped e)
 turned_words None h = h
 turned_words (Some p) h = (h.1, h.0)
 

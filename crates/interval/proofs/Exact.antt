@@ -9,16 +9,16 @@ use Rattle.words.specs.declared.operator.Operator.{Operator}
 use Rattle.words.specs.declared.operator.Operator.TheVariants.{Add, Sub, Mul, Div, SignedDiv, Or, And, ShiftLeft, ShiftRight, Mod, SignedMod, Xor, Mov, SignedShiftRight, Neg, SignExtend, End}
 use Rattle.words.specs.Operate.{combined, operate}
 use Rattle.interval.specs.Ranges.{IsMember, constant}
-use Rattle.interval.specs.Table.{are_constants, spread, result_range, seen, range_of}
+use Rattle.interval.specs.Table.{are_constants, general_range, result_range, operand_range, range_of}
 use Rattle.interval.proofs.Sound.{Sees, table_sound}
 
 pub from_constants : (n : ℕ) (op : Operator) (a b r : Range) (v : ℕ) → are_constants op a b ≡ true → v ≡ combined n op a.lo b.lo → r ≡ constant v → r ≡ result_range n op a b
 from_constants n op a b r v t e f =
-    f ∙ (ap constant e ∙ sym (cond-true (are_constants op a b) (constant (combined n op a.lo b.lo)) (spread n op a b) t))
+    f ∙ (ap constant e ∙ sym (cond-true (are_constants op a b) (constant (combined n op a.lo b.lo)) (general_range n op a b) t))
 
-pub from_spread : (n : ℕ) (op : Operator) (a b r : Range) → are_constants op a b ≡ false → r ≡ spread n op a b → r ≡ result_range n op a b
+pub from_spread : (n : ℕ) (op : Operator) (a b r : Range) → are_constants op a b ≡ false → r ≡ general_range n op a b → r ≡ result_range n op a b
 from_spread n op a b r t f =
-    f ∙ sym (cond-false (are_constants op a b) (constant (combined n op a.lo b.lo)) (spread n op a b) t)
+    f ∙ sym (cond-false (are_constants op a b) (constant (combined n op a.lo b.lo)) (general_range n op a b) t)
 
 -- each result of members is a member, by the table
 pub results_in : (n : ℕ) (op : Operator) (a b r : Range) → r ≡ range_of n op a b → 2 ^ n ≤ 2 ^ 64 → ((x : ℕ) → IsMember x a → Sees n a x) → ((y : ℕ) → IsMember y b → Sees n b y) → (x y : ℕ) → IsMember x a → IsMember y b → IsMember (operate n op x y) r
@@ -70,7 +70,7 @@ wide_result (End how kept) x y = refl
 abbrev pub IsNoEnd : Operator → Type 0
 IsNoEnd op = (how : OrderChange) (kept : KeptBits) → op ≡ End how kept → ⊥
 
-pub narrow_range : (op : Operator) (a b : Range) → IsNoEnd op → result_range 32 op (seen 32 a) (seen 32 b) ≡ range_of 32 op a b
+pub narrow_range : (op : Operator) (a b : Range) → IsNoEnd op → result_range 32 op (operand_range 32 a) (operand_range 32 b) ≡ range_of 32 op a b
 narrow_range Add a b f = refl
 narrow_range Sub a b f = refl
 narrow_range Mul a b f = refl

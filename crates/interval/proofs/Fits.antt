@@ -12,8 +12,8 @@ use Rattle.words.specs.declared.operator.Operator.{Operator}
 use Rattle.words.specs.declared.operator.Operator.TheVariants.{Add, Sub, Mul, Div, SignedDiv, Or, And, ShiftLeft, ShiftRight, Mod, SignedMod, Xor, Mov, SignedShiftRight, Neg, SignExtend, End}
 use Rattle.words.specs.Operate.{kept_bits, narrow_bits, combined, byte_order}
 use Rattle.interval.specs.Ranges.{IsMember, span, full, constant, is_constant}
-use Rattle.interval.specs.Table.{sum_range, difference_range, product_range, quotient_range, remainder_range, digits_end, binary_digits, scaled_range, shift_right_range, spread, are_constants, result_range, seen, range_of}
-use Rattle.interval.proofs.Sound.{spread_sound, byte_order_below}
+use Rattle.interval.specs.Table.{sum_range, difference_range, product_range, quotient_range, remainder_range, digits_end, binary_digits, scaled_range, shift_right_range, general_range, are_constants, result_range, operand_range, range_of}
+use Rattle.interval.proofs.Sound.{general_range_sound, byte_order_below}
 
 span_below : (p lo hi : ℕ) → lo < p → hi < p → (span lo hi).hi < p
 span_below p lo hi h k = omega arith
@@ -77,25 +77,25 @@ kept_below bits.Bits16 = omega arith
 kept_below bits.Bits32 = omega arith
 kept_below bits.Bits64 = omega arith
 
-spread_fits : (n : ℕ) (op : Operator) (a b : Range) → 2 ^ n ≤ 2 ^ 64 → a.hi < 2 ^ n → b.hi < 2 ^ n → (spread n op a b).hi < 2 ^ 64
-spread_fits n Add a b w p q = omega (arith, sum_fits n a b p q)
-spread_fits n Sub a b w p q = omega (arith, difference_fits n a b p q)
-spread_fits n Mul a b w p q = omega (arith, product_fits n a b)
-spread_fits n Div a b w p q = quotient_fits (2 ^ 64) a b (omega arith)
-spread_fits n SignedDiv a b w p q = omega (arith, full_below n)
-spread_fits n Or a b w p q = span_below _ _ _ (omega (arith, a.ordered, b.ordered)) (digits_below a b)
-spread_fits n And a b w p q = span_below _ _ _ (omega arith) (omega arith)
-spread_fits n ShiftLeft a b w p q = if_constant (2 ^ 64) b _ _ (omega (arith, scaled_fits n (b.lo % n) a)) (omega (arith, full_below n))
-spread_fits n ShiftRight a b w p q = shift_right_fits n (2 ^ 64) a b (omega arith)
-spread_fits n Mod a b w p q = remainder_fits (2 ^ 64) a b (omega arith)
-spread_fits n SignedMod a b w p q = omega (arith, full_below n)
-spread_fits n Xor a b w p q = span_below _ _ _ (omega arith) (digits_below a b)
-spread_fits n Mov a b w p q = omega arith
-spread_fits n SignedShiftRight a b w p q =
+general_range_fits : (n : ℕ) (op : Operator) (a b : Range) → 2 ^ n ≤ 2 ^ 64 → a.hi < 2 ^ n → b.hi < 2 ^ n → (general_range n op a b).hi < 2 ^ 64
+general_range_fits n Add a b w p q = omega (arith, sum_fits n a b p q)
+general_range_fits n Sub a b w p q = omega (arith, difference_fits n a b p q)
+general_range_fits n Mul a b w p q = omega (arith, product_fits n a b)
+general_range_fits n Div a b w p q = quotient_fits (2 ^ 64) a b (omega arith)
+general_range_fits n SignedDiv a b w p q = omega (arith, full_below n)
+general_range_fits n Or a b w p q = span_below _ _ _ (omega (arith, a.ordered, b.ordered)) (digits_below a b)
+general_range_fits n And a b w p q = span_below _ _ _ (omega arith) (omega arith)
+general_range_fits n ShiftLeft a b w p q = if_constant (2 ^ 64) b _ _ (omega (arith, scaled_fits n (b.lo % n) a)) (omega (arith, full_below n))
+general_range_fits n ShiftRight a b w p q = shift_right_fits n (2 ^ 64) a b (omega arith)
+general_range_fits n Mod a b w p q = remainder_fits (2 ^ 64) a b (omega arith)
+general_range_fits n SignedMod a b w p q = omega (arith, full_below n)
+general_range_fits n Xor a b w p q = span_below _ _ _ (omega arith) (digits_below a b)
+general_range_fits n Mov a b w p q = omega arith
+general_range_fits n SignedShiftRight a b w p q =
     if_lt (2 ^ 64) a.hi (2 ^ (n - 1)) _ _ (λ _. shift_right_fits n (2 ^ 64) a b (omega arith)) (omega (arith, full_below n))
-spread_fits n Neg a b w p q = omega (arith, full_below n)
-spread_fits n (SignExtend from) a b w p q = if_lt (2 ^ 64) b.hi (2 ^ (narrow_bits from - 1)) _ _ (λ _. omega arith) (omega (arith, full_below n))
-spread_fits n (End how kept) a b w p q = kept_below kept
+general_range_fits n Neg a b w p q = omega (arith, full_below n)
+general_range_fits n (SignExtend from) a b w p q = if_lt (2 ^ 64) b.hi (2 ^ (narrow_bits from - 1)) _ _ (λ _. omega arith) (omega (arith, full_below n))
+general_range_fits n (End how kept) a b w p q = kept_below kept
 
 end_fits : (how : OrderChange) (kept : KeptBits) (v : ℕ) → byte_order how kept v < 2 ^ 64
 end_fits how bits.Bits16 v = omega (arith, byte_order_below how bits.Bits16 v)
@@ -108,28 +108,28 @@ lowest r = record { from = omega arith; to = r.ordered }
 
 result_fits : (n : ℕ) (op : Operator) (a b : Range) → 2 ^ n ≤ 2 ^ 64 → a.hi < 2 ^ n → b.hi < 2 ^ n → (result_range n op a b).hi < 2 ^ 64
 result_fits n op a b w p q =
-    let some : IsMember (combined n op a.lo b.lo) (spread n op a b) = spread_sound n op a b a.lo b.lo w p q (lowest a) (lowest b) in
-    cond_both (are_constants op a b) (constant (combined n op a.lo b.lo)) (spread n op a b) (λ r. r.hi < 2 ^ 64)
-    (λ _. omega (arith, some.to, spread_fits n op a b w p q))
-    (λ _. spread_fits n op a b w p q)
+    let some : IsMember (combined n op a.lo b.lo) (general_range n op a b) = general_range_sound n op a b a.lo b.lo w p q (lowest a) (lowest b) in
+    cond_both (are_constants op a b) (constant (combined n op a.lo b.lo)) (general_range n op a b) (λ r. r.hi < 2 ^ 64)
+    (λ _. omega (arith, some.to, general_range_fits n op a b w p q))
+    (λ _. general_range_fits n op a b w p q)
 
-pub table_fits : (n : ℕ) (op : Operator) (a b : Range) → 2 ^ n ≤ 2 ^ 64 → (seen n a).hi < 2 ^ n → (seen n b).hi < 2 ^ n → (range_of n op a b).hi < 2 ^ 64
-table_fits n Add a b w p q = result_fits n Add (seen n a) (seen n b) w p q
-table_fits n Sub a b w p q = result_fits n Sub (seen n a) (seen n b) w p q
-table_fits n Mul a b w p q = result_fits n Mul (seen n a) (seen n b) w p q
-table_fits n Div a b w p q = result_fits n Div (seen n a) (seen n b) w p q
-table_fits n SignedDiv a b w p q = result_fits n SignedDiv (seen n a) (seen n b) w p q
-table_fits n Or a b w p q = result_fits n Or (seen n a) (seen n b) w p q
-table_fits n And a b w p q = result_fits n And (seen n a) (seen n b) w p q
-table_fits n ShiftLeft a b w p q = result_fits n ShiftLeft (seen n a) (seen n b) w p q
-table_fits n ShiftRight a b w p q = result_fits n ShiftRight (seen n a) (seen n b) w p q
-table_fits n Mod a b w p q = result_fits n Mod (seen n a) (seen n b) w p q
-table_fits n SignedMod a b w p q = result_fits n SignedMod (seen n a) (seen n b) w p q
-table_fits n Xor a b w p q = result_fits n Xor (seen n a) (seen n b) w p q
-table_fits n Mov a b w p q = result_fits n Mov (seen n a) (seen n b) w p q
-table_fits n SignedShiftRight a b w p q = result_fits n SignedShiftRight (seen n a) (seen n b) w p q
-table_fits n Neg a b w p q = result_fits n Neg (seen n a) (seen n b) w p q
-table_fits n (SignExtend from) a b w p q = result_fits n (SignExtend from) (seen n a) (seen n b) w p q
+pub table_fits : (n : ℕ) (op : Operator) (a b : Range) → 2 ^ n ≤ 2 ^ 64 → (operand_range n a).hi < 2 ^ n → (operand_range n b).hi < 2 ^ n → (range_of n op a b).hi < 2 ^ 64
+table_fits n Add a b w p q = result_fits n Add (operand_range n a) (operand_range n b) w p q
+table_fits n Sub a b w p q = result_fits n Sub (operand_range n a) (operand_range n b) w p q
+table_fits n Mul a b w p q = result_fits n Mul (operand_range n a) (operand_range n b) w p q
+table_fits n Div a b w p q = result_fits n Div (operand_range n a) (operand_range n b) w p q
+table_fits n SignedDiv a b w p q = result_fits n SignedDiv (operand_range n a) (operand_range n b) w p q
+table_fits n Or a b w p q = result_fits n Or (operand_range n a) (operand_range n b) w p q
+table_fits n And a b w p q = result_fits n And (operand_range n a) (operand_range n b) w p q
+table_fits n ShiftLeft a b w p q = result_fits n ShiftLeft (operand_range n a) (operand_range n b) w p q
+table_fits n ShiftRight a b w p q = result_fits n ShiftRight (operand_range n a) (operand_range n b) w p q
+table_fits n Mod a b w p q = result_fits n Mod (operand_range n a) (operand_range n b) w p q
+table_fits n SignedMod a b w p q = result_fits n SignedMod (operand_range n a) (operand_range n b) w p q
+table_fits n Xor a b w p q = result_fits n Xor (operand_range n a) (operand_range n b) w p q
+table_fits n Mov a b w p q = result_fits n Mov (operand_range n a) (operand_range n b) w p q
+table_fits n SignedShiftRight a b w p q = result_fits n SignedShiftRight (operand_range n a) (operand_range n b) w p q
+table_fits n Neg a b w p q = result_fits n Neg (operand_range n a) (operand_range n b) w p q
+table_fits n (SignExtend from) a b w p q = result_fits n (SignExtend from) (operand_range n a) (operand_range n b) w p q
 table_fits n (End how kept) a b w p q =
     cond_both (is_constant a) (constant (combined n (End how kept) a.lo b.lo)) (full (kept_bits kept)) (λ r. r.hi < 2 ^ 64)
     (λ _. end_fits how kept a.lo)

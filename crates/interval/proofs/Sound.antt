@@ -15,7 +15,7 @@ use Rattle.words.specs.declared.operator.Operator.TheVariants.{Add, Sub, Mul, Di
 use Rattle.words.specs.Words.{signed, unsigned, negate, signed_divide, signed_remainder, sign_extend}
 use Rattle.words.specs.Operate.{operand, combined, operate, byte_order, reversed_bytes, kept_bits, narrow_bits}
 use Rattle.interval.specs.Ranges.{IsMember, constant, is_constant, full}
-use Rattle.interval.specs.Table.{are_constants, spread, result_range, cut, seen, range_of}
+use Rattle.interval.specs.Table.{are_constants, general_range, result_range, range_modulo, operand_range, range_of}
 use Rattle.interval.proofs.Members.{in_full, in_constant, only_member, where_lt, where_constant}
 use Rattle.interval.proofs.Numbers.{below_pow}
 use Rattle.interval.proofs.SoundSums.{sum_sound, difference_sound, product_sound, quotient_sound, remainder_sound, by_divisor}
@@ -52,24 +52,24 @@ signed_remainder_sound : (n x y : ℕ) → x < 2 ^ n → IsMember (signed_remain
 signed_remainder_sound n x y h =
     by_divisor y x (unsigned n (signed n x -ℤ signed n y *ℤ int_div (signed n x) (signed n y))) (full n) (λ _. in_full n _ h) (λ _. in_full n _ (unsigned_below n _))
 
-pub spread_sound : (n : ℕ) (op : Operator) (a b : Range) (x y : ℕ) → 2 ^ n ≤ 2 ^ 64 → a.hi < 2 ^ n → b.hi < 2 ^ n → IsMember x a → IsMember y b → IsMember (combined n op x y) (spread n op a b)
-spread_sound n Add a b x y w p q h k = sum_sound n a b x y p q h k
-spread_sound n Sub a b x y w p q h k = difference_sound n a b x y p q h k
-spread_sound n Mul a b x y w p q h k = product_sound n a b x y h k
-spread_sound n Div a b x y w p q h k = quotient_sound a b x y h k
-spread_sound n SignedDiv a b x y w p q h k = signed_divide_sound n x y
-spread_sound n Or a b x y w p q h k = or_sound a b x y (omega arith) (omega arith) h k
-spread_sound n And a b x y w p q h k = and_sound a b x y h k
-spread_sound n ShiftLeft a b x y w p q h k = shift_left_sound n a b x y h k
-spread_sound n ShiftRight a b x y w p q h k = shift_right_sound n a b x y h k
-spread_sound n Mod a b x y w p q h k = remainder_sound a b x y h k
-spread_sound n SignedMod a b x y w p q h k = signed_remainder_sound n x y (omega arith)
-spread_sound n Xor a b x y w p q h k = xor_sound a b x y (omega arith) (omega arith) h k
-spread_sound n Mov a b x y w p q h k = k
-spread_sound n SignedShiftRight a b x y w p q h k = signed_shift_right_sound n a b x y p h k
-spread_sound n Neg a b x y w p q h k = in_full n _ (below_pow n _)
-spread_sound n (SignExtend from) a b x y w p q h k = sign_extend_sound n (narrow_bits from) b y q k
-spread_sound n (End how kept) a b x y w p q h k = in_full (kept_bits kept) _ (byte_order_below how kept x)
+pub general_range_sound : (n : ℕ) (op : Operator) (a b : Range) (x y : ℕ) → 2 ^ n ≤ 2 ^ 64 → a.hi < 2 ^ n → b.hi < 2 ^ n → IsMember x a → IsMember y b → IsMember (combined n op x y) (general_range n op a b)
+general_range_sound n Add a b x y w p q h k = sum_sound n a b x y p q h k
+general_range_sound n Sub a b x y w p q h k = difference_sound n a b x y p q h k
+general_range_sound n Mul a b x y w p q h k = product_sound n a b x y h k
+general_range_sound n Div a b x y w p q h k = quotient_sound a b x y h k
+general_range_sound n SignedDiv a b x y w p q h k = signed_divide_sound n x y
+general_range_sound n Or a b x y w p q h k = or_sound a b x y (omega arith) (omega arith) h k
+general_range_sound n And a b x y w p q h k = and_sound a b x y h k
+general_range_sound n ShiftLeft a b x y w p q h k = shift_left_sound n a b x y h k
+general_range_sound n ShiftRight a b x y w p q h k = shift_right_sound n a b x y h k
+general_range_sound n Mod a b x y w p q h k = remainder_sound a b x y h k
+general_range_sound n SignedMod a b x y w p q h k = signed_remainder_sound n x y (omega arith)
+general_range_sound n Xor a b x y w p q h k = xor_sound a b x y (omega arith) (omega arith) h k
+general_range_sound n Mov a b x y w p q h k = k
+general_range_sound n SignedShiftRight a b x y w p q h k = signed_shift_right_sound n a b x y p h k
+general_range_sound n Neg a b x y w p q h k = in_full n _ (below_pow n _)
+general_range_sound n (SignExtend from) a b x y w p q h k = sign_extend_sound n (narrow_bits from) b y q k
+general_range_sound n (End how kept) a b x y w p q h k = in_full (kept_bits kept) _ (byte_order_below how kept x)
 
 -- the members of constants are the constants
 both : (n : ℕ) (f : ℕ → ℕ → ℕ) (a b : Range) (x y : ℕ) → IsMember x a → IsMember y b → (is_constant a && is_constant b) ≡ true → f x y ≡ f a.lo b.lo
@@ -96,39 +96,39 @@ constants_agree n Neg a b x y h k t = ap (negate n) (only_member a x t h)
 constants_agree n (SignExtend from) a b x y h k t = ap (sign_extend n (narrow_bits from)) (only_member b y t k)
 constants_agree n (End how kept) a b x y h k t = ap (byte_order how kept) (only_member a x t h)
 
-in_result : (n : ℕ) (op : Operator) (a b : Range) (x y : ℕ) → IsMember x a → IsMember y b → IsMember (combined n op x y) (spread n op a b) → IsMember (combined n op x y) (result_range n op a b)
+in_result : (n : ℕ) (op : Operator) (a b : Range) (x y : ℕ) → IsMember x a → IsMember y b → IsMember (combined n op x y) (general_range n op a b) → IsMember (combined n op x y) (result_range n op a b)
 in_result n op a b x y h k s =
-    cond_both (are_constants op a b) (constant (combined n op a.lo b.lo)) (spread n op a b) (λ q. IsMember (combined n op x y) q)
+    cond_both (are_constants op a b) (constant (combined n op a.lo b.lo)) (general_range n op a b) (λ q. IsMember (combined n op x y) q)
     (λ t. in_constant _ _ (constants_agree n op a b x y h k t))
     (λ _. s)
 
 result_sound : (n : ℕ) (op : Operator) (a b : Range) (x y : ℕ) → 2 ^ n ≤ 2 ^ 64 → a.hi < 2 ^ n → b.hi < 2 ^ n → IsMember x a → IsMember y b → IsMember (combined n op x y) (result_range n op a b)
-result_sound n op a b x y w p q h k = in_result n op a b x y h k (spread_sound n op a b x y w p q h k)
+result_sound n op a b x y w p q h k = in_result n op a b x y h k (general_range_sound n op a b x y w p q h k)
 
 -- ---- the table on words
 
 -- what an operator on n bits sees of a member and of its range
 pub record Sees (n : ℕ) (r : Range) (x : ℕ) : Type 0 where
-  pub member : IsMember (operand n x) (seen n r)
-  pub below : (seen n r).hi < 2 ^ n
+  pub member : IsMember (operand n x) (operand_range n r)
+  pub below : (operand_range n r).hi < 2 ^ n
 
 pub table_sound : (n : ℕ) (op : Operator) (a b : Range) (x y : ℕ) → 2 ^ n ≤ 2 ^ 64 → IsMember x a → IsMember y b → Sees n a x → Sees n b y → IsMember (operate n op x y) (range_of n op a b)
-table_sound n Add a b x y w h k s r = result_sound n Add (seen n a) (seen n b) (operand n x) (operand n y) w s.below r.below s.member r.member
-table_sound n Sub a b x y w h k s r = result_sound n Sub (seen n a) (seen n b) (operand n x) (operand n y) w s.below r.below s.member r.member
-table_sound n Mul a b x y w h k s r = result_sound n Mul (seen n a) (seen n b) (operand n x) (operand n y) w s.below r.below s.member r.member
-table_sound n Div a b x y w h k s r = result_sound n Div (seen n a) (seen n b) (operand n x) (operand n y) w s.below r.below s.member r.member
-table_sound n SignedDiv a b x y w h k s r = result_sound n SignedDiv (seen n a) (seen n b) (operand n x) (operand n y) w s.below r.below s.member r.member
-table_sound n Or a b x y w h k s r = result_sound n Or (seen n a) (seen n b) (operand n x) (operand n y) w s.below r.below s.member r.member
-table_sound n And a b x y w h k s r = result_sound n And (seen n a) (seen n b) (operand n x) (operand n y) w s.below r.below s.member r.member
-table_sound n ShiftLeft a b x y w h k s r = result_sound n ShiftLeft (seen n a) (seen n b) (operand n x) (operand n y) w s.below r.below s.member r.member
-table_sound n ShiftRight a b x y w h k s r = result_sound n ShiftRight (seen n a) (seen n b) (operand n x) (operand n y) w s.below r.below s.member r.member
-table_sound n Mod a b x y w h k s r = result_sound n Mod (seen n a) (seen n b) (operand n x) (operand n y) w s.below r.below s.member r.member
-table_sound n SignedMod a b x y w h k s r = result_sound n SignedMod (seen n a) (seen n b) (operand n x) (operand n y) w s.below r.below s.member r.member
-table_sound n Xor a b x y w h k s r = result_sound n Xor (seen n a) (seen n b) (operand n x) (operand n y) w s.below r.below s.member r.member
-table_sound n Mov a b x y w h k s r = result_sound n Mov (seen n a) (seen n b) (operand n x) (operand n y) w s.below r.below s.member r.member
-table_sound n SignedShiftRight a b x y w h k s r = result_sound n SignedShiftRight (seen n a) (seen n b) (operand n x) (operand n y) w s.below r.below s.member r.member
-table_sound n Neg a b x y w h k s r = result_sound n Neg (seen n a) (seen n b) (operand n x) (operand n y) w s.below r.below s.member r.member
-table_sound n (SignExtend from) a b x y w h k s r = result_sound n (SignExtend from) (seen n a) (seen n b) (operand n x) (operand n y) w s.below r.below s.member r.member
+table_sound n Add a b x y w h k s r = result_sound n Add (operand_range n a) (operand_range n b) (operand n x) (operand n y) w s.below r.below s.member r.member
+table_sound n Sub a b x y w h k s r = result_sound n Sub (operand_range n a) (operand_range n b) (operand n x) (operand n y) w s.below r.below s.member r.member
+table_sound n Mul a b x y w h k s r = result_sound n Mul (operand_range n a) (operand_range n b) (operand n x) (operand n y) w s.below r.below s.member r.member
+table_sound n Div a b x y w h k s r = result_sound n Div (operand_range n a) (operand_range n b) (operand n x) (operand n y) w s.below r.below s.member r.member
+table_sound n SignedDiv a b x y w h k s r = result_sound n SignedDiv (operand_range n a) (operand_range n b) (operand n x) (operand n y) w s.below r.below s.member r.member
+table_sound n Or a b x y w h k s r = result_sound n Or (operand_range n a) (operand_range n b) (operand n x) (operand n y) w s.below r.below s.member r.member
+table_sound n And a b x y w h k s r = result_sound n And (operand_range n a) (operand_range n b) (operand n x) (operand n y) w s.below r.below s.member r.member
+table_sound n ShiftLeft a b x y w h k s r = result_sound n ShiftLeft (operand_range n a) (operand_range n b) (operand n x) (operand n y) w s.below r.below s.member r.member
+table_sound n ShiftRight a b x y w h k s r = result_sound n ShiftRight (operand_range n a) (operand_range n b) (operand n x) (operand n y) w s.below r.below s.member r.member
+table_sound n Mod a b x y w h k s r = result_sound n Mod (operand_range n a) (operand_range n b) (operand n x) (operand n y) w s.below r.below s.member r.member
+table_sound n SignedMod a b x y w h k s r = result_sound n SignedMod (operand_range n a) (operand_range n b) (operand n x) (operand n y) w s.below r.below s.member r.member
+table_sound n Xor a b x y w h k s r = result_sound n Xor (operand_range n a) (operand_range n b) (operand n x) (operand n y) w s.below r.below s.member r.member
+table_sound n Mov a b x y w h k s r = result_sound n Mov (operand_range n a) (operand_range n b) (operand n x) (operand n y) w s.below r.below s.member r.member
+table_sound n SignedShiftRight a b x y w h k s r = result_sound n SignedShiftRight (operand_range n a) (operand_range n b) (operand n x) (operand n y) w s.below r.below s.member r.member
+table_sound n Neg a b x y w h k s r = result_sound n Neg (operand_range n a) (operand_range n b) (operand n x) (operand n y) w s.below r.below s.member r.member
+table_sound n (SignExtend from) a b x y w h k s r = result_sound n (SignExtend from) (operand_range n a) (operand_range n b) (operand n x) (operand n y) w s.below r.below s.member r.member
 table_sound n (End how kept) a b x y w h k s r =
     in_result n (End how kept) a b x y h k (in_full (kept_bits kept) _ (byte_order_below how kept x))
 
@@ -137,12 +137,12 @@ pub sees_64 : (r : Range) (x : ℕ) → r.hi < 2 ^ 64 → IsMember x r → Sees 
 sees_64 r x p h = record { member = h; below = p }
 
 -- on 32 bits its low half
-pub cut_below : (r : Range) → (cut 32 r).hi < 2 ^ 32
+pub cut_below : (r : Range) → (range_modulo 32 r).hi < 2 ^ 32
 cut_below r =
     cond_both (nat_lt r.hi (2 ^ 32)) r (if is_constant r then constant (r.lo % 2 ^ 32) else full 32) (λ q. q.hi < 2 ^ 32) (λ t. ltb-true r.hi (2 ^ 32) t)
     (λ _. cond_both (is_constant r) (constant (r.lo % 2 ^ 32)) (full 32) (λ q. q.hi < 2 ^ 32) (λ _. below_pow 32 r.lo) (λ _. omega arith))
 
-cut_member : (r : Range) (x : ℕ) → IsMember x r → IsMember (x % 2 ^ 32) (cut 32 r)
+cut_member : (r : Range) (x : ℕ) → IsMember x r → IsMember (x % 2 ^ 32) (range_modulo 32 r)
 cut_member r x h =
     where_lt r.hi (2 ^ 32) r (if is_constant r then constant (r.lo % 2 ^ 32) else full 32) (x % 2 ^ 32)
     (λ small. let same : x % 2 ^ 32 ≡ x = mod-eq_of_lt (omega arith) in subst (λ v. IsMember v r) (sym same) h)

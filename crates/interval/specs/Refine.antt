@@ -11,13 +11,13 @@ use Rattle.interval.specs.Ranges.{span, is_constant, IsMember}
 abbrev pub RangePair : Type 0
 RangePair = Range × Range
 
-abbrev pub turned : Option RangePair → Option RangePair
-turned None = None
-turned (Some p) = Some (p.1, p.0)
+abbrev pub swapped : Option RangePair → Option RangePair
+swapped None = None
+swapped (Some p) = Some (p.1, p.0)
 
 -- r and not v, where the numbers that are left are a range
-abbrev pub without : Range → ℕ → Option Range
-without r v =
+abbrev pub except : Range → ℕ → Option Range
+except r v =
     if (r.lo == v) && (r.hi == v) then None else
     (if r.lo == v then Some (span (r.lo + 1) r.hi) else
     (if r.hi == v then Some (span r.lo (r.hi - 1)) else Some r))
@@ -32,8 +32,8 @@ where_equal a b =
 
 abbrev pub where_different : Range → Range → Option RangePair
 where_different a b =
-    if is_constant b then option_map (λ r. (r, b)) (without a b.lo) else
-    (if is_constant a then option_map (λ r. (a, r)) (without b a.lo) else Some (a, b))
+    if is_constant b then option_map (λ r. (r, b)) (except a b.lo) else
+    (if is_constant a then option_map (λ r. (a, r)) (except b a.lo) else Some (a, b))
 
 abbrev pub where_above : Range → Range → Option RangePair
 where_above a b =
@@ -56,8 +56,8 @@ edges Equal a b = (where_equal a b, where_different a b)
 edges NotEqual a b = (where_different a b, where_equal a b)
 edges Above a b = (where_above a b, where_at_most a b)
 edges BelowOrEqual a b = (where_at_most a b, where_above a b)
-edges Below a b = (turned (where_above b a), turned (where_at_most b a))
-edges AboveOrEqual a b = (turned (where_at_most b a), turned (where_above b a))
+edges Below a b = (swapped (where_above b a), swapped (where_at_most b a))
+edges AboveOrEqual a b = (swapped (where_at_most b a), swapped (where_above b a))
 edges SignedAbove a b = unchanged a b
 edges SignedAboveOrEqual a b = unchanged a b
 edges SignedBelow a b = unchanged a b

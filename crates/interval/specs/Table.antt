@@ -62,24 +62,24 @@ signed_shift_right_range n a b = if nat_lt a.hi (2 ^ (n - 1)) then shift_right_r
 abbrev pub sign_extend_range : ℕ → ℕ → Range → Range
 sign_extend_range n k b = if nat_lt b.hi (2 ^ (k - 1)) then b else full n
 
-abbrev pub spread : ℕ → Operator → Range → Range → Range
-spread n Add a b = sum_range n a b
-spread n Sub a b = difference_range n a b
-spread n Mul a b = product_range n a b
-spread n Div a b = quotient_range a b
-spread n SignedDiv a b = full n
-spread n Or a b = or_range a b
-spread n And a b = and_range a b
-spread n ShiftLeft a b = shift_left_range n a b
-spread n ShiftRight a b = shift_right_range n a b
-spread n Mod a b = remainder_range a b
-spread n SignedMod a b = full n
-spread n Xor a b = xor_range a b
-spread n Mov a b = b
-spread n SignedShiftRight a b = signed_shift_right_range n a b
-spread n Neg a b = full n
-spread n (SignExtend from) a b = sign_extend_range n (narrow_bits from) b
-spread n (End how kept) a b = full (kept_bits kept)
+abbrev pub general_range : ℕ → Operator → Range → Range → Range
+general_range n Add a b = sum_range n a b
+general_range n Sub a b = difference_range n a b
+general_range n Mul a b = product_range n a b
+general_range n Div a b = quotient_range a b
+general_range n SignedDiv a b = full n
+general_range n Or a b = or_range a b
+general_range n And a b = and_range a b
+general_range n ShiftLeft a b = shift_left_range n a b
+general_range n ShiftRight a b = shift_right_range n a b
+general_range n Mod a b = remainder_range a b
+general_range n SignedMod a b = full n
+general_range n Xor a b = xor_range a b
+general_range n Mov a b = b
+general_range n SignedShiftRight a b = signed_shift_right_range n a b
+general_range n Neg a b = full n
+general_range n (SignExtend from) a b = sign_extend_range n (narrow_bits from) b
+general_range n (End how kept) a b = full (kept_bits kept)
 
 -- ---- the table
 
@@ -93,14 +93,14 @@ are_constants op a b = is_constant a && is_constant b
 
 -- constants give a constant
 abbrev pub result_range : ℕ → Operator → Range → Range → Range
-result_range n op a b = if are_constants op a b then constant (combined n op a.lo b.lo) else spread n op a b
+result_range n op a b = if are_constants op a b then constant (combined n op a.lo b.lo) else general_range n op a b
 
 -- the numbers that an operator on n bits sees of a range of words
-abbrev pub cut : ℕ → Range → Range
-cut n r = if nat_lt r.hi (2 ^ n) then r else (if is_constant r then constant (r.lo % 2 ^ n) else full n)
+abbrev pub range_modulo : ℕ → Range → Range
+range_modulo n r = if nat_lt r.hi (2 ^ n) then r else (if is_constant r then constant (r.lo % 2 ^ n) else full n)
 
-abbrev pub seen : ℕ → Range → Range
-seen n r = if nat_lt n 64 then cut n r else r
+abbrev pub operand_range : ℕ → Range → Range
+operand_range n r = if nat_lt n 64 then range_modulo n r else r
 
 abbrev pub range_of : ℕ → Operator → Range → Range → Range
-range_of n op a b = result_range n op (seen (bits_read n op) a) (seen (bits_read n op) b)
+range_of n op a b = result_range n op (operand_range (bits_read n op) a) (operand_range (bits_read n op) b)

@@ -4,7 +4,7 @@ ghost use Rattle.std.specs.Prelude.{◌≡◌, ℕ, ◌<◌, ◌^◌};
 ghost use Rattle.words.specs.Widths.{bits_of};
 ghost use Rattle.words.specs.Operate.{operate, combined, kept_bits};
 ghost use Rattle.interval.specs.Ranges.{IsMember, full};
-ghost use Rattle.interval.specs.Table.{are_constants, spread, result_range, seen, range_of};
+ghost use Rattle.interval.specs.Table.{are_constants, general_range, result_range, operand_range, range_of};
 
 use crate::arithmetic::{difference, product, quotient, remainder, sum};
 use crate::bitwise::{and, exclusive_or, or};
@@ -21,7 +21,7 @@ pub fn alu64(op: Operator, a: Range, b: Range) -> Range
     if are_constants(op, a, b) {
         Range::constant(words64::operate(op, a.lo, b.lo))
     } else {
-        spread(true, op, a, b)
+        general_range(true, op, a, b)
     }
 }
 
@@ -39,13 +39,13 @@ pub fn alu32(op: Operator, a: Range, b: Range) -> Range
     if are_constants(op, a, b) {
         Range::constant(words32::operate(op, a.lo, b.lo))
     } else {
-        spread(false, op, a, b)
+        general_range(false, op, a, b)
     }
 }
 
 /// The low halves of members: all of them where some are cut and some differ.
 fn low_half(r: Range) -> Range
-    ensures value { result ≡ seen 32 r }
+    ensures value { result ≡ operand_range 32 r }
     ensures bound { result.hi < 2 ^ 32 }
 {
     if r.hi <= greatest(false) {
@@ -69,10 +69,10 @@ fn are_constants(op: Operator, a: Range, b: Range) -> bool
 }
 
 /// The range of the results, of operands that are not all constants.
-fn spread(wide: bool, op: Operator, a: Range, b: Range) -> Range
+fn general_range(wide: bool, op: Operator, a: Range, b: Range) -> Range
     requires first { a.hi < 2 ^ bits_of wide }
     requires second { b.hi < 2 ^ bits_of wide }
-    ensures { result ≡ spread (bits_of wide) op a b }
+    ensures { result ≡ general_range (bits_of wide) op a b }
 {
     match op {
         Operator::Add => sum(wide, a, b),

@@ -4,7 +4,7 @@ ghost use Rattle.std.specs.Prelude.{◌≡◌, ℕ, ◌+◌, ◌-◌, IsTrue, Is
 ghost use Rattle.words.specs.Widths.{bits_of};
 ghost use Rattle.words.specs.Compare.{compares};
 ghost use Rattle.interval.specs.Ranges.{IsMember};
-ghost use Rattle.interval.specs.Refine.{without, where_equal, where_different, where_above, where_at_most, refined, IsPairOn, turned};
+ghost use Rattle.interval.specs.Refine.{except, where_equal, where_different, where_above, where_at_most, refined, IsPairOn, swapped};
 
 use crate::range::{Range, greatest};
 use words::Comparison;
@@ -32,8 +32,8 @@ pub fn refine(comparison: Comparison, wide: bool, a: Range, b: Range) -> (Edge, 
         Comparison::NotEqual => (where_different(a, b), where_equal(a, b)),
         Comparison::Above => (where_above(a, b), where_at_most(a, b)),
         Comparison::BelowOrEqual => (where_at_most(a, b), where_above(a, b)),
-        Comparison::Below => (turned(where_above(b, a)), turned(where_at_most(b, a))),
-        Comparison::AboveOrEqual => (turned(where_at_most(b, a)), turned(where_above(b, a))),
+        Comparison::Below => (swapped(where_above(b, a)), swapped(where_at_most(b, a))),
+        Comparison::AboveOrEqual => (swapped(where_at_most(b, a)), swapped(where_above(b, a))),
         Comparison::SignedAbove
         | Comparison::SignedAboveOrEqual
         | Comparison::SignedBelow
@@ -43,8 +43,8 @@ pub fn refine(comparison: Comparison, wide: bool, a: Range, b: Range) -> (Edge, 
 }
 
 /// The operands in their other order.
-fn turned(edge: Edge) -> Edge
-    ensures { result ≡ turned edge }
+fn swapped(edge: Edge) -> Edge
+    ensures { result ≡ swapped edge }
 {
     match edge {
         Some((a, b)) => Some((b, a)),
@@ -70,10 +70,10 @@ fn where_different(a: Range, b: Range) -> Edge
     ensures { result ≡ where_different a b }
 {
     if b.is_constant() {
-        let rest = without(a, b.lo)?;
+        let rest = except(a, b.lo)?;
         Some((rest, b))
     } else if a.is_constant() {
-        let rest = without(b, a.lo)?;
+        let rest = except(b, a.lo)?;
         Some((a, rest))
     } else {
         Some((a, b))
@@ -81,8 +81,8 @@ fn where_different(a: Range, b: Range) -> Edge
 }
 
 /// The members other than one number, where they are a range.
-fn without(r: Range, value: u64) -> Option<Range>
-    ensures { result ≡ without r value }
+fn except(r: Range, value: u64) -> Option<Range>
+    ensures { result ≡ except r value }
 {
     if r.lo == value && r.hi == value {
         None

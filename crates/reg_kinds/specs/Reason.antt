@@ -31,6 +31,6 @@ number LengthUnbounded = 35
 number Memory = 40
 
 -- what follows from a value, unless there is none: then the reason stays
-abbrev pub given : {A B : Type 0} → Result A Reason → (A → Result B Reason) → Result B Reason
-given (Ok a) f = f a
-given (Err e) f = Err e
+abbrev pub and_then_ok : {A B : Type 0} → Result A Reason → (A → Result B Reason) → Result B Reason
+and_then_ok (Ok a) f = f a
+and_then_ok (Err e) f = Err e

@@ -11,7 +11,7 @@ use Rattle.reg_kinds.specs.declared.stack.AccessSize.{AccessSize}
 use Rattle.reg_kinds.specs.declared.stack.AccessSize.TheVariants.{Byte, Half, Word, Double}
 use Rattle.reg_kinds.specs.declared.reason.Reason.{Reason}
 use Rattle.reg_kinds.specs.declared.reason.Reason.TheVariants.{UnreadableRegister, OutsideStack, UnalignedStack, UnwrittenStack, PartOfSpill}
-use Rattle.reg_kinds.specs.Reason.{given}
+use Rattle.reg_kinds.specs.Reason.{and_then_ok}
 use Rattle.reg_kinds.specs.Kinds.{is_pointer, slot_at, stack_size, with_slot}
 
 abbrev pub bytes_of : AccessSize → ℕ
@@ -59,7 +59,7 @@ read_slot (Spill k) bits size signed = if is_whole size then Ok k else Err PartO
 read_slot (Bytes mask) bits size signed = if bit_and mask bits == bits then Ok (loaded size signed) else Err UnwrittenStack
 
 abbrev pub stack_read : Facts → ℤ → AccessSize → Bool → Result Kind Reason
-stack_read f offset size signed = given (touched offset size) (λ t. read_slot (slot_at f t.0) t.1 size signed)
+stack_read f offset size signed = and_then_ok (touched offset size) (λ t. read_slot (slot_at f t.0) t.1 size signed)
 
 -- ---- stores
 
@@ -75,8 +75,8 @@ slot_written s bits size k =
 
 -- facts after a store
 abbrev pub facts_written : Facts → AccessSize → Kind → ℕ × ℕ → Result Facts Reason
-facts_written f size k t = given (slot_written (slot_at f t.0) t.1 size k) (λ s. Ok (with_slot f t.0 s))
+facts_written f size k t = and_then_ok (slot_written (slot_at f t.0) t.1 size k) (λ s. Ok (with_slot f t.0 s))
 
 abbrev pub stack_write : Facts → ℤ → AccessSize → Kind → Result Facts Reason
 stack_write f offset size Unreadable = Err UnreadableRegister
-stack_write f offset size k = given (touched offset size) (facts_written f size k)
+stack_write f offset size k = and_then_ok (touched offset size) (facts_written f size k)

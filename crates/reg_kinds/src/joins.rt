@@ -76,13 +76,26 @@ pub fn join_into(facts: &mut Facts, edge: &Facts)
     join_stack(facts, edge);
 }
 
-/// Joins what is known of a value on a further edge into what is known so far, in place.
+/// Joins kinds that differ, and pointers into values of maps.
+#[cold]
+fn join_other_kinds(known: &mut Kind, edge: &Kind)
+    ensures { known.new ≡ kind_join known.old edge.now }
+{
+    *known = known.join(*edge);
+}
+
+/// Joins what is known of a value on a further edge into what is known so far, in place: where both are the same, as most
+/// are, nothing is written.
+#[inline(always)]
 fn join_kind(known: &mut Kind, edge: &Kind)
     ensures { known.new ≡ kind_join known.old edge.now }
 {
-    match known {
-        Kind::Unreadable => {}
-        _ => *known = known.join(*edge),
+    match (&mut *known, edge) {
+        (Kind::Unreadable, _) | (Kind::Ctx, Kind::Ctx) => {}
+        (Kind::Scalar(range), Kind::Scalar(other)) => *range = hull(*range, *other),
+        (Kind::Stack(x), Kind::Stack(y)) if *x == *y => {}
+        (Kind::MapRef(m), Kind::MapRef(n)) if *m == *n => {}
+        _ => join_other_kinds(known, edge),
     }
 }
 
@@ -95,14 +108,20 @@ fn join_registers(facts: &mut Facts, edge: &Facts)
     }
 }
 
-/// Joins what is known of eight bytes on a further edge into what is known so far: in place where both are bytes, as most
-/// are.
+/// Joins what is known of eight bytes on a further edge into what is known so far: in place where both are bytes, or values
+/// of which something is known on both sides.
 fn join_slot(known: &mut Slot, edge: &Slot)
     ensures { known.new ≡ slot_join known.old edge.now }
 {
     match (&mut *known, edge) {
         (Slot::Bytes(mask), Slot::Bytes(other)) => *mask &= *other,
-        _ => *known = known.join(*edge),
+        (Slot::Spill(kind), Slot::Spill(other)) => {
+            join_kind(kind, other);
+            if matches!(*kind, Kind::Unreadable) {
+                *known = Slot::Bytes(0);
+            }
+        }
+        _ => *known = Slot::Bytes(0),
     }
 }
 

@@ -1,14 +1,30 @@
-//! Readers and writers that fail.
+//! Readers and writers that fail, and streams that end anywhere.
 
-use host::{Counted, Host, ServeFault, ServeFaultKind, run_words, serve};
+ghost use Rattle.std.specs.Prelude.{◌≤◌};
+ghost use Rattle.host.specs.declared.server.TheConstants.{MOST_FRAMES};
+
+use host::{Counted, Host, ServeFault, ServeFaultKind, refuse_unread_words, run_words, serve};
 use std::alloc::Global;
 use std::io::{self, ErrorKind, Read, Write};
 use std::test::*;
 
-/// A frame of PROG_LOAD: `r0 = 1; exit`.
-const LOAD: [u8; 28] = [
+/// A frame of PROG_LOAD, `r0 = 1; exit`, and one of PROG_TEST_RUN of that program, without a packet.
+const LOAD_AND_RUN: [u8; 80] = [
     0x18, 0, 0, 0, 0, 0, 5, 0, 1, 0, 0, 0, 0xb7, 0, 0, 0, 1, 0, 0, 0, 0x95, 0, 0, 0, 0, 0, 0, 0,
+    0x30, 0, 0, 0, 0, 0, 10, 0, 3, 0, 0, 0, 0, 0, 0, 0, 0, 0, 0, 0, 0, 0, 0, 0, 0, 0, 0, 0, 0, 0,
+    0, 0, 0, 0, 0, 0, 0, 0, 0, 0, 0, 0, 0, 0, 0, 0, 0, 0, 0, 0, 0, 0,
 ];
+
+/// Where the first of these frames ends.
+const FIRST_FRAME: usize = 28;
+
+/// The replies to them: descriptor 3, and the result 1.
+const REPLIES: [u8; 28] = [
+    8, 0, 0, 0, 0, 0, 5, 0, 3, 0, 0, 0, 12, 0, 0, 0, 0, 0, 10, 0, 0, 0, 0, 0, 1, 0, 0, 0,
+];
+
+/// Where the first of the replies ends.
+const FIRST_REPLY: usize = 12;
 
 /// A reader that gives these bytes one by one, and then fails.
 #[derive(Drop)]
@@ -30,15 +46,37 @@ impl Read for Broken<'_> {
     }
 }
 
-/// A writer that takes so many bytes, and then none.
+/// A reader that gives one frame of three bytes after another, byte by byte, and never ends.
 #[derive(Drop)]
-struct NarrowWriter {
-    room: usize,
+struct Endless {
+    at: usize,
 }
 
-impl Write for NarrowWriter {
+impl Read for Endless {
+    fn read(&mut self, buf: &mut [u8]) -> io::Result<usize> {
+        const FRAME: [u8; 7] = [3, 0, 0, 0, 0xaa, 0xbb, 0xcc];
+        if buf.is_empty() {
+            return Ok(0);
+        }
+        let place = self.at % FRAME.len();
+        buf[0] = FRAME[place];
+        self.at = place + 1;
+        Ok(1)
+    }
+}
+
+/// A writer that takes so many bytes, and then none; at each call it takes no more than another number.
+#[derive(Drop)]
+struct NarrowWriter<'a> {
+    room: usize,
+    at_once: usize,
+    written: &'a mut Vec<u8>,
+}
+
+impl Write for NarrowWriter<'_> {
     fn write(&mut self, buf: &[u8]) -> io::Result<usize> {
-        let taken = buf.len().min(self.room);
+        let taken = buf.len().min(self.room).min(self.at_once);
+        self.written.extend_from_slice(&buf[..taken])?;
         self.room -= taken;
         Ok(taken)
     }
@@ -50,10 +88,13 @@ impl Write for NarrowWriter {
 
 /// A writer that takes all bytes, and whose flush fails.
 #[derive(Drop)]
-struct Stuck;
+struct Stuck<'a> {
+    written: &'a mut Vec<u8>,
+}
 
-impl Write for Stuck {
+impl Write for Stuck<'_> {
     fn write(&mut self, buf: &[u8]) -> io::Result<usize> {
+        self.written.extend_from_slice(buf)?;
         Ok(buf.len())
     }
 
@@ -62,59 +103,155 @@ impl Write for Stuck {
     }
 }
 
-/// How `serve` ends on two loads, and how many calls of the writer failed, by what it writes to.
+/// The first of some bytes, so many.
+fn front(bytes: &[u8], count: usize) -> &[u8] {
+    bytes.get(..count).unwrap_or(bytes)
+}
+
+/// How `serve` ends for two tenants, what it wrote, and how many calls of the reader failed.
+fn served_from<R: Read + Drop>(
+    alloc: Global,
+    input: R,
+    limit: u32,
+) -> Result<(Result<u32, ServeFault>, Vec<u8>, u64), Fail>
+    requires { limit ≤ MOST_FRAMES }
+{
+    let mut host = Host::new(alloc, 2)?;
+    let mut reader = Counted::new(input);
+    let mut writer = Counted::new(Vec::new(alloc));
+    let end = serve(alloc, &mut host, &mut reader, &mut writer, limit);
+    Ok((end, writer.into_inner(), reader.failures()))
+}
+
+/// How `serve` ends on a load and a run, and how many calls of the writer failed, by what it writes to.
 fn served_to<W: Write + Drop>(
     alloc: Global,
     output: W,
 ) -> Result<(Result<u32, ServeFault>, u64), Fail> {
-    let mut input = Vec::from_slice(alloc, &LOAD)?;
-    input.extend_from_slice(&LOAD)?;
     let mut host = Host::new(alloc, 2)?;
-    let mut reader = Counted::new(input.as_slice());
+    let mut reader = Counted::new(LOAD_AND_RUN.as_slice());
     let mut writer = Counted::new(output);
     let end = serve(alloc, &mut host, &mut reader, &mut writer, 100);
     Ok((end, writer.failures()))
 }
 
-/// A failed write, after so many frames.
-fn write_fault(frames: u32) -> Result<u32, ServeFault> {
-    Err(ServeFault {
-        kind: ServeFaultKind::Write,
-        frames,
-    })
+/// A fault of one kind, after so many frames.
+fn fault(kind: ServeFaultKind, frames: u32) -> Result<u32, ServeFault> {
+    Err(ServeFault { kind, frames })
+}
+
+/// How `serve` ends on so many bytes of a load and a run, and how many bytes it writes.
+fn end_of_cut(length: usize) -> (Result<u32, ServeFault>, usize) {
+    let frames = if length < FIRST_FRAME { 0 } else { 1 };
+    match length {
+        0 => (Ok(0), 0),
+        FIRST_FRAME => (Ok(1), FIRST_REPLY),
+        80 => (Ok(2), REPLIES.len()),
+        _ => (
+            fault(ServeFaultKind::Truncated, frames),
+            if frames == 0 { 0 } else { FIRST_REPLY },
+        ),
+    }
 }
 
 #[test]
-fn a_reader_that_fails(rt: HostRuntime) -> Result<(), Fail> {
-    let alloc = rt.alloc();
-    let mut host = Host::new(alloc, 2)?;
-    let mut reader = Counted::new(Broken { bytes: &LOAD });
-    let mut writer = Counted::new(Vec::new(alloc));
-    let end = serve(alloc, &mut host, &mut reader, &mut writer, 100);
-    let fault = ServeFault {
-        kind: ServeFaultKind::Read,
-        frames: 1,
-    };
-    assert_eq!(rt; end, Err(fault));
-    assert_eq!(rt; reader.failures(), 1);
-    assert_eq!(rt; writer.into_inner().len(), 12);
+fn a_stream_that_is_cut_anywhere(rt: HostRuntime) -> Result<(), Fail> {
+    for length in 0..=LOAD_AND_RUN.len() {
+        let (end, output, failures) = served_from(rt.alloc(), front(&LOAD_AND_RUN, length), 100)?;
+        let (wanted, written) = end_of_cut(length);
+        assert_eq!(rt; end, wanted, "cut after {length}");
+        assert_eq!(rt; output.as_slice(), front(&REPLIES, written));
+        assert_eq!(rt; failures, 0);
+    }
     Ok(())
 }
 
 #[test]
-fn a_writer_that_takes_no_more(rt: HostRuntime) -> Result<(), Fail> {
-    for (room, frames) in [(5, 0), (12, 1), (17, 1)] {
-        let (end, failures) = served_to(rt.alloc(), NarrowWriter { room })?;
-        assert_eq!(rt; end, write_fault(frames), "room for {room}");
+fn a_reader_that_fails(rt: HostRuntime) -> Result<(), Fail> {
+    for (length, frames, written) in [(0, 0, 0), (5, 0, 0), (28, 1, 12), (40, 1, 12)] {
+        let input = Broken {
+            bytes: front(&LOAD_AND_RUN, length),
+        };
+        let (end, output, failures) = served_from(rt.alloc(), input, 100)?;
+        assert_eq!(rt; end, fault(ServeFaultKind::Read, frames), "after {length}");
+        assert_eq!(rt; output.as_slice(), front(&REPLIES, written));
         assert_eq!(rt; failures, 1);
     }
     Ok(())
 }
 
 #[test]
+fn a_reader_that_never_ends(rt: HostRuntime) -> Result<(), Fail> {
+    // Each frame is too short for a head: EINVAL, to nobody.
+    const REPLY: [u8; 12] = [8, 0, 0, 0, 255, 255, 255, 255, 234, 255, 255, 255];
+    let (end, output, _) = served_from(rt.alloc(), Endless { at: 0 }, 5)?;
+    assert_eq!(rt; end, fault(ServeFaultKind::TooManyFrames, 5));
+    assert_eq!(rt; output.len(), 5 * REPLY.len());
+    for reply in output.chunks(REPLY.len()) {
+        assert_eq!(rt; reply, REPLY.as_slice());
+    }
+    Ok(())
+}
+
+#[test]
+fn no_frame_is_allowed(rt: HostRuntime) -> Result<(), Fail> {
+    let (end, output, _) = served_from(rt.alloc(), [].as_slice(), 0)?;
+    assert_eq!(rt; end, Ok(0));
+    assert!(rt; output.is_empty());
+    let (end, output, _) = served_from(rt.alloc(), [24].as_slice(), 0)?;
+    assert_eq!(rt; end, fault(ServeFaultKind::TooManyFrames, 0));
+    assert!(rt; output.is_empty());
+    Ok(())
+}
+
+#[test]
+fn a_writer_that_takes_no_more(rt: HostRuntime) -> Result<(), Fail> {
+    for room in 0..REPLIES.len() {
+        let mut written = Vec::new(rt.alloc());
+        let output = NarrowWriter {
+            room,
+            at_once: usize::MAX,
+            written: &mut written,
+        };
+        let (end, failures) = served_to(rt.alloc(), output)?;
+        let frames = if room < FIRST_REPLY { 0 } else { 1 };
+        assert_eq!(rt;
+            end,
+            fault(ServeFaultKind::Write, frames),
+            "room for {room}"
+        );
+        assert_eq!(rt; written.as_slice(), front(&REPLIES, room));
+        assert_eq!(rt; failures, 1);
+    }
+    Ok(())
+}
+
+#[test]
+fn a_writer_that_takes_five_bytes_at_once(rt: HostRuntime) -> Result<(), Fail> {
+    let mut written = Vec::new(rt.alloc());
+    let output = NarrowWriter {
+        room: usize::MAX,
+        at_once: 5,
+        written: &mut written,
+    };
+    let (end, failures) = served_to(rt.alloc(), output)?;
+    assert_eq!(rt; end, Ok(2));
+    assert_eq!(rt; written.as_slice(), REPLIES.as_slice());
+    assert_eq!(rt; failures, 0);
+    Ok(())
+}
+
+#[test]
 fn a_writer_that_sends_nothing_on(rt: HostRuntime) -> Result<(), Fail> {
-    let (end, failures) = served_to(rt.alloc(), Stuck)?;
-    assert_eq!(rt; end, write_fault(0));
+    let mut written = Vec::new(rt.alloc());
+    let (end, failures) = served_to(
+        rt.alloc(),
+        Stuck {
+            written: &mut written,
+        },
+    )?;
+    assert_eq!(rt; end, fault(ServeFaultKind::Write, 0));
+    assert_eq!(rt; written.as_slice(), front(&REPLIES, FIRST_REPLY));
     assert_eq!(rt; failures, 1);
     Ok(())
 }
@@ -145,11 +282,39 @@ fn a_text_that_is_not_read(rt: HostRuntime) -> Result<(), Fail> {
 #[test]
 fn a_text_that_is_not_written(rt: HostRuntime) -> Result<(), Fail> {
     let alloc = rt.alloc();
-    let (status, line) = assembled(alloc, b"exit".as_slice(), NarrowWriter { room: 5 })?;
+    let mut written = Vec::new(alloc);
+    let output = NarrowWriter {
+        room: 5,
+        at_once: usize::MAX,
+        written: &mut written,
+    };
+    let (status, line) = assembled(alloc, b"exit".as_slice(), output)?;
     assert_eq!(rt; status, 3);
     assert_eq!(rt; line.as_str(), "write fault\n");
-    let (status, line) = assembled(alloc, b"exit".as_slice(), Stuck)?;
+    let output = Stuck {
+        written: &mut written,
+    };
+    let (status, line) = assembled(alloc, b"exit".as_slice(), output)?;
     assert_eq!(rt; status, 3);
     assert_eq!(rt; line.as_str(), "write fault\n");
+    Ok(())
+}
+
+/// The status and the fault line where the arguments can't be read for this reason.
+fn unread(alloc: Global, kind: ErrorKind) -> Result<(u8, String), Fail> {
+    let mut faults = Vec::new(alloc);
+    let status = refuse_unread_words(&io::Error::from(kind), &mut faults);
+    let line = String::from_utf8(faults).map_err(|_| "a fault line is text")?;
+    Ok((status, line))
+}
+
+#[test]
+fn arguments_that_are_not_read(rt: HostRuntime) -> Result<(), Fail> {
+    let (status, line) = unread(rt.alloc(), ErrorKind::InvalidData)?;
+    assert_eq!(rt; status, 2);
+    assert_eq!(rt; line.as_str(), "wrong words\n");
+    let (status, line) = unread(rt.alloc(), ErrorKind::OutOfMemory)?;
+    assert_eq!(rt; status, 4);
+    assert_eq!(rt; line.as_str(), "out of memory\n");
     Ok(())
 }

@@ -3,7 +3,7 @@ use Rattle.std.proofs.Common.{◌≡◌, ℕ, zero, suc, ◌+◌, ◌*◌, ◌^�
 use Rattle.std.proofs.Math.Nat.{pow-suc}
 use Rattle.std.specs.List.{All}
 use Rattle.words.specs.Bytes.{number_of}
-use Rattle.tagged_model.specs.Cells.{Cell, also, byte_at, gathered}
+use Rattle.tagged_model.specs.Cells.{Cell, and_then, byte_at, gathered}
 
 -- all that stands in the cell is a byte
 abbrev pub AreBytes : Cell → Type 0
@@ -27,7 +27,7 @@ none_read byte p = refl
 
 one_more_read : (byte : ℕ → Option ℕ) (p n b : ℕ) (bs : List ℕ) → byte p ≡ Some b → gathered byte (suc p) n ≡ Some bs → gathered byte p (suc n) ≡ Some (b ∷ bs)
 unfolding gathered
-one_more_read byte p n b bs e f = ap (λ o. also o (λ x. also (gathered byte (suc p) n) (λ xs. Some (x ∷ xs)))) e ∙ ap (λ o. also o (λ xs. Some (b ∷ xs))) f
+one_more_read byte p n b bs e f = ap (λ o. and_then o (λ x. and_then (gathered byte (suc p) n) (λ xs. Some (x ∷ xs)))) e ∙ ap (λ o. and_then o (λ xs. Some (b ∷ xs))) f
 
 one_more_small : (b x n : ℕ) → b < 256 → x < 256 ^ n → b + 256 * x < 256 ^ suc n
 one_more_small b x n h g = rw pow-suc (omega arith)

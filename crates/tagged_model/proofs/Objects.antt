@@ -8,7 +8,7 @@ use Rattle.std.proofs.lemmas.List.Elements.{All-append, All-take, All-drop}
 use Rattle.words.specs.Bytes.{bytes_at, written_at}
 use Rattle.reg_kinds.specs.declared.facts.Facts.{Facts}
 use Rattle.tagged_model.specs.declared.shape.MapShape.{MapShape}
-use Rattle.tagged_model.specs.Cells.{also}
+use Rattle.tagged_model.specs.Cells.{and_then}
 use Rattle.tagged_model.specs.State.{RunState, RunMap, set_at, value_bytes, value_written, with_value, with_map, object_bytes, object_written}
 use Rattle.tagged_model.specs.Admits.{Witness, AdmitsBy, objects_of, AreBytes, IsInRange, IsMapOf, HasMaps}
 use Rattle.tagged_model.specs.Laws.{IsObject}
@@ -94,7 +94,7 @@ module _ (s : RunState) (m number : ℕ) (shape : MapShape) (proper : IsInRange 
   pub object_read : (y : ℤ) (n : ℕ) → pos 0 ≤ℤ y → (y +ℤ pos n) ≤ℤ pos shape.value_size → (bs : List ℕ) × (object_bytes s m number y n ≡ Some bs) × (length bs ≡ n) × AreBytes bs
   object_read y n low high =
       let r = value_read (object.map.values number) all y n low (subst (λ k. (y +ℤ pos n) ≤ℤ pos k) (sym size) high) in
-      (r.0, ap (λ o. also o (λ t. value_bytes (t.values number) y n)) object.there ∙ r.1, r.2, r.3)
+      (r.0, ap (λ o. and_then o (λ t. value_bytes (t.values number) y n)) object.there ∙ r.1, r.2, r.3)
 
   pub object_over : (witness : Witness) (f : Facts) (shapes : ℕ → Option MapShape) (y : ℤ) (bs : List ℕ) → AdmitsBy witness f s → HasMaps shapes s → AreBytes bs → pos 0 ≤ℤ y → (y +ℤ pos (length bs)) ≤ℤ pos shape.value_size
       → (u : RunState) × (object_written s m number y bs ≡ Some u) × AdmitsBy witness f u × IsInRange u × HasMaps shapes u × (u.at ≡ s.at)
@@ -103,8 +103,8 @@ module _ (s : RunState) (m number : ℕ) (shape : MapShape) (proper : IsInRange 
       let r = value_over (t.values number) all y bs news low (subst (λ k. (y +ℤ pos (length bs)) ≤ℤ pos k) (sym size) high) in
       let u = with_value t number r.0 in (
         with_map s m u,
-        ap (λ o. also o (λ t. also (value_written (t.values number) y bs) (λ value. Some (with_map s m (with_value t number value))))) object.there
-            ∙ ap (λ o. also o (λ value. Some (with_map s m (with_value t number value)))) r.1,
+        ap (λ o. and_then o (λ t. and_then (value_written (t.values number) y bs) (λ value. Some (with_map s m (with_value t number value))))) object.there
+            ∙ ap (λ o. and_then o (λ value. Some (with_map s m (with_value t number value)))) r.1,
         map_admits s m t u object.there witness f (omega arith) admits,
         map_proper s m t u object.there (values_small t number r.0 r.3 (proper.values m t object.there)) proper,
         map_kept s m t u object.there shapes (λ other is. value_kept s m t u object.there number r.0 other (λ lt. r.2 ∙ is.sized number lt) refl is) maps,

@@ -5,7 +5,7 @@ use Rattle.reg_kinds.specs.declared.reason.Reason.{Reason}
 use Rattle.reg_kinds.specs.declared.reason.Reason.TheVariants.{OutsideStack, UnalignedStack}
 use Rattle.reg_kinds.specs.declared.stack.AccessSize.{AccessSize}
 use Rattle.reg_kinds.specs.declared.stack.AccessSize.TheVariants.{Byte, Half, Word, Double}
-use Rattle.reg_kinds.specs.Reason.{given}
+use Rattle.reg_kinds.specs.Reason.{and_then_ok}
 use Rattle.reg_kinds.specs.Stack.{bytes_of, is_in_stack, is_aligned, place, byte_bits, touched}
 use Rattle.tagged_model.specs.State.{stack_place}
 
@@ -23,19 +23,19 @@ chosen true x y r e = (refl, same_ok x y e)
 chosen false x y r e = absurd (refused r y e)
 
 -- what goes ahead after a step has gone ahead
-pub given_ok : {A B : Type 0} (r : Result A Reason) (f : A → Result B Reason) (y : B) → given r f ≡ Ok y → (x : A) × (r ≡ Ok x) × (f x ≡ Ok y)
+pub given_ok : {A B : Type 0} (r : Result A Reason) (f : A → Result B Reason) (y : B) → and_then_ok r f ≡ Ok y → (x : A) × (r ≡ Ok x) × (f x ≡ Ok y)
 given_ok (Ok x) f y e = (x, refl, e)
 given_ok (Err r) f y e = absurd (refused r y e)
 
 -- ---- places
 
-after_tests : {B : Type 0} (a b : Bool) (t : ℕ × ℕ) (f : ℕ × ℕ → Result B Reason) (y : B) → given (if not a then Err OutsideStack else (if not b then Err UnalignedStack else Ok t)) f ≡ Ok y → (a ≡ true) × (b ≡ true) × (f t ≡ Ok y)
+after_tests : {B : Type 0} (a b : Bool) (t : ℕ × ℕ) (f : ℕ × ℕ → Result B Reason) (y : B) → and_then_ok (if not a then Err OutsideStack else (if not b then Err UnalignedStack else Ok t)) f ≡ Ok y → (a ≡ true) × (b ≡ true) × (f t ≡ Ok y)
 after_tests true true t f y e = (refl, refl, e)
 after_tests true false t f y e = absurd (refused UnalignedStack y e)
 after_tests false b t f y e = absurd (refused OutsideStack y e)
 
 -- the place of the access, that it is aligned, and what goes ahead there
-pub at_place : {B : Type 0} (offset : ℤ) (size : AccessSize) (f : ℕ × ℕ → Result B Reason) (y : B) → given (touched offset size) f ≡ Ok y → (stack_place offset size ≡ Some (place offset)) × (place offset % bytes_of size ≡ 0) × (f (place offset / 8, byte_bits (place offset) (bytes_of size)) ≡ Ok y)
+pub at_place : {B : Type 0} (offset : ℤ) (size : AccessSize) (f : ℕ × ℕ → Result B Reason) (y : B) → and_then_ok (touched offset size) f ≡ Ok y → (stack_place offset size ≡ Some (place offset)) × (place offset % bytes_of size ≡ 0) × (f (place offset / 8, byte_bits (place offset) (bytes_of size)) ≡ Ok y)
 at_place offset size f y e =
     let n = bytes_of size in
     let p = place offset in

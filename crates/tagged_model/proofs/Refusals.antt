@@ -17,10 +17,10 @@ use Rattle.tagged_model.specs.declared.value.Tagged.TheVariants.{Scalar, Pointer
 use Rattle.tagged_model.specs.Operators.{size_of}
 use Rattle.tagged_model.specs.Values.{arithmetic, first_operand, compared}
 use Rattle.tagged_model.specs.Table.{Verdict, Refused, Present, New, verdict, removal}
-use Rattle.tagged_model.specs.Cells.{also, write_cell, cell_over}
+use Rattle.tagged_model.specs.Cells.{and_then, write_cell, cell_over}
 use Rattle.tagged_model.specs.State.{RunState, RunMap, with_cells, with_register, stack_place, stack_store, stack_written, value_written, object_written, object_stored, store, input, output}
 use Rattle.tagged_model.specs.Helpers.{helper_of, MapReply, put, updated, taken_out, removed, packet_bytes, packet_answer, number_given, length_given, context_given, argument, map_argument, returns, replies, called}
-use Rattle.tagged_model.specs.Step.{Step, goes, ends, faults, need, operand, jumped, branched, ended, advanced, assigned, act, step, first, others, Ending, one_more, after, run, begin}
+use Rattle.tagged_model.specs.Step.{Step, goes, ends, faults, or_fault, operand, jumped, branched, ended, advanced, assigned, act, step, refused_at_first, refused_later, Ending, one_step_more, ending_after, run, start_of_run}
 use Rattle.insn_codec.specs.Flow.{natural}
 use Rattle.tagged_model.specs.Laws.{RefusalsAreTold}
 use Rattle.tagged_model.proofs.WithoutMaps.{not_refused}
@@ -55,26 +55,26 @@ module _ (refused : Bool) (s : RunState) where
   kept : (t : RunState) (Same : Type 0) → t.refused ≡ s.refused → Same → IsTold refused s t Same
   kept t Same flag same = record { now = false; noted = flag ∙ sym (or-false s.refused); same = λ _. same; needed = λ _. refl }
 
-  need_tells : {A : Type 0} (o : Option A) (f g : A → Step) → ((x : A) → StepTells (f x) (g x)) → StepTells (need o f) (need o g)
+  need_tells : {A : Type 0} (o : Option A) (f g : A → Step) → ((x : A) → StepTells (f x) (g x)) → StepTells (or_fault o f) (or_fault o g)
   need_tells None f g h = refl
   need_tells (Some x) f g h = h x
 
-  also_tells : {A : Type 0} (o : Option A) (f g : A → Option RunState) → ((x : A) → StateTells (f x) (g x)) → StateTells (also o f) (also o g)
+  also_tells : {A : Type 0} (o : Option A) (f g : A → Option RunState) → ((x : A) → StateTells (f x) (g x)) → StateTells (and_then o f) (and_then o g)
   also_tells None f g h = refl
   also_tells (Some x) f g h = h x
 
-  also_keeps : {A : Type 0} (o : Option A) (f : A → Option RunState) → ((x : A) → KeepsFlag (f x)) → KeepsFlag (also o f)
+  also_keeps : {A : Type 0} (o : Option A) (f : A → Option RunState) → ((x : A) → KeepsFlag (f x)) → KeepsFlag (and_then o f)
   also_keeps None f h = tt
   also_keeps (Some x) f h = h x
 
   abbrev next : RunState → Step
   next t = goes (advanced 1 t)
 
-  next_tells : (o p : Option RunState) → StateTells o p → StepTells (need o next) (need p next)
-  next_tells None p h = ap (λ o. need o next) h
-  next_tells (Some t) p h = record { now = h.now; noted = h.noted; same = λ e. ap (λ o. need o next) (h.same e); needed = h.needed }
+  next_tells : (o p : Option RunState) → StateTells o p → StepTells (or_fault o next) (or_fault p next)
+  next_tells None p h = ap (λ o. or_fault o next) h
+  next_tells (Some t) p h = record { now = h.now; noted = h.noted; same = λ e. ap (λ o. or_fault o next) (h.same e); needed = h.needed }
 
-  next_kept : (o : Option RunState) → KeepsFlag o → StepTells (need o next) (need o next)
+  next_kept : (o : Option RunState) → KeepsFlag o → StepTells (or_fault o next) (or_fault o next)
   next_kept None h = refl
   next_kept (Some t) h = kept (advanced 1 t) (goes (advanced 1 t) ≡ goes (advanced 1 t)) h refl
 
@@ -132,7 +132,7 @@ module _ (refused : Bool) (s : RunState) where
   replied m reply without same needed =
       record { now = reply.refused; noted = refl; same = λ e. ap (λ (r : MapReply). Some (replies s m r)) (same e); needed = needed }
 
-  returned : (o : Option RunState) (v : Tagged) → KeepsFlag o → StateTells (also o (λ t. Some (returns t v))) (also o (λ t. Some (returns t v)))
+  returned : (o : Option RunState) (v : Tagged) → KeepsFlag o → StateTells (and_then o (λ t. Some (returns t v))) (and_then o (λ t. Some (returns t v)))
   returned None v h = refl
   returned (Some t) v h = kept (returns t v) (Some (returns t v) ≡ Some (returns t v)) h refl
 
@@ -150,7 +150,7 @@ module _ (refused : Bool) (s : RunState) where
 
   -- ---- each instruction
 
-  assigned_tells : (n r : ℕ) (o : Option Tagged) → StepTells (need o (assigned n s r)) (need o (assigned n s r))
+  assigned_tells : (n r : ℕ) (o : Option Tagged) → StepTells (or_fault o (assigned n s r)) (or_fault o (assigned n s r))
   assigned_tells n r None = refl
   assigned_tells n r (Some v) = kept (advanced n (with_register s r v)) (assigned n s r v ≡ assigned n s r v) refl refl
 
@@ -186,15 +186,15 @@ module _ (refused : Bool) (s : RunState) where
   -- ---- a step, and the rest of the run
 
   -- where the rest ends with a clear flag it is the one without refusals, and so is the whole
-  after_tells : (a b : Step) (f g : RunState → Ending) → StepTells a b → ((t : RunState) → (f t).state.refused ≡ false → (t.refused ≡ false) × (f t ≡ g t)) → (after a s f).state.refused ≡ false → (s.refused ≡ false) × (after a s f ≡ after b s g)
+  after_tells : (a b : Step) (f g : RunState → Ending) → StepTells a b → ((t : RunState) → (f t).state.refused ≡ false → (t.refused ≡ false) × (f t ≡ g t)) → (ending_after a s f).state.refused ≡ false → (s.refused ≡ false) × (ending_after a s f ≡ ending_after b s g)
   after_tells (goes t) b f g h rest e =
       let r = rest t e in
       let both = or_parts s.refused h.now (sym h.noted ∙ r.0) in
-      (both.0, ap one_more r.1 ∙ ap (λ (c : Step). after c s g) (h.same both.1))
-  after_tells (ends n) b f g h rest e = (e, ap (λ (c : Step). after c s g) h)
-  after_tells faults b f g h rest e = (e, ap (λ (c : Step). after c s g) h)
+      (both.0, ap one_step_more r.1 ∙ ap (λ (c : Step). ending_after c s g) (h.same both.1))
+  after_tells (ends n) b f g h rest e = (e, ap (λ (c : Step). ending_after c s g) h)
+  after_tells faults b f g h rest e = (e, ap (λ (c : Step). ending_after c s g) h)
 
-  after_clear : (a b : Step) (f : RunState → Ending) → StepTells a b → refused ≡ false → s.refused ≡ false → ((t : RunState) → t.refused ≡ false → (f t).state.refused ≡ false) → (after a s f).state.refused ≡ false
+  after_clear : (a b : Step) (f : RunState → Ending) → StepTells a b → refused ≡ false → s.refused ≡ false → ((t : RunState) → t.refused ≡ false → (f t).state.refused ≡ false) → (ending_after a s f).state.refused ≡ false
   after_clear (goes t) b f h none clear rest = rest t (h.noted ∙ or_from s.refused h.now clear (h.needed none))
   after_clear (ends n) b f h none clear rest = clear
   after_clear faults b f h none clear rest = clear
@@ -206,7 +206,7 @@ module _ (code : List Insn) where
   unfolding run
   run_tells zero refusals s e = (e, refl)
   run_tells (suc n) refusals s e =
-      after_tells (first refusals) s (step (first refusals) code s) (step false code s) (run code n (others refusals)) (run code n []) (step_tells (first refusals) s code) (λ t. run_tells n (others refusals) t) e
+      after_tells (refused_at_first refusals) s (step (refused_at_first refusals) code s) (step false code s) (run code n (refused_later refusals)) (run code n []) (step_tells (refused_at_first refusals) s code) (λ t. run_tells n (refused_later refusals) t) e
 
   run_clear : (n : ℕ) (s : RunState) → s.refused ≡ false → (run code n [] s).state.refused ≡ false
   unfolding run
@@ -215,7 +215,7 @@ module _ (code : List Insn) where
 
 pub refusals_told : RefusalsAreTold
 refusals_told = record {
-  clear = λ refusals code maps words packet e. (run_tells code (slot_count code) refusals (begin maps words packet) e).1;
-  none = λ code maps words packet. run_clear code (slot_count code) (begin maps words packet) refl;
+  clear = λ refusals code maps words packet e. (run_tells code (slot_count code) refusals (start_of_run maps words packet) e).1;
+  none = λ code maps words packet. run_clear code (slot_count code) (start_of_run maps words packet) refl;
   without_maps = not_refused;
 }

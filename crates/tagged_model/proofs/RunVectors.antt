@@ -14,7 +14,7 @@ use Rattle.insn_codec.specs.Program.{begins_at}
 use Rattle.tagged_model.specs.declared.value.Outcome.{Outcome}
 use Rattle.tagged_model.specs.declared.value.Outcome.TheVariants.{Value, Fault}
 use Rattle.tagged_model.specs.Cells.{gathered}
-use Rattle.tagged_model.specs.Step.{MapsByDescriptor, run, begin, result_of}
+use Rattle.tagged_model.specs.Step.{MapsByDescriptor, run, start_of_run, result_of}
 
 -- minus n
 abbrev pub minus : ℕ → ℤ
@@ -137,11 +137,11 @@ packet_of_three = refl
 abbrev twice : List Insn
 twice = set 0 (pos 2) ∷ Alu true Sub 0 (Imm (pos 1)) ∷ Jump true NotEqual 0 (Imm (pos 0)) (minus 2) ∷ Exit ∷ []
 
-six_steps : (run twice 6 [] (begin no_maps (context 0) [])).outcome ≡ Value 0
+six_steps : (run twice 6 [] (start_of_run no_maps (context 0) [])).outcome ≡ Value 0
 unfolding run begins_at gathered
 six_steps = refl
 
-one_step_too_many : (run twice 5 [] (begin no_maps (context 0) [])).outcome ≡ Fault
+one_step_too_many : (run twice 5 [] (start_of_run no_maps (context 0) [])).outcome ≡ Fault
 unfolding run begins_at gathered
 one_step_too_many = refl
 

@@ -16,7 +16,7 @@ use Rattle.reg_kinds.specs.Stack.{bytes_of, byte_bits, place, loaded, read_slot,
 use Rattle.reg_kinds.specs.StackLaws.{in_one_slot}
 use Rattle.tagged_model.specs.declared.value.Tagged.{Tagged}
 use Rattle.tagged_model.specs.declared.value.Tagged.TheVariants.{Scalar}
-use Rattle.tagged_model.specs.Cells.{Cell, holds, bytes, also, byte_at, widened, number_from, read_cell}
+use Rattle.tagged_model.specs.Cells.{Cell, holds, bytes, and_then, byte_at, widened, number_from, read_cell}
 use Rattle.tagged_model.specs.State.{RunState, stack_load}
 use Rattle.tagged_model.specs.Admits.{Witness, IsOfKind, HoldsNull, HasBytes, HasSlot, AdmitsBy, IsInRange}
 use Rattle.tagged_model.proofs.CellBytes.{AreBytes, AreRead, all_read, zeros_read}
@@ -72,4 +72,4 @@ stack_gives witness f s offset size signed k proper admits e =
     let p = place offset in
     let at = at_place offset size (λ t. read_slot (slot_at f t.0) t.1 size signed) k e in
     let r = cell_gives witness (slot_at f (p / 8)) (s.cells (p / 8)) p size signed k (proper.bytes (p / 8)) at.1 (admits.slots (p / 8)) at.2 in
-    (r.0, ap (λ o. also o (λ q. read_cell (s.cells (q / 8)) (q % 8) size signed)) at.0 ∙ r.1, r.2)
+    (r.0, ap (λ o. and_then o (λ q. read_cell (s.cells (q / 8)) (q % 8) size signed)) at.0 ∙ r.1, r.2)

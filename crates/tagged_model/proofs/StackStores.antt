@@ -11,13 +11,13 @@ use Rattle.reg_kinds.specs.declared.kind.Slot.TheVariants as slot
 use Rattle.reg_kinds.specs.declared.stack.AccessSize.{AccessSize}
 use Rattle.reg_kinds.specs.declared.stack.AccessSize.TheVariants.{Double}
 use Rattle.reg_kinds.specs.declared.facts.Facts.{Facts}
-use Rattle.reg_kinds.specs.Reason.{given}
+use Rattle.reg_kinds.specs.Reason.{and_then_ok}
 use Rattle.reg_kinds.specs.Kinds.{is_pointer, slot_at, with_slot}
 use Rattle.reg_kinds.specs.Stack.{bytes_of, byte_bits, place, touched, is_whole, bytes_over, slot_written, facts_written, stack_write}
 use Rattle.reg_kinds.specs.TableLaws.{in_written}
 use Rattle.tagged_model.specs.declared.value.Tagged.{Tagged}
 use Rattle.tagged_model.specs.declared.value.Tagged.TheVariants.{Scalar, Map, Pointer}
-use Rattle.tagged_model.specs.Cells.{Cell, holds, also, written_over, write_cell}
+use Rattle.tagged_model.specs.Cells.{Cell, holds, and_then, written_over, write_cell}
 use Rattle.tagged_model.specs.State.{RunState, with_cell, stack_store}
 use Rattle.tagged_model.specs.Admits.{Witness, IsOfKind, IsKeptWhole, HasSlot, AdmitsBy, IsInRange}
 use Rattle.tagged_model.specs.StateLaws.{no_bytes}
@@ -96,7 +96,7 @@ cell_written witness t u c p size (kind.Scalar r) v known even small has h e =
 cell_written witness t u c p size k v known even small has h e = spill_written witness u c p size k v refl even small h e
 
 -- of a register that may not be read nothing is stored
-known_stored : (f g : Facts) (offset : ℤ) (size : AccessSize) (k : Kind) → stack_write f offset size k ≡ Ok g → IsKnown k × (given (touched offset size) (facts_written f size k) ≡ Ok g)
+known_stored : (f g : Facts) (offset : ℤ) (size : AccessSize) (k : Kind) → stack_write f offset size k ≡ Ok g → IsKnown k × (and_then_ok (touched offset size) (facts_written f size k) ≡ Ok g)
 known_stored f g offset size kind.Unreadable e = absurd (refused UnreadableRegister g e)
 known_stored f g offset size k e = (tt, e)
 
@@ -121,8 +121,8 @@ module _ (witness : Witness) (f : Facts) (s : RunState) (proper : IsInRange s) (
       let new = given_ok (slot_written (slot_at f i) (byte_bits p n) size k) (λ t. Ok (with_slot f i t)) g at.2 in
       let w = cell_written witness (slot_at f i) new.0 (s.cells i) p size k v known.0 at.1 (proper.bytes i) (admits.slots i) h new.1 in (
         with_cell s i w.cell,
-        ap (λ o. also o (λ q. also (write_cell (s.cells (q / 8)) (q % 8) size v) (λ c. Some (with_cell s (q / 8) c)))) at.0
-            ∙ ap (λ o. also o (λ c. Some (with_cell s i c))) w.written,
+        ap (λ o. and_then o (λ q. and_then (write_cell (s.cells (q / 8)) (q % 8) size v) (λ c. Some (with_cell s (q / 8) c)))) at.0
+            ∙ ap (λ o. and_then o (λ c. Some (with_cell s i c))) w.written,
         subst (λ g. AdmitsBy witness g (with_cell s i w.cell)) (same_ok (with_slot f i new.0) g new.2) (still_admits i new.0 w.cell w.has),
         still_proper i w.cell w.small,
       )

@@ -14,10 +14,10 @@ use Rattle.tagged_model.specs.declared.value.Tagged.{Tagged}
 use Rattle.tagged_model.specs.declared.value.Tagged.TheVariants.{Scalar, Pointer}
 use Rattle.tagged_model.specs.Operators.{size_of}
 use Rattle.tagged_model.specs.Values.{arithmetic, first_operand, compared}
-use Rattle.tagged_model.specs.Cells.{also, write_cell, cell_over}
+use Rattle.tagged_model.specs.Cells.{and_then, write_cell, cell_over}
 use Rattle.tagged_model.specs.State.{RunState, RunMap, with_cells, stack_place, stack_store, stack_written, value_written, with_map, with_value, object_written, object_stored, store, output}
 use Rattle.tagged_model.specs.Helpers.{helper_of, packet_bytes, packet_answer, number_given, length_given, context_given, map_given, argument, map_argument, returns, called}
-use Rattle.tagged_model.specs.Step.{Step, goes, ends, faults, need, operand, jumped, branched, ended, advanced, assigned, act, step, first, others, Ending, after, run, MapsByDescriptor, first_map, begin, was_refused}
+use Rattle.tagged_model.specs.Step.{Step, goes, ends, faults, or_fault, operand, jumped, branched, ended, advanced, assigned, act, step, refused_at_first, refused_later, Ending, ending_after, run, MapsByDescriptor, first_map, start_of_run, was_refused}
 use Rattle.insn_codec.specs.Flow.{natural}
 
 -- a state without maps in which no memory was refused
@@ -34,29 +34,29 @@ abbrev AreBare : Option RunState → Type 0
 AreBare None = Unit {0}
 AreBare (Some t) = IsBare t
 
-need_bare : {A : Type 0} (o : Option A) (f : A → Step) → ((x : A) → StaysBare (f x)) → StaysBare (need o f)
+need_bare : {A : Type 0} (o : Option A) (f : A → Step) → ((x : A) → StaysBare (f x)) → StaysBare (or_fault o f)
 need_bare None f h = tt
 need_bare (Some x) f h = h x
 
-also_bare : {A : Type 0} (o : Option A) (f : A → Option RunState) → ((x : A) → AreBare (f x)) → AreBare (also o f)
+also_bare : {A : Type 0} (o : Option A) (f : A → Option RunState) → ((x : A) → AreBare (f x)) → AreBare (and_then o f)
 also_bare None f h = tt
 also_bare (Some x) f h = h x
 
 -- what is there only with something that is not
-none_bare : {A : Type 0} (o : Option A) (f : A → Option RunState) → o ≡ None → AreBare (also o f)
-none_bare o f none = subst (λ p. AreBare (also p f)) (sym none) tt
+none_bare : {A : Type 0} (o : Option A) (f : A → Option RunState) → o ≡ None → AreBare (and_then o f)
+none_bare o f none = subst (λ p. AreBare (and_then p f)) (sym none) tt
 
-none_also : {A B : Type 0} (o : Option A) (f : A → Option B) → o ≡ None → also o f ≡ None
-none_also o f none = ap (λ p. also p f) none
+none_also : {A B : Type 0} (o : Option A) (f : A → Option B) → o ≡ None → and_then o f ≡ None
+none_also o f none = ap (λ p. and_then p f) none
 
-all_none : {A B : Type 0} (o : Option A) (f : A → Option B) → ((x : A) → f x ≡ None) → also o f ≡ None
+all_none : {A B : Type 0} (o : Option A) (f : A → Option B) → ((x : A) → f x ≡ None) → and_then o f ≡ None
 all_none None f h = refl
 all_none (Some x) f h = h x
 
 abbrev next : RunState → Step
 next t = goes (advanced 1 t)
 
-next_bare : (o : Option RunState) → AreBare o → StaysBare (need o next)
+next_bare : (o : Option RunState) → AreBare o → StaysBare (or_fault o next)
 next_bare None h = tt
 next_bare (Some t) h = record { no_map = h.no_map; clear = h.clear }
 
@@ -70,7 +70,7 @@ module _ (s : RunState) (bare : IsBare s) where
   stack_written_bare x bs = cond_both (is_in_stack x (length bs)) (Some (with_cells s (λ i. cell_over i (s.cells i) (place x) bs))) None AreBare (λ _. as_before _ refl refl) (λ _. tt)
 
   object_written_bare : (m number : ℕ) (y : ℤ) (bs : List ℕ) → AreBare (object_written s m number y bs)
-  object_written_bare m number y bs = none_bare (s.maps m) (λ t. also (value_written (t.values number) y bs) (λ value. Some (with_map s m (with_value t number value)))) (bare.no_map m)
+  object_written_bare m number y bs = none_bare (s.maps m) (λ t. and_then (value_written (t.values number) y bs) (λ value. Some (with_map s m (with_value t number value)))) (bare.no_map m)
 
   object_stored_bare : (size : AccessSize) (m number : ℕ) (y : ℤ) (v : Tagged) → AreBare (object_stored s size m number y v)
   object_stored_bare size m number y (Scalar n) = object_written_bare m number y _
@@ -94,7 +94,7 @@ module _ (s : RunState) (bare : IsBare s) where
   no_map_given : (r : ℕ) → map_argument s r ≡ None
   no_map_given r = all_none (argument s r map_given) _ (λ m. none_also (s.maps m) _ (bare.no_map m))
 
-  returned_bare : (o : Option RunState) (v : Tagged) → AreBare o → AreBare (also o (λ t. Some (returns t v)))
+  returned_bare : (o : Option RunState) (v : Tagged) → AreBare o → AreBare (and_then o (λ t. Some (returns t v)))
   returned_bare None v h = tt
   returned_bare (Some t) v h = record { no_map = h.no_map; clear = h.clear }
 
@@ -108,7 +108,7 @@ module _ (s : RunState) (bare : IsBare s) where
 
   -- ---- each instruction
 
-  assigned_bare : (n r : ℕ) (o : Option Tagged) → StaysBare (need o (assigned n s r))
+  assigned_bare : (n r : ℕ) (o : Option Tagged) → StaysBare (or_fault o (assigned n s r))
   assigned_bare n r o = need_bare o (assigned n s r) (λ v. as_before _ refl refl)
 
   jumped_bare : (off : ℤ) → StaysBare (jumped s off)
@@ -140,7 +140,7 @@ module _ (s : RunState) (bare : IsBare s) where
   step_bare : (refused : Bool) (code : List Insn) → StaysBare (step refused code s)
   step_bare refused code = need_bare (begins_at code s.at) _ (act_bare refused)
 
-after_bare : (a : Step) (s : RunState) (f : RunState → Ending) → s.refused ≡ false → StaysBare a → ((t : RunState) → IsBare t → (f t).state.refused ≡ false) → (after a s f).state.refused ≡ false
+after_bare : (a : Step) (s : RunState) (f : RunState → Ending) → s.refused ≡ false → StaysBare a → ((t : RunState) → IsBare t → (f t).state.refused ≡ false) → (ending_after a s f).state.refused ≡ false
 after_bare (goes t) s f clear h rest = rest t h
 after_bare (ends n) s f clear h rest = clear
 after_bare faults s f clear h rest = clear
@@ -149,8 +149,8 @@ run_bare : (code : List Insn) (n : ℕ) (refusals : List Bool) (s : RunState) �
 unfolding run
 run_bare code zero refusals s bare = bare.clear
 run_bare code (suc n) refusals s bare =
-    after_bare (step (first refusals) code s) s (run code n (others refusals)) bare.clear (step_bare s bare (first refusals) code) (run_bare code n (others refusals))
+    after_bare (step (refused_at_first refusals) code s) s (run code n (refused_later refusals)) bare.clear (step_bare s bare (refused_at_first refusals) code) (run_bare code n (refused_later refusals))
 
 pub not_refused : (refusals : List Bool) (code : List Insn) (maps : MapsByDescriptor) (words packet : List ℕ) → ((m : ℕ) → maps m ≡ None) → was_refused refusals code maps words packet ≡ false
 not_refused refusals code maps words packet none =
-    run_bare code (slot_count code) refusals (begin maps words packet) (record { no_map = λ m. ap (option_map first_map) (none m); clear = refl })
+    run_bare code (slot_count code) refusals (start_of_run maps words packet) (record { no_map = λ m. ap (option_map first_map) (none m); clear = refl })

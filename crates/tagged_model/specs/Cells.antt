@@ -16,9 +16,9 @@ pub data Cell : Type 0 where
   bytes : (ℕ → Option ℕ) → Cell
 
 -- what is made of a thing that may be absent
-abbrev pub also : {A B : Type 0} → Option A → (A → Option B) → Option B
-also None f = None
-also (Some x) f = f x
+abbrev pub and_then : {A B : Type 0} → Option A → (A → Option B) → Option B
+and_then None f = None
+and_then (Some x) f = f x
 
 abbrev pub byte_at : Cell → ℕ → Option ℕ
 byte_at (holds v) j = None
@@ -27,7 +27,7 @@ byte_at (bytes b) j = b j
 -- n bytes from place p on, if none of them is absent
 unfoldable pub gathered : (ℕ → Option ℕ) → ℕ → ℕ → Option (List ℕ)
 gathered byte p zero = Some []
-gathered byte p (suc n) = also (byte p) (λ b. also (gathered byte (suc p) n) (λ bs. Some (b ∷ bs)))
+gathered byte p (suc n) = and_then (byte p) (λ b. and_then (gathered byte (suc p) n) (λ bs. Some (b ∷ bs)))
 
 -- a number of so many bytes as a word: with its sign, or with zeros above
 abbrev pub widened : AccessSize → Bool → ℕ → ℕ

@@ -13,7 +13,7 @@ use Rattle.tagged_model.specs.declared.value.Object.TheVariants as object
 use Rattle.tagged_model.specs.declared.value.Tagged.{Tagged}
 use Rattle.tagged_model.specs.declared.value.Tagged.TheVariants.{Scalar, Map, Pointer}
 use Rattle.tagged_model.specs.Table.{Verdict, Refused, Present, New, look_up, verdict, removal, with_new, with_deleted}
-use Rattle.tagged_model.specs.Cells.{also}
+use Rattle.tagged_model.specs.Cells.{and_then}
 use Rattle.tagged_model.specs.State.{RunState, RunMap, set_at, with_value, input, output, with_map, with_refusal}
 
 -- its number in bpf_func_id
@@ -128,7 +128,7 @@ context_given _ = None
 
 -- the argument in a register
 abbrev pub argument : {A : Type 0} → RunState → ℕ → (Tagged → Option A) → Option A
-argument s r given = also (s.registers r) given
+argument s r given = and_then (s.registers r) given
 
 -- a map by its descriptor
 pub record GivenMap : Type 0 where
@@ -136,7 +136,7 @@ pub record GivenMap : Type 0 where
   pub map : RunMap
 
 abbrev pub map_argument : RunState → ℕ → Option GivenMap
-map_argument s r = also (argument s r map_given) (λ m. also (s.maps m) (λ t. Some (record { descriptor = m; map = t })))
+map_argument s r = and_then (argument s r map_given) (λ m. and_then (s.maps m) (λ t. Some (record { descriptor = m; map = t })))
 
 -- ---- the calls
 
@@ -156,14 +156,14 @@ replies s m reply = returns (with_reply s m reply) (Scalar reply.answer)
 
 abbrev pub called : Bool → Helper → RunState → Option RunState
 called refused LookUp s =
-    also (map_argument s 1) (λ g. also (argument s 2 (λ p. input s p g.map.table.shape.key_size)) (λ key.
+    and_then (map_argument s 1) (λ g. and_then (argument s 2 (λ p. input s p g.map.table.shape.key_size)) (λ key.
     Some (returns s (looked_up g.descriptor (look_up g.map.table key)))))
 called refused Update s =
-    also (map_argument s 1) (λ g. also (argument s 2 (λ p. input s p g.map.table.shape.key_size)) (λ key. also (argument s 3 (λ p. input s p g.map.table.shape.value_size)) (λ value. also (argument s 4 number_given) (λ flags.
+    and_then (map_argument s 1) (λ g. and_then (argument s 2 (λ p. input s p g.map.table.shape.key_size)) (λ key. and_then (argument s 3 (λ p. input s p g.map.table.shape.value_size)) (λ value. and_then (argument s 4 number_given) (λ flags.
     Some (replies s g.descriptor (updated refused g.map key value flags))))))
 called refused Delete s =
-    also (map_argument s 1) (λ g. also (argument s 2 (λ p. input s p g.map.table.shape.key_size)) (λ key.
+    and_then (map_argument s 1) (λ g. and_then (argument s 2 (λ p. input s p g.map.table.shape.key_size)) (λ key.
     Some (replies s g.descriptor (removed g.map key))))
 called refused LoadBytes s =
-    also (argument s 1 context_given) (λ c. also (argument s 2 number_given) (λ offset. also (argument s 4 length_given) (λ n. also (argument s 3 (λ p. output s p (packet_bytes s.packet offset n))) (λ t.
+    and_then (argument s 1 context_given) (λ c. and_then (argument s 2 number_given) (λ offset. and_then (argument s 4 length_given) (λ n. and_then (argument s 3 (λ p. output s p (packet_bytes s.packet offset n))) (λ t.
     Some (returns t (Scalar (packet_answer s.packet offset n)))))))

@@ -5,9 +5,9 @@
 pub enum MapFault {
     /// ENOENT, 2: the key is not there, or no key follows it.
     NoEntry,
-    /// E2BIG, 7: the map is full, the index is out of range, or the values take too many bytes.
+    /// E2BIG, 7: the map is full, or the index is out of range.
     TooBig,
-    /// ENOMEM, 12: there is no memory for a new key.
+    /// ENOMEM, 12: there is no memory for a new map or a new key.
     Memory,
     /// EEXIST, 17: the key is there already.
     Exists,

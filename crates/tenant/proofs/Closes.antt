@@ -12,7 +12,8 @@ use Rattle.fd_table.specs.Table.{first_descriptor, named, with_closed, flattened
 use Rattle.tenant.specs.declared.object.OpenObject.{OpenObject}
 use Rattle.tenant.specs.declared.object.OpenObject.TheVariants as object
 use Rattle.tenant.specs.Loaded.{LoadedProgram}
-use Rattle.tenant.specs.State.{Map, total, names, is_named, named_from, with_objects}
+use Rattle.bpf_maps.specs.Sum.{total}
+use Rattle.tenant.specs.State.{Map, names, is_named, named_from, with_objects}
 use Rattle.tenant.specs.Kept.{KeptTenant, IsWellFormedTenant, MapsAreAtPlaces, IsBound, holds_in, times_listed, times_named, by_descriptor, holders, maps_in, state_in}
 use Rattle.tenant.specs.inside.Leaves.{LeavesHeldMaps}
 use Rattle.tenant.proofs.Sums.{total-unset, total-part}

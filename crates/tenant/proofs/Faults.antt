@@ -16,7 +16,7 @@ use Rattle.tagged_model.specs.declared.value.Outcome.{Outcome}
 use Rattle.tagged_model.specs.declared.value.Outcome.TheVariants.{Value, Fault}
 use Rattle.tagged_model.specs.Shape.{area}
 use Rattle.tagged_model.specs.Table as call
-use Rattle.tagged_model.specs.Step.{first}
+use Rattle.tagged_model.specs.Step.{refused_at_first}
 use Rattle.tagged_model.specs.Table.{verdict, removal, look_up, next_of}
 use Rattle.tenant.specs.declared.errno.Errno.{Errno}
 use Rattle.tenant.specs.declared.errno.Errno.TheVariants.{NotPermitted, TooBig, BadAddress, Invalid}
@@ -169,17 +169,17 @@ bare_closed s fd None e = refl
 bare_closed s fd (Some o) e = refl
 
 bare_answer : (refusals : List Bool) (s : TenantState) (command : Command) (a : Answer) → Answers refusals s command a → IsBare a
-bare_answer refusals s (map_create kind key value max flags) a h = bare_told a _ h (bare_created (first refusals) s (asked_shape (kind_of kind) key value max flags))
+bare_answer refusals s (map_create kind key value max flags) a h = bare_told a _ h (bare_created (refused_at_first refusals) s (asked_shape (kind_of kind) key value max flags))
 bare_answer refusals s (map_lookup fd key) a h =
     bare_told a _ h (bare_on_map s fd _ (λ place t. bare_if (length key == t.shape.key_size) Invalid s (gives_if_found s (look_up t key)) (bare_found s (look_up t key))))
 bare_answer refusals s (map_update fd flags bytes) a h =
     bare_told a _ h (bare_on_map s fd _ (λ place t. bare_if (length bytes == t.shape.key_size + t.shape.value_size) Invalid s _
-    (bare_put (first refusals) s place t (take t.shape.key_size bytes) (drop t.shape.key_size bytes) (verdict t (take t.shape.key_size bytes) flags))))
+    (bare_put (refused_at_first refusals) s place t (take t.shape.key_size bytes) (drop t.shape.key_size bytes) (verdict t (take t.shape.key_size bytes) flags))))
 bare_answer refusals s (map_delete fd key) a h =
     bare_told a _ h (bare_on_map s fd _ (λ place t. bare_if (length key == t.shape.key_size) Invalid s (element_taken_out s place t key (removal t key)) (bare_taken s place t key (removal t key))))
 bare_answer refusals s (map_next_key fd key) a h =
     bare_told a _ h (bare_on_map s fd _ (λ place t. bare_if (length key == 0 || length key == t.shape.key_size) Invalid s (gives_if_found s (next_of t key)) (bare_found s (next_of t key))))
-bare_answer refusals s (prog_load kind slots) a h = bare_loads (kind == 1) (first refusals) s slots a (refuses Invalid s) refl h
+bare_answer refusals s (prog_load kind slots) a h = bare_loads (kind == 1) (refused_at_first refusals) s slots a (refuses Invalid s) refl h
 bare_answer refusals s (prog_test_run fd words packet) a h = bare_told a _ h (bare_run refusals s words packet (table.named s.objects fd))
 bare_answer refusals s (close fd) a h = bare_told a _ h (bare_closed s fd (table.named s.objects fd))
 

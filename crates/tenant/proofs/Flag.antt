@@ -11,7 +11,7 @@ use Rattle.tagged_model.specs.Table as call
 use Rattle.tagged_model.specs.Shape.{area}
 use Rattle.tenant.specs.declared.object.OpenObject.{OpenObject}
 use Rattle.tenant.specs.declared.object.OpenObject.TheVariants as object
-use Rattle.tagged_model.specs.Step.{first, Ending, run_with, left_with, was_refused, last_map}
+use Rattle.tagged_model.specs.Step.{refused_at_first, Ending, run_with, left_with, was_refused, last_map}
 use Rattle.tagged_model.specs.Laws.{RefusalsAreTold}
 use Rattle.tagged_model.specs.Table.{verdict, removal, look_up, next_of}
 use Rattle.tenant.specs.declared.errno.Errno.{Errno}
@@ -19,7 +19,7 @@ use Rattle.tenant.specs.declared.errno.Errno.TheVariants.{Invalid, TooBig}
 use Rattle.tenant.specs.Loaded.{LoadedProgram}
 use Rattle.tenant.specs.State.{Map, TenantState, live}
 use Rattle.command_frames.specs.declared.command.BadFrame.{BadFrame}
-use Rattle.tenant.specs.Alone.{AnswersFrame, RepliesUnder, MayReply, Alone, AloneWithRefusals}
+use Rattle.tenant.specs.Alone.{AnswersFrame, RepliesUnder, MayReply, IsToldAlone, AloneWithRefusals}
 use Rattle.tenant.specs.Machine.{Answer, of_object, of_place, on_map, element_put, created_at, created_as, created_under, created, room_for, kind_of, asked_shape, refuses, maps_left, maps_given, outcome_answer, ran, run_of, longest_packet, LoadsAs, LoadsUnder, Answers, LoadJudgement, accepted, rejected, judged, gives_if_found, element_taken_out, closed}
 
 -- an answer with these refusals, and the one without: where the flag is clear after the first, they are one, and it was clear
@@ -129,12 +129,12 @@ told_by s x y a clear is e = is ∙ (clear (sym (ap (λ (b : Answer). b.after.re
 
 -- where the flag is clear after a command, it is as if no memory might be refused
 pub clear_answer : RefusalsAreTold → (r : List Bool) (s : TenantState) (command : Command) (a : Answer) → Answers r s command a → a.after.refused ≡ false → Answers [] s command a
-clear_answer tell r s (prog_load kind slots) a is e = loads_by (first r) (kind == 1) s (table.lowest s.objects) slots _ a is e
-clear_answer tell r s (map_create kind key value max flags) a is e = told_by s _ _ a (clear_created (first r) s (asked_shape (kind_of kind) key value max flags)) is e
+clear_answer tell r s (prog_load kind slots) a is e = loads_by (refused_at_first r) (kind == 1) s (table.lowest s.objects) slots _ a is e
+clear_answer tell r s (map_create kind key value max flags) a is e = told_by s _ _ a (clear_created (refused_at_first r) s (asked_shape (kind_of kind) key value max flags)) is e
 clear_answer tell r s (map_lookup fd key) a is e = is
 clear_answer tell r s (map_update fd flags bytes) a is e =
     told_by s _ _ a (clear_on_map s fd _ _ (λ place t. clear_if (length bytes == t.shape.key_size + t.shape.value_size) s _ _ (refuses Invalid s)
-    (clear_put (first r) s place t (take t.shape.key_size bytes) (drop t.shape.key_size bytes) (verdict t (take t.shape.key_size bytes) flags)) refl)) is e
+    (clear_put (refused_at_first r) s place t (take t.shape.key_size bytes) (drop t.shape.key_size bytes) (verdict t (take t.shape.key_size bytes) flags)) refl)) is e
 clear_answer tell r s (map_delete fd key) a is e = is
 clear_answer tell r s (map_next_key fd key) a is e = is
 clear_answer tell r s (prog_test_run fd words packet) a is e = told_by s _ _ a (clear_run tell r s words packet (table.named s.objects fd)) is e
@@ -175,12 +175,12 @@ was_by : (s : TenantState) (x y a : Answer) → Clear s x y → a ≡ x → a.af
 was_by s x y a clear is e = (clear (sym (ap (λ (b : Answer). b.after.refused) is) ∙ e)).1
 
 was_clear : RefusalsAreTold → (r : List Bool) (s : TenantState) (command : Command) (a : Answer) → Answers r s command a → a.after.refused ≡ false → s.refused ≡ false
-was_clear tell r s (prog_load kind slots) a is e = kept_loads (first r) (kind == 1) s (table.lowest s.objects) slots a is e
-was_clear tell r s (map_create kind key value max flags) a is e = was_by s _ _ a (clear_created (first r) s (asked_shape (kind_of kind) key value max flags)) is e
+was_clear tell r s (prog_load kind slots) a is e = kept_loads (refused_at_first r) (kind == 1) s (table.lowest s.objects) slots a is e
+was_clear tell r s (map_create kind key value max flags) a is e = was_by s _ _ a (clear_created (refused_at_first r) s (asked_shape (kind_of kind) key value max flags)) is e
 was_clear tell r s (map_lookup fd key) a is e = was_by s _ _ a (clear_on_map s fd _ _ (λ place t. clear_if (length key == t.shape.key_size) s _ _ (refuses Invalid s) (kept_found s (look_up t key)) refl)) is e
 was_clear tell r s (map_update fd flags bytes) a is e =
     was_by s _ _ a (clear_on_map s fd _ _ (λ place t. clear_if (length bytes == t.shape.key_size + t.shape.value_size) s _ _ (refuses Invalid s)
-    (clear_put (first r) s place t (take t.shape.key_size bytes) (drop t.shape.key_size bytes) (verdict t (take t.shape.key_size bytes) flags)) refl)) is e
+    (clear_put (refused_at_first r) s place t (take t.shape.key_size bytes) (drop t.shape.key_size bytes) (verdict t (take t.shape.key_size bytes) flags)) refl)) is e
 was_clear tell r s (map_delete fd key) a is e = was_by s _ _ a (clear_on_map s fd _ _ (λ place t. clear_if (length key == t.shape.key_size) s _ _ (refuses Invalid s) (kept_taken s place t key (removal t key)) refl)) is e
 was_clear tell r s (map_next_key fd key) a is e =
     was_by s _ _ a (clear_on_map s fd _ _ (λ place t. clear_if (length key == 0 || length key == t.shape.key_size) s _ _ (refuses Invalid s) (kept_found s (next_of t key)) refl)) is e
@@ -205,7 +205,7 @@ clear_told tell frame reply (Some s) after (r, told_by_r) e =
     let both = clear_frame tell r s (parsed frame) a answers (subst HasClear goes e) in
     ((a, both.0, told, goes), both.1)
 
-clear_both : RefusalsAreTold → (before after : Option TenantState) (frames replies : List (List ℕ)) → AloneWithRefusals before frames replies after → HasClear after → Alone before frames replies after × HasClear before
+clear_both : RefusalsAreTold → (before after : Option TenantState) (frames replies : List (List ℕ)) → AloneWithRefusals before frames replies after → HasClear after → IsToldAlone before frames replies after × HasClear before
 clear_both tell before after [] [] h e = (h, subst HasClear h e)
 clear_both tell before after [] (reply ∷ replies) h e = absurd h
 clear_both tell before after (frame ∷ frames) [] h e = absurd h
@@ -216,5 +216,5 @@ clear_both tell before after (frame ∷ frames) (reply ∷ replies) (between, to
 
 -- a tenant whose flag is clear in the end is told what its machine tells it without refusals
 pub clear_flag_means_alone : RefusalsAreTold → (before : Option TenantState) (after : TenantState) (frames replies : List (List ℕ)) → AloneWithRefusals before frames replies (Some after) → after.refused ≡ false
-    → Alone before frames replies (Some after)
+    → IsToldAlone before frames replies (Some after)
 clear_flag_means_alone tell before after frames replies h e = (clear_both tell before (Some after) frames replies h e).0

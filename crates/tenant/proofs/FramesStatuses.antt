@@ -12,7 +12,7 @@ use Rattle.tagged_model.specs.declared.fault.MapFault.{MapFault}
 use Rattle.tagged_model.specs.declared.fault.MapFault.TheVariants as map
 use Rattle.tagged_model.specs.Shape.{area, is_shape, is_valid}
 use Rattle.tagged_model.specs.Table as call
-use Rattle.tagged_model.specs.Step.{first}
+use Rattle.tagged_model.specs.Step.{refused_at_first}
 use Rattle.tagged_model.specs.Table.{verdict, removal, look_up, next_of}
 use Rattle.tenant.specs.declared.errno.Errno.{Errno}
 use Rattle.tenant.specs.declared.errno.Errno.TheVariants.{NotPermitted, NoEntry, TooBig, BadDescriptor, NoMemory, AccessDenied, BadAddress, Exists, Invalid, TooManyOpen, NoSpace}
@@ -180,17 +180,17 @@ RunsNothing (close fd) = Unit {0}
 
 pub plain_answer : (refusals : List Bool) (s : TenantState) (command : Command) (a : Answer) → RunsNothing command → Answers refusals s command a → IsPlain s a
 plain_answer refusals s (map_create kind key value max flags) a nothing h =
-    plain_told s a _ h (plain_created (first refusals) s (asked_shape (kind_of kind) key value max flags) (shape_plain (kind_of kind) key value max flags))
+    plain_told s a _ h (plain_created (refused_at_first refusals) s (asked_shape (kind_of kind) key value max flags) (shape_plain (kind_of kind) key value max flags))
 plain_answer refusals s (map_lookup fd key) a nothing h =
     plain_told s a _ h (plain_on_map s fd _ (λ place t. plain_if (length key == t.shape.key_size) s (gives_if_found s (look_up t key)) (plain_found s (look_up t key))))
 plain_answer refusals s (map_update fd flags bytes) a nothing h =
     plain_told s a _ h (plain_on_map s fd _ (λ place t. plain_if (length bytes == t.shape.key_size + t.shape.value_size) s _
-    (plain_put (first refusals) s place t (take t.shape.key_size bytes) (drop t.shape.key_size bytes) (verdict t (take t.shape.key_size bytes) flags))))
+    (plain_put (refused_at_first refusals) s place t (take t.shape.key_size bytes) (drop t.shape.key_size bytes) (verdict t (take t.shape.key_size bytes) flags))))
 plain_answer refusals s (map_delete fd key) a nothing h =
     plain_told s a _ h (plain_on_map s fd _ (λ place t. plain_if (length key == t.shape.key_size) s (element_taken_out s place t key (removal t key)) (plain_taken s place t key (removal t key))))
 plain_answer refusals s (map_next_key fd key) a nothing h =
     plain_told s a _ h (plain_on_map s fd _ (λ place t. plain_if (length key == 0 || length key == t.shape.key_size) s (gives_if_found s (next_of t key)) (plain_found s (next_of t key))))
-plain_answer refusals s (prog_load kind slots) a nothing h = plain_loads (kind == 1) (first refusals) s slots a h
+plain_answer refusals s (prog_load kind slots) a nothing h = plain_loads (kind == 1) (refused_at_first refusals) s slots a h
 plain_answer refusals s (prog_test_run fd words packet) a nothing h = absurd nothing
 plain_answer refusals s (close fd) a nothing h = plain_told s a _ h (plain_closed s fd (table.named s.objects fd))
 

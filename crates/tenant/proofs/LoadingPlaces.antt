@@ -10,7 +10,7 @@ use Rattle.tenant.specs.declared.object.OpenObject.{OpenObject}
 use Rattle.tenant.specs.declared.object.OpenObject.TheVariants as object
 use Rattle.tenant.specs.Kept.{times_listed, by_descriptor, descriptors}
 use Rattle.tenant.specs.Machine.{named_place, places_from}
-use Rattle.tenant.specs.State.{total}
+use Rattle.bpf_maps.specs.Sum.{total}
 use Rattle.tenant.proofs.Closes.{closed_at}
 use Rattle.tenant.proofs.Opened.{set_there}
 use Rattle.tenant.proofs.Sums.{total-unset, total-part}

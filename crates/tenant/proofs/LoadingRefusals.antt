@@ -9,9 +9,9 @@ use Rattle.insn_codec.specs.Program.{begins_at}
 use Rattle.reg_kinds.specs.declared.facts.Facts.{Facts}
 use Rattle.reg_kinds.specs.declared.reason.Reason.{Reason}
 use Rattle.tagged_model.specs.declared.shape.Named.{Named}
-use Rattle.tagged_model.specs.Cells.{also}
+use Rattle.tagged_model.specs.Cells.{and_then}
 use Rattle.verdict.specs.declared.fault.VerifyFault.{VerifyFault}
-use Rattle.verdict.specs.Before.{before}
+use Rattle.verdict.specs.Before.{facts_before}
 use Rattle.verdict.specs.Maps.{shapes_of}
 use Rattle.verdict.specs.Shape.{shape_fault, shape_of}
 use Rattle.verdict.specs.Verdict.{IsRefused, memory_fault, safety_fault}
@@ -28,7 +28,7 @@ shape_begins : (code : List Insn) (named : List Named) (n : ℕ) (why : Reason) 
 shape_begins code named n why None e = absurd (none-some why e)
 shape_begins code named n why (Some i) e = (i, refl)
 
-safety_begins : (o : Option Insn) (known : Option Facts) (why : Reason) (f : Insn → Facts → Option Reason) → also known (λ k. also o (λ i. f i k)) ≡ Some why → (i : Insn) × (o ≡ Some i)
+safety_begins : (o : Option Insn) (known : Option Facts) (why : Reason) (f : Insn → Facts → Option Reason) → and_then known (λ k. and_then o (λ i. f i k)) ≡ Some why → (i : Insn) × (o ≡ Some i)
 safety_begins None None why f e = absurd (none-some why e)
 safety_begins None (Some k) why f e = absurd (none-some why e)
 safety_begins (Some i) known why f e = (i, refl)
@@ -37,7 +37,7 @@ safety_begins (Some i) known why f e = (i, refl)
 refused_begins : (code : List Insn) (named : List Named) (slot : ℕ) (why : Reason) → IsRefused code named slot why → (i : Insn) × (begins_at code slot ≡ Some i)
 unfolding shape_fault safety_fault
 refused_begins code named slot why (inl shape) = shape_begins code named slot why (begins_at code slot) shape.here
-refused_begins code named slot why (inr safety) = safety_begins (begins_at code slot) (before (shapes_of code named) code slot) why _ safety.1.here
+refused_begins code named slot why (inr safety) = safety_begins (begins_at code slot) (facts_before (shapes_of code named) code slot) why _ safety.1.here
 
 -- so it is one of the program's slots
 pub refused_within : (code by_slot : List Insn) (named : List Named) (fault : VerifyFault) → ((n : ℕ) (i : Insn) → begins_at code n ≡ Some i → slice_get by_slot n ≡ Some i)

@@ -6,7 +6,7 @@ use Rattle.std.proofs.lemmas.Bool.{eqb-true, eq-eqb, ne_eqb}
 use Rattle.std.proofs.lemmas.Bool.Decides.{nat_tests}
 use Rattle.std.proofs.lemmas.Option.{none-some}
 use Rattle.fd_table.specs.Table.{first_descriptor, named, flattened}
-use Rattle.tagged_model.specs.Cells.{also}
+use Rattle.tagged_model.specs.Cells.{and_then}
 use Rattle.tagged_model.specs.Named as at
 use Rattle.tagged_model.specs.Named.{shape_in, shapes_named}
 use Rattle.tagged_model.specs.declared.shape.MapShape.{MapShape}
@@ -78,39 +78,39 @@ below : (s : TenantState) (from fd : ℕ) (xs : List (Option OpenObject)) → fd
 unfolding targets_from at.target_of
 below s from fd [] low = refl
 below s from fd (x ∷ xs) low =
-    entered from (also x (object_target s)) (targets_from s (from + 1) xs) fd
-    ∙ other_entry from (also x (object_target s)) (targets_from s (from + 1) xs) fd (λ e. omega arith)
+    entered from (and_then x (object_target s)) (targets_from s (from + 1) xs) fd
+    ∙ other_entry from (and_then x (object_target s)) (targets_from s (from + 1) xs) fd (λ e. omega arith)
     ∙ below s (from + 1) fd xs (omega arith)
 
-from_on : (s : TenantState) (from fd : ℕ) (xs : List (Option OpenObject)) (n : ℕ) → fd ≡ from + n → at.target_of (targets_from s from xs) fd ≡ also (get_or xs n None) (object_target s)
+from_on : (s : TenantState) (from fd : ℕ) (xs : List (Option OpenObject)) (n : ℕ) → fd ≡ from + n → at.target_of (targets_from s from xs) fd ≡ and_then (get_or xs n None) (object_target s)
 unfolding targets_from at.target_of
 from_on s from fd [] n e = refl
 from_on s from fd (x ∷ xs) zero e =
     let same : fd ≡ from = omega arith in
-    entered from (also x (object_target s)) (targets_from s (from + 1) xs) fd
-    ∙ ap (entry_target from (also x (object_target s)) (targets_from s (from + 1) xs)) same
-    ∙ this_entry from (also x (object_target s)) (targets_from s (from + 1) xs) (below s (from + 1) from xs (omega arith))
+    entered from (and_then x (object_target s)) (targets_from s (from + 1) xs) fd
+    ∙ ap (entry_target from (and_then x (object_target s)) (targets_from s (from + 1) xs)) same
+    ∙ this_entry from (and_then x (object_target s)) (targets_from s (from + 1) xs) (below s (from + 1) from xs (omega arith))
 from_on s from fd (x ∷ xs) (suc n) e =
-    entered from (also x (object_target s)) (targets_from s (from + 1) xs) fd
-    ∙ other_entry from (also x (object_target s)) (targets_from s (from + 1) xs) fd (λ same. omega arith)
+    entered from (and_then x (object_target s)) (targets_from s (from + 1) xs) fd
+    ∙ other_entry from (and_then x (object_target s)) (targets_from s (from + 1) xs) fd (λ same. omega arith)
     ∙ from_on s (from + 1) fd xs n (omega arith)
 
-pub targets_named : (s : TenantState) (fd : ℕ) → at.target_of (targets s) fd ≡ also (named s.objects fd) (object_target s)
+pub targets_named : (s : TenantState) (fd : ℕ) → at.target_of (targets s) fd ≡ and_then (named s.objects fd) (object_target s)
 targets_named s fd = by_test (nat_lt fd first_descriptor) refl
   where
-    by_test : (low : Bool) → nat_lt fd first_descriptor ≡ low → at.target_of (targets s) fd ≡ also (named s.objects fd) (object_target s)
+    by_test : (low : Bool) → nat_lt fd first_descriptor ≡ low → at.target_of (targets s) fd ≡ and_then (named s.objects fd) (object_target s)
     by_test true e =
         let none : named s.objects fd ≡ None = ap (λ (b : Bool). if b then None else flattened (slice_get s.objects (fd - first_descriptor))) e in
         let low : fd < first_descriptor = grind (arith, nat_tests) in
-        below s first_descriptor fd s.objects low ∙ sym (ap (λ (o : Option OpenObject). also o (object_target s)) none)
+        below s first_descriptor fd s.objects low ∙ sym (ap (λ (o : Option OpenObject). and_then o (object_target s)) none)
     by_test false e =
         let low : first_descriptor ≤ fd = grind (arith, nat_tests) in
-        from_on s first_descriptor fd s.objects (fd - first_descriptor) (omega (arith, low)) ∙ ap (λ (o : Option OpenObject). also o (object_target s)) (sym (named_at s.objects fd low))
+        from_on s first_descriptor fd s.objects (fd - first_descriptor) (omega (arith, low)) ∙ ap (λ (o : Option OpenObject). and_then o (object_target s)) (sym (named_at s.objects fd low))
 
 -- the shape of a map
 pub shape_is : (s : TenantState) (fd place : ℕ) (t : Map) → named s.objects fd ≡ Some (object.Map place) → live s place ≡ Some t → shapes_named (targets s) fd ≡ Some t.shape
 shape_is s fd place t opened there =
-    ap shape_in (targets_named s fd ∙ ap (λ (o : Option OpenObject). also o (object_target s)) opened ∙ ap (option_map (λ (u : Map). target.Map u.shape)) there)
+    ap shape_in (targets_named s fd ∙ ap (λ (o : Option OpenObject). and_then o (object_target s)) opened ∙ ap (option_map (λ (u : Map). target.Map u.shape)) there)
 
 -- what has a shape is a map
 pub shaped_map : (s : TenantState) (fd : ℕ) → IsSome (shapes_named (targets s) fd) → (place : ℕ) × (named s.objects fd ≡ Some (object.Map place))
@@ -121,6 +121,6 @@ shaped_map s fd some = by_object (named s.objects fd) refl
     no_some (Some x) some e = none-some x (sym e)
 
     by_object : (o : Option OpenObject) → named s.objects fd ≡ o → (place : ℕ) × (named s.objects fd ≡ Some (object.Map place))
-    by_object None e = absurd (no_some (shapes_named (targets s) fd) some (ap shape_in (targets_named s fd ∙ ap (λ (o : Option OpenObject). also o (object_target s)) e)))
-    by_object (Some (object.Program l)) e = absurd (no_some (shapes_named (targets s) fd) some (ap shape_in (targets_named s fd ∙ ap (λ (o : Option OpenObject). also o (object_target s)) e)))
+    by_object None e = absurd (no_some (shapes_named (targets s) fd) some (ap shape_in (targets_named s fd ∙ ap (λ (o : Option OpenObject). and_then o (object_target s)) e)))
+    by_object (Some (object.Program l)) e = absurd (no_some (shapes_named (targets s) fd) some (ap shape_in (targets_named s fd ∙ ap (λ (o : Option OpenObject). and_then o (object_target s)) e)))
     by_object (Some (object.Map place)) e = (place, e)

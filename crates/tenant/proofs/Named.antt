@@ -9,7 +9,7 @@ use Rattle.tenant.specs.declared.object.OpenObject.{OpenObject}
 use Rattle.tenant.specs.declared.object.OpenObject.TheVariants as object
 use Rattle.tenant.specs.Kept.{KeptTenant, IsWellFormedTenant, key_at, times_named, holders}
 use Rattle.bpf_maps.specs.Live.{holds_at}
-use Rattle.tenant.specs.State.{total}
+use Rattle.bpf_maps.specs.Sum.{total}
 
 names_once : (place : ℕ) → times_named place (object.Map place) ≡ 1
 names_once place = let same : (place == place) ≡ true = eq-eqb place place refl in rw same refl

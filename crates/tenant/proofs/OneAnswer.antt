@@ -12,12 +12,12 @@ use Rattle.insn_codec.specs.Fault.{fault_number}
 use Rattle.reg_kinds.specs.declared.reason.Reason.{Reason}
 use Rattle.reg_kinds.specs.Reason.{number as reason_number}
 use Rattle.tagged_model.specs.declared.shape.Named.{Named}
-use Rattle.tagged_model.specs.Step.{first}
+use Rattle.tagged_model.specs.Step.{refused_at_first}
 use Rattle.verdict.specs.Verdict.{IsAccepted, IsRefused}
 use Rattle.tenant.specs.declared.errno.Errno.{Errno}
 use Rattle.tenant.specs.State.{TenantState}
 use Rattle.tenant.specs.Machine.{Answer, LoadJudgement, accepted, rejected, Judges, IsNoProgram, IsRefusedProgram, codec_errno, verdict_errno, judged, targets, LoadsAs, LoadsUnder, Answers}
-use Rattle.tenant.specs.Alone.{AnswersFrame, RepliesUnder, Alone}
+use Rattle.tenant.specs.Alone.{AnswersFrame, RepliesUnder, IsToldAlone}
 
 -- ---- a load
 
@@ -100,7 +100,7 @@ loads_by one true refused s o slots x a b h k = loads_under one refused s o slot
 loads_by one false refused s o slots x a b h k = h ∙ sym k
 
 pub one_answer_is : Judgements → (refusals : List Bool) (s : TenantState) (command : Command) (a b : Answer) → Answers refusals s command a → Answers refusals s command b → a ≡ b
-one_answer_is one refusals s (prog_load kind slots) a b x y = loads_by one (kind == 1) (first refusals) s (table.lowest s.objects) slots _ a b x y
+one_answer_is one refusals s (prog_load kind slots) a b x y = loads_by one (kind == 1) (refused_at_first refusals) s (table.lowest s.objects) slots _ a b x y
 one_answer_is one refusals s (map_create kind key value max flags) a b x y = x ∙ sym y
 one_answer_is one refusals s (map_lookup fd key) a b x y = x ∙ sym y
 one_answer_is one refusals s (map_update fd flags bytes) a b x y = x ∙ sym y
@@ -127,7 +127,7 @@ one_reply_is one refusals frame x y (Some s) a b (p, h, x_is, a_is) (q, k, y_is,
 abbrev OneReply : Type 0
 OneReply = (refusals : List Bool) (frame x y : List ℕ) (before a b : Option TenantState) → RepliesUnder refusals frame x before a → RepliesUnder refusals frame y before b → (x ≡ y) × (a ≡ b)
 
-pub one_alone_is : OneReply → (before a b : Option TenantState) (frames xs ys : List (List ℕ)) → Alone before frames xs a → Alone before frames ys b → (xs ≡ ys) × (a ≡ b)
+pub one_alone_is : OneReply → (before a b : Option TenantState) (frames xs ys : List (List ℕ)) → IsToldAlone before frames xs a → IsToldAlone before frames ys b → (xs ≡ ys) × (a ≡ b)
 one_alone_is one before a b [] [] [] h k = (refl, h ∙ sym k)
 one_alone_is one before a b [] (x ∷ xs) ys h k = absurd h
 one_alone_is one before a b [] [] (y ∷ ys) h k = absurd k
@@ -135,5 +135,5 @@ one_alone_is one before a b (f ∷ fs) [] ys h k = absurd h
 one_alone_is one before a b (f ∷ fs) (x ∷ xs) [] h k = absurd k
 one_alone_is one before a b (f ∷ fs) (x ∷ xs) (y ∷ ys) (m, told, h) (n, told_too, k) =
     let here = one [] f x y before m n told told_too in
-    let rest = one_alone_is one m a b fs xs ys h (subst (λ (o : Option TenantState). Alone o fs ys b) (sym here.1) k) in
+    let rest = one_alone_is one m a b fs xs ys h (subst (λ (o : Option TenantState). IsToldAlone o fs ys b) (sym here.1) k) in
     (ap₂ (λ (z : List ℕ) (zs : List (List ℕ)). z ∷ zs) here.0 rest.0, rest.1)

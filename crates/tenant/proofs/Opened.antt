@@ -5,7 +5,7 @@ use Rattle.std.proofs.lemmas.Bool.{cases_eq}
 use Rattle.std.proofs.lemmas.Option.{none-some}
 use Rattle.std.proofs.lemmas.List.Quantifiers.{position-Some}
 use Rattle.fd_table.specs.Table.{first_descriptor, lowest, with_open}
-use Rattle.tenant.specs.State.{total}
+use Rattle.bpf_maps.specs.Sum.{total}
 use Rattle.tenant.proofs.Sums.{total-set}
 
 same_inside : {A : Type 0} (x y : A) → Some x ≡ Some y → y ≡ x

@@ -5,7 +5,7 @@ use Rattle.std.specs.List.{position_or_len}
 use Rattle.std.proofs.lemmas.List.Recursion.{is_position_or_len}
 use Rattle.std.proofs.lemmas.Bool.Decides.{nat_tests}
 use Rattle.std.proofs.lemmas.Option.{none-some}
-use Rattle.tenant.specs.State.{total}
+use Rattle.bpf_maps.specs.Sum.{total}
 
 found_if : (n len : ℕ) → n ≡ len → cond (nat_lt n len) (Some n) None ≡ None
 found_if n len e = let no : nat_lt n len ≡ false = grind (arith, nat_tests) in ap (λ (b : Bool). cond b (Some n) None) no

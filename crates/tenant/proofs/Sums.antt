@@ -3,7 +3,7 @@ use Rattle.std.proofs.Common.{◌≡◌, ℕ, zero, suc, ◌+◌, ◌≤◌, ◌
 use Rattle.std.specs.Prelude.{option_map}
 use Rattle.std.specs.Option.{option_map_or}
 use Rattle.std.proofs.lemmas.Option.{none-some}
-use Rattle.tenant.specs.State.{total}
+use Rattle.bpf_maps.specs.Sum.{total}
 
 pub total-none : {A : Type 0} (f : A → ℕ) (n : ℕ) → total f (replicate n None) ≡ 0
 unfolding total

@@ -3,7 +3,7 @@ use Rattle.std.proofs.Common.{◌≡◌, ℕ, zero, suc, ◌+◌, ◌-◌, ◌�
 use Rattle.std.specs.Prelude.{nat_lt, slice_get, if◌then◌else◌}
 use Rattle.std.proofs.lemmas.Bool.Decides.{nat_tests}
 use Rattle.fd_table.specs.Table.{first_descriptor, named, flattened}
-use Rattle.tagged_model.specs.Cells.{also}
+use Rattle.tagged_model.specs.Cells.{and_then}
 use Rattle.tagged_model.specs.declared.shape.Named.{Named}
 use Rattle.tenant.specs.declared.object.OpenObject.{OpenObject}
 use Rattle.tenant.specs.State.{TenantState}
@@ -26,27 +26,27 @@ with_nothing (n ∷ ns) = ap (λ (ms : List Named). n ∷ ms) (with_nothing ns)
 
 -- one more of them
 targets-next : (s : TenantState) (fd : ℕ) (xs : List (Option OpenObject)) (n : ℕ) → n < length xs
-    → targets_from s fd (take (suc n) xs) ≡ targets_from s fd (take n xs) ++ entry_of (fd + n) (also (get_or xs n None) (object_target s))
+    → targets_from s fd (take (suc n) xs) ≡ targets_from s fd (take n xs) ++ entry_of (fd + n) (and_then (get_or xs n None) (object_target s))
 unfolding targets_from
 targets-next s fd [] n within = absurd (omega arith)
 targets-next s fd (x ∷ xs) zero within =
     let e : fd ≡ fd + 0 = omega arith in
-    with_nothing (entry_of fd (also x (object_target s))) ∙ ap (λ (k : ℕ). entry_of k (also x (object_target s))) e
+    with_nothing (entry_of fd (and_then x (object_target s))) ∙ ap (λ (k : ℕ). entry_of k (and_then x (object_target s))) e
 targets-next s fd (x ∷ xs) (suc n) within =
     let e : fd + 1 + n ≡ fd + suc n = omega arith in
     let rest = targets-next s (fd + 1) xs n (omega arith) in
-    ap (λ (ns : List Named). entry_of fd (also x (object_target s)) ++ ns) rest
-    ∙ sym (append_assoc (entry_of fd (also x (object_target s))) (targets_from s (fd + 1) (take n xs)) (entry_of (fd + 1 + n) (also (get_or xs n None) (object_target s))))
-    ∙ ap (λ (k : ℕ). (entry_of fd (also x (object_target s)) ++ targets_from s (fd + 1) (take n xs)) ++ entry_of k (also (get_or xs n None) (object_target s))) e
+    ap (λ (ns : List Named). entry_of fd (and_then x (object_target s)) ++ ns) rest
+    ∙ sym (append_assoc (entry_of fd (and_then x (object_target s))) (targets_from s (fd + 1) (take n xs)) (entry_of (fd + 1 + n) (and_then (get_or xs n None) (object_target s))))
+    ∙ ap (λ (k : ℕ). (entry_of fd (and_then x (object_target s)) ++ targets_from s (fd + 1) (take n xs)) ++ entry_of k (and_then (get_or xs n None) (object_target s))) e
 
 pub targets-more : (s : TenantState) (xs : List (Option OpenObject)) (fd : ℕ) (o : Option OpenObject) → first_descriptor ≤ fd → fd - first_descriptor < length xs → named xs fd ≡ o
-    → targets_from s first_descriptor (take (fd + 1 - first_descriptor) xs) ≡ targets_from s first_descriptor (take (fd - first_descriptor) xs) ++ entry_of fd (also o (object_target s))
+    → targets_from s first_descriptor (take (fd + 1 - first_descriptor) xs) ≡ targets_from s first_descriptor (take (fd - first_descriptor) xs) ++ entry_of fd (and_then o (object_target s))
 targets-more s xs fd o low within is =
     let e : fd + 1 - first_descriptor ≡ suc (fd - first_descriptor) = omega arith in
     let f : first_descriptor + (fd - first_descriptor) ≡ fd = omega arith in
     ap (λ (n : ℕ). targets_from s first_descriptor (take n xs)) e
     ∙ targets-next s first_descriptor xs (fd - first_descriptor) within
-    ∙ ap₂ (λ (k : ℕ) (p : Option OpenObject). targets_from s first_descriptor (take (fd - first_descriptor) xs) ++ entry_of k (also p (object_target s))) f (sym (named_at xs fd low) ∙ is)
+    ∙ ap₂ (λ (k : ℕ) (p : Option OpenObject). targets_from s first_descriptor (take (fd - first_descriptor) xs) ++ entry_of k (and_then p (object_target s))) f (sym (named_at xs fd low) ∙ is)
 
 pub targets-none : (s : TenantState) (fd : ℕ) → targets_from s fd [] ≡ []
 unfolding targets_from

@@ -2,7 +2,9 @@
 use Rattle.std.proofs.Common.{◌≡◌, ◌≢◌, ℕ, zero, suc, ◌+◌, ◌<◌, List, [], ◌∷◌, length, get_or, Option, Some, None, IsSome, refl, sym, ap, ap₂, subst, ◌∙◌, inl, inr, arith}
 use Rattle.std.specs.Prelude.{◌⊎◌, slice_index}
 use Rattle.std.proofs.lemmas.Bool.{cases_eq, true≢false}
-use Rattle.bpf_maps.specs.Live.{LiveMaps, LiveMap, live_or, live_at, places_at, shape_at, weight, total, area_of, SameAreas, SameRoom}
+use Rattle.bpf_maps.specs.Live.{LiveMaps, LiveMap, live_or, live_at, places_at, shape_at, area_of, SameAreas, SameRoom}
+use Rattle.bpf_maps.specs.Sum.{weight}
+use Rattle.bpf_maps.specs.LiveLaws.{total_same}
 use Rattle.flat_machine.specs.Runs.{RunKeepsMaps}
 use Rattle.tagged_model.specs.Shape.{area}
 use Rattle.tagged_model.specs.declared.shape.MapShape.{MapShape}
@@ -45,13 +47,6 @@ same_shape old new key areas live =
 
 -- ---- as many maps, with as much room
 
-total_by : (f : LiveMap → ℕ) (xs ys : List (Option LiveMap)) → ((i : ℕ) → weight f (get_or ys i None) ≡ weight f (get_or xs i None)) → total f ys ≡ total f xs
-unfolding total
-total_by f [] [] h = refl
-total_by f [] (y ∷ ys) h = let here = h 0 in let rest = total_by f [] ys (λ i. h (suc i)) in omega arith
-total_by f (x ∷ xs) [] h = let here = h 0 in let rest = total_by f xs [] (λ i. h (suc i)) in omega arith
-total_by f (x ∷ xs) (y ∷ ys) h = ap₂ (λ (m n : ℕ). m + n) (h 0) (total_by f xs ys (λ i. h (suc i)))
-
 module _ (bind : List ℕ) (old new : LiveMaps) (keeps : RunKeepsMaps bind old new) where
   weight_same : (f : LiveMap → ℕ) → ((l m : LiveMap) → l.places.shape ≡ m.places.shape → f l ≡ f m) → (key : ℕ) → weight f (live_at new key) ≡ weight f (live_at old key)
   weight_same f tells key = by (stands_or_not bind key)
@@ -68,8 +63,8 @@ module _ (bind : List ℕ) (old new : LiveMaps) (keeps : RunKeepsMaps bind old n
 
   same_room : SameRoom old new
   same_room = record {
-    maps = total_by (λ l. 1) old.slots new.slots (weight_same (λ l. 1) (λ l m same. refl));
-    bytes = total_by area_of old.slots new.slots (weight_same area_of same_area);
+    maps = total_same (λ l. 1) old.slots new.slots (weight_same (λ l. 1) (λ l m same. refl));
+    bytes = total_same area_of old.slots new.slots (weight_same area_of same_area);
   }
 
 -- ---- the invariant

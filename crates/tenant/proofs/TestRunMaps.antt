@@ -10,7 +10,7 @@ use Rattle.std.proofs.lemmas.List.Quantifiers.{position-Some}
 use Rattle.bpf_maps.specs.declared.part.TheConstants.{MAPS}
 use Rattle.bpf_maps.specs.Live.{LiveMaps, live_at, map_in}
 use Rattle.flat_machine.specs.Runs.{given_maps, bound_key, RunKeepsMaps, KeepsValues}
-use Rattle.tagged_model.specs.Cells.{also}
+use Rattle.tagged_model.specs.Cells.{and_then}
 use Rattle.tagged_model.specs.Step.{MapsByDescriptor}
 use Rattle.verdict.specs.Maps.{maps_of}
 use Rattle.tenant.specs.Kept.{KeptTenant, IsWellFormedTenant, IsBound, key_at, times_listed, maps_in, state_in}
@@ -68,7 +68,7 @@ lookup_is (m ∷ ms) fd = by (m.0 == fd) refl (lookup_is ms fd)
 
 module _ (part : List ℕ) (k : KeptTenant) (l : LoadedProgram) (bind : List ℕ) (each : keys_of l.maps ≡ maps_of l.insns) (count : length bind ≡ length l.maps) (keys : HasKeys k.keys l.maps bind) where
   given_at : (o : Option ℕ) → ((i : ℕ) → o ≡ Some i → i < length l.maps)
-      → option_map (map_in part k.live) (option_map (λ i. slice_index bind i) o) ≡ also (option_map (λ i. listed_place l.maps i) o) (λ place. live (state_in part k) place)
+      → option_map (map_in part k.live) (option_map (λ i. slice_index bind i) o) ≡ and_then (option_map (λ i. listed_place l.maps i) o) (λ place. live (state_in part k) place)
   given_at None within = refl
   given_at (Some i) within = sym (live_is part k (listed_place l.maps i) (slice_index bind i) (keys i (within i refl)))
 
@@ -80,7 +80,7 @@ module _ (part : List ℕ) (k : KeptTenant) (l : LoadedProgram) (bind : List ℕ
   given_is = fun_ext (λ fd.
       ap (λ (fds : List ℕ). option_map (λ key. map_in part k.live key) (bound_key fds bind fd)) (sym each)
       ∙ given_at (position (λ m. m == fd) (keys_of l.maps)) (stands_within fd)
-      ∙ ap (λ (o : Option ℕ). also o (λ place. live (state_in part k) place)) (sym (lookup_is l.maps fd)))
+      ∙ ap (λ (o : Option ℕ). and_then o (λ place. live (state_in part k) place)) (sym (lookup_is l.maps fd)))
 
 -- ---- the maps that it leaves
 

@@ -63,8 +63,8 @@ RepliesInOrder tells before [] (reply ∷ replies) after = ⊥
 RepliesInOrder tells before (frame ∷ frames) [] after = ⊥
 
 -- the tenant's machine where no memory is refused, and where some may be
-abbrev pub Alone : Option TenantState → List (List ℕ) → List (List ℕ) → Option TenantState → Type 0
-Alone before frames replies after = RepliesInOrder (RepliesUnder []) before frames replies after
+abbrev pub IsToldAlone : Option TenantState → List (List ℕ) → List (List ℕ) → Option TenantState → Type 0
+IsToldAlone before frames replies after = RepliesInOrder (RepliesUnder []) before frames replies after
 
 abbrev pub AloneWithRefusals : Option TenantState → List (List ℕ) → List (List ℕ) → Option TenantState → Type 0
 AloneWithRefusals before frames replies after = RepliesInOrder MayReply before frames replies after

@@ -9,7 +9,8 @@ use Rattle.verdict.specs.Maps.{maps_of}
 use Rattle.tenant.specs.declared.object.OpenObject.{OpenObject}
 use Rattle.tenant.specs.declared.object.OpenObject.TheVariants as object
 use Rattle.tenant.specs.Loaded.{LoadedProgram}
-use Rattle.tenant.specs.State.{Map, TenantState, most_maps, shape_area, total}
+use Rattle.bpf_maps.specs.Sum.{total}
+use Rattle.tenant.specs.State.{Map, TenantState, most_maps, shape_area}
 
 -- the objects by descriptors, the key of the map at each place, the live maps by keys, and whether memory was refused to a load
 pub record KeptTenant : Type 0 where

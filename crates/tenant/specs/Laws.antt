@@ -8,7 +8,7 @@ use Rattle.tenant.specs.Machine.{Answer, LoadJudgement, Judges, Answers}
 use Rattle.command_frames.specs.Frame.{reply_to}
 use Rattle.tenant.specs.declared.errno.Errno.TheVariants.{BadAddress}
 use Rattle.tenant.specs.Errno.{status_of}
-use Rattle.tenant.specs.Alone.{RepliesUnder, MayReply, IsFault, Alone, AloneWithRefusals}
+use Rattle.tenant.specs.Alone.{RepliesUnder, MayReply, IsFault, IsToldAlone, AloneWithRefusals}
 
 abbrev pub OneJudgement : Type 0
 OneJudgement = (named : List Named) (slots : List ℕ) (j k : LoadJudgement) → Judges named slots j → Judges named slots k → j ≡ k
@@ -24,7 +24,7 @@ OneReply =
 -- while no memory is refused
 abbrev pub OneAlone : Type 0
 OneAlone =
-    (before a b : Option TenantState) (frames xs ys : List (List ℕ)) → Alone before frames xs a → Alone before frames ys b
+    (before a b : Option TenantState) (frames xs ys : List (List ℕ)) → IsToldAlone before frames xs a → IsToldAlone before frames ys b
     → (xs ≡ ys) × (a ≡ b)
 
 -- where a tenant's flag is clear after a command, it answered as if no memory might be refused
@@ -37,7 +37,7 @@ ClearFlagMeansNoRefusal =
 abbrev pub ClearFlagMeansAlone : Type 0
 ClearFlagMeansAlone =
     (before : Option TenantState) (after : TenantState) (frames replies : List (List ℕ)) → AloneWithRefusals before frames replies (Some after)
-    → after.refused ≡ false → Alone before frames replies (Some after)
+    → after.refused ≡ false → IsToldAlone before frames replies (Some after)
 
 -- a reply with the status of a fault carries nothing else
 abbrev pub FaultsHaveNoPayload : Type 0

@@ -23,9 +23,9 @@ use Rattle.tagged_model.specs.declared.shape.Target.TheVariants as target
 use Rattle.tagged_model.specs.declared.fault.MapFault.{MapFault}
 use Rattle.tagged_model.specs.declared.value.Outcome.{Outcome}
 use Rattle.tagged_model.specs.declared.value.Outcome.TheVariants.{Value, Fault}
-use Rattle.tagged_model.specs.Cells.{also}
+use Rattle.tagged_model.specs.Cells.{and_then}
 use Rattle.tagged_model.specs.Shape.{is_shape, is_valid}
-use Rattle.tagged_model.specs.Step.{first, MapsByDescriptor, result_with, left_with, was_refused}
+use Rattle.tagged_model.specs.Step.{refused_at_first, MapsByDescriptor, result_with, left_with, was_refused}
 use Rattle.tagged_model.specs.Table as call
 use Rattle.tagged_model.specs.Table.{look_up, verdict, removal, next_of, with_new, with_object, with_deleted, after_run, new_table}
 use Rattle.verdict.specs.Verdict.{IsAccepted, IsRefused}
@@ -229,7 +229,7 @@ entry_of fd (Some t) = record { fd = fd; target = t } ∷ []
 -- what each open descriptor names, from this one on
 unfoldable pub targets_from : TenantState → ℕ → List (Option OpenObject) → List Named
 targets_from s fd [] = []
-targets_from s fd (o ∷ os) = entry_of fd (also o (object_target s)) ++ targets_from s (fd + 1) os
+targets_from s fd (o ∷ os) = entry_of fd (and_then o (object_target s)) ++ targets_from s (fd + 1) os
 
 abbrev pub targets : TenantState → List Named
 targets s = targets_from s table.first_descriptor s.objects
@@ -281,7 +281,7 @@ longest_packet = 32768
 
 -- the maps of a program, by the descriptors in its text
 abbrev pub maps_given : TenantState → LoadedProgram → MapsByDescriptor
-maps_given s l fd = also (lookup (λ m. m == fd) l.maps) (λ place. live s place)
+maps_given s l fd = and_then (lookup (λ m. m == fd) l.maps) (λ place. live s place)
 
 -- each of these maps as a run left it
 unfoldable pub maps_left : MapsByDescriptor → List (ℕ × ℕ) → List (Option Map) → List (Option Map)
@@ -317,11 +317,11 @@ closed s fd (Some o) = gives [] (with_objects s (table.with_closed s.objects fd)
 -- What a command may answer. Memory may be refused to it: where the first of the refusals says so, and in a test run at the
 -- steps that they say.
 abbrev pub Answers : List Bool → TenantState → Command → Answer → Type 0
-Answers refusals s (map_create kind key value max flags) a = a ≡ created (first refusals) s (asked_shape (kind_of kind) key value max flags)
+Answers refusals s (map_create kind key value max flags) a = a ≡ created (refused_at_first refusals) s (asked_shape (kind_of kind) key value max flags)
 Answers refusals s (map_lookup fd key) a = a ≡ element_looked_up s fd key
-Answers refusals s (map_update fd flags bytes) a = a ≡ element_updated (first refusals) s fd flags bytes
+Answers refusals s (map_update fd flags bytes) a = a ≡ element_updated (refused_at_first refusals) s fd flags bytes
 Answers refusals s (map_delete fd key) a = a ≡ element_deleted s fd key
 Answers refusals s (map_next_key fd key) a = a ≡ given_next s fd key
-Answers refusals s (prog_load kind slots) a = Loads (first refusals) s kind slots a
+Answers refusals s (prog_load kind slots) a = Loads (refused_at_first refusals) s kind slots a
 Answers refusals s (prog_test_run fd words packet) a = a ≡ run_of refusals s words packet (table.named s.objects fd)
 Answers refusals s (close fd) a = a ≡ closed s fd (table.named s.objects fd)

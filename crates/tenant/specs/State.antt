@@ -4,6 +4,7 @@ use Rattle.std.specs.Prelude.{ℕ, ◌+◌, ◌==◌, Bool, false, if◌then◌e
 use Rattle.std.specs.List.{list_any}
 use Rattle.std.specs.Option.{option_map_or}
 use Rattle.bpf_maps.specs.declared.part.TheConstants.{LARGEST_SUM, MAPS}
+use Rattle.bpf_maps.specs.Sum.{total}
 use Rattle.tagged_model.specs.declared.shape.MapShape.{MapShape}
 use Rattle.tagged_model.specs.Shape.{area}
 use Rattle.tagged_model.specs.Table.{Table}
@@ -32,11 +33,6 @@ most_bytes = LARGEST_SUM
 -- of a new tenant
 abbrev pub new_tenant : TenantState
 new_tenant = record { objects = nothing_open; maps = replicate most_maps None; refused = false }
-
--- the sum of a number over all that are there
-unfoldable pub total : {A : Type 0} → (A → ℕ) → List (Option A) → ℕ
-total f [] = 0
-total f (x ∷ xs) = option_map_or f x 0 + total f xs
 
 -- ---- live maps
 

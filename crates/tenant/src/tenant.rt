@@ -4,7 +4,7 @@ ghost use Rattle.std.specs.Prelude.{◌≡◌, ◌+◌, ◌<◌, ◌≤◌, ◌=
 ghost use Rattle.words.specs.Bytes.{written_at};
 ghost use Rattle.bpf_maps.specs.declared.part.TheConstants.{KEY_ROOM, MAPS, PART};
 ghost use Rattle.bpf_maps.specs.Live.{live_at};
-ghost use Rattle.tagged_model.specs.Cells.{also};
+ghost use Rattle.tagged_model.specs.Cells.{and_then};
 ghost use Rattle.fd_table.specs.Table.{most, named, lowest, with_open};
 ghost use Rattle.tenant.specs.declared.object.OpenObject.TheVariants as object;
 ghost use Rattle.tenant.specs.Errno.{status_of};
@@ -185,7 +185,7 @@ impl Tenant {
     /// What a descriptor names, for the verdict.
     fn target(&self, fd: u32) -> Option<Target>
         ensures { (part : List ℕ) →
-            result ≡ also (named self.now.objects fd) (object_target (state_in part self.now)) }
+            result ≡ and_then (named self.now.objects fd) (object_target (state_in part self.now)) }
     {
         match self.objects.get(fd)? {
             OpenObject::Map(place) => Some(Target::Map(self.maps.shape(self.key_at(*place)))),
@@ -209,7 +209,12 @@ impl Tenant {
         Ok(found)
     }
 
-    /// MAP_LOOKUP_ELEM: the bytes of a key's value, which lie in the tenant's part and are lent from there.
+    /// MAP_LOOKUP_ELEM: the bytes of a key's value, which lie in the tenant's part, `PART` bytes, and are lent from there.
+    ///
+    /// # Errors
+    ///
+    /// `BadDescriptor` where no map is open under the descriptor, `Invalid` at a key of another size, `NoEntry` where the key is not
+    /// there.
     pub fn look_up<'a>(&self, fd: u32, key: &[u8], part: &'a [u8]) -> Result<&'a [u8], Errno>
         requires { length part.now ≡ PART }
         ensures answer { lent_answer result (state_in part.now self.now)
@@ -229,7 +234,12 @@ impl Tenant {
         Ok(&part[start..start + shape.value_size as usize])
     }
 
-    /// MAP_CREATE: makes a map of a shape, and opens it.
+    /// MAP_CREATE: makes a map of a shape, with its values in the tenant's part, `PART` bytes, and opens it.
+    ///
+    /// # Errors
+    ///
+    /// `TooManyOpen` where no descriptor is free, `NoSpace` where there are too many maps or their values take too many bytes, and
+    /// else `NoMemory` where there is none for a hash map. No map has changed then.
     pub fn create(&mut self, shape: MapShape, part: &mut [u8]) -> Result<u32, Errno>
         requires { length part.old ≡ PART }
         ensures answer { (refused : Bool)
@@ -249,8 +259,14 @@ impl Tenant {
         Ok(open(&mut self.objects, OpenObject::Map(place)))
     }
 
-    /// MAP_UPDATE_ELEM: writes the value of a key. A present key's value is written in place, and a new key goes last. Only a new
-    /// key of a hash map takes memory.
+    /// MAP_UPDATE_ELEM: writes the value of a key into the tenant's part, `PART` bytes. A present key's value is written in place,
+    /// and a new key goes last. Only a new key of a hash map takes memory.
+    ///
+    /// # Errors
+    ///
+    /// `BadDescriptor` where no map is open under the descriptor, `Invalid` where key and value have another size than the map's, and
+    /// then those of an update by its flags: `Invalid`, `TooBig`, `Exists`, `NoEntry`, and `NoMemory` for a new key. No key
+    /// and no value has changed then.
     pub fn update(
         &mut self,
         fd: u32,
@@ -287,6 +303,11 @@ impl Tenant {
     }
 
     /// MAP_DELETE_ELEM: takes a key and its value out.
+    ///
+    /// # Errors
+    ///
+    /// `BadDescriptor` where no map is open under the descriptor, `Invalid` at a key of another size and for every key of an array,
+    /// `NoEntry` where the key is not there. Nothing has changed then.
     pub fn delete(&mut self, fd: u32, key: &[u8]) -> Result<(), Errno>
         ensures { (part : List ℕ) → done_answer result (state_in part self.new)
             ≡ element_deleted (state_in part self.old) fd key.now }
@@ -305,7 +326,12 @@ impl Tenant {
         Ok(())
     }
 
-    /// MAP_GET_NEXT_KEY: the key that follows is written at the front of `next`, and its length is answered.
+    /// MAP_GET_NEXT_KEY: the key that follows is written at the front of `next`, and its length is answered. After no key, and
+    /// after one that is not there, follows the first.
+    ///
+    /// # Errors
+    ///
+    /// `BadDescriptor` where no map is open under the descriptor, `Invalid` at a key of another size, `NoEntry` where none follows.
     pub fn next_key(&self, fd: u32, key: &[u8], next: &mut [u8; KEY_ROOM]) -> Result<usize, Errno>
         ensures answer { (part : List ℕ) →
             front_answer result next.new (state_in part self.now)
@@ -326,6 +352,10 @@ impl Tenant {
     }
 
     /// CLOSE: closes a descriptor. A map that no other descriptor and no program names is gone.
+    ///
+    /// # Errors
+    ///
+    /// `BadDescriptor` where the descriptor is not open. Nothing has changed then.
     pub fn close(&mut self, fd: u32, part: &mut [u8]) -> Result<(), Errno>
         requires { length part.old ≡ PART }
         ensures answer { done_answer result (state_in part.new self.new)

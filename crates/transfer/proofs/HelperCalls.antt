@@ -14,7 +14,7 @@ use Rattle.reg_kinds.specs.declared.kind.Kind.TheVariants as kind
 use Rattle.reg_kinds.specs.declared.facts.Facts.{Facts}
 use Rattle.reg_kinds.specs.declared.reason.Reason.{Reason}
 use Rattle.reg_kinds.specs.declared.reason.Reason.TheVariants.{LengthUnbounded}
-use Rattle.reg_kinds.specs.Reason.{given}
+use Rattle.reg_kinds.specs.Reason.{and_then_ok}
 use Rattle.reg_kinds.specs.Kinds.{kind_at}
 use Rattle.reg_kinds.specs.Stack.{is_in_stack, place}
 use Rattle.reg_kinds.specs.Many.{stack_input, stack_filled, called_facts}
@@ -27,7 +27,7 @@ use Rattle.tagged_model.specs.declared.value.Object.TheVariants as object
 use Rattle.tagged_model.specs.declared.value.Tagged.{Tagged}
 use Rattle.tagged_model.specs.declared.value.Tagged.TheVariants.{Scalar, Map, Pointer}
 use Rattle.tagged_model.specs.Table.{look_up, verdict, Verdict, Refused, Present, New, removal}
-use Rattle.tagged_model.specs.Cells.{also, cell_over}
+use Rattle.tagged_model.specs.Cells.{and_then, cell_over}
 use Rattle.tagged_model.specs.State.{RunState, RunMap, with_map, with_refusal, with_cells, stack_bytes, stack_written, object_bytes, object_written, input, output}
 use Rattle.tagged_model.specs.Helpers.{GivenMap, map_given, number_given, length_given, context_given, argument, map_argument, looked_up, MapReply, put, updated, taken_out, removed, errno, packet_bytes, packet_answer, is_in_packet, negative, outside, returns, replies, called}
 use Rattle.tagged_model.specs.Admits.{Witness, IsOfKind, IsLookup, HasKind, AdmitsBy, objects_of, AreBytes, IsMapOf, HasMaps, AreBelow, witness_at}
@@ -42,13 +42,13 @@ use Rattle.transfer.proofs.Parts.{Agree, by_law, refused, same_ok, still_noted, 
 
 -- ---- going together
 
-also_agree : {A B C D : Type 0} (P : A → B → Type 0) (Q : C → D → Type 0) (r : Result A Reason) (o : Option B) (go : A → Result C Reason) (on : B → Option D) → Agree P r o → ((x : A) (y : B) → P x y → Agree Q (go x) (on y)) → Agree Q (given r go) (also o on)
+also_agree : {A B C D : Type 0} (P : A → B → Type 0) (Q : C → D → Type 0) (r : Result A Reason) (o : Option B) (go : A → Result C Reason) (on : B → Option D) → Agree P r o → ((x : A) (y : B) → P x y → Agree Q (go x) (on y)) → Agree Q (and_then_ok r go) (and_then o on)
 also_agree P Q (Err e) o go on h further = tt
 also_agree P Q (Ok x) None go on h further = absurd h
 also_agree P Q (Ok x) (Some y) go on h further = further x y h
 
 -- what may be read, without a step of the machine
-readable_agree : {C D : Type 0} (Q : C → D → Type 0) (k : Kind) (go : Kind → Result C Reason) (o : Option D) → (IsReadable k → Agree Q (go k) o) → Agree Q (given (readable k) go) o
+readable_agree : {C D : Type 0} (Q : C → D → Type 0) (k : Kind) (go : Kind → Result C Reason) (o : Option D) → (IsReadable k → Agree Q (go k) o) → Agree Q (and_then_ok (readable k) go) o
 readable_agree Q kind.Unreadable go o h = tt
 readable_agree Q (kind.Scalar r) go o h = h tt
 readable_agree Q (kind.MapRef m) go o h = h tt
@@ -59,7 +59,7 @@ readable_agree Q (kind.MaybeValue m site) go o h = h tt
 
 -- of an argument, by its value
 at_argument : {A B : Type 0} (Q : A → B → Type 0) (r : Result A Reason) (s : RunState) (n : ℕ) (on : Tagged → Option B) (v w : Tagged) → s.registers n ≡ Some v → v ≡ w → Agree Q r (on w) → Agree Q r (argument s n on)
-at_argument Q r s n on v w e same h = subst (λ o. Agree Q r (also o on)) (sym (e ∙ ap (λ (x : Tagged). Some x) same)) h
+at_argument Q r s n on v w e same h = subst (λ o. Agree Q r (and_then o on)) (sym (e ∙ ap (λ (x : Tagged). Some x) same)) h
 
 from_agree : {A B : Type 0} (P : A → B → Type 0) (r : Result A Reason) (o : Option B) (x : A) → Agree P r o → r ≡ Ok x → (y : B) × (o ≡ Some y) × P x y
 from_agree P (Err e) o x h q = absurd (refused e x q)
@@ -131,8 +131,8 @@ module _ (laws : Laws) (witness : Witness) (shapes : Shapes) (f : Facts) (s : Ru
   map_found n m (Some shape) e register =
       let h = still.maps m shape e in
       let at : map_argument s n ≡ Some (record { descriptor = m; map = h.0 }) =
-      ap (λ o. also (also o map_given) (λ m. also (s.maps m) (λ t. Some (record { descriptor = m; map = t })))) register
-      ∙ ap (λ o. also o (λ t. Some (record { descriptor = m; map = t }))) h.1 in
+      ap (λ o. and_then (and_then o map_given) (λ m. and_then (s.maps m) (λ t. Some (record { descriptor = m; map = t })))) register
+      ∙ ap (λ o. and_then o (λ t. Some (record { descriptor = m; map = t }))) h.1 in
       subst (Agree IsMap (shaped m (Some shape))) (sym at) (record { named = refl; shape_is = e; there = h.1; is = h.2 })
 
   map_agrees : (n : ℕ) (k : Kind) → IsReadable k → HasKind witness k (s.registers n) → Agree IsMap (map_kind shapes k) (map_argument s n)
@@ -203,15 +203,15 @@ module _ (laws : Laws) (witness : Witness) (shapes : Shapes) (f : Facts) (s : Ru
       let c = cond_some (is_in_stack x (length bs)) (with_cells s (λ i. cell_over i (s.cells i) (place x) bs)) h.0 h.1 in
       (h.0, h.1, record { known = record { admits = h.2; proper = h.3; maps = subst (λ u. HasMaps shapes u) c.1 still.maps }; same_at = ap (λ (u : RunState). u.at) (sym c.1) }))
 
-  given_room : (r : Result (Unit {0}) Reason) (g : Facts) → given r (λ _. Ok f) ≡ Ok g → (r ≡ Ok tt) × (f ≡ g)
+  given_room : (r : Result (Unit {0}) Reason) (g : Facts) → and_then_ok r (λ _. Ok f) ≡ Ok g → (r ≡ Ok tt) × (f ≡ g)
   given_room (Ok x) g e = (refl, same_ok f g e)
   given_room (Err reason) g e = absurd (refused reason g e)
 
   value_filled_agrees : (p : ValuePointer) (r : Range) (number : ℕ) (x : ℤ) (bs : List ℕ) (o : Option MapShape) → shapes p.map ≡ o → p.lo ≤ℤ x → x ≤ℤ p.hi → number < witness.objects p.map → AreBytes bs → IsMember (length bs) r
-      → Agree (IsFilled bs) (given (room_of p (pos 0) r.hi o) (λ _. Ok f)) (object_written s p.map number x bs)
+      → Agree (IsFilled bs) (and_then_ok (room_of p (pos 0) r.hi o) (λ _. Ok f)) (object_written s p.map number x bs)
   value_filled_agrees p r number x bs None e from to lt small m = tt
   value_filled_agrees p r number x bs (Some shape) e from to lt small m =
-      by_law (IsFilled bs) (given (room_of p (pos 0) r.hi (Some shape)) (λ _. Ok f)) (object_written s p.map number x bs)
+      by_law (IsFilled bs) (and_then_ok (room_of p (pos 0) r.hi (Some shape)) (λ _. Ok f)) (object_written s p.map number x bs)
       (λ g ok. let c = given_room (room_of p (pos 0) r.hi (Some shape)) g ok in
       let room = room_here p r.hi x shape from to c.0 in
       let high = room.high in let most = m.to in
@@ -223,7 +223,7 @@ module _ (laws : Laws) (witness : Witness) (shapes : Shapes) (f : Facts) (s : Ru
       at_argument (IsFilled bs) (stack_filled f x r.lo r.hi) s n (λ p. output s p bs) h.0 (Pointer object.Stack x) h.1 h.2 (stack_filled_agrees x r bs small m)
   output_agrees n r (kind.Value p) bs _ h small m =
       let v = h.2 in
-      at_argument (IsFilled bs) (given (room_of p (pos 0) r.hi (shapes p.map)) (λ _. Ok f)) s n (λ p. output s p bs) h.0 (Pointer (object.Value p.map v.0) v.1) h.1 v.2
+      at_argument (IsFilled bs) (and_then_ok (room_of p (pos 0) r.hi (shapes p.map)) (λ _. Ok f)) s n (λ p. output s p bs) h.0 (Pointer (object.Value p.map v.0) v.1) h.1 v.2
       (value_filled_agrees p r v.0 v.1 bs (shapes p.map) refl v.3 v.4 v.5 small m)
   output_agrees n r k bs _ h small m = tt
 

@@ -1,6 +1,6 @@
 -- Conditional jumps: the facts on the edge that is taken admit the state after it.
 use Rattle.std.proofs.Common.{◌≡◌, ◌≢◌, ℕ, ◌+◌, ◌<◌, ◌^◌, if◌then◌else◌, ℤ, pos, ◌+ℤ◌, Bool, true, false, not, Option, Result, Some, None, Ok, Err, refl, sym, ap, subst, ◌∙◌, inl, inr}
-use Rattle.std.specs.Option.{IsSome, option_map}
+use Rattle.std.specs.Option.{IsSome, option_map, unwrap_or}
 use Rattle.std.specs.Ordering.{int_eq}
 use Rattle.std.proofs.lemmas.Bool.{cond_both, false≢true}
 use Rattle.std.proofs.lemmas.Bool.Decides.{Decides-int_eq}
@@ -27,13 +27,13 @@ use Rattle.tagged_model.specs.declared.value.Tagged.TheVariants.{Scalar, Pointer
 use Rattle.tagged_model.specs.Operators.{width, comparison_of}
 use Rattle.tagged_model.specs.Values.{is_null_test, holds_of_pointers, compared}
 use Rattle.tagged_model.specs.State.{RunState, at_slot}
-use Rattle.tagged_model.specs.Step.{goes, need, operand, branched}
+use Rattle.tagged_model.specs.Step.{goes, or_fault, operand, branched}
 use Rattle.insn_codec.specs.Flow.{natural}
 use Rattle.tagged_model.specs.Laws.{NullTestAdmits}
 use Rattle.tagged_model.specs.Admits.{IsLookup}
 use Rattle.transfer.specs.Branches.{Edges, with_source, with_pair, is_same, number_edges, null_edges, settled_edges, branch_edges}
-use Rattle.transfer.specs.Sound.{EdgeAdmits}
-use Rattle.transfer.proofs.Parts.{Here, IsFound, IsKnown, IsCovered, IsCoveredIf}
+use Rattle.transfer.specs.Sound.{EdgeAdmits, TakenEdgeAdmits}
+use Rattle.transfer.proofs.Parts.{Here, IsFound, IsKnown, OnJumping, IsCovered, IsCoveredIf}
 use Rattle.transfer.proofs.States.{scalar_of, known_more, goes_to}
 use Rattle.transfer.proofs.Values.{by_number}
 use Rattle.transfer.proofs.Words.{settled_words}
@@ -65,25 +65,25 @@ on_edge : (here : Here) (o : Option Facts) (s : RunState) (n : ℕ) → IsKnownO
 on_edge here None s n h = h
 on_edge here (Some f) s n h = goes_to here f s n h
 
-pub jump_covered : (here : Here) (next : ℕ) (target : Option ℕ) (e : Edges) (s : RunState) → IsSome target → IsKnownOn here e.jumping s → IsCovered here next target e (need target (λ n. goes (at_slot n s)))
-jump_covered here next None e s there h = absurd (false≢true there)
-jump_covered here next (Some n) e s there h = inr (on_edge here e.jumping s n h)
+pub jump_covered : (here : Here) (target : Option ℕ) (e : Edges) (s : RunState) → IsSome target → IsKnownOn here e.jumping s → IsCovered (OnJumping here target) e (or_fault target (λ n. goes (at_slot n s)))
+jump_covered here None e s there h = absurd (false≢true there)
+jump_covered here (Some n) e s there h = on_edge here e.jumping s n h
 
 module _ (here : Here) (laws : Comparisons) (f : Facts) (s : RunState) (known : IsKnown here f s) (off : ℤ) (there : IsSome (natural (pos (s.at + 1) +ℤ off))) where
   abbrev Target : Option ℕ
   Target = natural (pos (s.at + 1) +ℤ off)
 
-  -- the state after the jump, or after none, is on an edge
+  -- the state after the jump, or after none, is on the edge that is taken
   abbrev Covered : Edges → Bool → Type 0
-  Covered e taken = IsCovered here (s.at + 1) Target e (branched s off taken)
+  Covered e taken = IsCovered (TakenEdgeAdmits taken here.shapes (s.at + 1) Target) e (branched s off taken)
 
   -- where the facts let the jump be run
   abbrev CoveredIf : Result Edges Reason → Option Bool → Type 0
-  CoveredIf r o = IsCoveredIf here (s.at + 1) Target r (need o (branched s off))
+  CoveredIf r o = IsCoveredIf (TakenEdgeAdmits (unwrap_or o false) here.shapes (s.at + 1) Target) r (or_fault o (branched s off))
 
   by_edges : (e : Edges) (taken : Bool) → (taken ≡ true → IsKnownOn here e.jumping s) → (taken ≡ false → IsKnownOn here e.falling s) → Covered e taken
-  by_edges e true jumps falls = jump_covered here (s.at + 1) Target e s there (jumps refl)
-  by_edges e false jumps falls = inl (on_edge here e.falling s (s.at + 1) (falls refl))
+  by_edges e true jumps falls = jump_covered here Target e s there (jumps refl)
+  by_edges e false jumps falls = on_edge here e.falling s (s.at + 1) (falls refl)
 
   -- ---- numbers
 
@@ -116,8 +116,8 @@ module _ (here : Here) (laws : Comparisons) (f : Facts) (s : RunState) (known : 
 
   -- on the edge that a value takes which is not null
   value_covered : (taken : Bool) (null value : Option Facts) → IsKnownOn here value s → Covered (null_edges (not taken) null value) taken
-  value_covered true null value h = by_edges _ true (λ _. h) (λ e. absurd (false≢true (sym e)))
-  value_covered false null value h = by_edges _ false (λ e. absurd (false≢true e)) (λ _. h)
+  value_covered true null value h = by_edges (null_edges false null value) true (λ _. h) (λ e. absurd (false≢true (sym e)))
+  value_covered false null value h = by_edges (null_edges true null value) false (λ e. absurd (false≢true e)) (λ _. h)
 
   settled_null : (site : ℕ) → here.witness.gave site ≡ Scalar 0 → IsKnown here (facts_settled site true f) s
   settled_null site e = record { admits = laws.null_tests.null here.witness f s site known.admits e; words = settled_words here.slot f site true known.words; proper = known.proper; maps = known.maps }

@@ -17,10 +17,10 @@ use Rattle.tagged_model.specs.Admits.{HasMaps}
 use Rattle.tagged_model.specs.declared.shape.MapShape.{MapShape}
 use Rattle.reg_kinds.specs.declared.kind.ValuePointer.{ValuePointer}
 use Rattle.reg_kinds.specs.declared.reason.Reason.{Reason}
-use Rattle.reg_kinds.specs.Reason.{given}
+use Rattle.reg_kinds.specs.Reason.{and_then_ok}
 use Rattle.tagged_model.specs.declared.value.Tagged.{Tagged}
 use Rattle.tagged_model.specs.declared.value.Tagged.TheVariants.{Scalar}
-use Rattle.tagged_model.specs.Cells.{also, number_from, write_cell}
+use Rattle.tagged_model.specs.Cells.{and_then, number_from, write_cell}
 use Rattle.tagged_model.specs.State.{RunState, with_cell, stack_place, stack_load, stack_store, word_at, context_load, object_bytes, object_stored, load, store}
 use Rattle.tagged_model.specs.Laws.{StackReadAdmits, StackWriteAdmits, ValueLoadAdmits, ValueStoreAdmits}
 use Rattle.transfer.specs.Effects.{is_word, context_read, load_kind, stored_outside, store_facts}
@@ -44,7 +44,7 @@ pub record Accesses : Type 0 where
   pub loads : ValueLoadAdmits
   pub stores : ValueStoreAdmits
 
-given_ok : {B : Type 0} (r : Result (Unit {0}) Reason) (x y : B) → given r (λ _. Ok x) ≡ Ok y → (r ≡ Ok tt) × (x ≡ y)
+given_ok : {B : Type 0} (r : Result (Unit {0}) Reason) (x y : B) → and_then_ok r (λ _. Ok x) ≡ Ok y → (r ≡ Ok tt) × (x ≡ y)
 given_ok (Ok u) x y e = (refl, cc)
 given_ok (Err reason) x y e = absurd (refused reason y e)
 
@@ -85,10 +85,10 @@ module _ (here : Here) (f : Facts) (s : RunState) (known : IsKnown here f s) whe
       (h.0, h.1, record { is = h.2; words = ok_is (IsKindAt here.slot) (stack_read f x size signed) k (read_words here.slot f x size signed known.words) e }))
 
   value_load_agrees : ValueLoadAdmits → (size : AccessSize) (signed : Bool) (off : ℤ) (p : ValuePointer) (number : ℕ) (x : ℤ) (o : Option MapShape) → here.shapes p.map ≡ o → p.lo ≤ℤ x → x ≤ℤ p.hi → number < here.witness.objects p.map
-      → Gives here (given (room_of p off (bytes_of size) o) (λ _. Ok (loaded size signed))) (number_from size signed (object_bytes s p.map number (x +ℤ off) (bytes_of size)))
+      → Gives here (and_then_ok (room_of p off (bytes_of size) o) (λ _. Ok (loaded size signed))) (number_from size signed (object_bytes s p.map number (x +ℤ off) (bytes_of size)))
   value_load_agrees law size signed off p number x None e from to lt = tt
   value_load_agrees law size signed off p number x (Some shape) e from to lt =
-      by_law (IsKindOf here) (given (room_of p off (bytes_of size) (Some shape)) (λ _. Ok (loaded size signed))) _
+      by_law (IsKindOf here) (and_then_ok (room_of p off (bytes_of size) (Some shape)) (λ _. Ok (loaded size signed))) _
       (λ k ok. let c = given_ok (room_of p off (bytes_of size) (Some shape)) (loaded size signed) k ok in
       let room = room_at p off (bytes_of size) x shape from to c.0 in
       let h = law here.witness s p.map number shape (x +ℤ off) size signed known.proper (owned here.witness here.shapes f s (still_of here f s known) p.map number shape e lt) room.low room.high in
@@ -111,9 +111,9 @@ module _ (here : Here) (f : Facts) (s : RunState) (known : IsKnown here f s) whe
   Stays t = (t.at ≡ s.at) × HasMaps here.shapes t
 
   stays : (y : ℤ) (size : AccessSize) (v : Tagged) → SomeIs Stays (stack_store s y size v)
-  stays y size v = also_stays (stack_place y size) (λ p. also (write_cell (s.cells (p / 8)) (p % 8) size v) (λ c. Some (with_cell s (p / 8) c))) (λ p. also_stays (write_cell (s.cells (p / 8)) (p % 8) size v) (λ c. Some (with_cell s (p / 8) c)) (λ c. (refl, known.maps)))
+  stays y size v = also_stays (stack_place y size) (λ p. and_then (write_cell (s.cells (p / 8)) (p % 8) size v) (λ c. Some (with_cell s (p / 8) c))) (λ p. also_stays (write_cell (s.cells (p / 8)) (p % 8) size v) (λ c. Some (with_cell s (p / 8) c)) (λ c. (refl, known.maps)))
     where
-      also_stays : {A : Type 0} (o : Option A) (on : A → Option RunState) → ((x : A) → SomeIs Stays (on x)) → SomeIs Stays (also o on)
+      also_stays : {A : Type 0} (o : Option A) (on : A → Option RunState) → ((x : A) → SomeIs Stays (on x)) → SomeIs Stays (and_then o on)
       also_stays None on h = tt
       also_stays (Some x) on h = h x
 
@@ -131,10 +131,10 @@ module _ (here : Here) (f : Facts) (s : RunState) (known : IsKnown here f s) whe
       ))
 
   value_store_agrees : ValueStoreAdmits → (size : AccessSize) (off : ℤ) (p : ValuePointer) (number : ℕ) (x : ℤ) (n : ℕ) (o : Option MapShape) → here.shapes p.map ≡ o → p.lo ≤ℤ x → x ≤ℤ p.hi → number < here.witness.objects p.map
-      → Agree (IsStored here s) (given (room_of p off (bytes_of size) o) (λ _. Ok f)) (object_stored s size p.map number (x +ℤ off) (Scalar n))
+      → Agree (IsStored here s) (and_then_ok (room_of p off (bytes_of size) o) (λ _. Ok f)) (object_stored s size p.map number (x +ℤ off) (Scalar n))
   value_store_agrees law size off p number x n None e from to lt = tt
   value_store_agrees law size off p number x n (Some shape) e from to lt =
-      by_law (IsStored here s) (given (room_of p off (bytes_of size) (Some shape)) (λ _. Ok f)) _
+      by_law (IsStored here s) (and_then_ok (room_of p off (bytes_of size) (Some shape)) (λ _. Ok f)) _
       (λ g ok. let c = given_ok (room_of p off (bytes_of size) (Some shape)) f g ok in
       let room = room_at p off (bytes_of size) x shape from to c.0 in
       let still = still_of here f s known in
@@ -143,14 +143,14 @@ module _ (here : Here) (f : Facts) (s : RunState) (known : IsKnown here f s) whe
 
   -- a number is stored, and nothing else
   outside_agrees : ValueStoreAdmits → (size : AccessSize) (off : ℤ) (p : ValuePointer) (number : ℕ) (x : ℤ) (l : Kind) (v : Tagged) → IsKindOf here l v → IsReadable l → p.lo ≤ℤ x → x ≤ℤ p.hi → number < here.witness.objects p.map
-      → Agree (IsStored here s) (given (room_of p off (bytes_of size) (here.shapes p.map)) (λ _. stored_outside f l)) (object_stored s size p.map number (x +ℤ off) v)
+      → Agree (IsStored here s) (and_then_ok (room_of p off (bytes_of size) (here.shapes p.map)) (λ _. stored_outside f l)) (object_stored s size p.map number (x +ℤ off) v)
   outside_agrees law size off p number x kind.Unreadable v is r from to lt = absurd r
   outside_agrees law size off p number x (kind.Scalar range) v is r from to lt =
-      by_number here range v (λ v. Agree (IsStored here s) (given (room_of p off (bytes_of size) (here.shapes p.map)) (λ _. Ok f)) (object_stored s size p.map number (x +ℤ off) v)) is.is
+      by_number here range v (λ v. Agree (IsStored here s) (and_then_ok (room_of p off (bytes_of size) (here.shapes p.map)) (λ _. Ok f)) (object_stored s size p.map number (x +ℤ off) v)) is.is
       (λ n _. value_store_agrees law size off p number x n (here.shapes p.map) refl from to lt)
   outside_agrees law size off p number x l v is r from to lt = never (room_of p off (bytes_of size) (here.shapes p.map))
     where
-      never : (a : Result (Unit {0}) Reason) → Agree (IsStored here s) (given a (λ _. Err PointerStored)) (object_stored s size p.map number (x +ℤ off) v)
+      never : (a : Result (Unit {0}) Reason) → Agree (IsStored here s) (and_then_ok a (λ _. Err PointerStored)) (object_stored s size p.map number (x +ℤ off) v)
       never (Ok u) = tt
       never (Err e) = tt
 

@@ -1,20 +1,18 @@
 -- What facts answer and what the machine does go together, one operator after the other.
-use Rattle.std.proofs.Common.{◌≡◌, ◌⊎◌, ℕ, ◌<◌, ◌^◌, Bool, Option, Some, None, Result, Ok, Err, refl, sym, subst}
-use Rattle.insn_codec.specs.declared.insn.Insn.{Insn}
+use Rattle.std.proofs.Common.{◌≡◌, ℕ, ◌<◌, ◌^◌, Bool, Option, Some, None, Result, Ok, Err, refl, sym, subst}
 use Rattle.reg_kinds.specs.declared.kind.Kind.{Kind}
 use Rattle.reg_kinds.specs.declared.kind.Kind.TheVariants as kind
 use Rattle.reg_kinds.specs.declared.facts.Facts.{Facts}
 use Rattle.reg_kinds.specs.declared.reason.Reason.{Reason}
-use Rattle.reg_kinds.specs.Reason.{given}
+use Rattle.reg_kinds.specs.Reason.{and_then_ok}
 use Rattle.tagged_model.specs.declared.value.Tagged.{Tagged}
 use Rattle.tagged_model.specs.State.{RunState, at_slot, with_refusal}
-use Rattle.tagged_model.specs.Step.{Step, goes, ends, faults, need}
+use Rattle.tagged_model.specs.Step.{Step, goes, ends, faults, or_fault}
 use Rattle.tagged_model.specs.Admits.{Witness, IsOfKind, AdmitsBy, IsInRange, HasMaps}
 use Rattle.tagged_model.specs.Named.{Shapes}
 use Rattle.tagged_model.specs.Laws.{Describes}
 use Rattle.transfer.specs.Branches.{Edges}
-use Rattle.transfer.specs.Sound.{IsKindAt, AreWellFormedAt, EdgeAdmits, CoversStep}
-use Rattle.insn_codec.specs.Flow.{falls_to, jumps_to}
+use Rattle.transfer.specs.Sound.{IsKindAt, AreWellFormedAt, EdgeAdmits}
 
 -- ---- results
 
@@ -29,7 +27,7 @@ abbrev pub OkIs : {A : Type 0} → (A → Type 0) → Result A Reason → Type 0
 OkIs P (Err r) = Unit {0}
 OkIs P (Ok x) = P x
 
-pub then_ok : {A B : Type 0} (P : A → Type 0) (Q : B → Type 0) (r : Result A Reason) (go : A → Result B Reason) → OkIs P r → ((x : A) → P x → OkIs Q (go x)) → OkIs Q (given r go)
+pub then_ok : {A B : Type 0} (P : A → Type 0) (Q : B → Type 0) (r : Result A Reason) (go : A → Result B Reason) → OkIs P r → ((x : A) → P x → OkIs Q (go x)) → OkIs Q (and_then_ok r go)
 then_ok P Q (Err e) go h next = tt
 then_ok P Q (Ok x) go h next = next x h
 
@@ -111,25 +109,26 @@ module _ (witness : Witness) (f : Facts) (shapes : Shapes) (s : RunState) (still
         maps = still.maps;
       }
 
--- ---- steps, from a slot whose edges lead to `next` and `target`
+-- ---- steps: the state after one is `On` an edge
 
-abbrev pub IsCovered : Here → ℕ → Option ℕ → Edges → Step → Type 0
-IsCovered here next target e (goes t) = EdgeAdmits here.shapes e.falling (Some next) t ⊎ EdgeAdmits here.shapes e.jumping target t
-IsCovered here next target e (ends n) = n < 2 ^ 32
-IsCovered here next target e faults = ⊥
+-- the edge to the next instruction
+abbrev pub OnFalling : Here → ℕ → Edges → RunState → Type 0
+OnFalling here next e t = EdgeAdmits here.shapes e.falling (Some next) t
+
+-- the edge of a jump
+abbrev pub OnJumping : Here → Option ℕ → Edges → RunState → Type 0
+OnJumping here target e t = EdgeAdmits here.shapes e.jumping target t
+
+abbrev pub IsCovered : (Edges → RunState → Type 0) → Edges → Step → Type 0
+IsCovered On e (goes t) = On e t
+IsCovered On e (ends n) = n < 2 ^ 32
+IsCovered On e faults = ⊥
 
 -- where the facts let it be run
-abbrev pub IsCoveredIf : Here → ℕ → Option ℕ → Result Edges Reason → Step → Type 0
-IsCoveredIf here next target (Err r) step = Unit {0}
-IsCoveredIf here next target (Ok e) step = IsCovered here next target e step
+abbrev pub IsCoveredIf : (Edges → RunState → Type 0) → Result Edges Reason → Step → Type 0
+IsCoveredIf On r step = OkIs (λ e. IsCovered On e step) r
 
-pub then_covered : {A B : Type 0} (here : Here) (next : ℕ) (target : Option ℕ) (P : A → B → Type 0) (r : Result A Reason) (o : Option B) (go : A → Result Edges Reason) (on : B → Step) → Agree P r o → ((x : A) (y : B) → P x y → IsCoveredIf here next target (go x) (on y)) → IsCoveredIf here next target (given r go) (need o on)
-then_covered here next target P (Err e) o go on h further = tt
-then_covered here next target P (Ok x) None go on h further = absurd h
-then_covered here next target P (Ok x) (Some y) go on h further = further x y h
-
-pub covers : (here : Here) (i : Insn) (at : ℕ) (r : Result Edges Reason) (e : Edges) (step : Step) → IsCoveredIf here (falls_to i at) (jumps_to i at) r step → r ≡ Ok e → CoversStep here.shapes i at e step
-covers here i at (Err reason) e step h q = absurd (refused reason e q)
-covers here i at (Ok d) e (goes t) h q = subst (λ e. CoversStep here.shapes i at e (goes t)) (same_ok d e q) h
-covers here i at (Ok d) e (ends n) h q = h
-covers here i at (Ok d) e faults h q = h
+pub then_covered : {A B : Type 0} (On : Edges → RunState → Type 0) (P : A → B → Type 0) (r : Result A Reason) (o : Option B) (go : A → Result Edges Reason) (on : B → Step) → Agree P r o → ((x : A) (y : B) → P x y → IsCoveredIf On (go x) (on y)) → IsCoveredIf On (and_then_ok r go) (or_fault o on)
+then_covered On P (Err e) o go on h further = tt
+then_covered On P (Ok x) None go on h further = absurd h
+then_covered On P (Ok x) (Some y) go on h further = further x y h

@@ -13,13 +13,13 @@ use Rattle.reg_kinds.specs.declared.kind.Kind.{Kind}
 use Rattle.reg_kinds.specs.declared.kind.Kind.TheVariants as kind
 use Rattle.reg_kinds.specs.declared.reason.Reason.{Reason}
 use Rattle.reg_kinds.specs.declared.reason.Reason.TheVariants.{PointerArithmetic}
-use Rattle.reg_kinds.specs.Reason.{given}
+use Rattle.reg_kinds.specs.Reason.{and_then_ok}
 use Rattle.reg_kinds.specs.Pointers.{value_span}
 use Rattle.tagged_model.specs.declared.value.Object.TheVariants as object
 use Rattle.tagged_model.specs.declared.value.Tagged.TheVariants.{Pointer}
 use Rattle.tagged_model.specs.Values.{is_near, moved}
 use Rattle.tagged_model.specs.StateLaws.{near_parts}
-use Rattle.tagged_model.specs.Cells.{also}
+use Rattle.tagged_model.specs.Cells.{and_then}
 use Rattle.transfer.specs.declared.arithmetic.Direction.{Direction}
 use Rattle.transfer.specs.declared.arithmetic.Direction.TheVariants.{Forwards, Backwards}
 use Rattle.transfer.specs.Arithmetic.{Distance, distance, near_offset, moved_offset, near, stack_moved, spanned, value_by, pointer_moved}
@@ -73,10 +73,10 @@ at_most_max a b z h = omega (arith, ints, clamps)
 
 -- an offset, or a pointer, that may be too far, as a kind
 abbrev stack_kind : Option ℤ → Result Kind Reason
-stack_kind o = given (near o) (λ y. Ok (kind.Stack y))
+stack_kind o = and_then_ok (near o) (λ y. Ok (kind.Stack y))
 
 abbrev value_kind : Option ValuePointer → Result Kind Reason
-value_kind o = given (near o) (λ q. Ok (kind.Value q))
+value_kind o = and_then_ok (near o) (λ q. Ok (kind.Value q))
 
 module _ (here : Here) where
   stack_at : (y : ℤ) → Gives here (stack_kind (near_offset y)) (moved object.Stack y)
@@ -86,7 +86,7 @@ module _ (here : Here) where
         | false ↦ tt
       ]
 
-  stack_by : (way : Direction) (x : ℤ) (o : Option Distance) (z : ℤ) → SomeIs (λ d. d.0 ≡ z) o → Gives here (stack_kind (also o (λ d. moved_offset way x d.0))) (moved object.Stack (shifted way x z))
+  stack_by : (way : Direction) (x : ℤ) (o : Option Distance) (z : ℤ) → SomeIs (λ d. d.0 ≡ z) o → Gives here (stack_kind (and_then o (λ d. moved_offset way x d.0))) (moved object.Stack (shifted way x z))
   stack_by way x None z h = tt
   stack_by Forwards x (Some d) z h = subst (λ e. Gives here (stack_kind (near_offset (x +ℤ d.0))) (moved object.Stack (x +ℤ e))) h (stack_at (x +ℤ d.0))
   stack_by Backwards x (Some d) z h = subst (λ e. Gives here (stack_kind (near_offset (x -ℤ d.0))) (moved object.Stack (x -ℤ e))) h (stack_at (x -ℤ d.0))
@@ -119,7 +119,7 @@ module _ (here : Here) where
   difference_from : (x y c d : ℤ) → x ≤ℤ y → c ≤ℤ d → (x -ℤ d) ≤ℤ (y -ℤ c)
   difference_from x y c d h g = omega (arith, ints)
 
-  value_at : (way : Direction) (p : ValuePointer) (lo n number : ℕ) (o : Option Distance) (x : ℤ) → number < here.witness.objects p.map → p.lo ≤ℤ x → x ≤ℤ p.hi → SomeIs (IsBetween lo n) o → Gives here (value_kind (also o (value_by way p))) (moved (object.Value p.map number) (shifted way x (signed 64 n)))
+  value_at : (way : Direction) (p : ValuePointer) (lo n number : ℕ) (o : Option Distance) (x : ℤ) → number < here.witness.objects p.map → p.lo ≤ℤ x → x ≤ℤ p.hi → SomeIs (IsBetween lo n) o → Gives here (value_kind (and_then o (value_by way p))) (moved (object.Value p.map number) (shifted way x (signed 64 n)))
   value_at way p lo n number None x owned a b h = tt
   value_at Forwards p lo n number (Some d) x owned a b h =
       span_agrees p.map number (p.lo +ℤ d.0) (p.hi +ℤ d.1) (x +ℤ signed 64 n) owned (sum_from p.lo x d.0 (signed 64 n) a h.from) (sum_from x p.hi (signed 64 n) d.1 b h.to)

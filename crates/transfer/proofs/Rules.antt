@@ -21,12 +21,12 @@ use Rattle.reg_kinds.specs.declared.stack.AccessSize.{AccessSize}
 use Rattle.reg_kinds.specs.declared.stack.AccessSize.TheVariants.{Word}
 use Rattle.reg_kinds.specs.declared.reason.Reason.{Reason}
 use Rattle.reg_kinds.specs.declared.reason.Reason.TheVariants.{UnknownHelper, DescriptorNotMap, PointerArithmetic, MaybeNull, ContextAccess, PointerComparison, OutsideStack, UnwrittenStack, PartOfSpill, OutsideValue, PointerStored, LengthUnbounded, Memory}
-use Rattle.reg_kinds.specs.Reason.{given}
+use Rattle.reg_kinds.specs.Reason.{and_then_ok}
 use Rattle.reg_kinds.specs.Kinds.{is_pointer, kind_at, slot_at, with_kind, with_slot}
 use Rattle.reg_kinds.specs.Stack.{bytes_of, is_whole, is_in_stack, is_aligned, place, touched, loaded, read_slot, stack_read, slot_written, facts_written, stack_write}
 use Rattle.tagged_model.specs.Operators.{operator_of, narrow_of, order_of, kept_of, size_of}
 use Rattle.tagged_model.specs.Values.{is_null_test}
-use Rattle.tagged_model.specs.Cells.{also}
+use Rattle.tagged_model.specs.Cells.{and_then}
 use Rattle.transfer.specs.declared.arithmetic.Direction.{Direction}
 use Rattle.transfer.specs.declared.arithmetic.Direction.TheVariants.{Forwards, Backwards}
 use Rattle.transfer.specs.Arithmetic.{readable, near, stack_moved, value_by, distance, moved_offset, pointer_moved, is_maybe, of_scalars, of_scalar, sum_kind, difference_kind, unless_maybe, arithmetic_kind}
@@ -48,7 +48,7 @@ abbrev ByRule : {A : Type 0} → Result A Reason → Type 0
 ByRule (Ok x) = Unit {0}
 ByRule (Err reason) = IsOfOperands reason
 
-then_rule : {A B : Type 0} (r : Result A Reason) (go : A → Result B Reason) → ByRule r → ((x : A) → ByRule (go x)) → ByRule (given r go)
+then_rule : {A B : Type 0} (r : Result A Reason) (go : A → Result B Reason) → ByRule r → ((x : A) → ByRule (go x)) → ByRule (and_then_ok r go)
 then_rule (Ok x) go h next = next x
 then_rule (Err reason) go h next = h
 
@@ -69,11 +69,11 @@ near_rule None = tt
 near_rule (Some x) = tt
 
 stack_moved_rule : (way : Direction) (x : ℤ) (r : Range) → ByRule (stack_moved way x r)
-stack_moved_rule way x r = then_rule (near (also (distance r) (λ d. moved_offset way x d.0))) (λ y. Ok (kind.Stack y)) (near_rule _) (λ y. tt)
+stack_moved_rule way x r = then_rule (near (and_then (distance r) (λ d. moved_offset way x d.0))) (λ y. Ok (kind.Stack y)) (near_rule _) (λ y. tt)
 
 moved_rule : (way : Direction) (k : Kind) (r : Range) → ByRule (pointer_moved way k r)
 moved_rule way (kind.Stack x) r = cond_both (is_constant r) (stack_moved way x r) (Err PointerArithmetic) ByRule (λ _. stack_moved_rule way x r) (λ _. tt)
-moved_rule way (kind.Value p) r = then_rule (near (also (distance r) (value_by way p))) (λ q. Ok (kind.Value q)) (near_rule _) (λ q. tt)
+moved_rule way (kind.Value p) r = then_rule (near (and_then (distance r) (value_by way p))) (λ q. Ok (kind.Value q)) (near_rule _) (λ q. tt)
 moved_rule way k r = tt
 
 numbers_rule : (wide : Bool) (op : Operator) (k l : Kind) → ByRule (of_scalars wide op k l)
@@ -223,14 +223,14 @@ module _ (shapes : Shapes) (at : ℕ) (f : Facts) where
   assigns_rule : (dst : ℕ) (r : Result Kind Reason) → ByRule r → ByRule (assigns f dst r)
   assigns_rule dst r h = then_rule r (λ k. falls (with_kind f dst k)) h (λ k. tt)
 
-  register_rule : (r : ℕ) (go : Kind → Result Edges Reason) → ((k : Kind) → ByRule (go k)) → ByRule (given (readable (kind_at f r)) go)
+  register_rule : (r : ℕ) (go : Kind → Result Edges Reason) → ((k : Kind) → ByRule (go k)) → ByRule (and_then_ok (readable (kind_at f r)) go)
   register_rule r go next = then_rule (readable (kind_at f r)) go (readable_rule (kind_at f r)) next
 
-  operand_rule : (wide : Bool) (src : Operand) (go : Kind → Result Edges Reason) → ((k : Kind) → ByRule (go k)) → ByRule (given (readable (source_kind f wide src)) go)
+  operand_rule : (wide : Bool) (src : Operand) (go : Kind → Result Edges Reason) → ((k : Kind) → ByRule (go k)) → ByRule (and_then_ok (readable (source_kind f wide src)) go)
   operand_rule wide src go next = then_rule (readable (source_kind f wide src)) go (readable_rule (source_kind f wide src)) next
 
   -- an operator of one register
-  one_rule : (wide : Bool) (op : Operator) (dst src : ℕ) → ByRule (given (readable (kind_at f src)) (λ k. assigns f dst (of_scalar wide op k)))
+  one_rule : (wide : Bool) (op : Operator) (dst src : ℕ) → ByRule (and_then_ok (readable (kind_at f src)) (λ k. assigns f dst (of_scalar wide op k)))
   one_rule wide op dst src = register_rule src _ (λ k. assigns_rule dst (of_scalar wide op k) (numbers_rule wide op k k))
 
   -- an instruction that names neither a function nor a map
@@ -273,10 +273,10 @@ module _ (shapes : Shapes) (at : ℕ) (f : Facts) where
   by_operands i (Ok edges) h = tt
   by_operands i (Err reason) h = of_operands i reason h
 
-  call_tells : (id : ℤ) (o : Option Helper) → helper_of id ≡ o → Tells (Call id) (given (known o) (λ h. given (call_facts shapes at h f) falls))
+  call_tells : (id : ℤ) (o : Option Helper) → helper_of id ≡ o → Tells (Call id) (and_then_ok (known o) (λ h. and_then_ok (call_facts shapes at h f) falls))
   call_tells id None e = e
   call_tells id (Some h) e =
-      by_operands (Call id) (given (call_facts shapes at h f) falls) (then_rule (call_facts shapes at h f) falls (call_rule shapes at h f) (λ g. tt))
+      by_operands (Call id) (and_then_ok (call_facts shapes at h f) falls) (then_rule (call_facts shapes at h f) falls (call_rule shapes at h f) (λ g. tt))
 
   map_tells : (dst : ℕ) (fd : ℤ) (o : Option MapShape) → shapes (unsigned 32 fd) ≡ o → Tells (MapFd dst fd) (assigns f dst (map_of (unsigned 32 fd) o))
   map_tells dst fd None e = e

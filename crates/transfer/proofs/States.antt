@@ -1,6 +1,6 @@
 -- What is known of a state stays known: after a register is given a value, after a move, and where more is known of a
 -- register.
-use Rattle.std.proofs.Common.{◌≡◌, ℕ, ◌+◌, ◌<◌, ◌≤◌, ◌^◌, ◌==◌, ℤ, pos, negsuc, Bool, true, false, Option, Some, Ok, refl, sym, ap, subst, ◌∙◌, ⊎_elim, inl, arith}
+use Rattle.std.proofs.Common.{◌≡◌, ℕ, ◌+◌, ◌<◌, ◌≤◌, ◌^◌, ◌==◌, ℤ, pos, negsuc, Bool, true, false, Option, Some, Ok, refl, sym, ap, subst, ◌∙◌, ⊎_elim, arith}
 use Rattle.std.proofs.lemmas.Bool.{cases_Bool, cond-true, cond-false, eqb-true}
 use Rattle.interval.specs.declared.range.Range.{Range}
 use Rattle.interval.specs.Ranges.{constant, IsMember}
@@ -25,7 +25,7 @@ use Rattle.transfer.specs.Arithmetic.{readable}
 use Rattle.transfer.specs.Branches.{falls}
 use Rattle.transfer.specs.Effects.{source_kind, first_kind}
 use Rattle.transfer.specs.Sound.{IsKindAt, EdgeAdmits}
-use Rattle.transfer.proofs.Parts.{Here, Agree, IsKindOf, IsReadable, IsFound, IsKnown, still_of, IsCoveredIf}
+use Rattle.transfer.proofs.Parts.{Here, Agree, IsKindOf, IsReadable, IsFound, IsKnown, still_of, OnFalling, IsCoveredIf}
 use Rattle.transfer.proofs.Words.{kind_words}
 
 -- ---- numbers
@@ -125,5 +125,5 @@ module _ (here : Here) where
   pub goes_to : (f : Facts) (s : RunState) (n : ℕ) → IsKnown here f s → EdgeAdmits here.shapes (Some f) (Some n) (at_slot n s)
   goes_to f s n known = (refl, here.witness, still_of here f (at_slot n s) (moved_to f s known n))
 
-  pub assigned_covered : (f : Facts) (s : RunState) (n : ℕ) (target : Option ℕ) (r : ℕ) (k : Kind) (v : Tagged) → IsKnown here f s → IsKindOf here k v → IsCoveredIf here (s.at + n) target (falls (with_kind f r k)) (assigned n s r v)
-  assigned_covered f s n target r k v known h = inl (goes_to (with_kind f r k) (with_register s r v) (s.at + n) (given_value f s known r k v h))
+  pub assigned_covered : (f : Facts) (s : RunState) (n r : ℕ) (k : Kind) (v : Tagged) → IsKnown here f s → IsKindOf here k v → IsCoveredIf (OnFalling here (s.at + n)) (falls (with_kind f r k)) (assigned n s r v)
+  assigned_covered f s n r k v known h = goes_to (with_kind f r k) (with_register s r v) (s.at + n) (given_value f s known r k v h)

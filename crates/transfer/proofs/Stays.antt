@@ -26,7 +26,7 @@ use Rattle.reg_kinds.specs.declared.stack.AccessSize.{AccessSize}
 use Rattle.reg_kinds.specs.declared.stack.AccessSize.TheVariants.{Word}
 use Rattle.reg_kinds.specs.declared.reason.Reason.{Reason}
 use Rattle.reg_kinds.specs.declared.reason.Reason.TheVariants.{PointerArithmetic, MaybeNull, ContextAccess, PointerComparison, PointerStored}
-use Rattle.reg_kinds.specs.Reason.{given}
+use Rattle.reg_kinds.specs.Reason.{and_then_ok}
 use Rattle.reg_kinds.specs.Kinds.{is_pointer, kind_at, with_kind}
 use Rattle.reg_kinds.specs.Stack.{bytes_of, loaded}
 use Rattle.words.specs.Words.{unsigned}
@@ -37,7 +37,7 @@ use Rattle.tagged_model.specs.Named.{Shapes}
 use Rattle.tagged_model.specs.Helpers.{helper_of}
 use Rattle.tagged_model.specs.Operators.{width, operator_of, narrow_of, order_of, kept_of, comparison_of, size_of}
 use Rattle.tagged_model.specs.Values.{is_null_test, holds_of_pointers}
-use Rattle.tagged_model.specs.Cells.{also}
+use Rattle.tagged_model.specs.Cells.{and_then}
 use Rattle.transfer.specs.declared.arithmetic.Direction.{Direction}
 use Rattle.transfer.specs.declared.arithmetic.Direction.TheVariants.{Forwards, Backwards}
 use Rattle.transfer.specs.Arithmetic.{readable, near, stack_moved, value_by, distance, moved_offset, pointer_moved, is_maybe, of_scalars, of_scalar, sum_kind, difference_kind, unless_maybe, arithmetic_kind}
@@ -90,16 +90,16 @@ module _ (bound : ℕ) (shapes : Shapes) (at : ℕ) (lt : at < bound) where
   any_ok (Err e) = tt
   any_ok (Ok x) = tt
 
-  past : {A B : Type 0} (Q : B → Type 0) (r : Result A Reason) (go : A → Result B Reason) → ((x : A) → OkIs Q (go x)) → OkIs Q (given r go)
+  past : {A B : Type 0} (Q : B → Type 0) (r : Result A Reason) (go : A → Result B Reason) → ((x : A) → OkIs Q (go x)) → OkIs Q (and_then_ok r go)
   past Q r go next = then_ok (λ x. Unit {0}) Q r go (any_ok r) (λ x _. next x)
 
   moved_words : (way : Direction) (k : Kind) (r : Range) → OkIs (IsKindAt bound) (pointer_moved way k r)
   moved_words way (kind.Stack x) r =
       cond_both (is_constant r) (stack_moved way x r) (Err PointerArithmetic) (OkIs (IsKindAt bound))
-      (λ _. let far = near (also (distance r) (λ d. moved_offset way x d.0)) in then_ok (λ y. Unit {0}) (IsKindAt bound) far (λ y. Ok (kind.Stack y)) (any_ok far) (λ y _. tt))
+      (λ _. let far = near (and_then (distance r) (λ d. moved_offset way x d.0)) in then_ok (λ y. Unit {0}) (IsKindAt bound) far (λ y. Ok (kind.Stack y)) (any_ok far) (λ y _. tt))
       (λ _. tt)
   moved_words way (kind.Value p) r =
-      let far = near (also (distance r) (value_by way p)) in
+      let far = near (and_then (distance r) (value_by way p)) in
       then_ok (λ q. Unit {0}) (IsKindAt bound) far (λ q. Ok (kind.Value q)) (any_ok far) (λ q _. tt)
   moved_words way k r = tt
 
@@ -227,10 +227,10 @@ module _ (bound : ℕ) (shapes : Shapes) (at : ℕ) (lt : at < bound) where
     assigns_words dst r is = then_ok (IsKindAt bound) AreFactsBoth r (λ k. falls (with_kind f dst k)) is (λ k small. falls_words (with_kind f dst k) (kind_words bound f dst k h small))
 
     -- from the kind of a register that may be read
-    register_words : (r : ℕ) (go : Kind → Result Edges Reason) → ((k : Kind) → IsKindAt bound k → OkIs AreFactsBoth (go k)) → OkIs AreFactsBoth (given (readable (kind_at f r)) go)
+    register_words : (r : ℕ) (go : Kind → Result Edges Reason) → ((k : Kind) → IsKindAt bound k → OkIs AreFactsBoth (go k)) → OkIs AreFactsBoth (and_then_ok (readable (kind_at f r)) go)
     register_words r go next = then_ok (IsKindAt bound) AreFactsBoth (readable (kind_at f r)) go (readable_words (kind_at f r) (h.registers r)) next
 
-    operand_words : (wide : Bool) (src : Operand) (go : Kind → Result Edges Reason) → ((k : Kind) → IsKindAt bound k → OkIs AreFactsBoth (go k)) → OkIs AreFactsBoth (given (readable (source_kind f wide src)) go)
+    operand_words : (wide : Bool) (src : Operand) (go : Kind → Result Edges Reason) → ((k : Kind) → IsKindAt bound k → OkIs AreFactsBoth (go k)) → OkIs AreFactsBoth (and_then_ok (readable (source_kind f wide src)) go)
     operand_words wide src go next = then_ok (IsKindAt bound) AreFactsBoth (readable (source_kind f wide src)) go (readable_words (source_kind f wide src) (source_words f wide src h)) next
 
     ends_words : (k : Kind) → OkIs AreFactsBoth (exits_with k)
@@ -244,7 +244,7 @@ module _ (bound : ℕ) (shapes : Shapes) (at : ℕ) (lt : at < bound) where
         (λ b too. assigns_words dst (arithmetic_kind wide op a b) (arithmetic_words laws wide op a b small too)))
 
     -- an operator of one register
-    one_words : (wide : Bool) (op : Operator) (dst src : ℕ) → OkIs AreFactsBoth (given (readable (kind_at f src)) (λ k. assigns f dst (of_scalar wide op k)))
+    one_words : (wide : Bool) (op : Operator) (dst src : ℕ) → OkIs AreFactsBoth (and_then_ok (readable (kind_at f src)) (λ k. assigns f dst (of_scalar wide op k)))
     one_words wide op dst src = register_words src _ (λ k small. assigns_words dst (of_scalar wide op k) (numbers_words laws wide op k k small small))
 
     jump_words : (wide : Bool) (cond : Condition) (dst : ℕ) (src : Operand) (off : ℤ) → OkIs AreFactsBoth (effect shapes at (Jump wide cond dst src off) f)

@@ -14,11 +14,11 @@ use Rattle.transfer.specs.declared.arithmetic.Direction.{Direction}
 use Rattle.transfer.specs.declared.arithmetic.Direction.TheVariants.{Forwards, Backwards}
 use Rattle.reg_kinds.specs.declared.reason.Reason.{Reason}
 use Rattle.reg_kinds.specs.declared.reason.Reason.TheVariants.{UnreadableRegister, PointerArithmetic, OffsetTooLarge, MaybeNull}
-use Rattle.reg_kinds.specs.Reason.{given}
+use Rattle.reg_kinds.specs.Reason.{and_then_ok}
 use Rattle.reg_kinds.specs.Pointers.{value_span}
 use Rattle.tagged_model.specs.Operators.{width, operator_of}
 use Rattle.tagged_model.specs.Values.{is_near}
-use Rattle.tagged_model.specs.Cells.{also}
+use Rattle.tagged_model.specs.Cells.{and_then}
 
 -- a value that may be read
 abbrev pub readable : Kind → Result Kind Reason
@@ -50,18 +50,18 @@ near None = Err OffsetTooLarge
 near (Some x) = Ok x
 
 abbrev pub stack_moved : Direction → ℤ → Range → Result Kind Reason
-stack_moved way x r = given (near (also (distance r) (λ d. moved_offset way x d.0))) (λ y. Ok (Stack y))
+stack_moved way x r = and_then_ok (near (and_then (distance r) (λ d. moved_offset way x d.0))) (λ y. Ok (Stack y))
 
 -- from the least offset to the greatest
 abbrev pub spanned : ℕ → Option ℤ → Option ℤ → Option ValuePointer
-spanned map low high = also low (λ lo. also high (λ hi. Some (value_span map lo hi)))
+spanned map low high = and_then low (λ lo. and_then high (λ hi. Some (value_span map lo hi)))
 
 abbrev pub value_by : Direction → ValuePointer → Distance → Option ValuePointer
 value_by Forwards p d = spanned p.map (moved_offset Forwards p.lo d.0) (moved_offset Forwards p.hi d.1)
 value_by Backwards p d = spanned p.map (moved_offset Backwards p.lo d.1) (moved_offset Backwards p.hi d.0)
 
 abbrev pub value_moved : Direction → ValuePointer → Range → Result Kind Reason
-value_moved way p r = given (near (also (distance r) (value_by way p))) (λ q. Ok (Value q))
+value_moved way p r = and_then_ok (near (and_then (distance r) (value_by way p))) (λ q. Ok (Value q))
 
 -- a pointer into the stack is moved by a constant, one into a value by any number; no other pointer is moved
 abbrev pub pointer_moved : Direction → Kind → Range → Result Kind Reason

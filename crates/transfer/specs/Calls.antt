@@ -9,7 +9,7 @@ use Rattle.reg_kinds.specs.declared.kind.Kind.TheVariants as kind
 use Rattle.reg_kinds.specs.declared.facts.Facts.{Facts}
 use Rattle.reg_kinds.specs.declared.reason.Reason.{Reason}
 use Rattle.reg_kinds.specs.declared.reason.Reason.TheVariants.{OutsideValue, MaybeNull, HelperArgument, LengthUnbounded}
-use Rattle.reg_kinds.specs.Reason.{given}
+use Rattle.reg_kinds.specs.Reason.{and_then_ok}
 use Rattle.reg_kinds.specs.Kinds.{kind_at}
 use Rattle.reg_kinds.specs.Many.{stack_input, stack_filled, called_facts}
 use Rattle.tagged_model.specs.declared.helper.Helper.{Helper}
@@ -41,7 +41,7 @@ input_kind shapes f n k = Err HelperArgument
 -- lo to hi bytes are written
 abbrev pub output_facts : Shapes → Facts → Range → Kind → Result Facts Reason
 output_facts shapes f r (kind.Stack x) = stack_filled f x r.lo r.hi
-output_facts shapes f r (kind.Value p) = given (room_of p (pos 0) r.hi (shapes p.map)) (λ _. Ok f)
+output_facts shapes f r (kind.Value p) = and_then_ok (room_of p (pos 0) r.hi (shapes p.map)) (λ _. Ok f)
 output_facts shapes f r (kind.MaybeValue m site) = Err MaybeNull
 output_facts shapes f r k = Err HelperArgument
 
@@ -59,10 +59,10 @@ context_kind k = Err HelperArgument
 
 -- registers from 1 on that may be read
 abbrev pub readable_two : Facts → (Kind → Kind → Result Facts Reason) → Result Facts Reason
-readable_two f go = given (readable (kind_at f 1)) (λ a. given (readable (kind_at f 2)) (λ b. go a b))
+readable_two f go = and_then_ok (readable (kind_at f 1)) (λ a. and_then_ok (readable (kind_at f 2)) (λ b. go a b))
 
 abbrev pub readable_four : Facts → (Kind → Kind → Kind → Kind → Result Facts Reason) → Result Facts Reason
-readable_four f go = readable_two f (λ a b. given (readable (kind_at f 3)) (λ c. given (readable (kind_at f 4)) (λ d. go a b c d)))
+readable_four f go = readable_two f (λ a b. and_then_ok (readable (kind_at f 3)) (λ c. and_then_ok (readable (kind_at f 4)) (λ d. go a b c d)))
 
 abbrev pub any_number : Kind
 any_number = kind.Scalar (full 64)
@@ -70,14 +70,14 @@ any_number = kind.Scalar (full 64)
 -- a call at a slot
 abbrev pub call_facts : Shapes → ℕ → Helper → Facts → Result Facts Reason
 call_facts shapes at LookUp f =
-    readable_two f (λ a b. given (map_kind shapes a) (λ m. given (input_kind shapes f m.shape.key_size b) (λ _.
+    readable_two f (λ a b. and_then_ok (map_kind shapes a) (λ m. and_then_ok (input_kind shapes f m.shape.key_size b) (λ _.
     Ok (called_facts f (kind.MaybeValue m.descriptor at)))))
 call_facts shapes at Update f =
-    readable_four f (λ a b c d. given (map_kind shapes a) (λ m. given (input_kind shapes f m.shape.key_size b) (λ _. given (input_kind shapes f m.shape.value_size c) (λ _. given (number_kind d) (λ _.
+    readable_four f (λ a b c d. and_then_ok (map_kind shapes a) (λ m. and_then_ok (input_kind shapes f m.shape.key_size b) (λ _. and_then_ok (input_kind shapes f m.shape.value_size c) (λ _. and_then_ok (number_kind d) (λ _.
     Ok (called_facts f any_number))))))
 call_facts shapes at Delete f =
-    readable_two f (λ a b. given (map_kind shapes a) (λ m. given (input_kind shapes f m.shape.key_size b) (λ _.
+    readable_two f (λ a b. and_then_ok (map_kind shapes a) (λ m. and_then_ok (input_kind shapes f m.shape.key_size b) (λ _.
     Ok (called_facts f any_number))))
 call_facts shapes at LoadBytes f =
-    readable_four f (λ a b c d. given (context_kind a) (λ _. given (number_kind b) (λ _. given (length_kind d) (λ r. given (output_facts shapes f r c) (λ g.
+    readable_four f (λ a b c d. and_then_ok (context_kind a) (λ _. and_then_ok (number_kind b) (λ _. and_then_ok (length_kind d) (λ r. and_then_ok (output_facts shapes f r c) (λ g.
     Ok (called_facts g any_number))))))

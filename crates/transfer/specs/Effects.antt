@@ -17,7 +17,7 @@ use Rattle.reg_kinds.specs.declared.stack.AccessSize.{AccessSize}
 use Rattle.reg_kinds.specs.declared.stack.AccessSize.TheVariants.{Word}
 use Rattle.reg_kinds.specs.declared.reason.Reason.{Reason}
 use Rattle.reg_kinds.specs.declared.reason.Reason.TheVariants.{UnknownHelper, DescriptorNotMap, ResultNotScalar, NotPointer, MaybeNull, ContextAccess, PointerStored}
-use Rattle.reg_kinds.specs.Reason.{given}
+use Rattle.reg_kinds.specs.Reason.{and_then_ok}
 use Rattle.reg_kinds.specs.Kinds.{is_pointer, kind_at, with_kind}
 use Rattle.reg_kinds.specs.Stack.{bytes_of, loaded, stack_read, stack_write}
 use Rattle.tagged_model.specs.declared.helper.Helper.{Helper}
@@ -44,7 +44,7 @@ first_kind op k = readable k
 
 -- the register is given a value of this kind
 abbrev pub assigns : Facts → ℕ → Result Kind Reason → Result Edges Reason
-assigns f dst r = given r (λ k. falls (with_kind f dst k))
+assigns f dst r = and_then_ok r (λ k. falls (with_kind f dst k))
 
 -- ---- memory
 
@@ -60,7 +60,7 @@ context_read y size signed = Err ContextAccess
 abbrev pub load_kind : Shapes → Facts → AccessSize → Bool → ℤ → Kind → Result Kind Reason
 load_kind shapes f size signed off (kind.Stack x) = stack_read f (x +ℤ off) size signed
 load_kind shapes f size signed off kind.Ctx = context_read off size signed
-load_kind shapes f size signed off (kind.Value p) = given (room_of p off (bytes_of size) (shapes p.map)) (λ _. Ok (loaded size signed))
+load_kind shapes f size signed off (kind.Value p) = and_then_ok (room_of p off (bytes_of size) (shapes p.map)) (λ _. Ok (loaded size signed))
 load_kind shapes f size signed off (kind.MaybeValue m site) = Err MaybeNull
 load_kind shapes f size signed off k = Err NotPointer
 
@@ -71,7 +71,7 @@ stored_outside f v = if is_pointer v then Err PointerStored else Ok f
 abbrev pub store_facts : Shapes → Facts → AccessSize → ℤ → Kind → Kind → Result Facts Reason
 store_facts shapes f size off (kind.Stack x) v = stack_write f (x +ℤ off) size v
 store_facts shapes f size off kind.Ctx v = Err ContextAccess
-store_facts shapes f size off (kind.Value p) v = given (room_of p off (bytes_of size) (shapes p.map)) (λ _. stored_outside f v)
+store_facts shapes f size off (kind.Value p) v = and_then_ok (room_of p off (bytes_of size) (shapes p.map)) (λ _. stored_outside f v)
 store_facts shapes f size off (kind.MaybeValue m site) v = Err MaybeNull
 store_facts shapes f size off k v = Err NotPointer
 
@@ -93,26 +93,26 @@ exits_with (kind.Scalar r) = ends
 exits_with k = Err ResultNotScalar
 
 abbrev pub exit_edges : Facts → Result Edges Reason
-exit_edges f = given (readable (kind_at f 0)) exits_with
+exit_edges f = and_then_ok (readable (kind_at f 0)) exits_with
 
 -- ---- operators
 
 abbrev pub operator_edges : Bool → AluOp → ℕ → Operand → Facts → Result Edges Reason
-operator_edges wide op dst src f = given (first_kind op (kind_at f dst)) (λ a. given (readable (source_kind f wide src)) (λ b. assigns f dst (arithmetic_kind wide op a b)))
+operator_edges wide op dst src f = and_then_ok (first_kind op (kind_at f dst)) (λ a. and_then_ok (readable (source_kind f wide src)) (λ b. assigns f dst (arithmetic_kind wide op a b)))
 
 -- ---- each instruction, at a slot
 
 abbrev pub effect : Shapes → ℕ → Insn → Facts → Result Edges Reason
 effect shapes at (Alu wide op dst src) f = operator_edges wide op dst src f
-effect shapes at (Movsx m) f = given (readable (kind_at f m.src)) (λ k. assigns f m.dst (of_scalar m.wide (on_words.SignExtend (narrow_of m.bits)) k))
-effect shapes at (Neg wide dst) f = given (readable (kind_at f dst)) (λ k. assigns f dst (of_scalar wide on_words.Neg k))
-effect shapes at (End how kept dst) f = given (readable (kind_at f dst)) (λ k. assigns f dst (of_scalar true (on_words.End (order_of how) (kept_of kept)) k))
+effect shapes at (Movsx m) f = and_then_ok (readable (kind_at f m.src)) (λ k. assigns f m.dst (of_scalar m.wide (on_words.SignExtend (narrow_of m.bits)) k))
+effect shapes at (Neg wide dst) f = and_then_ok (readable (kind_at f dst)) (λ k. assigns f dst (of_scalar wide on_words.Neg k))
+effect shapes at (End how kept dst) f = and_then_ok (readable (kind_at f dst)) (λ k. assigns f dst (of_scalar true (on_words.End (order_of how) (kept_of kept)) k))
 effect shapes at (Ja off) f = Ok (record { falling = None; jumping = Some f })
 effect shapes at (Jal off) f = Ok (record { falling = None; jumping = Some f })
-effect shapes at (Jump wide cond dst src off) f = given (readable (kind_at f dst)) (λ a. given (readable (source_kind f wide src)) (λ b. branch_edges wide cond f dst src a b))
-effect shapes at (Call id) f = given (known (helper_of id)) (λ h. given (call_facts shapes at h f) falls)
+effect shapes at (Jump wide cond dst src off) f = and_then_ok (readable (kind_at f dst)) (λ a. and_then_ok (readable (source_kind f wide src)) (λ b. branch_edges wide cond f dst src a b))
+effect shapes at (Call id) f = and_then_ok (known (helper_of id)) (λ h. and_then_ok (call_facts shapes at h f) falls)
 effect shapes at Exit f = exit_edges f
-effect shapes at (Load l) f = given (readable (kind_at f l.src)) (λ k. assigns f l.dst (load_kind shapes f (size_of l.size) l.signed l.off k))
-effect shapes at (Store size dst src off) f = given (readable (kind_at f dst)) (λ k. given (readable (source_kind f true src)) (λ v. given (store_facts shapes f (size_of size) off k v) falls))
+effect shapes at (Load l) f = and_then_ok (readable (kind_at f l.src)) (λ k. assigns f l.dst (load_kind shapes f (size_of l.size) l.signed l.off k))
+effect shapes at (Store size dst src off) f = and_then_ok (readable (kind_at f dst)) (λ k. and_then_ok (readable (source_kind f true src)) (λ v. and_then_ok (store_facts shapes f (size_of size) off k v) falls))
 effect shapes at (Const dst value) f = falls (with_kind f dst (kind.Scalar (constant value)))
 effect shapes at (MapFd dst fd) f = assigns f dst (map_of (unsigned 32 fd) (shapes (unsigned 32 fd)))

@@ -1,7 +1,8 @@
--- Why the facts on the edges are right: what the machine of tagged values does is on one of them. Where a jump leads
--- is RFC 9669, section 4.3; the rest is this project's own.
-use Rattle.std.specs.Prelude.{◌≡◌, ◌⊎◌, ℕ, ◌<◌, ◌^◌, Bool, Option, Some, None, IsSome, Ok}
+-- Why the facts on the edges are right: what the machine of tagged values does is on the edge that it takes. Which edge
+-- a jump takes, and where it leads, is RFC 9669, section 4.3; the rest is this project's own.
+use Rattle.std.specs.Prelude.{◌≡◌, ℕ, ◌<◌, ◌^◌, Bool, true, false, Option, Some, None, IsSome, unwrap_or, Ok}
 use Rattle.insn_codec.specs.declared.insn.Insn.{Insn}
+use Rattle.insn_codec.specs.declared.insn.Insn.TheVariants.{Ja, Jal, Jump}
 use Rattle.insn_codec.specs.Spelling.{IsInsn}
 use Rattle.reg_kinds.specs.declared.kind.Kind.{Kind}
 use Rattle.reg_kinds.specs.declared.kind.Kind.TheVariants.{Scalar, MaybeValue}
@@ -9,8 +10,10 @@ use Rattle.reg_kinds.specs.declared.kind.Slot.{Slot}
 use Rattle.reg_kinds.specs.declared.kind.Slot.TheVariants.{Bytes, Spill}
 use Rattle.reg_kinds.specs.declared.facts.Facts.{Facts}
 use Rattle.reg_kinds.specs.Kinds.{kind_at, slot_at}
+use Rattle.tagged_model.specs.Cells.{and_then}
+use Rattle.tagged_model.specs.Values.{compared}
 use Rattle.tagged_model.specs.State.{RunState}
-use Rattle.tagged_model.specs.Step.{Step, goes, ends, faults, act}
+use Rattle.tagged_model.specs.Step.{Step, goes, ends, faults, operand, act}
 use Rattle.tagged_model.specs.Admits.{Witness, AreBelow}
 use Rattle.tagged_model.specs.declared.helper.Helper.{Helper}
 use Rattle.tagged_model.specs.Helpers.{called}
@@ -36,6 +39,15 @@ pub record AreWellFormedAt (n : ℕ) (f : Facts) : Type 0 where
   pub registers : (r : ℕ) → IsKindAt n (kind_at f r)
   pub slots : (i : ℕ) → IsSlotAt n (slot_at f i)
 
+-- ---- the edge that a step takes
+
+-- whether an instruction jumps in this state: a conditional jump does where its comparison holds
+abbrev pub takes_jump : Insn → RunState → Bool
+takes_jump (Ja off) s = true
+takes_jump (Jal off) s = true
+takes_jump (Jump wide cond dst src off) s = unwrap_or (and_then (s.registers dst) (λ a. and_then (operand s wide src) (λ b. compared wide cond src a b))) false
+takes_jump i s = false
+
 -- ---- the state after a step
 
 -- the edge is there and leads to the state's slot, and its facts describe the state, by some witness
@@ -43,18 +55,23 @@ abbrev pub EdgeAdmits : Shapes → Option Facts → Option ℕ → RunState → 
 EdgeAdmits shapes None slot t = ⊥
 EdgeAdmits shapes (Some f) slot t = (slot ≡ Some t.at) × (witness : Witness) × Describes witness f shapes t
 
--- the step is no fault, and the state after it is on the edge that it takes
-abbrev pub CoversStep : Shapes → Insn → ℕ → Edges → Step → Type 0
-CoversStep shapes i at edges (goes t) = EdgeAdmits shapes edges.falling (Some (falls_to i at)) t ⊎ EdgeAdmits shapes edges.jumping (jumps_to i at) t
-CoversStep shapes i at edges (ends n) = n < 2 ^ 32
-CoversStep shapes i at edges faults = ⊥
+-- the edge that is taken admits the state: where the step jumps the one to `target`, and else the one to `next`
+abbrev pub TakenEdgeAdmits : Bool → Shapes → ℕ → Option ℕ → Edges → RunState → Type 0
+TakenEdgeAdmits true shapes next target edges t = EdgeAdmits shapes edges.jumping target t
+TakenEdgeAdmits false shapes next target edges t = EdgeAdmits shapes edges.falling (Some next) t
 
--- where facts admit a state and let an instruction be run, its step is on one of the edges, whether or not memory is refused
--- at it. The state has a map of each shape, and so has the next one
+-- the step is no fault, and the state after it is on the edge that it takes
+abbrev pub CoversStep : Shapes → Insn → RunState → Edges → Step → Type 0
+CoversStep shapes i s edges (goes t) = TakenEdgeAdmits (takes_jump i s) shapes (falls_to i s.at) (jumps_to i s.at) edges t
+CoversStep shapes i s edges (ends n) = n < 2 ^ 32
+CoversStep shapes i s edges faults = ⊥
+
+-- where facts admit a state and let an instruction be run, its step is on the edge that it takes, whether or not memory is
+-- refused at it. The state has a map of each shape, and so has the next one
 abbrev pub TransferIsSound : Type 0
 TransferIsSound =
     (witness : Witness) (shapes : Shapes) (refused : Bool) (i : Insn) (f : Facts) (s : RunState) (edges : Edges) → IsInsn i → IsSome (jumps_to i s.at) → AreWellFormedAt s.at f → Describes witness f shapes s → effect shapes s.at i f ≡ Ok edges
-    → CoversStep shapes i s.at edges (act refused i s)
+    → CoversStep shapes i s edges (act refused i s)
 
 -- ---- the facts on the edges are facts before each later slot
 

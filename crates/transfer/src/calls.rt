@@ -11,6 +11,9 @@ use interval::Range;
 use reg_kinds::{Facts, Kind, Reason, ValuePointer, fill_stack, read_many};
 use tagged_model::{Helper, MapShape, Named, shape_of};
 
+/// A length that is handed to a helper lies below this: 2^29 bytes.
+const LENGTHS_END: u64 = 0x2000_0000;
+
 /// A map by its descriptor.
 #[derive(Clone, Copy, Debug, PartialEq, Eq)]
 pub(crate) struct ShapedMap {
@@ -116,7 +119,7 @@ fn length(kind: Kind) -> Result<Range, Reason>
     let Kind::Scalar(range) = kind else {
         return Err(Reason::HelperArgument);
     };
-    if range.lo == 0 || range.hi >= 0x2000_0000 {
+    if range.lo == 0 || range.hi >= LENGTHS_END {
         Err(Reason::LengthUnbounded)
     } else {
         Ok(range)

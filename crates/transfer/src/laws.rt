@@ -17,8 +17,8 @@ use tagged_model::{
     stack_write_admits, value_load_admits, value_store_admits,
 };
 
-/// Where facts admit a state and let an instruction be run, its step on tagged values is no fault, and the facts on one of
-/// its edges admit the state after it.
+/// Where facts admit a state and let an instruction be run, its step on tagged values is no fault, and the facts on the edge
+/// that it takes admit the state after it.
 pub fn transfer_is_sound()
     ensures { TransferIsSound }
 {

@@ -17,13 +17,13 @@ use Rattle.reg_kinds.specs.declared.reason.Reason.TheVariants.{UnknownHelper, De
 use Rattle.tagged_model.specs.declared.shape.Named.{Named}
 use Rattle.tagged_model.specs.declared.shape.Target.{Target}
 use Rattle.tagged_model.specs.declared.shape.Target.TheVariants as target
-use Rattle.tagged_model.specs.Cells.{also}
+use Rattle.tagged_model.specs.Cells.{and_then}
 use Rattle.tagged_model.specs.Named.{Shapes, target_of, shape_in, shapes_named}
 use Rattle.transfer.specs.Branches.{Edges}
 use Rattle.transfer.specs.Effects.{effect}
 use Rattle.transfer.specs.Reasons.{CallsUnknown, LoadsUnshaped, IsReasonOf, TransferReasons}
 use Rattle.verdict.specs.Shape.{calls_unknown, is_map, descriptor, is_not_open, is_not_map, shape_fault}
-use Rattle.verdict.specs.Before.{before}
+use Rattle.verdict.specs.Before.{facts_before}
 use Rattle.verdict.specs.Maps.{without, distinct, maps_of, is_among, entries_of, shapes_of}
 use Rattle.verdict.specs.Verdict.{reason_of, safety_fault, HasNoFault}
 use Rattle.verdict.specs.Laws.{SafetyFollowsShape, LoadedMapsHaveShapes}
@@ -124,17 +124,17 @@ module _ (law : TransferReasons) (shapes : Shapes) (code : List Insn) (slot : �
   effect_told i f (Ok edges) e h = absurd (none-some reason h)
   effect_told i f (Err told) e h = law shapes slot i f reason (e ∙ ap Err (same_Some told reason h))
 
-  insn_told : (f : Facts) (o : Option Insn) → begins_at code slot ≡ o → also o (λ i. reason_of (effect shapes slot i f)) ≡ Some reason → IsTold
+  insn_told : (f : Facts) (o : Option Insn) → begins_at code slot ≡ o → and_then o (λ i. reason_of (effect shapes slot i f)) ≡ Some reason → IsTold
   insn_told f None e h = absurd (none-some reason h)
   insn_told f (Some i) e h = record { insn = i; begins = e; is = effect_told i f (effect shapes slot i f) refl h }
 
-  facts_told : (known : Option Facts) → also known (λ f. also (begins_at code slot) (λ i. reason_of (effect shapes slot i f))) ≡ Some reason → IsTold
+  facts_told : (known : Option Facts) → and_then known (λ f. and_then (begins_at code slot) (λ i. reason_of (effect shapes slot i f))) ≡ Some reason → IsTold
   facts_told None h = absurd (none-some reason h)
   facts_told (Some f) h = insn_told f (begins_at code slot) refl h
 
   safety_told : safety_fault shapes code slot ≡ Some reason → IsTold
   unfolding safety_fault
-  safety_told h = facts_told (before shapes code slot) h
+  safety_told h = facts_told (facts_before shapes code slot) h
 
 -- a function that is called is known
 none_unknown : (i : Insn) → calls_unknown i ≡ false → CallsUnknown i → ⊥

@@ -8,13 +8,13 @@ use Rattle.reg_kinds.specs.declared.facts.Facts.{Facts}
 use Rattle.reg_kinds.specs.declared.reason.Reason.{Reason}
 use Rattle.reg_kinds.specs.declared.reason.Reason.TheVariants.{JumpOutside, JumpBackward, FallsOff, Unreachable, UnknownHelper, FramePointerWritten, DescriptorNotOpen, DescriptorNotMap, Memory}
 use Rattle.tagged_model.specs.declared.shape.Named.{Named}
-use Rattle.tagged_model.specs.Cells.{also}
+use Rattle.tagged_model.specs.Cells.{and_then}
 use Rattle.tagged_model.specs.Named.{Shapes}
 use Rattle.verdict.specs.Maps.{shapes_of}
 use Rattle.transfer.specs.Branches.{Edges}
 use Rattle.transfer.specs.Effects.{effect}
 use Rattle.verdict.specs.Shape.{shape_of, shape_fault}
-use Rattle.verdict.specs.Before.{before}
+use Rattle.verdict.specs.Before.{facts_before}
 use Rattle.verdict.specs.Verdict.{reason_of, safety_fault, IsRefused}
 
 -- any reason but want of memory
@@ -68,17 +68,17 @@ module _ (effects : EffectsNeedNone) where
     effect_rule at i f (Ok edges) e reason same = by_none reason same
     effect_rule at i f (Err told) e reason same = effects shapes at i f reason (let z : effect shapes at i f ≡ Err reason = cc in z)
 
-    insn_rule : (at : ℕ) (f : Facts) (o : Option Insn) → ByRule (also o (λ i. reason_of (effect shapes at i f)))
+    insn_rule : (at : ℕ) (f : Facts) (o : Option Insn) → ByRule (and_then o (λ i. reason_of (effect shapes at i f)))
     insn_rule at f None = by_none
     insn_rule at f (Some i) = effect_rule at i f (effect shapes at i f) refl
 
-    facts_rule : (at : ℕ) (known : Option Facts) (o : Option Insn) → ByRule (also known (λ f. also o (λ i. reason_of (effect shapes at i f))))
+    facts_rule : (at : ℕ) (known : Option Facts) (o : Option Insn) → ByRule (and_then known (λ f. and_then o (λ i. reason_of (effect shapes at i f))))
     facts_rule at None o = by_none
     facts_rule at (Some f) o = insn_rule at f o
 
     safety_rule : (code : List Insn) (slot : ℕ) → ByRule (safety_fault shapes code slot)
     unfolding safety_fault
-    safety_rule code slot = facts_rule slot (before shapes code slot) (begins_at code slot)
+    safety_rule code slot = facts_rule slot (facts_before shapes code slot) (begins_at code slot)
 
   pub not_for_memory : (code : List Insn) (named : List Named) (slot : ℕ) (reason : Reason) → IsRefused code named slot reason → reason ≢ Memory
   not_for_memory code named slot reason (inl first) = shape_rule code named slot reason first.here

@@ -7,7 +7,7 @@ use Rattle.reg_kinds.specs.declared.facts.Facts.{Facts}
 use Rattle.reg_kinds.specs.declared.reason.Reason.{Reason}
 use Rattle.reg_kinds.specs.Join.{facts_join}
 use Rattle.reg_kinds.specs.Kinds.{entry}
-use Rattle.tagged_model.specs.Cells.{also}
+use Rattle.tagged_model.specs.Cells.{and_then}
 use Rattle.tagged_model.specs.Named.{Shapes}
 use Rattle.transfer.specs.Branches.{Edges}
 use Rattle.transfer.specs.Effects.{effect}
@@ -20,22 +20,22 @@ joined (Some f) None = Some f
 joined (Some f) (Some g) = Some (facts_join f g)
 
 -- the facts on an edge, if it leads there
-abbrev pub on : Bool → Option Facts → Option Facts
-on leads f = if leads then f else None
+abbrev pub only_if : Bool → Option Facts → Option Facts
+only_if leads f = if leads then f else None
 
 -- nothing goes on from an instruction that may not be run
 abbrev pub edges_into : Insn → ℕ → ℕ → Result Edges Reason → Option Facts
 edges_into insn n i (Err reason) = None
-edges_into insn n i (Ok edges) = joined (on (falls_into insn n i) edges.falling) (on (jumps_into insn n i) edges.jumping)
+edges_into insn n i (Ok edges) = joined (only_if (falls_into insn n i) edges.falling) (only_if (jumps_into insn n i) edges.jumping)
 
 -- the facts that slot n sends to slot i, from those before it
-abbrev pub sent : Shapes → List Insn → ℕ → ℕ → Option Facts → Option Facts
-sent shapes code n i before = also before (λ f. also (begins_at code n) (λ insn. edges_into insn n i (effect shapes n insn f)))
+abbrev pub facts_sent : Shapes → List Insn → ℕ → ℕ → Option Facts → Option Facts
+facts_sent shapes code n i known = and_then known (λ f. and_then (begins_at code n) (λ insn. edges_into insn n i (effect shapes n insn f)))
 
 -- the join of the facts that the slots below n send to slot i
-unfoldable pub inflow : Shapes → List Insn → ℕ → ℕ → Option Facts
-inflow shapes code i zero = if i == 0 then Some entry else None
-inflow shapes code i (suc n) = joined (inflow shapes code i n) (sent shapes code n i (inflow shapes code n n))
+unfoldable pub facts_from_below : Shapes → List Insn → ℕ → ℕ → Option Facts
+facts_from_below shapes code i zero = if i == 0 then Some entry else None
+facts_from_below shapes code i (suc n) = joined (facts_from_below shapes code i n) (facts_sent shapes code n i (facts_from_below shapes code n n))
 
-abbrev pub before : Shapes → List Insn → ℕ → Option Facts
-before shapes code i = inflow shapes code i i
+abbrev pub facts_before : Shapes → List Insn → ℕ → Option Facts
+facts_before shapes code i = facts_from_below shapes code i i

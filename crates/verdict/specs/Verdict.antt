@@ -6,13 +6,13 @@ use Rattle.insn_codec.specs.Program.{begins_at}
 use Rattle.reg_kinds.specs.declared.reason.Reason.{Reason}
 use Rattle.reg_kinds.specs.declared.reason.Reason.TheVariants.{Memory}
 use Rattle.tagged_model.specs.declared.shape.Named.{Named}
-use Rattle.tagged_model.specs.Cells.{also}
+use Rattle.tagged_model.specs.Cells.{and_then}
 use Rattle.tagged_model.specs.Named.{Shapes}
 use Rattle.transfer.specs.Branches.{Edges}
 use Rattle.transfer.specs.Effects.{effect}
 use Rattle.verdict.specs.declared.fault.VerifyFault.{VerifyFault}
 use Rattle.verdict.specs.Shape.{shape_fault}
-use Rattle.verdict.specs.Before.{before}
+use Rattle.verdict.specs.Before.{facts_before}
 use Rattle.verdict.specs.Maps.{shapes_of}
 
 abbrev pub reason_of : Result Edges Reason → Option Reason
@@ -21,7 +21,7 @@ reason_of (Err reason) = Some reason
 
 -- the first condition that fails at a slot; none where nothing is known to come there
 unfoldable pub safety_fault : Shapes → List Insn → ℕ → Option Reason
-safety_fault shapes code at = also (before shapes code at) (λ f. also (begins_at code at) (λ i. reason_of (effect shapes at i f)))
+safety_fault shapes code at = and_then (facts_before shapes code at) (λ f. and_then (begins_at code at) (λ i. reason_of (effect shapes at i f)))
 
 -- the reason at a slot, and none at any slot below
 pub record IsFirstFault (fault_at : ℕ → Option Reason) (slot : ℕ) (reason : Reason) : Type 0 where

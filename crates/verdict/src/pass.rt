@@ -96,7 +96,6 @@ pub(crate) fn check_safety(
     ensures refused { IfErr result (λ e. (e ≡ memory_fault)
         ⊎ IsFirstFault (safety_fault (shapes_named named.now) program.now) e.slot e.reason) }
 {
-    program.insns_adjoin();
     joins_commute();
     joins_associate();
     let slots = program.slots();

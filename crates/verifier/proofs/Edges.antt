@@ -11,7 +11,7 @@ use Rattle.reg_kinds.specs.declared.kind.Kind.{Kind}
 use Rattle.reg_kinds.specs.declared.kind.Kind.TheVariants as kind
 use Rattle.reg_kinds.specs.declared.facts.Facts.{Facts}
 use Rattle.reg_kinds.specs.declared.reason.Reason.{Reason}
-use Rattle.reg_kinds.specs.Reason.{given}
+use Rattle.reg_kinds.specs.Reason.{and_then_ok}
 use Rattle.reg_kinds.specs.Kinds.{kind_at, with_kind}
 use Rattle.tagged_model.specs.Operators.{narrow_of, order_of, kept_of, size_of}
 use Rattle.transfer.specs.Branches.{Edges}
@@ -39,7 +39,7 @@ abbrev IfOk : (Edges → Type 0) → Result Edges Reason → Type 0
 IfOk P (Err r) = Unit {0}
 IfOk P (Ok e) = P e
 
-after_given : {A : Type 0} (P : Edges → Type 0) (r : Result A Reason) (go : A → Result Edges Reason) → ((x : A) → IfOk P (go x)) → IfOk P (given r go)
+after_given : {A : Type 0} (P : Edges → Type 0) (r : Result A Reason) (go : A → Result Edges Reason) → ((x : A) → IfOk P (go x)) → IfOk P (and_then_ok r go)
 after_given P (Err e) go h = tt
 after_given P (Ok x) go h = h x
 
@@ -66,7 +66,7 @@ either_way i (Err e) h g = tt
 either_way i (Ok e) h g = record { falling = λ _. h; jumping = λ _. g }
 
 -- an operator of one register
-one_leads : (i : Insn) (f : Facts) (dst src : ℕ) (of : Kind → Result Kind Reason) → falls i ≡ true → IfOk (LeadOnly i) (given (readable (kind_at f src)) (λ k. assigns f dst (of k)))
+one_leads : (i : Insn) (f : Facts) (dst src : ℕ) (of : Kind → Result Kind Reason) → falls i ≡ true → IfOk (LeadOnly i) (and_then_ok (readable (kind_at f src)) (λ k. assigns f dst (of k)))
 one_leads i f dst src of h = after_given (LeadOnly i) (readable (kind_at f src)) (λ k. assigns f dst (of k)) (λ k. assigned_alone i f dst (of k) h)
 
 module _ (shapes : Shapes) (at : ℕ) where

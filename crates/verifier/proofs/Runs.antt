@@ -17,11 +17,11 @@ use Rattle.tagged_model.specs.declared.value.Tagged.TheVariants.{Scalar, Pointer
 use Rattle.tagged_model.specs.declared.value.Outcome.TheVariants.{Value, Fault}
 use Rattle.tagged_model.specs.Cells.{bytes}
 use Rattle.tagged_model.specs.State.{RunState}
-use Rattle.tagged_model.specs.Step.{Step, goes, ends, faults, step, Ending, after, first, others, run, begins_with, MapsByDescriptor, begin}
+use Rattle.tagged_model.specs.Step.{Step, goes, ends, faults, step, Ending, ending_after, refused_at_first, refused_later, run, begins_with, MapsByDescriptor, start_of_run}
 use Rattle.tagged_model.specs.Admits.{Witness, objects_of, HasKind, HasSlot, AdmitsBy}
 use Rattle.tagged_model.specs.StateLaws.{no_bytes}
 use Rattle.verdict.specs.Maps.{shapes_of}
-use Rattle.verdict.specs.Before.{inflow, before}
+use Rattle.verdict.specs.Before.{facts_from_below, facts_before}
 use Rattle.verdict.specs.Verdict.{IsAccepted}
 use Rattle.verifier.specs.Sound.{IsAdmitted, NextIsAdmitted, StepsGoOn, AreRunInputs, NeverFaults}
 use Rattle.verifier.proofs.FirstMaps.{first_values, first_maps}
@@ -42,19 +42,19 @@ begins_of false false = tt
 least : (n : ℕ) → 0 ≤ n
 least n = omega arith
 
-entry_admits : (maps : MapsByDescriptor) (words packet : List ℕ) → AdmitsBy nothing entry (begin maps words packet)
+entry_admits : (maps : MapsByDescriptor) (words packet : List ℕ) → AdmitsBy nothing entry (start_of_run maps words packet)
 entry_admits maps words packet =
     record {
       registers = λ r. in_table (λ k. HasKind nothing k (begins_with r)) entry_kind 11 r kind.Unreadable (begins_of (r == 1) (r == 10)) tt;
       slots = λ i. in_table (λ t. HasSlot nothing t (bytes (λ j. None))) (λ i. Bytes 0) 64 i (Bytes 0) (no_bytes (bytes (λ j. None))) (no_bytes (bytes (λ j. None)));
-      objects = λ m. least (objects_of ((begin maps words packet).maps m));
+      objects = λ m. least (objects_of ((start_of_run maps words packet).maps m));
     }
 
-at_entry : (shapes : Shapes) (code : List Insn) → before shapes code 0 ≡ Some entry
-unfolding inflow
+at_entry : (shapes : Shapes) (code : List Insn) → facts_before shapes code 0 ≡ Some entry
+unfolding facts_from_below
 at_entry shapes code = refl
 
-beginning : (shapes : Shapes) (code : List Insn) (maps : MapsByDescriptor) (words packet : List ℕ) → AreRunInputs shapes maps words packet → IsAdmitted shapes code (begin maps words packet)
+beginning : (shapes : Shapes) (code : List Insn) (maps : MapsByDescriptor) (words packet : List ℕ) → AreRunInputs shapes maps words packet → IsAdmitted shapes code (start_of_run maps words packet)
 beginning shapes code maps words packet given =
     record {
       witness = nothing;
@@ -76,7 +76,7 @@ some_insn (Some i) h = (i, refl)
 value_no_fault : (n : ℕ) → Value n ≢ Fault
 value_no_fault n e = cc
 
-after_step : (shapes : Shapes) (code : List Insn) (s : RunState) (st : Step) (go : RunState → Ending) → NextIsAdmitted shapes code s.at st → ((t : RunState) → s.at < t.at → IsAdmitted shapes code t → (go t).outcome ≢ Fault) → (after st s go).outcome ≢ Fault
+after_step : (shapes : Shapes) (code : List Insn) (s : RunState) (st : Step) (go : RunState → Ending) → NextIsAdmitted shapes code s.at st → ((t : RunState) → s.at < t.at → IsAdmitted shapes code t → (go t).outcome ≢ Fault) → (ending_after st s go).outcome ≢ Fault
 after_step shapes code s (goes t) go h rest = rest t h.0 h.1
 after_step shapes code s (ends n) go h rest = value_no_fault n
 after_step shapes code s faults go h rest = absurd h
@@ -93,9 +93,9 @@ module _ (law : StepsGoOn) (code : List Insn) (named : List Named) (program : Is
   unfolding run
   no_fault zero refusals s enough here = absurd (let inside = within s here in omega arith)
   no_fault (suc n) refusals s enough here =
-      after_step (shapes_of code named) code s (step (first refusals) code s) (run code n (others refusals)) (law code named (first refusals) s program accepted here)
-      (λ t farther there. no_fault n (others refusals) t (omega arith) there)
+      after_step (shapes_of code named) code s (step (refused_at_first refusals) code s) (run code n (refused_later refusals)) (law code named (refused_at_first refusals) s program accepted here)
+      (λ t farther there. no_fault n (refused_later refusals) t (omega arith) there)
 
 pub never_faults : StepsGoOn → NeverFaults
 never_faults law code named refusals maps words packet program accepted given =
-    no_fault law code named program accepted (slot_count code) refusals (begin maps words packet) (omega arith) (beginning (shapes_of code named) code maps words packet given)
+    no_fault law code named program accepted (slot_count code) refusals (start_of_run maps words packet) (omega arith) (beginning (shapes_of code named) code maps words packet given)

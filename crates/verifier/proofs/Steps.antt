@@ -1,5 +1,5 @@
 -- Each step of an accepted program goes on.
-use Rattle.std.proofs.Common.{◌≡◌, ℕ, ◌+◌, ◌<◌, Bool, List, length, Option, Some, None, Result, Ok, Err, refl, sym, ap, subst, ◌∙◌, ⊎_elim, arith}
+use Rattle.std.proofs.Common.{◌≡◌, ℕ, ◌+◌, ◌<◌, Bool, true, false, List, length, Option, Some, None, Result, Ok, Err, refl, sym, ap, subst, ◌∙◌, arith}
 use Rattle.std.specs.Option.{IsSome}
 use Rattle.std.proofs.lemmas.Bool.{false≢true}
 use Rattle.std.proofs.lemmas.Option.{none-some, same_Some}
@@ -10,18 +10,18 @@ use Rattle.reg_kinds.specs.declared.facts.Facts.{Facts}
 use Rattle.reg_kinds.specs.declared.reason.Reason.{Reason}
 use Rattle.tagged_model.specs.declared.shape.Named.{Named}
 use Rattle.tagged_model.specs.Named.{Shapes}
-use Rattle.tagged_model.specs.Cells.{also}
+use Rattle.tagged_model.specs.Cells.{and_then}
 use Rattle.tagged_model.specs.State.{RunState}
-use Rattle.tagged_model.specs.Step.{Step, goes, ends, faults, need, act}
+use Rattle.tagged_model.specs.Step.{Step, goes, ends, faults, or_fault, act}
 use Rattle.tagged_model.specs.Admits.{Witness, IsInRange, HasMaps}
 use Rattle.tagged_model.specs.Laws.{JoinAdmits}
 use Rattle.transfer.specs.Branches.{Edges}
 use Rattle.transfer.specs.Effects.{effect}
-use Rattle.transfer.specs.Sound.{AreWellFormedAt, AreWellFormedOn, TransferKeepsWellFormed, EdgeAdmits, CoversStep, TransferIsSound}
+use Rattle.transfer.specs.Sound.{AreWellFormedAt, AreWellFormedOn, TransferKeepsWellFormed, EdgeAdmits, takes_jump, TakenEdgeAdmits, CoversStep, TransferIsSound}
 use Rattle.insn_codec.specs.Flow.{falls_to, jumps_to}
 use Rattle.insn_codec.specs.BeginLaws.{some_slots, begun_is_insn}
 use Rattle.verdict.specs.Maps.{shapes_of}
-use Rattle.verdict.specs.Before.{before}
+use Rattle.verdict.specs.Before.{facts_before}
 use Rattle.verdict.specs.Verdict.{reason_of, safety_fault, IsAccepted}
 use Rattle.verifier.specs.Sound.{StepIsSound, IsAdmitted, NextIsAdmitted, StepsGoOn}
 use Rattle.verifier.proofs.Edges.{leads_only}
@@ -31,14 +31,14 @@ use Rattle.verifier.proofs.Arrivals.{AdmitOn, are_there, begins_before, shape_at
 
 -- ---- one step
 
-facts_before : TransferKeepsWellFormed → (shapes : Shapes) (code : List Insn) → IsProgram code → (n : ℕ) (f : Facts) → before shapes code n ≡ Some f → AreWellFormedAt n f
-facts_before stay shapes code program n f e = subst (AreWellFormedOn n) e (inflow_words stay shapes code program.each n n)
+well_formed_before : TransferKeepsWellFormed → (shapes : Shapes) (code : List Insn) → IsProgram code → (n : ℕ) (f : Facts) → facts_before shapes code n ≡ Some f → AreWellFormedAt n f
+well_formed_before stay shapes code program n f e = subst (AreWellFormedOn n) e (inflow_words stay shapes code program.each n n)
 
 pub slots_covered : TransferIsSound → TransferKeepsWellFormed → StepIsSound
 slots_covered cover stay code named witness refused s i f edges program fine begins known still e =
     let shapes = shapes_of code named in
     let shape = shape_at shapes code named program fine s.at i begins in
-    cover witness shapes refused i f s edges (begun_is_insn code s.at i begins program.each) (target_is code s.at i shape) (facts_before stay shapes code program s.at f known) still e
+    cover witness shapes refused i f s edges (begun_is_insn code s.at i begins program.each) (target_is code s.at i shape) (well_formed_before stay shapes code program s.at f known) still e
 
 -- the laws that a step stands on
 pub record Laws : Type 0 where
@@ -48,7 +48,7 @@ pub record Laws : Type 0 where
 
 -- ---- a state that facts admit
 
-admitted : (witness : Witness) (shapes : Shapes) (code : List Insn) (s : RunState) (o : Option Facts) → before shapes code s.at ≡ o → AdmitOn witness o s → IsInRange s → HasMaps shapes s → IsAdmitted shapes code s
+admitted : (witness : Witness) (shapes : Shapes) (code : List Insn) (s : RunState) (o : Option Facts) → facts_before shapes code s.at ≡ o → AdmitOn witness o s → IsInRange s → HasMaps shapes s → IsAdmitted shapes code s
 admitted witness shapes code s None e h proper maps = absurd h
 admitted witness shapes code s (Some f) e h proper maps = record { witness = witness; facts = f; known = e; still = record { admits = h; proper = proper; maps = maps } }
 
@@ -66,7 +66,7 @@ on_edge shapes (Some f) slot t h = record { at = h.0; witness = h.1; admits = h.
 
 -- ---- a step of an instruction that may be run
 
-module _ (join : JoinAdmits) (shapes : Shapes) (code : List Insn) (s : RunState) (i : Insn) (f : Facts) (edges : Edges) (begins : begins_at code s.at ≡ Some i) (known : before shapes code s.at ≡ Some f) (e : effect shapes s.at i f ≡ Ok edges) (shape : IsShaped code i s.at) where
+module _ (join : JoinAdmits) (shapes : Shapes) (code : List Insn) (s : RunState) (i : Insn) (f : Facts) (edges : Edges) (begins : begins_at code s.at ≡ Some i) (known : facts_before shapes code s.at ≡ Some f) (e : effect shapes s.at i f ≡ Ok edges) (shape : IsShaped code i s.at) where
   falls_on : (t : RunState) → Arrives shapes edges.falling (Some (falls_to i s.at)) t → NextIsAdmitted shapes code s.at (goes t)
   falls_on t h =
       let at : s.at + length (slots i) ≡ t.at = same_Some (falls_to i s.at) t.at h.at in
@@ -74,7 +74,7 @@ module _ (join : JoinAdmits) (shapes : Shapes) (code : List Insn) (s : RunState)
       let leads = (leads_only shapes s.at i f edges e).falling (are_there h.witness edges.falling t h.admits) in
       let into = falls_lead code s.at i shape t.at leads at in
       let come = arrives join h.witness t shapes code s.at t.at i f edges farther begins known e (fallen join h.witness t i s.at t.at edges into h.admits) in
-      (farther, admitted h.witness shapes code t (before shapes code t.at) refl come h.proper h.maps)
+      (farther, admitted h.witness shapes code t (facts_before shapes code t.at) refl come h.proper h.maps)
 
   jumps_on : (t : RunState) → Arrives shapes edges.jumping (jumps_to i s.at) t → NextIsAdmitted shapes code s.at (goes t)
   jumps_on t h =
@@ -82,23 +82,23 @@ module _ (join : JoinAdmits) (shapes : Shapes) (code : List Insn) (s : RunState)
       let farther = (jump_at code s.at i shape t.at leads h.at).0 in
       let into = jumps_lead code s.at i shape t.at leads h.at in
       let come = arrives join h.witness t shapes code s.at t.at i f edges farther begins known e (jumped join h.witness t i s.at t.at edges into h.admits) in
-      (farther, admitted h.witness shapes code t (before shapes code t.at) refl come h.proper h.maps)
+      (farther, admitted h.witness shapes code t (facts_before shapes code t.at) refl come h.proper h.maps)
 
-  covered_on : (st : Step) → CoversStep shapes i s.at edges st → NextIsAdmitted shapes code s.at st
-  covered_on (goes t) h =
-      ⊎_elim
-      (λ a. falls_on t (on_edge shapes edges.falling (Some (falls_to i s.at)) t a))
-      (λ b. jumps_on t (on_edge shapes edges.jumping (jumps_to i s.at) t b))
-      h
+  taken_on : (jumps : Bool) (t : RunState) → TakenEdgeAdmits jumps shapes (falls_to i s.at) (jumps_to i s.at) edges t → NextIsAdmitted shapes code s.at (goes t)
+  taken_on true t h = jumps_on t (on_edge shapes edges.jumping (jumps_to i s.at) t h)
+  taken_on false t h = falls_on t (on_edge shapes edges.falling (Some (falls_to i s.at)) t h)
+
+  covered_on : (st : Step) → CoversStep shapes i s edges st → NextIsAdmitted shapes code s.at st
+  covered_on (goes t) h = taken_on (takes_jump i s) t h
   covered_on (ends n) h = h
   covered_on faults h = h
 
 -- ---- any step
 
-safe : (shapes : Shapes) (code : List Insn) (n : ℕ) (i : Insn) (f : Facts) → begins_at code n ≡ Some i → before shapes code n ≡ Some f → safety_fault shapes code n ≡ None → reason_of (effect shapes n i f) ≡ None
+safe : (shapes : Shapes) (code : List Insn) (n : ℕ) (i : Insn) (f : Facts) → begins_at code n ≡ Some i → facts_before shapes code n ≡ Some f → safety_fault shapes code n ≡ None → reason_of (effect shapes n i f) ≡ None
 unfolding safety_fault
 safe shapes code n i f begins known none =
-    sym (ap (λ o. also o (λ f. also (begins_at code n) (λ i. reason_of (effect shapes n i f)))) known ∙ ap (λ o. also o (λ i. reason_of (effect shapes n i f))) begins) ∙ none
+    sym (ap (λ o. and_then o (λ f. and_then (begins_at code n) (λ i. reason_of (effect shapes n i f)))) known ∙ ap (λ o. and_then o (λ i. reason_of (effect shapes n i f))) begins) ∙ none
 
 module _ (laws : Laws) (code : List Insn) (named : List Named) (refused : Bool) (s : RunState) (program : IsProgram code) (accepted : IsAccepted code named) (here : IsAdmitted (shapes_of code named) code s) where
   abbrev Given : Shapes
@@ -115,7 +115,7 @@ module _ (laws : Laws) (code : List Insn) (named : List Named) (refused : Bool) 
       covered_on laws.join Given code s i here.facts edges begins here.known e shape (act refused i s)
       (slots_covered laws.cover laws.stay code named here.witness refused s i here.facts edges program accepted.0 begins here.known here.still e)
 
-  step_on : (o : Option Insn) → begins_at code s.at ≡ o → Goes (need o (λ i. act refused i s))
+  step_on : (o : Option Insn) → begins_at code s.at ≡ o → Goes (or_fault o (λ i. act refused i s))
   step_on None e = absurd (false≢true (subst (λ o. IsSome o) e (begins_before Given code named program accepted.0 s.at here.facts here.known)))
   step_on (Some i) e = runs_on i e (effect Given s.at i here.facts) refl
 

@@ -18,14 +18,14 @@ use Rattle.reg_kinds.specs.Kinds.{kind_at, slot_at, facts_of, entry_kind, entry}
 use Rattle.reg_kinds.specs.Pointers.{offsets_hull}
 use Rattle.reg_kinds.specs.Join.{kind_join, spilled, slot_join, facts_join}
 use Rattle.reg_kinds.specs.TableLaws.{in_table}
-use Rattle.tagged_model.specs.Cells.{also}
+use Rattle.tagged_model.specs.Cells.{and_then}
 use Rattle.tagged_model.specs.Named.{Shapes}
 use Rattle.transfer.specs.Branches.{Edges}
 use Rattle.transfer.specs.Effects.{effect}
 use Rattle.transfer.specs.Sound.{IsKindAt, IsSlotAt, AreWellFormedAt, AreWellFormedOn, TransferKeepsWellFormed}
 use Rattle.transfer.specs.FactLaws.{facts_of_later_slots}
 use Rattle.verdict.specs.Shape.{falls_into, jumps_into}
-use Rattle.verdict.specs.Before.{joined, on, edges_into, sent, inflow}
+use Rattle.verdict.specs.Before.{joined, only_if, edges_into, facts_sent, facts_from_below}
 
 -- above the slots of the look-ups
 module _ (bound : ℕ) where
@@ -83,7 +83,7 @@ module _ (bound : ℕ) where
 
   -- ---- before each slot
 
-  on_words : (leads : Bool) (o : Option Facts) → AreWellFormedOn bound o → AreWellFormedOn bound (on leads o)
+  on_words : (leads : Bool) (o : Option Facts) → AreWellFormedOn bound o → AreWellFormedOn bound (only_if leads o)
   on_words leads o h = cond_both leads o None (AreWellFormedOn bound) (λ _. h) (λ _. tt)
 
 -- ---- facts before a slot are facts before the next one
@@ -98,18 +98,18 @@ module _ (law : TransferKeepsWellFormed) (shapes : Shapes) (code : List Insn) (e
   edges_words n m i f is h (Ok edges) e =
       let farther : n < suc n = omega arith in
       let both = law shapes n (suc n) i f edges is h farther e in
-      joined_words (suc n) (on (falls_into i n m) edges.falling) (on (jumps_into i n m) edges.jumping) (on_words (suc n) (falls_into i n m) edges.falling both.0) (on_words (suc n) (jumps_into i n m) edges.jumping both.1)
+      joined_words (suc n) (only_if (falls_into i n m) edges.falling) (only_if (jumps_into i n m) edges.jumping) (on_words (suc n) (falls_into i n m) edges.falling both.0) (on_words (suc n) (jumps_into i n m) edges.jumping both.1)
 
-  begun_words : (n m : ℕ) (f : Facts) → AreWellFormedAt n f → (o : Option Insn) → begins_at code n ≡ o → AreWellFormedOn (suc n) (also o (λ i. edges_into i n m (effect shapes n i f)))
+  begun_words : (n m : ℕ) (f : Facts) → AreWellFormedAt n f → (o : Option Insn) → begins_at code n ≡ o → AreWellFormedOn (suc n) (and_then o (λ i. edges_into i n m (effect shapes n i f)))
   begun_words n m f h None e = tt
   begun_words n m f h (Some i) e = edges_words n m i f (begun_is_insn code n i e each) h (effect shapes n i f) refl
 
-  sent_words : (n m : ℕ) (before : Option Facts) → AreWellFormedOn n before → AreWellFormedOn (suc n) (sent shapes code n m before)
+  sent_words : (n m : ℕ) (before : Option Facts) → AreWellFormedOn n before → AreWellFormedOn (suc n) (facts_sent shapes code n m before)
   sent_words n m None h = tt
   sent_words n m (Some f) h = begun_words n m f h (begins_at code n) refl
 
-  pub inflow_words : (n m : ℕ) → AreWellFormedOn n (inflow shapes code m n)
-  unfolding inflow
+  pub inflow_words : (n m : ℕ) → AreWellFormedOn n (facts_from_below shapes code m n)
+  unfolding facts_from_below
   inflow_words zero m = cond_both (m == 0) (Some entry) None (AreWellFormedOn 0) (λ _. entry_words 0) (λ _. tt)
   inflow_words (suc n) m =
-      joined_words (suc n) (inflow shapes code m n) (sent shapes code n m (inflow shapes code n n)) (on_raised n (inflow shapes code m n) (inflow_words n m)) (sent_words n m (inflow shapes code n n) (inflow_words n n))
+      joined_words (suc n) (facts_from_below shapes code m n) (facts_sent shapes code n m (facts_from_below shapes code n n)) (on_raised n (facts_from_below shapes code m n) (inflow_words n m)) (sent_words n m (facts_from_below shapes code n n) (inflow_words n n))

@@ -20,7 +20,7 @@ use Rattle.transfer.specs.Effects.{effect}
 use Rattle.transfer.specs.Sound.{CoversStep}
 use Rattle.verdict.specs.Shape.{shape_fault}
 use Rattle.verdict.specs.Maps.{shapes_of}
-use Rattle.verdict.specs.Before.{before}
+use Rattle.verdict.specs.Before.{facts_before}
 use Rattle.verdict.specs.Verdict.{HasNoFault, IsAccepted}
 
 -- ---- one step
@@ -31,14 +31,14 @@ use Rattle.verdict.specs.Verdict.{HasNoFault, IsAccepted}
 abbrev pub StepIsSound : Type 0
 StepIsSound =
     (code : List Insn) (named : List Named) (witness : Witness) (refused : Bool) (s : RunState) (i : Insn) (f : Facts) (edges : Edges) → IsProgram code → HasNoFault (shape_fault code named) → begins_at code s.at ≡ Some i
-    → before (shapes_of code named) code s.at ≡ Some f → Describes witness f (shapes_of code named) s → effect (shapes_of code named) s.at i f ≡ Ok edges
-    → CoversStep (shapes_of code named) i s.at edges (act refused i s)
+    → facts_before (shapes_of code named) code s.at ≡ Some f → Describes witness f (shapes_of code named) s → effect (shapes_of code named) s.at i f ≡ Ok edges
+    → CoversStep (shapes_of code named) i s edges (act refused i s)
 
 -- the facts before the state's slot admit it, and it has a map of each shape
 pub record IsAdmitted (shapes : Shapes) (code : List Insn) (s : RunState) : Type 0 where
   pub witness : Witness
   pub facts : Facts
-  pub known : before shapes code s.at ≡ Some facts
+  pub known : facts_before shapes code s.at ≡ Some facts
   pub still : Describes witness facts shapes s
 
 -- a step that is no fault: the state after it lies farther on, and the facts before its slot admit it

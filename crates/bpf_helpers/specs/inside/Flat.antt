@@ -2,7 +2,7 @@
 -- their form on words is this project's own.
 use Rattle.std.specs.Prelude.{◌≡◌, Result, Ok, Err, ℕ, ◌+◌, ◌-◌, ◌==◌, ◌&&◌, ◌||◌, nat_le, if◌then◌else◌, List, slice_get, Option, Some, None}
 use Rattle.words.specs.Bytes.{bytes_at}
-use Rattle.tagged_model.specs.Cells.{also}
+use Rattle.tagged_model.specs.Cells.{and_then}
 use Rattle.tagged_model.specs.Table.{look_up, verdict, removal}
 use Rattle.tagged_model.specs.declared.fault.MapFault.{MapFault}
 use Rattle.tagged_model.specs.Helpers.{negative, errno, packet_bytes, packet_answer}
@@ -23,7 +23,7 @@ part_place start part n address =
 -- n bytes at an address, in part t
 abbrev pub part_input : Memory → ℕ → ℕ → ℕ → Option (List ℕ)
 part_input memory t n address =
-    also (part_place (part_start memory t) memory.part n address) (λ at.
+    and_then (part_place (part_start memory t) memory.part n address) (λ at.
     Some (bytes_at memory.bytes (part_start memory t + at) n))
 
 -- a key and a value of the map under a key, at a place of part t
@@ -52,7 +52,7 @@ value_word memory t tenant key (Some place) =
 
 abbrev pub flat_look_up : Memory → ℕ → LiveMaps → List ℕ → ℕ → ℕ → Option ℕ
 flat_look_up memory t tenant bind map key =
-    also (bound_map bind map) (λ k. also (key_input memory t tenant k key) (λ bytes.
+    and_then (bound_map bind map) (λ k. and_then (key_input memory t tenant k key) (λ bytes.
     Some (value_word memory t tenant k (look_up (table_of (places_at tenant k)) bytes))))
 
 -- ---- an update

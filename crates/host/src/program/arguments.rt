@@ -1,6 +1,8 @@
 //! The program's arguments, and what it does at them.
 
 ghost use Rattle.std.specs.Prelude.{◌≡◌, ◌≢◌, ◌≤◌, ◌⊎◌, Some, Err, IfErr, IfOk, IfSome, option_and_then, option_map};
+ghost use Rattle.std.specs.declared.io.ErrorKind.TheVariants.{OutOfMemory};
+ghost use Rattle.std.specs.IoError.{error_kind};
 ghost use Rattle.clap.specs.Words.{FailsBy, app_of, found_of, rows_of, subcommand_rows_of};
 ghost use Rattle.clap.specs.Walk.{texts};
 ghost use Rattle.host.specs.inside.program.Statuses.{exit_status};
@@ -22,7 +24,7 @@ use crate::server::{MOST_FRAMES, serve};
 use crate::stream::Counted;
 use clap::{Arg, ArgAction, ArgMatches, Command};
 use std::alloc::{AllocError, Global};
-use std::io::{BufReader, Read, Write};
+use std::io::{self, BufReader, Read, Write};
 use tagged_model::Named;
 
 /// What the arguments ask for.
@@ -246,4 +248,15 @@ pub fn run_words<I: Read + Drop, O: Write + Drop, F: Write + Drop>(
             failure.status()
         }
     }
+}
+
+/// Refuses arguments that could not be read, in the words of `run_words`: `wrong words` and 2 where one is not UTF-8, and
+/// `out of memory` and 4 where there was no memory for them. A line that can't be written is left out.
+pub fn refuse_unread_words<F: Write + Drop>(error: &io::Error, mut faults: F) -> u8
+    ensures memory { error_kind error.now ≡ OutOfMemory → result ≡ 4 }
+    ensures wrong { error_kind error.now ≢ OutOfMemory → result ≡ 2 }
+{
+    let failure = Failure::of_unread_arguments(error);
+    let _ = writeln!(faults, "{failure}");
+    failure.status()
 }

@@ -7,6 +7,7 @@ use bpf_text::{TextFault, TextFaultKind};
 use clap::error::ErrorKind;
 use insn_codec::{CodecFault, FaultKind};
 use std::alloc::{AllocError, AllocFailed};
+use std::io;
 use thiserror::Error;
 
 /// Why a run ends with another status than 0. Its text is the fault line.
@@ -35,7 +36,23 @@ pub(crate) enum Failure {
 }
 
 impl Failure {
+    ghost use Rattle.std.specs.Prelude.{◌≢◌};
+    ghost use Rattle.std.specs.declared.io.ErrorKind.TheVariants.{OutOfMemory};
+    ghost use Rattle.std.specs.IoError.{error_kind};
+    ghost use Rattle.host.specs.declared.program.failure.Failure.TheVariants.{WrongArguments, Memory};
     ghost use Rattle.host.specs.inside.program.Statuses.{exit_status};
+
+    /// Why the arguments could not be read: there was no memory for them, or one is not UTF-8.
+    pub(crate) fn of_unread_arguments(error: &io::Error) -> Failure
+        ensures memory { error_kind error.now ≡ OutOfMemory → result ≡ Memory }
+        ensures wrong { error_kind error.now ≢ OutOfMemory → result ≡ WrongArguments }
+    {
+        if error.kind() == io::ErrorKind::OutOfMemory {
+            Failure::Memory
+        } else {
+            Failure::WrongArguments
+        }
+    }
 
     /// The status that the program ends with.
     pub(crate) fn status(&self) -> u8

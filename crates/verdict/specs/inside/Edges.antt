@@ -3,7 +3,7 @@ use Rattle.std.specs.Prelude.{◌≡◌, ℕ, Option, Some, None, Result, Ok, Er
 use Rattle.insn_codec.specs.declared.insn.Insn.{Insn}
 use Rattle.reg_kinds.specs.declared.facts.Facts.{Facts}
 use Rattle.reg_kinds.specs.declared.reason.Reason.{Reason}
-use Rattle.tagged_model.specs.Cells.{also}
+use Rattle.tagged_model.specs.Cells.{and_then}
 use Rattle.tagged_model.specs.Named.{Shapes}
 use Rattle.transfer.specs.Branches.{Edges}
 use Rattle.transfer.specs.Effects.{effect}
@@ -21,14 +21,14 @@ jumping_of (Ok edges) = edges.jumping
 
 -- the same from what is known before the instruction at slot n, which may be nothing
 abbrev pub falling_from : Shapes → ℕ → Insn → Option Facts → Option Facts
-falling_from shapes n insn known = also known (λ f. falling_of (effect shapes n insn f))
+falling_from shapes n insn known = and_then known (λ f. falling_of (effect shapes n insn f))
 
 abbrev pub jumping_from : Shapes → ℕ → Insn → Option Facts → Option Facts
-jumping_from shapes n insn known = also known (λ f. jumping_of (effect shapes n insn f))
+jumping_from shapes n insn known = and_then known (λ f. jumping_of (effect shapes n insn f))
 
 -- the first condition that fails of an instruction at slot n; none where nothing is known
 abbrev pub reason_from : Shapes → ℕ → Insn → Option Facts → Option Reason
-reason_from shapes n insn known = also known (λ f. reason_of (effect shapes n insn f))
+reason_from shapes n insn known = and_then known (λ f. reason_of (effect shapes n insn f))
 
 -- it may be run: no condition fails (where nothing is known, no run comes there)
 abbrev pub MayRun : Shapes → ℕ → Insn → Option Facts → Type 0

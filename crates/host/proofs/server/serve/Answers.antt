@@ -1,6 +1,7 @@
-use Rattle.std.proofs.Common.{◌≡◌, refl, subst, arith}
+use Rattle.std.proofs.Common.{◌≡◌, [], refl, subst, arith}
+use Rattle.host.specs.declared.server.ServeFaultKind.TheVariants.{TooManyFrames}
 use Rattle.host.specs.inside.Frame.{ServesFrameOrEnds}
-use Rattle.host.proofs.Serving.{answered_none, frame_done, end_done, serves_alone, frame_more, frame_stops, end_more, end_fails}
+use Rattle.host.proofs.Serving.{answered_none, frame_done, end_done, serves_alone, nothing_served, stops_alone, frame_more, frame_stops, end_more, end_fails}
 use Rattle.host.proofs.server.serve.Goals as goal
 
 pub loop-frames-init : goal.loop-frames-init
@@ -36,3 +37,24 @@ returns-in-Ok-true-is_at_end-clause-alone g c =
     let (read, end) = c.in-Ok-true-is_at_end.ensures.end c.in-Ok-true-is_at_end.field-0-test in
     serves_alone c.unrefused_are_told_alone.ensures _ _ _
     (end_done _ _ _ c.loop-frames.frames c.args.limit same c.loop-frames.invariant.answered c.loop-frames.invariant.sound read refl refl end (c.in-Ok-true-is_at_end.ensures.sound, refl))
+
+pub returns-in-Err-clause-alone_before : goal.returns-in-Err-clause-alone_before
+returns-in-Err-clause-alone_before g c =
+    stops_alone c.unrefused_are_told_alone.ensures _ _ c.in-Err.kind c.loop-frames.frames
+    (frame_stops _ _ _ c.in-Err.kind c.loop-frames.frames c.loop-frames.invariant.answered c.loop-frames.invariant.sound c.in-Err.ensures.fault)
+
+pub returns-in-Ok-false-is_at_end-clause-alone_before : goal.returns-in-Ok-false-is_at_end-clause-alone_before
+returns-in-Ok-false-is_at_end-clause-alone_before g c =
+    let same : c.loop-frames.frames ≡ c.args.limit = omega arith in
+    let (byte, read) = c.in-Ok-false-is_at_end.ensures.more c.in-Ok-false-is_at_end.field-0-test in
+    stops_alone c.unrefused_are_told_alone.ensures _ _ TooManyFrames c.args.limit
+    (end_more _ _ _ c.loop-frames.frames c.args.limit byte same c.loop-frames.invariant.answered c.loop-frames.invariant.sound read refl refl (c.in-Ok-false-is_at_end.ensures.sound, refl))
+
+pub returns-clause-alone_before : goal.returns-clause-alone_before
+returns-clause-alone_before g c =
+    let same : c.loop-frames.frames ≡ c.args.limit = omega arith in
+    stops_alone c.unrefused_are_told_alone.ensures _ _ c.in-Err-is_at_end.kind c.args.limit
+    (end_fails _ _ _ c.loop-frames.frames c.args.limit c.in-Err-is_at_end.kind c.in-Err-is_at_end.ensures.kind same c.loop-frames.invariant.answered c.loop-frames.invariant.sound c.in-Err-is_at_end.ensures.failed.0 refl refl c.in-Err-is_at_end.ensures.failed.1)
+
+pub returns-in_default-clause-alone_before : goal.returns-in_default-clause-alone_before
+returns-in_default-clause-alone_before g c = λ whole. ([], nothing_served _)

@@ -21,9 +21,9 @@ returns-else-are_constants c =
     let op = c.args.op in
     let a = c.args.a in
     let b = c.args.b in
-    let exact : c.spread.result ≡ range_of 64 op a b =
-    from_spread 64 op a b c.spread.result (sym c.are_constants.ensures ∙ c.if-are_constants.false) c.spread.ensures ∙ wide_range op a b in
+    let exact : c.general_range.result ≡ range_of 64 op a b =
+    from_spread 64 op a b c.general_range.result (sym c.are_constants.ensures ∙ c.if-are_constants.false) c.general_range.ensures ∙ wide_range op a b in
     record {
       exact = exact;
-      sound = results_in 64 op a b c.spread.result exact (omega arith) (λ x. sees_64 a x (omega arith)) (λ y. sees_64 b y (omega arith));
+      sound = results_in 64 op a b c.general_range.result exact (omega arith) (λ x. sees_64 a x (omega arith)) (λ y. sees_64 b y (omega arith));
     }

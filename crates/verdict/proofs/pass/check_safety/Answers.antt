@@ -60,7 +60,7 @@ loop-slot-preserved c =
           record {
             known =
                 subst (λ (p : Pass). IsBefore (shapes_named c.args.named.now) code (slot + 1) p) (sym w.pass-is)
-                (after_insn (shapes_named c.args.named.now) c.joins_commute.ensures.facts c.joins_associate.ensures.facts code c.insns_adjoin.ensures slot _ _ known w.in-Some.insn.now begins lt told.falling told.sent told.long);
+                (after_insn (shapes_named c.args.named.now) c.joins_commute.ensures.facts c.joins_associate.ensures.facts code slot _ _ known w.in-Some.insn.now begins lt told.falling told.sent told.long);
             none_below = below_more _ _ c.loop-slot.invariant.none_below (safety_is (shapes_named c.args.named.now) code slot w.in-Some.insn.now _ None (here_is (shapes_named c.args.named.now) code slot _ known w.in-Some.insn.now begins lt) begins told.ok);
           }
       | in_default w ↦

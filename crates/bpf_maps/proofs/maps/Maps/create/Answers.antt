@@ -1,6 +1,6 @@
 use Rattle.std.proofs.Common.{◌≡◌, ◌+◌, ◌*◌, ◌/◌, true, refl, subst, arith, replicate}
 use Rattle.bpf_maps.specs.Live.{LiveMaps, IsLaid, AreSound, create_fault}
-use Rattle.bpf_maps.specs.InMaps.{seen}
+use Rattle.bpf_maps.specs.InMaps.{as_live_maps}
 use Rattle.bpf_maps.specs.declared.maps.Entry.{Entry}
 use Rattle.bpf_maps.proofs.Created.{IsRoom, IsAdded, with_new, room_here, creates_none, creates_one, whole_one, laid_one, more_one, front_kept, cleared_one, values_kept, created, live_stays}
 use Rattle.bpf_maps.proofs.Values.{new_map_in}
@@ -81,14 +81,14 @@ returns-clause-front c = front_kept c.self.inside c.args.self.now c.args.shape c
 
 pub returns-clause-fresh : goal.returns-clause-fresh
 returns-clause-fresh c =
-    let new : LiveMaps = seen (with_new c.self.inside c.in-Some.number c.area-size.result c.insert_reserved-key.new.self) in
+    let new : LiveMaps = as_live_maps (with_new c.self.inside c.in-Some.number c.area-size.result c.insert_reserved-key.new.self) in
     let made = created (create_fault c.args.self.now c.args.shape) c.args.self.now new c.args.shape c.insert_reserved-key.result (returns-clause-created c) in
     new_map_in c.clear.new.part new c.insert_reserved-key.result c.args.shape (replicate c.args.shape.value_size 0) made.places (returns-clause-cleared c)
 
 pub returns-clause-maps : goal.returns-clause-maps
 returns-clause-maps c =
     λ k live.
-    keeps_live c.args.self.now (seen (with_new c.self.inside c.in-Some.number c.area-size.result c.insert_reserved-key.new.self)) c.args.part.now c.clear.new.part k (returns-clause-values c)
+    keeps_live c.args.self.now (as_live_maps (with_new c.self.inside c.in-Some.number c.area-size.result c.insert_reserved-key.new.self)) c.args.part.now c.clear.new.part k (returns-clause-values c)
     (subst AreSound c.self.view_is (sound_at c.self.inside c.self.invariant) k) (returns-clause-older c k live) live
 
 pub returns-clause-more : goal.returns-clause-more

@@ -1,6 +1,6 @@
 use Rattle.std.proofs.Common.{◌≡◌, refl, ap, sym, ◌∙◌, ◌+◌, arith, option_map, Some, ℕ, is_some}
 use Rattle.bpf_maps.specs.Live.{live_at, one_more}
-use Rattle.bpf_maps.specs.InMaps.{live_of, seen}
+use Rattle.bpf_maps.specs.InMaps.{live_of, as_live_maps}
 use Rattle.bpf_maps.specs.declared.maps.Entry.{Entry}
 use Rattle.bpf_maps.proofs.Changes.{IsChange, with_entry, live_old, live_new, others_stay, areas_stay, whole_stays, laid_stays, room_stays, told_of}
 use Rattle.bpf_maps.proofs.maps.Maps.hold.Goals as goal
@@ -28,7 +28,7 @@ module _ (c : goal.After-self-1) where
   was : live_at c.args.self.now c.args.map ≡ Some (live_of old)
   was = live_old c.self.inside c.args.self.now c.map.inside.number c.args.map old new c.self.inside.refused change
 
-  is : live_at (seen (with_entry c.self.inside c.map.inside.number new c.self.inside.refused)) c.args.map ≡ Some (live_of new)
+  is : live_at (as_live_maps (with_entry c.self.inside c.map.inside.number new c.self.inside.refused)) c.args.map ≡ Some (live_of new)
   is = live_new c.self.inside c.args.self.now c.map.inside.number c.args.map old new c.self.inside.refused change
 
 pub invariant_of-self : goal.invariant_of-self

@@ -1,7 +1,7 @@
 use Rattle.std.proofs.Common.{◌≤◌, subst, arith}
 use Rattle.bpf_maps.specs.declared.part.TheConstants.{LARGEST_SUM, MAPS}
 use Rattle.bpf_maps.specs.Live.{LiveMaps, IsLaid, AreSound, count, areas}
-use Rattle.bpf_maps.specs.InMaps.{seen}
+use Rattle.bpf_maps.specs.InMaps.{as_live_maps}
 use Rattle.bpf_maps.proofs.Totals.{times_most}
 use Rattle.bpf_maps.proofs.Whole.{laid, sound_at}
 use Rattle.bpf_maps.proofs.maps.Maps.maps_are_laid.Goals as goal
@@ -14,8 +14,8 @@ returns c =
     let counted = is.counted in
     let sum = is.sum in
     let few = is.few in
-    let maps : count (seen c.self.inside) ≤ MAPS = omega arith in
-    let bytes : areas (seen c.self.inside) ≤ LARGEST_SUM = omega arith in
+    let maps : count (as_live_maps c.self.inside) ≤ MAPS = omega arith in
+    let bytes : areas (as_live_maps c.self.inside) ≤ LARGEST_SUM = omega arith in
     record {
       laid = subst IsLaid c.self.view_is (laid c.self.inside is);
       sound = subst AreSound c.self.view_is (sound_at c.self.inside is);

@@ -1,8 +1,9 @@
 use Rattle.std.proofs.Common.{◌≡◌, ℕ, List, [], Option, Some, None, refl, sym, ap, ◌∙◌, arith, get_or}
 use Rattle.std.proofs.lemmas.Option.{none-some}
 use Rattle.bpf_maps.specs.declared.maps.Entry.{Entry}
-use Rattle.bpf_maps.specs.Live.{total, area_of}
-use Rattle.bpf_maps.specs.InMaps.{lives}
+use Rattle.bpf_maps.specs.Live.{area_of}
+use Rattle.bpf_maps.specs.Sum.{total}
+use Rattle.bpf_maps.specs.InMaps.{live_maps_of}
 use Rattle.bpf_maps.proofs.maps.Maps.new.Goals as goal
 
 empty : (xs : List (Option Entry)) (k : ℕ) (e : Entry) → xs ≡ [] → get_or xs k None ≡ Some e → ⊥
@@ -16,16 +17,16 @@ invariant_of-result c =
       placed = λ k e at. absurd (empty _ k e h at);
       apart = λ k j e f at bt same. absurd (empty _ k e h at);
       all = refl;
-      counted = ap (λ (xs : List (Option Entry)). total (λ l. 1) (lives xs)) (sym h);
+      counted = ap (λ (xs : List (Option Entry)). total (λ l. 1) (live_maps_of xs)) (sym h);
       room = c.in_ok-with_capacity.ensures.capacity;
-      sum = ap (λ (xs : List (Option Entry)). total area_of (lives xs)) (sym h);
+      sum = ap (λ (xs : List (Option Entry)). total area_of (live_maps_of xs)) (sym h);
       few = omega arith;
     }
 
 pub returns-clause-maps : goal.returns-clause-maps
 unfolding total
-returns-clause-maps c = ap (λ (xs : List (Option Entry)). total (λ l. 1) (lives xs)) c.in_ok-with_capacity.ensures.empty
+returns-clause-maps c = ap (λ (xs : List (Option Entry)). total (λ l. 1) (live_maps_of xs)) c.in_ok-with_capacity.ensures.empty
 
 pub returns-clause-bytes : goal.returns-clause-bytes
 unfolding total
-returns-clause-bytes c = ap (λ (xs : List (Option Entry)). total area_of (lives xs)) c.in_ok-with_capacity.ensures.empty
+returns-clause-bytes c = ap (λ (xs : List (Option Entry)). total area_of (live_maps_of xs)) c.in_ok-with_capacity.ensures.empty

@@ -4,7 +4,7 @@ use Rattle.tagged_model.specs.declared.shape.MapShape.{MapShape}
 use Rattle.bpf_maps.specs.Any.{places_of}
 use Rattle.bpf_maps.specs.Places.{IsSound}
 use Rattle.bpf_maps.specs.Live.{LiveMaps, live_at, places_at, holds_at, AreSound, SameValues, without_area}
-use Rattle.bpf_maps.specs.InMaps.{live_of, seen}
+use Rattle.bpf_maps.specs.InMaps.{live_of, as_live_maps}
 use Rattle.bpf_maps.specs.declared.maps.Entry.{Entry}
 use Rattle.bpf_maps.proofs.Changes.{IsChange, with_entry, live_here, live_old, live_new, others_stay, areas_stay, whole_stays, laid_stays, room_stays, values_along, told_of, not_more, less_held}
 use Rattle.bpf_maps.proofs.Released.{IsTaken, without_entry, below_maps, size_most, whole_gone, laid_gone, less_gone, others_gone, areas_gone, none_now, freed_gone}
@@ -37,14 +37,14 @@ module _ (c : goal.After-self-1) where
   was : live_at c.args.self.now c.args.map ≡ Some (live_of old)
   was = live_old c.self.inside c.args.self.now c.map.inside.number c.args.map old new c.self.inside.refused change
 
-  is : live_at (seen (with_entry c.self.inside c.map.inside.number new c.self.inside.refused)) c.args.map ≡ Some (live_of new)
+  is : live_at (as_live_maps (with_entry c.self.inside c.map.inside.number new c.self.inside.refused)) c.args.map ≡ Some (live_of new)
   is = live_new c.self.inside c.args.self.now c.map.inside.number c.args.map old new c.self.inside.refused change
 
 pub invariant_of-self : goal.invariant_of-self
 invariant_of-self c = whole_stays c.self.inside c.args.self.now c.map.inside.number c.args.map (old c) (new c) c.self.inside.refused (change c)
 
 pub returns-then-entry-gt-LAST-clause-less : goal.returns-then-entry-gt-LAST-clause-less
-returns-then-entry-gt-LAST-clause-less c = less_held c.args.self.now (seen (with_entry c.self.inside c.map.inside.number (new c) c.self.inside.refused)) c.args.map (live_of (old c)) (live_of (new c)) (was c) (is c) refl refl c.if-entry-gt-LAST.true
+returns-then-entry-gt-LAST-clause-less c = less_held c.args.self.now (as_live_maps (with_entry c.self.inside c.map.inside.number (new c) c.self.inside.refused)) c.args.map (live_of (old c)) (live_of (new c)) (was c) (is c) refl refl c.if-entry-gt-LAST.true
 
 pub returns-then-entry-gt-LAST-clause-others : goal.returns-then-entry-gt-LAST-clause-others
 returns-then-entry-gt-LAST-clause-others c = λ other ne. ap (option_map without_area) (others_stay c.self.inside c.args.self.now c.map.inside.number c.args.map (old c) (new c) c.self.inside.refused (change c) other ne)
@@ -54,7 +54,7 @@ returns-then-entry-gt-LAST-clause-laid c = laid_stays c.self.inside c.args.self.
 
 pub returns-then-entry-gt-LAST-clause-values : goal.returns-then-entry-gt-LAST-clause-values
 returns-then-entry-gt-LAST-clause-values c =
-    values_along c.args.self.now (seen (with_entry c.self.inside c.map.inside.number (new c) c.self.inside.refused)) c.args.part.now
+    values_along c.args.self.now (as_live_maps (with_entry c.self.inside c.map.inside.number (new c) c.self.inside.refused)) c.args.part.now
     (areas_stay c.self.inside c.args.self.now c.map.inside.number c.args.map (old c) (new c) c.self.inside.refused (change c))
 
 module _ (c : goal.After-self-1) where
@@ -62,7 +62,7 @@ module _ (c : goal.After-self-1) where
   sound = subst AreSound c.self.view_is (sound_at c.self.inside c.self.invariant)
 
   abbrev after : LiveMaps
-  after = seen (with_entry c.self.inside c.map.inside.number (new c) c.self.inside.refused)
+  after = as_live_maps (with_entry c.self.inside c.map.inside.number (new c) c.self.inside.refused)
 
   same_values : SameValues c.args.self.now c.args.part.now after c.args.part.now
   same_values = values_along c.args.self.now after c.args.part.now (areas_stay c.self.inside c.args.self.now c.map.inside.number c.args.map (old c) (new c) c.self.inside.refused (change c))
@@ -123,7 +123,7 @@ returns-clause-laid c = laid_gone c.self.inside c.args.self.now c.map.inside.num
 
 pub returns-clause-values : goal.returns-clause-values
 returns-clause-values c =
-    values_along c.args.self.now (seen (without_entry c.self.inside c.remove-entry.result c.area.result c.remove-entry.new.self)) c.args.part.now
+    values_along c.args.self.now (as_live_maps (without_entry c.self.inside c.remove-entry.result c.area.result c.remove-entry.new.self)) c.args.part.now
     (areas_gone c.self.inside c.args.self.now c.map.inside.number c.args.map c.index_mut-entry.result.now c.remove-entry.result (gone c) c.area.result (size c) c.remove-entry.new.self c.remove-entry.ensures.updates.changed c.remove-entry.ensures.updates.others c.remove-entry.ensures.capacity)
 
 pub returns-clause-stays : goal.returns-clause-stays
@@ -166,7 +166,7 @@ no_more c more =
 pub returns-clause-maps : goal.returns-clause-maps
 returns-clause-maps c =
     λ other ne live.
-    keeps_held c.args.self.now (seen (without_entry c.self.inside c.remove-entry.result c.area.result c.remove-entry.new.self)) c.args.part.now c.args.part.now other (returns-clause-values c)
+    keeps_held c.args.self.now (as_live_maps (without_entry c.self.inside c.remove-entry.result c.area.result c.remove-entry.new.self)) c.args.part.now c.args.part.now other (returns-clause-values c)
     (subst AreSound c.self.view_is (sound_at c.self.inside c.self.invariant) other) (returns-clause-others c other ne) live
 
 pub returns-clause-kept : goal.returns-clause-kept

@@ -3,7 +3,7 @@ use Rattle.bpf_maps.specs.declared.part.TheConstants.{FRONT, AREA, PART}
 use Rattle.bpf_maps.specs.declared.maps.Entry.{Entry}
 use Rattle.bpf_maps.specs.Any.{places_of}
 use Rattle.bpf_maps.specs.Live.{LiveMap, live_at, offset, shape_at, IsLaid, LiesInPart}
-use Rattle.bpf_maps.specs.InMaps.{live_of, seen}
+use Rattle.bpf_maps.specs.InMaps.{live_of, as_live_maps}
 use Rattle.bpf_maps.proofs.Changes.{live_here, told_of}
 use Rattle.bpf_maps.proofs.Whole.{laid}
 use Rattle.bpf_maps.proofs.maps.Maps.value_at.Goals as goal
@@ -19,7 +19,7 @@ module _ (c : goal.After-index-entry) where
   inside =
       let m : (shape_at c.args.self.now c.args.map).max_entries ≡ (places_of entry.map).shape.max_entries = told_of (λ l. l.places.shape.max_entries) _ _ is in
       let p = c.requires.place in
-      (laid c.self.inside c.self.invariant).inside c.map.inside.number c.args.place (live_of entry) (live_here c.self.inside (seen c.self.inside) c.map.inside.number c.map.inside.number entry refl refl c.index-entry.ensures) (omega arith)
+      (laid c.self.inside c.self.invariant).inside c.map.inside.number c.args.place (live_of entry) (live_here c.self.inside (as_live_maps c.self.inside) c.map.inside.number c.map.inside.number entry refl refl c.index-entry.ensures) (omega arith)
 
   offset_is : offset (live_of entry) c.args.place ≡ FRONT + entry.number * AREA + c.args.place * entry.stride
   unfolding offset

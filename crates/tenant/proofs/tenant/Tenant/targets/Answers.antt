@@ -1,7 +1,7 @@
 use Rattle.std.proofs.Common.{◌≡◌, ℕ, ◌+◌, ◌-◌, List, ◌++◌, length, take, Vec, Global, Option, Some, refl, sym, ap, subst, ◌∙◌, arith}
 use Rattle.std.proofs.Math.Seq.{take-length}
 use Rattle.fd_table.specs.Table.{first_descriptor, named}
-use Rattle.tagged_model.specs.Cells.{also}
+use Rattle.tagged_model.specs.Cells.{and_then}
 use Rattle.tagged_model.specs.declared.shape.Named.{Named}
 use Rattle.tagged_model.specs.declared.shape.Target.{Target}
 use Rattle.tenant.specs.declared.object.OpenObject.{OpenObject}
@@ -21,9 +21,9 @@ loop-fd-preserved c = λ part.
     let fd = c.loop-fd.fd in
     let all : length xs ≡ 64 = (subst (λ (k : KeptTenant). IsWellFormedTenant k) c.self.view_is c.self.invariant).all in
     let before = c.loop-fd.invariant part in
-    let more : targets_from s first_descriptor (take (fd + 1 - first_descriptor) xs) ≡ targets_from s first_descriptor (take (fd - first_descriptor) xs) ++ entry_of fd (also (named xs fd) (object_target s)) =
+    let more : targets_from s first_descriptor (take (fd + 1 - first_descriptor) xs) ≡ targets_from s first_descriptor (take (fd - first_descriptor) xs) ++ entry_of fd (and_then (named xs fd) (object_target s)) =
     targets-more s xs fd (named xs fd) (omega arith) (omega arith) refl in
-    let told : entry_of fd c.target.result ≡ entry_of fd (also (named xs fd) (object_target s)) = ap (entry_of fd) (c.target.ensures part) in
+    let told : entry_of fd c.target.result ≡ entry_of fd (and_then (named xs fd) (object_target s)) = ap (entry_of fd) (c.target.ensures part) in
     let before_all = targets_from s first_descriptor (take (fd - first_descriptor) xs) in
     elim c.match-target.branch [
       | in-Some+in_ok-push w ↦

@@ -9,6 +9,7 @@ use crate::numbers::{read, write};
 use crate::trace::Trace;
 use std::alloc::{AllocError, Global};
 use std::marker::Model;
+use std::mem::replace;
 
 /// Where addresses begin.
 pub const BASE: u64 = 0x1_0000_0000;
@@ -34,7 +35,8 @@ impl Model for Arena {
     ghost invariant = { λ a. (vec_len a.bytes ≤ 2 ^ 28) × (vec_len a.bytes ≡ a.parts * a.part_size) };
 }
 
-/// The place of so many bytes at an address. They lie in a memory of this size.
+/// The place of so many bytes at an address, which lie in a memory of this size: the low 32 bits of the address, since the memory
+/// begins at 2^32 and is no longer than 2^28 bytes. No constant is needed for them.
 #[inline(always)]
 fn place_inside(memory_size: usize, size: usize, address: u64) -> usize
     requires small { memory_size ≤ 2 ^ 28 }
@@ -42,7 +44,7 @@ fn place_inside(memory_size: usize, size: usize, address: u64) -> usize
     ensures value { place_of memory_size size address ≡ Some result }
     ensures within { result + size ≤ memory_size }
 {
-    (address - BASE) as usize
+    (address % BASE) as usize
 }
 
 /// The place of so many bytes at an address, if they lie in a memory of this size.
@@ -79,6 +81,20 @@ impl Arena {
             parts,
             part_size,
         })
+    }
+
+    /// Takes the memory, and leaves one of no part. For a caller that works on it and puts it back.
+    #[inline(always)]
+    pub fn take(&mut self) -> Arena
+        ensures taken { result ≡ self.old }
+        ensures left { size_of self.new ≡ 0 }
+    {
+        let none = Arena {
+            bytes: Vec::new(*self.bytes.allocator()),
+            parts: 0,
+            part_size: 0,
+        };
+        replace(self, none)
     }
 
     /// A law: the memory is its parts, and no more than 2^28 bytes. It does nothing when it runs.

@@ -1,0 +1,185 @@
+#!/usr/bin/env python3
+"""Flips each bit of each slot of some programs, one at a time, and runs what is left. usage: flipped_bits.py BPFHOST
+
+Each such program is loaded by a new host, for a tenant that has the map of the program, beside a tenant with two maps of its own.
+It is refused, or it runs to its end. Either way the other tenant finds its maps as it left them, and the tenant itself is
+answered as by a host where it is alone.
+"""
+
+import sys
+from dataclasses import dataclass
+
+sys.dont_write_bytecode = True
+
+from common import MAP, READS_INDEX, SECOND, client, number  # noqa: E402
+
+FLIPPED, OTHER = 0, 1
+PACKET = bytes([1, 2, 3, 4])
+
+
+ONE = number(1, 4)
+INDEX = number(0, 4)
+
+
+def array_with(value):
+    return (
+        client.map_create(FLIPPED, client.MapType.ARRAY, 4, 8, 1),
+        client.map_update(FLIPPED, MAP, INDEX, value),
+    )
+
+
+@dataclass(frozen=True)
+class Case:
+    """A program, and the frames that make its map."""
+
+    name: str
+    text: str
+    opening: tuple = ()
+
+
+BYTE_OF_VALUE = f"""
+r2 = 0
+r3 = r10
+r3 += -1
+r4 = 1
+call 26
+r6 = *(u8 *)(r10 - 1)
+*(u32 *)(r10 - 8) = 0
+r2 = r10
+r2 += -8
+r1 = map_fd {MAP} ll
+call 1
+if r0 == 0 goto none
+if r6 > 7 goto none
+r0 += r6
+r0 = *(u8 *)(r0 + 0)
+exit
+none:
+r0 = 9
+exit
+"""
+
+WRITES_WHAT_IT_DELETED = f"""
+*(u32 *)(r10 - 4) = 1
+r2 = r10
+r2 += -4
+r1 = map_fd {MAP} ll
+call 1
+if r0 == 0 goto none
+r6 = r0
+r2 = r10
+r2 += -4
+r1 = map_fd {MAP} ll
+call 3
+*(u32 *)(r10 - 4) = 2
+*(u64 *)(r10 - 16) = 6
+r2 = r10
+r2 += -4
+r3 = r10
+r3 += -16
+r1 = map_fd {MAP} ll
+r4 = 0
+call 2
+*(u64 *)(r6 + 0) = 7
+exit
+none:
+r0 = 1
+exit
+"""
+
+COPIES_PACKET = """
+*(u32 *)(r10 - 8) = -1
+r2 = 0
+r3 = r10
+r3 += -8
+r4 = 4
+call 26
+r0 = *(u32 *)(r10 - 8)
+exit
+"""
+
+TESTS_LENGTH = """
+r1 = *(u32 *)(r1 + 0)
+if r1 == 0 goto out
+r0 = 1
+exit
+out:
+r0 = 0
+exit
+"""
+
+HASH_OF_ONE = (
+    client.map_create(FLIPPED, client.MapType.HASH, 4, 8, 1),
+    client.map_update(FLIPPED, MAP, ONE, number(5, 8)),
+)
+CASES = [
+    Case("a look-up", READS_INDEX, (client.map_create(FLIPPED, client.MapType.ARRAY, 4, 8, 1),)),
+    Case("a byte of a value", BYTE_OF_VALUE, array_with(bytes(range(10, 18)))),
+    Case("a deleted value", WRITES_WHAT_IT_DELETED, HASH_OF_ONE),
+    Case("bytes of the packet", COPIES_PACKET),
+    Case("the packet's length", TESTS_LENGTH),
+]
+
+OTHERS_OPENING = (
+    client.map_create(OTHER, client.MapType.ARRAY, 4, 8, 1),
+    client.map_update(OTHER, MAP, INDEX, number(5, 8)),
+    client.map_create(OTHER, client.MapType.HASH, 4, 4, 2),
+    client.map_update(OTHER, SECOND, ONE, number(1, 4)),
+)
+OTHERS_LOOK_UPS = (client.map_lookup(OTHER, MAP, INDEX), client.map_lookup(OTHER, SECOND, ONE))
+OTHERS_STATUSES = [MAP, 0, SECOND, 0, 0, 0]
+OTHERS_VALUES = [number(5, 8), number(1, 4)]
+
+
+def replies(bpfhost, frames):
+    return list(client.read_replies(client.serve(bpfhost, 2, b"".join(frames))))
+
+
+def of(tenant, told):
+    return [reply for reply in told if reply.tenant == tenant]
+
+
+def play(bpfhost, case, slots):
+    """What is wrong with the answers, or None; and whether the program was accepted."""
+    program = SECOND if case.opening else MAP
+    load = client.prog_load(FLIPPED, slots)
+    run = client.prog_test_run(FLIPPED, program, PACKET)
+    ours = (*case.opening, load, run)
+    told = replies(bpfhost, (*OTHERS_OPENING, *ours, *OTHERS_LOOK_UPS))
+    others = of(OTHER, told)
+    loaded, ran = of(FLIPPED, told)[-2:]
+    accepted = loaded.status == program
+    if [reply.status for reply in others] != OTHERS_STATUSES or [reply.payload for reply in others[-2:]] != OTHERS_VALUES:
+        return "the other tenant's maps have changed", accepted
+    if not accepted and not loaded.refusal():
+        return f"the load is neither accepted nor refused: {loaded}", accepted
+    if ran.status != (0 if accepted else -client.Error.EBADF):
+        return f"the run: {ran}", accepted
+    if of(FLIPPED, told) != replies(bpfhost, ours):
+        return "alone the tenant is answered something else", accepted
+    return None, accepted
+
+
+def check(bpfhost, case):
+    slots = client.assemble(bpfhost, case.text)
+    wrong, accepted = play(bpfhost, case, slots)
+    if wrong or not accepted:
+        sys.exit(f"flipped bits, {case.name} as it is: {wrong or 'refused'}")
+    count = 0
+    for bit in range(8 * len(slots)):
+        flipped = bytearray(slots)
+        flipped[bit // 8] ^= 1 << bit % 8
+        wrong, accepted = play(bpfhost, case, bytes(flipped))
+        if wrong:
+            sys.exit(f"flipped bits, {case.name}, bit {bit % 64} of slot {bit // 64}: {wrong}")
+        count += accepted
+    print(f"{case.name}: {8 * len(slots)} programs, of which {count} are accepted", flush=True)
+
+
+def main():
+    for case in CASES:
+        check(sys.argv[1], case)
+
+
+if __name__ == "__main__":
+    main()

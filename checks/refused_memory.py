@@ -1,0 +1,224 @@
+#!/usr/bin/env python3
+"""Refuses memory to a built bpfhost, one call at a time, and compares what it answers. usage: refused_memory.py BPFHOST LIBRARY
+
+The first call for memory is refused, in another run the second, and so on until a run makes fewer calls. A refusal has to be
+told, once, as want of memory, and nothing else may differ: what was refused and is asked again is answered as if nothing had
+been, and the other tenant is answered so from the beginning.
+"""
+
+import itertools
+import os
+import subprocess
+import sys
+import tempfile
+from dataclasses import dataclass
+from pathlib import Path
+
+sys.dont_write_bytecode = True
+
+from common import MAP, READS_INDEX, SECOND, THIRD, client, number  # noqa: E402
+
+PROGRAM = SECOND
+TENANTS = 2
+WANT_OF_MEMORY = 4
+# The verdict on a program with a jump keeps the room of the facts that the jump brought, for another jump, and gives it back
+# where it is refused the memory to keep it. Such a refusal makes no difference.
+JUMPS = 1
+
+# Puts 6 under key 1 of a hash map, and answers what the helper does.
+PUTS_KEY = f"""
+*(u32 *)(r10 - 4) = 1
+*(u64 *)(r10 - 16) = 6
+r2 = r10
+r2 += -4
+r3 = r10
+r3 += -16
+r1 = map_fd {MAP} ll
+r4 = 0
+call 2
+exit
+"""
+
+
+class Differs(Exception):
+    """An answer that no refusal explains."""
+
+
+@dataclass(frozen=True)
+class Step:
+    """A frame, and whether memory may be refused to it: to the command, or to the program that it runs."""
+
+    frame: bytes
+    grows: bool = False
+    run_grows: bool = False
+
+
+def of_first_tenant(slots):
+    """A hash map, a program that puts a key into it, and each command on the map."""
+    key, other, value = number(1, 4), number(2, 4), number(8, 8)
+    return [
+        Step(client.map_create(0, client.MapType.HASH, 4, 8, 4), grows=True),
+        Step(client.prog_load(0, slots), grows=True),
+        Step(client.prog_test_run(0, PROGRAM), run_grows=True),
+        Step(client.map_lookup(0, MAP, key)),
+        Step(client.map_update(0, MAP, other, value), grows=True),
+        Step(client.map_update(0, MAP, other, value, client.Flags.EXIST)),
+        Step(client.map_update(0, MAP, key, value)),
+        Step(client.map_next_key(0, MAP)),
+        Step(client.map_next_key(0, MAP, key)),
+        Step(client.map_delete(0, MAP, key)),
+        Step(client.map_create(0, client.MapType.ARRAY, 4, 16, 3), grows=True),
+        Step(client.map_update(0, THIRD, number(2, 4), bytes(range(16)))),
+        Step(client.map_lookup(0, THIRD, number(2, 4))),
+        *[Step(client.close(0, descriptor)) for descriptor in (PROGRAM, MAP, THIRD)],
+    ]
+
+
+def of_second_tenant(slots):
+    """An array and a program that reads it."""
+    return [
+        Step(client.map_create(1, client.MapType.ARRAY, 4, 8, 1), grows=True),
+        Step(client.map_update(1, MAP, number(0, 4), number(5, 8))),
+        Step(client.prog_load(1, slots), grows=True),
+        Step(client.prog_test_run(1, PROGRAM)),
+        Step(client.map_lookup(1, MAP, number(0, 4))),
+        Step(client.prog_test_run(1, PROGRAM)),
+        Step(client.close(1, MAP)),
+        Step(client.prog_test_run(1, PROGRAM)),
+    ]
+
+
+def in_turn(ours, theirs):
+    return [step for both in itertools.zip_longest(ours, theirs) for step in both if step]
+
+
+def is_want_of_memory(reply, step):
+    """Whether the reply tells want of memory to a command that may have been refused some: -12, and no payload."""
+    return step.grows and reply.status == -client.Error.ENOMEM and not reply.payload
+
+
+def helper_was_refused(reply, step):
+    """Whether a run's result is the helper's want of memory."""
+    return step.run_grows and not reply.status and reply.result() == -client.Error.ENOMEM % 2**32
+
+
+def ask_again(host, step, reply, wanted):
+    """What was refused is done at the second asking; the key that the helper was refused is not there before."""
+    if helper_was_refused(reply, step):
+        missing = host.ask(client.map_lookup(0, MAP, number(1, 4)))
+        if missing.status != -client.Error.ENOENT or missing.payload:
+            raise Differs(f"the key that was refused: {missing}")
+    elif not is_want_of_memory(reply, step):
+        raise Differs(f"{reply}, in place of {wanted}")
+    second = host.ask(step.frame)
+    if second != wanted:
+        raise Differs(f"at the second asking {second}, in place of {wanted}")
+
+
+def play(bpfhost, steps, wanted):
+    """How many steps were refused memory; None where the host ended for want of it before any reply."""
+    told = 0
+    try:
+        with client.Host(bpfhost, TENANTS) as host:
+            for at, (step, answer) in enumerate(zip(steps, wanted)):
+                reply = host.ask(step.frame)
+                if reply != answer:
+                    ask_again(host, step, reply, answer)
+                    told += 1
+    except client.HostError as error:
+        if at or told or error.fault != "out of memory" or error.written:
+            raise Differs(f"{error}, after {at} replies") from error
+        return None
+    return told
+
+
+class Refusals:
+    """Runs in which one call for memory is refused: the first, the second, and so on until none is."""
+
+    def __init__(self, library, folder):
+        self._told = Path(folder) / "refused"
+        os.environ["LD_PRELOAD"] = str(Path(library).resolve())
+        os.environ["REFUSED_FILE"] = str(self._told)
+
+    def runs(self):
+        """The number of each run's call. The one that asks for the next tells whether it was refused."""
+        for call in itertools.count(1):
+            os.environ["REFUSED_CALL"] = str(call)
+            self._told.unlink(missing_ok=True)
+            yield call
+            if not self._told.exists():
+                return
+
+    def refused(self):
+        return self._told.exists()
+
+
+def check_frames(bpfhost, refusals, steps, wanted):
+    """Each frame's answer, whichever call for memory is refused."""
+    at_start = in_frames = unseen = 0
+    for call in refusals.runs():
+        try:
+            told = play(bpfhost, steps, wanted)
+        except Differs as error:
+            raise Differs(f"serve, call {call} refused: {error}") from error
+        if told is None:
+            at_start += 1
+        elif told == 1:
+            in_frames += 1
+        elif told:
+            raise Differs(f"serve, call {call} refused: {told} refusals told")
+        else:
+            unseen += refusals.refused()
+    if not at_start or in_frames != call - 1 - at_start - JUMPS or unseen != JUMPS:
+        raise Differs(f"serve, {call - 1} calls refused: {at_start} told at the start, {in_frames} in frames")
+    print(f"serve: {at_start} refusals before the first frame, {in_frames} in frames")
+
+
+def ends(bpfhost, words, given):
+    ended = subprocess.run([bpfhost, *words], input=given, capture_output=True, timeout=60, check=False)
+    return ended.returncode, ended.stdout, ended.stderr
+
+
+def check_words(bpfhost, refusals, words, given, wanted, unseen=0):
+    """One run of the program for each call for memory: refused, it writes one line to its standard error, and ends with 4."""
+    told = 0
+    for call in refusals.runs():
+        ended = ends(bpfhost, words, given)
+        if refusals.refused() and ended == (WANT_OF_MEMORY, b"", b"out of memory\n"):
+            told += 1
+        elif ended != wanted:
+            raise Differs(f"{words[0]}, call {call}: {ended}")
+    if not told or told != call - 1 - unseen:
+        raise Differs(f"{words[0]}, {call - 1} calls refused: {told} told")
+    print(f"{words[0]}: {told} refusals")
+
+
+def main():
+    bpfhost, library = sys.argv[1:]
+    slots = client.assemble(bpfhost, PUTS_KEY), client.assemble(bpfhost, READS_INDEX)
+    steps = in_turn(of_first_tenant(slots[0]), of_second_tenant(slots[1]))
+    with client.Host(bpfhost, TENANTS) as host:
+        wanted = [host.ask(step.frame) for step in steps]
+    if any(reply.status < 0 for reply in wanted):
+        raise Differs("a reply is an error where memory is ample")
+    lines = client.hex_lines(slots[1]).encode()
+    texts = [
+        (["asm"], READS_INDEX.encode(), 0),
+        (["dis"], lines, 0),
+        (["verify", "3:array:4:8:1"], lines, JUMPS),
+    ]
+    answers = [ends(bpfhost, words, given) for words, given, _ in texts]
+    if any(status for status, _, _ in answers):
+        raise Differs("asm, dis or verify fails where memory is ample")
+    with tempfile.TemporaryDirectory() as folder:
+        refusals = Refusals(library, folder)
+        check_frames(bpfhost, refusals, steps, wanted)
+        for (words, given, unseen), answer in zip(texts, answers):
+            check_words(bpfhost, refusals, words, given, answer, unseen)
+
+
+if __name__ == "__main__":
+    try:
+        main()
+    except Differs as error:
+        sys.exit(f"refused memory: {error}")

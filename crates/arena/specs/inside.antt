@@ -1,2 +1,3 @@
 -- What private contracts and proofs cite. No public contract names it.
 pub mod Notes
+pub mod Whole

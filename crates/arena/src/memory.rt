@@ -23,8 +23,8 @@ pub struct Arena {
 }
 
 impl Model for Arena {
-    ghost use Rattle.std.specs.Prelude.{◌≡◌, ◌≤◌, ◌*◌, ◌^◌, vec_len};
     ghost use Rattle.arena.specs.Memory.{Memory, memory_code};
+    ghost use Rattle.arena.specs.inside.Whole.{IsWholeMemory};
 
     ghost Value = { Memory };
 
@@ -32,7 +32,7 @@ impl Model for Arena {
 
     ghost view = { λ a. record { bytes = a.bytes.items; parts = a.parts; part = a.part_size } };
 
-    ghost invariant = { λ a. (vec_len a.bytes ≤ 2 ^ 28) × (vec_len a.bytes ≡ a.parts * a.part_size) };
+    ghost invariant = { IsWholeMemory };
 }
 
 /// The place of so many bytes at an address, which lie in a memory of this size: the low 32 bits of the address, since the memory
@@ -87,7 +87,7 @@ impl Arena {
     #[inline(always)]
     pub fn take(&mut self) -> Arena
         ensures taken { result ≡ self.old }
-        ensures left { size_of self.new ≡ 0 }
+        ensures left { self.new ≡ record { bytes = []; parts = 0; part = 0 } }
     {
         let none = Arena {
             bytes: Vec::new(*self.bytes.allocator()),

@@ -1,7 +1,6 @@
 -- A call that changes one map, which keeps its shape and its area.
-use Rattle.std.proofs.Common.{◌≡◌, ◌≢◌, ℕ, ◌+◌, ◌-◌, ◌*◌, ◌<◌, ◌≤◌, Bool, true, false, true≢false, if◌then◌else◌, nat_le, List, take, drop, Option, Some, None, is_some, option_map, refl, sym, ap, ◌∙◌, get_or, set, arith}
+use Rattle.std.proofs.Common.{◌≡◌, ◌≢◌, ℕ, ◌-◌, ◌<◌, ◌≤◌, Bool, true, false, true≢false, if◌then◌else◌, nat_le, List, take, drop, Option, Some, None, is_some, option_map, refl, sym, ap, ◌∙◌, get_or, set, arith}
 use Rattle.std.proofs.lemmas.Bool.{lt-leb, le-leb}
-use Rattle.bpf_maps.specs.declared.part.TheConstants.{FRONT, AREA}
 use Rattle.bpf_maps.specs.declared.maps.Entry.{Entry}
 use Rattle.bpf_maps.specs.declared.maps.Maps.TheInside.{Inside}
 use Rattle.bpf_maps.specs.Places.{IsSound}
@@ -9,7 +8,7 @@ use Rattle.bpf_maps.specs.Any.{places_of}
 use Rattle.bpf_maps.specs.Live.{LiveMap, LiveMaps, live_at, live_or, holds_at, offset, value_in, IsLaid, SameAreas, SameValues, count, areas, SameRoom, MapWithoutArea, without_area, held_at, one_less}
 use Rattle.bpf_maps.specs.InMaps.{live_of, live_maps_of, as_live_maps, IsWellFormedMaps}
 use Rattle.bpf_maps.proofs.Slots.{live_by, others_by, set_here, set_others, one_changed, offset_same}
-use Rattle.bpf_maps.proofs.Whole.{laid, whole_replaced}
+use Rattle.bpf_maps.proofs.Whole.{laid, same_count, whole_replaced}
 
 -- the fields with another entry at a slot
 abbrev pub with_entry : Inside → ℕ → Entry → Bool → Inside
@@ -20,7 +19,7 @@ pub record IsChange (a : Inside) (t : LiveMaps) (at key : ℕ) (old new : Entry)
   pub whole : IsWellFormedMaps a
   pub same : at ≡ key
   pub here : get_or a.slots.slots at None ≡ Some old
-  pub number : new.number ≡ old.number
+  pub start : new.start ≡ old.start
   pub stride : new.stride ≡ old.stride
   pub shape : (places_of new.map).shape ≡ (places_of old.map).shape
   pub held : 1 ≤ new.holds
@@ -47,17 +46,19 @@ module _ (a : Inside) (t : LiveMaps) (at key : ℕ) (old new : Entry) (refused :
       ∙ ap (λ (u : LiveMaps). live_at u other) c.view
 
   pub areas_stay : SameAreas t (as_live_maps (with_entry a at new refused))
-  areas_stay = one_changed t (as_live_maps (with_entry a at new refused)) key (live_of old) (live_of new) live_old live_new c.shape (ap (λ (n : ℕ). FRONT + n * AREA) c.number) c.stride others_stay
+  areas_stay = one_changed t (as_live_maps (with_entry a at new refused)) key (live_of old) (live_of new) live_old live_new c.shape c.start c.stride others_stay
 
   pub whole_stays : IsWellFormedMaps (with_entry a at new refused)
-  whole_stays = whole_replaced a (with_entry a at new refused) at c.whole (set_others a.slots.slots at old new c.here) refl old new c.here there c.number c.stride c.shape c.held c.sound refl refl
+  whole_stays = whole_replaced a (with_entry a at new refused) at c.whole (set_others a.slots.slots at old new c.here) refl old new c.here there c.start c.stride c.shape c.held c.sound refl
 
   pub laid_stays : IsLaid (as_live_maps (with_entry a at new refused))
   laid_stays = laid (with_entry a at new refused) whole_stays
 
   pub room_stays : SameRoom t (as_live_maps (with_entry a at new refused))
   room_stays = record {
-    maps = sym whole_stays.counted ∙ c.whole.counted ∙ ap count c.view;
+    maps =
+        same_count a (with_entry a at new refused) at c.whole (set_others a.slots.slots at old new c.here) refl old new c.here there c.start c.stride c.shape c.held c.sound refl
+        ∙ ap count c.view;
     bytes = sym whole_stays.sum ∙ c.whole.sum ∙ ap areas c.view;
   }
 

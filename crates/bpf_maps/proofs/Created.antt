@@ -1,26 +1,26 @@
 -- A map that is new.
-use Rattle.std.proofs.Common.{◌≡◌, ◌≢◌, ℕ, ◌+◌, ◌*◌, ◌/◌, ◌<◌, ◌≤◌, ◌||◌, Bool, true, false, if◌then◌else◌, nat_le, nat_lt, List, ◌++◌, length, take, drop, replicate, Option, Some, None, Result, Ok, Err, IsSome, is_some, sym, ap, subst, ◌∙◌, arith, get_or, set, count_by, ⊎_elim, true≢false}
-use Rattle.std.proofs.lemmas.Bool.{lt-leb, le-ltb}
+use Rattle.std.proofs.Common.{◌≡◌, ◌≢◌, ℕ, ◌+◌, ◌*◌, ◌/◌, ◌<◌, ◌≤◌, ◌⊎◌, ◌||◌, Bool, true, false, if◌then◌else◌, nat_le, nat_lt, List, ◌++◌, length, take, drop, replicate, Option, Some, None, Result, Ok, Err, IsSome, is_some, refl, sym, ap, subst, ◌∙◌, arith, get_or, count_by, ⊎_elim, inl, inr, true≢false}
+use Rattle.std.proofs.lemmas.Bool.{lt-leb, le-leb, lt-ltb, le-ltb}
 use Rattle.std.proofs.lemmas.List.{length-replicate}
 use Rattle.tagged_model.specs.declared.shape.MapShape.{MapShape}
 use Rattle.tagged_model.specs.declared.fault.MapFault.{MapFault}
 use Rattle.tagged_model.specs.declared.fault.MapFault.TheVariants.{NoEntry, TooBig, Memory, Exists, Invalid, NoSpace}
 use Rattle.tagged_model.specs.Shape.{area}
 use Rattle.slab.specs.Slab.{Slab}
-use Rattle.bpf_maps.specs.declared.part.TheConstants.{FRONT, AREA, LARGEST_SUM, MAPS, PART}
+use Rattle.bpf_maps.specs.declared.part.TheConstants.{FRONT, LARGEST_SUM, MAPS, PART}
 use Rattle.bpf_maps.specs.declared.maps.Entry.{Entry}
 use Rattle.bpf_maps.specs.declared.maps.Maps.TheInside.{Inside}
 use Rattle.bpf_maps.specs.Places.{PlaceTable, IsSound, new_places}
 use Rattle.bpf_maps.specs.Any.{places_of}
-use Rattle.bpf_maps.specs.Live.{LiveMap, LiveMaps, live_at, live_or, offset, value_in, count, areas, HasOneMore, create_fault, Creates, IsCreated, IsLaid, SameValues}
+use Rattle.bpf_maps.specs.Live.{LiveMap, LiveMaps, live_at, live_or, offset, value_in, start_at, count, areas, HasOneMore, create_fault, Creates, IsCreated, IsLaid, SameValues}
 use Rattle.bpf_maps.specs.InMaps.{live_of, as_live_maps, IsWellFormedMaps}
 use Rattle.bpf_maps.proofs.Slots.{some_entry, live_by, none_by, others_by, same_or_other}
-use Rattle.bpf_maps.proofs.Totals.{times_set, times_some, count_entries}
-use Rattle.bpf_maps.proofs.InAreas.{area_fits, value_ends, value_inside, apart_areas}
+use Rattle.bpf_maps.proofs.Totals.{count_entries}
+use Rattle.bpf_maps.proofs.InAreas.{value_ends}
 use Rattle.bpf_maps.proofs.Arrays.{sound_new}
 use Rattle.bpf_maps.proofs.Changes.{told_of}
-use Rattle.bpf_maps.proofs.Written.{front_same, before_same, after_same, zeros}
-use Rattle.bpf_maps.proofs.Whole.{laid, whole_added, offset_of}
+use Rattle.bpf_maps.proofs.Written.{front_same, before_same, zeros}
+use Rattle.bpf_maps.proofs.Whole.{laid, count_added, whole_added, offset_of}
 
 no_fault : (t : LiveMaps) (s : MapShape) → count t < MAPS → areas t + area s.value_size s.max_entries ≤ LARGEST_SUM → create_fault t s ≡ None
 no_fault t s few fits =
@@ -29,54 +29,64 @@ no_fault t s few fits =
     ap (λ (x : Bool). if x || nat_lt LARGEST_SUM (areas t + area s.value_size s.max_entries) then Some NoSpace else None) a
     ∙ ap (λ (x : Bool). if x then Some NoSpace else None) b
 
+or_true : (b : Bool) → (b || true) ≡ true
+or_true true = refl
+or_true false = refl
+
+full_fault : (t : LiveMaps) (s : MapShape) → (MAPS ≤ count t) ⊎ (LARGEST_SUM < areas t + area s.value_size s.max_entries) → create_fault t s ≡ Some NoSpace
+full_fault t s full =
+    ap (λ (x : Bool). if x then Some NoSpace else None)
+    (⊎_elim
+    (λ (l : MAPS ≤ count t). ap (λ (x : Bool). x || nat_lt LARGEST_SUM (areas t + area s.value_size s.max_entries)) (le-leb MAPS (count t) l))
+    (λ (l : LARGEST_SUM < areas t + area s.value_size s.max_entries). ap (λ (x : Bool). nat_le MAPS (count t) || x) (lt-ltb LARGEST_SUM (areas t + area s.value_size s.max_entries) l) ∙ or_true (nat_le MAPS (count t)))
+    full)
+
+-- there is none
+module _ (a : Inside) (t : LiveMaps) (shape : MapShape) (size : ℕ) (view : as_live_maps a ≡ t) (h : IsWellFormedMaps a) (size_is : size ≡ area shape.value_size shape.max_entries) where
+  pub creates_full : (MAPS ≤ count_by is_some a.slots.slots) ⊎ (LARGEST_SUM < a.bytes + size) → Creates (create_fault t shape) t shape (Err NoSpace) t
+  creates_full full =
+      let c = count_entries a.slots.slots in
+      let s = h.sum in
+      subst (λ (o : Option MapFault). Creates o t shape (Err NoSpace) t)
+      (sym (ap (λ (u : LiveMaps). create_fault u shape) (sym view) ∙ full_fault (as_live_maps a) shape (⊎_elim (λ l. inl (omega arith)) (λ l. inr (omega arith)) full)))
+      (refl, refl)
+
 -- there is room for another map
-pub record IsRoom (a : Inside) (t : LiveMaps) (shape : MapShape) (number size : ℕ) : Type 0 where
+pub record IsRoom (a : Inside) (t : LiveMaps) (shape : MapShape) (size : ℕ) : Type 0 where
   pub view : as_live_maps a ≡ t
   pub whole : IsWellFormedMaps a
   pub size_is : size ≡ area shape.value_size shape.max_entries
-  pub below : number < MAPS
-  pub free : get_or a.taken number false ≡ false
+  pub few : count_by is_some a.slots.slots < MAPS
   pub room : a.bytes + size ≤ LARGEST_SUM
 
 -- the entry is in a slot
-pub record IsAdded (a : Inside) (shape : MapShape) (number : ℕ) (slots : Slab Entry) (k : ℕ) (e : Entry) : Type 0 where
+pub record IsAdded (a : Inside) (shape : MapShape) (slots : Slab Entry) (k : ℕ) (e : Entry) : Type 0 where
   pub was : get_or a.slots.slots k None ≡ None
   pub there : get_or slots.slots k None ≡ Some e
   pub others : (j : ℕ) → j ≢ k → get_or slots.slots j None ≡ get_or a.slots.slots j None
   pub capacity : slots.capacity ≡ a.slots.capacity
   pub places : places_of e.map ≡ new_places shape
-  pub number_is : e.number ≡ number
+  pub below : k < slots.capacity
+  pub start : e.start ≡ FRONT + a.bytes
   pub stride : e.stride ≡ (shape.value_size + 7) / 8 * 8
   pub holds : e.holds ≡ 1
 
 -- the fields with it
-abbrev pub with_new : Inside → ℕ → ℕ → Slab Entry → Inside
-with_new a number size slots = record a { slots = slots; taken = set a.taken number true; bytes = a.bytes + size }
+abbrev pub with_new : Inside → ℕ → Slab Entry → Inside
+with_new a size slots = record a { slots = slots; bytes = a.bytes + size }
 
-module _ (a : Inside) (t : LiveMaps) (shape : MapShape) (number size : ℕ) (r : IsRoom a t shape number size) where
+module _ (a : Inside) (t : LiveMaps) (shape : MapShape) (size : ℕ) (r : IsRoom a t shape size) where
   view : as_live_maps a ≡ t
   view = r.view
 
   h : IsWellFormedMaps a
   h = r.whole
 
-  free : get_or a.taken number false ≡ false
-  free = r.free
-
   few : count (as_live_maps a) < MAPS
-  few =
-      let l = h.all in
-      let c = h.counted in
-      let b = r.below in
-      let s = times_some a.taken number (omega arith) free in
-      omega arith
+  few = let c = count_entries a.slots.slots in let f = r.few in omega arith
 
   pub no_fault_here : create_fault t shape ≡ None
   no_fault_here = ap (λ (u : LiveMaps). create_fault u shape) (sym view) ∙ no_fault (as_live_maps a) shape few (let s = h.sum in let z = r.size_is in let m = r.room in omega arith)
-
-  -- there is room for its entry
-  pub room_here : count_by is_some a.slots.slots + 1 ≤ a.slots.capacity
-  room_here = let f = few in let c = count_entries a.slots.slots in let r = h.room in omega arith
 
   -- memory was refused
   pub creates_none : Creates (create_fault t shape) t shape (Err Memory) (as_live_maps (record a { refused = true }))
@@ -84,19 +94,19 @@ module _ (a : Inside) (t : LiveMaps) (shape : MapShape) (number size : ℕ) (r :
       subst (λ (o : Option MapFault). Creates o t shape (Err Memory) (as_live_maps (record a { refused = true }))) (sym no_fault_here)
       (ap (λ (u : LiveMaps). let v : LiveMaps = record { slots = u.slots; refused = true } in v) view)
 
-  module _ (slots : Slab Entry) (k : ℕ) (e : Entry) (d : IsAdded a shape number slots k e) where
+  module _ (slots : Slab Entry) (k : ℕ) (e : Entry) (d : IsAdded a shape slots k e) where
     stride : e.stride ≡ (shape.value_size + 7) / 8 * 8
     stride = d.stride
 
-    live_new : live_at (as_live_maps (with_new a number size slots)) k ≡ Some (live_of e)
+    live_new : live_at (as_live_maps (with_new a size slots)) k ≡ Some (live_of e)
     live_new = live_by slots.slots slots.slots k e d.there
 
-    others_stay : (j : ℕ) → j ≢ k → live_at (as_live_maps (with_new a number size slots)) j ≡ live_at t j
+    others_stay : (j : ℕ) → j ≢ k → live_at (as_live_maps (with_new a size slots)) j ≡ live_at t j
     others_stay j ne = others_by a.slots.slots slots.slots k d.others j ne ∙ ap (λ (u : LiveMaps). live_at u j) view
 
-    pub creates_one : Creates (create_fault t shape) t shape (Ok k) (as_live_maps (with_new a number size slots))
+    pub creates_one : Creates (create_fault t shape) t shape (Ok k) (as_live_maps (with_new a size slots))
     creates_one =
-        subst (λ (o : Option MapFault). Creates o t shape (Ok k) (as_live_maps (with_new a number size slots))) (sym no_fault_here)
+        subst (λ (o : Option MapFault). Creates o t shape (Ok k) (as_live_maps (with_new a size slots))) (sym no_fault_here)
         (record {
           was = ap (λ (u : LiveMaps). live_at u k) (sym view) ∙ none_by a.slots.slots a.slots.slots k d.was;
           live = ap is_some live_new;
@@ -115,22 +125,23 @@ module _ (a : Inside) (t : LiveMaps) (shape : MapShape) (number size : ℕ) (r :
     round : e.stride ≡ ((places_of e.map).shape.value_size + 7) / 8 * 8
     round = stride ∙ ap (λ (v : ℕ). (v + 7) / 8 * 8) (sym value_of)
 
-    pub whole_one : IsWellFormedMaps (with_new a number size slots)
+    pub whole_one : IsWellFormedMaps (with_new a size slots)
     whole_one =
         let x : area (places_of e.map).shape.value_size (places_of e.map).shape.max_entries ≡ area shape.value_size shape.max_entries = ap (λ (q : PlaceTable). area q.shape.value_size q.shape.max_entries) d.places in
-        whole_added a (with_new a number size slots) k h d.others d.capacity e d.was d.there (let n = d.number_is in let b = r.below in omega arith) (ap (λ (n : ℕ). get_or a.taken n false) d.number_is ∙ free) round (let o = d.holds in omega arith) (subst IsSound (sym d.places) (sound_new shape)) (ap (λ (n : ℕ). set a.taken n true) (sym d.number_is)) (let s = r.size_is in omega arith) r.room
+        let l = d.below in
+        let c = d.capacity in
+        whole_added a (with_new a size slots) k h d.others d.capacity e d.was d.there (omega arith) d.start round (let o = d.holds in omega arith) (subst IsSound (sym d.places) (sound_new shape)) (let s = r.size_is in omega arith) r.room few
 
-    pub laid_one : IsLaid (as_live_maps (with_new a number size slots))
-    laid_one = laid (with_new a number size slots) whole_one
+    pub laid_one : IsLaid (as_live_maps (with_new a size slots))
+    laid_one = laid (with_new a size slots) whole_one
 
-    pub more_one : HasOneMore t (as_live_maps (with_new a number size slots)) shape
+    -- it stands behind the others
+    pub last_one : start_at (as_live_maps (with_new a size slots)) k ≡ FRONT + areas t
+    last_one = told_of (λ l. l.start) _ _ live_new ∙ d.start ∙ ap (λ (n : ℕ). FRONT + n) (h.sum ∙ ap areas view)
+
+    pub more_one : HasOneMore t (as_live_maps (with_new a size slots)) shape
     more_one =
-        let all = h.all in
-        let below = r.below in
-        let marked = times_set a.taken number true (omega arith) in
-        let was = ap (λ (b : Bool). let n : ℕ = if b then 1 else 0 in n) free in
-        let maps = whole_one.counted in
-        let counted = h.counted in
+        let one = count_added a (with_new a size slots) k h d.others d.capacity e d.was d.there in
         let seen_maps = ap count view in
         let bytes = whole_one.sum in
         let sum = h.sum in
@@ -140,41 +151,33 @@ module _ (a : Inside) (t : LiveMaps) (shape : MapShape) (number size : ℕ) (r :
 
     -- ---- the bytes
 
-    module _ (bytes later : List ℕ) (long : length bytes ≡ PART) (written : later ≡ take (FRONT + number * AREA) bytes ++ (replicate size 0 ++ drop (FRONT + number * AREA + size) bytes)) where
-      enough : FRONT + number * AREA + size ≤ length bytes
-      enough = let m = less_areas number r.below in let f = area_fits shape in let s = r.size_is in omega arith
-        where
-          less_areas : (n : ℕ) → n < MAPS → FRONT + n * AREA + AREA ≤ PART
-          less_areas n l = omega arith
+    module _ (bytes later : List ℕ) (long : length bytes ≡ PART) (written : later ≡ take (FRONT + a.bytes) bytes ++ (replicate size 0 ++ drop (FRONT + a.bytes + size) bytes)) where
+      enough : FRONT + a.bytes + size ≤ length bytes
+      enough = let m = r.room in omega arith
 
       pub front_kept : take FRONT later ≡ take FRONT bytes
-      front_kept = ap (take FRONT) written ∙ front_same bytes (replicate size 0) (FRONT + number * AREA) size (length-replicate size 0) enough FRONT (omega arith)
+      front_kept = ap (take FRONT) written ∙ front_same bytes (replicate size 0) (FRONT + a.bytes) size (length-replicate size 0) enough FRONT (omega arith)
 
-      pub cleared_one : (p : ℕ) → p < shape.max_entries → value_in later (as_live_maps (with_new a number size slots)) k p ≡ replicate shape.value_size 0
+      pub cleared_one : (p : ℕ) → p < shape.max_entries → value_in later (as_live_maps (with_new a size slots)) k p ≡ replicate shape.value_size 0
       cleared_one p l =
-          let o : offset (live_of e) p ≡ FRONT + number * AREA + p * e.stride = offset_of e p ∙ ap (λ (n : ℕ). FRONT + n * AREA + p * e.stride) d.number_is in
+          let o : offset (live_of e) p ≡ FRONT + a.bytes + p * e.stride = offset_of e p ∙ ap (λ (n : ℕ). n + p * e.stride) d.start in
           ap (λ (x : Option LiveMap). take (live_or x).places.shape.value_size (drop (offset (live_or x) p) later)) live_new
           ∙ ap (λ (v : ℕ). take v (drop (offset (live_of e) p) later)) value_of
           ∙ ap (λ (n : ℕ). take shape.value_size (drop n later)) o
-          ∙ ap (λ (b : List ℕ). take shape.value_size (drop (FRONT + number * AREA + p * e.stride) b)) written
-          ∙ zeros bytes (FRONT + number * AREA) size enough (p * e.stride) shape.value_size (let x = value_ends shape.value_size shape.max_entries e.stride stride p l in let z = r.size_is in omega arith)
+          ∙ ap (λ (b : List ℕ). take shape.value_size (drop (FRONT + a.bytes + p * e.stride) b)) written
+          ∙ zeros bytes (FRONT + a.bytes) size enough (p * e.stride) shape.value_size (let x = value_ends shape.value_size shape.max_entries e.stride stride p l in let z = r.size_is in omega arith)
 
       kept_at : (j p : ℕ) (f : Entry) → get_or a.slots.slots j None ≡ Some f → p < (places_of f.map).shape.max_entries → take (places_of f.map).shape.value_size (drop (offset (live_of f) p) later) ≡ take (places_of f.map).shape.value_size (drop (offset (live_of f) p) bytes)
       kept_at j p f at l =
           let i = h.placed j f at in
           let s = (places_of f.map).shape in
           let o = offset_of f p in
-          let x = value_inside s.value_size s.max_entries f.stride i.stride (area_fits s) p l in
-          let y = area_fits shape in
-          let z = r.size_is in
-          let ne : f.number ≢ number = λ (q : f.number ≡ number). true≢false (sym i.marked ∙ ap (λ (n : ℕ). get_or a.taken n false) q ∙ free) in
+          let x = value_ends s.value_size s.max_entries f.stride i.stride p l in
+          let w = i.within in
           ap (λ (b : List ℕ). take s.value_size (drop (offset (live_of f) p) b)) written
-          ∙ ⊎_elim
-          (λ w. before_same bytes (replicate size 0) (FRONT + number * AREA) size (length-replicate size 0) enough (offset (live_of f) p) s.value_size (omega arith))
-          (λ w. after_same bytes (replicate size 0) (FRONT + number * AREA) size (length-replicate size 0) enough (offset (live_of f) p) s.value_size (omega arith))
-          (apart_areas f.number number (p * f.stride) 0 s.value_size size ne x (omega arith))
+          ∙ before_same bytes (replicate size 0) (FRONT + a.bytes) size (length-replicate size 0) enough (offset (live_of f) p) s.value_size (omega arith)
 
-      pub values_kept : SameValues t bytes (as_live_maps (with_new a number size slots)) later
+      pub values_kept : SameValues t bytes (as_live_maps (with_new a size slots)) later
       values_kept j p old_live new_live l =
           same_or_other j k
           (λ (s : j ≡ k). absurd (true≢false (sym old_live ∙ ap is_some (ap (live_at t) s ∙ ap (λ (u : LiveMaps). live_at u k) (sym view) ∙ none_by a.slots.slots a.slots.slots k d.was))))

@@ -1,21 +1,19 @@
 -- Where values lie in their areas, and the areas in a part.
-use Rattle.std.proofs.Common.{◌≡◌, ◌≢◌, ℕ, ◌+◌, ◌*◌, ◌/◌, ◌%◌, ◌<◌, ◌≤◌, ◌⊎◌, IsTrue, ap, ◌∙◌, arith, ⊎_elim, inl, inr}
-use Rattle.std.proofs.lemmas.Bool.{and_parts, leb-true, cases_lt}
-use Rattle.tagged_model.specs.declared.shape.MapKind.{MapKind}
-use Rattle.tagged_model.specs.declared.shape.MapShape.{MapShape}
-use Rattle.tagged_model.specs.Shape.{area, is_shape, largest_area}
-use Rattle.bpf_maps.specs.declared.part.TheConstants.{FRONT, AREA, MAPS}
-use Rattle.bpf_maps.specs.Live.{LiesInPart}
-
-fits_of : (k : MapKind) (key value max : ℕ) → IsTrue (is_shape k key value max) → area value max ≤ largest_area
-fits_of k key value max h = leb-true (area value max) largest_area (and_parts _ _ h).1
-
--- the values of a map fit an area
-pub area_fits : (s : MapShape) → area s.value_size s.max_entries ≤ AREA
-area_fits s = fits_of s.kind s.key_size s.value_size s.max_entries s.listed
+use Rattle.std.proofs.Common.{◌≡◌, ◌≢◌, ℕ, ◌+◌, ◌-◌, ◌*◌, ◌/◌, ◌%◌, ◌<◌, ◌≤◌, ◌⊎◌, Bool, if◌then◌else◌, ap, ◌∙◌, arith, ⊎_elim, inl, inr}
+use Rattle.std.proofs.lemmas.Bool.{le-leb, lt-leb, cases_lt}
+use Rattle.tagged_model.specs.Shape.{area}
+use Rattle.bpf_maps.specs.declared.part.TheConstants.{FRONT, LARGEST_SUM}
+use Rattle.bpf_maps.specs.Live.{LiesInPart, start_without}
 
 times_less : (a b c : ℕ) → a ≤ b → a * c ≤ b * c
 times_less a b c l = grind arith
+
+-- an area is a multiple of eight bytes
+pub area_aligned : (value max : ℕ) → area value max % 8 ≡ 0
+area_aligned value max = rounded ((value + 7) / 8)
+  where
+    rounded : (r : ℕ) → max * (r * 8) % 8 ≡ 0
+    rounded r = let e : max * (r * 8) ≡ max * r * 8 = omega arith in omega arith
 
 module _ (value max stride : ℕ) (round : stride ≡ (value + 7) / 8 * 8) where
   wide : value ≤ stride
@@ -25,27 +23,23 @@ module _ (value max stride : ℕ) (round : stride ≡ (value + 7) / 8 * 8) where
   pub value_before : (p q : ℕ) → p < q → p * stride + value ≤ q * stride
   value_before p q l = let m = times_less (p + 1) q stride (omega arith) in let w = wide in omega arith
 
-  -- a value lies in the room of its map
+  -- a value lies in the area of its map
   pub value_ends : (p : ℕ) → p < max → p * stride + value ≤ area value max
   value_ends p l =
       let b = value_before p max l in
       let e : max * stride ≡ area value max = ap (λ (s : ℕ). max * s) round in
       omega arith
 
-  module _ (fits : area value max ≤ AREA) where
-    -- a value lies in its area
-    pub value_inside : (p : ℕ) → p < max → p * stride + value ≤ AREA
-    value_inside p l = let b = value_ends p l in omega arith
-
-    pub place_inside : (n p : ℕ) → n < MAPS → p < max → LiesInPart (FRONT + n * AREA + p * stride) value
-    place_inside n p below l = record {
-      behind = omega arith;
-      within = let i = value_inside p l in let m = times_less (n + 1) MAPS AREA (omega arith) in omega arith;
-      aligned = ap (λ (s : ℕ). (FRONT + n * AREA + p * s) % 8) round ∙ aligned_at n p ((value + 7) / 8);
-    }
-      where
-        aligned_at : (n p r : ℕ) → (FRONT + n * AREA + p * (r * 8)) % 8 ≡ 0
-        aligned_at n p r = let e : FRONT + n * AREA + p * (r * 8) ≡ (72 + n * 8192 + p * r) * 8 = omega arith in omega arith
+  -- and so in the part
+  pub place_inside : (start bytes p : ℕ) → FRONT ≤ start → start % 8 ≡ 0 → start + area value max ≤ FRONT + bytes → bytes ≤ LARGEST_SUM → p < max → LiesInPart (start + p * stride) value
+  place_inside start bytes p behind aligned within few l = record {
+    behind = omega arith;
+    within = let i = value_ends p l in omega arith;
+    aligned = ap (λ (s : ℕ). (start + p * s) % 8) round ∙ aligned_at ((value + 7) / 8);
+  }
+    where
+      aligned_at : (r : ℕ) → (start + p * (r * 8)) % 8 ≡ 0
+      aligned_at r = let e : p * (r * 8) ≡ p * r * 8 = omega arith in omega arith
 
 -- values of one map
 pub apart_places : (value stride start p q : ℕ) → stride ≡ (value + 7) / 8 * 8 → p ≢ q → (start + p * stride + value ≤ start + q * stride) ⊎ (start + q * stride + value ≤ start + p * stride)
@@ -55,10 +49,36 @@ apart_places value stride start p q round ne =
     (λ (l : q ≤ p). let b = value_before value 0 stride round q p (omega arith) in inr (omega arith))
     (cases_lt p q)
 
--- values of two maps: x and y are where they begin in their areas
-pub apart_areas : (n m x y v w : ℕ) → n ≢ m → x + v ≤ AREA → y + w ≤ AREA → (FRONT + n * AREA + x + v ≤ FRONT + m * AREA + y) ⊎ (FRONT + m * AREA + y + w ≤ FRONT + n * AREA + x)
-apart_areas n m x y v w ne a b =
+-- ---- an area is gone
+
+-- where another begins then
+module _ (end size start : ℕ) where
+  pub lower : end ≤ start → start_without end size start ≡ start - size
+  lower l = ap (λ (b : Bool). if b then start - size else start) (le-leb end start l)
+
+  pub same : start < end → start_without end size start ≡ start
+  same l = ap (λ (b : Bool). if b then start - size else start) (lt-leb end start l)
+
+-- an area of `n` bytes from `s` on, beside one of `size` bytes from `gone` on that goes: it stands before, or behind
+module _ (gone size s n : ℕ) (apart : (gone + size ≤ s) ⊎ (s + n ≤ gone)) where
+  pub before_or_behind : ((s + n ≤ gone) × (start_without (gone + size) size s ≡ s)) ⊎ ((gone + size ≤ s) × (start_without (gone + size) size s ≡ s - size))
+  before_or_behind =
+      ⊎_elim
+      (λ (l : s < gone + size). inl (⊎_elim (λ (m : gone + size ≤ s). absurd (omega arith)) (λ (m : s + n ≤ gone). m) apart, same (gone + size) size s l))
+      (λ (l : gone + size ≤ s). inr (l, lower (gone + size) size s l))
+      (cases_lt s (gone + size))
+
+-- two areas that lie apart do so afterwards
+pub apart_still : (gone size s n t m : ℕ) → (gone + size ≤ s) ⊎ (s + n ≤ gone) → (gone + size ≤ t) ⊎ (t + m ≤ gone) → (s + n ≤ t) ⊎ (t + m ≤ s)
+    → (start_without (gone + size) size s + n ≤ start_without (gone + size) size t) ⊎ (start_without (gone + size) size t + m ≤ start_without (gone + size) size s)
+apart_still gone size s n t m one two both =
     ⊎_elim
-    (λ (l : n < m). inl (omega arith))
-    (λ (l : m ≤ n). inr (omega arith))
-    (cases_lt n m)
+    (λ x. ⊎_elim
+    (λ y. let a = x.1 in let b = y.1 in ⊎_elim (λ z. inl (omega arith)) (λ z. inr (omega arith)) both)
+    (λ y. let a = x.1 in let b = y.1 in let c = x.0 in let d = y.0 in inl (omega arith))
+    (before_or_behind gone size t m two))
+    (λ x. ⊎_elim
+    (λ y. let a = x.1 in let b = y.1 in let c = x.0 in let d = y.0 in inr (omega arith))
+    (λ y. let a = x.1 in let b = y.1 in let c = x.0 in let d = y.0 in ⊎_elim (λ z. inl (omega arith)) (λ z. inr (omega arith)) both)
+    (before_or_behind gone size t m two))
+    (before_or_behind gone size s n one)

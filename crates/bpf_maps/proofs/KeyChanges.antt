@@ -11,7 +11,7 @@ use Rattle.bpf_maps.proofs.Changes.{with_entry, IsChange, live_old, live_new, ot
 
 -- the entry with another table of places
 abbrev pub with_map : Entry → AnyMap → Entry
-with_map e map = record { map = map; number = e.number; stride = e.stride; holds = e.holds }
+with_map e map = record { map = map; start = e.start; stride = e.stride; holds = e.holds }
 
 pub record IsKeyChange (a : Inside) (t : LiveMaps) (at key : ℕ) (old : Entry) (map : AnyMap) : Type 0 where
   pub view : as_live_maps a ≡ t
@@ -31,7 +31,7 @@ module _ (a : Inside) (t : LiveMaps) (at key : ℕ) (old : Entry) (map : AnyMap)
     whole = c.whole;
     same = c.same;
     here = c.here;
-    number = refl;
+    start = refl;
     stride = refl;
     shape = c.shape;
     held = (c.whole.placed at old c.here).held;

@@ -1,28 +1,35 @@
--- The maps stay whole: each has an area of its own, and what is counted is right.
-use Rattle.std.proofs.Common.{◌≡◌, ◌≢◌, ℕ, ◌+◌, ◌*◌, ◌/◌, ◌<◌, ◌≤◌, ◌⊎◌, Bool, true, false, if◌then◌else◌, List, length, Option, Some, None, IsSome, refl, sym, ap, subst, ◌∙◌, arith, get_or, set, get_or-set_same, get_or-set_other, length-set, true≢false, ⊎_elim, inl, inr}
-use Rattle.std.proofs.lemmas.Option.{none-some}
+-- The maps stay whole: their areas stand behind one another, and what is counted is right.
+use Rattle.std.proofs.Common.{◌≡◌, ◌≢◌, ℕ, ◌+◌, ◌*◌, ◌/◌, ◌%◌, ◌<◌, ◌≤◌, ◌⊎◌, Bool, Option, Some, None, IsSome, option_map, refl, sym, ap, subst, ◌∙◌, arith, get_or, ⊎_elim, inl, inr}
+use Rattle.std.proofs.lemmas.Option.{none-some, same_Some}
 use Rattle.tagged_model.specs.declared.shape.MapShape.{MapShape}
 use Rattle.tagged_model.specs.Shape.{area}
-use Rattle.bpf_maps.specs.declared.part.TheConstants.{FRONT, AREA, MAPS}
+use Rattle.bpf_maps.specs.declared.part.TheConstants.{FRONT, LARGEST_SUM, MAPS}
 use Rattle.bpf_maps.specs.declared.maps.Entry.{Entry}
 use Rattle.bpf_maps.specs.declared.maps.Maps.TheInside.{Inside}
 use Rattle.bpf_maps.specs.Any.{places_of}
 use Rattle.bpf_maps.specs.Places.{IsSound}
-use Rattle.bpf_maps.specs.Live.{LiveMap, live_at, live_or, places_at, offset, LiesInPart, IsLaid, area_of}
+use Rattle.bpf_maps.specs.Live.{LiveMap, live_at, live_or, places_at, offset, LiesInPart, IsLaid, IsPacked, area_of, areas, StandsBefore, start_without, map_without}
 use Rattle.bpf_maps.specs.Sum.{weight, total}
-use Rattle.bpf_maps.specs.InMaps.{live_of, live_maps_of, as_live_maps, times_true, IsInItsArea, IsWellFormedMaps}
-use Rattle.bpf_maps.proofs.Slots.{entry_of, some_entry, live_by, none_by, others_by, same_or_other, same_some}
-use Rattle.bpf_maps.proofs.Totals.{total_but_one, times_set}
-use Rattle.bpf_maps.proofs.InAreas.{area_fits, value_inside, place_inside, apart_places, apart_areas}
+use Rattle.bpf_maps.specs.InMaps.{live_of, live_maps_of, as_live_maps, closed_up, IsInItsArea, IsWellFormedMaps}
+use Rattle.bpf_maps.proofs.Slots.{at_lives, entry_of, some_entry, live_by, none_by, others_by, same_or_other, same_some}
+use Rattle.bpf_maps.proofs.Totals.{total_but_one}
+use Rattle.bpf_maps.proofs.InAreas.{area_aligned, value_ends, place_inside, apart_places, before_or_behind, apart_still}
 
 -- ---- the values are laid out apart
 
 abbrev entry_at : Inside → ℕ → Entry → Type 0
 entry_at a k e = get_or a.slots.slots k None ≡ Some e
 
-pub offset_of : (e : Entry) (p : ℕ) → offset (live_of e) p ≡ FRONT + e.number * AREA + p * e.stride
+abbrev AreApart : LiveMap → LiveMap → Type 0
+AreApart l m = StandsBefore l m ⊎ StandsBefore m l
+
+pub offset_of : (e : Entry) (p : ℕ) → offset (live_of e) p ≡ e.start + p * e.stride
 unfolding offset
 offset_of e p = refl
+
+pub offset_without : (gone e : Entry) (p : ℕ) → offset (map_without (live_of gone) (live_of e)) p ≡ start_without (gone.start + area_of (live_of gone)) (area_of (live_of gone)) e.start + p * e.stride
+unfolding offset
+offset_without gone e p = refl
 
 abbrev IsApart : LiveMap → LiveMap → ℕ → ℕ → Type 0
 IsApart l m p q = (offset l p + l.places.shape.value_size ≤ offset m q) ⊎ (offset m q + m.places.shape.value_size ≤ offset l p)
@@ -32,26 +39,24 @@ module _ (a : Inside) (h : IsWellFormedMaps a) where
   inside k p e at l =
       let i = h.placed k e at in
       let s = (places_of e.map).shape in
-      subst (λ (o : ℕ). LiesInPart o s.value_size) (sym (offset_of e p)) (place_inside s.value_size s.max_entries e.stride i.stride (area_fits s) e.number p i.below l)
+      subst (λ (o : ℕ). LiesInPart o s.value_size) (sym (offset_of e p)) (place_inside s.value_size s.max_entries e.stride i.stride e.start a.bytes p i.behind i.aligned i.within h.few l)
 
   apart_in_one : (k p q : ℕ) (e : Entry) → entry_at a k e → p ≢ q → IsApart (live_of e) (live_of e) p q
   apart_in_one k p q e at ne =
       let i = h.placed k e at in
       let op = offset_of e p in
       let oq = offset_of e q in
-      ⊎_elim (λ x. inl (omega arith)) (λ x. inr (omega arith)) (apart_places (places_of e.map).shape.value_size e.stride (FRONT + e.number * AREA) p q i.stride ne)
+      ⊎_elim (λ x. inl (omega arith)) (λ x. inr (omega arith)) (apart_places (places_of e.map).shape.value_size e.stride e.start p q i.stride ne)
 
   apart_in_two : (k j p q : ℕ) (e f : Entry) → entry_at a k e → entry_at a j f → k ≢ j → p < (places_of e.map).shape.max_entries → q < (places_of f.map).shape.max_entries → IsApart (live_of e) (live_of f) p q
   apart_in_two k j p q e f at bt ne l m =
-      let i = h.placed k e at in
-      let o = h.placed j f bt in
       let s = (places_of e.map).shape in
       let t = (places_of f.map).shape in
       let op = offset_of e p in
       let oq = offset_of f q in
-      let x = value_inside s.value_size s.max_entries e.stride i.stride (area_fits s) p l in
-      let y = value_inside t.value_size t.max_entries f.stride o.stride (area_fits t) q m in
-      ⊎_elim (λ z. inl (omega arith)) (λ z. inr (omega arith)) (apart_areas e.number f.number (p * e.stride) (q * f.stride) s.value_size t.value_size (λ same. ne (h.apart k j e f at bt same)) x y)
+      let x = value_ends s.value_size s.max_entries e.stride (h.placed k e at).stride p l in
+      let y = value_ends t.value_size t.max_entries f.stride (h.placed j f bt).stride q m in
+      ⊎_elim (λ z. inl (omega arith)) (λ z. inr (omega arith)) (h.apart k j e f at bt ne)
 
   apart : (k j p q : ℕ) (e f : Entry) → entry_at a k e → entry_at a j f → (k ≡ j → p ≢ q) → p < (places_of e.map).shape.max_entries → q < (places_of f.map).shape.max_entries → IsApart (live_of e) (live_of f) p q
   apart k j p q e f at bt ne l m =
@@ -73,6 +78,22 @@ module _ (a : Inside) (h : IsWellFormedMaps a) where
         (λ (x : p < (places_of e.0.map).shape.max_entries). subst (λ (y : LiveMap). q < y.places.shape.max_entries → IsApart (live_of e.0) y p q) f.2 (λ (y : q < (places_of f.0.map).shape.max_entries). apart k j p q e.0 f.0 e.1 f.1 ne x y) ql) pl;
   }
 
+  pub packed : IsPacked (as_live_maps a)
+  packed = record {
+    inside = λ k l at.
+        let e = entry_of a.slots.slots k l at in
+        let i = h.placed k e.0 e.1 in
+        let within : e.0.start + area_of (live_of e.0) ≤ FRONT + areas (as_live_maps a) = let w = i.within in let s = h.sum in omega arith in
+        subst (λ (x : LiveMap). (FRONT ≤ x.start) × (x.start + area_of x ≤ FRONT + areas (as_live_maps a))) e.2 (i.behind, within);
+    apart = λ k j l m at bt ne.
+        let e = entry_of a.slots.slots k l at in
+        let f = entry_of a.slots.slots j m bt in
+        subst (λ (x : LiveMap). AreApart x m) e.2 (subst (λ (y : LiveMap). AreApart (live_of e.0) y) f.2 (h.apart k j e.0 f.0 e.1 f.1 ne));
+    stride = λ k l at.
+        let e = entry_of a.slots.slots k l at in
+        subst (λ (x : LiveMap). x.stride ≡ (x.places.shape.value_size + 7) / 8 * 8) e.2 (h.placed k e.0 e.1).stride;
+  }
+
 -- no two keys of a live map have one place
 pub sound_at : (a : Inside) (h : IsWellFormedMaps a) (k : ℕ) → IsSome (live_at (as_live_maps a) k) → IsSound (places_at (as_live_maps a) k)
 sound_at a h k live =
@@ -81,7 +102,7 @@ sound_at a h k live =
 
 -- no field but `refused` is changed
 pub whole_refused : (a : Inside) (refused : Bool) → IsWellFormedMaps a → IsWellFormedMaps (record a { refused = refused })
-whole_refused a refused h = record { placed = h.placed; apart = h.apart; all = h.all; counted = h.counted; room = h.room; sum = h.sum; few = h.few }
+whole_refused a refused h = record { placed = h.placed; apart = h.apart; below = h.below; most = h.most; room = h.room; sum = h.sum; few = h.few; aligned = h.aligned }
 
 -- ---- one slot is changed
 
@@ -90,10 +111,13 @@ module _ (a b : Inside) (k : ℕ) (h : IsWellFormedMaps a) (others : (j : ℕ) �
   still j e ne at = sym (others j ne) ∙ at
 
   changed : (f : LiveMap → ℕ) → total f (live_maps_of b.slots.slots) + weight f (get_or (live_maps_of a.slots.slots) k None) ≡ total f (live_maps_of a.slots.slots) + weight f (get_or (live_maps_of b.slots.slots) k None)
-  changed f = total_but_one f k (live_maps_of a.slots.slots) (live_maps_of b.slots.slots) (others_by a.slots.slots b.slots.slots k others)
+  changed f = total_but_one f k (live_maps_of a.slots.slots) (live_maps_of b.slots.slots) (λ j ne. ap (weight f) (others_by a.slots.slots b.slots.slots k others j ne))
 
   -- a map that keeps its area
-  module _ (e f : Entry) (at : entry_at a k e) (bt : entry_at b k f) (number : f.number ≡ e.number) (stride : f.stride ≡ e.stride) (shape : (places_of f.map).shape ≡ (places_of e.map).shape) (held : 1 ≤ f.holds) (sound : IsSound (places_of f.map)) (taken : b.taken ≡ a.taken) (bytes : b.bytes ≡ a.bytes) where
+  module _ (e f : Entry) (at : entry_at a k e) (bt : entry_at b k f) (start : f.start ≡ e.start) (stride : f.stride ≡ e.stride) (shape : (places_of f.map).shape ≡ (places_of e.map).shape) (held : 1 ≤ f.holds) (sound : IsSound (places_of f.map)) (bytes : b.bytes ≡ a.bytes) where
+    same_area : area_of (live_of f) ≡ area_of (live_of e)
+    same_area = ap (λ (s : MapShape). area s.value_size s.max_entries) shape
+
     same_total : (w : LiveMap → ℕ) → w (live_of f) ≡ w (live_of e) → total w (live_maps_of b.slots.slots) ≡ total w (live_maps_of a.slots.slots)
     same_total w s =
         let c = changed w in
@@ -101,51 +125,63 @@ module _ (a b : Inside) (k : ℕ) (h : IsWellFormedMaps a) (others : (j : ℕ) �
         let y = ap (weight w) (live_by b.slots.slots b.slots.slots k f bt) in
         omega arith
 
-    placed_replaced : (j : ℕ) (g : Entry) → entry_at b j g → IsInItsArea b.taken g
+    pub same_count : total (λ (l : LiveMap). 1) (live_maps_of b.slots.slots) ≡ total (λ (l : LiveMap). 1) (live_maps_of a.slots.slots)
+    same_count = same_total (λ l. 1) refl
+
+    placed_replaced : (j : ℕ) (g : Entry) → entry_at b j g → IsInItsArea b.bytes g
     placed_replaced j g gt =
-        subst (λ (t : List Bool). IsInItsArea t g) (sym taken)
+        subst (λ (n : ℕ). IsInItsArea n g) (sym bytes)
         (same_or_other j k
         (λ (s : j ≡ k).
         let is : f ≡ g = same_some (get_or b.slots.slots k None) f g bt (ap (λ (i : ℕ). get_or b.slots.slots i None) (sym s) ∙ gt) in
-        subst (λ (x : Entry). IsInItsArea a.taken x) is placed_new)
+        subst (λ (x : Entry). IsInItsArea a.bytes x) is placed_new)
         (λ (o : j ≢ k). h.placed j g (still j g o gt)))
       where
-        placed_new : IsInItsArea a.taken f
+        placed_new : IsInItsArea a.bytes f
         placed_new =
             let i = h.placed k e at in
             record {
-              below = let z = i.below in omega arith;
-              marked = ap (λ (n : ℕ). get_or a.taken n false) number ∙ i.marked;
+              behind = let z = i.behind in omega arith;
+              within = let z = i.within in let s = same_area in omega arith;
+              aligned = ap (λ (n : ℕ). n % 8) start ∙ i.aligned;
               stride = stride ∙ i.stride ∙ ap (λ s. (s.value_size + 7) / 8 * 8) (sym shape);
               held = held;
               sound = sound;
             }
 
-    -- the number of an entry after the change is one of before, under the same key
-    before : (j : ℕ) (g : Entry) → entry_at b j g → (x : Entry) × (entry_at a j x) × (x.number ≡ g.number)
+    -- an entry after the change has the area of one of before, under the same key
+    before : (j : ℕ) (g : Entry) → entry_at b j g → (x : Entry) × (entry_at a j x) × (x.start ≡ g.start) × (area_of (live_of x) ≡ area_of (live_of g))
     before j g gt =
         same_or_other j k
         (λ (s : j ≡ k).
         let is : f ≡ g = same_some (get_or b.slots.slots k None) f g bt (ap (λ (i : ℕ). get_or b.slots.slots i None) (sym s) ∙ gt) in
-        (e, ap (λ (i : ℕ). get_or a.slots.slots i None) s ∙ at, sym number ∙ ap (λ (x : Entry). x.number) is))
-        (λ (o : j ≢ k). (g, still j g o gt, refl))
+        (e, ap (λ (i : ℕ). get_or a.slots.slots i None) s ∙ at, sym start ∙ ap (λ (x : Entry). x.start) is, sym same_area ∙ ap (λ (x : Entry). area_of (live_of x)) is))
+        (λ (o : j ≢ k). (g, still j g o gt, refl, refl))
+
+    apart_replaced : (i j : ℕ) (g l : Entry) → entry_at b i g → entry_at b j l → i ≢ j → AreApart (live_of g) (live_of l)
+    apart_replaced i j g l gt lt ne =
+        let x = before i g gt in
+        let y = before j l lt in
+        let xs = x.2 in
+        let xa = x.3 in
+        let ys = y.2 in
+        let ya = y.3 in
+        ⊎_elim (λ z. inl (omega arith)) (λ z. inr (omega arith)) (h.apart i j x.0 y.0 x.1 y.1 ne)
 
     pub whole_replaced : IsWellFormedMaps b
     whole_replaced = record {
       placed = placed_replaced;
-      apart = λ i j g l gt lt same.
-          let x = before i g gt in
-          let y = before j l lt in
-          h.apart i j x.0 y.0 x.1 y.1 (x.2 ∙ same ∙ sym y.2);
-      all = ap length taken ∙ h.all;
-      counted = ap times_true taken ∙ h.counted ∙ sym (same_total (λ l. 1) refl);
+      apart = apart_replaced;
+      below = λ j g gt. let x = before j g gt in let l = h.below j x.0 x.1 in omega arith;
+      most = let m = h.most in let s = same_count in omega arith;
       room = let r = h.room in omega arith;
-      sum = bytes ∙ h.sum ∙ sym (same_total area_of (ap (λ (s : MapShape). area s.value_size s.max_entries) shape));
+      sum = bytes ∙ h.sum ∙ sym (same_total area_of same_area);
       few = let f = h.few in omega arith;
+      aligned = ap (λ (n : ℕ). n % 8) bytes ∙ h.aligned;
     }
 
   -- a map that is new
-  module _ (e : Entry) (at : get_or a.slots.slots k None ≡ None) (bt : entry_at b k e) (below : e.number < MAPS) (free : get_or a.taken e.number false ≡ false) (stride : e.stride ≡ ((places_of e.map).shape.value_size + 7) / 8 * 8) (held : 1 ≤ e.holds) (sound : IsSound (places_of e.map)) (taken : b.taken ≡ set a.taken e.number true) (bytes : b.bytes ≡ a.bytes + area_of (live_of e)) (few : b.bytes ≤ AREA) where
+  module _ (e : Entry) (at : get_or a.slots.slots k None ≡ None) (bt : entry_at b k e) where
     more_total : (w : LiveMap → ℕ) → total w (live_maps_of b.slots.slots) ≡ total w (live_maps_of a.slots.slots) + w (live_of e)
     more_total w =
         let c = changed w in
@@ -153,96 +189,131 @@ module _ (a b : Inside) (k : ℕ) (h : IsWellFormedMaps a) (others : (j : ℕ) �
         let y = ap (weight w) (live_by b.slots.slots b.slots.slots k e bt) in
         omega arith
 
-    in_range : e.number < length a.taken
-    in_range = let l = h.all in omega arith
+    pub count_added : total (λ (l : LiveMap). 1) (live_maps_of b.slots.slots) ≡ total (λ (l : LiveMap). 1) (live_maps_of a.slots.slots) + 1
+    count_added = more_total (λ l. 1)
 
-    marked_new : get_or (set a.taken e.number true) e.number false ≡ true
-    marked_new = get_or-set_same a.taken e.number true false in_range
+  -- its area stands behind the others
+  module _ (e : Entry) (at : get_or a.slots.slots k None ≡ None) (bt : entry_at b k e) (below : k < a.slots.capacity) (start : e.start ≡ FRONT + a.bytes) (stride : e.stride ≡ ((places_of e.map).shape.value_size + 7) / 8 * 8) (held : 1 ≤ e.holds) (sound : IsSound (places_of e.map)) (bytes : b.bytes ≡ a.bytes + area_of (live_of e)) (few : b.bytes ≤ LARGEST_SUM) where
+    aligned_now : (a.bytes + area_of (live_of e)) % 8 ≡ 0
+    aligned_now = let al = h.aligned in let r = area_aligned (places_of e.map).shape.value_size (places_of e.map).shape.max_entries in omega arith
 
-    marked_still : (n : ℕ) → get_or a.taken n false ≡ true → get_or (set a.taken e.number true) n false ≡ true
-    marked_still n m = get_or-set_other a.taken e.number n true false (λ (s : n ≡ e.number). true≢false (sym m ∙ ap (λ (i : ℕ). get_or a.taken i false) s ∙ free)) ∙ m
-
-    placed_added : (j : ℕ) (g : Entry) → entry_at b j g → IsInItsArea b.taken g
+    placed_added : (j : ℕ) (g : Entry) → entry_at b j g → IsInItsArea b.bytes g
     placed_added j g gt =
-        subst (λ (t : List Bool). IsInItsArea t g) (sym taken)
-        (same_or_other j k
+        same_or_other j k
         (λ (s : j ≡ k).
         let is : e ≡ g = same_some (get_or b.slots.slots k None) e g bt (ap (λ (i : ℕ). get_or b.slots.slots i None) (sym s) ∙ gt) in
-        subst (λ (x : Entry). IsInItsArea (set a.taken e.number true) x) is (record { below = below; marked = marked_new; stride = stride; held = held; sound = sound }))
+        subst (λ (x : Entry). IsInItsArea b.bytes x) is (record { behind = omega arith; within = omega arith; aligned = let al = h.aligned in omega arith; stride = stride; held = held; sound = sound }))
         (λ (o : j ≢ k).
         let i = h.placed j g (still j g o gt) in
-        record { below = i.below; marked = marked_still g.number i.marked; stride = i.stride; held = i.held; sound = i.sound }))
+        record { behind = i.behind; within = let w = i.within in omega arith; aligned = i.aligned; stride = i.stride; held = i.held; sound = i.sound })
 
-    -- no other map has its area
-    not_other : (j : ℕ) (g : Entry) → j ≢ k → entry_at b j g → g.number ≢ e.number
-    not_other j g o gt s = true≢false (sym (h.placed j g (still j g o gt)).marked ∙ ap (λ (i : ℕ). get_or a.taken i false) s ∙ free)
+    is_new : (j : ℕ) (g : Entry) → j ≡ k → entry_at b j g → g ≡ e
+    is_new j g s gt = same_some (get_or b.slots.slots k None) g e (ap (λ (i : ℕ). get_or b.slots.slots i None) (sym s) ∙ gt) bt
 
-    is_new : (j : ℕ) (g : Entry) → j ≡ k → entry_at b j g → g.number ≡ e.number
-    is_new j g s gt = ap (λ (x : Entry). x.number) (same_some (get_or b.slots.slots k None) g e (ap (λ (i : ℕ). get_or b.slots.slots i None) (sym s) ∙ gt) bt)
+    -- the others stand before it
+    stands_last : (j : ℕ) (g : Entry) → j ≢ k → entry_at b j g → StandsBefore (live_of g) (live_of e)
+    stands_last j g o gt = let w = (h.placed j g (still j g o gt)).within in omega arith
 
-    apart_added : (i j : ℕ) (g l : Entry) → entry_at b i g → entry_at b j l → g.number ≡ l.number → i ≡ j
-    apart_added i j g l gt lt same =
+    apart_added : (i j : ℕ) (g l : Entry) → entry_at b i g → entry_at b j l → i ≢ j → AreApart (live_of g) (live_of l)
+    apart_added i j g l gt lt ne =
         same_or_other i k
-        (λ (s : i ≡ k). same_or_other j k
-        (λ (t : j ≡ k). s ∙ sym t)
-        (λ (o : j ≢ k). absurd (not_other j l o lt (sym same ∙ is_new i g s gt))))
+        (λ (s : i ≡ k). inr (subst (λ (x : Entry). StandsBefore (live_of l) (live_of x)) (sym (is_new i g s gt)) (stands_last j l (λ (t : j ≡ k). ne (s ∙ sym t)) lt)))
         (λ (o : i ≢ k). same_or_other j k
-        (λ (t : j ≡ k). absurd (not_other i g o gt (same ∙ is_new j l t lt)))
-        (λ (u : j ≢ k). h.apart i j g l (still i g o gt) (still j l u lt) same))
+        (λ (t : j ≡ k). inl (subst (λ (x : Entry). StandsBefore (live_of g) (live_of x)) (sym (is_new j l t lt)) (stands_last i g o gt)))
+        (λ (u : j ≢ k). h.apart i j g l (still i g o gt) (still j l u lt) ne))
 
-    pub whole_added : IsWellFormedMaps b
-    whole_added = record {
+    below_added : (j : ℕ) (g : Entry) → entry_at b j g → j < b.slots.capacity
+    below_added j g gt = same_or_other j k (λ (s : j ≡ k). omega arith) (λ (o : j ≢ k). let l = h.below j g (still j g o gt) in omega arith)
+
+    pub whole_added : total (λ (l : LiveMap). 1) (live_maps_of a.slots.slots) < MAPS → IsWellFormedMaps b
+    whole_added fewer = record {
       placed = placed_added;
       apart = apart_added;
-      all = ap length taken ∙ length-set a.taken e.number true ∙ h.all;
-      counted =
-          let t = ap times_true taken in
-          let c = times_set a.taken e.number true in_range in
-          let f = ap (λ (x : Bool). let n : ℕ = if x then 1 else 0 in n) free in
-          let o = h.counted in
-          let m = more_total (λ l. 1) in
-          omega arith;
+      below = below_added;
+      most = let m = count_added e at bt in omega arith;
       room = let r = h.room in omega arith;
-      sum = let s = h.sum in let m = more_total area_of in omega arith;
+      sum = let s = h.sum in let m = more_total e at bt area_of in omega arith;
       few = few;
+      aligned = ap (λ (n : ℕ). n % 8) bytes ∙ aligned_now;
     }
 
-  -- a map that goes
-  module _ (e : Entry) (at : entry_at a k e) (bt : get_or b.slots.slots k None ≡ None) (taken : b.taken ≡ set a.taken e.number false) (bytes : b.bytes + area_of (live_of e) ≡ a.bytes) where
-    less_total : (w : LiveMap → ℕ) → total w (live_maps_of b.slots.slots) + w (live_of e) ≡ total w (live_maps_of a.slots.slots)
-    less_total w =
-        let c = changed w in
-        let x = ap (weight w) (live_by a.slots.slots b.slots.slots k e at) in
-        let y = ap (weight w) (none_by b.slots.slots b.slots.slots k bt) in
-        omega arith
+-- ---- a map goes, and those behind it close up
 
-    taken_range : e.number < length a.taken
-    taken_range = let l = h.all in let i = (h.placed k e at).below in omega arith
+-- what an entry that has closed up was
+pub opened_up : (end size : ℕ) (o : Option Entry) (g : Entry) → option_map (closed_up end size) o ≡ Some g → (f : Entry) × (o ≡ Some f) × (closed_up end size f ≡ g)
+opened_up end size None g h = absurd (none-some g h)
+opened_up end size (Some f) g h = (f, refl, same_Some (closed_up end size f) g h)
 
-    other : (j : ℕ) (g : Entry) → entry_at b j g → j ≢ k
-    other j g gt s = none-some g (sym bt ∙ ap (λ (i : ℕ). get_or b.slots.slots i None) (sym s) ∙ gt)
+module _ (a b : Inside) (k : ℕ) (h : IsWellFormedMaps a) (e : Entry) (at : entry_at a k e) (bt : get_or b.slots.slots k None ≡ None)
+    (closed : (j : ℕ) → j ≢ k → get_or b.slots.slots j None ≡ option_map (closed_up (e.start + area_of (live_of e)) (area_of (live_of e))) (get_or a.slots.slots j None))
+    (room : b.slots.capacity ≡ a.slots.capacity) (bytes : b.bytes + area_of (live_of e) ≡ a.bytes) where
+  abbrev end : ℕ
+  end = e.start + area_of (live_of e)
 
-    placed_removed : (j : ℕ) (g : Entry) → entry_at b j g → IsInItsArea b.taken g
-    placed_removed j g gt =
-        let o = other j g gt in
-        let gt' = still j g o gt in
-        let i = h.placed j g gt' in
-        let ne : g.number ≢ e.number = λ (s : g.number ≡ e.number). o (h.apart j k g e gt' at s) in
-        record { below = i.below; marked = ap (λ (t : List Bool). get_or t g.number false) taken ∙ get_or-set_other a.taken e.number g.number false false ne ∙ i.marked; stride = i.stride; held = i.held; sound = i.sound }
+  abbrev size : ℕ
+  size = area_of (live_of e)
 
-    pub whole_removed : IsWellFormedMaps b
-    whole_removed = record {
-      placed = placed_removed;
-      apart = λ i j g l gt lt same. h.apart i j g l (still i g (other i g gt) gt) (still j l (other j l lt) lt) same;
-      all = ap length taken ∙ length-set a.taken e.number false ∙ h.all;
-      counted =
-          let t = ap times_true taken in
-          let c = times_set a.taken e.number false taken_range in
-          let f = ap (λ (x : Bool). let n : ℕ = if x then 1 else 0 in n) (h.placed k e at).marked in
-          let o = h.counted in
-          let m = less_total (λ l. 1) in
-          omega arith;
-      room = let r = h.room in omega arith;
-      sum = let s = h.sum in let m = less_total area_of in omega arith;
-      few = let f = h.few in omega arith;
-    }
+  other : (j : ℕ) (g : Entry) → entry_at b j g → j ≢ k
+  other j g gt s = none-some g (sym bt ∙ ap (λ (i : ℕ). get_or b.slots.slots i None) (sym s) ∙ gt)
+
+  was : (j : ℕ) (g : Entry) → entry_at b j g → (f : Entry) × (entry_at a j f) × (closed_up end size f ≡ g)
+  was j g gt = opened_up end size (get_or a.slots.slots j None) g (sym (closed j (other j g gt)) ∙ gt)
+
+  same_weight : (w : LiveMap → ℕ) → ((f : Entry) → w (live_of (closed_up end size f)) ≡ w (live_of f)) → (o : Option Entry) → weight w (option_map live_of (option_map (closed_up end size) o)) ≡ weight w (option_map live_of o)
+  same_weight w s None = refl
+  same_weight w s (Some f) = s f
+
+  less_total : (w : LiveMap → ℕ) → ((f : Entry) → w (live_of (closed_up end size f)) ≡ w (live_of f)) → total w (live_maps_of b.slots.slots) + w (live_of e) ≡ total w (live_maps_of a.slots.slots)
+  less_total w s =
+      let c = total_but_one w k (live_maps_of a.slots.slots) (live_maps_of b.slots.slots)
+      (λ j ne.
+      ap (weight w) (at_lives b.slots.slots j ∙ ap (option_map live_of) (closed j ne))
+      ∙ same_weight w s (get_or a.slots.slots j None)
+      ∙ ap (weight w) (sym (at_lives a.slots.slots j))) in
+      let x = ap (weight w) (live_by a.slots.slots a.slots.slots k e at) in
+      let y = ap (weight w) (none_by b.slots.slots b.slots.slots k bt) in
+      omega arith
+
+  pub one_less_now : total (λ (l : LiveMap). 1) (live_maps_of b.slots.slots) + 1 ≡ total (λ (l : LiveMap). 1) (live_maps_of a.slots.slots)
+  one_less_now = less_total (λ l. 1) (λ f. refl)
+
+  pub beside : (j : ℕ) (f : Entry) → j ≢ k → entry_at a j f → (end ≤ f.start) ⊎ (f.start + area_of (live_of f) ≤ e.start)
+  beside j f ne ft = h.apart k j e f at ft (λ s. ne (sym s))
+
+  placed_closed : (j : ℕ) (f : Entry) → j ≢ k → entry_at a j f → IsInItsArea b.bytes (closed_up end size f)
+  placed_closed j f ne ft =
+      let i = h.placed j f ft in
+      let p = h.placed k e at in
+      let round = area_aligned (places_of e.map).shape.value_size (places_of e.map).shape.max_entries in
+      let c = before_or_behind e.start size f.start (area_of (live_of f)) (beside j f ne ft) in
+      record {
+        behind = ⊎_elim (λ x. let s = x.1 in let b = i.behind in omega arith) (λ x. let l = x.0 in let s = x.1 in let b = p.behind in omega arith) c;
+        within = ⊎_elim (λ x. let l = x.0 in let s = x.1 in let w = p.within in omega arith) (λ x. let l = x.0 in let s = x.1 in let w = i.within in omega arith) c;
+        aligned = ⊎_elim (λ x. let s = x.1 in let m = i.aligned in omega arith) (λ x. let l = x.0 in let s = x.1 in let m = i.aligned in let q = p.aligned in omega arith) c;
+        stride = i.stride;
+        held = i.held;
+        sound = i.sound;
+      }
+
+  placed_removed : (j : ℕ) (g : Entry) → entry_at b j g → IsInItsArea b.bytes g
+  placed_removed j g gt = let f = was j g gt in subst (λ (x : Entry). IsInItsArea b.bytes x) f.2 (placed_closed j f.0 (other j g gt) f.1)
+
+  apart_removed : (i j : ℕ) (g l : Entry) → entry_at b i g → entry_at b j l → i ≢ j → AreApart (live_of g) (live_of l)
+  apart_removed i j g l gt lt ne =
+      let f = was i g gt in
+      let m = was j l lt in
+      subst (λ (x : Entry). AreApart (live_of x) (live_of l)) f.2
+      (subst (λ (y : Entry). AreApart (live_of (closed_up end size f.0)) (live_of y)) m.2
+      (apart_still e.start size f.0.start (area_of (live_of f.0)) m.0.start (area_of (live_of m.0)) (beside i f.0 (other i g gt) f.1) (beside j m.0 (other j l lt) m.1) (h.apart i j f.0 m.0 f.1 m.1 ne)))
+
+  pub whole_removed : IsWellFormedMaps b
+  whole_removed = record {
+    placed = placed_removed;
+    apart = apart_removed;
+    below = λ j g gt. let f = was j g gt in let l = h.below j f.0 f.1 in omega arith;
+    most = let m = h.most in let l = one_less_now in omega arith;
+    room = let r = h.room in omega arith;
+    sum = let s = h.sum in let m = less_total area_of (λ f. refl) in omega arith;
+    few = let f = h.few in omega arith;
+    aligned = let al = h.aligned in let r = area_aligned (places_of e.map).shape.value_size (places_of e.map).shape.max_entries in omega arith;
+  }

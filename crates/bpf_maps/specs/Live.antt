@@ -1,6 +1,6 @@
 -- A tenant's live maps, and where their values lie in the tenant's part. The limits and the layout are this project's
 -- own.
-use Rattle.std.specs.Prelude.{◌≡◌, ◌≢◌, ℕ, ◌+◌, ◌-◌, ◌*◌, ◌%◌, ◌<◌, ◌≤◌, ◌⊎◌, Bool, true, false, ◌||◌, nat_le, nat_lt, if◌then◌else◌, List, [], ◌∷◌, take, drop, Option, Some, None, IsSome, option_map, Result, Ok, Err, slice_index_or, refl}
+use Rattle.std.specs.Prelude.{◌≡◌, ◌≢◌, ℕ, ◌+◌, ◌-◌, ◌*◌, ◌/◌, ◌%◌, ◌<◌, ◌≤◌, ◌⊎◌, Bool, true, false, ◌||◌, nat_le, nat_lt, if◌then◌else◌, List, take, drop, Option, Some, None, IsSome, option_map, Result, Ok, Err, slice_index_or, refl}
 use Rattle.tagged_model.specs.declared.shape.MapKind.TheVariants.{Hash}
 use Rattle.tagged_model.specs.declared.shape.MapShape.{MapShape}
 use Rattle.tagged_model.specs.declared.fault.MapFault.{MapFault}
@@ -117,6 +117,34 @@ pub record SameRoom (old new : LiveMaps) : Type 0 where
 pub record HasOneMore (fewer more : LiveMaps) (shape : MapShape) : Type 0 where
   pub maps : count more ≡ count fewer + 1
   pub bytes : areas more ≡ areas fewer + area shape.value_size shape.max_entries
+
+-- ---- where the areas stand
+
+-- where the area of the map under a key begins
+abbrev pub start_at : LiveMaps → ℕ → ℕ
+start_at t k = (live_or (live_at t k)).start
+
+-- the area ends before that of the other begins
+abbrev pub StandsBefore : LiveMap → LiveMap → Type 0
+StandsBefore l m = l.start + area_of l ≤ m.start
+
+-- the areas of all live maps lie apart in as many bytes behind the front as they take together, so that there is no gap, and
+-- the values in each have no more between them than makes their size a multiple of eight
+pub record IsPacked (t : LiveMaps) : Type 0 where
+  pub inside : (k : ℕ) (l : LiveMap) → live_at t k ≡ Some l → (FRONT ≤ l.start) × (l.start + area_of l ≤ FRONT + areas t)
+  pub apart : (k j : ℕ) (l m : LiveMap) → live_at t k ≡ Some l → live_at t j ≡ Some m → k ≢ j → StandsBefore l m ⊎ StandsBefore m l
+  pub stride : (k : ℕ) (l : LiveMap) → live_at t k ≡ Some l → l.stride ≡ (l.places.shape.value_size + 7) / 8 * 8
+
+-- where an area begins when another, which ended at `end` and had so many bytes, is gone
+abbrev pub start_without : ℕ → ℕ → ℕ → ℕ
+start_without end size start = if nat_le end start then start - size else start
+
+abbrev pub map_without : LiveMap → LiveMap → LiveMap
+map_without gone l = record { places = l.places; start = start_without (gone.start + area_of gone) (area_of gone) l.start; stride = l.stride; holds = l.holds }
+
+-- the map under this key is gone, each map behind it stands lower by the bytes of its area, and nothing else is changed
+abbrev pub ClosesUp : ℕ → LiveMaps → LiveMaps → Type 0
+ClosesUp k old new = (other : ℕ) → other ≢ k → live_at new other ≡ option_map (map_without (live_or (live_at old k))) (live_at old other)
 
 -- ---- the keys of one map change
 

@@ -1,6 +1,6 @@
 -- Laws of what calls leave of live maps, proved here for the proofs of this crate and of those above. This project's own. No contract
 -- cites them: there is nothing in them to believe.
-use Rattle.std.proofs.Common.{◌≡◌, ℕ, zero, suc, ◌+◌, ◌<◌, List, [], ◌∷◌, Option, Some, None, IsSome, refl, ap₂, ◌∙◌, get_or, arith}
+use Rattle.std.proofs.Common.{◌≡◌, ℕ, suc, ◌+◌, ◌<◌, List, [], ◌∷◌, Option, Some, None, IsSome, refl, ap₂, ◌∙◌, get_or, arith}
 use Rattle.std.proofs.lemmas.Bool.{false≢true}
 use Rattle.bpf_maps.specs.Sum.{weight, total}
 use Rattle.bpf_maps.specs.Live.{LiveMap, LiveMaps, live_at, live_or, shape_at, offset, offset_at, LiesInPart, IsLaid, SameAreas, OnlyKeysChange}

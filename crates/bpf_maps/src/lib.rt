@@ -21,6 +21,6 @@ pub use laws::{
     values_agree, values_are_written, writes_refine_values,
 };
 pub use maps::{MapKey, Maps};
-pub use part::{AREA, FRONT, KEY_ROOM, LARGEST_SUM, MAPS, PART};
+pub use part::{FRONT, KEY_ROOM, LARGEST_SUM, MAPS, PART};
 pub use tagged_model::{MapFault, calls_refine_values};
 pub use value_map::{ANY, EXIST, NOEXIST, ValueMap};

@@ -3,13 +3,14 @@
 ghost use Rattle.std.specs.Prelude.{◌≡◌, ◌≢◌, ℕ, ◌+◌, ◌-◌, ◌<◌, ◌≤◌, ◌^◌, ◌⊎◌, ◌||◌, true, false, if◌then◌else◌, [], length, take, replicate, option_map, Some, None, IfSome, IfNone, IfOk, OnErr, IsSome, slice_index_or};
 ghost use Rattle.tagged_model.specs.declared.shape.MapKind.TheVariants.{Array};
 ghost use Rattle.tagged_model.specs.Table.{look_up, verdict, removal, next_of, new_table};
-ghost use Rattle.bpf_maps.specs.declared.part.TheConstants.{PART, FRONT, MAPS, AREA, LARGEST_SUM};
+ghost use Rattle.bpf_maps.specs.declared.part.TheConstants.{PART, FRONT, MAPS, LARGEST_SUM};
 ghost use Rattle.bpf_maps.specs.Places.{table_of, IsSound, Claims, Removes, GivesKey, after_run};
-ghost use Rattle.bpf_maps.specs.Live.{live_at, places_at, shape_at, holds_at, held_at, offset_at, value_in, map_in, LiesInPart, IsLaid, AreSound, SameAreas, SameValues, KeepsMap, KeepsMaps, KeepsOthers, count, areas, SameRoom, OnlyKeysChange, HasOneMore, create_fault, Creates, one_more, one_less, is_memory};
-ghost use Rattle.bpf_maps.specs.InMaps.{times_true};
+ghost use Rattle.bpf_maps.specs.Live.{live_at, places_at, shape_at, holds_at, held_at, offset_at, value_in, map_in, LiesInPart, IsLaid, IsPacked, ClosesUp, start_at, AreSound, SameAreas, SameValues, KeepsMap, KeepsMaps, KeepsOthers, count, areas, SameRoom, OnlyKeysChange, HasOneMore, create_fault, Creates, one_more, one_less, is_memory};
+ghost use Rattle.bpf_maps.specs.InMaps.{closed_up};
+ghost use Rattle.slab.specs.Slab.{ContainsKey, get};
 
 use crate::any_map::AnyMap;
-use crate::part::{AREA, FRONT, KEY_ROOM, LARGEST_SUM, MAPS, PART, clear};
+use crate::part::{FRONT, KEY_ROOM, LARGEST_SUM, MAPS, PART, clear};
 use crate::value_map::ValueMap;
 use slab::Slab;
 use std::alloc::{AllocError, Global};
@@ -38,9 +39,7 @@ impl Model for MapKey {
 pub struct Maps {
     alloc: Global,
     slots: Slab<Entry>,
-    // Which areas of the part are in use.
-    taken: [bool; MAPS],
-    // The bytes that the values of all maps take.
+    // The bytes that the areas of all maps take. They stand one behind the other after the front, in order of creation.
     bytes: usize,
     refused: bool,
 }
@@ -48,8 +47,8 @@ pub struct Maps {
 #[derive(Drop)]
 struct Entry {
     map: AnyMap,
-    // The number of its area.
-    number: usize,
+    // Where its area begins in the part.
+    start: usize,
     // How far its values are from one another.
     stride: usize,
     holds: u32,
@@ -78,17 +77,18 @@ impl Maps {
         Ok(Maps {
             alloc,
             slots: Slab::with_capacity(alloc, MAPS)?,
-            taken: [false; MAPS],
             bytes: 0,
             refused: false,
         })
     }
 
-    /// A law: the values of all live maps lie inside and apart, no two keys of a live map have one place, and there are no more
-    /// than sixteen maps, whose values take no more than 65,536 bytes. It does nothing when it runs.
+    /// A law: the values of all live maps lie inside and apart, their areas leave no gap behind the front, no two keys of a live
+    /// map have one place, and there are no more than sixteen maps, whose values take no more than 65,536 bytes. It does nothing
+    /// when it runs.
     #[inline(always)]
     pub fn maps_are_laid(&self)
         ensures laid { IsLaid self.now }
+        ensures packed { IsPacked self.now }
         ensures sound { AreSound self.now }
         ensures maps { count self.now ≤ MAPS }
         ensures bytes { areas self.now ≤ LARGEST_SUM }
@@ -96,8 +96,9 @@ impl Maps {
         let _ = &self.slots;
     }
 
-    /// Makes a map, which one holds, with an area of its own in the tenant's part, `PART` bytes. A hash map has no key, and the
-    /// values of an array are zero bytes. The maps that were live stay as they are.
+    /// Makes a map, which one holds, with an area of its own in the tenant's part, `PART` bytes: it stands behind those of the
+    /// maps that are live. A hash map has no key, and the values of an array are zero bytes. The maps that were live stay as
+    /// they are.
     ///
     /// # Errors
     ///
@@ -108,6 +109,7 @@ impl Maps {
         ensures created { Creates (create_fault self.old shape) self.old shape result self.new }
         ensures older { (map : ℕ) → IsSome (live_at self.old map) → live_at self.new map
             ≡ live_at self.old map }
+        ensures last { IfOk result (λ k. start_at self.new k ≡ FRONT + areas self.old) }
         ensures laid { IsLaid self.new }
         ensures cleared { IfOk result (λ k. shape.kind ≡ Array → (p : ℕ) → p < shape.max_entries
             → value_in part.new self.new k p ≡ replicate shape.value_size 0) }
@@ -121,21 +123,21 @@ impl Maps {
         ensures unchanged { OnErr result (part.new ≡ part.old) }
     {
         let size = shape.area() as usize;
-        let Some(number) = area_for(&self.taken, self.bytes, size) else {
+        if self.slots.len() >= MAPS || self.bytes + size > LARGEST_SUM {
             return Err(MapFault::NoSpace);
-        };
+        }
         let Ok(map) = AnyMap::new(self.alloc, shape) else {
             self.refused = true;
             return Err(MapFault::Memory);
         };
-        clear(part, FRONT + number * AREA, size);
+        let start = FRONT + self.bytes;
+        clear(part, start, size);
         let key = self.slots.insert_reserved(Entry {
             map,
-            number,
+            start,
             stride: shape.value_size.next_multiple_of(8) as usize,
             holds: 1,
         });
-        self.taken[number] = true;
         self.bytes += size;
         Ok(MapKey { number: key })
     }
@@ -160,7 +162,8 @@ impl Maps {
         entry.holds += 1;
     }
 
-    /// One less holds the map, and at the last it is gone. The values of the other maps may be elsewhere afterwards.
+    /// One less holds the map, and at the last it is gone: the bytes of all maps behind it move down by its area, and these
+    /// maps keep their keys, their places and their values.
     pub fn release(&mut self, map: MapKey, part: &mut [u8])
         requires live { IsSome (live_at self.old map) }
         requires length { length part.old ≡ PART }
@@ -171,6 +174,8 @@ impl Maps {
         ensures others { (other : ℕ) → other ≢ map → held_at self.new other
             ≡ held_at self.old other }
         ensures refused { self.new.refused ≡ self.old.refused }
+        ensures moved { holds_at self.old map ≤ 1 → ClosesUp map self.old self.new }
+        ensures areas { 1 < holds_at self.old map → SameAreas self.old self.new }
         ensures laid { IsLaid self.new }
         ensures values { SameValues self.old part.old self.new part.new }
         ensures maps { KeepsOthers map self.old part.old self.new part.new }
@@ -187,9 +192,12 @@ impl Maps {
             entry.holds -= 1;
             return;
         }
-        let entry = self.slots.remove(map.number);
-        self.taken[entry.number] = false;
-        self.bytes -= entry.map.shape().area() as usize;
+        let gone = self.slots.remove(map.number);
+        let size = gone.map.shape().area() as usize;
+        let end = gone.start + size;
+        part.copy_within(end..FRONT + self.bytes, gone.start);
+        close_gap(&mut self.slots, end, size);
+        self.bytes -= size;
     }
 
     /// Whether a map was ever refused for memory, or a new key of one.
@@ -228,7 +236,7 @@ impl Maps {
         ensures laid { IsLaid self.now }
     {
         let entry = &self.slots[map.number];
-        FRONT + entry.number * AREA + place as usize * entry.stride
+        entry.start + place as usize * entry.stride
     }
 
     /// The place of a key.
@@ -314,24 +322,28 @@ impl Maps {
     }
 }
 
-/// The lowest area that is free, where there is room for so many bytes more.
-fn area_for(taken: &[bool; MAPS], bytes: usize, size: usize) -> Option<usize>
-    requires bytes { bytes ≤ LARGEST_SUM }
-    requires size { size ≤ AREA }
-    ensures room { IfSome result (λ number. bytes + size ≤ LARGEST_SUM) }
-    ensures free { IfSome result (λ number. (number < MAPS)
-        × (slice_index_or taken.now number false ≡ false)) }
-    ensures lowest { IfSome result (λ number. (i : ℕ) → i < number
-        → slice_index_or taken.now i false ≡ true) }
-    ensures none { IfNone result ((LARGEST_SUM < bytes + size) ⊎ (times_true taken.now ≡ MAPS)) }
-{
-    if bytes + size > LARGEST_SUM {
-        return None;
-    }
-    for (number, taken) in taken.iter().enumerate() {
-        if !*taken {
-            return Some(number);
+impl Entry {
+    /// Its area begins lower by `size` where it begins at `end` or behind.
+    fn close_up(&mut self, end: usize, size: usize)
+        requires { size ≤ end }
+        ensures { self.new ≡ closed_up end size self.old }
+    {
+        if self.start >= end {
+            self.start -= size;
         }
     }
-    None
+}
+
+/// Each area from `end` on begins lower by `size`: the one that ended there, and had so many bytes, is gone.
+fn close_gap(slots: &mut Slab<Entry>, end: usize, size: usize)
+    requires size { size ≤ end }
+    requires keys { (k : ℕ) → ContainsKey slots.old k → k < slots.old.capacity }
+    ensures each { (k : ℕ) → get slots.new k ≡ option_map (closed_up end size) (get slots.old k) }
+    ensures capacity { slots.new.capacity ≡ slots.old.capacity }
+{
+    for key in 0..slots.capacity() {
+        if let Some(entry) = slots.get_mut(key) {
+            entry.close_up(end, size);
+        }
+    }
 }

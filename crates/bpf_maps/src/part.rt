@@ -1,18 +1,15 @@
-//! A tenant's part of the memory: its stack, its context, and an area for each of its maps.
+//! A tenant's part of the memory: its stack, its context, and the areas of its maps, one behind the other.
 
 ghost use Rattle.std.specs.Prelude.{◌≡◌, ◌+◌, ◌≤◌, ◌++◌, length, take, drop, replicate};
 
 use reg_kinds::STACK_SIZE;
-use tagged_model::{LARGEST_AREA, LONGEST_KEY};
+use tagged_model::LONGEST_KEY;
 
 /// Room for the words of the context, which take 44 bytes.
 const CONTEXT_ROOM: usize = 64;
 
 /// The bytes before the areas: the stack and the context.
 pub const FRONT: usize = STACK_SIZE + CONTEXT_ROOM;
-
-/// The bytes of an area: the values of a map may take as many.
-pub const AREA: usize = LARGEST_AREA as usize;
 
 /// How many live maps a tenant may have.
 pub const MAPS: usize = 16;
@@ -21,7 +18,7 @@ pub const MAPS: usize = 16;
 pub const LARGEST_SUM: usize = 65_536;
 
 /// The bytes of a part.
-pub const PART: usize = FRONT + MAPS * AREA;
+pub const PART: usize = FRONT + LARGEST_SUM;
 
 /// The bytes of the longest key.
 pub const KEY_ROOM: usize = LONGEST_KEY as usize;

@@ -1,6 +1,6 @@
 //! Answers for a tenant's maps that were worked out by hand from the rules for its part.
 
-ghost use Rattle.std.specs.Prelude.{◌≡◌, ◌<◌, ℕ, length, IfOk, IsSome};
+ghost use Rattle.std.specs.Prelude.{◌≡◌, ◌≢◌, ◌<◌, ℕ, length, None, IfOk, IsSome};
 ghost use Rattle.bpf_maps.specs.declared.part.TheConstants.{PART};
 ghost use Rattle.bpf_maps.specs.Live.{live_at, shape_at, holds_at};
 
@@ -25,8 +25,23 @@ fn create(maps: &mut Maps, shape: MapShape, part: &mut [u8]) -> Result<MapKey, M
     ensures holds { IfOk result (λ map. holds_at maps.new map ≡ 1) }
     ensures others { (map : ℕ) → IsSome (live_at maps.old map) → live_at maps.new map
         ≡ live_at maps.old map }
+    ensures another { IfOk result (λ map. live_at maps.old map ≡ None) }
 {
     maps.create(shape, part)
+}
+
+/// Releases a map that one holds.
+fn release(maps: &mut Maps, map: MapKey, part: &mut [u8])
+    requires live { IsSome (live_at maps.old map) }
+    requires holds { holds_at maps.old map ≡ 1 }
+    requires length { length part.old ≡ PART }
+    ensures length { length part.new ≡ PART }
+    ensures live { (other : ℕ) → other ≢ map → IsSome (live_at maps.old other)
+        → IsSome (live_at maps.new other) }
+    ensures shape { (other : ℕ) → other ≢ map → shape_at maps.new other
+        ≡ shape_at maps.old other }
+{
+    maps.release(map, part);
 }
 
 fn update(maps: &mut Maps, map: MapKey, number: u8, flags: u64) -> Result<u32, MapFault>
@@ -131,6 +146,30 @@ fn a_new_array_holds_zeros(rt: HostRuntime) -> Result<(), Fail> {
     assert_eq!(rt; &part[at..at + 8], [0; 8].as_slice());
     assert_eq!(rt; part[at - 1], 7);
     assert_eq!(rt; part[at + 8], 7);
+    Ok(())
+}
+
+#[test]
+fn the_areas_stand_in_order_and_close_up(rt: HostRuntime) -> Result<(), Fail> {
+    let mut bytes = vec![in rt.alloc(); 0; PART]?;
+    let part = bytes.as_mut_slice();
+    let mut maps = Maps::new(rt.alloc())?;
+    let first = create(&mut maps, shape(MapKind::Array, 8, 1)?, part)?;
+    let second = create(&mut maps, shape(MapKind::Array, 16, 2)?, part)?;
+    let third = create(&mut maps, shape(MapKind::Array, 8, 1)?, part)?;
+    assert_eq!(rt; maps.value_at(first, 0), 576);
+    assert_eq!(rt; maps.value_at(second, 0), 584);
+    assert_eq!(rt; maps.value_at(third, 0), 616);
+    part[584..600].fill(2);
+    part[600..616].fill(3);
+    part[616..624].fill(4);
+    release(&mut maps, first, part);
+    assert_eq!(rt; maps.value_at(second, 0), 576);
+    assert_eq!(rt; maps.value_at(second, 1), 592);
+    assert_eq!(rt; maps.value_at(third, 0), 608);
+    assert_eq!(rt; &part[576..592], [2; 16].as_slice());
+    assert_eq!(rt; &part[592..608], [3; 16].as_slice());
+    assert_eq!(rt; &part[608..616], [4; 8].as_slice());
     Ok(())
 }
 

@@ -26,15 +26,14 @@ pub struct Verified {
 }
 
 impl Model for Verified {
-    ghost use Rattle.std.specs.Prelude.{◌≡◌};
-    ghost use Rattle.verdict.specs.Maps.{maps_of};
-    ghost use Rattle.verifier.specs.Verified.{Accepted, IsVerified};
+    ghost use Rattle.verifier.specs.Verified.{Accepted};
+    ghost use Rattle.verifier.specs.inside.Kept.{IsWholeProgram, as_accepted};
 
     ghost Value = { Accepted };
 
-    ghost view = { λ v. record { code = v.program; entries = v.loaded.entries.items } };
+    ghost view = { as_accepted };
 
-    ghost invariant = { λ v. IsVerified (record { code = v.program; entries = v.loaded.entries.items }) × (v.loaded.maps.items ≡ maps_of v.program) };
+    ghost invariant = { IsWholeProgram };
 }
 
 impl Verified {

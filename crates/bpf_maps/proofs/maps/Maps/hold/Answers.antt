@@ -10,7 +10,7 @@ module _ (c : goal.After-self-1) where
   old = c.index_mut-entry.result.now
 
   abbrev new : Entry
-  new = record { map = old.map; number = old.number; stride = old.stride; holds = old.holds + 1 }
+  new = record { map = old.map; start = old.start; stride = old.stride; holds = old.holds + 1 }
 
   change : IsChange c.self.inside c.args.self.now c.map.inside.number c.args.map old new
   change = record {
@@ -18,7 +18,7 @@ module _ (c : goal.After-self-1) where
     whole = c.self.invariant;
     same = c.map.view_is;
     here = c.index_mut-entry.ensures.value;
-    number = refl;
+    start = refl;
     stride = refl;
     shape = refl;
     held = omega arith;

@@ -1,24 +1,20 @@
 use Rattle.std.proofs.Common.{◌≤◌, subst, arith}
 use Rattle.bpf_maps.specs.declared.part.TheConstants.{LARGEST_SUM, MAPS}
-use Rattle.bpf_maps.specs.Live.{LiveMaps, IsLaid, AreSound, count, areas}
+use Rattle.bpf_maps.specs.Live.{LiveMaps, IsLaid, IsPacked, AreSound, count, areas}
 use Rattle.bpf_maps.specs.InMaps.{as_live_maps}
-use Rattle.bpf_maps.proofs.Totals.{times_most}
-use Rattle.bpf_maps.proofs.Whole.{laid, sound_at}
+use Rattle.bpf_maps.proofs.Whole.{laid, packed, sound_at}
 use Rattle.bpf_maps.proofs.maps.Maps.maps_are_laid.Goals as goal
 
 pub returns : goal.returns
 returns c =
     let is = c.self.invariant in
-    let most = times_most c.self.inside.taken in
-    let all = is.all in
-    let counted = is.counted in
     let sum = is.sum in
     let few = is.few in
-    let maps : count (as_live_maps c.self.inside) ≤ MAPS = omega arith in
     let bytes : areas (as_live_maps c.self.inside) ≤ LARGEST_SUM = omega arith in
     record {
       laid = subst IsLaid c.self.view_is (laid c.self.inside is);
+      packed = subst IsPacked c.self.view_is (packed c.self.inside is);
       sound = subst AreSound c.self.view_is (sound_at c.self.inside is);
-      maps = subst (λ (t : LiveMaps). count t ≤ MAPS) c.self.view_is maps;
+      maps = subst (λ (t : LiveMaps). count t ≤ MAPS) c.self.view_is is.most;
       bytes = subst (λ (t : LiveMaps). areas t ≤ LARGEST_SUM) c.self.view_is bytes;
     }

@@ -15,12 +15,13 @@ invariant_of-result c =
     let h = c.in_ok-with_capacity.ensures.empty in
     record {
       placed = λ k e at. absurd (empty _ k e h at);
-      apart = λ k j e f at bt same. absurd (empty _ k e h at);
-      all = refl;
-      counted = ap (λ (xs : List (Option Entry)). total (λ l. 1) (live_maps_of xs)) (sym h);
+      apart = λ k j e f at bt ne. absurd (empty _ k e h at);
+      below = λ k e at. absurd (empty _ k e h at);
+      most = let n = ap (λ (xs : List (Option Entry)). total (λ l. 1) (live_maps_of xs)) h in omega arith;
       room = c.in_ok-with_capacity.ensures.capacity;
       sum = ap (λ (xs : List (Option Entry)). total area_of (live_maps_of xs)) (sym h);
       few = omega arith;
+      aligned = refl;
     }
 
 pub returns-clause-maps : goal.returns-clause-maps

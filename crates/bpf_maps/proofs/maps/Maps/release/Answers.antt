@@ -1,13 +1,13 @@
-use Rattle.std.proofs.Common.{◌≡◌, ℕ, ◌-◌, ◌<◌, Some, IsSome, refl, ap, sym, subst, is_some, ◌∙◌, option_map, arith}
+use Rattle.std.proofs.Common.{◌≡◌, ℕ, ◌+◌, ◌-◌, ◌<◌, ◌++◌, take, drop, Some, IsSome, refl, ap, sym, subst, is_some, ◌∙◌, option_map, arith, append_assoc}
+use Rattle.bpf_maps.specs.declared.part.TheConstants.{FRONT}
 use Rattle.tagged_model.specs.Shape.{area}
 use Rattle.tagged_model.specs.declared.shape.MapShape.{MapShape}
-use Rattle.bpf_maps.specs.Any.{places_of}
 use Rattle.bpf_maps.specs.Places.{IsSound}
-use Rattle.bpf_maps.specs.Live.{LiveMaps, live_at, places_at, holds_at, AreSound, SameValues, without_area}
+use Rattle.bpf_maps.specs.Live.{LiveMaps, live_at, places_at, holds_at, AreSound, SameValues, without_area, area_of}
 use Rattle.bpf_maps.specs.InMaps.{live_of, as_live_maps}
 use Rattle.bpf_maps.specs.declared.maps.Entry.{Entry}
 use Rattle.bpf_maps.proofs.Changes.{IsChange, with_entry, live_here, live_old, live_new, others_stay, areas_stay, whole_stays, laid_stays, room_stays, values_along, told_of, not_more, less_held}
-use Rattle.bpf_maps.proofs.Released.{IsTaken, without_entry, below_maps, size_most, whole_gone, laid_gone, less_gone, others_gone, areas_gone, none_now, freed_gone}
+use Rattle.bpf_maps.proofs.Released.{IsTaken, IsClosed, without_entry, gone_keys, size_most, whole_gone, laid_gone, less_gone, others_gone, closes_up, none_now, freed_gone, values_gone, front_gone}
 use Rattle.bpf_maps.proofs.Stays.{keeps_live, keeps_held, keeps_places}
 use Rattle.bpf_maps.proofs.Whole.{sound_at}
 use Rattle.bpf_maps.proofs.maps.Maps.release.Goals as goal
@@ -19,7 +19,7 @@ module _ (c : goal.After-self-1) where
   old = c.index_mut-entry.result.now
 
   abbrev new : Entry
-  new = record { map = old.map; number = old.number; stride = old.stride; holds = old.holds - 1 }
+  new = record { map = old.map; start = old.start; stride = old.stride; holds = old.holds - 1 }
 
   change : IsChange c.self.inside c.args.self.now c.map.inside.number c.args.map old new
   change = record {
@@ -27,7 +27,7 @@ module _ (c : goal.After-self-1) where
     whole = c.self.invariant;
     same = c.map.view_is;
     here = c.index_mut-entry.ensures.value;
-    number = refl;
+    start = refl;
     stride = refl;
     shape = refl;
     held = let m = c.if-entry-gt-LAST.true in omega arith;
@@ -91,82 +91,101 @@ returns-then-entry-gt-LAST-clause-freed c =
 
 -- ---- the last
 
-pub bounds-self-inside-entry : goal.bounds-self-inside-entry
-bounds-self-inside-entry c =
-    below_maps c.self.inside c.args.self.now c.map.inside.number c.args.map c.index_mut-entry.result.now c.remove-entry.result
-    (record { view = c.self.view_is; whole = c.self.invariant; same = c.map.view_is; here = c.index_mut-entry.ensures.value; value = c.remove-entry.ensures.value })
-
-pub overflow_sub-self : goal.overflow_sub-self
-overflow_sub-self c =
-    size_most c.self.inside c.args.self.now c.map.inside.number c.args.map c.index_mut-entry.result.now c.remove-entry.result
-    (record { view = c.self.view_is; whole = c.self.invariant; same = c.map.view_is; here = c.index_mut-entry.ensures.value; value = c.remove-entry.ensures.value })
-    c.area.result (c.area.ensures.value ∙ ap (λ (s : MapShape). area s.value_size s.max_entries) c.shape.ensures)
-
-module _ (c : goal.Joined-entry) where
-  gone : IsTaken c.self.inside c.args.self.now c.map.inside.number c.args.map c.index_mut-entry.result.now c.remove-entry.result
-  gone = record { view = c.self.view_is; whole = c.self.invariant; same = c.map.view_is; here = c.index_mut-entry.ensures.value; value = c.remove-entry.ensures.value }
-
-  size : c.area.result ≡ area (places_of c.remove-entry.result.map).shape.value_size (places_of c.remove-entry.result.map).shape.max_entries
-  size = c.area.ensures.value ∙ ap (λ (s : MapShape). area s.value_size s.max_entries) c.shape.ensures
-
-pub invariant_of-self-2 : goal.invariant_of-self-2
-invariant_of-self-2 c = whole_gone c.self.inside c.args.self.now c.map.inside.number c.args.map c.index_mut-entry.result.now c.remove-entry.result (gone c) c.area.result (size c) c.remove-entry.new.self c.remove-entry.ensures.updates.changed c.remove-entry.ensures.updates.others c.remove-entry.ensures.capacity
-
-pub returns-clause-less : goal.returns-clause-less
-returns-clause-less c = less_gone c.self.inside c.args.self.now c.map.inside.number c.args.map c.index_mut-entry.result.now c.remove-entry.result (gone c) c.area.result (size c) c.remove-entry.new.self c.remove-entry.ensures.updates.changed c.remove-entry.ensures.updates.others c.remove-entry.ensures.capacity c.if-entry-gt-LAST.false
-
-pub returns-clause-others : goal.returns-clause-others
-returns-clause-others c = others_gone c.self.inside c.args.self.now c.map.inside.number c.args.map c.index_mut-entry.result.now c.remove-entry.result (gone c) c.area.result (size c) c.remove-entry.new.self c.remove-entry.ensures.updates.changed c.remove-entry.ensures.updates.others c.remove-entry.ensures.capacity
-
-pub returns-clause-laid : goal.returns-clause-laid
-returns-clause-laid c = laid_gone c.self.inside c.args.self.now c.map.inside.number c.args.map c.index_mut-entry.result.now c.remove-entry.result (gone c) c.area.result (size c) c.remove-entry.new.self c.remove-entry.ensures.updates.changed c.remove-entry.ensures.updates.others c.remove-entry.ensures.capacity
-
-pub returns-clause-values : goal.returns-clause-values
-returns-clause-values c =
-    values_along c.args.self.now (as_live_maps (without_entry c.self.inside c.remove-entry.result c.area.result c.remove-entry.new.self)) c.args.part.now
-    (areas_gone c.self.inside c.args.self.now c.map.inside.number c.args.map c.index_mut-entry.result.now c.remove-entry.result (gone c) c.area.result (size c) c.remove-entry.new.self c.remove-entry.ensures.updates.changed c.remove-entry.ensures.updates.others c.remove-entry.ensures.capacity)
-
-pub returns-clause-stays : goal.returns-clause-stays
-returns-clause-stays c =
-    λ more.
-    let here = live_here c.self.inside c.args.self.now c.map.inside.number c.args.map c.index_mut-entry.result.now c.self.view_is c.map.view_is c.index_mut-entry.ensures.value in
-    absurd (not_more c.args.self.now c.args.map (live_of c.index_mut-entry.result.now) here c.if-entry-gt-LAST.false more)
-
-pub returns-clause-shape : goal.returns-clause-shape
-returns-clause-shape c =
-    λ more.
-    let here = live_here c.self.inside c.args.self.now c.map.inside.number c.args.map c.index_mut-entry.result.now c.self.view_is c.map.view_is c.index_mut-entry.ensures.value in
-    absurd (not_more c.args.self.now c.args.map (live_of c.index_mut-entry.result.now) here c.if-entry-gt-LAST.false more)
-
-pub returns-clause-gone : goal.returns-clause-gone
-returns-clause-gone c =
-    λ last. none_now c.self.inside c.args.self.now c.map.inside.number c.args.map c.index_mut-entry.result.now c.remove-entry.result (gone c) c.area.result (size c) c.remove-entry.new.self c.remove-entry.ensures.updates.changed c.remove-entry.ensures.updates.others c.remove-entry.ensures.capacity
-
 pub returns-then-entry-gt-LAST-clause-stays : goal.returns-then-entry-gt-LAST-clause-stays
 returns-then-entry-gt-LAST-clause-stays c = λ more. ap is_some (is c)
 
 pub returns-then-entry-gt-LAST-clause-shape : goal.returns-then-entry-gt-LAST-clause-shape
 returns-then-entry-gt-LAST-clause-shape c = λ more. told_of (λ l. l.places.shape) _ _ (is c) ∙ sym (told_of (λ l. l.places.shape) _ _ (was c))
 
-pub returns-then-entry-gt-LAST-clause-gone : goal.returns-then-entry-gt-LAST-clause-gone
-returns-then-entry-gt-LAST-clause-gone c =
-    λ last.
-    let held = told_of (λ l. l.holds) _ _ (was c) in
-    let more = c.if-entry-gt-LAST.true in
-    absurd (omega arith)
+pub returns-then-entry-gt-LAST-clause-areas : goal.returns-then-entry-gt-LAST-clause-areas
+returns-then-entry-gt-LAST-clause-areas c = λ more. areas_stay c.self.inside c.args.self.now c.map.inside.number c.args.map (old c) (new c) c.self.inside.refused (change c)
 
--- ---- the other maps, and how much room there is
+-- ---- the last one
 
--- that more than one held it is false
-no_more : (c : goal.Joined-entry) → 1 < holds_at c.args.self.now c.args.map → ⊥
-no_more c more =
-    let here = live_here c.self.inside c.args.self.now c.map.inside.number c.args.map c.index_mut-entry.result.now c.self.view_is c.map.view_is c.index_mut-entry.ensures.value in
-    not_more c.args.self.now c.args.map (live_of c.index_mut-entry.result.now) here c.if-entry-gt-LAST.false more
+pub close_gap-requires-clause-keys : goal.close_gap-requires-clause-keys
+close_gap-requires-clause-keys c =
+    gone_keys c.self.inside c.args.self.now c.map.inside.number c.args.map c.index_mut-entry.result.now c.remove-gone.result
+    (record { view = c.self.view_is; whole = c.self.invariant; same = c.map.view_is; here = c.index_mut-entry.ensures.value; value = c.remove-gone.ensures.value })
+    c.remove-gone.new.self c.remove-gone.ensures.updates.changed c.remove-gone.ensures.updates.others c.remove-gone.ensures.capacity
+
+pub overflow_sub-self : goal.overflow_sub-self
+overflow_sub-self c =
+    size_most c.self.inside c.args.self.now c.map.inside.number c.args.map c.index_mut-entry.result.now c.remove-gone.result
+    (record { view = c.self.view_is; whole = c.self.invariant; same = c.map.view_is; here = c.index_mut-entry.ensures.value; value = c.remove-gone.ensures.value })
+    c.area-size.result (c.area-size.ensures.value ∙ ap (λ (s : MapShape). area s.value_size s.max_entries) c.shape.ensures)
+
+module _ (c : goal.Joined-gone) where
+  abbrev last : Entry
+  last = c.remove-gone.result
+
+  gone : IsTaken c.self.inside c.args.self.now c.map.inside.number c.args.map c.index_mut-entry.result.now c.remove-gone.result
+  gone = record { view = c.self.view_is; whole = c.self.invariant; same = c.map.view_is; here = c.index_mut-entry.ensures.value; value = c.remove-gone.ensures.value }
+
+  size : c.area-size.result ≡ area_of (live_of last)
+  size = c.area-size.ensures.value ∙ ap (λ (s : MapShape). area s.value_size s.max_entries) c.shape.ensures
+
+  closed : IsClosed c.self.inside c.map.inside.number (last.start + c.area-size.result) c.area-size.result c.index_mut-entry.result.now c.remove-gone.new.self c.close_gap.new.slots
+  closed = record {
+    gap = c.remove-gone.ensures.updates.changed;
+    others = c.remove-gone.ensures.updates.others;
+    capacity_left = c.remove-gone.ensures.capacity;
+    each = c.close_gap.ensures.each;
+    capacity = c.close_gap.ensures.capacity;
+  }
+
+  abbrev left : LiveMaps
+  left = as_live_maps (without_entry c.self.inside c.area-size.result c.close_gap.new.slots)
+
+  abbrev behind : ℕ
+  behind = FRONT + c.self.inside.bytes - (last.start + c.area-size.result)
+
+  -- the bytes behind it have moved down
+  moved : c.copy_within.new.self ≡ take last.start c.args.part.now ++ (take behind (drop (last.start + c.area-size.result) c.args.part.now) ++ drop (last.start + behind) c.args.part.now)
+  moved = c.copy_within.ensures.after ∙ append_assoc (take last.start c.args.part.now) (take behind (drop (last.start + c.area-size.result) c.args.part.now)) (drop (last.start + behind) c.args.part.now)
+
+  here : live_at c.args.self.now c.args.map ≡ Some (live_of c.index_mut-entry.result.now)
+  here = live_here c.self.inside c.args.self.now c.map.inside.number c.args.map c.index_mut-entry.result.now c.self.view_is c.map.view_is c.index_mut-entry.ensures.value
+
+  -- that more than one held it is false
+  no_more : 1 < holds_at c.args.self.now c.args.map → ⊥
+  no_more more = not_more c.args.self.now c.args.map (live_of c.index_mut-entry.result.now) here c.if-entry-gt-LAST.false more
+
+pub invariant_of-self-2 : goal.invariant_of-self-2
+invariant_of-self-2 c = whole_gone c.self.inside c.args.self.now c.map.inside.number c.args.map c.index_mut-entry.result.now c.remove-gone.result (gone c) c.area-size.result (size c) c.remove-gone.new.self c.close_gap.new.slots (closed c)
+
+pub returns-clause-less : goal.returns-clause-less
+returns-clause-less c = less_gone c.self.inside c.args.self.now c.map.inside.number c.args.map c.index_mut-entry.result.now c.remove-gone.result (gone c) c.area-size.result (size c) c.remove-gone.new.self c.close_gap.new.slots (closed c) c.if-entry-gt-LAST.false
+
+pub returns-clause-stays : goal.returns-clause-stays
+returns-clause-stays c = λ more. absurd (no_more c more)
+
+pub returns-clause-shape : goal.returns-clause-shape
+returns-clause-shape c = λ more. absurd (no_more c more)
+
+pub returns-clause-gone : goal.returns-clause-gone
+returns-clause-gone c = λ last. none_now c.self.inside c.args.self.now c.map.inside.number c.args.map c.index_mut-entry.result.now c.remove-gone.result (gone c) c.area-size.result (size c) c.remove-gone.new.self c.close_gap.new.slots (closed c)
+
+pub returns-clause-others : goal.returns-clause-others
+returns-clause-others c = others_gone c.self.inside c.args.self.now c.map.inside.number c.args.map c.index_mut-entry.result.now c.remove-gone.result (gone c) c.area-size.result (size c) c.remove-gone.new.self c.close_gap.new.slots (closed c)
+
+pub returns-clause-moved : goal.returns-clause-moved
+returns-clause-moved c = λ last. closes_up c.self.inside c.args.self.now c.map.inside.number c.args.map c.index_mut-entry.result.now c.remove-gone.result (gone c) c.area-size.result (size c) c.remove-gone.new.self c.close_gap.new.slots (closed c)
+
+pub returns-clause-areas : goal.returns-clause-areas
+returns-clause-areas c = λ more. absurd (no_more c more)
+
+pub returns-clause-laid : goal.returns-clause-laid
+returns-clause-laid c = laid_gone c.self.inside c.args.self.now c.map.inside.number c.args.map c.index_mut-entry.result.now c.remove-gone.result (gone c) c.area-size.result (size c) c.remove-gone.new.self c.close_gap.new.slots (closed c)
+
+pub returns-clause-values : goal.returns-clause-values
+returns-clause-values c =
+    values_gone c.self.inside c.args.self.now c.map.inside.number c.args.map c.index_mut-entry.result.now c.remove-gone.result (gone c) c.area-size.result (size c) c.remove-gone.new.self c.close_gap.new.slots (closed c)
+    c.args.part.now c.copy_within.new.self c.requires.length (moved c)
 
 pub returns-clause-maps : goal.returns-clause-maps
 returns-clause-maps c =
     λ other ne live.
-    keeps_held c.args.self.now (as_live_maps (without_entry c.self.inside c.remove-entry.result c.area.result c.remove-entry.new.self)) c.args.part.now c.args.part.now other (returns-clause-values c)
+    keeps_held c.args.self.now (left c) c.args.part.now c.copy_within.new.self other (returns-clause-values c)
     (subst AreSound c.self.view_is (sound_at c.self.inside c.self.invariant) other) (returns-clause-others c other ne) live
 
 pub returns-clause-kept : goal.returns-clause-kept
@@ -176,4 +195,9 @@ pub returns-clause-room : goal.returns-clause-room
 returns-clause-room c = λ more. absurd (no_more c more)
 
 pub returns-clause-freed : goal.returns-clause-freed
-returns-clause-freed c = λ last. freed_gone c.self.inside c.args.self.now c.map.inside.number c.args.map c.index_mut-entry.result.now c.remove-entry.result (gone c) c.area.result (size c) c.remove-entry.new.self c.remove-entry.ensures.updates.changed c.remove-entry.ensures.updates.others c.remove-entry.ensures.capacity
+returns-clause-freed c = λ last. freed_gone c.self.inside c.args.self.now c.map.inside.number c.args.map c.index_mut-entry.result.now c.remove-gone.result (gone c) c.area-size.result (size c) c.remove-gone.new.self c.close_gap.new.slots (closed c)
+
+pub returns-clause-front : goal.returns-clause-front
+returns-clause-front c =
+    front_gone c.self.inside c.args.self.now c.map.inside.number c.args.map c.index_mut-entry.result.now c.remove-gone.result (gone c) c.area-size.result (size c) c.remove-gone.new.self c.close_gap.new.slots (closed c)
+    c.args.part.now c.copy_within.new.self c.requires.length (moved c)

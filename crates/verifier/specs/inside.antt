@@ -1,0 +1,2 @@
+-- What private contracts and proofs cite. No public contract names it.
+pub mod Kept

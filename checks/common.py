@@ -1,4 +1,4 @@
-"""What both checks use: the client of examples/, numbers as bytes, and a program that looks up index 0 of an array."""
+"""What the checks use: the client of examples/, numbers as bytes, and a program that looks up index 0 of an array."""
 
 import sys
 from pathlib import Path

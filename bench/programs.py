@@ -8,7 +8,8 @@ ADD64_K, ADD64_X, XOR64_X, AND64_K, LSH64_K, RSH64_K, MUL32_K = 0x07, 0x0F, 0xAF
 MOV64_K, MOV64_X, BIG_ENDIAN, WIDE = 0xB7, 0xBF, 0xDC, 0x18
 LOAD_BYTE, LOAD_HALF, LOAD_WORD, LOAD_DOUBLE = 0x71, 0x69, 0x61, 0x79
 STORE_WORD_K, STORE_DOUBLE_K, STORE_WORD, STORE_DOUBLE = 0x62, 0x7A, 0x63, 0x7B
-JA, JEQ_K, JGT_K, JSET_K, JNE_K, CALL, EXIT = 0x05, 0x15, 0x25, 0x45, 0x55, 0x85, 0x95
+ATOMIC_DOUBLE, ATOMIC_ADD = 0xDB, 0x00
+JA, JEQ_K, JGT_K, JGE_X, JSET_K, JNE_K, CALL, EXIT = 0x05, 0x15, 0x25, 0x3D, 0x45, 0x55, 0x85, 0x95
 LOOK_UP, UPDATE, LOAD_BYTES = 1, 2, 26
 HASH, ARRAY = 1, 2
 
@@ -30,6 +31,11 @@ def call(helper):
 
 def loads_map(dst, fd):
     return [slot(WIDE, dst, 1, imm=fd), bytes(8)]
+
+
+def loads_value(dst, fd, off):
+    """The address of the one value of an array, plus an offset."""
+    return [slot(WIDE, dst, 2, imm=fd), slot(0, imm=off)]
 
 
 @dataclass
@@ -219,6 +225,44 @@ def counter():
     return Program(slots, maps=maps, executed=16 * 10 + 3)
 
 
+def counts_and_keeps_greatest(counts_one, rounds):
+    """Counts words of the context, and keeps the greatest: two global variables, in an array of one element as compilers do.
+
+    `counts_one` adds 1 to the number at register 4. Beside it a round executes five instructions once the greatest word is there: a
+    wide load is one of two slots, and the last store is jumped over.
+    """
+    slots = []
+    for number in range(rounds):
+        slots += [
+            slot(LOAD_WORD, 3, 1, off=4 * (number % 11)),
+            *loads_value(4, 3, 0),
+            *counts_one,
+            *loads_value(4, 3, 8),
+            slot(LOAD_DOUBLE, 0, 4),
+            slot(JGE_X, 0, 3, off=1),
+            slot(STORE_DOUBLE, 4, 3),
+        ]
+    return slots
+
+
+GLOBALS = [(ARRAY, 4, 16, 1)]
+
+
+def globals_of(rounds):
+    """The counter is loaded, added to and stored, each time."""
+    counts_one = [slot(LOAD_DOUBLE, 5, 4), slot(ADD64_K, 5, imm=1), slot(STORE_DOUBLE, 4, 5)]
+    slots = [*counts_and_keeps_greatest(counts_one, rounds), slot(ADD64_X, 0, 5), slot(EXIT)]
+    return Program(slots, maps=GLOBALS, executed=8 * rounds + 2)
+
+
+def atomic_globals_of(rounds):
+    """The counter is added to by one atomic operation in their place."""
+    counts_one = [slot(ATOMIC_DOUBLE, 4, 6, imm=ATOMIC_ADD)]
+    adds_counter = [*loads_value(4, 3, 0), slot(LOAD_DOUBLE, 5, 4), slot(ADD64_X, 0, 5)]
+    slots = [slot(MOV64_K, 6, imm=1), *counts_and_keeps_greatest(counts_one, rounds), *adds_counter, slot(EXIT)]
+    return Program(slots, maps=GLOBALS, executed=6 * rounds + 5)
+
+
 RUN = {
     "empty": empty,
     "arithmetic, long": lambda: arithmetic(499),
@@ -228,6 +272,8 @@ RUN = {
     "stack, one chain": stack_chain,
     "parser": parser,
     "counter": counter,
+    "globals": lambda: globals_of(100),
+    "globals, atomic": lambda: atomic_globals_of(100),
 }
 
 # Programs that are only loaded: 4,096 slots each.

@@ -26,6 +26,6 @@ exit
 """
 
 
-def number(value, size):
+def number(value: int, size: int) -> bytes:
     """A number as so many bytes, the lowest first."""
     return value.to_bytes(size, "little")

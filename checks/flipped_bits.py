@@ -87,6 +87,29 @@ r0 = 1
 exit
 """
 
+COUNTS_AND_KEEPS_GREATEST = f"""
+r1 = *(u32 *)(r1 + 0)
+r2 = map_value {MAP} + 0 ll
+r3 = *(u32 *)(r2 + 0)
+r3 += 1
+*(u32 *)(r2 + 0) = r3
+r2 = map_value {MAP} + 4 ll
+r0 = *(u32 *)(r2 + 0)
+if r0 >= r1 goto out
+*(u32 *)(r2 + 0) = r1
+out:
+r0 += r3
+exit
+"""
+
+ADDS_ATOMICALLY = f"""
+r1 = map_value {MAP} + 0 ll
+r2 = 2
+lock *(u64 *)(r1 + 0) += r2
+r0 = *(u64 *)(r1 + 0)
+exit
+"""
+
 COPIES_PACKET = """
 *(u32 *)(r10 - 8) = -1
 r2 = 0
@@ -116,6 +139,8 @@ CASES = [
     Case("a look-up", READS_INDEX, (client.map_create(FLIPPED, client.MapType.ARRAY, 4, 8, 1),)),
     Case("a byte of a value", BYTE_OF_VALUE, array_with(bytes(range(10, 18)))),
     Case("a deleted value", WRITES_WHAT_IT_DELETED, HASH_OF_ONE),
+    Case("a counter and a maximum", COUNTS_AND_KEEPS_GREATEST, array_with(number(2, 4) + number(3, 4))),
+    Case("an atomic addition", ADDS_ATOMICALLY, array_with(number(5, 8))),
     Case("bytes of the packet", COPIES_PACKET),
     Case("the packet's length", TESTS_LENGTH),
 ]

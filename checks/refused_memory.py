@@ -39,6 +39,15 @@ call 2
 exit
 """
 
+# Adds 1 to index 0 of an array of one element, and answers what it holds.
+COUNTS = f"""
+r1 = map_value {MAP} + 0 ll
+r0 = *(u64 *)(r1 + 0)
+r0 += 1
+*(u64 *)(r1 + 0) = r0
+exit
+"""
+
 
 class Differs(Exception):
     """An answer that no refusal explains."""
@@ -74,17 +83,21 @@ def of_first_tenant(slots):
     ]
 
 
-def of_second_tenant(slots):
-    """An array and a program that reads it."""
+def of_second_tenant(slots, direct):
+    """An array, a program that reads it, and one that counts in it by a direct load."""
     return [
         Step(client.map_create(1, client.MapType.ARRAY, 4, 8, 1), grows=True),
         Step(client.map_update(1, MAP, number(0, 4), number(5, 8))),
         Step(client.prog_load(1, slots), grows=True),
         Step(client.prog_test_run(1, PROGRAM)),
         Step(client.map_lookup(1, MAP, number(0, 4))),
+        Step(client.prog_load(1, direct), grows=True),
+        Step(client.prog_test_run(1, THIRD)),
         Step(client.prog_test_run(1, PROGRAM)),
         Step(client.close(1, MAP)),
         Step(client.prog_test_run(1, PROGRAM)),
+        Step(client.close(1, PROGRAM)),
+        Step(client.prog_test_run(1, THIRD)),
     ]
 
 
@@ -195,13 +208,13 @@ def check_words(bpfhost, refusals, words, given, wanted, unseen=0):
 
 def main():
     bpfhost, library = sys.argv[1:]
-    slots = client.assemble(bpfhost, PUTS_KEY), client.assemble(bpfhost, READS_INDEX)
-    steps = in_turn(of_first_tenant(slots[0]), of_second_tenant(slots[1]))
+    puts, reads, counts = (client.assemble(bpfhost, text) for text in (PUTS_KEY, READS_INDEX, COUNTS))
+    steps = in_turn(of_first_tenant(puts), of_second_tenant(reads, counts))
     with client.Host(bpfhost, TENANTS) as host:
         wanted = [host.ask(step.frame) for step in steps]
     if any(reply.status < 0 for reply in wanted):
         raise Differs("a reply is an error where memory is ample")
-    lines = client.hex_lines(slots[1]).encode()
+    lines = client.hex_lines(reads).encode()
     texts = [
         (["asm"], READS_INDEX.encode(), 0),
         (["dis"], lines, 0),

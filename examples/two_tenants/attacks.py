@@ -43,6 +43,9 @@ PROGRAMS = {
     "answers a register that it has not written": "r0 = r5\n exit",
     "reads at an address of its choice": "r1 = 0x7fff00001000 ll\n r0 = *(u64 *)(r1 + 0)\n exit",
     "loads the other tenant's map": f"r1 = map_fd {FOREIGN_MAP} ll\n r0 = 0\n exit",
+    "loads an address in the other tenant's map": f"r1 = map_value {FOREIGN_MAP} + 0 ll\n r0 = 0\n exit",
+    "loads an address behind its map's value": f"r1 = map_value {OWN_MAP} + 8 ll\n r0 = 0\n exit",
+    "reads from the middle of its map's value to behind it": f"r1 = map_value {OWN_MAP} + 4 ll\n r0 = *(u64 *)(r1 + 0)\n exit",
     "reads behind its map's value": AT_VALUE + "r0 = *(u64 *)(r0 + 8)\n exit",
     "reads before its map's value": AT_VALUE + "r0 = *(u64 *)(r0 - 1)\n exit",
     "reads through a look-up that may be null": LOOK_UP + "r0 = *(u64 *)(r0 + 0)\n exit",
@@ -50,6 +53,11 @@ PROGRAMS = {
     + "r1 = *(u64 *)(r0 + 0)\n r0 += r1\n r0 = *(u8 *)(r0 + 0)\n exit",
     "answers an address": "r0 = r10\n exit",
     "keeps an address in its map": AT_VALUE + "*(u64 *)(r0 + 0) = r10\n r0 = 0\n exit",
+    "adds to an address that it keeps in its stack": "*(u64 *)(r10 - 8) = r10\n r1 = 8\n"
+    + "lock *(u64 *)(r10 - 8) += r1\n r0 = *(u64 *)(r10 - 8)\n r0 = *(u64 *)(r0 + 0)\n exit",
+    "adds an address to a number in its map": AT_VALUE + "lock *(u64 *)(r0 + 0) += r10\n r0 = 0\n exit",
+    "adds to four bytes of its map's value at an odd offset": AT_VALUE
+    + "r1 = 1\n lock *(u32 *)(r0 + 1) += r1\n r0 = 0\n exit",
     "writes into the context": "*(u32 *)(r1 + 0) = 0\n r0 = 0\n exit",
     "calls a helper that the host does not have": "call 6\n exit",
     "loops": "again:\n r0 = 0\n goto again",

@@ -19,7 +19,7 @@ use Rattle.arena.specs.PartLaws.{part_within}
 use Rattle.bpf_maps.specs.Live.{LiveMaps}
 use Rattle.bpf_helpers.specs.Layout.{Layout, IsWord, HasCell}
 use Rattle.bpf_helpers.specs.Stands.{stack_top, IsRoom, StandsFor}
-use Rattle.bpf_helpers.specs.Accesses.{address_from, StoresStand}
+use Rattle.bpf_helpers.specs.Accesses.{address_from, PointerFits, StoresStand}
 use Rattle.bpf_helpers.proofs.Many.{also_some}
 use Rattle.bpf_helpers.proofs.Inputs.{memory_long}
 use Rattle.bpf_helpers.proofs.Outputs.{cell_kept, words_kept, maps_behind, others_behind, changed_after, object_overwritten}
@@ -34,7 +34,7 @@ module _ (writes : WritesStayInside) (l : Layout) (bind : List ℕ) (old : Memor
   -- ---- the stack
 
   -- the slot that is written, and the others
-  cells_after : (size : AccessSize) (q w : ℕ) (v : Tagged) (d : Cell) → q + bytes_of size ≤ 512 → q % bytes_of size ≡ 0 → IsWord l v w → w < 2 ^ 64 → write_cell (s.cells (q / 8)) (q % 8) size v ≡ Some d → (k : ℕ) → k < 64 → HasCell l (written_at memory.bytes (part_start old t + q) (low_bytes (bytes_of size) w)) (part_start old t + 8 * k) (set_at s.cells (q / 8) d k)
+  cells_after : (size : AccessSize) (q w : ℕ) (v : Tagged) (d : Cell) → q + bytes_of size ≤ 512 → q % bytes_of size ≡ 0 → IsWord l v w → PointerFits v w → write_cell (s.cells (q / 8)) (q % 8) size v ≡ Some d → (k : ℕ) → k < 64 → HasCell l (written_at memory.bytes (part_start old t + q) (low_bytes (bytes_of size) w)) (part_start old t + 8 * k) (set_at s.cells (q / 8) d k)
   cells_after size q w v d within even h small e k lt =
       let start = part_start old t in
       let n = bytes_of size in
@@ -53,7 +53,7 @@ module _ (writes : WritesStayInside) (l : Layout) (bind : List ℕ) (old : Memor
       apart : (start k q n l : ℕ) → l ≡ n → q % 8 + n ≤ 8 → (k ≡ q / 8 → ⊥) → (start + 8 * k + 8 ≤ start + q) ⊎ (start + q + l ≤ start + 8 * k)
       apart start k q n l e r other = ⊎_elim (λ below. inl (omega arith)) (λ above. inr (omega arith)) (cases_lt k (q / 8))
 
-  stack_stored : (size : AccessSize) (x off : ℤ) (w y : ℕ) (v : Tagged) (u : RunState) → pos w ≡ pos l.front +ℤ x → IsWord l v y → y < 2 ^ 64 → stack_store s (x +ℤ off) size v ≡ Some u → Stores (bytes_of size) (low_bytes (bytes_of size) y) (address_from w off) u
+  stack_stored : (size : AccessSize) (x off : ℤ) (w y : ℕ) (v : Tagged) (u : RunState) → pos w ≡ pos l.front +ℤ x → IsWord l v y → PointerFits v y → stack_store s (x +ℤ off) size v ≡ Some u → Stores (bytes_of size) (low_bytes (bytes_of size) y) (address_from w off) u
   unfolding Stores
   stack_stored size x off w y v u h word small e =
       let start = part_start old t in
@@ -117,7 +117,7 @@ module _ (writes : WritesStayInside) (l : Layout) (bind : List ℕ) (old : Memor
   value_stored size m number x off w y (Map k) u h placed word e = absurd (none-some u e)
   value_stored size m number x off w y (Pointer o z) u h placed word e = absurd (none-some u e)
 
-  stored : (size : AccessSize) (p : Tagged) (off : ℤ) (w y : ℕ) (v : Tagged) (u : RunState) → IsWord l p w → IsWord l v y → y < 2 ^ 64 → store s size p off v ≡ Some u → Stores (bytes_of size) (low_bytes (bytes_of size) y) (address_from w off) u
+  stored : (size : AccessSize) (p : Tagged) (off : ℤ) (w y : ℕ) (v : Tagged) (u : RunState) → IsWord l p w → IsWord l v y → PointerFits v y → store s size p off v ≡ Some u → Stores (bytes_of size) (low_bytes (bytes_of size) y) (address_from w off) u
   stored size (Pointer object.Stack x) off w y v u h word small e = stack_stored size x off w y v u h.0 word small e
   stored size (Pointer (object.Value m number) x) off w y v u h word small e = value_stored size m number x off w y v u h.0 h.2 word e
   stored size p off w y v u h word small e = absurd (none-some u e)

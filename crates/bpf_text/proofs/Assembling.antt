@@ -10,7 +10,7 @@ use Rattle.std.proofs.lemmas.List.{take_more, take_all, map-append, length-map, 
 use Rattle.std.proofs.lemmas.List.Sums.{sum_by-cons}
 use Rattle.insn_codec.specs.declared.TheConstants.{MAX_SLOTS}
 use Rattle.insn_codec.specs.declared.insn.Insn.{Insn}
-use Rattle.insn_codec.specs.declared.insn.Insn.TheVariants.{Alu, Movsx, Neg, End, Ja, Jal, Jump, Call, Exit, Load, Store, Const, MapFd}
+use Rattle.insn_codec.specs.declared.insn.Insn.TheVariants.{Alu, Movsx, Neg, End, Ja, Jal, Jump, Call, Exit, Load, Store, Atomic, Const, MapFd, MapValue}
 use Rattle.insn_codec.specs.Spelling.{slots}
 use Rattle.insn_codec.specs.Program.{slot_count}
 use Rattle.text_line.specs.declared.form.Form.{Form}
@@ -176,8 +176,10 @@ resolved_slots z (form.Call id) = refl
 resolved_slots z form.Exit = refl
 resolved_slots z (form.Load size signed dst src offset) = refl
 resolved_slots z (form.Store size dst src offset) = refl
+resolved_slots z (form.Atomic size op dst src offset) = refl
 resolved_slots z (form.Const dst value) = refl
 resolved_slots z (form.MapFd dst fd) = refl
+resolved_slots z (form.MapValue dst fd off) = refl
 
 pub written_slots : (insn : Insn) → form_slots (written insn) ≡ length (slots insn)
 written_slots (Alu wide op dst src) = refl
@@ -191,8 +193,10 @@ written_slots (Call id) = refl
 written_slots Exit = refl
 written_slots (Load l) = refl
 written_slots (Store size dst src off) = refl
+written_slots (Atomic size op dst src off) = refl
 written_slots (Const dst value) = refl
 written_slots (MapFd dst fd) = refl
+written_slots (MapValue dst fd off) = refl
 
 forms_slots : (all : List (Option Line)) (slot : ℕ) (lines : List (Option Line)) → sum_by form_slots (forms_from all slot lines) ≡ slots_on lines
 unfolding forms_from slots_on

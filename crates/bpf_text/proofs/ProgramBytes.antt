@@ -12,9 +12,10 @@ use Rattle.insn_codec.specs.declared.insn.Size.TheVariants as size
 use Rattle.insn_codec.specs.declared.insn.Operand.{Operand}
 use Rattle.insn_codec.specs.declared.insn.Operand.TheVariants.{Imm, Reg}
 use Rattle.insn_codec.specs.declared.insn.Insn.{Insn}
-use Rattle.insn_codec.specs.declared.insn.Insn.TheVariants.{Alu, Movsx, Neg, End, Ja, Jal, Jump, Call, Exit, Load, Store, Const, MapFd}
+use Rattle.insn_codec.specs.declared.insn.Insn.TheVariants.{Alu, Movsx, Neg, End, Ja, Jal, Jump, Call, Exit, Load, Store, Atomic, Const, MapFd, MapValue}
 use Rattle.insn_codec.specs.declared.slot.SlotFields.{SlotFields}
 use Rattle.insn_codec.specs.Slot.{slot, slot_bytes}
+use Rattle.insn_codec.specs.Sizes.{access_size}
 use Rattle.insn_codec.specs.Numbers.{opcode, alu_number, alu_class, end_opcode, size_number, load_mode, memory_opcode}
 use Rattle.insn_codec.specs.Spelling.{source_bit, src_field, first, spelling, IsInsn, IsOperand}
 use Rattle.insn_codec.specs.Program.{program_bytes, slot_count, IsProgram}
@@ -90,11 +91,11 @@ size_small size.Half = lit≤ tt
 size_small size.Word = lit≤ tt
 size_small size.Double = lit≤ tt
 
-mode_small : (signed : Bool) → load_mode signed ≤ 4
+mode_small : (signed : Bool) → load_mode signed ≤ 6
 mode_small true = lit≤ tt
 mode_small false = lit≤ tt
 
-memory_small : (mode class : ℕ) (s : Size) → mode ≤ 4 → class ≤ 3 → memory_opcode mode s class < 256
+memory_small : (mode class : ℕ) (s : Size) → mode ≤ 6 → class ≤ 3 → memory_opcode mode s class < 256
 memory_small mode class s a b = omega (arith, size_small s)
 
 first_small : (i : Insn) → IsInsn i → IsSmall (first i)
@@ -109,8 +110,10 @@ first_small (Call id) h = record { opcode = lit< tt; dst = lit≤ tt; src = lit�
 first_small Exit h = record { opcode = lit< tt; dst = lit≤ tt; src = lit≤ tt }
 first_small (Load l) h = record { opcode = memory_small (load_mode l.signed) 1 l.size (mode_small l.signed) (lit≤ tt); dst = h.0; src = h.1 }
 first_small (Store s dst src off) h = record { opcode = memory_small 3 (2 + source_bit src) s (lit≤ tt) (omega (arith, source_small src)); dst = h.0; src = src_small src h.1 }
+first_small (Atomic size op dst src off) h = record { opcode = memory_small 6 3 (access_size size) (lit≤ tt) (lit≤ tt); dst = h.0; src = h.1 }
 first_small (Const dst value) h = record { opcode = lit< tt; dst = h.0; src = lit≤ tt }
 first_small (MapFd dst fd) h = record { opcode = lit< tt; dst = h.0; src = lit≤ tt }
+first_small (MapValue dst fd off) h = record { opcode = lit< tt; dst = h.0; src = lit≤ tt }
 
 none_small : (imm : ℕ) → IsSmall (slot 0 0 0 0 imm)
 none_small imm = record { opcode = lit< tt; dst = lit≤ tt; src = lit≤ tt }
@@ -121,6 +124,8 @@ spelling_are_bytes (Const dst value) h =
     are_bytes-append (slot_bytes (first (Const dst value))) (slot_bytes (slot 0 0 0 0 (value / 2 ^ 32))) (slot_are_bytes (first (Const dst value)) (first_small (Const dst value) h)) (slot_are_bytes (slot 0 0 0 0 (value / 2 ^ 32)) (none_small (value / 2 ^ 32)))
 spelling_are_bytes (MapFd dst fd) h =
     are_bytes-append (slot_bytes (first (MapFd dst fd))) (slot_bytes (slot 0 0 0 0 0)) (slot_are_bytes (first (MapFd dst fd)) (first_small (MapFd dst fd) h)) (slot_are_bytes (slot 0 0 0 0 0) (none_small 0))
+spelling_are_bytes (MapValue dst fd off) h =
+    are_bytes-append (slot_bytes (first (MapValue dst fd off))) (slot_bytes (slot 0 0 0 0 off)) (slot_are_bytes (first (MapValue dst fd off)) (first_small (MapValue dst fd off) h)) (slot_are_bytes (slot 0 0 0 0 off) (none_small off))
 spelling_are_bytes i h = slot_are_bytes (first i) (first_small i h)
 
 program_are_bytes : (insns : List Insn) → AllByRecursion IsInsn insns → IsBytes (program_bytes insns)

@@ -1,12 +1,17 @@
 -- Known texts: how slots and instructions are written, and what a line of hex digits is.
-use Rattle.std.specs.Prelude.{◌≡◌, [], ◌∷◌, codes, true, pos, negsuc, refl, Some, None}
+use Rattle.std.specs.Prelude.{◌≡◌, ℕ, [], ◌∷◌, codes, Bool, true, false, pos, negsuc, refl, Option, Some, None}
 use Rattle.insn_codec.specs.declared.insn.AluOp.TheVariants.{Mov}
 use Rattle.insn_codec.specs.declared.insn.Condition.TheVariants.{SignedBelow}
 use Rattle.insn_codec.specs.declared.insn.Operand.TheVariants.{Imm, Reg}
 use Rattle.insn_codec.specs.declared.insn.Size.TheVariants.{Half, Byte}
-use Rattle.insn_codec.specs.declared.insn.Insn.TheVariants.{Alu, Jump, Exit, Load, Store, Const, MapFd}
+use Rattle.insn_codec.specs.declared.insn.AtomicSize.TheVariants as atomic_size
+use Rattle.insn_codec.specs.declared.insn.AtomicOp.TheVariants as atomic
+use Rattle.insn_codec.specs.declared.insn.Insn.TheVariants.{Alu, Jump, Exit, Load, Store, Atomic, Const, MapFd, MapValue}
 use Rattle.std.specs.Fmt.{digits}
 use Rattle.hex.proofs.OnLiterals.{hex_on_literals}
+use Rattle.text_line.specs.declared.form.Form.{Form}
+use Rattle.text_line.specs.declared.form.Form.TheVariants as form
+use Rattle.text_line.specs.Ranges.{form_fits, form_slots}
 use Rattle.text_line.specs.Written.{printed_insn}
 use Rattle.bpf_text.specs.HexText.{hex_text, hex_line}
 use Rattle.bpf_text.specs.Printed.{printed}
@@ -30,5 +35,55 @@ printed_lines :
     × (printed (Store Byte 10 (Imm (pos 5)) (pos 4) ∷ []) ≡ codes "*(u8 *)(r10 + 4) = 5\n")
     × (printed (Const 2 18446744069414584327 ∷ []) ≡ codes "r2 = 18446744069414584327 ll\n")
     × (printed (MapFd 1 (negsuc 2) ∷ []) ≡ codes "r1 = map_fd -3 ll\n")
+    × (printed (MapValue 1 (pos 3) 4 ∷ []) ≡ codes "r1 = map_value 3 + 4 ll\n")
+    × (printed (MapValue 10 (negsuc 0) 4294967295 ∷ []) ≡ codes "r10 = map_value -1 + 4294967295 ll\n")
 unfolding printed_insn digits
-printed_lines = (refl, refl, refl, refl, refl, refl)
+printed_lines = (refl, refl, refl, refl, refl, refl, refl, refl)
+
+printed_atomics :
+    (printed (Atomic atomic_size.Double atomic.Add 10 1 (negsuc 7) ∷ []) ≡ codes "lock *(u64 *)(r10 - 8) += r1\n")
+    × (printed (Atomic atomic_size.Word atomic.Or 1 10 (pos 0) ∷ []) ≡ codes "lock *(u32 *)(r1 + 0) |= r10\n")
+    × (printed (Atomic atomic_size.Double atomic.And 0 9 (pos 32767) ∷ []) ≡ codes "lock *(u64 *)(r0 + 32767) &= r9\n")
+    × (printed (Atomic atomic_size.Word atomic.Xor 9 0 (negsuc 32767) ∷ []) ≡ codes "lock *(u32 *)(r9 - 32768) ^= r0\n")
+unfolding printed_insn digits
+printed_atomics = (refl, refl, refl, refl)
+
+-- an offset has 15 bits and a sign
+addition_at : Bool → Option ℕ → Form
+addition_at negative offset = form.Atomic atomic_size.Double atomic.Add 10 1 (record { negative = negative; magnitude = offset })
+
+ranges_of_atomics :
+    (form_fits (addition_at false (Some 0)) ≡ true)
+    × (form_fits (addition_at false (Some 32767)) ≡ true)
+    × (form_fits (addition_at false (Some 32768)) ≡ false)
+    × (form_fits (addition_at true (Some 0)) ≡ true)
+    × (form_fits (addition_at true (Some 32768)) ≡ true)
+    × (form_fits (addition_at true (Some 32769)) ≡ false)
+    × (form_fits (addition_at false None) ≡ false)
+    × (form_fits (addition_at true None) ≡ false)
+unfolding addition_at
+ranges_of_atomics = (refl, refl, refl, refl, refl, refl, refl, refl)
+
+slots_of_atomics : form_slots (addition_at true (Some 8)) ≡ 1
+unfolding addition_at
+slots_of_atomics = refl
+
+-- a descriptor has 31 bits and a sign, the offset in a map's value 32 bits and none
+load_of_value : Bool → ℕ → Option ℕ → Form
+load_of_value negative fd off = form.MapValue 1 (record { negative = negative; magnitude = Some fd }) off
+
+ranges_of_map_values :
+    (form_fits (load_of_value false 3 (Some 4294967295)) ≡ true)
+    × (form_fits (load_of_value false 3 (Some 4294967296)) ≡ false)
+    × (form_fits (load_of_value false 3 None) ≡ false)
+    × (form_fits (load_of_value true 1 (Some 0)) ≡ true)
+    × (form_fits (load_of_value true 2147483648 (Some 0)) ≡ true)
+    × (form_fits (load_of_value true 2147483649 (Some 0)) ≡ false)
+    × (form_fits (load_of_value false 2147483647 (Some 0)) ≡ true)
+    × (form_fits (load_of_value false 2147483648 (Some 0)) ≡ false)
+unfolding load_of_value
+ranges_of_map_values = (refl, refl, refl, refl, refl, refl, refl, refl)
+
+slots_of_map_values : form_slots (load_of_value false 3 (Some 4)) ≡ 2
+unfolding load_of_value
+slots_of_map_values = refl

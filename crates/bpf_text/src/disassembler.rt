@@ -2,7 +2,7 @@
 
 ghost use Rattle.std.specs.Prelude.{◌≡◌, ◌++◌, [], true, false, IfOk, OnOk};
 ghost use Rattle.std.specs.String.{string_bytes};
-ghost use Rattle.text_line.specs.Names.{operator_name, condition_name, order_name, narrow_name, size_name, register_name};
+ghost use Rattle.text_line.specs.Names.{operator_name, condition_name, order_name, narrow_name, size_name, atomic_name, register_name};
 ghost use Rattle.text_line.specs.Form.{operand as operand_layout, constant as constant_layout};
 ghost use Rattle.text_line.specs.Written.{number_of, source_of, laid_out, printed_insn};
 ghost use Rattle.bpf_text.specs.Assembly.{IsAssembled};
@@ -11,7 +11,8 @@ ghost use Rattle.bpf_text.specs.inside.Signs.{signed_bytes};
 
 use crate::laws::printed_text_is_assembled;
 use insn_codec::{
-    AluOp, Bits, ByteOrder, Condition, Insn, Load, Movsx, Narrow, Operand, Program, Reg, Size,
+    AluOp, AtomicOp, AtomicSize, Bits, ByteOrder, Condition, Insn, Load, Movsx, Narrow, Operand,
+    Program, Reg, Size,
 };
 use std::alloc::{AllocError, Global};
 use std::fmt::Write;
@@ -98,6 +99,17 @@ fn size_name(signed: bool, size: Size) -> &'static str
     }
 }
 
+fn atomic_name(op: AtomicOp) -> &'static str
+    ensures { result.now ≡ atomic_name op }
+{
+    match op {
+        AtomicOp::Add => "+=",
+        AtomicOp::Or => "|=",
+        AtomicOp::And => "&=",
+        AtomicOp::Xor => "^=",
+    }
+}
+
 fn wide_name(reg: Reg) -> &'static str
     ensures { result.now ≡ register_name true reg }
 {
@@ -171,6 +183,26 @@ fn write_operand(text: &mut String, wide: bool, src: Operand) -> Result<(), Allo
     }
 }
 
+/// Writes an atomic operation.
+#[tactic(auto, unfolding(text_line::specs::Written::printed_insn))]
+fn write_atomic(
+    text: &mut String,
+    size: AtomicSize,
+    op: AtomicOp,
+    dst: Reg,
+    src: Reg,
+    off: i16,
+) -> Result<(), AllocError>
+    ensures { OnOk result (string_bytes text.new ≡ string_bytes text.old
+        ++ printed_insn (Insn.Atomic size op dst src off)) }
+{
+    let (size, base) = (size_name(false, size.access()), wide_name(dst));
+    write!(text, "lock *({size} *)({base} ")?;
+    write_signed(text, i32::from(off), " ")?;
+    let (op, src) = (atomic_name(op), wide_name(src));
+    write!(text, ") {op} {src}")
+}
+
 /// Writes a wide load of a map.
 #[tactic(auto, using(crate::proofs::Printing::laid_out_constant), unfolding(text_line::specs::Written::printed_insn))]
 fn write_map_fd(text: &mut String, dst: Reg, fd: i32) -> Result<(), AllocError>
@@ -181,6 +213,17 @@ fn write_map_fd(text: &mut String, dst: Reg, fd: i32) -> Result<(), AllocError>
     write!(text, "{dst} = map_fd ")?;
     write_constant(text, fd)?;
     text.push_str(" ll")
+}
+
+/// Writes a wide load of an address in a map's value.
+fn write_map_value(text: &mut String, dst: Reg, fd: i32, off: u32) -> Result<(), AllocError>
+    ensures { OnOk result (string_bytes text.new ≡ string_bytes text.old
+        ++ printed_insn (Insn.MapValue dst fd off)) }
+{
+    let dst = wide_name(dst);
+    write!(text, "{dst} = map_value ")?;
+    write_constant(text, fd)?;
+    write!(text, " + {off} ll")
 }
 
 /// Writes an instruction.
@@ -269,11 +312,19 @@ fn write_insn(text: &mut String, insn: &Insn) -> Result<(), AllocError>
             text.push_str(") = ")?;
             write_operand(text, true, src)
         }
+        Insn::Atomic {
+            size,
+            op,
+            dst,
+            src,
+            off,
+        } => write_atomic(text, size, op, dst, src, off),
         Insn::Const { dst, value } => {
             let dst = wide_name(dst);
             write!(text, "{dst} = {value} ll")
         }
         Insn::MapFd { dst, fd } => write_map_fd(text, dst, fd),
+        Insn::MapValue { dst, fd, off } => write_map_value(text, dst, fd, off),
     }
 }
 

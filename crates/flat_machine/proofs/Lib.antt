@@ -5,6 +5,7 @@ pub mod Follows
 pub mod Added
 pub mod Context
 pub mod Descriptors
+pub mod Tables
 pub mod Beginning
 pub mod Ended
 pub mod Packets

@@ -7,6 +7,7 @@ ghost use Rattle.flat_machine.specs.inside.Steps.{StepsFollow, StepsStayInside};
 use bpf_helpers::{
     loads_give_words, others_stay, pointers_are_low, runs_begin, runs_end, stores_stand,
 };
+use bpf_maps::areas_keep_places;
 use tagged_model::refusals_are_told;
 use verdict::maps_are_listed;
 
@@ -38,6 +39,7 @@ pub(crate) fn laws_of_runs()
     others_stay();
     refusals_are_told();
     maps_are_listed();
+    areas_keep_places();
 }
 
 /// Where the flag of the live maps is clear after a run, memory was refused to no new key: the run, the steps and what is left are

@@ -7,7 +7,7 @@ use Rattle.std.proofs.Math.Seq.{take-append_seam}
 use Rattle.insn_codec.specs.declared.insn.Operand.{Operand}
 use Rattle.insn_codec.specs.declared.insn.Operand.TheVariants.{Imm, Reg}
 use Rattle.insn_codec.specs.declared.insn.Insn.{Insn}
-use Rattle.insn_codec.specs.declared.insn.Insn.TheVariants.{Alu, Movsx, Neg, End, Ja, Jal, Jump, Call, Exit, Load, Store, Const, MapFd}
+use Rattle.insn_codec.specs.declared.insn.Insn.TheVariants.{Alu, Movsx, Neg, End, Ja, Jal, Jump, Call, Exit, Load, Store, Atomic, Const, MapFd, MapValue}
 use Rattle.insn_codec.specs.declared.fault.CodecFault.{CodecFault}
 use Rattle.insn_codec.specs.declared.fault.FaultKind.{FaultKind}
 use Rattle.insn_codec.specs.declared.fault.FaultKind.TheVariants.{Opcode, Reserved, Register, SecondSlot, Ragged, Empty, TooLong, Memory}
@@ -44,8 +44,10 @@ more_insns (Call id) h = h
 more_insns Exit h = tt
 more_insns (Load l) h = (omega (arith, h.0), omega (arith, h.1), h.2)
 more_insns (Store s dst src off) h = (omega (arith, h.0), more_operands src h.1, h.2)
+more_insns (Atomic s o dst src off) h = (omega (arith, h.0), omega (arith, h.1), h.2)
 more_insns (Const dst value) h = (omega (arith, h.0), h.1)
 more_insns (MapFd dst fd) h = (omega (arith, h.0), h.1)
+more_insns (MapValue dst fd off) h = (omega (arith, h.0), h.1, h.2)
 
 more_first_slots : (bytes : List ℕ) → HasFirstSlot 10 bytes → HasFirstSlot 15 bytes
 more_first_slots bytes h = (h.0, more_insns h.0 h.1, h.2)

@@ -1,6 +1,6 @@
 -- Each field of an instruction's first slot has a value that its form lists, and fits its bits.
-use Rattle.std.proofs.Common.{◌≡◌, ℕ, ◌+◌, ◌^◌, ◌<◌, ◌≤◌, Bool, true, false, ◌||◌, refl, arith, lit≤, lit<}
-use Rattle.std.specs.Prelude.{IsTrue, FitsSigned, ℤ}
+use Rattle.std.proofs.Common.{◌≡◌, ℕ, ◌+◌, ◌^◌, ◌<◌, ◌≤◌, Bool, true, false, ◌||◌, refl, ap, arith, lit≤, lit<}
+use Rattle.std.specs.Prelude.{IsTrue, FitsSigned, ℤ, is_some}
 use Rattle.std.specs.Int.{w16, w32}
 use Rattle.std.proofs.lemmas.Int.{ints}
 use Rattle.insn_codec.specs.declared.slot.SlotFields.{SlotFields}
@@ -11,20 +11,22 @@ use Rattle.insn_codec.specs.declared.insn.Bits.{Bits}
 use Rattle.insn_codec.specs.declared.insn.Bits.TheVariants as bits
 use Rattle.insn_codec.specs.declared.insn.Narrow.{Narrow}
 use Rattle.insn_codec.specs.declared.insn.Narrow.TheVariants as narrow
+use Rattle.insn_codec.specs.declared.insn.AtomicOp.{AtomicOp}
+use Rattle.insn_codec.specs.declared.insn.AtomicOp.TheVariants as atomic
 use Rattle.insn_codec.specs.declared.insn.Operand.{Operand}
 use Rattle.insn_codec.specs.declared.insn.Operand.TheVariants as operand
 use Rattle.insn_codec.specs.declared.insn.Insn.{Insn}
-use Rattle.insn_codec.specs.declared.insn.Insn.TheVariants.{Alu, Movsx, Neg, End, Ja, Jal, Jump, Call, Exit, Load, Store, Const, MapFd}
+use Rattle.insn_codec.specs.declared.insn.Insn.TheVariants.{Alu, Movsx, Neg, End, Ja, Jal, Jump, Call, Exit, Load, Store, Atomic, Const, MapFd, MapValue}
 use Rattle.insn_codec.specs.declared.opcode.SourceBit.TheVariants as source
 use Rattle.insn_codec.specs.declared.opcode.AluCode.TheVariants as code
 use Rattle.insn_codec.specs.declared.form.OpcodeForm.TheVariants as form
 use Rattle.insn_codec.specs.Sizes.{is_short}
-use Rattle.insn_codec.specs.Numbers.{opcode, alu_class, jump_class, alu_number, alu_offset, condition_number, narrow_number, bits_number, end_opcode, memory_opcode, offset_bits, imm_bits}
+use Rattle.insn_codec.specs.Numbers.{opcode, alu_class, jump_class, alu_number, alu_offset, condition_number, narrow_number, bits_number, end_opcode, memory_opcode, atomic_number, offset_bits, imm_bits}
 use Rattle.insn_codec.specs.inside.Form.{listed, one_operand, offset_listed}
 use Rattle.insn_codec.specs.Slot.{slot}
 use Rattle.insn_codec.proofs.Slots.{IsSlot}
 use Rattle.insn_codec.specs.Spelling.{first, source_bit, src_field, imm_field, IsOperandUpTo, IsInsnUpTo}
-use Rattle.insn_codec.proofs.Opcodes.{code_of, source_of, form_of}
+use Rattle.insn_codec.proofs.Opcodes.{code_of, source_of, form_of, atomic_again}
 
 -- ---- which the form lists
 
@@ -72,8 +74,10 @@ listed-first (Call id) = refl
 listed-first Exit = refl
 listed-first (Load l) = refl
 listed-first (Store s dst src off) = one_operand-fields src (memory_opcode 3 s (2 + source_bit src)) dst (offset_bits off)
+listed-first (Atomic s o dst src off) = ap is_some (atomic_again o)
 listed-first (Const dst value) = refl
 listed-first (MapFd dst fd) = refl
+listed-first (MapValue dst fd off) = refl
 
 -- ---- each field of the first slot fits its bits
 
@@ -106,6 +110,12 @@ bits_number_le bits.Bits16 = lit≤ tt
 bits_number_le bits.Bits32 = lit≤ tt
 bits_number_le bits.Bits64 = lit≤ tt
 
+atomic_number_lt : (o : AtomicOp) → atomic_number o < 2 ^ 32
+atomic_number_lt atomic.Add = lit< tt
+atomic_number_lt atomic.Or = lit< tt
+atomic_number_lt atomic.And = lit< tt
+atomic_number_lt atomic.Xor = lit< tt
+
 offset_bits_lt : (z : ℤ) → FitsSigned w16 z → offset_bits z < 2 ^ 16
 offset_bits_lt z h = omega (arith, ints)
 
@@ -127,7 +137,7 @@ pub record IsFront (top : ℕ) (s : SlotFields) : Type 0 where
   pub offset : s.offset < 2 ^ 16
   pub imm : s.imm < 2 ^ 32
 
-pub IsFront-first : (top : ℕ) (i : Insn) → 1 ≤ top → IsInsnUpTo top i → IsFront top (first i)
+pub IsFront-first : (top : ℕ) (i : Insn) → 2 ≤ top → IsInsnUpTo top i → IsFront top (first i)
 IsFront-first top (Alu wide o dst src) some h = record { dst = h.0; src = src_field_le top src h.1; offset = omega (arith, alu_offset_le o); imm = imm_field_lt top src h.1 }
 IsFront-first top (Movsx m) some h = record { dst = h.0; src = h.1; offset = omega (arith, narrow_number_le m.bits); imm = lit< tt }
 IsFront-first top (Neg wide dst) some h = record { dst = h; src = zero_le top; offset = lit< tt; imm = lit< tt }
@@ -139,8 +149,10 @@ IsFront-first top (Call id) some h = record { dst = zero_le top; src = zero_le t
 IsFront-first top Exit some h = record { dst = zero_le top; src = zero_le top; offset = lit< tt; imm = lit< tt }
 IsFront-first top (Load l) some h = record { dst = h.0; src = h.1; offset = offset_bits_lt l.off h.2; imm = lit< tt }
 IsFront-first top (Store s dst src off) some h = record { dst = h.0; src = src_field_le top src h.1; offset = offset_bits_lt off h.2; imm = imm_field_lt top src h.1 }
+IsFront-first top (Atomic s o dst src off) some h = record { dst = h.0; src = h.1; offset = offset_bits_lt off h.2; imm = atomic_number_lt o }
 IsFront-first top (Const dst value) some h = record { dst = h.0; src = zero_le top; offset = lit< tt; imm = omega arith }
-IsFront-first top (MapFd dst fd) some h = record { dst = h.0; src = some; offset = lit< tt; imm = imm_bits_lt fd h.1 }
+IsFront-first top (MapFd dst fd) some h = record { dst = h.0; src = omega (arith, some); offset = lit< tt; imm = imm_bits_lt fd h.1 }
+IsFront-first top (MapValue dst fd off) some h = record { dst = h.0; src = some; offset = lit< tt; imm = imm_bits_lt fd h.1 }
 
 pub IsSlot-front : (top : ℕ) (s : SlotFields) → top ≤ 15 → IsFront top s → IsSlot s
 IsSlot-front top s few h = record { dst = omega (arith, h.dst, few); src = omega (arith, h.src, few); offset = h.offset; imm = h.imm }

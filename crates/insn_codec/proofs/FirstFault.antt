@@ -24,7 +24,7 @@ use Rattle.insn_codec.proofs.KnownOpcodes.{known, unknown, opcode_of-slot, opcod
 use Rattle.insn_codec.proofs.Laws.{no_fault}
 
 -- the slot that was read is the instruction's first one
-read_slot : (top : ℕ) (bytes : List ℕ) → 1 ≤ top → top ≤ 15 → (h : HasFirstSlot top bytes) → slot_of bytes ≡ first h.0
+read_slot : (top : ℕ) (bytes : List ℕ) → 2 ≤ top → top ≤ 15 → (h : HasFirstSlot top bytes) → slot_of bytes ≡ first h.0
 read_slot top bytes some few h =
     let whole : bytes ≡ slot_bytes (first h.0) ++ drop 8 bytes = sym (take-append-drop 8 bytes) ∙ ap (λ (x : List ℕ). x ++ drop 8 bytes) h.2 in
     ap slot_of whole ∙ slot_of-append (first h.0) (drop 8 bytes) (IsSlot-front top (first h.0) few (IsFront-first top h.0 some h.1))

@@ -10,6 +10,8 @@ use Rattle.insn_codec.specs.declared.insn.AluOp.TheVariants as op
 use Rattle.insn_codec.specs.declared.insn.Narrow.{Narrow}
 use Rattle.insn_codec.specs.declared.insn.Narrow.TheVariants as narrow
 use Rattle.insn_codec.specs.declared.insn.Insn.TheVariants.{Alu}
+use Rattle.insn_codec.specs.declared.insn.AtomicOp.{AtomicOp}
+use Rattle.insn_codec.specs.declared.insn.AtomicOp.TheVariants as atomic
 use Rattle.insn_codec.specs.declared.opcode.SourceBit.{SourceBit}
 use Rattle.insn_codec.specs.declared.opcode.SourceBit.TheVariants as source
 use Rattle.insn_codec.specs.declared.opcode.AluCode.{AluCode}
@@ -17,16 +19,16 @@ use Rattle.insn_codec.specs.declared.opcode.AluCode.TheVariants as code
 use Rattle.insn_codec.specs.declared.opcode.LoadKind.{LoadKind}
 use Rattle.insn_codec.specs.declared.opcode.LoadKind.TheVariants as load
 use Rattle.insn_codec.specs.declared.opcode.WideKind.{WideKind}
-use Rattle.insn_codec.specs.declared.opcode.WideKind.TheVariants.{Number, Map}
+use Rattle.insn_codec.specs.declared.opcode.WideKind.TheVariants.{Number, Map, MapValue}
 use Rattle.insn_codec.specs.declared.form.OpcodeForm.{OpcodeForm}
 use Rattle.insn_codec.specs.declared.form.OpcodeForm.TheVariants as form
-use Rattle.insn_codec.specs.Sizes.{is_short}
-use Rattle.insn_codec.specs.Numbers.{opcode, alu_class, jump_class, alu_number, alu_offset, condition_number, narrow_number, bits_number, end_opcode, memory_opcode, offset_bits, imm_bits}
+use Rattle.insn_codec.specs.Sizes.{is_short, access_size}
+use Rattle.insn_codec.specs.Numbers.{opcode, alu_class, jump_class, alu_number, alu_offset, condition_number, narrow_number, bits_number, end_opcode, memory_opcode, atomic_number, offset_bits, imm_bits}
 use Rattle.insn_codec.specs.inside.Opcodes.{code_number, source_number, load_opcode, opcode_of}
-use Rattle.insn_codec.specs.inside.Form.{listed, one_operand, offset_listed, wide_at}
+use Rattle.insn_codec.specs.inside.Form.{listed, one_operand, offset_listed, wide_at, atomic_at}
 use Rattle.insn_codec.specs.Slot.{slot}
 use Rattle.insn_codec.specs.Spelling.{first, source_bit, src_field, imm_field, IsOperandUpTo, IsInsnUpTo}
-use Rattle.insn_codec.proofs.ReadBack.{op_at, operand_at, narrow_at, bits_at, movsx_at, load_insn, wide_insn, insn_at}
+use Rattle.insn_codec.proofs.ReadBack.{op_at, operand_at, narrow_at, bits_at, movsx_at, load_insn, atomic_insn, wide_insn, insn_at}
 
 slot_same : (s : SlotFields) (op dst src offset imm : ℕ) → op ≡ s.opcode → dst ≡ s.dst → src ≡ s.src → offset ≡ s.offset → imm ≡ s.imm → slot op dst src offset imm ≡ s
 slot_same s op dst src offset imm a b c d e = rw (a, b, c, d, e) refl
@@ -224,11 +226,35 @@ load_up_to top load.SignedWord dst src offset d s h = (d, s, half_fits offset h)
 load_up_to top load.SignedHalf dst src offset d s h = (d, s, half_fits offset h)
 load_up_to top load.SignedByte dst src offset d s h = (d, s, half_fits offset h)
 
+-- the operation of an immediate
+pub atomic_imm : (imm : ℕ) → is_some (atomic_at imm) ≡ true → (imm ≡ 0x00) ⊎ ((imm ≡ 0x40) ⊎ ((imm ≡ 0x50) ⊎ (imm ≡ 0xa0)))
+atomic_imm imm h = known (eqb imm 0x00) (eqb imm 0x40) (eqb imm 0x50) (eqb imm 0xa0) (eqb-true imm 0x00) (eqb-true imm 0x40) (eqb-true imm 0x50) (eqb-true imm 0xa0) h where
+  known : (add or and xor : Bool) → (add ≡ true → imm ≡ 0x00) → (or ≡ true → imm ≡ 0x40) → (and ≡ true → imm ≡ 0x50) → (xor ≡ true → imm ≡ 0xa0)
+      → is_some (cond add (Some atomic.Add) (cond or (Some atomic.Or) (cond and (Some atomic.And) (cond xor (Some atomic.Xor) None)))) ≡ true → (imm ≡ 0x00) ⊎ ((imm ≡ 0x40) ⊎ ((imm ≡ 0x50) ⊎ (imm ≡ 0xa0)))
+  known true or and xor a b c d h = inl (a refl)
+  known false true and xor a b c d h = inr (inl (b refl))
+  known false false true xor a b c d h = inr (inr (inl (c refl)))
+  known false false false true a b c d h = inr (inr (inr (d refl)))
+  known false false false false a b c d h = absurd cc
+
+atomic_of : (imm : ℕ) → is_some (atomic_at imm) ≡ true → (o : AtomicOp) × (atomic_at imm ≡ Some o) × (atomic_number o ≡ imm)
+atomic_of imm h =
+    elim (atomic_imm imm h) [
+      | inl e ↦ (atomic.Add, rw e refl, sym e)
+      | inr (inl e) ↦ (atomic.Or, rw e refl, sym e)
+      | inr (inr (inl e)) ↦ (atomic.And, rw e refl, sym e)
+      | inr (inr (inr e)) ↦ (atomic.Xor, rw e refl, sym e)
+    ]
+
 -- the source field of a wide load
-wide_src : (src : ℕ) → is_some (wide_at src) ≡ true → (src ≡ 0) ⊎ (src ≡ 1)
-wide_src src h =
-    cond_both (eqb src 0) (Some Number) (cond (eqb src 1) (Some Map) None) (λ o. is_some o ≡ true → (src ≡ 0) ⊎ (src ≡ 1)) (λ e some. inl (eqb-true src 0 e))
-    (λ e. cond_both (eqb src 1) (Some Map) None (λ o. is_some o ≡ true → (src ≡ 0) ⊎ (src ≡ 1)) (λ e some. inr (eqb-true src 1 e)) (λ e some. absurd cc)) h
+pub wide_src : (src : ℕ) → is_some (wide_at src) ≡ true → (src ≡ 0) ⊎ ((src ≡ 1) ⊎ (src ≡ 2))
+wide_src src h = known (eqb src 0) (eqb src 1) (eqb src 2) (eqb-true src 0) (eqb-true src 1) (eqb-true src 2) h where
+  known : (number map value : Bool) → (number ≡ true → src ≡ 0) → (map ≡ true → src ≡ 1) → (value ≡ true → src ≡ 2)
+      → is_some (cond number (Some Number) (cond map (Some Map) (cond value (Some MapValue) None))) ≡ true → (src ≡ 0) ⊎ ((src ≡ 1) ⊎ (src ≡ 2))
+  known true map value zero one two h = inl (zero refl)
+  known false true value zero one two h = inr (inl (one refl))
+  known false false true zero one two h = inr (inr (two refl))
+  known false false false zero one two h = absurd cc
 
 is_zero : (n : ℕ) → eqb n 0 ≡ true → 0 ≡ n
 is_zero n h = sym (eqb-true n 0 h)
@@ -240,15 +266,19 @@ first-wide s h =
       | inl e ↦
           let kind : wide_at s.src ≡ Some Number = rw e refl in
           ap (λ k. first (wide_insn k s 0)) kind ∙ slot_same s 0x18 s.dst 0 0 ((s.imm + 2 ^ 32 * 0) % 2 ^ 32) (sym h.opcode) refl (sym e) (is_zero s.offset parts.0) (omega (arith, h.imm))
-      | inr e ↦
+      | inr (inl e) ↦
           let kind : wide_at s.src ≡ Some Map = rw e refl in
           ap (λ k. first (wide_insn k s 0)) kind ∙ slot_same s 0x18 s.dst 1 0 (imm_bits (cast_signed w32 s.imm)) (sym h.opcode) refl (sym e) (is_zero s.offset parts.0) (of_z-to_z w32 s.imm h.imm)
+      | inr (inr e) ↦
+          let kind : wide_at s.src ≡ Some MapValue = rw e refl in
+          ap (λ k. first (wide_insn k s 0)) kind ∙ slot_same s 0x18 s.dst 2 0 (imm_bits (cast_signed w32 s.imm)) (sym h.opcode) refl (sym e) (is_zero s.offset parts.0) (of_z-to_z w32 s.imm h.imm)
     ]
 
 wide_up_to : (top : ℕ) (kind : Option WideKind) (s : SlotFields) → s.dst ≤ top → s.imm < 2 ^ 32 → IsInsnUpTo top (wide_insn kind s 0)
 wide_up_to top None s dst h = tt
 wide_up_to top (Some Number) s dst h = (dst, omega (arith, h))
 wide_up_to top (Some Map) s dst h = (dst, word_fits s.imm h)
+wide_up_to top (Some MapValue) s dst h = (dst, word_fits s.imm h, omega arith)
 
 -- no register is named
 abbrev no_operands : SlotFields → Bool
@@ -291,6 +321,9 @@ first-insn_at (form.Load kind) s h =
 first-insn_at (form.Store size z) s h =
     slot_same s (memory_opcode 3 size (2 + source_bit (operand_at z s))) s.dst (src_field (operand_at z s)) (offset_bits (cast_signed w16 s.offset)) (imm_field (operand_at z s))
     (rw (source_bit-operand_at z s) (sym h.opcode)) refl (src_field-operand_at z s h.listed) (of_z-to_z w16 s.offset h.offset) (imm_field-operand_at z s h.listed h.imm)
+first-insn_at (form.Atomic size) s h =
+    let o = atomic_of s.imm h.listed in
+    ap (λ k. first (atomic_insn size k s)) o.1 ∙ slot_same s (memory_opcode 6 (access_size size) 3) s.dst s.src (offset_bits (cast_signed w16 s.offset)) (atomic_number o.0) (sym h.opcode) refl refl (of_z-to_z w16 s.offset h.offset) o.2
 first-insn_at form.Wide s h = first-wide s h
 
 pub insn_at_up_to : (top : ℕ) (f : OpcodeForm) (s : SlotFields) → IsOf f s → s.dst ≤ top → s.src ≤ top → IsInsnUpTo top (insn_at f s 0)
@@ -306,4 +339,7 @@ insn_at_up_to top form.Call s h dst src = word_fits s.imm h.imm
 insn_at_up_to top form.Exit s h dst src = tt
 insn_at_up_to top (form.Load kind) s h dst src = load_up_to top kind s.dst s.src s.offset dst src h.offset
 insn_at_up_to top (form.Store size z) s h dst src = (dst, operand_up_to top z s src h.imm, half_fits s.offset h.offset)
+insn_at_up_to top (form.Atomic size) s h dst src =
+    let o = atomic_of s.imm h.listed in
+    rw o.1 (dst, src, half_fits s.offset h.offset)
 insn_at_up_to top form.Wide s h dst src = wide_up_to top (wide_at s.src) s dst h.imm

@@ -8,8 +8,9 @@ use Rattle.std.proofs.lemmas.Int.{ints}
 use Rattle.std.proofs.lemmas.Option.{none-some}
 use Rattle.insn_codec.specs.declared.slot.SlotFields.{SlotFields}
 use Rattle.insn_codec.specs.declared.insn.Bits.TheVariants as bits
+use Rattle.insn_codec.specs.declared.insn.AtomicOp.TheVariants as atomic
 use Rattle.insn_codec.specs.declared.insn.Insn.{Insn}
-use Rattle.insn_codec.specs.declared.insn.Insn.TheVariants.{Alu, Neg, End, Ja, Jal, Jump, Call, Exit, Store, Const}
+use Rattle.insn_codec.specs.declared.insn.Insn.TheVariants.{Alu, Neg, End, Ja, Jal, Jump, Call, Exit, Store, Atomic, Const}
 use Rattle.insn_codec.specs.declared.opcode.SourceBit.{SourceBit}
 use Rattle.insn_codec.specs.declared.opcode.SourceBit.TheVariants as source
 use Rattle.insn_codec.specs.declared.opcode.LoadKind.{LoadKind}
@@ -42,6 +43,7 @@ example form.Call = Call (pos 0)
 example form.Exit = Exit
 example (form.Load kind) = load_insn kind 0 0 (pos 0)
 example (form.Store z y) = Store z 0 (operand_at y no_fields) (pos 0)
+example (form.Atomic z) = Atomic z atomic.Add 0 0 (pos 0)
 example form.Wide = Const 0 0
 
 zero_fits : FitsSigned w16 (pos 0)
@@ -74,6 +76,7 @@ IsInsn-example form.Call = wide_zero_fits
 IsInsn-example form.Exit = tt
 IsInsn-example (form.Load kind) = IsInsn-load kind
 IsInsn-example (form.Store z y) = (lit≤ tt, IsOperand-example y, zero_fits)
+IsInsn-example (form.Atomic z) = (lit≤ tt, lit≤ tt, zero_fits)
 IsInsn-example form.Wide = (lit≤ tt, lit< tt)
 
 opcode-load : (kind : LoadKind) → (first (load_insn kind 0 0 (pos 0))).opcode ≡ load_opcode kind
@@ -96,6 +99,7 @@ opcode-example form.Call = refl
 opcode-example form.Exit = refl
 opcode-example (form.Load kind) = opcode-load kind
 opcode-example (form.Store z y) = rw (source_bit-operand_at y no_fields) refl
+opcode-example (form.Atomic z) = refl
 opcode-example form.Wide = refl
 
 -- ---- the form at an opcode has that opcode: a table of 256

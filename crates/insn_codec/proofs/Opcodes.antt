@@ -8,10 +8,13 @@ use Rattle.insn_codec.specs.declared.insn.Condition.{Condition}
 use Rattle.insn_codec.specs.declared.insn.Condition.TheVariants as conditions
 use Rattle.insn_codec.specs.declared.insn.Size.{Size}
 use Rattle.insn_codec.specs.declared.insn.Size.TheVariants as size
+use Rattle.insn_codec.specs.declared.insn.AtomicSize.TheVariants as atomic_size
+use Rattle.insn_codec.specs.declared.insn.AtomicOp.{AtomicOp}
+use Rattle.insn_codec.specs.declared.insn.AtomicOp.TheVariants as atomic
 use Rattle.insn_codec.specs.declared.insn.Operand.{Operand}
 use Rattle.insn_codec.specs.declared.insn.Operand.TheVariants as operand
 use Rattle.insn_codec.specs.declared.insn.Insn.{Insn}
-use Rattle.insn_codec.specs.declared.insn.Insn.TheVariants.{Alu, Movsx, Neg, End, Ja, Jal, Jump, Call, Exit, Load, Store, Const, MapFd}
+use Rattle.insn_codec.specs.declared.insn.Insn.TheVariants.{Alu, Movsx, Neg, End, Ja, Jal, Jump, Call, Exit, Load, Store, Atomic, Const, MapFd, MapValue}
 use Rattle.insn_codec.specs.declared.opcode.SourceBit.{SourceBit}
 use Rattle.insn_codec.specs.declared.opcode.SourceBit.TheVariants as source
 use Rattle.insn_codec.specs.declared.opcode.AluCode.{AluCode}
@@ -21,9 +24,9 @@ use Rattle.insn_codec.specs.declared.opcode.LoadKind.TheVariants as load
 use Rattle.insn_codec.specs.declared.form.OpcodeForm.{OpcodeForm}
 use Rattle.insn_codec.specs.declared.form.OpcodeForm.TheVariants as form
 use Rattle.insn_codec.specs.Sizes.{is_double}
-use Rattle.insn_codec.specs.Numbers.{alu_number, load_mode, memory_opcode}
+use Rattle.insn_codec.specs.Numbers.{alu_number, load_mode, memory_opcode, atomic_number}
 use Rattle.insn_codec.specs.inside.Opcodes.{source_number, code_number, load_opcode, opcode_of}
-use Rattle.insn_codec.specs.inside.Form.{form_at}
+use Rattle.insn_codec.specs.inside.Form.{form_at, atomic_at}
 use Rattle.insn_codec.specs.Spelling.{first, source_bit}
 
 -- ---- the form of an instruction
@@ -69,8 +72,10 @@ form_of (Call id) = form.Call
 form_of Exit = form.Exit
 form_of (Load l) = form.Load (kind_of l.size l.signed)
 form_of (Store s dst src off) = form.Store s (source_of src)
+form_of (Atomic size o dst src off) = form.Atomic size
 form_of (Const dst value) = form.Wide
 form_of (MapFd dst fd) = form.Wide
+form_of (MapValue dst fd off) = form.Wide
 
 -- ---- the form of an opcode
 
@@ -204,7 +209,17 @@ form_at-opcode_of (form.Load load.SignedWord) = refl
 form_at-opcode_of (form.Load load.SignedHalf) = refl
 form_at-opcode_of (form.Load load.SignedByte) = refl
 form_at-opcode_of (form.Store z s) = form_at-store z s
+form_at-opcode_of (form.Atomic atomic_size.Word) = refl
+form_at-opcode_of (form.Atomic atomic_size.Double) = refl
 form_at-opcode_of form.Wide = refl
+
+-- ---- the operation of an immediate
+
+pub atomic_again : (o : AtomicOp) → atomic_at (atomic_number o) ≡ Some o
+atomic_again atomic.Add = refl
+atomic_again atomic.Or = refl
+atomic_again atomic.And = refl
+atomic_again atomic.Xor = refl
 
 -- ---- an instruction's first slot is of its form
 
@@ -250,8 +265,10 @@ opcode_of-form_of (Call id) = refl
 opcode_of-form_of Exit = refl
 opcode_of-form_of (Load l) = opcode_of-load l.size l.signed l.listed
 opcode_of-form_of (Store s dst src off) = rw (source_number-source_of src) refl
+opcode_of-form_of (Atomic size o dst src off) = refl
 opcode_of-form_of (Const dst value) = refl
 opcode_of-form_of (MapFd dst fd) = refl
+opcode_of-form_of (MapValue dst fd off) = refl
 
 pub form_at-first : (i : Insn) → form_at (first i).opcode ≡ Some (form_of i)
 form_at-first i = ap form_at (sym (opcode_of-form_of i)) ∙ form_at-opcode_of (form_of i)

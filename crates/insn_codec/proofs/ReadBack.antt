@@ -13,10 +13,12 @@ use Rattle.insn_codec.specs.declared.insn.Narrow.{Narrow}
 use Rattle.insn_codec.specs.declared.insn.Narrow.TheVariants as narrow
 use Rattle.insn_codec.specs.declared.insn.Size.{Size}
 use Rattle.insn_codec.specs.declared.insn.Size.TheVariants as size
+use Rattle.insn_codec.specs.declared.insn.AtomicSize.{AtomicSize}
+use Rattle.insn_codec.specs.declared.insn.AtomicOp.{AtomicOp}
 use Rattle.insn_codec.specs.declared.insn.Operand.{Operand}
 use Rattle.insn_codec.specs.declared.insn.Operand.TheVariants as operand
 use Rattle.insn_codec.specs.declared.insn.Insn.{Insn}
-use Rattle.insn_codec.specs.declared.insn.Insn.TheVariants.{Alu, Movsx, Neg, End, Ja, Jal, Jump, Call, Exit, Load, Store, Const, MapFd}
+use Rattle.insn_codec.specs.declared.insn.Insn.TheVariants.{Alu, Movsx, Neg, End, Ja, Jal, Jump, Call, Exit, Load, Store, Atomic, Const, MapFd, MapValue}
 use Rattle.insn_codec.specs.declared.opcode.SourceBit.{SourceBit}
 use Rattle.insn_codec.specs.declared.opcode.SourceBit.TheVariants as source
 use Rattle.insn_codec.specs.declared.opcode.AluCode.{AluCode}
@@ -27,12 +29,12 @@ use Rattle.insn_codec.specs.declared.form.OpcodeForm.{OpcodeForm}
 use Rattle.insn_codec.specs.declared.form.OpcodeForm.TheVariants as form
 use Rattle.insn_codec.specs.Sizes.{is_double, is_short}
 use Rattle.insn_codec.specs.Numbers.{opcode, alu_class, jump_class, alu_number, alu_offset, condition_number, narrow_number, bits_number, memory_opcode, offset_bits, imm_bits}
-use Rattle.insn_codec.specs.inside.Form.{wide_at}
+use Rattle.insn_codec.specs.inside.Form.{wide_at, atomic_at}
 use Rattle.insn_codec.specs.Slot.{slot}
 use Rattle.insn_codec.specs.Spelling.{first, source_bit, src_field, imm_field, IsOperand, IsInsn}
 use Rattle.insn_codec.specs.declared.opcode.WideKind.{WideKind}
-use Rattle.insn_codec.specs.declared.opcode.WideKind.TheVariants.{Number, Map}
-use Rattle.insn_codec.proofs.Opcodes.{code_of, source_of, kind_of, form_of}
+use Rattle.insn_codec.specs.declared.opcode.WideKind.TheVariants as wide_kind
+use Rattle.insn_codec.proofs.Opcodes.{code_of, source_of, kind_of, form_of, atomic_again}
 
 -- ---- reading back
 
@@ -77,8 +79,13 @@ load_insn load.SignedByte dst src off = Load (record { size = size.Byte; signed 
 
 abbrev pub wide_insn : Option WideKind → SlotFields → ℕ → Insn
 wide_insn None s next = Exit
-wide_insn (Some Number) s next = Const s.dst (s.imm + 2 ^ 32 * next)
-wide_insn (Some Map) s next = MapFd s.dst (cast_signed w32 s.imm)
+wide_insn (Some wide_kind.Number) s next = Const s.dst (s.imm + 2 ^ 32 * next)
+wide_insn (Some wide_kind.Map) s next = MapFd s.dst (cast_signed w32 s.imm)
+wide_insn (Some wide_kind.MapValue) s next = MapValue s.dst (cast_signed w32 s.imm) next
+
+abbrev pub atomic_insn : AtomicSize → Option AtomicOp → SlotFields → Insn
+atomic_insn z None s = Exit
+atomic_insn z (Some o) s = Atomic z o s.dst s.src (cast_signed w16 s.offset)
 
 -- the instruction of a form's slot, and of the number in a second slot
 abbrev pub insn_at : OpcodeForm → SlotFields → ℕ → Insn
@@ -92,10 +99,12 @@ insn_at form.Call s next = Call (cast_signed w32 s.imm)
 insn_at form.Exit s next = Exit
 insn_at (form.Load kind) s next = load_insn kind s.dst s.src (cast_signed w16 s.offset)
 insn_at (form.Store z y) s next = Store z s.dst (operand_at y s) (cast_signed w16 s.offset)
+insn_at (form.Atomic z) s next = atomic_insn z (atomic_at s.imm) s
 insn_at form.Wide s next = wide_insn (wide_at s.src) s next
 
 abbrev pub next : Insn → ℕ
 next (Const dst value) = value / 2 ^ 32
+next (MapValue dst fd off) = off
 next _ = 0
 
 offset_again : (z : ℤ) → FitsSigned w16 z → cast_signed w16 (offset_bits z) ≡ z
@@ -186,5 +195,7 @@ insn_at-first (Call id) h = ap Call (imm_again id h)
 insn_at-first Exit h = refl
 insn_at-first (Load l) h = rw (offset_again l.off h.2) (load_again l.size l.signed l.dst l.src l.off l.listed)
 insn_at-first (Store s dst src off) h = rw (operand_again src (memory_opcode 3 s (2 + source_bit src)) dst (offset_bits off) h.1, offset_again off h.2) refl
+insn_at-first (Atomic z o dst src off) h = rw (atomic_again o, offset_again off h.2) refl
 insn_at-first (Const dst value) h = ap (Const dst) (omega arith)
 insn_at-first (MapFd dst fd) h = ap (MapFd dst) (imm_again fd h.1)
+insn_at-first (MapValue dst fd off) h = ap (λ (z : ℤ). MapValue dst z off) (imm_again fd h.1)

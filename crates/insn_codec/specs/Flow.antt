@@ -2,7 +2,7 @@
 -- value.
 use Rattle.std.specs.Prelude.{ℕ, ℤ, pos, negsuc, Option, Some, None, ◌+◌, ◌+ℤ◌, length, Bool, true, false, if◌then◌else◌}
 use Rattle.insn_codec.specs.declared.insn.Insn.{Insn}
-use Rattle.insn_codec.specs.declared.insn.Insn.TheVariants.{Ja, Jal, Jump, Alu, Movsx, Neg, End, Exit, Load, Const, MapFd}
+use Rattle.insn_codec.specs.declared.insn.Insn.TheVariants.{Ja, Jal, Jump, Alu, Movsx, Neg, End, Exit, Load, Const, MapFd, MapValue}
 use Rattle.insn_codec.specs.Spelling.{slots}
 
 -- a whole number as a slot: none below 0
@@ -53,4 +53,5 @@ written_register (End how kept dst) = Some dst
 written_register (Load l) = Some l.dst
 written_register (Const dst value) = Some dst
 written_register (MapFd dst fd) = Some dst
+written_register (MapValue dst fd off) = Some dst
 written_register i = None

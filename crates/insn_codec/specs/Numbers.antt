@@ -14,6 +14,8 @@ use Rattle.insn_codec.specs.declared.insn.Condition.{Condition}
 use Rattle.insn_codec.specs.declared.insn.Condition.TheVariants.{Equal, Above, AboveOrEqual, CommonBit, NotEqual, SignedAbove, SignedAboveOrEqual, Below, BelowOrEqual, SignedBelow, SignedBelowOrEqual}
 use Rattle.insn_codec.specs.declared.insn.Size.{Size}
 use Rattle.insn_codec.specs.declared.insn.Size.TheVariants as size
+use Rattle.insn_codec.specs.declared.insn.AtomicOp.{AtomicOp}
+use Rattle.insn_codec.specs.declared.insn.AtomicOp.TheVariants as atomic
 
 -- arithmetic and jumps, section 4: four bits of code, one of source, three of class
 abbrev pub opcode : ℕ → ℕ → ℕ → ℕ
@@ -99,6 +101,13 @@ load_mode true = 4
 -- loads and stores, section 5: three bits of mode, two of size, three of class
 abbrev pub memory_opcode : ℕ → Size → ℕ → ℕ
 memory_opcode mode s class = 32 * mode + 8 * size_number s + class
+
+-- section 5.3: the immediate of an atomic operation is its code in arithmetic, in the place that the code has in an opcode
+abbrev pub atomic_number : AtomicOp → ℕ
+atomic_number atomic.Add = 0x00
+atomic_number atomic.Or = 0x40
+atomic_number atomic.And = 0x50
+atomic_number atomic.Xor = 0xa0
 
 -- section 3.1: a signed field's bits
 abbrev pub offset_bits : ℤ → ℕ

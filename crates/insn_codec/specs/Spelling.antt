@@ -6,9 +6,10 @@ use Rattle.insn_codec.specs.declared.slot.SlotFields.{SlotFields}
 use Rattle.insn_codec.specs.declared.insn.Operand.{Operand}
 use Rattle.insn_codec.specs.declared.insn.Operand.TheVariants.{Imm, Reg}
 use Rattle.insn_codec.specs.declared.insn.Insn.{Insn}
-use Rattle.insn_codec.specs.declared.insn.Insn.TheVariants.{Alu, Movsx, Neg, End, Ja, Jal, Jump, Call, Exit, Load, Store, Const, MapFd}
+use Rattle.insn_codec.specs.declared.insn.Insn.TheVariants.{Alu, Movsx, Neg, End, Ja, Jal, Jump, Call, Exit, Load, Store, Atomic, Const, MapFd, MapValue}
 use Rattle.insn_codec.specs.Slot.{slot, slot_bytes}
-use Rattle.insn_codec.specs.Numbers.{opcode, alu_class, jump_class, alu_number, alu_offset, condition_number, narrow_number, bits_number, end_opcode, load_mode, memory_opcode, offset_bits, imm_bits}
+use Rattle.insn_codec.specs.Sizes.{access_size}
+use Rattle.insn_codec.specs.Numbers.{opcode, alu_class, jump_class, alu_number, alu_offset, condition_number, narrow_number, bits_number, end_opcode, load_mode, memory_opcode, atomic_number, offset_bits, imm_bits}
 
 -- ---- the second operand, section 4: the source bit, and the field that it selects
 
@@ -24,7 +25,7 @@ abbrev pub imm_field : Operand → ℕ
 imm_field (Imm n) = imm_bits n
 imm_field (Reg r) = 0
 
--- ---- the grammar: one case for each form, section 4 (arithmetic, jumps) and section 5 (loads, stores)
+-- ---- the grammar: one case for each form, section 4 (arithmetic, jumps) and section 5 (loads, stores, atomic operations)
 
 -- the first slot
 abbrev pub first : Insn → SlotFields
@@ -39,13 +40,16 @@ first (Call id) = slot (opcode 8 0 5) 0 0 0 (imm_bits id)
 first Exit = slot (opcode 9 0 5) 0 0 0 0
 first (Load l) = slot (memory_opcode (load_mode l.signed) l.size 1) l.dst l.src (offset_bits l.off) 0
 first (Store s dst src off) = slot (memory_opcode 3 s (2 + source_bit src)) dst (src_field src) (offset_bits off) (imm_field src)
+first (Atomic size op dst src off) = slot (memory_opcode 6 (access_size size) 3) dst src (offset_bits off) (atomic_number op)
 first (Const dst value) = slot 0x18 dst 0 0 (value % 2 ^ 32)
 first (MapFd dst fd) = slot 0x18 dst 1 0 (imm_bits fd)
+first (MapValue dst fd off) = slot 0x18 dst 2 0 (imm_bits fd)
 
 -- the second slot, which wide loads alone have: section 5.4
 abbrev pub second : Insn → List SlotFields
 second (Const dst value) = slot 0 0 0 0 (value / 2 ^ 32) ∷ []
 second (MapFd dst fd) = slot 0 0 0 0 0 ∷ []
+second (MapValue dst fd off) = slot 0 0 0 0 off ∷ []
 second _ = []
 
 abbrev pub slots : Insn → List SlotFields
@@ -78,8 +82,10 @@ IsInsnUpTo top (Call id) = FitsSigned w32 id
 IsInsnUpTo top Exit = Unit {0}
 IsInsnUpTo top (Load l) = (l.dst ≤ top) × (l.src ≤ top) × FitsSigned w16 l.off
 IsInsnUpTo top (Store s dst src off) = (dst ≤ top) × IsOperandUpTo top src × FitsSigned w16 off
+IsInsnUpTo top (Atomic size op dst src off) = (dst ≤ top) × (src ≤ top) × FitsSigned w16 off
 IsInsnUpTo top (Const dst value) = (dst ≤ top) × (value < 2 ^ 64)
 IsInsnUpTo top (MapFd dst fd) = (dst ≤ top) × FitsSigned w32 fd
+IsInsnUpTo top (MapValue dst fd off) = (dst ≤ top) × FitsSigned w32 fd × (off < 2 ^ 32)
 
 -- the registers that there are: 0 to 10, section 3.1
 abbrev pub IsOperand : Operand → Type 0

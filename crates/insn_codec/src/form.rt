@@ -2,7 +2,9 @@
 
 ghost use Rattle.std.specs.Prelude.{◌≡◌, ◌≢◌, ◌+◌, ◌%◌, ◌≤◌, [], ◌∷◌, IfSome, IsTrue};
 
-use crate::insn::{Bits, ByteOrder, Condition, Insn, Load, Movsx, Narrow, Reg, Size};
+use crate::insn::{
+    AtomicOp, AtomicSize, Bits, ByteOrder, Condition, Insn, Load, Movsx, Narrow, Reg, Size,
+};
 use crate::opcode::{AluCode, LoadKind, SourceBit, WideKind};
 use crate::slot::SlotFields;
 
@@ -36,15 +38,18 @@ pub enum OpcodeForm {
         size: Size,
         source: SourceBit,
     },
+    Atomic {
+        size: AtomicSize,
+    },
     Wide,
 }
 
 impl OpcodeForm {
-    ghost use Rattle.insn_codec.specs.inside.Form.{form_at, alu_at, jump_at, load_at, store_at, listed};
+    ghost use Rattle.insn_codec.specs.inside.Form.{form_at, alu_at, jump_at, load_at, store_at, register_store_at, listed};
     ghost use Rattle.insn_codec.specs.Numbers.{opcode as opcode_from, alu_class, jump_class};
     ghost use Rattle.insn_codec.specs.inside.Opcodes.{opcode_of, source_number};
     ghost use Rattle.insn_codec.specs.Spelling.{slots, IsInsn};
-    ghost use Rattle.insn_codec.specs.declared.form.OpcodeForm.TheVariants.{Wide, Alu, Jump, Load as LoadForm, Store, End};
+    ghost use Rattle.insn_codec.specs.declared.form.OpcodeForm.TheVariants.{Wide, Alu, Jump, Load as LoadForm, Store, Atomic, End};
 
     fn alu(wide: bool, source: SourceBit, code: u8) -> Option<OpcodeForm>
         ensures value { result ≡ alu_at wide source code }
@@ -127,6 +132,23 @@ impl OpcodeForm {
         }
     }
 
+    /// An atomic operation, or a store of a register.
+    fn register_store(opcode: u8) -> Option<OpcodeForm>
+        requires { opcode % 8 ≡ 3 }
+        ensures value { result ≡ register_store_at opcode }
+        ensures number { IfSome result (λ f. opcode_of f ≡ opcode) }
+    {
+        match opcode {
+            0xc3 => Some(OpcodeForm::Atomic {
+                size: AtomicSize::Word,
+            }),
+            0xdb => Some(OpcodeForm::Atomic {
+                size: AtomicSize::Double,
+            }),
+            _ => OpcodeForm::store(opcode, SourceBit::Reg),
+        }
+    }
+
     /// The form that an opcode begins.
     #[tactic(auto, unfolding(crate::specs::inside::Form::form_at))]
     pub fn of(opcode: u8) -> Option<OpcodeForm>
@@ -143,7 +165,7 @@ impl OpcodeForm {
             0 => (opcode == 0x18).then_some(OpcodeForm::Wide),
             1 => OpcodeForm::load(opcode),
             2 => OpcodeForm::store(opcode, SourceBit::Imm),
-            3 => OpcodeForm::store(opcode, SourceBit::Reg),
+            3 => OpcodeForm::register_store(opcode),
             4 => OpcodeForm::alu(false, source, code),
             5 => OpcodeForm::jump(true, source, code),
             6 => OpcodeForm::jump(false, source, code),
@@ -174,6 +196,7 @@ impl OpcodeForm {
             OpcodeForm::Call => no_registers && no_offset,
             OpcodeForm::Exit => no_registers && no_offset && no_imm,
             OpcodeForm::Load { kind: _ } => no_imm,
+            OpcodeForm::Atomic { size: _ } => AtomicOp::of(slot.imm).is_some(),
             OpcodeForm::Wide => no_offset && WideKind::of(slot.src).is_some(),
         }
     }
@@ -213,6 +236,28 @@ impl OpcodeForm {
             op: code.operation(slot.offset),
             dst,
             src: source.operand(slot, src),
+        }
+    }
+
+    fn atomic_insn(size: AtomicSize, slot: SlotFields, dst: Reg, src: Reg) -> Insn
+        requires opcode { slot.opcode ≡ opcode_of (Atomic size) }
+        requires listed { IsTrue (listed (Atomic size) slot) }
+        requires dst { slot.dst ≡ dst }
+        requires src { slot.src ≡ src }
+        requires dst_bound { dst ≤ 10 }
+        requires src_bound { src ≤ 10 }
+        ensures slots { slots result ≡ slot ∷ [] }
+        ensures value { IsInsn result }
+    {
+        let Some(op) = AtomicOp::of(slot.imm) else {
+            unreachable!();
+        };
+        Insn::Atomic {
+            size,
+            op,
+            dst,
+            src,
+            off: slot.offset.cast_signed(),
         }
     }
 
@@ -270,6 +315,7 @@ impl OpcodeForm {
                 src: source.operand(slot, src),
                 off,
             },
+            OpcodeForm::Atomic { size } => OpcodeForm::atomic_insn(size, slot, dst, src),
             OpcodeForm::Wide => unreachable!(),
         }
     }

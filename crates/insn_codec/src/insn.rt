@@ -1,4 +1,5 @@
-//! Instructions, as RFC 9669 defines them: the groups base32, base64, divmul32 and divmul64.
+//! Instructions, as RFC 9669 defines them: the groups base32, base64, divmul32 and divmul64,
+//! and the four atomic operations without FETCH.
 //!
 //! `wide` tells the two widths apart: 64 bits, or 32 bits where it is false (RFC 9669, section 3.3).
 
@@ -123,6 +124,22 @@ pub enum Size {
     Double,
 }
 
+/// How many bytes an atomic operation changes (RFC 9669, section 5.3): a word has four.
+#[derive(Clone, Copy, Debug, PartialEq, Eq)]
+pub enum AtomicSize {
+    Word,
+    Double,
+}
+
+/// What an atomic operation does to the bytes at its place, without FETCH (RFC 9669, section 5.3).
+#[derive(Clone, Copy, Debug, PartialEq, Eq)]
+pub enum AtomicOp {
+    Add,
+    Or,
+    And,
+    Xor,
+}
+
 /// A move with sign extension (RFC 9669, section 4.1). Only the wide one starts from 32 bits.
 ///
 /// It is a struct of its own, since the variants of an enum have no ghost fields to say so. So is `Load`.
@@ -200,6 +217,14 @@ pub enum Insn {
         src: Operand,
         off: i16,
     },
+    /// The bytes at `dst` plus `off` become the result of the operation on them and `src` (RFC 9669, section 5.3).
+    Atomic {
+        size: AtomicSize,
+        op: AtomicOp,
+        dst: Reg,
+        src: Reg,
+        off: i16,
+    },
     /// `dst` becomes a number of 64 bits: two slots (RFC 9669, section 5.4).
     Const {
         dst: Reg,
@@ -209,6 +234,13 @@ pub enum Insn {
     MapFd {
         dst: Reg,
         fd: i32,
+    },
+    /// `dst` becomes the address of the first value of the map with this descriptor, plus `off` bytes: two slots (RFC 9669,
+    /// section 5.4.1).
+    MapValue {
+        dst: Reg,
+        fd: i32,
+        off: u32,
     },
 }
 
@@ -220,7 +252,10 @@ impl Insn {
     pub fn is_wide(&self) -> bool
         ensures { result ≡ is_wide self.now }
     {
-        matches!(self, Insn::Const { .. } | Insn::MapFd { .. })
+        matches!(
+            self,
+            Insn::Const { .. } | Insn::MapFd { .. } | Insn::MapValue { .. }
+        )
     }
 
     /// In how many slots it is spelled: one, or two for a wide instruction.
@@ -268,11 +303,18 @@ impl Insn {
             Insn::Store { dst, src, off, .. } => {
                 let _ = (dst.number(), src.in_range(), off);
             }
+            Insn::Atomic { dst, src, off, .. } => {
+                let _ = (dst.number(), src.number(), off);
+            }
             Insn::Const { dst, value } => {
                 word_in_range(value);
                 let _ = dst.number();
             }
             Insn::MapFd { dst, fd } => {
+                let _ = (dst.number(), fd);
+            }
+            Insn::MapValue { dst, fd, off } => {
+                offset_in_range(off);
                 let _ = (dst.number(), fd);
             }
         }
@@ -283,6 +325,26 @@ fn word_in_range(value: u64)
     ensures { value < 2 ^ 64 }
 {
     let _ = value;
+}
+
+fn offset_in_range(offset: u32)
+    ensures { offset < 2 ^ 32 }
+{
+    let _ = offset;
+}
+
+impl AtomicSize {
+    ghost use Rattle.insn_codec.specs.Sizes.{access_size};
+
+    /// The size of its load and of its store.
+    pub fn access(self) -> Size
+        ensures { result ≡ access_size self }
+    {
+        match self {
+            AtomicSize::Word => Size::Word,
+            AtomicSize::Double => Size::Double,
+        }
+    }
 }
 
 impl Operand {

@@ -17,13 +17,16 @@ mod spelled;
 mod writing;
 
 pub use fault::{CodecFault, FaultKind};
-pub use insn::{AluOp, Bits, ByteOrder, Condition, Insn, Load, Movsx, Narrow, Operand, Reg, Size};
+pub use insn::{
+    AluOp, AtomicOp, AtomicSize, Bits, ByteOrder, Condition, Insn, Load, Movsx, Narrow, Operand,
+    Reg, Size,
+};
 pub use program::{Program, one_fault, one_program, read_program, write_program};
 pub use reading::{decode, one_spelling};
 pub use slot::RawSlot;
 pub use spelled::{
-    accesses_by_opcode, arithmetic_by_opcode, fields_of_first, jumps_by_opcode, moves_by_opcode,
-    one_operand_by_opcode, slots_of_spelled, wide_by_opcode,
+    accesses_by_opcode, arithmetic_by_opcode, atomics_by_opcode, fields_of_first, jumps_by_opcode,
+    moves_by_opcode, one_operand_by_opcode, slots_of_spelled, wide_by_opcode,
 };
 pub use writing::encode;
 

@@ -2,7 +2,7 @@
 
 ghost use Rattle.std.specs.Prelude.{◌≡◌, ◌<◌, ◌≤◌, IfSome, IsTrue, not, ◌&&◌, false};
 
-use crate::insn::{AluOp, Condition, Insn, Operand, Reg, Size};
+use crate::insn::{AluOp, AtomicOp, Condition, Insn, Operand, Reg, Size};
 use crate::slot::SlotFields;
 
 /// Where the second operand is: the source bit (RFC 9669, section 4).
@@ -49,6 +49,8 @@ pub enum WideKind {
     Number,
     /// The descriptor of a map.
     Map,
+    /// The descriptor of a map, and an offset in its first value.
+    MapValue,
 }
 
 impl AluCode {
@@ -216,6 +218,25 @@ impl LoadKind {
     }
 }
 
+impl AtomicOp {
+    ghost use Rattle.insn_codec.specs.inside.Form.{atomic_at};
+    ghost use Rattle.insn_codec.specs.Numbers.{atomic_number};
+
+    /// The operation with this immediate.
+    pub(crate) fn of(imm: u32) -> Option<AtomicOp>
+        ensures value { result ≡ atomic_at imm }
+        ensures number { IfSome result (λ op. atomic_number op ≡ imm) }
+    {
+        match imm {
+            0x00 => Some(AtomicOp::Add),
+            0x40 => Some(AtomicOp::Or),
+            0x50 => Some(AtomicOp::And),
+            0xa0 => Some(AtomicOp::Xor),
+            _ => None,
+        }
+    }
+}
+
 impl WideKind {
     ghost use Rattle.insn_codec.specs.inside.Form.{wide_at};
     ghost use Rattle.insn_codec.specs.inside.FirstFault.{is_second};
@@ -227,6 +248,7 @@ impl WideKind {
         match src {
             0 => Some(WideKind::Number),
             1 => Some(WideKind::Map),
+            2 => Some(WideKind::MapValue),
             _ => None,
         }
     }
@@ -236,7 +258,7 @@ impl WideKind {
         ensures { result ≡ is_second self next }
     {
         let number = match self {
-            WideKind::Number => true,
+            WideKind::Number | WideKind::MapValue => true,
             WideKind::Map => next.imm == 0,
         };
         next.opcode == 0 && next.dst == 0 && next.src == 0 && next.offset == 0 && number

@@ -46,6 +46,11 @@ fn wide(slot: SlotFields, dst: Reg, rest: &[u8]) -> Result<Insn, FaultKind>
             dst,
             fd: slot.imm.cast_signed(),
         }),
+        WideKind::MapValue => Ok(Insn::MapValue {
+            dst,
+            fd: slot.imm.cast_signed(),
+            off: next.imm,
+        }),
     }
 }
 

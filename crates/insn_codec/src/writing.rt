@@ -4,9 +4,9 @@ ghost use Rattle.std.specs.Prelude.{◌≡◌, ◌+◌, ◌*◌, ◌≤◌, ◌<
 ghost use Rattle.std.specs.Option.{option_to_list};
 ghost use Rattle.insn_codec.specs.Slot.{slot as slot_from};
 ghost use Rattle.insn_codec.specs.Spelling.{first as first_slot, second as second_slot, spelling, source_bit, src_field, imm_field};
-ghost use Rattle.insn_codec.specs.Numbers.{opcode as opcode_from, memory_opcode, alu_class, jump_class, alu_number, alu_offset, condition_number, size_number, narrow_number, bits_number, end_opcode, load_mode};
+ghost use Rattle.insn_codec.specs.Numbers.{opcode as opcode_from, memory_opcode, alu_class, jump_class, alu_number, alu_offset, condition_number, size_number, narrow_number, bits_number, end_opcode, load_mode, atomic_number};
 
-use crate::insn::{AluOp, Bits, ByteOrder, Condition, Insn, Narrow, Operand, Size};
+use crate::insn::{AluOp, AtomicOp, Bits, ByteOrder, Condition, Insn, Narrow, Operand, Size};
 use crate::slot::SlotFields;
 
 impl AluOp {
@@ -71,6 +71,19 @@ impl Size {
             Size::Half => 1,
             Size::Byte => 2,
             Size::Double => 3,
+        }
+    }
+}
+
+impl AtomicOp {
+    fn number(self) -> u32
+        ensures { result ≡ atomic_number self }
+    {
+        match self {
+            AtomicOp::Add => 0x00,
+            AtomicOp::Or => 0x40,
+            AtomicOp::And => 0x50,
+            AtomicOp::Xor => 0xa0,
         }
     }
 }
@@ -166,7 +179,7 @@ fn opcode(code: u8, source: u8, class: u8) -> u8
 }
 
 fn sized_opcode(mode: u8, size: Size, class: u8) -> u8
-    requires mode { mode ≤ 4 }
+    requires mode { mode ≤ 6 }
     requires class { class < 8 }
     ensures { result ≡ memory_opcode mode size class }
 {
@@ -250,10 +263,27 @@ fn first(insn: &Insn) -> SlotFields
                 src.imm(),
             )
         }
+        Insn::Atomic {
+            size,
+            op,
+            dst,
+            src,
+            off,
+        } => {
+            let opcode = sized_opcode(6, size.access(), 3);
+            slot(
+                opcode,
+                dst.number(),
+                src.number(),
+                off.cast_unsigned(),
+                op.number(),
+            )
+        }
         Insn::Const { dst, value } => {
             slot(0x18, dst.number(), 0, 0, (value % 0x1_0000_0000) as u32)
         }
         Insn::MapFd { dst, fd } => slot(0x18, dst.number(), 1, 0, fd.cast_unsigned()),
+        Insn::MapValue { dst, fd, .. } => slot(0x18, dst.number(), 2, 0, fd.cast_unsigned()),
     }
 }
 
@@ -265,6 +295,7 @@ fn second(insn: &Insn) -> Option<SlotFields>
     match *insn {
         Insn::Const { dst: _, value } => { Some(slot(0, 0, 0, 0, (value / 0x1_0000_0000) as u32)) }
         Insn::MapFd { .. } => Some(slot(0, 0, 0, 0, 0)),
+        Insn::MapValue { off, .. } => Some(slot(0, 0, 0, 0, off)),
         _ => None,
     }
 }

@@ -7,7 +7,7 @@ use Rattle.reg_kinds.specs.declared.kind.Slot.TheVariants.{Bytes, Spill}
 use Rattle.reg_kinds.specs.declared.facts.Facts.{Facts}
 use Rattle.reg_kinds.specs.declared.stack.AccessSize.TheVariants.{Byte, Half, Word, Double}
 use Rattle.reg_kinds.specs.declared.reason.Reason.{Reason}
-use Rattle.reg_kinds.specs.declared.reason.Reason.TheVariants.{JumpOutside, DescriptorNotMap, UnreadableRegister, OutsideStack, UnalignedStack, UnwrittenStack, PartOfSpill, MaybeNull, LengthUnbounded, Memory}
+use Rattle.reg_kinds.specs.declared.reason.Reason.TheVariants.{JumpOutside, NoDirectValue, UnreadableRegister, OutsideStack, UnalignedStack, UnwrittenStack, PartOfSpill, MaybeNull, UnalignedAtomic, Memory}
 use Rattle.reg_kinds.specs.Pointers.{value_span}
 use Rattle.reg_kinds.specs.Kinds.{is_pointer, kind_at, slot_at, with_kind, with_slot, tabulate, entry}
 use Rattle.reg_kinds.specs.Join.{kind_join, slot_join, facts_join}
@@ -198,7 +198,7 @@ spilled_copy_is_a_value = refl
 first_of_jumps : number JumpOutside ≡ 1
 first_of_jumps = refl
 
-last_of_descriptors : number DescriptorNotMap ≡ 8
+last_of_descriptors : number NoDirectValue ≡ 9
 last_of_descriptors = refl
 
 first_of_values : number UnreadableRegister ≡ 20
@@ -207,8 +207,8 @@ first_of_values = refl
 of_null : number MaybeNull ≡ 30
 of_null = refl
 
-last_of_helpers : number LengthUnbounded ≡ 35
-last_of_helpers = refl
+last_of_safety : number UnalignedAtomic ≡ 36
+last_of_safety = refl
 
 of_memory : number Memory ≡ 40
 of_memory = refl

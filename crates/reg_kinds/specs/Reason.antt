@@ -1,7 +1,7 @@
 -- Why a program is refused, and the number of each reason. The rules and their numbers are this project's own.
 use Rattle.std.specs.Prelude.{ℕ, Result, Ok, Err}
 use Rattle.reg_kinds.specs.declared.reason.Reason.{Reason}
-use Rattle.reg_kinds.specs.declared.reason.Reason.TheVariants.{JumpOutside, JumpBackward, FallsOff, Unreachable, UnknownHelper, FramePointerWritten, DescriptorNotOpen, DescriptorNotMap, UnreadableRegister, ResultNotScalar, NotPointer, PointerArithmetic, OffsetTooLarge, OutsideStack, UnalignedStack, UnwrittenStack, PartOfSpill, OutsideValue, MaybeNull, ContextAccess, PointerStored, PointerComparison, HelperArgument, LengthUnbounded, Memory}
+use Rattle.reg_kinds.specs.declared.reason.Reason.TheVariants.{JumpOutside, JumpBackward, FallsOff, Unreachable, UnknownHelper, FramePointerWritten, DescriptorNotOpen, DescriptorNotMap, NoDirectValue, UnreadableRegister, ResultNotScalar, NotPointer, PointerArithmetic, OffsetTooLarge, OutsideStack, UnalignedStack, UnwrittenStack, PartOfSpill, OutsideValue, MaybeNull, ContextAccess, PointerStored, PointerComparison, HelperArgument, LengthUnbounded, UnalignedAtomic, Memory}
 
 abbrev pub number : Reason → ℕ
 number JumpOutside = 1
@@ -12,6 +12,7 @@ number UnknownHelper = 5
 number FramePointerWritten = 6
 number DescriptorNotOpen = 7
 number DescriptorNotMap = 8
+number NoDirectValue = 9
 number UnreadableRegister = 20
 number ResultNotScalar = 21
 number NotPointer = 22
@@ -28,6 +29,7 @@ number PointerStored = 32
 number PointerComparison = 33
 number HelperArgument = 34
 number LengthUnbounded = 35
+number UnalignedAtomic = 36
 number Memory = 40
 
 -- what follows from a value, unless there is none: then the reason stays

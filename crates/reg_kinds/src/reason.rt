@@ -19,6 +19,8 @@ pub enum Reason {
     DescriptorNotOpen,
     /// A map is named by a descriptor of something else.
     DescriptorNotMap,
+    /// A value is loaded directly of a map that is not an array of one element, or at an offset that is not in it.
+    NoDirectValue,
     /// A register is read that may hold anything.
     UnreadableRegister,
     /// The result at the exit is not a scalar.
@@ -51,6 +53,8 @@ pub enum Reason {
     HelperArgument,
     /// A helper's length may be zero or too large.
     LengthUnbounded,
+    /// An atomic operation in a map's value at an offset that is not known to be a multiple of its size.
+    UnalignedAtomic,
     /// The verifier got no memory.
     Memory,
 }
@@ -59,7 +63,7 @@ impl Reason {
     ghost use Rattle.std.specs.Prelude.{◌≡◌};
     ghost use Rattle.reg_kinds.specs.Reason.{number};
 
-    /// The number that a refusal tells: 1 to 8 for the shape of a program, 20 to 35 for its safety, 40 for memory.
+    /// The number that a refusal tells: 1 to 9 for the shape of a program, 20 to 36 for its safety, 40 for memory.
     pub fn number(self) -> u16
         ensures { result ≡ number self }
     {
@@ -72,6 +76,7 @@ impl Reason {
             Reason::FramePointerWritten => 6,
             Reason::DescriptorNotOpen => 7,
             Reason::DescriptorNotMap => 8,
+            Reason::NoDirectValue => 9,
             Reason::UnreadableRegister => 20,
             Reason::ResultNotScalar => 21,
             Reason::NotPointer => 22,
@@ -88,6 +93,7 @@ impl Reason {
             Reason::PointerComparison => 33,
             Reason::HelperArgument => 34,
             Reason::LengthUnbounded => 35,
+            Reason::UnalignedAtomic => 36,
             Reason::Memory => 40,
         }
     }

@@ -6,14 +6,14 @@ use Rattle.insn_codec.specs.declared.insn.Condition.TheVariants.{Equal, NotEqual
 use Rattle.insn_codec.specs.declared.insn.Size.TheVariants.{Byte, Word, Double}
 use Rattle.insn_codec.specs.declared.insn.Operand.TheVariants.{Imm, Reg}
 use Rattle.insn_codec.specs.declared.insn.Insn.{Insn}
-use Rattle.insn_codec.specs.declared.insn.Insn.TheVariants.{Alu, Jump, Call, Exit, Const, MapFd}
+use Rattle.insn_codec.specs.declared.insn.Insn.TheVariants.{Alu, Jump, Call, Exit, Const, MapFd, MapValue}
 use Rattle.insn_codec.specs.Program.{begins_at}
 use Rattle.tagged_model.specs.declared.shape.MapKind.TheVariants.{Array, Hash}
 use Rattle.tagged_model.specs.declared.value.Outcome.{Outcome}
-use Rattle.tagged_model.specs.declared.value.Outcome.TheVariants.{Value}
+use Rattle.tagged_model.specs.declared.value.Outcome.TheVariants.{Value, Fault}
 use Rattle.tagged_model.specs.Cells.{gathered}
 use Rattle.tagged_model.specs.Helpers.{known_helpers}
-use Rattle.tagged_model.specs.Table.{Table}
+use Rattle.tagged_model.specs.Table.{Table, index_key}
 use Rattle.tagged_model.specs.Step.{MapsByDescriptor, run, numbered, result_of, result_with, left_with, was_refused}
 use Rattle.tagged_model.proofs.RunVectors.{minus, context, set, copy, get, put}
 
@@ -66,6 +66,59 @@ no_byte_8 = refl
 byte_0 : result_of chosen_byte eight_bytes (context 0) [] ≡ Value 10
 unfolding run begins_at gathered known_helpers numbered
 byte_0 = refl
+
+-- ---- a value that is loaded without a call
+
+-- r1 = map_value 3 + offset ll; r0 = *(u64 *)(r1 + 0)
+abbrev direct : ℕ → List Insn
+direct offset = MapValue 1 (pos 3) offset ∷ get Double 0 1 (pos 0) ∷ Exit ∷ []
+
+direct_value_is_read : result_of (direct 0) (only (array (5 ∷ 0 ∷ 0 ∷ 0 ∷ 0 ∷ 0 ∷ 0 ∷ 0 ∷ []))) (context 0) [] ≡ Value 5
+unfolding run begins_at gathered numbered index_key
+direct_value_is_read = refl
+
+-- r1 = map_value 3 + 4 ll; r0 = *(u32 *)(r1 + 0)
+direct_upper_half : result_of (MapValue 1 (pos 3) 4 ∷ get Word 0 1 (pos 0) ∷ Exit ∷ []) eight_bytes (context 0) [] ≡ Value 0x11100f0e
+unfolding run begins_at gathered numbered index_key
+direct_upper_half = refl
+
+-- eight bytes from offset 4 on reach out of the value
+direct_outside : result_of (direct 4) eight_bytes (context 0) [] ≡ Fault
+unfolding run begins_at gathered numbered index_key
+direct_outside = refl
+
+-- offset 8 is not in the value
+direct_behind : result_of (MapValue 1 (pos 3) 8 ∷ set 0 (pos 0) ∷ Exit ∷ []) eight_bytes (context 0) [] ≡ Fault
+unfolding run begins_at gathered numbered index_key
+direct_behind = refl
+
+-- r1 = map_value 3 + 0 ll; *(u64 *)(r1 + 0) = 6; r0 = 0
+direct_value_is_written : left_with [] (MapValue 1 (pos 3) 0 ∷ put Double 1 (pos 0) (pos 6) ∷ set 0 (pos 0) ∷ Exit ∷ []) eight_bytes (context 0) [] 3 ≡ Some (array (6 ∷ 0 ∷ 0 ∷ 0 ∷ 0 ∷ 0 ∷ 0 ∷ 0 ∷ []))
+unfolding run begins_at gathered numbered index_key
+direct_value_is_written = refl
+
+-- neither an array of two elements nor a hash map has one
+abbrev two_values : Table (List ℕ)
+two_values = record {
+  shape = record { kind = Array; key_size = 4; value_size = 8; max_entries = 2; listed = refl };
+  entries = (0 ∷ 0 ∷ 0 ∷ 0 ∷ [], replicate 8 0) ∷ (1 ∷ 0 ∷ 0 ∷ 0 ∷ [], replicate 8 0) ∷ [];
+  deleted = 0;
+}
+
+direct_of_two : result_of (direct 0) (only two_values) (context 0) [] ≡ Fault
+unfolding run begins_at gathered numbered index_key
+direct_of_two = refl
+
+abbrev key_0 : Table (List ℕ)
+key_0 = record {
+  shape = record { kind = Hash; key_size = 4; value_size = 8; max_entries = 1; listed = refl };
+  entries = (0 ∷ 0 ∷ 0 ∷ 0 ∷ [], replicate 8 0) ∷ [];
+  deleted = 0;
+}
+
+direct_of_hash : result_of (direct 0) (only key_0) (context 0) [] ≡ Fault
+unfolding run begins_at gathered numbered index_key
+direct_of_hash = refl
 
 -- ---- bytes of the packet
 

@@ -12,6 +12,7 @@ pub mod ManyReads
 pub mod ManyWrites
 pub mod Objects
 pub mod MapCalls
+pub mod DirectValues
 pub mod MapValues
 pub mod MapVerdicts
 pub mod AfterCalls

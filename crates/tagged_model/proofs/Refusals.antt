@@ -4,7 +4,7 @@ use Rattle.std.proofs.Math.Bool.{or-false}
 use Rattle.std.proofs.lemmas.Bool.{or_parts, or_from, true≢false, cond_both}
 use Rattle.words.specs.Words.{unsigned}
 use Rattle.insn_codec.specs.declared.insn.Insn.{Insn}
-use Rattle.insn_codec.specs.declared.insn.Insn.TheVariants.{Alu, Movsx, Neg, End, Ja, Jal, Jump, Call, Exit, Load, Store, Const, MapFd}
+use Rattle.insn_codec.specs.declared.insn.Insn.TheVariants.{Alu, Movsx, Neg, End, Ja, Jal, Jump, Call, Exit, Load, Store, Atomic, Const, MapFd, MapValue}
 use Rattle.insn_codec.specs.Program.{begins_at, slot_count}
 use Rattle.reg_kinds.specs.declared.stack.AccessSize.{AccessSize}
 use Rattle.reg_kinds.specs.Stack.{is_in_stack, place}
@@ -14,13 +14,15 @@ use Rattle.tagged_model.specs.declared.helper.Helper.TheVariants.{LookUp, Update
 use Rattle.tagged_model.specs.declared.value.Object.TheVariants as object
 use Rattle.tagged_model.specs.declared.value.Tagged.{Tagged}
 use Rattle.tagged_model.specs.declared.value.Tagged.TheVariants.{Scalar, Pointer}
-use Rattle.tagged_model.specs.Operators.{size_of}
-use Rattle.tagged_model.specs.Values.{arithmetic, first_operand, compared}
-use Rattle.tagged_model.specs.Table.{Verdict, Refused, Present, New, verdict, removal}
+use Rattle.insn_codec.specs.declared.insn.AtomicSize.{AtomicSize}
+use Rattle.insn_codec.specs.declared.insn.AtomicOp.{AtomicOp}
+use Rattle.tagged_model.specs.Operators.{size_of, atomic_operator, atomic_size, is_wide_atomic}
+use Rattle.tagged_model.specs.Values.{of_numbers, arithmetic, first_operand, compared}
+use Rattle.tagged_model.specs.Table.{Verdict, Refused, Present, New, verdict, removal, direct_object}
 use Rattle.tagged_model.specs.Cells.{and_then, write_cell, cell_over}
-use Rattle.tagged_model.specs.State.{RunState, RunMap, with_cells, with_register, stack_place, stack_store, stack_written, value_written, object_written, object_stored, store, input, output}
+use Rattle.tagged_model.specs.State.{RunState, RunMap, with_cells, with_register, stack_place, stack_store, stack_written, value_written, object_written, object_stored, load, store, input, output}
 use Rattle.tagged_model.specs.Helpers.{helper_of, MapReply, put, updated, taken_out, removed, packet_bytes, packet_answer, number_given, length_given, context_given, argument, map_argument, returns, replies, called}
-use Rattle.tagged_model.specs.Step.{Step, goes, ends, faults, or_fault, operand, jumped, branched, ended, advanced, assigned, act, step, refused_at_first, refused_later, Ending, one_step_more, ending_after, run, start_of_run}
+use Rattle.tagged_model.specs.Step.{Step, goes, ends, faults, or_fault, operand, jumped, branched, ended, advanced, assigned, changed, act, step, refused_at_first, refused_later, Ending, one_step_more, ending_after, run, start_of_run}
 use Rattle.insn_codec.specs.Flow.{natural}
 use Rattle.tagged_model.specs.Laws.{RefusalsAreTold}
 use Rattle.tagged_model.proofs.WithoutMaps.{not_refused}
@@ -98,6 +100,9 @@ module _ (refused : Bool) (s : RunState) where
   store_keeps size (Pointer object.Stack x) off v = stack_store_keeps (x +ℤ off) size v
   store_keeps size (Pointer (object.Value m number) x) off v = object_stored_keeps size m number (x +ℤ off) v
   store_keeps size p off v = tt
+
+  changed_keeps : (size : AtomicSize) (op : AtomicOp) (p : Tagged) (off : ℤ) (v : Tagged) → KeepsFlag (changed s size op p off v)
+  changed_keeps size op p off v = also_keeps (load s (atomic_size size) false p off) _ (λ old. also_keeps (of_numbers (is_wide_atomic size) (atomic_operator op) old v) _ (λ new. store_keeps (atomic_size size) p off new))
 
   output_keeps : (p : Tagged) (bs : List ℕ) → KeepsFlag (output s p bs)
   output_keeps (Pointer object.Stack x) bs = stack_written_keeps x bs
@@ -177,8 +182,10 @@ module _ (refused : Bool) (s : RunState) where
   act_tells Exit = need_tells (s.registers 0) _ _ ended_tells
   act_tells (Load l) = need_tells (s.registers l.src) _ _ (λ p. assigned_tells 1 l.dst _)
   act_tells (Store size dst src off) = need_tells (s.registers dst) _ _ (λ p. need_tells (operand s true src) _ _ (λ v. next_kept (store s (size_of size) p off v) (store_keeps (size_of size) p off v)))
+  act_tells (Atomic size op dst src off) = need_tells (s.registers dst) _ _ (λ p. need_tells (s.registers src) _ _ (λ v. next_kept (changed s size op p off v) (changed_keeps size op p off v)))
   act_tells (Const dst value) = kept _ _ refl refl
   act_tells (MapFd dst fd) = need_tells (s.maps (unsigned 32 fd)) _ _ (λ t. kept _ _ refl refl)
+  act_tells (MapValue dst fd off) = need_tells (s.maps (unsigned 32 fd)) _ _ (λ t. need_tells (direct_object t.table off) _ _ (λ number. kept _ _ refl refl))
 
   step_tells : (code : List Insn) → StepTells (step refused code s) (step false code s)
   step_tells code = need_tells (begins_at code s.at) _ _ act_tells

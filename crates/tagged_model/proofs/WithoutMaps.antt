@@ -3,7 +3,7 @@ use Rattle.std.proofs.Common.{◌≡◌, ℕ, zero, suc, ◌+◌, ◌/◌, ◌%�
 use Rattle.std.proofs.lemmas.Bool.{cond_both}
 use Rattle.words.specs.Words.{unsigned}
 use Rattle.insn_codec.specs.declared.insn.Insn.{Insn}
-use Rattle.insn_codec.specs.declared.insn.Insn.TheVariants.{Alu, Movsx, Neg, End, Ja, Jal, Jump, Call, Exit, Load, Store, Const, MapFd}
+use Rattle.insn_codec.specs.declared.insn.Insn.TheVariants.{Alu, Movsx, Neg, End, Ja, Jal, Jump, Call, Exit, Load, Store, Atomic, Const, MapFd, MapValue}
 use Rattle.insn_codec.specs.Program.{begins_at, slot_count}
 use Rattle.reg_kinds.specs.declared.stack.AccessSize.{AccessSize}
 use Rattle.reg_kinds.specs.Stack.{is_in_stack, place}
@@ -12,12 +12,15 @@ use Rattle.tagged_model.specs.declared.helper.Helper.TheVariants.{LookUp, Update
 use Rattle.tagged_model.specs.declared.value.Object.TheVariants as object
 use Rattle.tagged_model.specs.declared.value.Tagged.{Tagged}
 use Rattle.tagged_model.specs.declared.value.Tagged.TheVariants.{Scalar, Pointer}
-use Rattle.tagged_model.specs.Operators.{size_of}
-use Rattle.tagged_model.specs.Values.{arithmetic, first_operand, compared}
+use Rattle.insn_codec.specs.declared.insn.AtomicSize.{AtomicSize}
+use Rattle.insn_codec.specs.declared.insn.AtomicOp.{AtomicOp}
+use Rattle.tagged_model.specs.Operators.{size_of, atomic_operator, atomic_size, is_wide_atomic}
+use Rattle.tagged_model.specs.Values.{of_numbers, arithmetic, first_operand, compared}
 use Rattle.tagged_model.specs.Cells.{and_then, write_cell, cell_over}
-use Rattle.tagged_model.specs.State.{RunState, RunMap, with_cells, stack_place, stack_store, stack_written, value_written, with_map, with_value, object_written, object_stored, store, output}
+use Rattle.tagged_model.specs.Table.{direct_object}
+use Rattle.tagged_model.specs.State.{RunState, RunMap, with_cells, stack_place, stack_store, stack_written, value_written, with_map, with_value, object_written, object_stored, load, store, output}
 use Rattle.tagged_model.specs.Helpers.{helper_of, packet_bytes, packet_answer, number_given, length_given, context_given, map_given, argument, map_argument, returns, called}
-use Rattle.tagged_model.specs.Step.{Step, goes, ends, faults, or_fault, operand, jumped, branched, ended, advanced, assigned, act, step, refused_at_first, refused_later, Ending, ending_after, run, MapsByDescriptor, first_map, start_of_run, was_refused}
+use Rattle.tagged_model.specs.Step.{Step, goes, ends, faults, or_fault, operand, jumped, branched, ended, advanced, assigned, changed, act, step, refused_at_first, refused_later, Ending, ending_after, run, MapsByDescriptor, first_map, start_of_run, was_refused}
 use Rattle.insn_codec.specs.Flow.{natural}
 
 -- a state without maps in which no memory was refused
@@ -84,6 +87,9 @@ module _ (s : RunState) (bare : IsBare s) where
   store_bare size (Pointer (object.Value m number) x) off v = object_stored_bare size m number (x +ℤ off) v
   store_bare size p off v = tt
 
+  changed_bare : (size : AtomicSize) (op : AtomicOp) (p : Tagged) (off : ℤ) (v : Tagged) → AreBare (changed s size op p off v)
+  changed_bare size op p off v = also_bare (load s (atomic_size size) false p off) _ (λ old. also_bare (of_numbers (is_wide_atomic size) (atomic_operator op) old v) _ (λ new. store_bare (atomic_size size) p off new))
+
   output_bare : (p : Tagged) (bs : List ℕ) → AreBare (output s p bs)
   output_bare (Pointer object.Stack x) bs = stack_written_bare x bs
   output_bare (Pointer (object.Value m number) x) bs = object_written_bare m number x bs
@@ -134,8 +140,10 @@ module _ (s : RunState) (bare : IsBare s) where
   act_bare refused Exit = need_bare (s.registers 0) _ ended_bare
   act_bare refused (Load l) = need_bare (s.registers l.src) _ (λ p. assigned_bare 1 l.dst _)
   act_bare refused (Store size dst src off) = need_bare (s.registers dst) _ (λ p. need_bare (operand s true src) _ (λ v. next_bare (store s (size_of size) p off v) (store_bare (size_of size) p off v)))
+  act_bare refused (Atomic size op dst src off) = need_bare (s.registers dst) _ (λ p. need_bare (s.registers src) _ (λ v. next_bare (changed s size op p off v) (changed_bare size op p off v)))
   act_bare refused (Const dst value) = as_before _ refl refl
   act_bare refused (MapFd dst fd) = need_bare (s.maps (unsigned 32 fd)) _ (λ t. as_before _ refl refl)
+  act_bare refused (MapValue dst fd off) = need_bare (s.maps (unsigned 32 fd)) _ (λ t. need_bare (direct_object t.table off) _ (λ number. as_before _ refl refl))
 
   step_bare : (refused : Bool) (code : List Insn) → StaysBare (step refused code s)
   step_bare refused code = need_bare (begins_at code s.at) _ (act_bare refused)

@@ -14,7 +14,7 @@ use Rattle.tagged_model.specs.State.{RunState, RunMap, stack_load, stack_store, 
 use Rattle.tagged_model.specs.Cells.{number_from}
 use Rattle.insn_codec.specs.declared.insn.Insn.{Insn}
 use Rattle.tagged_model.specs.Step.{MapsByDescriptor, run_with, was_refused}
-use Rattle.tagged_model.specs.Table.{look_up}
+use Rattle.tagged_model.specs.Table.{look_up, has_direct_value, direct_object}
 use Rattle.tagged_model.specs.Helpers as helpers
 use Rattle.tagged_model.specs.Helpers.{returns}
 use Rattle.tagged_model.specs.Admits.{Witness, IsOfKind, AdmitsBy, IsInRange, AreBytes, IsMapOf, HasMaps, AreBelow, witness_at}
@@ -91,8 +91,9 @@ pub record KeepsShape (shape : MapShape) (t u : RunMap) : Type 0 where
   pub more : t.count ≤ u.count
   pub bytes : (number : ℕ) → AreBytes (u.values number)
 
--- the calls of a map keep it so, and a look-up gives one of its objects
+-- the calls of a map keep it so, and a look-up gives one of its objects; so does a load of the direct value, where it has one
 pub record MapCallsKeep : Type 0 where
+  pub direct : (shape : MapShape) (t : RunMap) (offset : ℕ) → IsMapOf shape t → has_direct_value shape offset ≡ true → (number : ℕ) × (direct_object t.table offset ≡ Some number) × (number < t.count)
   pub owned : (shape : MapShape) (t : RunMap) (key : List ℕ) (number : ℕ) → IsMapOf shape t → look_up t.table key ≡ Some number → number < t.count
   pub updated : (shape : MapShape) (t : RunMap) (key value : List ℕ) (flags : ℕ) (refused : Bool) → IsMapOf shape t → ((number : ℕ) → AreBytes (t.values number)) → length value ≡ shape.value_size → AreBytes value
       → KeepsShape shape t (helpers.updated refused t key value flags).map

@@ -1,4 +1,4 @@
--- The operators of instructions, as those on words (RFC 9669, sections 4.1 to 4.3), and the sizes of loads and stores
+-- The operators of instructions, as those on words (RFC 9669, sections 4.1 to 4.3 and 5.3), and the sizes of loads and stores
 -- (section 5).
 use Rattle.std.specs.Prelude.{ℕ, Bool, true, false}
 use Rattle.insn_codec.specs.declared.insn.AluOp.{AluOp}
@@ -13,6 +13,10 @@ use Rattle.insn_codec.specs.declared.insn.Narrow.{Narrow}
 use Rattle.insn_codec.specs.declared.insn.Narrow.TheVariants as narrow
 use Rattle.insn_codec.specs.declared.insn.Size.{Size}
 use Rattle.insn_codec.specs.declared.insn.Size.TheVariants as size
+use Rattle.insn_codec.specs.declared.insn.AtomicSize.{AtomicSize}
+use Rattle.insn_codec.specs.declared.insn.AtomicOp.{AtomicOp}
+use Rattle.insn_codec.specs.declared.insn.AtomicOp.TheVariants as atomic
+use Rattle.insn_codec.specs.Sizes.{is_double, access_size}
 use Rattle.words.specs.declared.operator.Operator.{Operator}
 use Rattle.words.specs.declared.operator.Operator.TheVariants.{Add, Sub, Mul, Div, SignedDiv, Or, And, ShiftLeft, ShiftRight, Mod, SignedMod, Xor, Mov, SignedShiftRight}
 use Rattle.words.specs.declared.operator.Comparison.{Comparison}
@@ -80,3 +84,19 @@ size_of size.Byte = Byte
 size_of size.Half = Half
 size_of size.Word = Word
 size_of size.Double = Double
+
+-- ---- atomic operations
+
+abbrev pub atomic_operator : AtomicOp → Operator
+atomic_operator atomic.Add = Add
+atomic_operator atomic.Or = Or
+atomic_operator atomic.And = And
+atomic_operator atomic.Xor = Xor
+
+-- the size of its load and store
+abbrev pub atomic_size : AtomicSize → AccessSize
+atomic_size z = size_of (access_size z)
+
+-- whether it is on 64 bits
+abbrev pub is_wide_atomic : AtomicSize → Bool
+is_wide_atomic z = is_double (access_size z)

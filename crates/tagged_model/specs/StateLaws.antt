@@ -1,14 +1,17 @@
--- What holds of offsets that are near, of cells of which no byte is told, and of the objects that the keys of a map have: laws of
--- the definitions of `Values` and `Admits`, proved here for the proofs of the crates above. This project's own. No contract
+-- What holds of offsets that are near, of cells of which no byte is told, of the objects that the keys of a map have, and of the value
+-- that is loaded directly: laws of the definitions of `Values`, `Admits` and `Table`, proved here for the proofs of the crates above. This project's own. No contract
 -- cites them, so there is nothing in them to believe.
-use Rattle.std.proofs.Common.{◌≡◌, ℕ, ◌^◌, ◌<◌, ◌≤◌, ℤ, pos, neg_ℤ, ◌≤ℤ◌, int_le, Bool, true, false, cond, List, [], ◌∷◌, Some, arith}
-use Rattle.std.proofs.lemmas.Bool.{and_parts}
+use Rattle.std.proofs.Common.{◌≡◌, ℕ, ◌^◌, ◌<◌, ◌≤◌, ◌==◌, ◌&&◌, nat_lt, ℤ, pos, neg_ℤ, ◌≤ℤ◌, int_le, Bool, true, false, cond, List, [], ◌∷◌, Option, Some, None, refl, arith}
+use Rattle.std.specs.Prelude.{nat_le}
+use Rattle.std.proofs.lemmas.Bool.{and_parts, eqb-true, ltb-true, leb-true, le-leb}
 use Rattle.std.proofs.lemmas.Int.{ints}
 use Rattle.std.proofs.lemmas.Nat.Bits.{bit_at-zero}
 use Rattle.std.proofs.lemmas.Option.{none-some, same_Some}
 use Rattle.tagged_model.specs.Values.{is_near}
 use Rattle.tagged_model.specs.Cells.{Cell}
-use Rattle.tagged_model.specs.Table.{is_key, found, without, with_key}
+use Rattle.tagged_model.specs.declared.shape.MapShape.{MapShape}
+use Rattle.tagged_model.specs.Shape.{has_key, is_from_to, is_valid, fits, longest_value, most_entries}
+use Rattle.tagged_model.specs.Table.{Table, is_key, found, without, with_key, index_key, is_array, has_direct_value, direct_object}
 use Rattle.tagged_model.specs.Admits.{HasBytes, KeysHaveObjects}
 
 -- ---- offsets
@@ -18,6 +21,10 @@ pub near_parts : (x : ℤ) → is_near x ≡ true → (neg_ℤ (pos (2 ^ 29)) �
 near_parts x e =
     let h = and_parts (int_le (neg_ℤ (pos (2 ^ 29))) x) (int_le x (pos (2 ^ 29))) e in
     let p = h.0 in let q = h.1 in (grind (arith, ints), grind (arith, ints))
+
+-- an offset in a value is near
+pub near_from : (offset : ℕ) → offset < 4096 → is_near (pos offset) ≡ true
+near_from offset lt = le-leb offset (2 ^ 29) (omega arith)
 
 -- ---- cells
 
@@ -54,3 +61,35 @@ owns_without n key (e ∷ es) h = by (is_key key e.0) (owns_without n key es h.1
     by : (b : Bool) → KeysHaveObjects n (without key es) → KeysHaveObjects n (cond b es (e ∷ without key es))
     by true g = h.1
     by false g = (h.0, g)
+
+-- ---- the value that is loaded directly
+
+-- each value is short
+pub value_short : (shape : MapShape) → shape.value_size ≤ 4096
+value_short shape =
+    let valid = (and_parts (is_valid shape.kind shape.key_size shape.value_size shape.max_entries 0) (fits shape.value_size shape.max_entries) shape.listed).0 in
+    let sizes = and_parts (has_key shape.kind shape.key_size && is_from_to 1 longest_value shape.value_size && is_from_to 1 most_entries shape.max_entries) (0 == 0) valid in
+    let sized = and_parts (has_key shape.kind shape.key_size && is_from_to 1 longest_value shape.value_size) (is_from_to 1 most_entries shape.max_entries) sizes.0 in
+    let value = and_parts (has_key shape.kind shape.key_size) (is_from_to 1 longest_value shape.value_size) sized.0 in
+    leb-true shape.value_size longest_value (and_parts (nat_le 1 shape.value_size) (nat_le shape.value_size longest_value) value.1).1
+
+-- its map has one entry, and its offset is near
+pub record IsDirect (shape : MapShape) (offset : ℕ) : Type 0 where
+  pub one : shape.max_entries ≡ 1
+  pub near : offset < 4096
+
+pub is_direct : (shape : MapShape) (offset : ℕ) → has_direct_value shape offset ≡ true → IsDirect shape offset
+is_direct shape offset e =
+    let parts = and_parts (is_array shape.kind && (shape.max_entries == 1)) (nat_lt offset shape.value_size) e in
+    let front = and_parts (is_array shape.kind) (shape.max_entries == 1) parts.0 in
+    let inside = ltb-true offset shape.value_size parts.1 in
+    let short = value_short shape in
+    record { one = eqb-true shape.max_entries 1 front.1; near = omega arith }
+
+-- its object is that of index 0
+pub direct_is : (t : Table ℕ) (offset number : ℕ) → direct_object t offset ≡ Some number → IsDirect t.shape offset × (found (index_key 0) t.entries ≡ Some number)
+direct_is t offset number e = by (has_direct_value t.shape offset) refl e
+  where
+    by : (b : Bool) → has_direct_value t.shape offset ≡ b → cond b (found (index_key 0) t.entries) None ≡ Some number → IsDirect t.shape offset × (found (index_key 0) t.entries ≡ Some number)
+    by true g h = (is_direct t.shape offset g, h)
+    by false g h = absurd (none-some number h)

@@ -2,7 +2,7 @@
 -- objects, in order. An object is anything that stands for a value: its number in a run, its place in an area, its bytes.
 -- The order of the refusals, the order of a hash map's keys, and that what a run deletes counts until the run ends are this
 -- project's own.
-use Rattle.std.specs.Prelude.{ℕ, zero, suc, ◌+◌, ◌==◌, nat_eq, nat_le, Bool, if◌then◌else◌, List, [], ◌∷◌, ◌++◌, length, map, Option, Some, None, is_some, Result, Ok, Err}
+use Rattle.std.specs.Prelude.{ℕ, zero, suc, ◌+◌, ◌==◌, ◌&&◌, nat_eq, nat_le, nat_lt, Bool, true, false, if◌then◌else◌, List, [], ◌∷◌, ◌++◌, length, map, Option, Some, None, is_some, Result, Ok, Err}
 use Rattle.std.specs.Map.{lookup, remove_entry, set_value}
 use Rattle.std.specs.Cmp.Lexicographic.{pointwise}
 use Rattle.words.specs.Bytes.{low_bytes}
@@ -139,6 +139,20 @@ module _ {A : Type 0} where
   -- a new map
   abbrev pub new_table : (ℕ → A) → MapShape → Table A
   new_table object shape = record { shape = shape; entries = new_entries object shape.kind shape.max_entries; deleted = 0 }
+
+-- ---- the value that a program may load without a call (linux/bpf.h, BPF_PSEUDO_MAP_VALUE): that of an array of one element, at an
+-- offset in it, as the kernel's array maps have it (map_direct_value_addr)
+
+abbrev pub is_array : MapKind → Bool
+is_array Array = true
+is_array Hash = false
+
+abbrev pub has_direct_value : MapShape → ℕ → Bool
+has_direct_value shape offset = is_array shape.kind && (shape.max_entries == 1) && nat_lt offset shape.value_size
+
+-- its object, that of index 0
+abbrev pub direct_object : {A : Type 0} → Table A → ℕ → Option A
+direct_object t offset = if has_direct_value t.shape offset then look_up t (index_key 0) else None
 
 -- ---- what the objects stand for
 

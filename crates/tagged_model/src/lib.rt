@@ -20,7 +20,10 @@ pub use laws::{
     stack_write_admits, value_load_admits, value_store_admits,
 };
 pub use named::{shape_of, target_of};
-pub use operators::{access_size, byte_order, comparison, kept_bits, narrow, operator};
+pub use operators::{
+    access_size, atomic_operator, byte_order, comparison, is_wide_atomic, kept_bits, narrow,
+    operator,
+};
 pub use shape::{
     LARGEST_AREA, LONGEST_KEY, LONGEST_VALUE, MOST_ENTRIES, MapKind, MapShape, Named, ShapeFault,
     Target,

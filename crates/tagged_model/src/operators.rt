@@ -1,9 +1,9 @@
 //! The operators of instructions, as those on words, and the sizes of loads and stores, as those of stack accesses.
 
 ghost use Rattle.std.specs.Prelude.{◌≡◌};
-ghost use Rattle.tagged_model.specs.Operators.{operator_of, comparison_of, narrow_of, order_of, kept_of, size_of};
+ghost use Rattle.tagged_model.specs.Operators.{operator_of, comparison_of, narrow_of, order_of, kept_of, size_of, atomic_operator, is_wide_atomic};
 
-use insn_codec::{AluOp, Bits, ByteOrder, Condition, Narrow, Size};
+use insn_codec::{AluOp, AtomicOp, AtomicSize, Bits, ByteOrder, Condition, Narrow, Size};
 use words::{Comparison, Operator};
 
 /// The operator on words.
@@ -26,6 +26,30 @@ pub fn operator(op: AluOp) -> Operator
         AluOp::Xor => Operator::Xor,
         AluOp::Mov => Operator::Mov,
         AluOp::SignedShiftRight => Operator::SignedShiftRight,
+    }
+}
+
+/// The operator of an atomic operation.
+#[inline(always)]
+pub fn atomic_operator(op: AtomicOp) -> Operator
+    ensures { result ≡ atomic_operator op }
+{
+    match op {
+        AtomicOp::Add => Operator::Add,
+        AtomicOp::Or => Operator::Or,
+        AtomicOp::And => Operator::And,
+        AtomicOp::Xor => Operator::Xor,
+    }
+}
+
+/// Whether an atomic operation is on 64 bits.
+#[inline(always)]
+pub fn is_wide_atomic(size: AtomicSize) -> bool
+    ensures { result ≡ is_wide_atomic size }
+{
+    match size {
+        AtomicSize::Word => false,
+        AtomicSize::Double => true,
     }
 }
 

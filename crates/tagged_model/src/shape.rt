@@ -1,7 +1,7 @@
 //! The shapes of maps, and what a descriptor names.
 
-ghost use Rattle.std.specs.Prelude.{◌≡◌, ◌≤◌, IsTrue, IfOk, OnOk, IfErr, Some, None};
-ghost use Rattle.tagged_model.specs.Shape.{area, is_shape, largest_area, shape_fault};
+ghost use Rattle.std.specs.Prelude.{◌≡◌, ◌<◌, ◌≤◌, true, IsTrue, IfOk, OnOk, IfErr, Some, None};
+ghost use Rattle.tagged_model.specs.Shape.{area, is_shape, largest_area, longest_value, shape_fault};
 
 /// The bytes of the longest key of a hash map, a limit of this project.
 pub const LONGEST_KEY: u32 = 64;
@@ -61,6 +61,8 @@ pub struct Named {
 }
 
 impl MapShape {
+    ghost use Rattle.tagged_model.specs.Table.{has_direct_value};
+
     /// The shape of these fields, which are those of bpf(2), BPF_MAP_CREATE. The sizes are in bytes.
     ///
     /// # Errors
@@ -101,6 +103,15 @@ impl MapShape {
             value_size,
             max_entries,
         })
+    }
+
+    /// Whether a program may load the address of a value without a call, at an offset in bytes: the map is an array of one element,
+    /// and the offset lies in its value (linux/bpf.h, BPF_PSEUDO_MAP_VALUE).
+    pub fn has_direct_value(&self, offset: u32) -> bool
+        ensures value { result ≡ has_direct_value self.now offset }
+        ensures bound { result ≡ true → offset < longest_value }
+    {
+        self.kind == MapKind::Array && self.max_entries == 1 && offset < self.value_size
     }
 
     /// The bytes that the values take, each rounded up to a multiple of eight: at most `LARGEST_AREA`.

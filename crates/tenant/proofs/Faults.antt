@@ -71,6 +71,7 @@ verdict_other reason.UnknownHelper = invalid
 verdict_other reason.FramePointerWritten = denied
 verdict_other reason.DescriptorNotOpen = not_open
 verdict_other reason.DescriptorNotMap = invalid
+verdict_other reason.NoDirectValue = invalid
 verdict_other reason.UnreadableRegister = denied
 verdict_other reason.ResultNotScalar = denied
 verdict_other reason.NotPointer = denied
@@ -87,6 +88,7 @@ verdict_other reason.PointerStored = denied
 verdict_other reason.PointerComparison = denied
 verdict_other reason.HelperArgument = denied
 verdict_other reason.LengthUnbounded = denied
+verdict_other reason.UnalignedAtomic = denied
 verdict_other reason.Memory = no_memory
 
 -- ---- command by command

@@ -179,6 +179,7 @@ verdict_errno reason.UnknownHelper = Invalid
 verdict_errno reason.FramePointerWritten = AccessDenied
 verdict_errno reason.DescriptorNotOpen = BadDescriptor
 verdict_errno reason.DescriptorNotMap = Invalid
+verdict_errno reason.NoDirectValue = Invalid
 verdict_errno reason.UnreadableRegister = AccessDenied
 verdict_errno reason.ResultNotScalar = AccessDenied
 verdict_errno reason.NotPointer = AccessDenied
@@ -195,6 +196,7 @@ verdict_errno reason.PointerStored = AccessDenied
 verdict_errno reason.PointerComparison = AccessDenied
 verdict_errno reason.HelperArgument = AccessDenied
 verdict_errno reason.LengthUnbounded = AccessDenied
+verdict_errno reason.UnalignedAtomic = AccessDenied
 verdict_errno reason.Memory = NoMemory
 
 -- what slots come to: a program, or why they are none that may run

@@ -70,7 +70,10 @@ fn errno_of_verdict(reason: Reason) -> Errno
 {
     match reason {
         Reason::JumpOutside | Reason::JumpBackward | Reason::FallsOff => Errno::Invalid,
-        Reason::Unreachable | Reason::UnknownHelper | Reason::DescriptorNotMap => Errno::Invalid,
+        Reason::Unreachable
+        | Reason::UnknownHelper
+        | Reason::DescriptorNotMap
+        | Reason::NoDirectValue => Errno::Invalid,
         Reason::DescriptorNotOpen => Errno::BadDescriptor,
         Reason::FramePointerWritten
         | Reason::UnreadableRegister
@@ -88,7 +91,8 @@ fn errno_of_verdict(reason: Reason) -> Errno
         | Reason::PointerStored
         | Reason::PointerComparison
         | Reason::HelperArgument
-        | Reason::LengthUnbounded => Errno::AccessDenied,
+        | Reason::LengthUnbounded
+        | Reason::UnalignedAtomic => Errno::AccessDenied,
         Reason::Memory => Errno::NoMemory,
     }
 }

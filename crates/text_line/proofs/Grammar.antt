@@ -13,7 +13,11 @@ use Rattle.insn_codec.specs.declared.insn.ByteOrder.{ByteOrder}
 use Rattle.insn_codec.specs.declared.insn.Bits.{Bits}
 use Rattle.insn_codec.specs.declared.insn.Narrow.{Narrow}
 use Rattle.insn_codec.specs.declared.insn.Size.{Size}
-use Rattle.insn_codec.specs.Sizes.{is_double, is_short}
+use Rattle.insn_codec.specs.declared.insn.Size.TheVariants as size
+use Rattle.insn_codec.specs.declared.insn.AtomicSize.{AtomicSize}
+use Rattle.insn_codec.specs.declared.insn.AtomicSize.TheVariants as atomic_size
+use Rattle.insn_codec.specs.declared.insn.AtomicOp.{AtomicOp}
+use Rattle.insn_codec.specs.Sizes.{is_double, is_short, access_size}
 use Rattle.text_line.specs.declared.form.Number.{Number}
 use Rattle.text_line.specs.declared.form.SourceOperand.{SourceOperand}
 use Rattle.text_line.specs.declared.form.SourceOperand.TheVariants as source
@@ -23,10 +27,10 @@ use Rattle.text_line.specs.declared.form.Form.{Form}
 use Rattle.text_line.specs.declared.form.Form.TheVariants as form
 use Rattle.text_line.specs.declared.form.Address.{Address}
 use Rattle.text_line.specs.Token.{Token, name, number, symbol}
-use Rattle.text_line.specs.Names.{operator_name, condition_name, order_name, narrow_name, size_name, register_name, sign_name}
-use Rattle.text_line.specs.Form.{TokenLayout, layout, sign, word, space, tokens_of, minus, to_label, constant, operand, destination, address, IsForm, IsSource, names_label}
+use Rattle.text_line.specs.Names.{operator_name, condition_name, order_name, narrow_name, size_name, atomic_name, register_name, sign_name}
+use Rattle.text_line.specs.Form.{TokenLayout, layout, sign, word, space, tokens_of, reg, minus, to_label, constant, operand, destination, address, IsForm, IsSource, names_label}
 use Rattle.text_line.specs.Line.{Line, blank, label, code, spelled, IsWellFormed, NoLabel}
-use Rattle.text_line.specs.inside.Reading.{named, operators, conditions, orders, narrows, sizes, registers, symbol_then, name_then, number_then, after_symbol, after_word, register_then, number_from, constant_then, signed_then, operand_then, destination_of, address_then, at_end, match_option, jump_of, load_of, store_of, movsx_of, neg_of, end_of, const_of, map_fd_of, wide_of, moved_of, is_move, alu_of, assignment_of, assigned_of, goto_of, gotol_of, call_of, form_of, label_of, line_of, bool_eq, ◌>>=◌}
+use Rattle.text_line.specs.inside.Reading.{named, operators, conditions, orders, narrows, sizes, atomic_operators, registers, symbol_then, name_then, number_then, after_symbol, after_word, register_then, number_from, constant_then, signed_then, operand_then, destination_of, address_then, atomic_size_of, at_end, match_option, jump_of, load_of, store_of, atomic_of, movsx_of, neg_of, end_of, const_of, map_fd_of, map_value_of, wide_of, moved_of, is_move, alu_of, assignment_of, assigned_of, goto_of, gotol_of, call_of, form_of, label_of, line_of, bool_eq, ◌>>=◌}
 
 -- ---- options
 
@@ -73,6 +77,9 @@ narrow_is n b e = named_is narrow_name narrows n b (search rules) e
 
 pub size_is : (n : List ℕ) (s : Bool × Size) → named sizes n ≡ Some s → n ≡ size_name s.0 s.1
 size_is n s e = named_is (λ s. size_name s.0 s.1) sizes n s (search rules) e
+
+pub atomic_operator_is : (n : List ℕ) (op : AtomicOp) → named atomic_operators n ≡ Some op → n ≡ atomic_name op
+atomic_operator_is n op e = named_is atomic_name atomic_operators n op (search rules) e
 
 pub register_is : (n : List ℕ) (r : Bool × ℕ) → named registers n ≡ Some r → n ≡ register_name r.0 r.1
 register_is n r e = named_is (λ r. register_name r.0 r.1) registers n r (search rules) e
@@ -360,6 +367,50 @@ store_is ts f e =
       subst IsForm d.1 (at.1, src.1),
     )
 
+-- the size that is written is that of the operation's load and store
+atomic_size_is : (signed : Bool) (s : Size) (z : AtomicSize) → atomic_size_of signed s ≡ Some z → size_name signed s ≡ size_name false (access_size z)
+atomic_size_is false size.Word z e = ap (λ (x : AtomicSize). size_name false (access_size x)) (made_is atomic_size.Word z e)
+atomic_size_is false size.Double z e = ap (λ (x : AtomicSize). size_name false (access_size x)) (made_is atomic_size.Double z e)
+atomic_size_is _ _ z e = absurd (let no : Some z ≡ None = sym e in cc no)
+
+-- the steps of an atomic operation, last first
+abbrev atomic_4 : Address → AtomicSize → AtomicOp → ℕ × List Token → Option Form
+atomic_4 a z op src = at_end (form.Atomic z op a.base src.0 a.offset) src.1
+
+abbrev atomic_3 : Address → AtomicSize → List Token → AtomicOp → Option Form
+atomic_3 a z ts op = register_then true ts >>= λ src. atomic_4 a z op src
+
+abbrev atomic_2 : Address → AtomicSize → List ℕ × List Token → Option Form
+atomic_2 a z s = named atomic_operators s.0 >>= λ op. atomic_3 a z s.1 op
+
+abbrev atomic_1 : Address × List Token → AtomicSize → Option Form
+atomic_1 a z = symbol_then a.1 >>= λ s. atomic_2 a.0 z s
+
+abbrev atomic_0 : Address × List Token → Option Form
+atomic_0 a = atomic_size_of a.0.signed a.0.size >>= λ z. atomic_1 a z
+
+pub atomic_is : (ts : List Token) (f : Form) → atomic_of ts ≡ Some f → After (name (codes "lock") ∷ []) ts f
+unfolding atomic_of
+atomic_is ts f e =
+    let a = bind_some (address_then ts) atomic_0 f e in
+    let z = bind_some (atomic_size_of a.0.0.signed a.0.0.size) (atomic_1 a.0) f a.2 in
+    let s = bind_some (symbol_then a.0.1) (atomic_2 a.0.0 z.0) f z.2 in
+    let op = bind_some (named atomic_operators s.0.0) (atomic_3 a.0.0 z.0 s.0.1) f s.2 in
+    let src = bind_some (register_then true s.0.1) (atomic_4 a.0.0 z.0 op.0) f op.2 in
+    let d = end_is (form.Atomic z.0 op.0 a.0.0.base src.0.0 a.0.0.offset) f src.0.1 src.2 in
+    let register = register_then_is true s.0.1 src.0 src.1 in
+    let rest : TokenLayout = sign (atomic_name op.0) ∷ reg true src.0.0 ∷ [] in
+    let behind : tokens_of rest ≡ a.0.1 = sym (symbol_is a.0.1 s.0 s.1
+    ∙ ap (λ (m : List ℕ). symbol m ∷ s.0.1) (atomic_operator_is s.0.0 op.0 op.1)
+    ∙ ap (λ (l : List Token). symbol (atomic_name op.0) ∷ l) (register.0
+    ∙ ap (λ (l : List Token). name (register_name true src.0.0) ∷ l) d.0)) in
+    let at = address_is ts a.0 rest behind a.1 in (
+      ap (λ (l : List Token). name (codes "lock") ∷ l) (at.0
+          ∙ ap (λ (n : List ℕ). tokens_of (address n a.0.0.base a.0.0.offset rest)) (atomic_size_is a.0.0.signed a.0.0.size z.0 z.1))
+          ∙ ap (λ (g : Form). tokens_of (layout g [])) d.1,
+      subst IsForm d.1 (at.1, register.1),
+    )
+
 abbrev jump_6 : Bool × ℕ → Condition → SourceOperand × List Token → List Token → Option (Form × List ℕ)
 jump_6 r c src ts = destination_of ts >>= λ to. Some (form.Jump r.0 c r.1 src.0 to.0, to.1)
 
@@ -520,19 +571,56 @@ map_fd_is dst ts f fits e =
       subst IsForm d.1 fits,
     )
 
+abbrev map_value_3 : ℕ → Number → Option ℕ × List Token → Option Form
+map_value_3 dst fd off = after_word (codes "ll") off.1 >>= λ ts. at_end (form.MapValue dst fd off.0) ts
+
+abbrev map_value_2 : ℕ → Number → List Token → Option Form
+map_value_2 dst fd ts = number_then ts >>= λ off. map_value_3 dst fd off
+
+abbrev map_value_1 : ℕ → Number × List Token → Option Form
+map_value_1 dst n = after_symbol (codes "+") n.1 >>= λ ts. map_value_2 dst n.0 ts
+
+pub map_value_is : (dst : ℕ) (ts : List Token) (f : Form) → dst ≤ 10 → map_value_of dst ts ≡ Some f → Assigned true dst (name (codes "map_value") ∷ ts) f
+unfolding map_value_of
+map_value_is dst ts f fits e =
+    let n = bind_some (constant_then ts) (map_value_1 dst) f e in
+    let p = bind_some (after_symbol (codes "+") n.0.1) (map_value_2 dst n.0.0) f n.2 in
+    let v = bind_some (number_then p.0) (map_value_3 dst n.0.0) f p.2 in
+    let w = bind_some (after_word (codes "ll") v.0.1) (λ ts. at_end (form.MapValue dst n.0.0 v.0.0) ts) f v.2 in
+    let d = end_is (form.MapValue dst n.0.0 v.0.0) f w.0 w.2 in
+    let rest : TokenLayout = sign (codes "+") ∷ Some (number v.0.0) ∷ word (codes "ll") ∷ [] in
+    let behind : tokens_of rest ≡ n.0.1 = sym (after_symbol_is (codes "+") n.0.1 p.0 p.1
+    ∙ ap (λ (l : List Token). symbol (codes "+") ∷ l) (number_is p.0 v.0 v.1
+    ∙ ap (λ (l : List Token). number v.0.0 ∷ l) (after_word_is (codes "ll") v.0.1 w.0 w.1
+    ∙ ap (λ (l : List Token). name (codes "ll") ∷ l) d.0))) in (
+      ap (λ (l : List Token). name (register_name true dst) ∷ symbol (codes "=") ∷ name (codes "map_value") ∷ l) (constant_then_is ts n.0 rest behind n.1
+          ∙ constant_spaced n.0.0 rest (space ∷ sign (codes "+") ∷ space ∷ Some (number v.0.0) ∷ space ∷ word (codes "ll") ∷ []) refl)
+          ∙ ap (λ (g : Form). tokens_of (layout g [])) d.1,
+      subst IsForm d.1 fits,
+    )
+
+abbrev wide_1 : ℕ → List Token → Option Form
+wide_1 dst ts = match_option (end_of dst ts) (match_option (const_of dst ts) (load_of dst ts) (λ g. Some g)) (λ g. Some g)
+
 pub wide_is : (dst : ℕ) (ts : List Token) (f : Form) → dst ≤ 10 → wide_of dst ts ≡ Some f → Assigned true dst ts f
 unfolding wide_of
 wide_is dst ts f fits e =
-    elim (either (after_word (codes "map_fd") ts) (match_option (end_of dst ts) (match_option (const_of dst ts) (load_of dst ts) (λ g. Some g)) (λ g. Some g)) (λ rest. map_fd_of dst rest) f e) [
+    elim (either (after_word (codes "map_fd") ts) (match_option (after_word (codes "map_value") ts) (wide_1 dst ts) (λ rest. map_value_of dst rest)) (λ rest. map_fd_of dst rest) f e) [
       | inr m ↦
           let w = after_word_is (codes "map_fd") ts m.0 m.1 in
           let g = map_fd_is dst m.0 f fits m.2 in
           (ap (λ (l : List Token). name (register_name true dst) ∷ symbol (codes "=") ∷ l) w ∙ g.0, g.1)
-      | inl q ↦ elim (either (end_of dst ts) (match_option (const_of dst ts) (load_of dst ts) (λ g. Some g)) (λ g. Some g) f q.1) [
-        | inr m ↦ end_form_is dst ts f fits (m.1 ∙ m.2)
-        | inl r ↦ elim (either (const_of dst ts) (load_of dst ts) (λ g. Some g) f r.1) [
-          | inr m ↦ const_is dst ts f fits (m.1 ∙ m.2)
-          | inl l ↦ load_is dst ts f fits l.1
+      | inl p ↦ elim (either (after_word (codes "map_value") ts) (wide_1 dst ts) (λ rest. map_value_of dst rest) f p.1) [
+        | inr m ↦
+            let w = after_word_is (codes "map_value") ts m.0 m.1 in
+            let g = map_value_is dst m.0 f fits m.2 in
+            (ap (λ (l : List Token). name (register_name true dst) ∷ symbol (codes "=") ∷ l) w ∙ g.0, g.1)
+        | inl q ↦ elim (either (end_of dst ts) (match_option (const_of dst ts) (load_of dst ts) (λ g. Some g)) (λ g. Some g) f q.1) [
+          | inr m ↦ end_form_is dst ts f fits (m.1 ∙ m.2)
+          | inl r ↦ elim (either (const_of dst ts) (load_of dst ts) (λ g. Some g) f r.1) [
+            | inr m ↦ const_is dst ts f fits (m.1 ∙ m.2)
+            | inl l ↦ load_is dst ts f fits l.1
+          ]
         ]
       ]
     ]
@@ -651,8 +739,11 @@ no_label : (b : Bool) → NoLabel b []
 no_label true = tt
 no_label false = refl
 
+abbrev form_6 : List Token → Option (Form × List ℕ)
+form_6 ts = match_option (assigned_of ts) (option_map bare (store_of ts)) (λ f. Some (bare f))
+
 abbrev form_5 : List Token → Option (Form × List ℕ)
-form_5 ts = match_option (assigned_of ts) (option_map bare (store_of ts)) (λ f. Some (bare f))
+form_5 ts = match_option (after_word (codes "lock") ts) (form_6 ts) (λ rest. option_map bare (atomic_of rest))
 
 abbrev form_4 : List Token → Option (Form × List ℕ)
 form_4 ts = match_option (after_word (codes "exit") ts) (form_5 ts) (λ rest. at_end (bare form.Exit) rest)
@@ -666,10 +757,19 @@ form_2 ts = match_option (after_word (codes "gotol") ts) (form_3 ts) (λ rest. g
 abbrev form_1 : List Token → Option (Form × List ℕ)
 form_1 ts = match_option (after_word (codes "goto") ts) (form_2 ts) (λ rest. goto_of rest)
 
-form_5_is : (ts : List Token) (f : Form × List ℕ) → form_5 ts ≡ Some f → Whole ts f
-form_5_is ts f e = elim (either (assigned_of ts) (option_map bare (store_of ts)) (λ f. Some (bare f)) f e) [
+form_6_is : (ts : List Token) (f : Form × List ℕ) → form_6 ts ≡ Some f → Whole ts f
+form_6_is ts f e = elim (either (assigned_of ts) (option_map bare (store_of ts)) (λ f. Some (bare f)) f e) [
   | inr m ↦ plain_whole ts m.0 f (made_is (bare m.0) f m.2) (assigned_is ts m.0 m.1) (no_label (names_label m.0))
   | inl q ↦ let m = map_some (store_of ts) bare f q.1 in plain_whole ts m.0 f m.2 (store_is ts m.0 m.1) (no_label (names_label m.0))
+]
+
+form_5_is : (ts : List Token) (f : Form × List ℕ) → form_5 ts ≡ Some f → Whole ts f
+form_5_is ts f e = elim (either (after_word (codes "lock") ts) (form_6 ts) (λ rest. option_map bare (atomic_of rest)) f e) [
+  | inr m ↦
+      let a = map_some (atomic_of m.0) bare f m.2 in
+      let g = atomic_is m.0 a.0 a.1 in
+      plain_whole ts a.0 f a.2 (after_word_is (codes "lock") ts m.0 m.1 ∙ g.0, g.1) (no_label (names_label a.0))
+  | inl q ↦ form_6_is ts f q.1
 ]
 
 form_4_is : (ts : List Token) (f : Form × List ℕ) → form_4 ts ≡ Some f → Whole ts f

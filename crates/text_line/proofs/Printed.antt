@@ -13,13 +13,16 @@ use Rattle.insn_codec.specs.declared.insn.Narrow.{Narrow}
 use Rattle.insn_codec.specs.declared.insn.Narrow.TheVariants as narrow
 use Rattle.insn_codec.specs.declared.insn.Size.{Size}
 use Rattle.insn_codec.specs.declared.insn.Size.TheVariants as size
+use Rattle.insn_codec.specs.declared.insn.AtomicOp.{AtomicOp}
+use Rattle.insn_codec.specs.declared.insn.AtomicOp.TheVariants as atomic
 use Rattle.insn_codec.specs.declared.insn.Operand.{Operand}
 use Rattle.insn_codec.specs.declared.insn.Operand.TheVariants.{Imm, Reg}
 use Rattle.insn_codec.specs.declared.insn.Insn.{Insn}
-use Rattle.insn_codec.specs.declared.insn.Insn.TheVariants.{Alu, Movsx, Neg, End, Ja, Jal, Jump, Call, Exit, Load, Store, Const, MapFd}
+use Rattle.insn_codec.specs.declared.insn.Insn.TheVariants.{Alu, Movsx, Neg, End, Ja, Jal, Jump, Call, Exit, Load, Store, Atomic, Const, MapFd, MapValue}
 use Rattle.insn_codec.specs.Spelling.{IsInsn, IsOperand}
+use Rattle.insn_codec.specs.Sizes.{access_size}
 use Rattle.text_line.specs.declared.form.JumpTarget.TheVariants as target
-use Rattle.text_line.specs.Names.{operator_name, condition_name, order_name, narrow_name, size_name, register_name, sign_name}
+use Rattle.text_line.specs.Names.{operator_name, condition_name, order_name, narrow_name, size_name, atomic_name, register_name, sign_name}
 use Rattle.text_line.specs.Form.{TokenLayout, layout, sign, word, reg, space, constant, operand, destination, address, IsSource}
 use Rattle.text_line.specs.Line.{code, IsWellFormed}
 use Rattle.text_line.specs.Token.{number}
@@ -59,6 +62,12 @@ condition_sign Below = refl
 condition_sign BelowOrEqual = refl
 condition_sign SignedBelow = refl
 condition_sign SignedBelowOrEqual = refl
+
+atomic_sign : (op : AtomicOp) → is_sign (atomic_name op) ≡ true
+atomic_sign atomic.Add = refl
+atomic_sign atomic.Or = refl
+atomic_sign atomic.And = refl
+atomic_sign atomic.Xor = refl
 
 sign_sign : (negative : Bool) → is_sign (sign_name negative) ≡ true
 sign_sign true = refl
@@ -156,8 +165,13 @@ printed_apart (Call id) h = (refl, refl, constant_apart id [] (fits_32 id h) (re
 printed_apart Exit h = (refl, refl, tt)
 printed_apart (Load l) h = (register_word true l.dst h.0, refl, (refl, refl, address_apart l.signed l.size l.src l.off [] h.1 (fits_16 l.off h.2) refl tt))
 printed_apart (Store s dst src off) h = address_apart false s dst off (space ∷ sign (codes "=") ∷ space ∷ operand true (source_of src) []) h.0 (fits_16 off h.2) refl (refl, refl, operand_apart true src [] h.1 (refl, tt))
+printed_apart (Atomic size op dst src off) h = (refl, refl, address_apart false (access_size size) dst off (space ∷ sign (atomic_name op) ∷ space ∷ reg true src ∷ []) h.0 (fits_16 off h.2) refl (atomic_sign op, refl, register_apart true src [] h.1 (refl, tt)))
 printed_apart (Const dst value) h = (register_word true dst h.0, refl, (refl, refl, (h.1, refl, (refl, refl, tt))))
 printed_apart (MapFd dst fd) h = (register_word true dst h.0, refl, (refl, refl, (refl, refl, constant_apart fd (space ∷ word (codes "ll") ∷ []) (fits_32 fd h.1) (refl, (refl, refl, tt)))))
+printed_apart (MapValue dst fd off) h =
+    let number_apart : IsApart (Some (number (Some off)) ∷ space ∷ word (codes "ll") ∷ []) = (omega (arith, h.2), refl, (refl, refl, tt)) in
+    let offset : IsApart (space ∷ sign (codes "+") ∷ space ∷ Some (number (Some off)) ∷ space ∷ word (codes "ll") ∷ []) = (refl, refl, number_apart) in
+    (register_word true dst h.0, refl, (refl, refl, (refl, refl, constant_apart fd (space ∷ sign (codes "+") ∷ space ∷ Some (number (Some off)) ∷ space ∷ word (codes "ll") ∷ []) (fits_32 fd h.1) (refl, offset))))
 
 is_source : (src : Operand) → IsOperand src → IsSource (source_of src)
 is_source (Imm z) h = tt
@@ -175,8 +189,10 @@ is_form (Call id) h = (tt, refl)
 is_form Exit h = (tt, refl)
 is_form (Load l) h = ((h.0, h.1, l.listed), refl)
 is_form (Store s dst src off) h = ((h.0, is_source src h.1), refl)
+is_form (Atomic size op dst src off) h = ((h.0, h.1), refl)
 is_form (Const dst value) h = (h.0, refl)
 is_form (MapFd dst fd) h = (h.0, refl)
+is_form (MapValue dst fd off) h = (h.0, refl)
 
 pub printed : (i : Insn) → IsInsn i → IsPrinted i
 unfolding printed_insn

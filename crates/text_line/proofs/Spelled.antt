@@ -16,7 +16,11 @@ use Rattle.insn_codec.specs.declared.insn.Narrow.{Narrow}
 use Rattle.insn_codec.specs.declared.insn.Narrow.TheVariants as narrow
 use Rattle.insn_codec.specs.declared.insn.Size.{Size}
 use Rattle.insn_codec.specs.declared.insn.Size.TheVariants as size
-use Rattle.insn_codec.specs.Sizes.{is_double, is_short}
+use Rattle.insn_codec.specs.declared.insn.AtomicSize.{AtomicSize}
+use Rattle.insn_codec.specs.declared.insn.AtomicSize.TheVariants as atomic_size
+use Rattle.insn_codec.specs.declared.insn.AtomicOp.{AtomicOp}
+use Rattle.insn_codec.specs.declared.insn.AtomicOp.TheVariants as atomic
+use Rattle.insn_codec.specs.Sizes.{is_double, is_short, access_size}
 use Rattle.text_line.specs.declared.form.Number.{Number}
 use Rattle.text_line.specs.declared.form.SourceOperand.{SourceOperand}
 use Rattle.text_line.specs.declared.form.SourceOperand.TheVariants as source
@@ -25,10 +29,10 @@ use Rattle.text_line.specs.declared.form.JumpTarget.TheVariants as target
 use Rattle.text_line.specs.declared.form.Form.{Form}
 use Rattle.text_line.specs.declared.form.Form.TheVariants as form
 use Rattle.text_line.specs.Token.{Token, name, number, symbol}
-use Rattle.text_line.specs.Names.{operator_name, condition_name, order_name, narrow_name, size_name, register_name, sign_name}
-use Rattle.text_line.specs.Form.{TokenLayout, layout, sign, word, space, tokens_of, minus, to_label, constant, operand, destination, address, IsForm, IsSource, names_label}
+use Rattle.text_line.specs.Names.{operator_name, condition_name, order_name, narrow_name, size_name, atomic_name, register_name, sign_name}
+use Rattle.text_line.specs.Form.{TokenLayout, layout, sign, word, space, tokens_of, reg, minus, to_label, constant, operand, destination, address, IsForm, IsSource, names_label}
 use Rattle.text_line.specs.Line.{Line, blank, label, code, spelled, IsWellFormed, NoLabel}
-use Rattle.text_line.specs.inside.Reading.{named, operators, conditions, orders, narrows, sizes, registers, after_symbol, after_word, register_then, constant_then, signed_then, operand_then, destination_of, address_then, jump_of, load_of, store_of, movsx_of, neg_of, end_of, const_of, map_fd_of, wide_of, moved_of, alu_of, assignment_of, assigned_of, goto_of, gotol_of, call_of, form_of, label_of, line_of}
+use Rattle.text_line.specs.inside.Reading.{named, operators, conditions, orders, narrows, sizes, atomic_operators, registers, after_symbol, after_word, register_then, constant_then, signed_then, operand_then, destination_of, address_then, atomic_size_of, jump_of, load_of, store_of, atomic_of, movsx_of, neg_of, end_of, const_of, map_fd_of, map_value_of, wide_of, moved_of, alu_of, assignment_of, assigned_of, goto_of, gotol_of, call_of, form_of, label_of, line_of}
 
 -- ---- names
 
@@ -86,6 +90,16 @@ named_size true size.Byte h = refl
 named_size true size.Half h = refl
 named_size true size.Word h = refl
 named_size true size.Double h = absurd (false≢true h)
+
+named_atomic : (op : AtomicOp) → named atomic_operators (atomic_name op) ≡ Some op
+named_atomic atomic.Add = refl
+named_atomic atomic.Or = refl
+named_atomic atomic.And = refl
+named_atomic atomic.Xor = refl
+
+size_of_access : (z : AtomicSize) → atomic_size_of false (access_size z) ≡ Some z
+size_of_access atomic_size.Word = refl
+size_of_access atomic_size.Double = refl
 
 pub below_eleven : (P : ℕ → Type 0) → P 0 → P 1 → P 2 → P 3 → P 4 → P 5 → P 6 → P 7 → P 8 → P 9 → P 10 → (r : ℕ) → r ≤ 10 → P r
 below_eleven P a b c d e f g h i j k zero fits = a
@@ -194,6 +208,12 @@ store_read : (size : Size) (dst : ℕ) (src : SourceOperand) (offset : Number) �
 unfolding store_of after_symbol
 store_read size dst src offset fits s = rw (address_read false size dst offset (space ∷ sign (codes "=") ∷ space ∷ operand true src []) refl fits, operand_read true src [] s) refl
 
+atomic_read : (z : AtomicSize) (op : AtomicOp) (dst src : ℕ) (offset : Number) → dst ≤ 10 → src ≤ 10
+    → atomic_of (tokens_of (address (size_name false (access_size z)) dst offset (space ∷ sign (atomic_name op) ∷ space ∷ reg true src ∷ []))) ≡ Some (form.Atomic z op dst src offset)
+unfolding atomic_of
+atomic_read z op dst src offset dst_fits src_fits =
+    rw (address_read false (access_size z) dst offset (space ∷ sign (atomic_name op) ∷ space ∷ reg true src ∷ []) refl dst_fits, size_of_access z, named_atomic op, register_read true src [] src_fits) refl
+
 movsx_read : (wide : Bool) (b : Narrow) (dst src : ℕ) → src ≤ 10 → IsTrue (wide || is_short b) → movsx_of wide dst (name (narrow_name b) ∷ symbol (codes ")") ∷ name (register_name wide src) ∷ []) ≡ Some (form.Movsx wide b dst src)
 unfolding movsx_of after_symbol
 movsx_read wide b dst src fits listed = rw (named_narrow b, register_read wide src [] fits, listed) refl
@@ -213,6 +233,10 @@ const_read dst v = refl
 map_fd_read : (dst : ℕ) (n : Number) → map_fd_of dst (tokens_of (constant n (space ∷ word (codes "ll") ∷ []))) ≡ Some (form.MapFd dst n)
 unfolding map_fd_of after_word
 map_fd_read dst n = rw (constant_read n (space ∷ word (codes "ll") ∷ [])) refl
+
+map_value_read : (dst : ℕ) (n : Number) (v : Option ℕ) → map_value_of dst (tokens_of (constant n (space ∷ sign (codes "+") ∷ space ∷ Some (number v) ∷ space ∷ word (codes "ll") ∷ []))) ≡ Some (form.MapValue dst n v)
+unfolding map_value_of after_symbol after_word
+map_value_read dst n v = rw (constant_read n (space ∷ sign (codes "+") ∷ space ∷ Some (number v) ∷ space ∷ word (codes "ll") ∷ [])) refl
 
 -- ---- what is assigned
 
@@ -235,16 +259,16 @@ order_no_register Swap bits.Bits16 = refl
 order_no_register Swap bits.Bits32 = refl
 order_no_register Swap bits.Bits64 = refl
 
-order_no_map : (how : ByteOrder) (b : Bits) → bytes_eq (order_name how b) (codes "map_fd") ≡ false
-order_no_map Little bits.Bits16 = refl
-order_no_map Little bits.Bits32 = refl
-order_no_map Little bits.Bits64 = refl
-order_no_map Big bits.Bits16 = refl
-order_no_map Big bits.Bits32 = refl
-order_no_map Big bits.Bits64 = refl
-order_no_map Swap bits.Bits16 = refl
-order_no_map Swap bits.Bits32 = refl
-order_no_map Swap bits.Bits64 = refl
+order_no_map : (how : ByteOrder) (b : Bits) → (bytes_eq (order_name how b) (codes "map_fd") ≡ false) × (bytes_eq (order_name how b) (codes "map_value") ≡ false)
+order_no_map Little bits.Bits16 = (refl, refl)
+order_no_map Little bits.Bits32 = (refl, refl)
+order_no_map Little bits.Bits64 = (refl, refl)
+order_no_map Big bits.Bits16 = (refl, refl)
+order_no_map Big bits.Bits32 = (refl, refl)
+order_no_map Big bits.Bits64 = (refl, refl)
+order_no_map Swap bits.Bits16 = (refl, refl)
+order_no_map Swap bits.Bits32 = (refl, refl)
+order_no_map Swap bits.Bits64 = (refl, refl)
 
 no_alu_symbol : (wide : Bool) (op : AluOp) (dst : ℕ) (s : List ℕ) (ts : List Token) → bytes_eq s (codes "-") ≡ false → alu_of wide op dst (symbol s ∷ ts) ≡ None
 unfolding alu_of operand_then register_then constant_then after_symbol
@@ -272,11 +296,15 @@ moved_neg wide dst ts f e = e
 
 moved_end : (dst : ℕ) (how : ByteOrder) (b : Bits) (ts : List Token) (f : Form) → end_of dst (name (order_name how b) ∷ ts) ≡ Some f → moved_of true dst (name (order_name how b) ∷ ts) ≡ Some f
 unfolding moved_of wide_of after_symbol after_word
-moved_end dst how b ts f e = rw (order_no_map how b, e) refl
+moved_end dst how b ts f e = let no_map = order_no_map how b in rw (no_map.0, no_map.1, e) refl
 
 moved_map : (dst : ℕ) (ts : List Token) (f : Form) → map_fd_of dst ts ≡ Some f → moved_of true dst (name (codes "map_fd") ∷ ts) ≡ Some f
 unfolding moved_of wide_of after_symbol after_word
 moved_map dst ts f e = e
+
+moved_map_value : (dst : ℕ) (ts : List Token) (f : Form) → map_value_of dst ts ≡ Some f → moved_of true dst (name (codes "map_value") ∷ ts) ≡ Some f
+unfolding moved_of wide_of after_symbol after_word
+moved_map_value dst ts f e = e
 
 moved_const : (dst : ℕ) (v : Option ℕ) (ts : List Token) (f : Form) → const_of dst (number v ∷ ts) ≡ Some f → moved_of true dst (number v ∷ ts) ≡ Some f
 unfolding moved_of wide_of after_symbol after_word end_of
@@ -370,6 +398,10 @@ form_from_exit : form_of (name (codes "exit") ∷ []) ≡ Some (form.Exit, [])
 unfolding form_of after_word
 form_from_exit = refl
 
+form_from_lock : (ts : List Token) (f : Form) → atomic_of ts ≡ Some f → form_of (name (codes "lock") ∷ ts) ≡ Some (f, [])
+unfolding form_of after_word
+form_from_lock ts f e = rw e refl
+
 form_from_store : (ts : List Token) (f : Form) → store_of (symbol (codes "*") ∷ ts) ≡ Some f → form_of (symbol (codes "*") ∷ ts) ≡ Some (f, [])
 unfolding form_of after_word assigned_of
 form_from_store ts f e = rw e refl
@@ -407,11 +439,17 @@ code_read (form.Load size signed dst src offset) n fits none =
 code_read (form.Store size dst src offset) n fits none =
     let ts : List Token = symbol (codes "(") ∷ name (size_name false size) ∷ symbol (codes "*") ∷ symbol (codes ")") ∷ symbol (codes "(") ∷ name (register_name true dst) ∷ symbol (sign_name offset.negative) ∷ number offset.magnitude ∷ symbol (codes ")") ∷ symbol (codes "=") ∷ tokens_of (operand true src []) in
     line_from (symbol (codes "*")) ts (form.Store size dst src offset) [] (no_label_front (codes "*") ts) (form_from_store ts (form.Store size dst src offset) (store_read size dst src offset fits.0 fits.1)) ∙ ap (λ (l : List ℕ). Some (code (form.Store size dst src offset) l)) (sym none)
+code_read (form.Atomic z op dst src offset) n fits none =
+    let ts : List Token = symbol (codes "(") ∷ name (size_name false (access_size z)) ∷ symbol (codes "*") ∷ symbol (codes ")") ∷ symbol (codes "(") ∷ name (register_name true dst) ∷ symbol (sign_name offset.negative) ∷ number offset.magnitude ∷ symbol (codes ")") ∷ symbol (atomic_name op) ∷ name (register_name true src) ∷ [] in
+    line_from (name (codes "lock")) (symbol (codes "*") ∷ ts) (form.Atomic z op dst src offset) [] (no_label_symbol (codes "lock") (codes "*") ts refl) (form_from_lock (symbol (codes "*") ∷ ts) (form.Atomic z op dst src offset) (atomic_read z op dst src offset fits.0 fits.1)) ∙ ap (λ (l : List ℕ). Some (code (form.Atomic z op dst src offset) l)) (sym none)
 code_read (form.Const dst v) n fits none =
     line_from_move true dst (number v ∷ name (codes "ll") ∷ []) (form.Const dst v) n fits none (no_alu_const true Mov dst v) (moved_const dst v (name (codes "ll") ∷ []) (form.Const dst v) (const_read dst v))
 code_read (form.MapFd dst fd) n fits none =
     let ts : List Token = tokens_of (constant fd (space ∷ word (codes "ll") ∷ [])) in
     line_from_move true dst (name (codes "map_fd") ∷ ts) (form.MapFd dst fd) n fits none (no_alu_name true Mov dst (codes "map_fd") ts refl) (moved_map dst ts (form.MapFd dst fd) (map_fd_read dst fd))
+code_read (form.MapValue dst fd off) n fits none =
+    let ts : List Token = tokens_of (constant fd (space ∷ sign (codes "+") ∷ space ∷ Some (number off) ∷ space ∷ word (codes "ll") ∷ [])) in
+    line_from_move true dst (name (codes "map_value") ∷ ts) (form.MapValue dst fd off) n fits none (no_alu_name true Mov dst (codes "map_value") ts refl) (moved_map_value dst ts (form.MapValue dst fd off) (map_value_read dst fd off))
 
 -- What is spelled is read so.
 pub line_read : (line : Line) → IsWellFormed line → line_of (spelled line) ≡ Some line

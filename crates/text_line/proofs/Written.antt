@@ -8,7 +8,7 @@ use Rattle.insn_codec.specs.declared.insn.Size.TheVariants as size
 use Rattle.insn_codec.specs.declared.insn.Operand.{Operand}
 use Rattle.insn_codec.specs.declared.insn.Operand.TheVariants as operand
 use Rattle.insn_codec.specs.declared.insn.Insn.{Insn}
-use Rattle.insn_codec.specs.declared.insn.Insn.TheVariants.{Alu, Movsx, Neg, End, Ja, Jal, Jump, Call, Exit, Load, Store, Const, MapFd}
+use Rattle.insn_codec.specs.declared.insn.Insn.TheVariants.{Alu, Movsx, Neg, End, Ja, Jal, Jump, Call, Exit, Load, Store, Atomic, Const, MapFd, MapValue}
 use Rattle.insn_codec.specs.Sizes.{is_double, is_short}
 use Rattle.text_line.specs.declared.form.Number.{Number}
 use Rattle.text_line.specs.declared.form.SourceOperand.{SourceOperand}
@@ -105,9 +105,12 @@ insn_of (form.Call id) = Some (Call (integer_of id))
 insn_of form.Exit = Some Exit
 insn_of (form.Load size signed dst src offset) = load_of size signed dst src (integer_of offset)
 insn_of (form.Store size dst src offset) = Some (Store size dst (operand_of src) (integer_of offset))
+insn_of (form.Atomic size op dst src offset) = Some (Atomic size op dst src (integer_of offset))
 insn_of (form.Const dst None) = None
 insn_of (form.Const dst (Some value)) = Some (Const dst value)
 insn_of (form.MapFd dst fd) = Some (MapFd dst (integer_of fd))
+insn_of (form.MapValue dst fd None) = None
+insn_of (form.MapValue dst fd (Some off)) = Some (MapValue dst (integer_of fd) off)
 
 insn_again : (i : Insn) → insn_of (written i) ≡ Some i
 unfolding insn_of
@@ -122,8 +125,10 @@ insn_again (Call id) = rw (integer_again id) refl
 insn_again Exit = refl
 insn_again (Load l) = rw (integer_again l.off) (load_again l.size l.signed l.dst l.src l.off l.listed)
 insn_again (Store size dst src off) = rw (operand_again src, integer_again off) refl
+insn_again (Atomic size op dst src off) = rw (integer_again off) refl
 insn_again (Const dst value) = refl
 insn_again (MapFd dst fd) = rw (integer_again fd) refl
+insn_again (MapValue dst fd off) = rw (integer_again fd) refl
 
 some_same : (i j : Insn) → Some i ≡ Some j → i ≡ j
 some_same i j e = cc

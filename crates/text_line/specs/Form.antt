@@ -1,15 +1,15 @@
 -- The forms of a line: the table of the grammar, and of what is printed. It is this project's own.
 use Rattle.std.specs.Prelude.{ℕ, ◌≤◌, Bool, true, false, ◌&&◌, ◌||◌, not, IsTrue, List, [], ◌∷◌, codes, Option, Some, None}
-use Rattle.insn_codec.specs.Sizes.{is_double, is_short}
+use Rattle.insn_codec.specs.Sizes.{is_double, is_short, access_size}
 use Rattle.text_line.specs.declared.form.Number.{Number}
 use Rattle.text_line.specs.declared.form.SourceOperand.{SourceOperand}
 use Rattle.text_line.specs.declared.form.SourceOperand.TheVariants as source
 use Rattle.text_line.specs.declared.form.JumpTarget.{JumpTarget}
 use Rattle.text_line.specs.declared.form.JumpTarget.TheVariants as target
 use Rattle.text_line.specs.declared.form.Form.{Form}
-use Rattle.text_line.specs.declared.form.Form.TheVariants.{Alu, Movsx, Neg, End, Ja, Jal, Jump, Call, Exit, Load, Store, Const, MapFd}
+use Rattle.text_line.specs.declared.form.Form.TheVariants.{Alu, Movsx, Neg, End, Ja, Jal, Jump, Call, Exit, Load, Store, Atomic, Const, MapFd, MapValue}
 use Rattle.text_line.specs.Token.{Token, name, number, symbol}
-use Rattle.text_line.specs.Names.{operator_name, condition_name, order_name, narrow_name, size_name, register_name, sign_name}
+use Rattle.text_line.specs.Names.{operator_name, condition_name, order_name, narrow_name, size_name, atomic_name, register_name, sign_name}
 
 -- A line is laid out as tokens and single spaces, which are `None`. Any other blanks may stand between tokens.
 abbrev pub TokenLayout : Type 0
@@ -64,8 +64,10 @@ layout (Call id) label = word (codes "call") ∷ space ∷ constant id []
 layout Exit label = word (codes "exit") ∷ []
 layout (Load size signed dst src offset) label = reg true dst ∷ space ∷ sign (codes "=") ∷ space ∷ address (size_name signed size) src offset []
 layout (Store size dst src offset) label = address (size_name false size) dst offset (space ∷ sign (codes "=") ∷ space ∷ operand true src [])
+layout (Atomic size op dst src offset) label = word (codes "lock") ∷ space ∷ address (size_name false (access_size size)) dst offset (space ∷ sign (atomic_name op) ∷ space ∷ reg true src ∷ [])
 layout (Const dst value) label = reg true dst ∷ space ∷ sign (codes "=") ∷ space ∷ Some (number value) ∷ space ∷ word (codes "ll") ∷ []
 layout (MapFd dst fd) label = reg true dst ∷ space ∷ sign (codes "=") ∷ space ∷ word (codes "map_fd") ∷ space ∷ constant fd (space ∷ word (codes "ll") ∷ [])
+layout (MapValue dst fd off) label = reg true dst ∷ space ∷ sign (codes "=") ∷ space ∷ word (codes "map_value") ∷ space ∷ constant fd (space ∷ sign (codes "+") ∷ space ∷ Some (number off) ∷ space ∷ word (codes "ll") ∷ [])
 
 -- without the spaces
 abbrev pub tokens_of : TokenLayout → List Token
@@ -86,8 +88,10 @@ IsForm (End how bits dst) = dst ≤ 10
 IsForm (Jump wide cond dst src to) = (dst ≤ 10) × IsSource src
 IsForm (Load size signed dst src offset) = (dst ≤ 10) × (src ≤ 10) × IsTrue (not (signed && is_double size))
 IsForm (Store size dst src offset) = (dst ≤ 10) × IsSource src
+IsForm (Atomic size op dst src offset) = (dst ≤ 10) × (src ≤ 10)
 IsForm (Const dst value) = dst ≤ 10
 IsForm (MapFd dst fd) = dst ≤ 10
+IsForm (MapValue dst fd off) = dst ≤ 10
 IsForm _ = Unit {0}
 
 -- whether its jump names a label

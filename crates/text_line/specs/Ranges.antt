@@ -7,7 +7,7 @@ use Rattle.text_line.specs.declared.form.SourceOperand.TheVariants as source
 use Rattle.text_line.specs.declared.form.JumpTarget.{JumpTarget}
 use Rattle.text_line.specs.declared.form.JumpTarget.TheVariants as target
 use Rattle.text_line.specs.declared.form.Form.{Form}
-use Rattle.text_line.specs.declared.form.Form.TheVariants.{Alu, Ja, Jal, Jump, Call, Load, Store, Const, MapFd}
+use Rattle.text_line.specs.declared.form.Form.TheVariants.{Alu, Ja, Jal, Jump, Call, Load, Store, Atomic, Const, MapFd, MapValue}
 use Rattle.text_line.specs.Written.{number_of}
 
 -- ---- ranges
@@ -22,6 +22,10 @@ imm_fits n = is_at_most (if n.negative then 2147483648 else 2147483647) n.magnit
 
 abbrev pub offset_fits : Number → Bool
 offset_fits n = is_at_most (if n.negative then 32768 else 32767) n.magnitude
+
+-- an unsigned number of 32 bits
+abbrev pub next_imm_fits : Option ℕ → Bool
+next_imm_fits n = is_at_most 4294967295 n
 
 abbrev pub source_fits : SourceOperand → Bool
 source_fits (source.Number n) = imm_fits n
@@ -44,8 +48,10 @@ form_fits (Jump wide cond dst src to) = source_fits src && target_fits to
 form_fits (Call id) = imm_fits id
 form_fits (Load size signed dst src offset) = offset_fits offset
 form_fits (Store size dst src offset) = source_fits src && offset_fits offset
+form_fits (Atomic size op dst src offset) = offset_fits offset
 form_fits (Const dst value) = is_some value
 form_fits (MapFd dst fd) = imm_fits fd
+form_fits (MapValue dst fd off) = imm_fits fd && next_imm_fits off
 form_fits _ = true
 
 -- ---- labels, as numbers
@@ -76,11 +82,14 @@ resolved distance (Jump wide cond dst src to) = Jump wide cond dst (normal_sourc
 resolved distance (Call id) = Call (normal id)
 resolved distance (Load size signed dst src offset) = Load size signed dst src (normal offset)
 resolved distance (Store size dst src offset) = Store size dst (normal_source src) (normal offset)
+resolved distance (Atomic size op dst src offset) = Atomic size op dst src (normal offset)
 resolved distance (MapFd dst fd) = MapFd dst (normal fd)
+resolved distance (MapValue dst fd off) = MapValue dst (normal fd) off
 resolved distance form = form
 
 -- in how many slots a form is spelled
 abbrev pub form_slots : Form → ℕ
 form_slots (Const dst value) = 2
 form_slots (MapFd dst fd) = 2
+form_slots (MapValue dst fd off) = 2
 form_slots _ = 1

@@ -5,7 +5,7 @@ use Rattle.std.specs.Fmt.{decimal}
 use Rattle.insn_codec.specs.declared.insn.Operand.{Operand}
 use Rattle.insn_codec.specs.declared.insn.Operand.TheVariants.{Imm, Reg}
 use Rattle.insn_codec.specs.declared.insn.Insn.{Insn}
-use Rattle.insn_codec.specs.declared.insn.Insn.TheVariants.{Alu, Movsx, Neg, End, Ja, Jal, Jump, Call, Exit, Load, Store, Const, MapFd}
+use Rattle.insn_codec.specs.declared.insn.Insn.TheVariants.{Alu, Movsx, Neg, End, Ja, Jal, Jump, Call, Exit, Load, Store, Atomic, Const, MapFd, MapValue}
 use Rattle.text_line.specs.declared.form.Number.{Number}
 use Rattle.text_line.specs.declared.form.SourceOperand.{SourceOperand}
 use Rattle.text_line.specs.declared.form.SourceOperand.TheVariants as source
@@ -37,8 +37,10 @@ written (Call id) = form.Call (number_of id)
 written Exit = form.Exit
 written (Load l) = form.Load l.size l.signed l.dst l.src (number_of l.off)
 written (Store size dst src off) = form.Store size dst (source_of src) (number_of off)
+written (Atomic size op dst src off) = form.Atomic size op dst src (number_of off)
 written (Const dst value) = form.Const dst (Some value)
 written (MapFd dst fd) = form.MapFd dst (number_of fd)
+written (MapValue dst fd off) = form.MapValue dst (number_of fd) (Some off)
 
 -- a token's bytes, its number in decimal
 abbrev pub lexeme : Token → List ℕ

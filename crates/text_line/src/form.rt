@@ -2,8 +2,9 @@
 
 ghost use Rattle.std.specs.Prelude.{◌≡◌, ◌≤◌, IfSome, IfNone, true, false};
 
+use crate::fields::next_imm;
 use insn_codec::{
-    AluOp, Bits, ByteOrder, Condition, Insn, Load, Movsx, Narrow, Operand, Reg, Size,
+    AluOp, AtomicOp, AtomicSize, Bits, ByteOrder, Condition, Insn, Load, Movsx, Narrow, Reg, Size,
 };
 
 /// A number as it is written: its sign, and its digits in decimal or hexadecimal.
@@ -103,6 +104,14 @@ pub enum Form {
         src: SourceOperand,
         offset: Number,
     },
+    /// An atomic operation, as `lock *(u64 *)(r10 - 8) += r1`. The offset has room for -2 ^ 15 to 2 ^ 15 - 1.
+    Atomic {
+        size: AtomicSize,
+        op: AtomicOp,
+        dst: Reg,
+        src: Reg,
+        offset: Number,
+    },
     /// A constant of 64 bits, as `r2 = 5 ll`: none from 2 ^ 64 on.
     Const {
         dst: Reg,
@@ -112,6 +121,13 @@ pub enum Form {
     MapFd {
         dst: Reg,
         fd: Number,
+    },
+    /// An address in a map's value, as `r1 = map_value 3 + 4 ll`. The descriptor has room for -2 ^ 31 to 2 ^ 31 - 1, the offset
+    /// for 0 to 2 ^ 32 - 1.
+    MapValue {
+        dst: Reg,
+        fd: Number,
+        off: Option<u64>,
     },
 }
 
@@ -133,101 +149,6 @@ pub enum Line<'a> {
     Label(&'a str),
     /// An instruction, and the label that its jump names: the empty text if it names none.
     Code(Form, &'a str),
-}
-
-impl Number {
-    ghost use Rattle.text_line.specs.Ranges.{imm_fits, offset_fits, normal};
-    ghost use Rattle.text_line.specs.Written.{number_of};
-
-    /// The number, if it fits 32 bits.
-    fn imm(self) -> Option<i32>
-        ensures found { IfSome result (λ n. number_of n ≡ normal self) }
-        ensures fits { IfSome result (λ _. imm_fits self ≡ true) }
-        ensures none { IfNone result (imm_fits self ≡ false) }
-    {
-        let magnitude = self.magnitude?;
-        if self.negative {
-            if magnitude > 0x8000_0000 {
-                None
-            } else {
-                Some((0 - magnitude as i64) as i32)
-            }
-        } else if magnitude > 0x7fff_ffff {
-            None
-        } else {
-            Some(magnitude as i32)
-        }
-    }
-
-    /// The number, if it fits 16 bits.
-    fn offset(self) -> Option<i16>
-        ensures found { IfSome result (λ n. number_of n ≡ normal self) }
-        ensures fits { IfSome result (λ _. offset_fits self ≡ true) }
-        ensures none { IfNone result (offset_fits self ≡ false) }
-    {
-        let magnitude = self.magnitude?;
-        if self.negative {
-            if magnitude > 0x8000 {
-                None
-            } else {
-                Some((0 - magnitude as i64) as i16)
-            }
-        } else if magnitude > 0x7fff {
-            None
-        } else {
-            Some(magnitude as i16)
-        }
-    }
-}
-
-impl SourceOperand {
-    ghost use Rattle.text_line.specs.Ranges.{source_fits, normal_source};
-    ghost use Rattle.text_line.specs.Written.{source_of};
-
-    /// The operand, if its number fits.
-    fn operand(self) -> Option<Operand>
-        ensures found { IfSome result (λ src. source_of src ≡ normal_source self) }
-        ensures fits { IfSome result (λ _. source_fits self ≡ true) }
-        ensures none { IfNone result (source_fits self ≡ false) }
-    {
-        match self {
-            SourceOperand::Number(number) => {
-                let imm = number.imm()?;
-                Some(Operand::Imm(imm))
-            }
-            SourceOperand::Reg(reg) => Some(Operand::Reg(reg)),
-        }
-    }
-}
-
-impl JumpTarget {
-    ghost use Rattle.text_line.specs.Ranges.{target_fits, long_target_fits, placed};
-    ghost use Rattle.text_line.specs.Written.{number_of};
-    ghost use Rattle.text_line.specs.declared.form.JumpTarget.TheVariants as target;
-
-    /// How far a jump goes, if its number fits 16 bits. A label is so far.
-    fn offset(self, distance: i16) -> Option<i16>
-        ensures found { IfSome result (λ n. target.Number (number_of n) ≡ placed distance self) }
-        ensures fits { IfSome result (λ _. target_fits self ≡ true) }
-        ensures none { IfNone result (target_fits self ≡ false) }
-    {
-        match self {
-            JumpTarget::Number(number) => number.offset(),
-            JumpTarget::Label => Some(distance),
-        }
-    }
-
-    /// How far a long jump goes, if its number fits 32 bits. A label is so far.
-    fn long_offset(self, distance: i16) -> Option<i32>
-        ensures found { IfSome result (λ n. target.Number (number_of n) ≡ placed distance self) }
-        ensures fits { IfSome result (λ _. long_target_fits self ≡ true) }
-        ensures none { IfNone result (long_target_fits self ≡ false) }
-    {
-        match self {
-            JumpTarget::Number(number) => number.imm(),
-            JumpTarget::Label => Some(i32::from(distance)),
-        }
-    }
 }
 
 impl Form {
@@ -325,6 +246,22 @@ impl Form {
                     off,
                 })
             }
+            Form::Atomic {
+                size,
+                op,
+                dst,
+                src,
+                offset,
+            } => {
+                let off = offset.offset()?;
+                Some(Insn::Atomic {
+                    size,
+                    op,
+                    dst,
+                    src,
+                    off,
+                })
+            }
             Form::Const { dst, value } => {
                 let value = value?;
                 Some(Insn::Const { dst, value })
@@ -333,17 +270,22 @@ impl Form {
                 let fd = fd.imm()?;
                 Some(Insn::MapFd { dst, fd })
             }
+            Form::MapValue { dst, fd, off } => {
+                let fd = fd.imm()?;
+                let off = next_imm(off)?;
+                Some(Insn::MapValue { dst, fd, off })
+            }
         }
     }
 
-    /// In how many slots its instruction is spelled: 2 for `Const` and `MapFd`, else 1. Numbers out of range change nothing.
+    /// In how many slots its instruction is spelled: 2 for `Const`, `MapFd` and `MapValue`, else 1. Numbers out of range change nothing.
     pub fn slots(self) -> usize
         ensures value { result ≡ form_slots self }
         ensures bound { result ≤ 2 }
         ensures some { 1 ≤ result }
     {
         match self {
-            Form::Const { .. } | Form::MapFd { .. } => 2,
+            Form::Const { .. } | Form::MapFd { .. } | Form::MapValue { .. } => 2,
             _ => 1,
         }
     }

@@ -2,6 +2,7 @@
 #![tactic(auto)]
 
 mod blanks;
+mod fields;
 mod form;
 mod laws;
 mod line;

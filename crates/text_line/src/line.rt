@@ -3,10 +3,12 @@
 ghost use Rattle.std.specs.Prelude.{◌≡◌, option_map};
 ghost use Rattle.text_line.specs.inside.Shown.{shown_tokens};
 ghost use Rattle.text_line.specs.Shown.{seen_line};
-ghost use Rattle.text_line.specs.inside.Reading.{jump_of, load_of, store_of, movsx_of, neg_of, end_of, const_of, map_fd_of, wide_of, moved_of, is_move, alu_of, assignment_of, assigned_of, goto_of, gotol_of, call_of, form_of, label_of, line_of, seen_destination};
+ghost use Rattle.text_line.specs.inside.Reading.{jump_of, load_of, store_of, atomic_of, movsx_of, neg_of, end_of, const_of, map_fd_of, map_value_of, wide_of, moved_of, is_move, alu_of, assignment_of, assigned_of, goto_of, gotol_of, call_of, form_of, label_of, line_of, seen_destination};
 
 use crate::form::{Form, Line};
-use crate::names::{byte_order, condition, narrow, operator, register_named};
+use crate::names::{
+    atomic_operator, atomic_size, byte_order, condition, narrow, operator, register_named,
+};
 use crate::parts::{
     address, after_symbol, after_word, constant, destination, ended, name, number, operand,
     register, symbol,
@@ -77,6 +79,32 @@ fn store(tokens: &[Token<'_>]) -> Option<Form>
     }
     Some(Form::Store {
         size: address.size,
+        dst: address.base,
+        src,
+        offset: address.offset,
+    })
+}
+
+/// An atomic operation, after `lock`.
+#[tactic(auto, unfolding(crate::specs::inside::Reading::atomic_of))]
+fn atomic(tokens: &[Token<'_>]) -> Option<Form>
+    ensures { result ≡ atomic_of (shown_tokens tokens.now) }
+{
+    let Some((address, rest)) = address(tokens) else {
+        return None;
+    };
+    let size = atomic_size(address.signed, address.size)?;
+    let (symbol, rest) = symbol(rest)?;
+    let op = atomic_operator(symbol)?;
+    let Some((src, rest)) = register(true, rest) else {
+        return None;
+    };
+    if !ended(rest) {
+        return None;
+    }
+    Some(Form::Atomic {
+        size,
+        op,
         dst: address.base,
         src,
         offset: address.offset,
@@ -174,6 +202,22 @@ fn map_fd(dst: Reg, tokens: &[Token<'_>]) -> Option<Form>
     }
 }
 
+/// A map's descriptor and an offset in its value, after `map_value`.
+#[tactic(auto, unfolding(crate::specs::inside::Reading::map_value_of))]
+fn map_value(dst: Reg, tokens: &[Token<'_>]) -> Option<Form>
+    ensures { result ≡ map_value_of dst (shown_tokens tokens.now) }
+{
+    let (fd, rest) = constant(tokens)?;
+    let rest = after_symbol(rest, "+")?;
+    let (off, rest) = number(rest)?;
+    let rest = after_word(rest, "ll")?;
+    if ended(rest) {
+        Some(Form::MapValue { dst, fd, off })
+    } else {
+        None
+    }
+}
+
 /// What only a wide register can be given, after `=`.
 #[tactic(auto, unfolding(crate::specs::inside::Reading::wide_of))]
 fn wide_move(dst: Reg, tokens: &[Token<'_>]) -> Option<Form>
@@ -181,6 +225,9 @@ fn wide_move(dst: Reg, tokens: &[Token<'_>]) -> Option<Form>
 {
     if let Some(rest) = after_word(tokens, "map_fd") {
         return map_fd(dst, rest);
+    }
+    if let Some(rest) = after_word(tokens, "map_value") {
+        return map_value(dst, rest);
     }
     if let Some(form) = end(dst, tokens) {
         return Some(form);
@@ -307,6 +354,10 @@ fn form<'a>(tokens: &[Token<'a>]) -> Option<(Form, &'a str)>
         } else {
             None
         };
+    }
+    if let Some(rest) = after_word(tokens, "lock") {
+        let form = atomic(rest)?;
+        return Some((form, ""));
     }
     if let Some(form) = assigned(tokens) {
         return Some((form, ""));

@@ -1,9 +1,9 @@
 //! Names and symbols, as they are read.
 
 ghost use Rattle.std.specs.Prelude.{◌≡◌};
-ghost use Rattle.text_line.specs.inside.Reading.{named, operators, conditions, orders, narrows, sizes, registers};
+ghost use Rattle.text_line.specs.inside.Reading.{named, operators, conditions, orders, narrows, sizes, atomic_operators, atomic_size_of, registers};
 
-use insn_codec::{AluOp, Bits, ByteOrder, Condition, Narrow, Reg, Size};
+use insn_codec::{AluOp, AtomicOp, AtomicSize, Bits, ByteOrder, Condition, Narrow, Reg, Size};
 
 pub(crate) fn operator(symbol: &str) -> Option<AluOp>
     ensures { result ≡ named operators symbol.now }
@@ -86,6 +86,29 @@ pub(crate) fn size(name: &str) -> Option<(bool, Size)>
         "s8" => Some((true, Size::Byte)),
         "s16" => Some((true, Size::Half)),
         "s32" => Some((true, Size::Word)),
+        _ => None,
+    }
+}
+
+pub(crate) fn atomic_operator(symbol: &str) -> Option<AtomicOp>
+    ensures { result ≡ named atomic_operators symbol.now }
+{
+    match symbol {
+        "+=" => Some(AtomicOp::Add),
+        "|=" => Some(AtomicOp::Or),
+        "&=" => Some(AtomicOp::And),
+        "^=" => Some(AtomicOp::Xor),
+        _ => None,
+    }
+}
+
+/// The size of an atomic operation at a place that is written so: none is signed or narrow (RFC 9669, section 5.3).
+pub(crate) fn atomic_size(signed: bool, size: Size) -> Option<AtomicSize>
+    ensures { result ≡ atomic_size_of signed size }
+{
+    match (signed, size) {
+        (false, Size::Word) => Some(AtomicSize::Word),
+        (false, Size::Double) => Some(AtomicSize::Double),
         _ => None,
     }
 }

@@ -1,6 +1,7 @@
 -- Each instruction is covered.
-use Rattle.std.proofs.Common.{◌≡◌, ℕ, ◌+◌, ℤ, pos, ◌+ℤ◌, Bool, true, false, Option, Some, None, Result, Ok, refl, sym, ap, subst, ◌∙◌, arith}
+use Rattle.std.proofs.Common.{◌≡◌, ℕ, ◌+◌, ◌<◌, ◌≤ℤ◌, ℤ, pos, ◌+ℤ◌, Bool, true, false, Option, Some, None, Result, Ok, Err, if◌then◌else◌, refl, sym, ap, subst, ◌∙◌, arith}
 use Rattle.std.specs.Option.{IsSome, unwrap_or}
+use Rattle.std.proofs.lemmas.Int.{ints}
 use Rattle.words.specs.declared.operator.Operator.TheVariants as on_words
 use Rattle.words.specs.declared.operator.Operator.{Operator}
 use Rattle.interval.specs.Ranges.{constant}
@@ -10,16 +11,20 @@ use Rattle.insn_codec.specs.declared.insn.Condition.{Condition}
 use Rattle.insn_codec.specs.declared.insn.Size.{Size}
 use Rattle.insn_codec.specs.declared.insn.Operand.{Operand}
 use Rattle.insn_codec.specs.declared.insn.Load.{Load as LoadInsn}
+use Rattle.insn_codec.specs.declared.insn.AtomicSize.{AtomicSize}
+use Rattle.insn_codec.specs.declared.insn.AtomicOp.{AtomicOp}
 use Rattle.insn_codec.specs.declared.insn.Insn.{Insn}
-use Rattle.insn_codec.specs.declared.insn.Insn.TheVariants.{Alu, Movsx, Neg, End, Ja, Jal, Jump, Call, Exit, Load, Store, Const, MapFd}
+use Rattle.insn_codec.specs.declared.insn.Insn.TheVariants.{Alu, Movsx, Neg, End, Ja, Jal, Jump, Call, Exit, Load, Store, Atomic, Const, MapFd, MapValue}
 use Rattle.insn_codec.specs.Spelling.{IsInsn}
 use Rattle.reg_kinds.specs.declared.kind.Kind.{Kind}
 use Rattle.reg_kinds.specs.declared.kind.Kind.TheVariants as kind
 use Rattle.reg_kinds.specs.declared.facts.Facts.{Facts}
 use Rattle.reg_kinds.specs.declared.reason.Reason.{Reason}
+use Rattle.reg_kinds.specs.declared.reason.Reason.TheVariants.{NoDirectValue}
 use Rattle.reg_kinds.specs.Reason.{and_then_ok}
+use Rattle.reg_kinds.specs.Pointers.{value_span}
 use Rattle.reg_kinds.specs.Kinds.{kind_at, slot_at, with_kind}
-use Rattle.tagged_model.specs.Admits.{IsKindBelow, IsSlotBelow, AreBelow}
+use Rattle.tagged_model.specs.Admits.{IsKindBelow, IsSlotBelow, AreBelow, objects_of, witness_at}
 use Rattle.tagged_model.specs.declared.helper.Helper.{Helper}
 use Rattle.tagged_model.specs.declared.shape.MapShape.{MapShape}
 use Rattle.tagged_model.specs.Helpers.{helper_of, called}
@@ -27,22 +32,24 @@ use Rattle.words.specs.Words.{unsigned}
 use Rattle.reg_kinds.specs.declared.kind.Slot.{Slot}
 use Rattle.reg_kinds.specs.declared.kind.Slot.TheVariants.{Bytes, Spill}
 use Rattle.tagged_model.specs.declared.value.Tagged.{Tagged}
-use Rattle.tagged_model.specs.declared.value.Tagged.TheVariants.{Scalar, Map}
-use Rattle.tagged_model.specs.Operators.{width, narrow_of, order_of, kept_of, size_of}
+use Rattle.tagged_model.specs.declared.value.Object.TheVariants as object
+use Rattle.tagged_model.specs.declared.value.Tagged.TheVariants.{Scalar, Map, Pointer}
+use Rattle.tagged_model.specs.Table.{has_direct_value, direct_object}
+use Rattle.tagged_model.specs.Operators.{width, narrow_of, order_of, kept_of, size_of, atomic_size}
 use Rattle.tagged_model.specs.Cells.{and_then}
 use Rattle.tagged_model.specs.Values.{arithmetic, first_operand, of_number, compared}
 use Rattle.tagged_model.specs.State.{RunState, load, store}
-use Rattle.tagged_model.specs.Step.{goes, or_fault, operand, advanced, assigned, branched, ended, act}
+use Rattle.tagged_model.specs.Step.{goes, or_fault, operand, advanced, assigned, changed, branched, ended, act}
 use Rattle.insn_codec.specs.Flow.{natural, falls_to, jumps_to}
 use Rattle.transfer.specs.Arithmetic.{readable, arithmetic_kind, of_scalar}
 use Rattle.transfer.specs.Branches.{Edges, falls, branch_edges}
-use Rattle.transfer.specs.Effects.{assigns, load_kind, store_facts, map_of, known, exits_with, effect}
+use Rattle.transfer.specs.Effects.{assigns, load_kind, store_facts, changed_facts, map_of, value_of, known, exits_with, effect}
 use Rattle.transfer.specs.Calls.{call_facts}
 use Rattle.transfer.specs.Sound.{IsKindAt, IsSlotAt, takes_jump, TakenEdgeAdmits, CoversStep, CallIsAdmitted, TransferIsSound}
 use Rattle.transfer.proofs.Parts.{Here, Gives, IsKindOf, IsFound, IsKnown, OnFalling, IsCoveredIf, still_of, still_at, then_covered, ok_is}
 use Rattle.transfer.proofs.States.{constant_of, register_found, source_found, first_found, goes_to, assigned_covered}
 use Rattle.transfer.proofs.Values.{Results, by_number, number_agrees, arithmetic_agrees}
-use Rattle.transfer.proofs.Memory.{Accesses, IsStored, load_agrees, store_agrees}
+use Rattle.transfer.proofs.Memory.{Accesses, IsStored, load_agrees, store_agrees, changed_agrees}
 use Rattle.transfer.proofs.HelperCalls.{all_covered}
 use Rattle.transfer.proofs.HelperCalls.{Laws as CallLaws}
 use Rattle.transfer.proofs.Jumps.{Comparisons, jump_covered, branch_covered}
@@ -101,6 +108,12 @@ module _ (laws : Laws) (here : Here) (refused : Bool) (f : Facts) (s : RunState)
       (λ k p h. then_covered Next (IsFound here (operand s true src)) _ _ _ _ (source_found here f s is_known true src)
       (λ l v g. then_covered Next (IsStored here s) (store_facts here.shapes f (size_of size) off k l) (store s (size_of size) p off v) falls (λ t. goes (advanced 1 t)) (store_agrees here f s is_known laws.accesses (size_of size) off k l p v h.kind g.kind g.readable) stored_covered))
 
+  change_covered : (size : AtomicSize) (op : AtomicOp) (dst src : ℕ) (off : ℤ) → Covered (Atomic size op dst src off)
+  change_covered size op dst src off =
+      then_covered Next (IsFound here (s.registers dst)) _ _ _ _ (register_found here f s is_known dst)
+      (λ k p h. then_covered Next (IsFound here (s.registers src)) _ _ _ _ (register_found here f s is_known src)
+      (λ l v g. then_covered Next (IsStored here s) (changed_facts here.shapes f (atomic_size size) off k l) (changed s size op p off v) falls (λ t. goes (advanced 1 t)) (changed_agrees here f s is_known laws.accesses laws.results size op off k l p v h.kind g.kind) stored_covered))
+
   -- ---- jumps, and the end
 
   -- a conditional jump jumps where its comparison of the values holds
@@ -134,6 +147,29 @@ module _ (laws : Laws) (here : Here) (refused : Bool) (f : Facts) (s : RunState)
       subst (λ o. IsCoveredIf (OnFalling here (s.at + 2)) (assigns f dst (Ok (kind.MapRef m))) (or_fault o (λ t. assigned 2 s dst (Map m)))) (sym h.1)
       (assigned_covered here f s 2 dst (kind.MapRef m) (Map m) is_known (record { is = refl; words = tt }))
 
+  -- a value that is loaded directly: of each map so many objects are told as it has had
+  value_covered : (dst m offset : ℕ) (o : Option MapShape) → here.shapes m ≡ o → IsCoveredIf (OnFalling here (s.at + 2)) (assigns f dst (value_of m offset o)) (or_fault (s.maps m) (λ t. or_fault (direct_object t.table offset) (λ number. assigned 2 s dst (Pointer (object.Value m number) (pos offset)))))
+  unfolding value_of
+  value_covered dst m offset None e = tt
+  value_covered dst m offset (Some shape) e = by (has_direct_value shape offset) refl
+    where
+      by : (b : Bool) → has_direct_value shape offset ≡ b
+          → IsCoveredIf (OnFalling here (s.at + 2)) (assigns f dst (if b then Ok (kind.Value (value_span m (pos offset) (pos offset))) else Err NoDirectValue)) (or_fault (s.maps m) (λ t. or_fault (direct_object t.table offset) (λ number. assigned 2 s dst (Pointer (object.Value m number) (pos offset)))))
+      by false g = tt
+      by true g =
+          let p = value_span m (pos offset) (pos offset) in
+          let h = is_known.maps m shape e in
+          let there = laws.calls.map_calls.direct shape h.0 offset h.2 g in
+          let after : Here = record { shapes = here.shapes; witness = witness_at here.witness s s.at (Scalar 0); slot = here.slot } in
+          let still = laws.calls.site here.witness f here.shapes s s.at (Scalar 0) below (still_of here f s is_known) in
+          let owned : there.0 < after.witness.objects m = subst (λ o. there.0 < objects_of o) (sym h.1) there.2 in
+          let low : pos offset ≤ℤ pos offset = omega (arith, ints) in
+          subst (λ o. IsCoveredIf (OnFalling here (s.at + 2)) (assigns f dst (Ok (kind.Value p))) (or_fault o (λ t. or_fault (direct_object t.table offset) (λ number. assigned 2 s dst (Pointer (object.Value m number) (pos offset)))))) (sym h.1)
+          (subst (λ o. IsCoveredIf (OnFalling here (s.at + 2)) (assigns f dst (Ok (kind.Value p))) (or_fault o (λ number. assigned 2 s dst (Pointer (object.Value m number) (pos offset))))) (sym there.1)
+          (assigned_covered after f s 2 dst (kind.Value p) (Pointer (object.Value m there.0) (pos offset))
+          (record { admits = still.admits; words = is_known.words; proper = still.proper; maps = still.maps })
+          (record { is = (there.0, pos offset, refl, low, p.ordered, owned); words = tt })))
+
   called_covered : (h : Helper) → IsCoveredIf Next (and_then_ok (call_facts here.shapes s.at h f) falls) (or_fault (called refused h s) (λ t. goes (advanced 1 t)))
   called_covered h =
       then_covered Next (λ g u. CallIsAdmitted g here.shapes s u) _ _ falls (λ t. goes (advanced 1 t)) (all_covered laws.calls here.witness here.shapes f s (still_of here f s is_known) below refused h)
@@ -157,8 +193,10 @@ module _ (laws : Laws) (here : Here) (refused : Bool) (f : Facts) (s : RunState)
   insn_covered Exit is there = exit_covered
   insn_covered (Load l) is there = load_covered l
   insn_covered (Store size dst src off) is there = store_covered size dst src off
+  insn_covered (Atomic size op dst src off) is there = change_covered size op dst src off
   insn_covered (Const dst value) is there = assigned_covered here f s 2 dst (kind.Scalar (constant value)) (Scalar value) is_known (constant_of here value is.1)
   insn_covered (MapFd dst fd) is there = map_covered dst (unsigned 32 fd) (here.shapes (unsigned 32 fd)) refl
+  insn_covered (MapValue dst fd off) is there = value_covered dst (unsigned 32 fd) off (here.shapes (unsigned 32 fd)) refl
 
 -- the sites of facts before a slot are below it
 kind_below : (n : ℕ) (k : Kind) → IsKindAt n k → IsKindBelow n k

@@ -1,17 +1,21 @@
 -- Loads and stores: where facts let one go ahead, the machine does it, and what it leaves is as they tell.
-use Rattle.std.proofs.Common.{◌≡◌, ℕ, ◌/◌, ◌%◌, ◌<◌, ◌^◌, ◌==◌, ℤ, pos, negsuc, ◌+ℤ◌, ◌≤ℤ◌, Bool, true, false, length, get_or, Option, Some, None, Result, Ok, Err, refl, sym, ap, subst, ◌∙◌, arith}
-use Rattle.std.specs.Prelude.{nat_lt, slice_get}
+use Rattle.std.proofs.Common.{◌≡◌, ℕ, ◌*◌, ◌/◌, ◌%◌, ◌<◌, ◌^◌, ◌==◌, ℤ, pos, negsuc, ◌+ℤ◌, ◌≤ℤ◌, Bool, true, false, length, get_or, Option, Some, None, Result, Ok, Err, refl, sym, ap, subst, ◌∙◌, arith}
+use Rattle.std.specs.Prelude.{if◌then◌else◌, nat_lt, slice_get}
 use Rattle.std.specs.Option.{option_map}
 use Rattle.std.proofs.lemmas.Int.{ints}
 use Rattle.std.proofs.lemmas.Bool.{cond_both, cond-true, and_parts, eqb-true, ltb-true, false≢true}
 use Rattle.std.proofs.lemmas.Option.{slice_get-get_or}
+use Rattle.interval.specs.declared.range.Range.{Range}
 use Rattle.interval.specs.Ranges.{full}
+use Rattle.words.specs.declared.operator.Operator.{Operator}
+use Rattle.insn_codec.specs.declared.insn.AtomicSize.{AtomicSize}
+use Rattle.insn_codec.specs.declared.insn.AtomicOp.{AtomicOp}
 use Rattle.reg_kinds.specs.declared.kind.Kind.{Kind}
 use Rattle.reg_kinds.specs.declared.kind.Kind.TheVariants as kind
 use Rattle.reg_kinds.specs.declared.facts.Facts.{Facts}
 use Rattle.reg_kinds.specs.declared.stack.AccessSize.{AccessSize}
 use Rattle.reg_kinds.specs.declared.stack.AccessSize.TheVariants.{Word}
-use Rattle.reg_kinds.specs.declared.reason.Reason.TheVariants.{ContextAccess, PointerStored}
+use Rattle.reg_kinds.specs.declared.reason.Reason.TheVariants.{PointerArithmetic, PartOfSpill, ContextAccess, PointerStored, UnalignedAtomic}
 use Rattle.reg_kinds.specs.Stack.{bytes_of, loaded, stack_read, stack_write}
 use Rattle.tagged_model.specs.Admits.{HasMaps}
 use Rattle.tagged_model.specs.declared.shape.MapShape.{MapShape}
@@ -22,13 +26,16 @@ use Rattle.tagged_model.specs.declared.value.Tagged.{Tagged}
 use Rattle.tagged_model.specs.declared.value.Tagged.TheVariants.{Scalar}
 use Rattle.tagged_model.specs.Cells.{and_then, number_from, write_cell}
 use Rattle.tagged_model.specs.State.{RunState, with_cell, stack_place, stack_load, stack_store, word_at, context_load, object_bytes, object_stored, load, store}
+use Rattle.tagged_model.specs.Operators.{atomic_operator, atomic_size, is_wide_atomic}
+use Rattle.tagged_model.specs.Values.{of_numbers}
+use Rattle.tagged_model.specs.Step.{changed}
 use Rattle.tagged_model.specs.Laws.{StackReadAdmits, StackWriteAdmits, ValueLoadAdmits, ValueStoreAdmits}
-use Rattle.transfer.specs.Effects.{is_word, context_read, load_kind, stored_outside, store_facts}
-use Rattle.transfer.specs.Calls.{room_of}
+use Rattle.transfer.specs.Effects.{is_word, context_read, load_kind, stored_outside, store_facts, number_or, stack_changed, is_known_multiple, value_changed, changed_facts}
+use Rattle.transfer.specs.Calls.{room_of, any_number}
 use Rattle.transfer.specs.Sound.{IsKindAt, AreWellFormedAt}
 use Rattle.transfer.proofs.Parts.{Here, SomeIs, Agree, Gives, by_law, ok_is, refused, IsKindOf, IsReadable, IsKnown, still_of}
 use Rattle.transfer.proofs.Rooms.{owned, room_at}
-use Rattle.transfer.proofs.Values.{by_number}
+use Rattle.transfer.proofs.Values.{Results, by_number, number_made}
 use Rattle.transfer.proofs.States.{scalar_of}
 use Rattle.transfer.proofs.Words.{loaded_words, read_words, written_words}
 
@@ -47,6 +54,12 @@ pub record Accesses : Type 0 where
 given_ok : {B : Type 0} (r : Result (Unit {0}) Reason) (x y : B) → and_then_ok r (λ _. Ok x) ≡ Ok y → (r ≡ Ok tt) × (x ≡ y)
 given_ok (Ok u) x y e = (refl, cc)
 given_ok (Err reason) x y e = absurd (refused reason y e)
+
+-- one after the other
+then_agree : {A B C D : Type 0} (P : A → B → Type 0) (Q : C → D → Type 0) (r : Result A Reason) (o : Option B) (go : A → Result C Reason) (on : B → Option D) → Agree P r o → ((x : A) (y : B) → P x y → Agree Q (go x) (on y)) → Agree Q (and_then_ok r go) (and_then o on)
+then_agree P Q (Err e) o go on h further = tt
+then_agree P Q (Ok x) None go on h further = absurd h
+then_agree P Q (Ok x) (Some y) go on h further = further x y h
 
 -- what is known after a store, which does not go on by itself
 pub record IsStored (here : Here) (s : RunState) (g : Facts) (t : RunState) : Type 0 where
@@ -160,3 +173,57 @@ module _ (here : Here) (f : Facts) (s : RunState) (known : IsKnown here f s) whe
       subst (λ p. Agree (IsStored here s) (store_facts here.shapes f size off (kind.Value q) l) (store s size p off v)) (sym h.is.2)
       (outside_agrees laws.stores size off q h.is.0 h.is.1 l v is r h.is.3 h.is.4 h.is.5)
   store_agrees laws size off k l p v h is r = tt
+
+  -- ---- atomic operations
+
+  -- with a number that is given
+  module _ (laws : Accesses) (results : Results) (wide : Bool) (op : Operator) (size : AccessSize) (b : Range) (w : Tagged) (given : IsKindOf here (kind.Scalar b) w) where
+    abbrev made_from : (Tagged → Option RunState) → Tagged → Option RunState
+    made_from put old = and_then (of_numbers wide op old w) put
+
+    -- where a number is loaded, one can be stored
+    number_agrees : (a : Range) (old : Tagged) (r : Result Facts Reason) (put : Tagged → Option RunState) → IsKindOf here (kind.Scalar a) old → ((n : ℕ) → IsKindOf here any_number (Scalar n) → Agree (IsStored here s) r (put (Scalar n)))
+        → Agree (IsStored here s) r (made_from put old)
+    number_agrees a old r put is stores =
+        let made = number_made here results wide op a b old w is given in
+        subst (λ o. Agree (IsStored here s) r (and_then o put)) (sym made.1) (stores made.0 made.2)
+
+    stack_changed_agrees : (y : ℤ) → Agree (IsStored here s) (stack_changed f y size) (and_then (stack_load s y size false) (made_from (stack_store s y size)))
+    stack_changed_agrees y =
+        then_agree (IsKindOf here) (IsStored here s) (stack_read f y size false) (stack_load s y size false) _ _ (stack_load_agrees laws.reads y size false) by
+      where
+        by : (k : Kind) (old : Tagged) → IsKindOf here k old → Agree (IsStored here s) (and_then_ok (number_or PartOfSpill k) (λ _. stack_write f y size any_number)) (made_from (stack_store s y size) old)
+        by (kind.Scalar a) old is = number_agrees a old (stack_write f y size any_number) (stack_store s y size) is (λ n made. stack_store_agrees laws.writes y size any_number (Scalar n) made)
+        by k old is = tt
+
+    value_changed_agrees : (off : ℤ) (p : ValuePointer) (number : ℕ) (x : ℤ) (o : Option MapShape) → here.shapes p.map ≡ o → p.lo ≤ℤ x → x ≤ℤ p.hi → number < here.witness.objects p.map
+        → Agree (IsStored here s) (value_changed f p off size o) (and_then (number_from size false (object_bytes s p.map number (x +ℤ off) (bytes_of size))) (made_from (object_stored s size p.map number (x +ℤ off))))
+    value_changed_agrees off p number x o e from to lt = by (room_of p off (bytes_of size) o) refl
+      where
+        put : Tagged → Option RunState
+        put = object_stored s size p.map number (x +ℤ off)
+
+        found : Option Tagged
+        found = number_from size false (object_bytes s p.map number (x +ℤ off) (bytes_of size))
+
+        in_room : room_of p off (bytes_of size) o ≡ Ok tt → (old : Option Tagged) → Agree (IsKindOf here) (Ok (loaded size false)) old → Agree (IsStored here s) (Ok f) (and_then old (made_from put))
+        in_room r None is = absurd is
+        in_room r (Some old) is =
+            number_agrees (full (8 * bytes_of size)) old (Ok f) put is
+            (λ n _. subst (λ q. Agree (IsStored here s) (and_then_ok q (λ _. Ok f)) (put (Scalar n))) r (value_store_agrees laws.stores size off p number x n o e from to lt))
+
+        by : (r : Result (Unit {0}) Reason) → room_of p off (bytes_of size) o ≡ r → Agree (IsStored here s) (and_then_ok r (λ _. if is_known_multiple p off size then Ok f else Err UnalignedAtomic)) (and_then found (made_from put))
+        by (Err reason) r = tt
+        by (Ok u) r =
+            let loads = subst (λ q. Gives here (and_then_ok q (λ _. Ok (loaded size false))) found) r (value_load_agrees laws.loads size false off p number x o e from to lt) in
+            cond_both (is_known_multiple p off size) (Ok f) (Err UnalignedAtomic) (λ q. Agree (IsStored here s) q (and_then found (made_from put))) (λ _. in_room r found loads) (λ _. tt)
+
+  pub changed_agrees : Accesses → Results → (size : AtomicSize) (op : AtomicOp) (off : ℤ) (k l : Kind) (p v : Tagged) → IsKindOf here k p → IsKindOf here l v
+      → Agree (IsStored here s) (changed_facts here.shapes f (atomic_size size) off k l) (changed s size op p off v)
+  changed_agrees laws results size op off (kind.Stack x) (kind.Scalar b) p v h is =
+      subst (λ p. Agree (IsStored here s) (stack_changed f (x +ℤ off) (atomic_size size)) (changed s size op p off v)) (sym h.is)
+      (stack_changed_agrees laws results (is_wide_atomic size) (atomic_operator op) (atomic_size size) b v is (x +ℤ off))
+  changed_agrees laws results size op off (kind.Value q) (kind.Scalar b) p v h is =
+      subst (λ p. Agree (IsStored here s) (value_changed f q off (atomic_size size) (here.shapes q.map)) (changed s size op p off v)) (sym h.is.2)
+      (value_changed_agrees laws results (is_wide_atomic size) (atomic_operator op) (atomic_size size) b v is off q h.is.0 h.is.1 (here.shapes q.map) refl h.is.3 h.is.4 h.is.5)
+  changed_agrees laws results size op off k l p v h is = tt

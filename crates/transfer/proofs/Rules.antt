@@ -11,7 +11,7 @@ use Rattle.insn_codec.specs.declared.insn.AluOp.TheVariants as alu
 use Rattle.insn_codec.specs.declared.insn.Condition.{Condition}
 use Rattle.insn_codec.specs.declared.insn.Operand.{Operand}
 use Rattle.insn_codec.specs.declared.insn.Insn.{Insn}
-use Rattle.insn_codec.specs.declared.insn.Insn.TheVariants.{Alu, Movsx, Neg, End, Ja, Jal, Jump, Call, Exit, Load, Store, Const, MapFd}
+use Rattle.insn_codec.specs.declared.insn.Insn.TheVariants.{Alu, Movsx, Neg, End, Ja, Jal, Jump, Call, Exit, Load, Store, Atomic, Const, MapFd, MapValue}
 use Rattle.reg_kinds.specs.declared.kind.Kind.{Kind}
 use Rattle.reg_kinds.specs.declared.kind.Kind.TheVariants as kind
 use Rattle.reg_kinds.specs.declared.kind.Slot.{Slot}
@@ -20,20 +20,21 @@ use Rattle.reg_kinds.specs.declared.facts.Facts.{Facts}
 use Rattle.reg_kinds.specs.declared.stack.AccessSize.{AccessSize}
 use Rattle.reg_kinds.specs.declared.stack.AccessSize.TheVariants.{Word}
 use Rattle.reg_kinds.specs.declared.reason.Reason.{Reason}
-use Rattle.reg_kinds.specs.declared.reason.Reason.TheVariants.{UnknownHelper, DescriptorNotMap, PointerArithmetic, MaybeNull, ContextAccess, PointerComparison, OutsideStack, UnwrittenStack, PartOfSpill, OutsideValue, PointerStored, LengthUnbounded, Memory}
+use Rattle.reg_kinds.specs.declared.reason.Reason.TheVariants.{UnknownHelper, DescriptorNotMap, NoDirectValue, PointerArithmetic, MaybeNull, ContextAccess, PointerComparison, OutsideStack, UnwrittenStack, PartOfSpill, OutsideValue, PointerStored, LengthUnbounded, UnalignedAtomic, Memory}
 use Rattle.reg_kinds.specs.Reason.{and_then_ok}
+use Rattle.reg_kinds.specs.Pointers.{value_span}
 use Rattle.reg_kinds.specs.Kinds.{is_pointer, kind_at, slot_at, with_kind, with_slot}
 use Rattle.reg_kinds.specs.Stack.{bytes_of, is_whole, is_in_stack, is_aligned, place, touched, loaded, read_slot, stack_read, slot_written, facts_written, stack_write}
-use Rattle.tagged_model.specs.Operators.{operator_of, narrow_of, order_of, kept_of, size_of}
+use Rattle.tagged_model.specs.Operators.{operator_of, narrow_of, order_of, kept_of, size_of, atomic_size}
 use Rattle.tagged_model.specs.Values.{is_null_test}
 use Rattle.tagged_model.specs.Cells.{and_then}
 use Rattle.transfer.specs.declared.arithmetic.Direction.{Direction}
 use Rattle.transfer.specs.declared.arithmetic.Direction.TheVariants.{Forwards, Backwards}
 use Rattle.transfer.specs.Arithmetic.{readable, near, stack_moved, value_by, distance, moved_offset, pointer_moved, is_maybe, of_scalars, of_scalar, sum_kind, difference_kind, unless_maybe, arithmetic_kind}
 use Rattle.transfer.specs.Branches.{Edges, falls, pointer_edges, branch_edges}
-use Rattle.transfer.specs.Effects.{source_kind, first_kind, assigns, is_word, context_read, load_kind, stored_outside, store_facts, map_of, known, exits_with, effect}
+use Rattle.transfer.specs.Effects.{source_kind, first_kind, assigns, is_word, context_read, load_kind, stored_outside, store_facts, number_or, stack_changed, is_known_multiple, value_changed, changed_facts, map_of, value_of, known, exits_with, effect}
 use Rattle.transfer.specs.Reasons.{IsOfOperands, IsReasonOf, TransferReasons}
-use Rattle.transfer.specs.Calls.{shaped, map_kind, room_of, input_kind, output_facts, number_kind, length_kind, context_kind, call_facts}
+use Rattle.transfer.specs.Calls.{shaped, map_kind, room_of, input_kind, output_facts, number_kind, length_kind, context_kind, any_number, call_facts}
 use Rattle.words.specs.Words.{unsigned}
 use Rattle.reg_kinds.specs.declared.kind.ValuePointer.{ValuePointer}
 use Rattle.reg_kinds.specs.Many.{touches, bits_in, any_below, is_touched_spill, lacks, stack_input, filled}
@@ -41,6 +42,7 @@ use Rattle.tagged_model.specs.declared.helper.Helper.{Helper}
 use Rattle.tagged_model.specs.declared.helper.Helper.TheVariants.{LookUp, Update, Delete, LoadBytes}
 use Rattle.tagged_model.specs.declared.shape.MapShape.{MapShape}
 use Rattle.tagged_model.specs.Named.{Shapes}
+use Rattle.tagged_model.specs.Table.{has_direct_value}
 use Rattle.tagged_model.specs.Helpers.{helper_of}
 
 -- what is refused is refused by a rule on operands
@@ -150,6 +152,21 @@ store_rule shapes f size off (kind.Value p) v =
     (λ _. cond_both (is_pointer v) (Err PointerStored) (Ok f) ByRule (λ _. tt) (λ _. tt))
 store_rule shapes f size off k v = tt
 
+number_or_rule : (reason : Reason) (v : Kind) → IsOfOperands reason → ByRule (number_or reason v)
+number_or_rule reason (kind.Scalar r) h = tt
+number_or_rule reason v h = h
+
+changed_rule : (shapes : Shapes) (f : Facts) (size : AccessSize) (off : ℤ) (k v : Kind) → ByRule (changed_facts shapes f size off k v)
+changed_rule shapes f size off (kind.Stack x) v =
+    then_rule (number_or PointerArithmetic v) (λ _. stack_changed f (x +ℤ off) size) (number_or_rule PointerArithmetic v tt)
+    (λ _. then_rule (stack_read f (x +ℤ off) size false) _ (read_rule f (x +ℤ off) size false)
+    (λ k. then_rule (number_or PartOfSpill k) _ (number_or_rule PartOfSpill k tt) (λ _. write_rule f (x +ℤ off) size any_number)))
+changed_rule shapes f size off (kind.Value p) v =
+    then_rule (number_or PointerArithmetic v) (λ _. value_changed f p off size (shapes p.map)) (number_or_rule PointerArithmetic v tt)
+    (λ _. then_rule (room_of p off (bytes_of size) (shapes p.map)) _ (room_rule p off (bytes_of size) (shapes p.map))
+    (λ _. cond_both (is_known_multiple p off size) (Ok f) (Err UnalignedAtomic) ByRule (λ _. tt) (λ _. tt)))
+changed_rule shapes f size off k v = tt
+
 -- ---- maps, and calls
 
 shaped_rule : (m : ℕ) (o : Option MapShape) → ByRule (shaped m o)
@@ -237,6 +254,7 @@ module _ (shapes : Shapes) (at : ℕ) (f : Facts) where
   abbrev IsPlain : Insn → Type 0
   IsPlain (Call id) = ⊥
   IsPlain (MapFd dst fd) = ⊥
+  IsPlain (MapValue dst fd off) = ⊥
   IsPlain i = Unit {0}
 
   insn_rule : (i : Insn) → IsPlain i → ByRule (effect shapes at i f)
@@ -255,8 +273,12 @@ module _ (shapes : Shapes) (at : ℕ) (f : Facts) where
   insn_rule (Store size dst src off) _ =
       register_rule dst _ (λ k. operand_rule true src _
       (λ v. then_rule (store_facts shapes f (size_of size) off k v) falls (store_rule shapes f (size_of size) off k v) (λ g. tt)))
+  insn_rule (Atomic size op dst src off) _ =
+      register_rule dst _ (λ k. register_rule src _
+      (λ v. then_rule (changed_facts shapes f (atomic_size size) off k v) falls (changed_rule shapes f (atomic_size size) off k v) (λ g. tt)))
   insn_rule (Const dst value) _ = tt
   insn_rule (MapFd dst fd) none = absurd none
+  insn_rule (MapValue dst fd off) none = absurd none
 
   -- ---- the reasons of each instruction
 
@@ -267,6 +289,7 @@ module _ (shapes : Shapes) (at : ℕ) (f : Facts) where
   of_operands : (i : Insn) (reason : Reason) → IsOfOperands reason → IsReasonOf shapes i reason
   of_operands i UnknownHelper h = absurd h
   of_operands i DescriptorNotMap h = absurd h
+  of_operands i NoDirectValue h = absurd h
   of_operands i reason h = h
 
   by_operands : (i : Insn) (r : Result Edges Reason) → ByRule r → Tells i r
@@ -282,9 +305,17 @@ module _ (shapes : Shapes) (at : ℕ) (f : Facts) where
   map_tells dst fd None e = e
   map_tells dst fd (Some shape) e = tt
 
+  value_tells : (dst : ℕ) (fd : ℤ) (off : ℕ) (o : Option MapShape) → shapes (unsigned 32 fd) ≡ o → Tells (MapValue dst fd off) (assigns f dst (value_of (unsigned 32 fd) off o))
+  unfolding value_of
+  value_tells dst fd off None e = e
+  value_tells dst fd off (Some shape) e =
+      let m = unsigned 32 fd in
+      cond_both (has_direct_value shape off) (Ok (kind.Value (value_span m (pos off) (pos off)))) (Err NoDirectValue) (λ r. Tells (MapValue dst fd off) (assigns f dst r)) (λ _. tt) (λ none. (shape, e, none))
+
   insn_tells : (i : Insn) → Tells i (effect shapes at i f)
   insn_tells (Call id) = call_tells id (helper_of id) refl
   insn_tells (MapFd dst fd) = map_tells dst fd (shapes (unsigned 32 fd)) refl
+  insn_tells (MapValue dst fd off) = value_tells dst fd off (shapes (unsigned 32 fd)) refl
   insn_tells i = by_operands i (effect shapes at i f) (insn_rule i tt)
 
   witness : (i : Insn) (r : Result Edges Reason) (reason : Reason) → Tells i r → r ≡ Err reason → IsReasonOf shapes i reason

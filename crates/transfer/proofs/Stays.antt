@@ -16,8 +16,10 @@ use Rattle.insn_codec.specs.declared.insn.Size.{Size}
 use Rattle.insn_codec.specs.declared.insn.Operand.{Operand}
 use Rattle.insn_codec.specs.declared.insn.Operand.TheVariants.{Imm, Reg}
 use Rattle.insn_codec.specs.declared.insn.Load.{Load as LoadInsn}
+use Rattle.insn_codec.specs.declared.insn.AtomicSize.{AtomicSize}
+use Rattle.insn_codec.specs.declared.insn.AtomicOp.{AtomicOp}
 use Rattle.insn_codec.specs.declared.insn.Insn.{Insn}
-use Rattle.insn_codec.specs.declared.insn.Insn.TheVariants.{Alu, Movsx, Neg, End, Ja, Jal, Jump, Call, Exit, Load, Store, Const, MapFd}
+use Rattle.insn_codec.specs.declared.insn.Insn.TheVariants.{Alu, Movsx, Neg, End, Ja, Jal, Jump, Call, Exit, Load, Store, Atomic, Const, MapFd, MapValue}
 use Rattle.insn_codec.specs.Spelling.{IsInsn}
 use Rattle.reg_kinds.specs.declared.kind.Kind.{Kind}
 use Rattle.reg_kinds.specs.declared.kind.Kind.TheVariants as kind
@@ -25,24 +27,26 @@ use Rattle.reg_kinds.specs.declared.facts.Facts.{Facts}
 use Rattle.reg_kinds.specs.declared.stack.AccessSize.{AccessSize}
 use Rattle.reg_kinds.specs.declared.stack.AccessSize.TheVariants.{Word}
 use Rattle.reg_kinds.specs.declared.reason.Reason.{Reason}
-use Rattle.reg_kinds.specs.declared.reason.Reason.TheVariants.{PointerArithmetic, MaybeNull, ContextAccess, PointerComparison, PointerStored}
+use Rattle.reg_kinds.specs.declared.reason.Reason.TheVariants.{NoDirectValue, PointerArithmetic, PartOfSpill, MaybeNull, ContextAccess, PointerComparison, PointerStored, UnalignedAtomic}
 use Rattle.reg_kinds.specs.Reason.{and_then_ok}
+use Rattle.reg_kinds.specs.Pointers.{value_span}
 use Rattle.reg_kinds.specs.Kinds.{is_pointer, kind_at, with_kind}
-use Rattle.reg_kinds.specs.Stack.{bytes_of, loaded}
+use Rattle.reg_kinds.specs.Stack.{bytes_of, loaded, stack_read, stack_write}
 use Rattle.words.specs.Words.{unsigned}
 use Rattle.tagged_model.specs.declared.helper.Helper.{Helper}
 use Rattle.tagged_model.specs.declared.helper.Helper.TheVariants.{LookUp, Update, Delete, LoadBytes}
 use Rattle.tagged_model.specs.declared.shape.MapShape.{MapShape}
 use Rattle.tagged_model.specs.Named.{Shapes}
+use Rattle.tagged_model.specs.Table.{has_direct_value}
 use Rattle.tagged_model.specs.Helpers.{helper_of}
-use Rattle.tagged_model.specs.Operators.{width, operator_of, narrow_of, order_of, kept_of, comparison_of, size_of}
+use Rattle.tagged_model.specs.Operators.{width, operator_of, narrow_of, order_of, kept_of, comparison_of, size_of, atomic_size}
 use Rattle.tagged_model.specs.Values.{is_null_test, holds_of_pointers}
 use Rattle.tagged_model.specs.Cells.{and_then}
 use Rattle.transfer.specs.declared.arithmetic.Direction.{Direction}
 use Rattle.transfer.specs.declared.arithmetic.Direction.TheVariants.{Forwards, Backwards}
 use Rattle.transfer.specs.Arithmetic.{readable, near, stack_moved, value_by, distance, moved_offset, pointer_moved, is_maybe, of_scalars, of_scalar, sum_kind, difference_kind, unless_maybe, arithmetic_kind}
 use Rattle.transfer.specs.Branches.{Edges, falls, with_source, with_pair, is_same, number_edges, null_edges, pointer_edges, branch_edges}
-use Rattle.transfer.specs.Effects.{source_kind, first_kind, assigns, is_word, context_read, load_kind, stored_outside, store_facts, map_of, known, exits_with, effect}
+use Rattle.transfer.specs.Effects.{source_kind, first_kind, assigns, is_word, context_read, load_kind, stored_outside, store_facts, number_or, stack_changed, is_known_multiple, value_changed, changed_facts, map_of, value_of, known, exits_with, effect}
 use Rattle.transfer.specs.Calls.{map_kind, room_of, input_kind, output_facts, number_kind, length_kind, context_kind, any_number, call_facts}
 use Rattle.transfer.specs.Sound.{IsKindAt, AreWellFormedAt, AreWellFormedOn, TransferKeepsWellFormed}
 use Rattle.transfer.specs.FactLaws.{facts_of_later_slots}
@@ -131,6 +135,9 @@ module _ (bound : ℕ) (shapes : Shapes) (at : ℕ) (lt : at < bound) where
 
   -- ---- memory
 
+  number_words_any : IsKindAt bound any_number
+  number_words_any = omega arith
+
   context_words : (y : ℤ) (size : AccessSize) (signed : Bool) → OkIs (IsKindAt bound) (context_read y size signed)
   context_words y Word false = cond_both (is_word y) (Ok (kind.Scalar (full 32))) (Err ContextAccess) (OkIs (IsKindAt bound)) (λ _. omega arith) (λ _. tt)
   context_words y size signed = tt
@@ -148,15 +155,23 @@ module _ (bound : ℕ) (shapes : Shapes) (at : ℕ) (lt : at < bound) where
       (λ _. cond_both (is_pointer v) (Err PointerStored) (Ok f) (OkIs (AreWellFormedAt bound)) (λ _. tt) (λ _. h))
   store_words f size off k v h g = tt
 
+  changed_words : (f : Facts) (size : AccessSize) (off : ℤ) (k v : Kind) → AreWellFormedAt bound f → OkIs (AreWellFormedAt bound) (changed_facts shapes f size off k v)
+  changed_words f size off (kind.Stack x) v h =
+      past (AreWellFormedAt bound) (number_or PointerArithmetic v) (λ _. stack_changed f (x +ℤ off) size)
+      (λ _. past (AreWellFormedAt bound) (stack_read f (x +ℤ off) size false) _
+      (λ k. past (AreWellFormedAt bound) (number_or PartOfSpill k) _ (λ _. written_words bound f (x +ℤ off) size any_number h number_words_any)))
+  changed_words f size off (kind.Value p) v h =
+      past (AreWellFormedAt bound) (number_or PointerArithmetic v) (λ _. value_changed f p off size (shapes p.map))
+      (λ _. past (AreWellFormedAt bound) (room_of p off (bytes_of size) (shapes p.map)) _
+      (λ _. cond_both (is_known_multiple p off size) (Ok f) (Err UnalignedAtomic) (OkIs (AreWellFormedAt bound)) (λ _. h) (λ _. tt)))
+  changed_words f size off k v h = tt
+
   -- ---- calls
 
   output_words : (f : Facts) (r : Range) (k : Kind) → AreWellFormedAt bound f → OkIs (AreWellFormedAt bound) (output_facts shapes f r k)
   output_words f r (kind.Stack x) h = filled_words bound f x r.lo r.hi h
   output_words f r (kind.Value p) h = past (AreWellFormedAt bound) (room_of p (pos 0) r.hi (shapes p.map)) (λ _. Ok f) (λ _. h)
   output_words f r k h = tt
-
-  number_words_any : IsKindAt bound any_number
-  number_words_any = omega arith
 
   call_words : (h : Helper) (f : Facts) → AreWellFormedAt bound f → OkIs (AreWellFormedAt bound) (call_facts shapes at h f)
   call_words LookUp f is =
@@ -184,6 +199,12 @@ module _ (bound : ℕ) (shapes : Shapes) (at : ℕ) (lt : at < bound) where
   map_words : (m : ℕ) (o : Option MapShape) → OkIs (IsKindAt bound) (map_of m o)
   map_words m None = tt
   map_words m (Some shape) = tt
+
+  value_words : (m offset : ℕ) (o : Option MapShape) → OkIs (IsKindAt bound) (value_of m offset o)
+  unfolding value_of
+  value_words m offset None = tt
+  value_words m offset (Some shape) =
+      cond_both (has_direct_value shape offset) (Ok (kind.Value (value_span m (pos offset) (pos offset)))) (Err NoDirectValue) (OkIs (IsKindAt bound)) (λ _. tt) (λ _. tt)
 
   -- ---- the edges of comparisons
 
@@ -259,6 +280,11 @@ module _ (bound : ℕ) (shapes : Shapes) (at : ℕ) (lt : at < bound) where
         register_words dst _ (λ k _. operand_words true src _
         (λ v small. then_ok (AreWellFormedAt bound) AreFactsBoth (store_facts shapes f (size_of size) off k v) falls (store_words f (size_of size) off k v h small) falls_words))
 
+    changes_words : (size : AtomicSize) (op : AtomicOp) (dst src : ℕ) (off : ℤ) → OkIs AreFactsBoth (effect shapes at (Atomic size op dst src off) f)
+    changes_words size op dst src off =
+        register_words dst _ (λ k _. register_words src _
+        (λ v _. then_ok (AreWellFormedAt bound) AreFactsBoth (changed_facts shapes f (atomic_size size) off k v) falls (changed_words f (atomic_size size) off k v h) falls_words))
+
     insn_words : (i : Insn) → IsInsn i → OkIs AreFactsBoth (effect shapes at i f)
     insn_words (Alu wide op dst src) is = alu_words wide op dst src
     insn_words (Movsx m) is = one_words m.wide (on_words.SignExtend (narrow_of m.bits)) m.dst m.src
@@ -271,8 +297,10 @@ module _ (bound : ℕ) (shapes : Shapes) (at : ℕ) (lt : at < bound) where
     insn_words Exit is = register_words 0 exits_with (λ k _. ends_words k)
     insn_words (Load l) is = loads_words l
     insn_words (Store size dst src off) is = stores_words size dst src off
+    insn_words (Atomic size op dst src off) is = changes_words size op dst src off
     insn_words (Const dst value) is = falls_words _ (kind_words bound f dst _ h is.1)
     insn_words (MapFd dst fd) is = assigns_words dst (map_of (unsigned 32 fd) (shapes (unsigned 32 fd))) (map_words (unsigned 32 fd) (shapes (unsigned 32 fd)))
+    insn_words (MapValue dst fd off) is = assigns_words dst (value_of (unsigned 32 fd) off (shapes (unsigned 32 fd))) (value_words (unsigned 32 fd) off (shapes (unsigned 32 fd)))
 
 -- ---- what an instruction leaves
 

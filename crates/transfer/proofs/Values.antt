@@ -1,11 +1,11 @@
 -- Operators: where the kind of the result is told, the machine gives a value of it.
-use Rattle.std.proofs.Common.{◌≡◌, ℕ, ◌<◌, ◌^◌, Bool, true, false, Option, Result, Err, sym, subst}
+use Rattle.std.proofs.Common.{◌≡◌, ℕ, ◌<◌, ◌^◌, Bool, true, false, Option, Some, Result, Err, refl, sym, subst, arith}
 use Rattle.std.specs.Prelude.{◌||◌}
 use Rattle.std.proofs.lemmas.Bool.{cond_both}
 use Rattle.interval.specs.declared.range.Range.{Range}
 use Rattle.words.specs.declared.operator.Operator.{Operator}
 use Rattle.words.specs.declared.operator.Operator.TheVariants.{Add, Sub}
-use Rattle.interval.specs.Ranges.{IsMember}
+use Rattle.interval.specs.Ranges.{full, IsMember}
 use Rattle.words.specs.Operate.{operate}
 use Rattle.interval.specs.Table.{range_of}
 use Rattle.interval.specs.Laws.{ResultsAreMembers, ResultsAreWords}
@@ -53,6 +53,18 @@ module _ (here : Here) (laws : Results) where
   result_of : (wide : Bool) (op : Operator) (a b : Range) (m n : ℕ) → a.hi < 2 ^ 64 → b.hi < 2 ^ 64 → IsMember m a → IsMember n b → IsKindOf here (kind.Scalar (range_of (width wide) op a b)) (Scalar (operate (width wide) op m n))
   result_of wide op a b m n s t x y =
       scalar_of here (range_of (width wide) op a b) (operate (width wide) op m n) (members laws wide op a b m n s t x y) (words laws wide op a b s t)
+
+  -- two numbers make a number
+  pub number_made : (wide : Bool) (op : Operator) (a b : Range) (v w : Tagged) → IsKindOf here (kind.Scalar a) v → IsKindOf here (kind.Scalar b) w
+      → (n : ℕ) × (of_numbers wide op v w ≡ Some (Scalar n)) × IsKindOf here (kind.Scalar (full 64)) (Scalar n)
+  number_made wide op a b v w h g =
+      by_numbers here a b v w (λ v w. (n : ℕ) × (of_numbers wide op v w ≡ Some (Scalar n)) × IsKindOf here (kind.Scalar (full 64)) (Scalar n)) h.is g.is
+      (λ m n x y.
+      let member = members laws wide op a b m n h.words g.words x y in
+      let word = words laws wide op a b h.words g.words in
+      let made : ℕ = operate (width wide) op m n in
+      let low : made < 2 ^ 64 = omega (arith, member.to, word) in
+      (made, refl, scalar_of here (full 64) made (record { from = omega arith; to = omega (arith, low) }) (omega arith)))
 
   numbers_agree : (wide : Bool) (op : Operator) (k l : Kind) (v w : Tagged) → IsKindOf here k v → IsKindOf here l w → Gives here (of_scalars wide op k l) (of_numbers wide op v w)
   numbers_agree wide op (kind.Scalar a) (kind.Scalar b) v w h g =

@@ -1,6 +1,7 @@
 -- The facts on the edges out of an instruction, from those before it; or why the instruction may not be run. The
 -- conditions are tried in the order in which they stand. The rules and their order are this project's own.
-use Rattle.std.specs.Prelude.{ℕ, ◌*◌, ◌%◌, ℤ, pos, negsuc, ◌+ℤ◌, ◌==◌, Bool, true, false, ◌&&◌, nat_lt, if◌then◌else◌, Option, Some, None, Result, Ok, Err}
+use Rattle.std.specs.Prelude.{ℕ, ◌*◌, ◌%◌, ℤ, pos, negsuc, ◌+ℤ◌, ◌==◌, unsigned_abs, Bool, true, false, ◌&&◌, nat_lt, if◌then◌else◌, Option, Some, None, Result, Ok, Err}
+use Rattle.std.specs.Ordering.{int_eq}
 use Rattle.words.specs.declared.operator.Operator.TheVariants as on_words
 use Rattle.interval.specs.Ranges.{constant, full}
 use Rattle.words.specs.Words.{unsigned}
@@ -9,26 +10,29 @@ use Rattle.insn_codec.specs.declared.insn.AluOp.TheVariants as alu
 use Rattle.insn_codec.specs.declared.insn.Operand.{Operand}
 use Rattle.insn_codec.specs.declared.insn.Operand.TheVariants.{Imm, Reg}
 use Rattle.insn_codec.specs.declared.insn.Insn.{Insn}
-use Rattle.insn_codec.specs.declared.insn.Insn.TheVariants.{Alu, Movsx, Neg, End, Ja, Jal, Jump, Call, Exit, Load, Store, Const, MapFd}
+use Rattle.insn_codec.specs.declared.insn.Insn.TheVariants.{Alu, Movsx, Neg, End, Ja, Jal, Jump, Call, Exit, Load, Store, Atomic, Const, MapFd, MapValue}
 use Rattle.reg_kinds.specs.declared.kind.Kind.{Kind}
 use Rattle.reg_kinds.specs.declared.kind.Kind.TheVariants as kind
+use Rattle.reg_kinds.specs.declared.kind.ValuePointer.{ValuePointer}
 use Rattle.reg_kinds.specs.declared.facts.Facts.{Facts}
 use Rattle.reg_kinds.specs.declared.stack.AccessSize.{AccessSize}
 use Rattle.reg_kinds.specs.declared.stack.AccessSize.TheVariants.{Word}
 use Rattle.reg_kinds.specs.declared.reason.Reason.{Reason}
-use Rattle.reg_kinds.specs.declared.reason.Reason.TheVariants.{UnknownHelper, DescriptorNotMap, ResultNotScalar, NotPointer, MaybeNull, ContextAccess, PointerStored}
+use Rattle.reg_kinds.specs.declared.reason.Reason.TheVariants.{UnknownHelper, DescriptorNotMap, NoDirectValue, ResultNotScalar, NotPointer, PointerArithmetic, PartOfSpill, MaybeNull, ContextAccess, PointerStored, UnalignedAtomic}
 use Rattle.reg_kinds.specs.Reason.{and_then_ok}
 use Rattle.reg_kinds.specs.Kinds.{is_pointer, kind_at, with_kind}
+use Rattle.reg_kinds.specs.Pointers.{value_span}
 use Rattle.reg_kinds.specs.Stack.{bytes_of, loaded, stack_read, stack_write}
 use Rattle.tagged_model.specs.declared.helper.Helper.{Helper}
 use Rattle.tagged_model.specs.declared.shape.MapShape.{MapShape}
 use Rattle.tagged_model.specs.Helpers.{helper_of}
 use Rattle.tagged_model.specs.Named.{Shapes}
-use Rattle.tagged_model.specs.Operators.{width, narrow_of, order_of, kept_of, size_of}
+use Rattle.tagged_model.specs.Table.{has_direct_value}
+use Rattle.tagged_model.specs.Operators.{width, narrow_of, order_of, kept_of, size_of, atomic_size}
 use Rattle.tagged_model.specs.State.{context_words}
 use Rattle.transfer.specs.Arithmetic.{readable, arithmetic_kind, of_scalar}
 use Rattle.transfer.specs.Branches.{Edges, falls, ends, branch_edges}
-use Rattle.transfer.specs.Calls.{room_of, call_facts}
+use Rattle.transfer.specs.Calls.{room_of, any_number, call_facts}
 
 -- ---- operands
 
@@ -75,12 +79,40 @@ store_facts shapes f size off (kind.Value p) v = and_then_ok (room_of p off (byt
 store_facts shapes f size off (kind.MaybeValue m site) v = Err MaybeNull
 store_facts shapes f size off k v = Err NotPointer
 
--- ---- maps and calls: where the descriptor names no map, the shape of the program has a fault, as it has where a helper
--- is not known
+-- ---- atomic operations: a number is loaded, and one is stored at the same place, so no other fact changes
+
+abbrev pub number_or : Reason → Kind → Result (Unit {0}) Reason
+number_or reason (kind.Scalar r) = Ok tt
+number_or reason k = Err reason
+
+abbrev pub stack_changed : Facts → ℤ → AccessSize → Result Facts Reason
+stack_changed f y size = and_then_ok (stack_read f y size false) (λ k. and_then_ok (number_or PartOfSpill k) (λ _. stack_write f y size any_number))
+
+-- a place in a value is known, and a multiple of the size
+abbrev pub is_known_multiple : ValuePointer → ℤ → AccessSize → Bool
+is_known_multiple p off size = int_eq p.lo p.hi && (unsigned_abs (p.lo +ℤ off) % bytes_of size == 0)
+
+abbrev pub value_changed : Facts → ValuePointer → ℤ → AccessSize → Option MapShape → Result Facts Reason
+value_changed f p off size o = and_then_ok (room_of p off (bytes_of size) o) (λ _. if is_known_multiple p off size then Ok f else Err UnalignedAtomic)
+
+abbrev pub changed_facts : Shapes → Facts → AccessSize → ℤ → Kind → Kind → Result Facts Reason
+changed_facts shapes f size off (kind.Stack x) v = and_then_ok (number_or PointerArithmetic v) (λ _. stack_changed f (x +ℤ off) size)
+changed_facts shapes f size off kind.Ctx v = Err ContextAccess
+changed_facts shapes f size off (kind.Value p) v = and_then_ok (number_or PointerArithmetic v) (λ _. value_changed f p off size (shapes p.map))
+changed_facts shapes f size off (kind.MaybeValue m site) v = Err MaybeNull
+changed_facts shapes f size off k v = Err NotPointer
+
+-- ---- maps and calls: where the descriptor names no map, or one without such a value, the shape of the program has a fault, as it
+-- has where a helper is not known
 
 abbrev pub map_of : ℕ → Option MapShape → Result Kind Reason
 map_of m None = Err DescriptorNotMap
 map_of m (Some shape) = Ok (kind.MapRef m)
+
+-- a pointer into the value that a program may load directly
+unfoldable pub value_of : ℕ → ℕ → Option MapShape → Result Kind Reason
+value_of m offset None = Err DescriptorNotMap
+value_of m offset (Some shape) = if has_direct_value shape offset then Ok (kind.Value (value_span m (pos offset) (pos offset))) else Err NoDirectValue
 
 abbrev pub known : Option Helper → Result Helper Reason
 known None = Err UnknownHelper
@@ -114,5 +146,7 @@ effect shapes at (Call id) f = and_then_ok (known (helper_of id)) (λ h. and_the
 effect shapes at Exit f = exit_edges f
 effect shapes at (Load l) f = and_then_ok (readable (kind_at f l.src)) (λ k. assigns f l.dst (load_kind shapes f (size_of l.size) l.signed l.off k))
 effect shapes at (Store size dst src off) f = and_then_ok (readable (kind_at f dst)) (λ k. and_then_ok (readable (source_kind f true src)) (λ v. and_then_ok (store_facts shapes f (size_of size) off k v) falls))
+effect shapes at (Atomic size op dst src off) f = and_then_ok (readable (kind_at f dst)) (λ k. and_then_ok (readable (kind_at f src)) (λ v. and_then_ok (changed_facts shapes f (atomic_size size) off k v) falls))
 effect shapes at (Const dst value) f = falls (with_kind f dst (kind.Scalar (constant value)))
 effect shapes at (MapFd dst fd) f = assigns f dst (map_of (unsigned 32 fd) (shapes (unsigned 32 fd)))
+effect shapes at (MapValue dst fd off) f = assigns f dst (value_of (unsigned 32 fd) off (shapes (unsigned 32 fd)))

@@ -35,7 +35,7 @@ fn map_kind(named: &[Named], kind: Kind) -> Result<ShapedMap, Reason>
 }
 
 /// An offset that is so far behind another.
-fn behind(offset: i32, by: i16) -> i64
+pub(crate) fn behind(offset: i32, by: i16) -> i64
     ensures { result ≡ offset +ℤ by }
 {
     i64::from(offset) + i64::from(by)

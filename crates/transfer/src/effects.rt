@@ -1,12 +1,13 @@
 //! What each instruction does to what is known.
 
-ghost use Rattle.std.specs.Prelude.{◌≡◌, ◌<◌, ℕ, if◌then◌else◌, ◌+ℤ◌, false, IfOk, IfErr, OnErr, OnOk, Ok, Err};
+ghost use Rattle.std.specs.Prelude.{◌≡◌, ◌<◌, ℕ, pos, if◌then◌else◌, ◌+ℤ◌, ◌%◌, ◌==◌, unsigned_abs, false, IfOk, IfErr, OnErr, OnOk, Ok, Err};
 ghost use Rattle.words.specs.Words.{unsigned};
-ghost use Rattle.tagged_model.specs.Operators.{width, size_of};
+ghost use Rattle.tagged_model.specs.Operators.{width, size_of, atomic_size};
+ghost use Rattle.tagged_model.specs.Shape.{longest_value};
 ghost use Rattle.transfer.specs.Arithmetic.{arithmetic_kind, of_scalar};
 ghost use Rattle.transfer.specs.Branches.{branch_edges, ends, falls};
-ghost use Rattle.transfer.specs.Effects.{source_kind, first_kind, is_word, context_read, load_kind, store_facts, map_of, exit_edges, operator_edges, effect};
-ghost use Rattle.reg_kinds.specs.Stack.{is_in_stack};
+ghost use Rattle.transfer.specs.Effects.{source_kind, first_kind, is_word, context_read, load_kind, store_facts, number_or, stack_changed, is_known_multiple, changed_facts, map_of, value_of, exit_edges, operator_edges, effect};
+ghost use Rattle.reg_kinds.specs.Stack.{bytes_of, is_in_stack};
 ghost use Rattle.reg_kinds.specs.declared.reason.Reason.TheVariants.{OutsideStack, PointerStored};
 ghost use Rattle.tagged_model.specs.Named.{shapes_named};
 ghost use Rattle.transfer.specs.Flows.{edges_of};
@@ -15,10 +16,10 @@ ghost use Rattle.transfer.specs.declared.branches.Flow.TheVariants.{Falls};
 
 use crate::arithmetic::{arithmetic, of_scalar, readable};
 use crate::branches::{Flow, branch};
-use crate::calls::{call, room_of};
-use insn_codec::{AluOp, Insn, Load, Movsx, Operand, Reg, Size};
+use crate::calls::{behind, call, room_of};
+use insn_codec::{AluOp, AtomicSize, Insn, Load, Movsx, Operand, Reg, Size};
 use interval::Range;
-use reg_kinds::{Facts, Kind, Reason, loaded, read_stack, write_stack};
+use reg_kinds::{AccessSize, Facts, Kind, Reason, ValuePointer, loaded, read_stack, write_stack};
 use tagged_model::{
     CONTEXT_WORDS, Named, access_size, byte_order, kept_bits, known_helper, narrow, shape_of,
 };
@@ -152,6 +153,78 @@ fn store(
     }
 }
 
+/// Refuses a value that is no number, for this reason.
+fn number_or(reason: Reason, value: Kind) -> Result<(), Reason>
+    ensures { result ≡ number_or reason value }
+{
+    match value {
+        Kind::Scalar(_) => Ok(()),
+        _ => Err(reason),
+    }
+}
+
+/// What an atomic operation in the stack leaves.
+fn change_stack(facts: &mut Facts, offset: i32, size: AccessSize) -> Result<(), Reason>
+    ensures ok { OnOk result (stack_changed facts.old offset size ≡ Ok facts.new) }
+    ensures refused { IfErr result (λ reason. stack_changed facts.old offset size ≡ Err reason) }
+    ensures stays { OnErr result (facts.new ≡ facts.old) }
+{
+    let old = read_stack(facts, offset, size, false)?;
+    number_or(Reason::PartOfSpill, old)?;
+    write_stack(facts, offset, size, Kind::Scalar(Range::full(true)))
+}
+
+/// Whether an offset is a multiple of a size.
+fn is_multiple(offset: i64, size: AccessSize) -> bool
+    ensures { result ≡ (unsigned_abs offset % bytes_of size == 0) }
+{
+    offset.unsigned_abs() % u64::from(size.bytes()) == 0
+}
+
+/// Whether a place in a value is known, and a multiple of a size.
+fn is_known_multiple(pointer: ValuePointer, offset: i16, size: AccessSize) -> bool
+    ensures { result ≡ is_known_multiple pointer offset size }
+{
+    pointer.lo == pointer.hi && is_multiple(behind(pointer.lo, offset), size)
+}
+
+/// What an atomic operation leaves.
+fn change(
+    facts: &mut Facts,
+    named: &[Named],
+    size: AtomicSize,
+    offset: i16,
+    base: Kind,
+    value: Kind,
+) -> Result<(), Reason>
+    ensures ok { OnOk result (changed_facts (shapes_named named.now) facts.old (atomic_size size)
+        offset base value ≡ Ok facts.new) }
+    ensures refused { IfErr result (λ reason. changed_facts (shapes_named named.now) facts.old
+        (atomic_size size) offset base value ≡ Err reason) }
+    ensures stays { OnErr result (facts.new ≡ facts.old) }
+{
+    let access = access_size(size.access());
+    match base {
+        Kind::Stack(from) => {
+            number_or(Reason::PointerArithmetic, value)?;
+            let at = stack_offset(from, offset)?;
+            change_stack(facts, at, access)
+        }
+        Kind::Ctx => Err(Reason::ContextAccess),
+        Kind::Value(pointer) => {
+            number_or(Reason::PointerArithmetic, value)?;
+            room_of(named, pointer, offset, u32::from(access.bytes()))?;
+            if is_known_multiple(pointer, offset, access) {
+                Ok(())
+            } else {
+                Err(Reason::UnalignedAtomic)
+            }
+        }
+        Kind::MaybeValue { .. } => Err(Reason::MaybeNull),
+        _ => Err(Reason::NotPointer),
+    }
+}
+
 /// A map by its descriptor.
 fn map_of(named: &[Named], descriptor: u32) -> Result<Kind, Reason>
     ensures { result ≡ map_of descriptor (shapes_named named.now descriptor) }
@@ -160,6 +233,29 @@ fn map_of(named: &[Named], descriptor: u32) -> Result<Kind, Reason>
         Some(_) => Ok(Kind::MapRef(descriptor)),
         None => Err(Reason::DescriptorNotMap),
     }
+}
+
+/// An offset in a value, as pointers have it.
+fn signed_offset(offset: u32) -> i32
+    requires { offset < longest_value }
+    ensures { result ≡ pos offset }
+{
+    offset as i32
+}
+
+/// A pointer into the value that a program may load directly, at an offset in it.
+#[tactic(auto, unfolding(crate::specs::Effects::value_of))]
+fn value_of(named: &[Named], descriptor: u32, offset: u32) -> Result<Kind, Reason>
+    ensures { result ≡ value_of descriptor offset (shapes_named named.now descriptor) }
+{
+    let Some(shape) = shape_of(named, descriptor) else {
+        return Err(Reason::DescriptorNotMap);
+    };
+    if !shape.has_direct_value(offset) {
+        return Err(Reason::NoDirectValue);
+    }
+    let at = signed_offset(offset);
+    Ok(Kind::Value(ValuePointer::new(descriptor, at, at)))
 }
 
 /// Gives a register the kind that an instruction leaves in it.
@@ -293,10 +389,26 @@ pub fn apply(
             store(facts, named, size, off, base, value)?;
             Ok(Flow::Falls)
         }
+        Insn::Atomic {
+            size,
+            dst,
+            src,
+            off,
+            ..
+        } => {
+            let base = readable(facts.kind(usize::from(dst.number())))?;
+            let value = readable(facts.kind(usize::from(src.number())))?;
+            change(facts, named, size, off, base, value)?;
+            Ok(Flow::Falls)
+        }
         Insn::Const { dst, value } => Ok(assign(facts, dst, Kind::Scalar(Range::constant(value)))),
         Insn::MapFd { dst, fd } => {
             let map = map_of(named, fd.cast_unsigned())?;
             Ok(assign(facts, dst, map))
+        }
+        Insn::MapValue { dst, fd, off } => {
+            let pointer = value_of(named, fd.cast_unsigned(), off)?;
+            Ok(assign(facts, dst, pointer))
         }
     }
 }

@@ -51,7 +51,8 @@ pub fn transfer_keeps_well_formed()
 }
 
 /// An instruction is refused for an unknown function only where it calls one, for what is no map only where it loads one
-/// whose descriptor has no shape, and for no other reason of a program's shape.
+/// whose descriptor has no shape, for a value that it may not load directly only where it loads one that the map does not have,
+/// and for no other reason of a program's shape.
 pub fn transfer_reasons()
     ensures { TransferReasons }
 {}

@@ -6,7 +6,7 @@ use Rattle.std.proofs.lemmas.Bool.{false≢true, cases_order, cases_eq, eq-eqb, 
 use Rattle.std.proofs.lemmas.List.{get_or-replicate, length-replicate}
 use Rattle.std.proofs.lemmas.Option.{none-some}
 use Rattle.insn_codec.specs.declared.insn.Insn.{Insn}
-use Rattle.insn_codec.specs.declared.insn.Insn.TheVariants.{Alu, Movsx, Neg, End, Ja, Jal, Jump, Call, Exit, Load, Store, Const, MapFd}
+use Rattle.insn_codec.specs.declared.insn.Insn.TheVariants.{Alu, Movsx, Neg, End, Ja, Jal, Jump, Call, Exit, Load, Store, Atomic, Const, MapFd, MapValue}
 use Rattle.insn_codec.specs.Spelling.{slots}
 use Rattle.insn_codec.specs.Program.{begins_at, slot_count, Adjoins}
 use Rattle.insn_codec.specs.BeginLaws.{some_slots, adjoins_after, none_begins_inside, first_begins}
@@ -76,8 +76,10 @@ module _ (shapes : Shapes) where
   fall_is at (Call id) f b = refl
   fall_is at (Load l) f b = refl
   fall_is at (Store size dst src off) f b = refl
+  fall_is at (Atomic size op dst src off) f b = refl
   fall_is at (Const dst value) f b = refl
   fall_is at (MapFd dst fd) f b = refl
+  fall_is at (MapValue dst fd off) f b = refl
 
   -- what does not jump has no target
   target_is : (b : Bool) (o : Option ℕ) (n i : ℕ) → n < i → is_slot (if b then o else None) i ≡ (b && is_slot o i && nat_lt n i)

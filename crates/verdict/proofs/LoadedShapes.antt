@@ -8,21 +8,23 @@ use Rattle.std.proofs.lemmas.Option.{none-some, same_Some}
 use Rattle.std.proofs.lemmas.List.Elements.{All-cons, All-filter}
 use Rattle.words.specs.Words.{unsigned}
 use Rattle.insn_codec.specs.declared.insn.Insn.{Insn}
-use Rattle.insn_codec.specs.declared.insn.Insn.TheVariants.{Call, MapFd}
+use Rattle.insn_codec.specs.declared.insn.Insn.TheVariants.{Call, MapFd, MapValue}
 use Rattle.insn_codec.specs.Program.{begins_at}
 use Rattle.insn_codec.specs.BeginLaws.{each_where_it_begins, all_that_begin}
 use Rattle.reg_kinds.specs.declared.facts.Facts.{Facts}
 use Rattle.reg_kinds.specs.declared.reason.Reason.{Reason}
-use Rattle.reg_kinds.specs.declared.reason.Reason.TheVariants.{UnknownHelper, DescriptorNotMap}
+use Rattle.reg_kinds.specs.declared.reason.Reason.TheVariants.{UnknownHelper, DescriptorNotMap, NoDirectValue}
 use Rattle.tagged_model.specs.declared.shape.Named.{Named}
 use Rattle.tagged_model.specs.declared.shape.Target.{Target}
 use Rattle.tagged_model.specs.declared.shape.Target.TheVariants as target
 use Rattle.tagged_model.specs.Cells.{and_then}
+use Rattle.tagged_model.specs.declared.shape.MapShape.{MapShape}
+use Rattle.tagged_model.specs.Table.{has_direct_value}
 use Rattle.tagged_model.specs.Named.{Shapes, target_of, shape_in, shapes_named}
 use Rattle.transfer.specs.Branches.{Edges}
 use Rattle.transfer.specs.Effects.{effect}
-use Rattle.transfer.specs.Reasons.{CallsUnknown, LoadsUnshaped, IsReasonOf, TransferReasons}
-use Rattle.verdict.specs.Shape.{calls_unknown, is_map, descriptor, is_not_open, is_not_map, shape_fault}
+use Rattle.transfer.specs.Reasons.{CallsUnknown, LoadsUnshaped, LoadsNoValue, IsReasonOf, TransferReasons}
+use Rattle.verdict.specs.Shape.{calls_unknown, is_map, descriptor, is_not_open, is_not_map, lacks_value, shape_fault}
 use Rattle.verdict.specs.Before.{facts_before}
 use Rattle.verdict.specs.Maps.{without, distinct, maps_of, is_among, entries_of, shapes_of}
 use Rattle.verdict.specs.Verdict.{reason_of, safety_fault, HasNoFault}
@@ -144,7 +146,19 @@ none_unknown i h none = none
 -- a map that is loaded has a shape
 none_unshaped : (shapes : Shapes) (i : Insn) → ((fd : ℕ) → descriptor i ≡ Some fd → IsSome (shapes fd)) → LoadsUnshaped shapes i → ⊥
 none_unshaped shapes (MapFd dst fd) h none = true≢false (sym (h (unsigned 32 fd) refl) ∙ ap is_some none)
+none_unshaped shapes (MapValue dst fd off) h none = true≢false (sym (h (unsigned 32 fd) refl) ∙ ap is_some none)
 none_unshaped shapes i h none = none
+
+-- a value that is loaded directly is one that the map has
+none_lacking : (shapes : Shapes) (named : List Named) (i : Insn) → ((fd : ℕ) → descriptor i ≡ Some fd → shapes fd ≡ shapes_named named fd) → lacks_value named i ≡ false → LoadsNoValue shapes i → ⊥
+none_lacking shapes named (MapValue dst fd off) same has none =
+    let there : shapes_named named (unsigned 32 fd) ≡ Some none.0 = sym (same (unsigned 32 fd) refl) ∙ none.1 in
+    true≢false (sym (ap not none.2) ∙ sym (ap (λ o. not (option_map_or (λ shape. has_direct_value shape off) o true)) there) ∙ has)
+none_lacking shapes named i same has none = none
+
+-- the shapes that are kept are those that all descriptors name
+kept_shape : (code : List Insn) (named : List Named) (n : ℕ) (i : Insn) → begins_at code n ≡ Some i → (fd : ℕ) → descriptor i ≡ Some fd → shapes_of code named fd ≡ shapes_named named fd
+kept_shape code named n i begins fd e = ap shape_in (target_kept (maps_of code) fd (among_maps code n i begins fd e) named)
 
 pub safety_follows : TransferReasons → SafetyFollowsShape
 safety_follows law = record {
@@ -154,4 +168,7 @@ safety_follows law = record {
   maps = λ code named slot none h.
       let t = safety_told law (shapes_of code named) code slot DescriptorNotMap h in
       none_unshaped (shapes_of code named) t.insn (shaped_in code named none slot t.insn t.begins) t.is;
+  values = λ code named slot none h.
+      let t = safety_told law (shapes_of code named) code slot NoDirectValue h in
+      none_lacking (shapes_of code named) named t.insn (kept_shape code named slot t.insn t.begins) (each_is_fine code named none slot t.insn t.begins).value t.is;
 }

@@ -6,7 +6,7 @@ use Rattle.insn_codec.specs.declared.insn.Insn.{Insn}
 use Rattle.insn_codec.specs.Program.{begins_at}
 use Rattle.reg_kinds.specs.declared.facts.Facts.{Facts}
 use Rattle.reg_kinds.specs.declared.reason.Reason.{Reason}
-use Rattle.reg_kinds.specs.declared.reason.Reason.TheVariants.{JumpOutside, JumpBackward, FallsOff, Unreachable, UnknownHelper, FramePointerWritten, DescriptorNotOpen, DescriptorNotMap, Memory}
+use Rattle.reg_kinds.specs.declared.reason.Reason.TheVariants.{JumpOutside, JumpBackward, FallsOff, Unreachable, UnknownHelper, FramePointerWritten, DescriptorNotOpen, DescriptorNotMap, NoDirectValue, Memory}
 use Rattle.tagged_model.specs.declared.shape.Named.{Named}
 use Rattle.tagged_model.specs.Cells.{and_then}
 use Rattle.tagged_model.specs.Named.{Shapes}
@@ -54,7 +54,8 @@ shape_of_rule code named slot (Some i) =
     (line_rule _ UnknownHelper _ tt
     (line_rule _ FramePointerWritten _ tt
     (line_rule _ DescriptorNotOpen _ tt
-    (line_rule _ DescriptorNotMap _ tt by_none)))))))
+    (line_rule _ DescriptorNotMap _ tt
+    (line_rule _ NoDirectValue _ tt by_none))))))))
 
 shape_rule : (code : List Insn) (named : List Named) (slot : ℕ) → ByRule (shape_fault code named slot)
 unfolding shape_fault

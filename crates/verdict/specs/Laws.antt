@@ -3,7 +3,7 @@ use Rattle.std.specs.Prelude.{◌≡◌, ◌≢◌, ℕ, List, slice_get, Some, 
 use Rattle.std.specs.List.{All}
 use Rattle.insn_codec.specs.declared.insn.Insn.{Insn}
 use Rattle.insn_codec.specs.Program.{begins_at}
-use Rattle.reg_kinds.specs.declared.reason.Reason.TheVariants.{UnknownHelper, DescriptorNotMap}
+use Rattle.reg_kinds.specs.declared.reason.Reason.TheVariants.{UnknownHelper, DescriptorNotMap, NoDirectValue}
 use Rattle.tagged_model.specs.declared.shape.MapShape.{MapShape}
 use Rattle.tagged_model.specs.declared.shape.Named.{Named}
 use Rattle.tagged_model.specs.Named.{shapes_named}
@@ -12,10 +12,11 @@ use Rattle.verdict.specs.Maps.{maps_of, shapes_of}
 use Rattle.verdict.specs.Verdict.{HasNoFault, IsAccepted, safety_fault}
 
 -- in a program without a fault of its shape what an instruction names is there: none is refused for safety since it calls an
--- unknown function, or loads what is no map
+-- unknown function, loads what is no map, or loads a value directly that the map does not have
 pub record SafetyFollowsShape : Type 0 where
   pub helpers : (code : List Insn) (named : List Named) (slot : ℕ) → HasNoFault (shape_fault code named) → safety_fault (shapes_of code named) code slot ≢ Some UnknownHelper
   pub maps : (code : List Insn) (named : List Named) (slot : ℕ) → HasNoFault (shape_fault code named) → safety_fault (shapes_of code named) code slot ≢ Some DescriptorNotMap
+  pub values : (code : List Insn) (named : List Named) (slot : ℕ) → HasNoFault (shape_fault code named) → safety_fault (shapes_of code named) code slot ≢ Some NoDirectValue
 
 -- each map that an accepted program loads has a shape, as all descriptors name it and as those do that are kept
 pub record LoadedMapsHaveShapes : Type 0 where

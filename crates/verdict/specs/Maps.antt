@@ -1,4 +1,4 @@
--- The maps that a program loads, by their descriptors, and the shapes of those. This project's own.
+-- The maps that a program loads, or values of which it loads, by their descriptors, and the shapes of those. This project's own.
 use Rattle.std.specs.Prelude.{ℕ, Bool, ◌==◌, not, List, [], ◌∷◌}
 use Rattle.std.specs.List.{list_any, filter, filter_map}
 use Rattle.insn_codec.specs.declared.insn.Insn.{Insn}

@@ -4,14 +4,15 @@ use Rattle.std.specs.Prelude.{ℕ, zero, suc, ◌==◌, Bool, true, false, not, 
 use Rattle.std.specs.Option.{option_map_or}
 use Rattle.words.specs.Words.{unsigned}
 use Rattle.insn_codec.specs.declared.insn.Insn.{Insn}
-use Rattle.insn_codec.specs.declared.insn.Insn.TheVariants.{Call, MapFd}
+use Rattle.insn_codec.specs.declared.insn.Insn.TheVariants.{Call, MapFd, MapValue}
 use Rattle.insn_codec.specs.Program.{begins_at, slot_count}
 use Rattle.reg_kinds.specs.declared.reason.Reason.{Reason}
-use Rattle.reg_kinds.specs.declared.reason.Reason.TheVariants.{JumpOutside, JumpBackward, FallsOff, Unreachable, UnknownHelper, FramePointerWritten, DescriptorNotOpen, DescriptorNotMap}
+use Rattle.reg_kinds.specs.declared.reason.Reason.TheVariants.{JumpOutside, JumpBackward, FallsOff, Unreachable, UnknownHelper, FramePointerWritten, DescriptorNotOpen, DescriptorNotMap, NoDirectValue}
 use Rattle.tagged_model.specs.declared.shape.Named.{Named}
 use Rattle.tagged_model.specs.declared.shape.Target.{Target}
 use Rattle.tagged_model.specs.declared.shape.Target.TheVariants as target
-use Rattle.tagged_model.specs.Named.{target_of}
+use Rattle.tagged_model.specs.Named.{target_of, shapes_named}
+use Rattle.tagged_model.specs.Table.{has_direct_value}
 use Rattle.tagged_model.specs.Helpers.{helper_of}
 use Rattle.insn_codec.specs.Flow.{falls_to, jumps_to, falls, jumps, written_register}
 
@@ -57,9 +58,10 @@ abbrev pub is_map : Target → Bool
 is_map (target.Map shape) = true
 is_map target.Program = false
 
--- the descriptor of a load of a map
+-- the descriptor of a load of a map, or of a value of one
 abbrev pub descriptor : Insn → Option ℕ
 descriptor (MapFd dst fd) = Some (unsigned 32 fd)
+descriptor (MapValue dst fd off) = Some (unsigned 32 fd)
 descriptor i = None
 
 abbrev pub is_not_open : List Named → Option ℕ → Bool
@@ -69,6 +71,11 @@ is_not_open named (Some fd) = not (is_some (target_of named fd))
 abbrev pub is_not_map : List Named → Option ℕ → Bool
 is_not_map named None = false
 is_not_map named (Some fd) = not (option_map_or is_map (target_of named fd) true)
+
+-- it loads a value directly that the map does not have
+abbrev pub lacks_value : List Named → Insn → Bool
+lacks_value named (MapValue dst fd off) = not (option_map_or (λ shape. has_direct_value shape off) (shapes_named named (unsigned 32 fd)) true)
+lacks_value named i = false
 
 abbrev pub leads_outside : List Insn → Option ℕ → Bool
 leads_outside code None = true
@@ -94,6 +101,7 @@ shape_reason code named i at = first_reason (
     ∷ (is_slot (written_register i) 10, FramePointerWritten)
     ∷ (is_not_open named (descriptor i), DescriptorNotOpen)
     ∷ (is_not_map named (descriptor i), DescriptorNotMap)
+    ∷ (lacks_value named i, NoDirectValue)
     ∷ [])
 
 -- at a slot: nothing where no instruction begins

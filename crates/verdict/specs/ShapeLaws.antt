@@ -7,9 +7,9 @@ use Rattle.insn_codec.specs.declared.insn.Insn.{Insn}
 use Rattle.insn_codec.specs.Program.{begins_at, slot_count}
 use Rattle.insn_codec.specs.Flow.{falls_to, jumps_to, falls, jumps, written_register}
 use Rattle.reg_kinds.specs.declared.reason.Reason.{Reason}
-use Rattle.reg_kinds.specs.declared.reason.Reason.TheVariants.{JumpOutside, JumpBackward, FallsOff, Unreachable, UnknownHelper, FramePointerWritten, DescriptorNotOpen, DescriptorNotMap}
+use Rattle.reg_kinds.specs.declared.reason.Reason.TheVariants.{JumpOutside, JumpBackward, FallsOff, Unreachable, UnknownHelper, FramePointerWritten, DescriptorNotOpen, DescriptorNotMap, NoDirectValue}
 use Rattle.tagged_model.specs.declared.shape.Named.{Named}
-use Rattle.verdict.specs.Shape.{leads_outside, leads_backward, is_reachable, is_slot, calls_unknown, descriptor, is_not_open, is_not_map, first_reason, shape_reason, shape_of, shape_fault}
+use Rattle.verdict.specs.Shape.{leads_outside, leads_backward, is_reachable, is_slot, calls_unknown, descriptor, is_not_open, is_not_map, lacks_value, first_reason, shape_reason, shape_of, shape_fault}
 use Rattle.verdict.specs.Verdict.{HasNoFault}
 
 no_reason : (reason : Reason) → Some reason ≡ None → ⊥
@@ -32,10 +32,12 @@ pub record IsFine (code : List Insn) (named : List Named) (i : Insn) (at : ℕ) 
   pub known : calls_unknown i ≡ false
   pub is_open : is_not_open named (descriptor i) ≡ false
   pub map : is_not_map named (descriptor i) ≡ false
+  pub value : lacks_value named i ≡ false
 
 -- an instruction against which no reason stands is fine
 pub unrefused_is_fine : (code : List Insn) (named : List Named) (i : Insn) (at : ℕ) → shape_reason code named i at ≡ None → IsFine code named i at
 unrefused_is_fine code named i at none =
+    let ninth : Bool × Reason = (lacks_value named i, NoDirectValue) in
     let eighth : Bool × Reason = (is_not_map named (descriptor i), DescriptorNotMap) in
     let seventh : Bool × Reason = (is_not_open named (descriptor i), DescriptorNotOpen) in
     let sixth : Bool × Reason = (is_slot (written_register i) 10, FramePointerWritten) in
@@ -44,14 +46,15 @@ unrefused_is_fine code named i at none =
     let third : Bool × Reason = (falls i && nat_le (slot_count code) (falls_to i at), FallsOff) in
     let second : Bool × Reason = (jumps i && leads_backward (jumps_to i at) at, JumpBackward) in
     let first : Bool × Reason = (jumps i && leads_outside code (jumps_to i at), JumpOutside) in
-    let one = passed first (second ∷ third ∷ fourth ∷ fifth ∷ sixth ∷ seventh ∷ eighth ∷ []) none in
-    let two = passed second (third ∷ fourth ∷ fifth ∷ sixth ∷ seventh ∷ eighth ∷ []) one.1 in
-    let three = passed third (fourth ∷ fifth ∷ sixth ∷ seventh ∷ eighth ∷ []) two.1 in
-    let four = passed fourth (fifth ∷ sixth ∷ seventh ∷ eighth ∷ []) three.1 in
-    let five = passed fifth (sixth ∷ seventh ∷ eighth ∷ []) four.1 in
-    let six = passed sixth (seventh ∷ eighth ∷ []) five.1 in
-    let seven = passed seventh (eighth ∷ []) six.1 in
-    let eight = passed eighth [] seven.1 in
+    let one = passed first (second ∷ third ∷ fourth ∷ fifth ∷ sixth ∷ seventh ∷ eighth ∷ ninth ∷ []) none in
+    let two = passed second (third ∷ fourth ∷ fifth ∷ sixth ∷ seventh ∷ eighth ∷ ninth ∷ []) one.1 in
+    let three = passed third (fourth ∷ fifth ∷ sixth ∷ seventh ∷ eighth ∷ ninth ∷ []) two.1 in
+    let four = passed fourth (fifth ∷ sixth ∷ seventh ∷ eighth ∷ ninth ∷ []) three.1 in
+    let five = passed fifth (sixth ∷ seventh ∷ eighth ∷ ninth ∷ []) four.1 in
+    let six = passed sixth (seventh ∷ eighth ∷ ninth ∷ []) five.1 in
+    let seven = passed seventh (eighth ∷ ninth ∷ []) six.1 in
+    let eight = passed eighth (ninth ∷ []) seven.1 in
+    let nine = passed ninth [] eight.1 in
     record {
       inside = one.0;
       forward = two.0;
@@ -60,6 +63,7 @@ unrefused_is_fine code named i at none =
       known = five.0;
       is_open = seven.0;
       map = eight.0;
+      value = nine.0;
     }
 
 -- where no slot has a fault of its shape, each instruction is fine

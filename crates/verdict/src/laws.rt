@@ -30,8 +30,8 @@ pub fn refused_by_a_rule()
     effects_need_no_memory();
 }
 
-/// In a program without a fault of its shape no instruction is refused for safety since it calls an unknown function, or
-/// loads what is no map: its shape has ruled both out.
+/// In a program without a fault of its shape no instruction is refused for safety since it calls an unknown function, loads
+/// what is no map, or loads a value directly that the map does not have: its shape has ruled them out.
 pub fn safety_follows_shape()
     ensures { SafetyFollowsShape }
 {

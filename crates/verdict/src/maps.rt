@@ -1,4 +1,4 @@
-//! The maps that a program loads.
+//! The maps that a program loads, or values of which it loads.
 
 ghost use Rattle.std.specs.Prelude.{◌≡◌, IfOk, OnOk};
 ghost use Rattle.verdict.specs.Shape.{descriptor};
@@ -10,7 +10,7 @@ use insn_codec::{Insn, Program};
 use std::alloc::{AllocError, Global};
 use tagged_model::Named;
 
-/// Adds the descriptor of a load of a map, unless it is there.
+/// Adds the descriptor of a load of a map or of a value of one, unless it is there.
 fn add_descriptor(maps: &mut Vec<u32>, insn: &Insn) -> Result<(), AllocError>
     ensures { OnOk result (maps.new.items ≡ with_descriptor maps.old.items (descriptor insn.now)) }
 {

@@ -1,9 +1,9 @@
 //! The shape of a program.
 
 ghost use Rattle.std.specs.Prelude.{◌≡◌, ◌⊎◌, ◌+◌, ◌<◌, ◌≤◌, ◌&&◌, ◌||◌, ℕ, false, [], ◌∷◌, length, slice_index_or, IsTrue, IfSome, IfErr, OnOk, Some};
-ghost use Rattle.reg_kinds.specs.declared.reason.Reason.TheVariants.{JumpOutside, JumpBackward, DescriptorNotOpen, DescriptorNotMap};
+ghost use Rattle.reg_kinds.specs.declared.reason.Reason.TheVariants.{JumpOutside, JumpBackward, DescriptorNotOpen, DescriptorNotMap, NoDirectValue};
 ghost use Rattle.insn_codec.specs.Flow.{falls_to, jumps_to, falls, jumps, jump_target, written_register};
-ghost use Rattle.verdict.specs.Shape.{leads_into, is_reachable, is_slot, calls_unknown, descriptor, is_not_open, is_not_map, leads_outside, leads_backward, first_reason, shape_reason, shape_fault};
+ghost use Rattle.verdict.specs.Shape.{leads_into, is_reachable, is_slot, calls_unknown, descriptor, is_not_open, is_not_map, lacks_value, leads_outside, leads_backward, first_reason, shape_reason, shape_fault};
 ghost use Rattle.verdict.specs.inside.Jumps.{JumpsLand};
 ghost use Rattle.verdict.specs.Verdict.{IsFirstFault, HasNoFault, memory_fault};
 
@@ -12,7 +12,7 @@ use crate::fault::VerifyFault;
 use insn_codec::{Insn, Load, MAX_SLOTS, Movsx, Program, Reg};
 use reg_kinds::Reason;
 use std::alloc::Global;
-use tagged_model::{Named, Target, known_helper, target_of};
+use tagged_model::{Named, Target, known_helper, shape_of, target_of};
 
 /// The frame pointer's number.
 const FRAME_POINTER: u8 = 10;
@@ -29,6 +29,7 @@ fn written_register(insn: &Insn) -> Option<Reg>
         Insn::Load(Load { dst, .. }) => Some(dst),
         Insn::Const { dst, .. } => Some(dst),
         Insn::MapFd { dst, .. } => Some(dst),
+        Insn::MapValue { dst, .. } => Some(dst),
         _ => None,
     }
 }
@@ -53,25 +54,41 @@ fn calls_unknown(insn: &Insn) -> bool
     }
 }
 
-/// The descriptor that an instruction names: that of a load of a map.
+/// The descriptor that an instruction names: that of a load of a map, or of a value of one.
 pub fn descriptor(insn: &Insn) -> Option<u32>
     ensures { result ≡ descriptor insn.now }
 {
     match *insn {
         Insn::MapFd { fd, .. } => Some(fd.cast_unsigned()),
+        Insn::MapValue { fd, .. } => Some(fd.cast_unsigned()),
         _ => None,
     }
 }
 
-/// What is wrong with the descriptor that an instruction names.
+/// Whether it loads a value directly that the map does not have.
+fn lacks_value(named: &[Named], insn: &Insn) -> bool
+    ensures { result ≡ lacks_value named.now insn.now }
+{
+    match *insn {
+        Insn::MapValue { fd, off, .. } => match shape_of(named, fd.cast_unsigned()) {
+            Some(shape) => !shape.has_direct_value(off),
+            None => false,
+        },
+        _ => false,
+    }
+}
+
+/// What is wrong with what an instruction names: the descriptor, and the value that it loads directly.
 fn descriptor_reason(named: &[Named], insn: &Insn) -> Option<Reason>
     ensures { result ≡ first_reason
         ((is_not_open named.now (descriptor insn.now), DescriptorNotOpen)
-        ∷ (is_not_map named.now (descriptor insn.now), DescriptorNotMap) ∷ []) }
+        ∷ (is_not_map named.now (descriptor insn.now), DescriptorNotMap)
+        ∷ (lacks_value named.now insn.now, NoDirectValue) ∷ []) }
 {
     match target_of(named, descriptor(insn)?) {
         None => Some(Reason::DescriptorNotOpen),
         Some(Target::Program) => Some(Reason::DescriptorNotMap),
+        Some(Target::Map(_)) if lacks_value(named, insn) => Some(Reason::NoDirectValue),
         Some(Target::Map(_)) => None,
     }
 }

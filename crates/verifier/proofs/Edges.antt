@@ -5,19 +5,21 @@ use Rattle.interval.specs.Ranges.{constant}
 use Rattle.insn_codec.specs.declared.insn.AluOp.{AluOp}
 use Rattle.insn_codec.specs.declared.insn.Size.{Size}
 use Rattle.insn_codec.specs.declared.insn.Operand.{Operand}
+use Rattle.insn_codec.specs.declared.insn.AtomicSize.{AtomicSize}
+use Rattle.insn_codec.specs.declared.insn.AtomicOp.{AtomicOp}
 use Rattle.insn_codec.specs.declared.insn.Insn.{Insn}
-use Rattle.insn_codec.specs.declared.insn.Insn.TheVariants.{Alu, Movsx, Neg, End, Ja, Jal, Jump, Call, Exit, Load, Store, Const, MapFd}
+use Rattle.insn_codec.specs.declared.insn.Insn.TheVariants.{Alu, Movsx, Neg, End, Ja, Jal, Jump, Call, Exit, Load, Store, Atomic, Const, MapFd, MapValue}
 use Rattle.reg_kinds.specs.declared.kind.Kind.{Kind}
 use Rattle.reg_kinds.specs.declared.kind.Kind.TheVariants as kind
 use Rattle.reg_kinds.specs.declared.facts.Facts.{Facts}
 use Rattle.reg_kinds.specs.declared.reason.Reason.{Reason}
 use Rattle.reg_kinds.specs.Reason.{and_then_ok}
 use Rattle.reg_kinds.specs.Kinds.{kind_at, with_kind}
-use Rattle.tagged_model.specs.Operators.{narrow_of, order_of, kept_of, size_of}
+use Rattle.tagged_model.specs.Operators.{narrow_of, order_of, kept_of, size_of, atomic_size}
 use Rattle.transfer.specs.Branches.{Edges}
 use Rattle.transfer.specs.Branches.{falls as falls_on}
 use Rattle.transfer.specs.Arithmetic.{readable, arithmetic_kind, of_scalar}
-use Rattle.transfer.specs.Effects.{source_kind, first_kind, assigns, load_kind, store_facts, map_of, known, exits_with, effect}
+use Rattle.transfer.specs.Effects.{source_kind, first_kind, assigns, load_kind, store_facts, changed_facts, map_of, value_of, known, exits_with, effect}
 use Rattle.transfer.specs.Calls.{call_facts}
 use Rattle.tagged_model.specs.Named.{Shapes}
 use Rattle.tagged_model.specs.Helpers.{helper_of}
@@ -82,6 +84,12 @@ module _ (shapes : Shapes) (at : ℕ) where
       (λ k. after_given (LeadOnly (Store size dst src off)) (readable (source_kind f true src)) _
       (λ v. after_given (LeadOnly (Store size dst src off)) (store_facts shapes f (size_of size) off k v) _ (λ g. falls_alone (Store size dst src off) g refl)))
 
+  change_leads : (size : AtomicSize) (op : AtomicOp) (dst src : ℕ) (off : ℤ) (f : Facts) → IfOk (LeadOnly (Atomic size op dst src off)) (effect shapes at (Atomic size op dst src off) f)
+  change_leads size op dst src off f =
+      after_given (LeadOnly (Atomic size op dst src off)) (readable (kind_at f dst)) _
+      (λ k. after_given (LeadOnly (Atomic size op dst src off)) (readable (kind_at f src)) _
+      (λ v. after_given (LeadOnly (Atomic size op dst src off)) (changed_facts shapes f (atomic_size size) off k v) _ (λ g. falls_alone (Atomic size op dst src off) g refl)))
+
   effect_leads : (i : Insn) (f : Facts) → IfOk (LeadOnly i) (effect shapes at i f)
   effect_leads (Alu wide op dst src) f = alu_leads wide op dst src f
   effect_leads (Movsx m) f = one_leads (Movsx m) f m.dst m.src (of_scalar m.wide (on_words.SignExtend (narrow_of m.bits))) refl
@@ -94,8 +102,10 @@ module _ (shapes : Shapes) (at : ℕ) where
   effect_leads Exit f = after_given (LeadOnly Exit) (readable (kind_at f 0)) exits_with ends_nowhere
   effect_leads (Load l) f = one_leads (Load l) f l.dst l.src (load_kind shapes f (size_of l.size) l.signed l.off) refl
   effect_leads (Store size dst src off) f = store_leads size dst src off f
+  effect_leads (Atomic size op dst src off) f = change_leads size op dst src off f
   effect_leads (Const dst value) f = falls_alone (Const dst value) (with_kind f dst (kind.Scalar (constant value))) refl
   effect_leads (MapFd dst fd) f = assigned_alone (MapFd dst fd) f dst (map_of (unsigned 32 fd) (shapes (unsigned 32 fd))) refl
+  effect_leads (MapValue dst fd off) f = assigned_alone (MapValue dst fd off) f dst (value_of (unsigned 32 fd) off (shapes (unsigned 32 fd))) refl
 
   pub leads_only : (i : Insn) (f : Facts) (e : Edges) → effect shapes at i f ≡ Ok e → LeadOnly i e
   leads_only i f e q = if_ok (LeadOnly i) (effect shapes at i f) e (effect_leads i f) q

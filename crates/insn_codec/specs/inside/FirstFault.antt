@@ -7,7 +7,7 @@ use Rattle.insn_codec.specs.declared.form.OpcodeForm.TheVariants as form
 use Rattle.insn_codec.specs.declared.fault.FaultKind.{FaultKind}
 use Rattle.insn_codec.specs.declared.fault.FaultKind.TheVariants.{Opcode, Reserved, Register, SecondSlot, Ragged}
 use Rattle.insn_codec.specs.declared.opcode.WideKind.{WideKind}
-use Rattle.insn_codec.specs.declared.opcode.WideKind.TheVariants.{Number, Map}
+use Rattle.insn_codec.specs.declared.opcode.WideKind.TheVariants.{Number, Map, MapValue}
 use Rattle.insn_codec.specs.inside.Slots.{slot_of}
 use Rattle.insn_codec.specs.inside.Form.{form_at, listed, wide_at}
 
@@ -17,6 +17,7 @@ use Rattle.insn_codec.specs.inside.Form.{form_at, listed, wide_at}
 abbrev pub next_listed : WideKind → ℕ → Bool
 next_listed Number imm = true
 next_listed Map imm = imm == 0
+next_listed MapValue imm = true
 
 abbrev pub is_second : WideKind → SlotFields → Bool
 is_second kind next = next.opcode == 0 && next.dst == 0 && next.src == 0 && next.offset == 0 && next_listed kind next.imm

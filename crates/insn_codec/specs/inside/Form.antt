@@ -6,13 +6,16 @@ use Rattle.insn_codec.specs.declared.insn.Condition.{Condition}
 use Rattle.insn_codec.specs.declared.insn.Condition.TheVariants.{Equal, Above, AboveOrEqual, CommonBit, NotEqual, SignedAbove, SignedAboveOrEqual, Below, BelowOrEqual, SignedBelow, SignedBelowOrEqual}
 use Rattle.insn_codec.specs.declared.insn.Size.{Size}
 use Rattle.insn_codec.specs.declared.insn.Size.TheVariants as size
+use Rattle.insn_codec.specs.declared.insn.AtomicSize.TheVariants as atomic_size
+use Rattle.insn_codec.specs.declared.insn.AtomicOp.{AtomicOp}
+use Rattle.insn_codec.specs.declared.insn.AtomicOp.TheVariants as atomic
 use Rattle.insn_codec.specs.declared.opcode.SourceBit.{SourceBit}
 use Rattle.insn_codec.specs.declared.opcode.SourceBit.TheVariants.{Imm, Reg}
 use Rattle.insn_codec.specs.declared.opcode.AluCode.{AluCode}
 use Rattle.insn_codec.specs.declared.opcode.AluCode.TheVariants.{Add, Sub, Mul, Div, Or, And, ShiftLeft, ShiftRight, Mod, Xor, Mov, SignedShiftRight}
 use Rattle.insn_codec.specs.declared.opcode.LoadKind.TheVariants.{Word, Half, Byte, Double, SignedWord, SignedHalf, SignedByte}
 use Rattle.insn_codec.specs.declared.opcode.WideKind.{WideKind}
-use Rattle.insn_codec.specs.declared.opcode.WideKind.TheVariants.{Number, Map}
+use Rattle.insn_codec.specs.declared.opcode.WideKind.TheVariants.{Number, Map, MapValue}
 use Rattle.insn_codec.specs.declared.form.OpcodeForm.{OpcodeForm}
 use Rattle.insn_codec.specs.declared.form.OpcodeForm.TheVariants as form
 
@@ -95,6 +98,12 @@ load_at opcode =
 abbrev pub store_at : ℕ → SourceBit → Option OpcodeForm
 store_at opcode source = if opcode / 32 == 3 then Some (form.Store (size_at (opcode / 8 % 4)) source) else None
 
+-- sections 5.1 and 5.3
+abbrev pub register_store_at : ℕ → Option OpcodeForm
+register_store_at opcode =
+    if opcode == 0xc3 then Some (form.Atomic atomic_size.Word) else
+    (if opcode == 0xdb then Some (form.Atomic atomic_size.Double) else store_at opcode Reg)
+
 -- section 4
 abbrev pub source_at : ℕ → SourceBit
 source_at opcode = if opcode / 8 % 2 == 0 then Imm else Reg
@@ -105,7 +114,7 @@ form_at opcode =
     if opcode % 8 == 0 then (if opcode == 0x18 then Some form.Wide else None) else
     (if opcode % 8 == 1 then load_at opcode else
     (if opcode % 8 == 2 then store_at opcode Imm else
-    (if opcode % 8 == 3 then store_at opcode Reg else
+    (if opcode % 8 == 3 then register_store_at opcode else
     (if opcode % 8 == 4 then alu_at false (source_at opcode) (opcode / 16) else
     (if opcode % 8 == 5 then jump_at true (source_at opcode) (opcode / 16) else
     (if opcode % 8 == 6 then jump_at false (source_at opcode) (opcode / 16) else
@@ -113,7 +122,15 @@ form_at opcode =
 
 -- section 5.4: what the immediates of a wide load are, by its source field
 abbrev pub wide_at : ℕ → Option WideKind
-wide_at src = if src == 0 then Some Number else (if src == 1 then Some Map else None)
+wide_at src = if src == 0 then Some Number else (if src == 1 then Some Map else (if src == 2 then Some MapValue else None))
+
+-- section 5.3: the operation of an immediate, without FETCH
+abbrev pub atomic_at : ℕ → Option AtomicOp
+atomic_at imm =
+    if imm == 0x00 then Some atomic.Add else
+    (if imm == 0x40 then Some atomic.Or else
+    (if imm == 0x50 then Some atomic.And else
+    (if imm == 0xa0 then Some atomic.Xor else None)))
 
 -- section 4: the operand that is not used is zero
 abbrev pub one_operand : SourceBit → SlotFields → Bool
@@ -139,4 +156,5 @@ listed form.Call s = (s.dst == 0 && s.src == 0) && s.offset == 0
 listed form.Exit s = (s.dst == 0 && s.src == 0) && s.offset == 0 && s.imm == 0
 listed (form.Load kind) s = s.imm == 0
 listed (form.Store size source) s = one_operand source s
+listed (form.Atomic size) s = is_some (atomic_at s.imm)
 listed form.Wide s = s.offset == 0 && is_some (wide_at s.src)

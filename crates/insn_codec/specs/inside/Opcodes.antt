@@ -8,6 +8,7 @@ use Rattle.insn_codec.specs.declared.opcode.LoadKind.{LoadKind}
 use Rattle.insn_codec.specs.declared.opcode.LoadKind.TheVariants as load
 use Rattle.insn_codec.specs.declared.form.OpcodeForm.{OpcodeForm}
 use Rattle.insn_codec.specs.declared.form.OpcodeForm.TheVariants as form
+use Rattle.insn_codec.specs.Sizes.{access_size}
 use Rattle.insn_codec.specs.Numbers.{opcode, alu_class, jump_class, condition_number, end_opcode, memory_opcode}
 
 -- section 4.1
@@ -52,4 +53,5 @@ opcode_of form.Call = opcode 8 0 5
 opcode_of form.Exit = opcode 9 0 5
 opcode_of (form.Load kind) = load_opcode kind
 opcode_of (form.Store z s) = memory_opcode 3 z (2 + source_number s)
+opcode_of (form.Atomic z) = memory_opcode 6 (access_size z) 3
 opcode_of form.Wide = 0x18

@@ -46,6 +46,7 @@ verdict_told reason.UnknownHelper slot = unaccepted_at reason.UnknownHelper slot
 verdict_told reason.FramePointerWritten slot = unaccepted_at reason.FramePointerWritten slot
 verdict_told reason.DescriptorNotOpen slot = unaccepted_at reason.DescriptorNotOpen slot
 verdict_told reason.DescriptorNotMap slot = unaccepted_at reason.DescriptorNotMap slot
+verdict_told reason.NoDirectValue slot = unaccepted_at reason.NoDirectValue slot
 verdict_told reason.UnreadableRegister slot = unaccepted_at reason.UnreadableRegister slot
 verdict_told reason.ResultNotScalar slot = unaccepted_at reason.ResultNotScalar slot
 verdict_told reason.NotPointer slot = unaccepted_at reason.NotPointer slot
@@ -62,6 +63,7 @@ verdict_told reason.PointerStored slot = unaccepted_at reason.PointerStored slot
 verdict_told reason.PointerComparison slot = unaccepted_at reason.PointerComparison slot
 verdict_told reason.HelperArgument slot = unaccepted_at reason.HelperArgument slot
 verdict_told reason.LengthUnbounded slot = unaccepted_at reason.LengthUnbounded slot
+verdict_told reason.UnalignedAtomic slot = unaccepted_at reason.UnalignedAtomic slot
 verdict_told reason.Memory slot = Memory
 
 -- memory was refused, or the slots are

@@ -14,6 +14,10 @@ use Rattle.insn_codec.specs.declared.insn.Narrow.{Narrow}
 use Rattle.insn_codec.specs.declared.insn.Narrow.TheVariants as narrow
 use Rattle.insn_codec.specs.declared.insn.Size.{Size}
 use Rattle.insn_codec.specs.declared.insn.Size.TheVariants as size
+use Rattle.insn_codec.specs.declared.insn.AtomicSize.{AtomicSize}
+use Rattle.insn_codec.specs.declared.insn.AtomicSize.TheVariants as atomic_size
+use Rattle.insn_codec.specs.declared.insn.AtomicOp.{AtomicOp}
+use Rattle.insn_codec.specs.declared.insn.AtomicOp.TheVariants as atomic
 use Rattle.text_line.specs.declared.form.Number.{Number}
 use Rattle.text_line.specs.declared.form.SourceOperand.{SourceOperand}
 use Rattle.text_line.specs.declared.form.SourceOperand.TheVariants as source
@@ -83,6 +87,10 @@ abbrev pub sizes : List (List ℕ × (Bool × Size))
 sizes =
     (codes "u8", (false, size.Byte)) ∷ (codes "u16", (false, size.Half)) ∷ (codes "u32", (false, size.Word)) ∷ (codes "u64", (false, size.Double))
     ∷ (codes "s8", (true, size.Byte)) ∷ (codes "s16", (true, size.Half)) ∷ (codes "s32", (true, size.Word)) ∷ []
+
+-- the operators that may stand after the place of an atomic operation (RFC 9669, section 5.3)
+abbrev pub atomic_operators : List (List ℕ × AtomicOp)
+atomic_operators = (codes "+=", atomic.Add) ∷ (codes "|=", atomic.Or) ∷ (codes "&=", atomic.And) ∷ (codes "^=", atomic.Xor) ∷ []
 
 abbrev pub registers : List (List ℕ × (Bool × ℕ))
 registers =
@@ -162,6 +170,12 @@ address_then ts = do
   ts ← after_symbol (codes ")") o.1
   Some (record { signed = s.0; size = s.1; base = r.0; offset = o.0 }, ts)
 
+-- the size of an atomic operation at a place that is written with this size: none is signed or narrow (RFC 9669, section 5.3)
+abbrev pub atomic_size_of : Bool → Size → Option AtomicSize
+atomic_size_of false size.Word = Some atomic_size.Word
+atomic_size_of false size.Double = Some atomic_size.Double
+atomic_size_of _ _ = None
+
 -- ---- forms
 
 -- after `if`
@@ -185,6 +199,16 @@ store_of ts = do
   ts ← after_symbol (codes "=") a.1
   src ← operand_then true ts
   if a.0.signed then None else at_end (form.Store a.0.size a.0.base src.0 a.0.offset) src.1
+
+-- after `lock`
+unfoldable pub atomic_of : List Token → Option Form
+atomic_of ts = do
+  a ← address_then ts
+  z ← atomic_size_of a.0.signed a.0.size
+  s ← symbol_then a.1
+  op ← named atomic_operators s.0
+  src ← register_then true s.1
+  at_end (form.Atomic z op a.0.base src.0 a.0.offset) src.1
 
 -- after `(`
 unfoldable pub movsx_of : Bool → ℕ → List Token → Option Form
@@ -219,11 +243,22 @@ map_fd_of dst ts = do
   ts ← after_word (codes "ll") n.1
   at_end (form.MapFd dst n.0) ts
 
+-- after `map_value`
+unfoldable pub map_value_of : ℕ → List Token → Option Form
+map_value_of dst ts = do
+  n ← constant_then ts
+  ts ← after_symbol (codes "+") n.1
+  off ← number_then ts
+  ts ← after_word (codes "ll") off.1
+  at_end (form.MapValue dst n.0 off.0) ts
+
 -- after `=`, what only a wide register can be given
 unfoldable pub wide_of : ℕ → List Token → Option Form
 wide_of dst ts =
     match_option (after_word (codes "map_fd") ts)
+    (match_option (after_word (codes "map_value") ts)
     (match_option (end_of dst ts) (match_option (const_of dst ts) (load_of dst ts) (λ f. Some f)) (λ f. Some f))
+    (λ rest. map_value_of dst rest))
     (λ rest. map_fd_of dst rest)
 
 -- after `=`
@@ -274,7 +309,9 @@ form_of ts =
     (match_option (after_word (codes "gotol") ts)
     (match_option (after_word (codes "call") ts)
     (match_option (after_word (codes "exit") ts)
+    (match_option (after_word (codes "lock") ts)
     (match_option (assigned_of ts) (without_label (store_of ts)) (λ f. Some (f, [])))
+    (λ rest. without_label (atomic_of rest)))
     (λ rest. at_end (form.Exit, []) rest))
     (λ rest. without_label (call_of rest)))
     (λ rest. gotol_of rest))

@@ -1,9 +1,11 @@
 use Rattle.tagged_model.specs.StateLaws.{found_owned}
 use Rattle.tagged_model.proofs.MapCalls.{updated_keeps, removed_keeps}
+use Rattle.tagged_model.proofs.DirectValues.{direct_found}
 use Rattle.tagged_model.proofs.laws.map_calls_keep.Goals as goal
 
 pub returns : goal.returns
 returns c = record {
+  direct = direct_found;
   owned = λ shape t key number is e. found_owned t.count key t.table.entries number is.owns e;
   updated = λ shape t key value flags refused is bytes size small. updated_keeps shape t is bytes value size small refused key flags;
   removed = λ shape t key is bytes. removed_keeps shape t is bytes key;

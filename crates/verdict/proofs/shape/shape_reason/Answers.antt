@@ -2,9 +2,9 @@ use Rattle.std.proofs.Common.{Bool, not, ◌&&◌, List, [], ◌∷◌}
 use Rattle.std.specs.Prelude.{nat_le}
 use Rattle.insn_codec.specs.Program.{slot_count}
 use Rattle.reg_kinds.specs.declared.reason.Reason.{Reason}
-use Rattle.reg_kinds.specs.declared.reason.Reason.TheVariants.{JumpOutside, JumpBackward, FallsOff, Unreachable, UnknownHelper, FramePointerWritten, DescriptorNotOpen, DescriptorNotMap}
+use Rattle.reg_kinds.specs.declared.reason.Reason.TheVariants.{JumpOutside, JumpBackward, FallsOff, Unreachable, UnknownHelper, FramePointerWritten, DescriptorNotOpen, DescriptorNotMap, NoDirectValue}
 use Rattle.insn_codec.specs.Flow.{falls_to, jumps_to, falls, jumps, written_register}
-use Rattle.verdict.specs.Shape.{is_reachable, is_slot, calls_unknown, descriptor, is_not_open, is_not_map, leads_outside, leads_backward}
+use Rattle.verdict.specs.Shape.{is_reachable, is_slot, calls_unknown, descriptor, is_not_open, is_not_map, lacks_value, leads_outside, leads_backward}
 use Rattle.verdict.proofs.Reached.{told_early}
 use Rattle.verdict.proofs.shape.shape_reason.Goals as goal
 
@@ -21,5 +21,6 @@ returns-in-Some c =
     ∷ (is_slot (written_register i) 10, FramePointerWritten)
     ∷ (is_not_open named (descriptor i), DescriptorNotOpen)
     ∷ (is_not_map named (descriptor i), DescriptorNotMap)
+    ∷ (lacks_value named i, NoDirectValue)
     ∷ [] in
     told_early (jumps i && leads_outside code (jumps_to i at), JumpOutside) (jumps i && leads_backward (jumps_to i at) at, JumpBackward) later c.in-Some.reason c.in-Some.ensures

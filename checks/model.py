@@ -1,0 +1,327 @@
+"""A model of docs/PROTOCOL.md in lists and dictionaries: no memory, no addresses, and each tenant by itself.
+
+Of the programs it knows what a run does, by their slots (`KNOWN`). Which of them are accepted it tells by their wide loads, by
+their atomic operations, and by the bytes of values that they ask for; in all else they are right.
+"""
+
+from __future__ import annotations
+
+import struct
+from collections.abc import Callable, Iterable
+from dataclasses import dataclass, field
+
+from common import client, number
+from slots import WideLoad, misspelled, wide_loads
+
+FIRST_DESCRIPTOR, DESCRIPTORS, MAPS, LARGEST_AREA, LONGEST_PACKET = 3, 64, 16, 65_536, 32_768
+STACK = 512
+WORD = 1 << 32
+INDEX_0 = bytes(4)
+Command, Error, Flags, MapType = client.Command, client.Error, client.Flags, client.MapType
+
+
+class Refused(Exception):
+    """The error number of a reply, and its payload."""
+
+    def __init__(self, error: int, payload: bytes = b"") -> None:
+        super().__init__(error)
+        self.error, self.payload = error, payload
+
+
+def demand(holds: object, error: int) -> None:
+    if not holds:
+        raise Refused(error)
+
+
+def answer_of(call: Callable[[], object]) -> int:
+    """What a helper answers for a call: 0 or an error."""
+    try:
+        call()
+    except Refused as refused:
+        return -refused.error
+    return 0
+
+
+# Maps.
+
+
+@dataclass(eq=False)
+class Map:
+    """Its keys with their values, in order; and how many a run has deleted."""
+
+    kind: int
+    key_size: int
+    value_size: int
+    most: int
+    values: dict[bytes, bytearray] = field(default_factory=dict)
+    deleted: int = 0
+
+    def __post_init__(self) -> None:
+        if self.kind == MapType.ARRAY:
+            self.values = {number(at, 4): bytearray(self.value_size) for at in range(self.most)}
+
+    def area(self) -> int:
+        return self.most * ((self.value_size + 7) // 8 * 8)
+
+    def is_single(self) -> bool:
+        """Whether it is an array of one element, whose value may be loaded directly."""
+        return self.kind == MapType.ARRAY and self.most == 1
+
+    def update(self, key: bytes, value: bytes, flags: int) -> None:
+        demand(flags <= Flags.EXIST, Error.EINVAL)
+        is_there = key in self.values
+        demand(is_there or self.kind == MapType.HASH, Error.E2BIG)
+        demand(not is_there or flags != Flags.NOEXIST, Error.EEXIST)
+        demand(is_there or flags != Flags.EXIST, Error.ENOENT)
+        demand(is_there or len(self.values) + self.deleted < self.most, Error.E2BIG)
+        if is_there:
+            self.values[key][:] = value
+        else:
+            self.values[key] = bytearray(value)
+
+    def delete(self, key: bytes) -> None:
+        demand(self.kind == MapType.HASH, Error.EINVAL)
+        demand(key in self.values, Error.ENOENT)
+        del self.values[key]
+
+    def next_key(self, key: bytes) -> bytes:
+        keys = list(self.values)
+        behind = keys[keys.index(key) + 1 :] if key in self.values else keys
+        demand(behind, Error.ENOENT)
+        return behind[0]
+
+
+# Programs.
+
+
+@dataclass
+class Run:
+    """A run: the maps by the descriptors that name them in the program, the packet, and what registers and the stack have.
+
+    A pointer is a descriptor and an offset in a value; those of `kept` are in the stack, by the offset of their slot.
+    """
+
+    maps: dict[int, Map]
+    packet: bytes
+    pointers: dict[int, tuple[int, int]] = field(default_factory=dict)
+    kept: dict[int, tuple[int, int]] = field(default_factory=dict)
+    stack: bytearray = field(default_factory=lambda: bytearray(STACK))
+    total: int = 0
+
+
+@dataclass(frozen=True)
+class Ask:
+    """Bytes of the values of a map that the instruction at a slot may ask for, from the first to the end of the last."""
+
+    slot: int
+    fd: int
+    first: int
+    end: int
+
+    def refused(self, maps: dict[int, Map]) -> int:
+        """The reason for which the instruction is refused, or 0."""
+        return 29 if self.first < 0 or self.end > maps[self.fd].value_size else 0
+
+
+@dataclass(frozen=True)
+class AtomicAsk(Ask):
+    """The same of an atomic operation on so many bytes: its place is to be known, and a multiple of them."""
+
+    size: int
+
+    def refused(self, maps: dict[int, Map]) -> int:
+        is_known = self.end == self.first + self.size
+        return super().refused(maps) or (0 if is_known and self.first % self.size == 0 else 36)
+
+
+@dataclass(frozen=True)
+class Wrong:
+    """What makes the instruction at a slot wrong whatever maps there are: the reason, or 0."""
+
+    slot: int
+    reason: int
+
+    def refused(self, _maps: dict[int, Map]) -> int:
+        return self.reason
+
+
+@dataclass(frozen=True)
+class Code:
+    """What a run of a program does and answers, and what it asks for, in the order of the slots."""
+
+    act: Callable[[Run], int]
+    asks: tuple[Ask | Wrong, ...] = ()
+
+
+KNOWN: dict[bytes, Code] = {}
+
+
+def fault_of_shape(load: WideLoad, named: dict[int, Map | Program]) -> int:
+    """The reason for which a program with this load is refused by its shape, or 0."""
+    if load.dst == 10:
+        return 6
+    if not load.is_of_map():
+        return 0
+    if load.imm not in named:
+        return 7
+    on = named[load.imm]
+    if not isinstance(on, Map):
+        return 8
+    has_byte = on.is_single() and load.offset_in_value() < on.value_size
+    return 9 if load.is_direct() and not has_byte else 0
+
+
+def refuse_first(reasons: Iterable[tuple[int, int]]) -> None:
+    """Refuses a program at the first of these slots that has a reason."""
+    for slot, reason in reasons:
+        if reason:
+            error = Error.EBADF if reason == 7 else Error.EACCES if reason == 6 or 20 <= reason <= 36 else Error.EINVAL
+            raise Refused(error, struct.pack("<IH", slot, reason))
+
+
+@dataclass(eq=False)
+class Program:
+    """What its runs do, and the maps that it keeps, by the descriptors that named them when it was loaded."""
+
+    slots: bytes
+    code: Code
+    maps: dict[int, Map]
+
+    def run(self, packet: bytes) -> int:
+        result = self.code.act(Run(self.maps, packet))
+        for one in self.maps.values():
+            one.deleted = 0
+        return result % WORD
+
+
+# Tenants.
+
+
+class Tenant:
+    """The objects by their descriptors. A map is live while one of them is the map or a program that names it."""
+
+    def __init__(self) -> None:
+        self.open: dict[int, Map | Program] = {}
+
+    def maps(self) -> dict[int, Map]:
+        """The maps that have a descriptor, by it."""
+        return {fd: on for fd, on in self.open.items() if isinstance(on, Map)}
+
+    def live(self) -> list[Map]:
+        named = [m for o in self.open.values() for m in (o.maps.values() if isinstance(o, Program) else [o])]
+        return list(dict.fromkeys(named))
+
+    def free(self) -> int:
+        free = [fd for fd in range(FIRST_DESCRIPTOR, FIRST_DESCRIPTOR + DESCRIPTORS) if fd not in self.open]
+        demand(free, Error.EMFILE)
+        return free[0]
+
+    def map_at(self, fd: int) -> Map:
+        demand(fd in self.open, Error.EBADF)
+        on = self.open[fd]
+        if not isinstance(on, Map):
+            raise Refused(Error.EINVAL)
+        return on
+
+    def program_at(self, fd: int) -> Program:
+        demand(fd in self.open, Error.EBADF)
+        program = self.open[fd]
+        if not isinstance(program, Program):
+            raise Refused(Error.EINVAL)
+        return program
+
+    def answer(self, command: int, body: bytes) -> tuple[int, bytes]:
+        """The status and the payload of a reply."""
+        calls = {
+            Command.MAP_CREATE: self.create,
+            Command.MAP_LOOKUP_ELEM: self.lookup,
+            Command.MAP_UPDATE_ELEM: self.update,
+            Command.MAP_DELETE_ELEM: self.delete,
+            Command.MAP_GET_NEXT_KEY: self.next_key,
+            Command.PROG_LOAD: self.load,
+            Command.PROG_TEST_RUN: self.test_run,
+            Command.CLOSE: self.close,
+        }
+        try:
+            demand(command in calls, Error.EINVAL)
+            return calls[Command(command)](body)
+        except Refused as refused:
+            return -refused.error, refused.payload
+
+    def create(self, body: bytes) -> tuple[int, bytes]:
+        demand(len(body) == 20, Error.EINVAL)
+        kind, key_size, value_size, most, flags = struct.unpack("<5I", body)
+        keys = {MapType.HASH: range(1, 65), MapType.ARRAY: range(4, 5)}
+        sizes = key_size in keys.get(kind, ()) and value_size in range(1, 4097) and most in range(1, 4097)
+        demand(sizes and flags == 0, Error.EINVAL)
+        new = Map(kind, key_size, value_size, most)
+        demand(new.area() <= LARGEST_AREA, Error.E2BIG)
+        fd = self.free()
+        live = self.live()
+        demand(len(live) < MAPS and sum(m.area() for m in live) + new.area() <= LARGEST_AREA, Error.ENOSPC)
+        self.open[fd] = new
+        return fd, b""
+
+    def map_and_rest(self, body: bytes, least: int = 4) -> tuple[Map, bytes]:
+        demand(len(body) >= least, Error.EINVAL)
+        return self.map_at(int.from_bytes(body[:4], "little")), body[4:]
+
+    def lookup(self, body: bytes) -> tuple[int, bytes]:
+        on, key = self.map_and_rest(body)
+        demand(len(key) == on.key_size, Error.EINVAL)
+        demand(key in on.values, Error.ENOENT)
+        return 0, bytes(on.values[key])
+
+    def update(self, body: bytes) -> tuple[int, bytes]:
+        on, rest = self.map_and_rest(body, 12)
+        flags, key, value = int.from_bytes(rest[:8], "little"), rest[8 : 8 + on.key_size], rest[8 + on.key_size :]
+        demand(len(rest) == 8 + on.key_size + on.value_size, Error.EINVAL)
+        on.update(key, value, flags)
+        return 0, b""
+
+    def delete(self, body: bytes) -> tuple[int, bytes]:
+        on, key = self.map_and_rest(body)
+        demand(len(key) == on.key_size, Error.EINVAL)
+        on.delete(key)
+        return 0, b""
+
+    def next_key(self, body: bytes) -> tuple[int, bytes]:
+        on, key = self.map_and_rest(body)
+        demand(len(key) in (0, on.key_size), Error.EINVAL)
+        return 0, on.next_key(key)
+
+    def load(self, body: bytes) -> tuple[int, bytes]:
+        demand(len(body) >= 4 and int.from_bytes(body[:4], "little") == client.SOCKET_FILTER, Error.EINVAL)
+        fd = self.free()
+        slots = body[4:]
+        code, loads = KNOWN[slots], wide_loads(slots)
+        refuse_first(misspelled(slots))
+        refuse_first((it.slot, fault_of_shape(it, self.open)) for it in loads)
+        maps = {it.imm: self.map_at(it.imm) for it in loads if it.is_of_map()}
+        refuse_first((it.slot, it.refused(maps)) for it in code.asks)
+        self.open[fd] = Program(slots, code, maps)
+        return fd, b""
+
+    def test_run(self, body: bytes) -> tuple[int, bytes]:
+        demand(len(body) >= 44, Error.EINVAL)
+        program = self.program_at(int.from_bytes(body[:4], "little"))
+        demand(len(body) - 44 <= LONGEST_PACKET, Error.E2BIG)
+        return 0, number(program.run(body[44:]), 4)
+
+    def close(self, body: bytes) -> tuple[int, bytes]:
+        demand(len(body) == 4, Error.EINVAL)
+        fd = int.from_bytes(body, "little")
+        demand(fd in self.open, Error.EBADF)
+        del self.open[fd]
+        return 0, b""
+
+
+def reply_to(tenants: list[Tenant], after_length: bytes) -> bytes:
+    """The bytes of the reply to a frame, by what follows its length."""
+    if len(after_length) < 4:
+        return client.Reply(client.NOBODY, client.NOBODY, -Error.EINVAL, b"").to_bytes()
+    tenant, command = struct.unpack("<HH", after_length[:4])
+    status, payload = -Error.EPERM, b""
+    if tenant < len(tenants):
+        status, payload = tenants[tenant].answer(command, after_length[4:])
+    return client.Reply(tenant, command, status, payload).to_bytes()

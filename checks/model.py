@@ -13,7 +13,7 @@ from dataclasses import dataclass, field
 from common import client, number
 from slots import WideLoad, misspelled, wide_loads
 
-FIRST_DESCRIPTOR, DESCRIPTORS, MAPS, LARGEST_AREA, LONGEST_PACKET = 3, 64, 16, 65_536, 32_768
+FIRST_DESCRIPTOR = 3
 STACK = 512
 WORD = 1 << 32
 INDEX_0 = bytes(4)
@@ -212,7 +212,8 @@ class Tenant:
         return list(dict.fromkeys(named))
 
     def free(self) -> int:
-        free = [fd for fd in range(FIRST_DESCRIPTOR, FIRST_DESCRIPTOR + DESCRIPTORS) if fd not in self.open]
+        numbers = range(FIRST_DESCRIPTOR, FIRST_DESCRIPTOR + client.MOST_DESCRIPTORS)
+        free = [fd for fd in numbers if fd not in self.open]
         demand(free, Error.EMFILE)
         return free[0]
 
@@ -251,14 +252,15 @@ class Tenant:
     def create(self, body: bytes) -> tuple[int, bytes]:
         demand(len(body) == 20, Error.EINVAL)
         kind, key_size, value_size, most, flags = struct.unpack("<5I", body)
-        keys = {MapType.HASH: range(1, 65), MapType.ARRAY: range(4, 5)}
+        keys = {MapType.HASH: range(1, client.LONGEST_KEY + 1), MapType.ARRAY: range(4, 5)}
         sizes = key_size in keys.get(kind, ()) and value_size in range(1, 4097) and most in range(1, 4097)
         demand(sizes and flags == 0, Error.EINVAL)
         new = Map(kind, key_size, value_size, most)
-        demand(new.area() <= LARGEST_AREA, Error.E2BIG)
+        demand(new.area() <= client.LARGEST_AREA, Error.E2BIG)
         fd = self.free()
         live = self.live()
-        demand(len(live) < MAPS and sum(m.area() for m in live) + new.area() <= LARGEST_AREA, Error.ENOSPC)
+        areas = sum(on.area() for on in (*live, new))
+        demand(len(live) < client.MOST_MAPS and areas <= client.LARGEST_SUM, Error.ENOSPC)
         self.open[fd] = new
         return fd, b""
 
@@ -305,7 +307,7 @@ class Tenant:
     def test_run(self, body: bytes) -> tuple[int, bytes]:
         demand(len(body) >= 44, Error.EINVAL)
         program = self.program_at(int.from_bytes(body[:4], "little"))
-        demand(len(body) - 44 <= LONGEST_PACKET, Error.E2BIG)
+        demand(len(body) - 44 <= client.LONGEST_PACKET, Error.E2BIG)
         return 0, number(program.run(body[44:]), 4)
 
     def close(self, body: bytes) -> tuple[int, bytes]:
@@ -323,5 +325,7 @@ def reply_to(tenants: list[Tenant], after_length: bytes) -> bytes:
     tenant, command = struct.unpack("<HH", after_length[:4])
     status, payload = -Error.EPERM, b""
     if tenant < len(tenants):
-        status, payload = tenants[tenant].answer(command, after_length[4:])
+        status = -Error.E2BIG
+        if len(after_length) <= client.LONGEST_FRAME:
+            status, payload = tenants[tenant].answer(command, after_length[4:])
     return client.Reply(tenant, command, status, payload).to_bytes()

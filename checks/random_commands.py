@@ -22,7 +22,7 @@ from atomic_programs import Atomics  # noqa: E402
 from common import client, number  # noqa: E402
 from direct_programs import Direct  # noqa: E402
 from key_programs import write_program  # noqa: E402
-from model import KNOWN, LONGEST_PACKET, WORD, Code, Command, Map, MapType, Program, Tenant, reply_to  # noqa: E402
+from model import KNOWN, WORD, Code, Command, Map, MapType, Program, Tenant, reply_to  # noqa: E402
 from slots import atomics, spoiled, wide_loads  # noqa: E402
 
 STREAMS, FRAMES, TENANTS = 60, 500, 3
@@ -70,7 +70,7 @@ class Stream:
         """A map of any kind and size, or an array of one element."""
         draw = self.draw
         kind = MapType.ARRAY if is_single else draw.choice((1, 2) * 12 + (0, 3))
-        key_size = draw.choice((4,) * 16 + (1, 8, 64, 0, 65))
+        key_size = draw.choice((4,) * 16 + (1, 8, 64, client.LONGEST_KEY, 0, client.LONGEST_KEY + 1))
         value_size = draw.choice((8,) * 8 + (16, 24, 9, 12, 100) * 2 + (1, 4096, 0, 4097))
         most = 1 if is_single else draw.choice((1, 2, 3, 4, 5, 6) * 4 + (16, 64, 0, 4097))
         body = struct.pack("<5I", kind, key_size, value_size, most, draw.random() < 0.02)
@@ -122,8 +122,8 @@ class Stream:
 
     def test_run(self, tenant: int) -> bytes:
         fd, size = self.descriptor(tenant, Program), self.draw.randrange(12)
-        if self.draw.random() < 0.1:
-            size = self.draw.choice((60, LONGEST_PACKET, LONGEST_PACKET + 1))
+        if self.draw.random() < 0.05:
+            size = self.draw.choice((60, client.LONGEST_PACKET, client.LONGEST_PACKET + 1, client.LONGEST_FRAME))
         program = self.tenants[tenant].open.get(fd)
         if isinstance(program, Program) and family(program.slots):
             self.look_behind(tenant, program)

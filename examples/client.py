@@ -69,6 +69,11 @@ ERROR_WORDS = {
 
 SOCKET_FILTER = 1
 
+# The limits of docs/PROTOCOL.md: how many, and bytes.
+MOST_TENANTS, MOST_DESCRIPTORS, MOST_MAPS, MOST_ENTRIES = 64, 64, 16, 4096
+LONGEST_KEY, LONGEST_VALUE, LARGEST_AREA, LARGEST_SUM = 512, 4096, 65_536, 262_144
+LONGEST_PACKET, LONGEST_FRAME = 65_536, 131_072
+
 # A reply to a frame that is too short to have a tenant and a command has this number in both places.
 NOBODY = 65535
 

@@ -11,8 +11,8 @@ sys.path.insert(0, str(HERE.parent))
 import client  # noqa: E402
 
 TENANT, COUNTS, PROGRAM = 0, 3, 4
-# The longest area of a map, which is also all the room that a tenant's maps have together.
-WHOLE_AREA = 65536
+# Of the longest values; a tenant's maps have room for four times as many.
+MOST_VALUES = client.LARGEST_AREA // client.LONGEST_VALUE
 
 
 class Session:
@@ -49,8 +49,8 @@ def hash_map(entries):
     return client.map_create(TENANT, client.MapType.HASH, 4, 8, entries)
 
 
-def whole_room():
-    return client.map_create(TENANT, client.MapType.ARRAY, 4, WHOLE_AREA // 16, 16)
+def largest_map():
+    return client.map_create(TENANT, client.MapType.ARRAY, 4, client.LONGEST_VALUE, MOST_VALUES)
 
 
 def show(session, slots):
@@ -83,9 +83,11 @@ def show(session, slots):
     session.step("look a up in the new map", client.map_lookup(TENANT, COUNTS, key_of("a")))
     session.step("close the new map", client.close(TENANT, COUNTS))
     print("The map is gone with its program, and its room is free:")
-    session.step("make a map that takes all room", whole_room())
+    for _ in range(3):
+        session.step("make a map that takes a quarter of the room", largest_map())
+    session.step("make a map that takes the last quarter", largest_map())
     session.step("close the program", client.close(TENANT, PROGRAM))
-    session.step("make a map that takes all room", whole_room())
+    session.step("make a map that takes the last quarter", largest_map())
 
 
 def main():

@@ -74,7 +74,7 @@ FRAMES = {
     "sends a frame without a tenant": bytes([3, 0, 0, 0]) + b"bad",
     "sends a command that there is not": client.frame(HOSTILE, 7),
     "sends a body that is cut off": client.frame(HOSTILE, client.Command.MAP_UPDATE_ELEM, bytes(7)),
-    "sends a frame that is too long": client.frame(HOSTILE, client.Command.PROG_TEST_RUN, bytes(65533)),
+    "sends a frame that is too long": client.frame(HOSTILE, client.Command.PROG_TEST_RUN, bytes(client.LONGEST_FRAME - 3)),
     "loads bytes that are no instructions": client.prog_load(HOSTILE, b"\xff" * 8),
     "loads half a slot": client.prog_load(HOSTILE, bytes(4)),
     "asks for a map of 16 MiB": client.map_create(HOSTILE, client.MapType.HASH, 4, 4096, 4096),
@@ -94,7 +94,7 @@ OWN_PROGRAM, OWN_HASH = 4, 5
 
 def floods(program):
     """Frames that fill each of the tenant's own tables."""
-    run, long_run = (client.prog_test_run(HOSTILE, OWN_PROGRAM, packet) for packet in (b"", bytes(32769)))
+    run, long_run = (client.prog_test_run(HOSTILE, OWN_PROGRAM, packet) for packet in (b"", bytes(client.LONGEST_PACKET + 1)))
     small_map = client.map_create(HOSTILE, client.MapType.HASH, 4, 8, 2)
     keys = [number.to_bytes(4, "little") for number in range(5)]
     tried = {

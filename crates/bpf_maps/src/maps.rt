@@ -83,8 +83,8 @@ impl Maps {
     }
 
     /// A law: the values of all live maps lie inside and apart, their areas leave no gap behind the front, no two keys of a live
-    /// map have one place, and there are no more than sixteen maps, whose values take no more than 65,536 bytes. It does nothing
-    /// when it runs.
+    /// map have one place, and there are no more than `MAPS` maps, whose values take no more than `LARGEST_SUM` bytes. It does
+    /// nothing when it runs.
     #[inline(always)]
     pub fn maps_are_laid(&self)
         ensures laid { IsLaid self.now }
@@ -103,7 +103,7 @@ impl Maps {
     /// # Errors
     ///
     /// `NoSpace` where there are sixteen maps, or where the values of all, each rounded up to a multiple of eight bytes, would
-    /// take more than 65,536 bytes. Else `Memory`, where there is none for a hash map. No map has changed then.
+    /// take more than `LARGEST_SUM` bytes. Else `Memory`, where there is none for a hash map. No map has changed then.
     pub fn create(&mut self, shape: MapShape, part: &mut [u8]) -> Result<MapKey, MapFault>
         requires { length part.old ≡ PART }
         ensures created { Creates (create_fault self.old shape) self.old shape result self.new }

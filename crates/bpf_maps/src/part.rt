@@ -15,7 +15,7 @@ pub const FRONT: usize = STACK_SIZE + CONTEXT_ROOM;
 pub const MAPS: usize = 16;
 
 /// How many bytes the values of a tenant's live maps may take together.
-pub const LARGEST_SUM: usize = 65_536;
+pub const LARGEST_SUM: usize = 262_144;
 
 /// The bytes of a part.
 pub const PART: usize = FRONT + LARGEST_SUM;

@@ -9,7 +9,7 @@ use std::alloc::{AllocError, Global};
 pub const GROUP: usize = 4;
 
 /// The most copies that a line may ask for.
-const MOST_COPIES: usize = 65_537;
+const MOST_COPIES: usize = 131_073;
 
 /// Appends so many copies of the bytes of hex digits.
 fn append(

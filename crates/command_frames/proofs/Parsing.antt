@@ -3,7 +3,7 @@ use Rattle.std.proofs.Common.{◌≡◌, ℕ, ◌≤◌, false, true, List, leng
 use Rattle.std.specs.Prelude.{nat_lt, nat_le}
 use Rattle.std.proofs.lemmas.Bool.{le-ltb, le-leb}
 use Rattle.byteorder.specs.Endian.{little_number}
-use Rattle.command_frames.specs.Command.{Command, prog_test_run, command_in, parsed, word_behind, words}
+use Rattle.command_frames.specs.Command.{Command, prog_test_run, command_in, parsed, longest_frame, word_behind, words}
 use Rattle.command_frames.specs.declared.command.BadFrame.{BadFrame}
 
 abbrev the_run : ℕ → List ℕ → List ℕ → Result Command BadFrame
@@ -16,7 +16,7 @@ run_read body rest left found fd enough number read first second =
     let same = ap (λ n. prog_test_run n found left) number ∙ ap (λ ws. prog_test_run (word_behind 0 body) ws left) (read ∙ ap (words 10) first) ∙ ap (prog_test_run (word_behind 0 body) (words 10 (drop 4 body))) second in
     rw whole (ap Ok same)
 
-pub parsed_as : (frame body : List ℕ) (number : ℕ) → length frame ≤ 65536 → number ≡ little_number 2 (drop 2 frame) → body ≡ drop 4 frame → command_in number body ≡ parsed frame
+pub parsed_as : (frame body : List ℕ) (number : ℕ) → length frame ≤ longest_frame → number ≡ little_number 2 (drop 2 frame) → body ≡ drop 4 frame → command_in number body ≡ parsed frame
 parsed_as frame body number short named rest =
-    let fits : nat_lt 65536 (length frame) ≡ false = le-ltb 65536 (length frame) short in
+    let fits : nat_lt longest_frame (length frame) ≡ false = le-ltb longest_frame (length frame) short in
     rw fits (ap (λ n. command_in n body) named ∙ ap (command_in (little_number 2 (drop 2 frame))) rest)

@@ -44,7 +44,7 @@ before_packet = word_length + context_length
 
 -- the longest frame that is looked at
 abbrev pub longest_frame : ℕ
-longest_frame = 65536
+longest_frame = 131072
 
 -- ---- the body
 

@@ -13,7 +13,7 @@ use byteorder::{ByteOrder, LittleEndian};
 pub const HEAD_LENGTH: usize = 4;
 
 /// The bytes of the longest frame that is looked at.
-pub const LONGEST_FRAME: usize = 65_536;
+pub const LONGEST_FRAME: usize = 131_072;
 
 /// The head of a frame; none in fewer than four bytes.
 pub fn head(frame: &[u8]) -> Option<Head>

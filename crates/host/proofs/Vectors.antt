@@ -28,14 +28,14 @@ array_word = record {
 }
 
 largest_hash_map : MapShape
-largest_hash_map = record { kind = Hash; key_size = 64; value_size = 4096; max_entries = 16; listed = refl }
+largest_hash_map = record { kind = Hash; key_size = 512; value_size = 4096; max_entries = 16; listed = refl }
 
-hash_word : IsMapArgument (codes "66:hash:64:4096:16") (record { fd = 66; target = Map largest_hash_map })
+hash_word : IsMapArgument (codes "66:hash:512:4096:16") (record { fd = 66; target = Map largest_hash_map })
 unfolding largest_hash_map
 hash_word = record {
   fd = codes "66";
   kind = codes "hash";
-  key_size = codes "64";
+  key_size = codes "512";
   value_size = codes "4096";
   max_entries = codes "16";
   shape = largest_hash_map;

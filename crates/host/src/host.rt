@@ -23,7 +23,7 @@ const NO_HEAD: Head = Head {
 };
 
 /// The most tenants of a host.
-pub const MOST_TENANTS: usize = 16;
+pub const MOST_TENANTS: usize = 64;
 
 /// The states of 1 to `MOST_TENANTS` tenants. In contracts it is the list of them, by the tenants' numbers.
 #[derive(Drop)]
@@ -73,7 +73,7 @@ fn write_unserved(frame: &[u8], reply: &mut ReplyBuf)
 }
 
 impl Host {
-    /// A host for 1 to 16 tenants, of which none has anything open.
+    /// A host for 1 to `MOST_TENANTS` tenants, of which none has anything open.
     ///
     /// # Errors
     ///

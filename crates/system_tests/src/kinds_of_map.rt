@@ -2,7 +2,7 @@
 
 ghost use Rattle.std.specs.Prelude.{◌≡◌, ◌⊎◌, [], length, IfOk};
 
-use bpf_maps::{ANY, ArrayMap, EXIST, HashMapIx, MapFault, NOEXIST, ValueMap};
+use bpf_maps::{ANY, ArrayMap, EXIST, HashMapIx, KEY_ROOM, MapFault, NOEXIST, ValueMap};
 use std::alloc::Global;
 use std::test::Fail;
 use tagged_model::{MapKind, MapShape, ShapeFault};
@@ -62,14 +62,14 @@ impl<M: ValueMap + Drop> Small<M> {
 
     /// The first byte of the first key.
     fn first(&self) -> Result<u8, MapFault> {
-        let mut room = [0; 64];
+        let mut room = [0; KEY_ROOM];
         self.map.next_key(&[], &mut room)?;
         Ok(room[0])
     }
 
     /// The first byte of the key that follows a key.
     fn next(&self, number: u8) -> Result<u8, MapFault> {
-        let mut room = [0; 64];
+        let mut room = [0; KEY_ROOM];
         self.map.next_key(&key(number), &mut room)?;
         Ok(room[0])
     }

@@ -4,7 +4,7 @@ ghost use Rattle.std.specs.Prelude.{◌≡◌, ◌≢◌, ◌<◌, ℕ, length, 
 ghost use Rattle.bpf_maps.specs.declared.part.TheConstants.{PART};
 ghost use Rattle.bpf_maps.specs.Live.{live_at, shape_at, holds_at};
 
-use bpf_maps::{ANY, MapFault, MapKey, Maps, NOEXIST, PART};
+use bpf_maps::{ANY, KEY_ROOM, MapFault, MapKey, Maps, NOEXIST, PART};
 use std::test::Fail;
 use tagged_model::{MapKind, MapShape, ShapeFault};
 
@@ -109,7 +109,7 @@ fn next(maps: &Maps, map: MapKey, number: u8) -> Result<u8, MapFault>
     requires live { IsSome (live_at maps.now map) }
     requires key_size { (shape_at maps.now map).key_size ≡ 4 }
 {
-    let mut room = [0; 64];
+    let mut room = [0; KEY_ROOM];
     maps.next_key(map, &[number, 0, 0, 0], &mut room)?;
     Ok(room[0])
 }
@@ -180,11 +180,14 @@ fn the_areas_are_summed(rt: HostRuntime) -> Result<(), Fail> {
     let mut maps = Maps::new(rt.alloc())?;
     let small = create(&mut maps, shape(MapKind::Hash, 1, 1)?, part)?;
     let large = shape(MapKind::Array, 4096, 16)?;
+    for _ in 0..3 {
+        create(&mut maps, large, part)?;
+    }
     assert_eq!(rt; create(&mut maps, large, part), Err(MapFault::NoSpace));
     maps.release(small, part);
     let map = create(&mut maps, large, part)?;
     assert_eq!(rt; maps.shape(map), large);
-    assert_eq!(rt; maps.value_at(map, 15), 576 + 15 * 4096);
+    assert_eq!(rt; maps.value_at(map, 15), 576 + 63 * 4096);
     Ok(())
 }
 

@@ -12,8 +12,8 @@ empty_hash_key = refl
 empty_array_key : shape_fault Array 0 8 1 0 ≡ Some Invalid
 empty_array_key = refl
 
-hash_key_of_65_bytes : shape_fault Hash 65 8 1 0 ≡ Some Invalid
-hash_key_of_65_bytes = refl
+hash_key_of_513_bytes : shape_fault Hash 513 8 1 0 ≡ Some Invalid
+hash_key_of_513_bytes = refl
 
 array_key_of_8_bytes : shape_fault Array 8 8 1 0 ≡ Some Invalid
 array_key_of_8_bytes = refl
@@ -41,8 +41,8 @@ seventeen_longest_values = refl
 sixteen_longest_values : shape_fault Array 4 4096 16 0 ≡ None
 sixteen_longest_values = refl
 
-nine_bytes_rounded_up_to_16 : shape_fault Hash 64 9 4096 0 ≡ None
+nine_bytes_rounded_up_to_16 : shape_fault Hash 512 9 4096 0 ≡ None
 nine_bytes_rounded_up_to_16 = refl
 
-seventeen_bytes_rounded_up_to_24 : shape_fault Hash 64 17 4096 0 ≡ Some TooBig
+seventeen_bytes_rounded_up_to_24 : shape_fault Hash 512 17 4096 0 ≡ Some TooBig
 seventeen_bytes_rounded_up_to_24 = refl

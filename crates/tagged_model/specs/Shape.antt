@@ -7,7 +7,7 @@ use Rattle.tagged_model.specs.declared.shape.ShapeFault.TheVariants.{Invalid, To
 
 -- the bytes of the longest key and of the longest value, the most entries, and the bytes of the largest area
 abbrev pub longest_key : ℕ
-longest_key = 64
+longest_key = 512
 
 abbrev pub longest_value : ℕ
 longest_value = 4096

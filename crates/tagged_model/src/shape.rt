@@ -4,7 +4,7 @@ ghost use Rattle.std.specs.Prelude.{◌≡◌, ◌<◌, ◌≤◌, true, IsTrue,
 ghost use Rattle.tagged_model.specs.Shape.{area, is_shape, largest_area, longest_value, shape_fault};
 
 /// The bytes of the longest key of a hash map, a limit of this project.
-pub const LONGEST_KEY: u32 = 64;
+pub const LONGEST_KEY: u32 = 512;
 
 /// The bytes of the longest value, a limit of this project.
 pub const LONGEST_VALUE: u32 = 4096;

@@ -41,16 +41,16 @@ no_command : (fault : BadFrame) (command : Command) → let a : Result Command B
 no_command fault command e = cc
 
 -- the bytes of a command that is parsed
-pub parsed_within : (frame : List ℕ) (command : Command) → parsed frame ≡ Ok command → tail_length command ≤ 65536
+pub parsed_within : (frame : List ℕ) (command : Command) → parsed frame ≡ Ok command → tail_length command ≤ longest_frame
 parsed_within frame command e = by_length (nat_lt longest_frame (length frame)) refl e
   where
     n : ℕ
     n = little_number 2 (drop 2 frame)
 
-    by_length : (over : Bool) → nat_lt longest_frame (length frame) ≡ over → (if over then Err TooLong else command_in n (drop 4 frame)) ≡ Ok command → tail_length command ≤ 65536
+    by_length : (over : Bool) → nat_lt longest_frame (length frame) ≡ over → (if over then Err TooLong else command_in n (drop 4 frame)) ≡ Ok command → tail_length command ≤ longest_frame
     by_length true is e = absurd (no_command TooLong command e)
     by_length false is e =
         let here : tail_length command ≤ length (drop 4 frame) = subst (IsWithin (length (drop 4 frame))) e (body_within n (drop 4 frame)) in
         let less = behind 4 frame in
-        let short : length frame ≤ 65536 = ltb-false longest_frame (length frame) is in
+        let short : length frame ≤ longest_frame = ltb-false longest_frame (length frame) is in
         omega (arith, here, less, short)

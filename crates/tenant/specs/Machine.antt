@@ -279,7 +279,7 @@ Loads refused s kind slots answer = MatchBool (kind == 1) (LoadsUnder refused s 
 
 -- the bytes of the longest packet
 abbrev pub longest_packet : ℕ
-longest_packet = 32768
+longest_packet = 65536
 
 -- the maps of a program, by the descriptors in its text
 abbrev pub maps_given : TenantState → LoadedProgram → MapsByDescriptor

@@ -21,7 +21,7 @@ use tagged_model::{CONTEXT_WORDS, Outcome};
 use verdict::maps_are_listed;
 
 /// The bytes of the longest packet of a test run.
-const LONGEST_PACKET: usize = 32_768;
+const LONGEST_PACKET: usize = 65_536;
 
 /// The words of the context: the packet's length, and the ten that are given.
 fn context_words(length: u32, words: &[u32; GIVEN_WORDS]) -> [u32; CONTEXT_WORDS]
@@ -58,7 +58,7 @@ impl Tenant {
     /// # Errors
     ///
     /// `BadDescriptor` where the descriptor is not open, `Invalid` where it names a map, and `TooBig` where the packet has more
-    /// than 32,768 bytes. Nothing has changed then. A run never faults.
+    /// than `LONGEST_PACKET` bytes. Nothing has changed then. A run never faults.
     pub(crate) fn test_run(
         &mut self,
         fd: u32,

@@ -1,6 +1,6 @@
 -- The fault that the code finds is the one that the grammar tells.
 use Rattle.std.proofs.Common.{◌≡◌, ℕ, ◌<◌, ◌≤◌, Bool, true, false, cond, ◌&&◌, ltb, leb, List, ◌++◌, length, drop, Option, Some, None, refl, sym, ap, subst, ◌∙◌, arith, inl, inr, lit≤}
-use Rattle.std.proofs.lemmas.Bool.{both_ways, and_cases, and_parts, leb-true, leb-false, ltb-true, ltb-false}
+use Rattle.std.proofs.lemmas.Bool.{both_ways, and_cases, and_parts, le-leb, leb-true, leb-false, ltb-true, ltb-false}
 use Rattle.std.proofs.lemmas.List.{take-append-drop}
 use Rattle.std.proofs.lemmas.Option.{none-some, same_Some}
 use Rattle.insn_codec.specs.declared.slot.SlotFields.{SlotFields}
@@ -113,3 +113,12 @@ unfolding first_fault
 has_fault bytes kind fits e =
     let none : HasInsn bytes → ⊥ = λ (h : HasInsn bytes). none-some kind (sym (no_fault h.0 bytes h.1 h.2) ∙ e) in
     by_length bytes kind fits none (ltb (length bytes) 8) refl e
+
+-- of a slot whose own fields are right the fault is the second slot's
+pub fault_by_second : (f : OpcodeForm) (s t : SlotFields) (rest : List ℕ) (kind : FaultKind) → s ≡ t → listed f s ≡ true → s.dst ≤ 10 → s.src ≤ 10 → second_fault f t.src rest ≡ Some kind → fault_in_form f t rest ≡ Some kind
+unfolding fault_in_form
+fault_by_second f s t rest kind same ok dst src second =
+    let ok-t : listed f t ≡ true = ap (listed f) (sym same) ∙ ok in
+    let dst-t : leb t.dst 10 ≡ true = ap (λ (x : SlotFields). leb x.dst 10) (sym same) ∙ le-leb _ _ dst in
+    let src-t : leb t.src 10 ≡ true = ap (λ (x : SlotFields). leb x.src 10) (sym same) ∙ le-leb _ _ src in
+    rw (ok-t, dst-t, src-t) second

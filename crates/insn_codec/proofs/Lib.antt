@@ -7,6 +7,7 @@ pub mod FromSlot
 pub mod KnownOpcodes
 pub mod ByOpcode
 pub mod Laws
+pub mod OneMore
 pub mod FaultKinds
 pub mod FirstFault
 pub mod ProgramFaults

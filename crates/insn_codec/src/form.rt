@@ -174,95 +174,133 @@ impl OpcodeForm {
     }
 
     /// Whether each field that the form does not use is zero, and each other one has a value that it may have.
+    #[inline(always)]
     pub fn lists(self, slot: SlotFields) -> bool
         ensures { result ≡ listed self slot }
     {
-        let no_src = slot.src == 0;
-        let no_offset = slot.offset == 0;
-        let no_imm = slot.imm == 0;
-        let no_registers = slot.dst == 0 && no_src;
         match self {
             OpcodeForm::Alu { wide, code, source } => {
                 source.lists_operand(slot) && code.lists_offset(wide, source, slot.offset)
             }
-            OpcodeForm::Neg { wide: _ } => no_src && no_offset && no_imm,
+            OpcodeForm::Neg { wide: _ } => slot.src == 0 && slot.offset == 0 && slot.imm == 0,
             OpcodeForm::End { how: _ } => {
-                no_src && no_offset && (slot.imm == 16 || slot.imm == 32 || slot.imm == 64)
+                let is_width = slot.imm == 16 || slot.imm == 32 || slot.imm == 64;
+                slot.src == 0 && slot.offset == 0 && is_width
             }
-            OpcodeForm::Ja => no_registers && no_imm,
-            OpcodeForm::Jal => no_registers && no_offset,
+            OpcodeForm::Ja => slot.dst == 0 && slot.src == 0 && slot.imm == 0,
+            OpcodeForm::Jal => slot.dst == 0 && slot.src == 0 && slot.offset == 0,
             OpcodeForm::Jump { source, .. } | OpcodeForm::Store { source, .. } =>
                 source.lists_operand(slot),
-            OpcodeForm::Call => no_registers && no_offset,
-            OpcodeForm::Exit => no_registers && no_offset && no_imm,
-            OpcodeForm::Load { kind: _ } => no_imm,
+            OpcodeForm::Call => slot.dst == 0 && slot.src == 0 && slot.offset == 0,
+            OpcodeForm::Exit => slot.dst == 0 && slot.src == 0 && slot.offset == 0 && slot.imm == 0,
+            OpcodeForm::Load { kind: _ } => slot.imm == 0,
             OpcodeForm::Atomic { size: _ } => AtomicOp::of(slot.imm).is_some(),
-            OpcodeForm::Wide => no_offset && WideKind::of(slot.src).is_some(),
+            OpcodeForm::Wide => slot.offset == 0 && WideKind::of(slot.src).is_some(),
         }
     }
 
-    fn alu_insn(
+    #[inline(always)]
+    fn put_alu(
+        entry: &mut Insn,
         wide: bool,
         code: AluCode,
         source: SourceBit,
         slot: SlotFields,
         dst: Reg,
         src: Reg,
-    ) -> Insn
+    )
         requires opcode { slot.opcode ≡ opcode_of (Alu wide code source) }
         requires listed { IsTrue (listed (Alu wide code source) slot) }
         requires dst { slot.dst ≡ dst }
         requires src { slot.src ≡ src }
         requires dst_bound { dst ≤ 10 }
         requires src_bound { src ≤ 10 }
-        ensures slots { slots result ≡ slot ∷ [] }
-        ensures value { IsInsn result }
+        ensures slots { slots entry.new ≡ slot ∷ [] }
+        ensures value { IsInsn entry.new }
     {
-        if code == AluCode::Mov && source == SourceBit::Reg && slot.offset != 0 {
-            let bits = match slot.offset {
-                8 => Narrow::Bits8,
-                16 => Narrow::Bits16,
-                _ => Narrow::Bits32,
-            };
-            return Insn::Movsx(Movsx {
+        if slot.offset == 0 {
+            *entry = Insn::Alu {
                 wide,
-                bits,
+                op: code.operation(),
                 dst,
-                src,
-            });
-        }
-        Insn::Alu {
-            wide,
-            op: code.operation(slot.offset),
-            dst,
-            src: source.operand(slot, src),
+                src: source.operand(slot, src),
+            };
+        } else {
+            OpcodeForm::put_alu_by_offset(entry, wide, code, source, slot, dst, src);
         }
     }
 
-    fn atomic_insn(size: AtomicSize, slot: SlotFields, dst: Reg, src: Reg) -> Insn
+    /// A signed division or remainder, or a move with sign extension.
+    #[inline(always)]
+    fn put_alu_by_offset(
+        entry: &mut Insn,
+        wide: bool,
+        code: AluCode,
+        source: SourceBit,
+        slot: SlotFields,
+        dst: Reg,
+        src: Reg,
+    )
+        requires opcode { slot.opcode ≡ opcode_of (Alu wide code source) }
+        requires listed { IsTrue (listed (Alu wide code source) slot) }
+        requires offset { slot.offset ≢ 0 }
+        requires dst { slot.dst ≡ dst }
+        requires src { slot.src ≡ src }
+        requires dst_bound { dst ≤ 10 }
+        requires src_bound { src ≤ 10 }
+        ensures slots { slots entry.new ≡ slot ∷ [] }
+        ensures value { IsInsn entry.new }
+    {
+        match code {
+            AluCode::Mov => {
+                let bits = match slot.offset {
+                    8 => Narrow::Bits8,
+                    16 => Narrow::Bits16,
+                    _ => Narrow::Bits32,
+                };
+                *entry = Insn::Movsx(Movsx {
+                    wide,
+                    bits,
+                    dst,
+                    src,
+                });
+            }
+            _ => {
+                *entry = Insn::Alu {
+                    wide,
+                    op: code.signed_operation(),
+                    dst,
+                    src: source.operand(slot, src),
+                };
+            }
+        }
+    }
+
+    fn put_atomic(entry: &mut Insn, size: AtomicSize, slot: SlotFields, dst: Reg, src: Reg)
         requires opcode { slot.opcode ≡ opcode_of (Atomic size) }
         requires listed { IsTrue (listed (Atomic size) slot) }
         requires dst { slot.dst ≡ dst }
         requires src { slot.src ≡ src }
         requires dst_bound { dst ≤ 10 }
         requires src_bound { src ≤ 10 }
-        ensures slots { slots result ≡ slot ∷ [] }
-        ensures value { IsInsn result }
+        ensures slots { slots entry.new ≡ slot ∷ [] }
+        ensures value { IsInsn entry.new }
     {
         let Some(op) = AtomicOp::of(slot.imm) else {
             unreachable!();
         };
-        Insn::Atomic {
+        *entry = Insn::Atomic {
             size,
             op,
             dst,
             src,
             off: slot.offset.cast_signed(),
-        }
+        };
     }
 
-    /// The instruction of a slot that begins this form.
-    pub fn insn(self, slot: SlotFields, dst: Reg, src: Reg) -> Insn
+    /// Puts the instruction of a slot that begins this form into an entry.
+    #[inline(always)]
+    pub fn put(self, entry: &mut Insn, slot: SlotFields, dst: Reg, src: Reg)
         requires single { self ≢ Wide }
         requires opcode { slot.opcode ≡ opcode_of self }
         requires listed { IsTrue (listed self slot) }
@@ -270,52 +308,58 @@ impl OpcodeForm {
         requires src { slot.src ≡ src }
         requires dst_bound { dst ≤ 10 }
         requires src_bound { src ≤ 10 }
-        ensures slots { slots result ≡ slot ∷ [] }
-        ensures value { IsInsn result }
+        ensures slots { slots entry.new ≡ slot ∷ [] }
+        ensures value { IsInsn entry.new }
     {
         let off = slot.offset.cast_signed();
         let imm = slot.imm.cast_signed();
         match self {
-            OpcodeForm::Alu { wide, code, source } => OpcodeForm::alu_insn(
-                wide, code, source, slot, dst, src,
+            OpcodeForm::Alu { wide, code, source } => OpcodeForm::put_alu(
+                entry, wide, code, source, slot, dst, src,
             ),
-            OpcodeForm::Neg { wide } => Insn::Neg { wide, dst },
+            OpcodeForm::Neg { wide } => *entry = Insn::Neg { wide, dst },
             OpcodeForm::End { how } => {
                 let bits = match slot.imm {
                     16 => Bits::Bits16,
                     32 => Bits::Bits32,
                     _ => Bits::Bits64,
                 };
-                Insn::End { how, bits, dst }
+                *entry = Insn::End { how, bits, dst };
             }
-            OpcodeForm::Ja => Insn::Ja { off },
-            OpcodeForm::Jal => Insn::Jal { off: imm },
-            OpcodeForm::Jump { wide, cond, source } => Insn::Jump {
-                wide,
-                cond,
-                dst,
-                src: source.operand(slot, src),
-                off,
-            },
-            OpcodeForm::Call => Insn::Call { id: imm },
-            OpcodeForm::Exit => Insn::Exit,
+            OpcodeForm::Ja => *entry = Insn::Ja { off },
+            OpcodeForm::Jal => *entry = Insn::Jal { off: imm },
+            OpcodeForm::Jump { wide, cond, source } => {
+                *entry = Insn::Jump {
+                    wide,
+                    cond,
+                    dst,
+                    src: source.operand(slot, src),
+                    off,
+                };
+            }
+            OpcodeForm::Call => *entry = Insn::Call { id: imm },
+            OpcodeForm::Exit => *entry = Insn::Exit,
             OpcodeForm::Load { kind } => {
                 let (size, signed) = kind.size();
-                Insn::Load(Load {
+                *entry = Insn::Load(Load {
                     size,
                     signed,
                     dst,
                     src,
                     off,
-                })
+                });
             }
-            OpcodeForm::Store { size, source } => Insn::Store {
-                size,
-                dst,
-                src: source.operand(slot, src),
-                off,
-            },
-            OpcodeForm::Atomic { size } => OpcodeForm::atomic_insn(size, slot, dst, src),
+            OpcodeForm::Store { size, source } => {
+                *entry = Insn::Store {
+                    size,
+                    dst,
+                    src: source.operand(slot, src),
+                    off,
+                };
+            }
+            OpcodeForm::Atomic { size } => {
+                OpcodeForm::put_atomic(entry, size, slot, dst, src);
+            }
             OpcodeForm::Wide => unreachable!(),
         }
     }

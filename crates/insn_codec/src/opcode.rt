@@ -1,6 +1,6 @@
 //! The parts of an opcode, and the tables of their numbers.
 
-ghost use Rattle.std.specs.Prelude.{◌≡◌, ◌<◌, ◌≤◌, IfSome, IsTrue, not, ◌&&◌, false};
+ghost use Rattle.std.specs.Prelude.{◌≡◌, ◌≢◌, ◌<◌, ◌≤◌, IfSome, IsTrue, not, ◌&&◌, false};
 
 use crate::insn::{AluOp, AtomicOp, Condition, Insn, Operand, Reg, Size};
 use crate::slot::SlotFields;
@@ -85,36 +85,53 @@ impl AluCode {
     pub fn lists_offset(self, wide: bool, source: SourceBit, offset: u16) -> bool
         ensures { result ≡ offset_listed wide self source offset }
     {
+        offset == 0 || self.lists_other_offset(wide, source, offset)
+    }
+
+    /// Whether the operation has this offset, which is not 0.
+    fn lists_other_offset(self, wide: bool, source: SourceBit, offset: u16) -> bool
+        requires { offset ≢ 0 }
+        ensures { result ≡ offset_listed wide self source offset }
+    {
         match (self, source) {
-            (AluCode::Div, _) | (AluCode::Mod, _) => offset <= 1,
+            (AluCode::Div, _) | (AluCode::Mod, _) => offset == 1,
             (AluCode::Mov, SourceBit::Reg) => {
-                offset == 0 || offset == 8 || offset == 16 || (wide && offset == 32)
+                offset == 8 || offset == 16 || (wide && offset == 32)
             }
-            _ => offset == 0,
+            _ => false,
         }
     }
 
-    /// The operation of a code at an offset that it lists.
-    pub fn operation(self, offset: u16) -> AluOp
-        requires { IsTrue (offset_listed false self source_variant.Imm offset) }
+    /// The operation of a code at offset 0.
+    pub fn operation(self) -> AluOp
         ensures number { alu_number result ≡ code_number self }
-        ensures offset { alu_offset result ≡ offset }
+        ensures offset { alu_offset result ≡ 0 }
     {
         match self {
             AluCode::Add => AluOp::Add,
             AluCode::Sub => AluOp::Sub,
             AluCode::Mul => AluOp::Mul,
-            AluCode::Div if offset == 0 => AluOp::Div,
-            AluCode::Div => AluOp::SignedDiv,
+            AluCode::Div => AluOp::Div,
             AluCode::Or => AluOp::Or,
             AluCode::And => AluOp::And,
             AluCode::ShiftLeft => AluOp::ShiftLeft,
             AluCode::ShiftRight => AluOp::ShiftRight,
-            AluCode::Mod if offset == 0 => AluOp::Mod,
-            AluCode::Mod => AluOp::SignedMod,
+            AluCode::Mod => AluOp::Mod,
             AluCode::Xor => AluOp::Xor,
             AluCode::Mov => AluOp::Mov,
             AluCode::SignedShiftRight => AluOp::SignedShiftRight,
+        }
+    }
+
+    /// The operation of a code at offset 1, which it lists.
+    pub fn signed_operation(self) -> AluOp
+        requires { IsTrue (offset_listed false self source_variant.Imm 1) }
+        ensures number { alu_number result ≡ code_number self }
+        ensures offset { alu_offset result ≡ 1 }
+    {
+        match self {
+            AluCode::Mod => AluOp::SignedMod,
+            _ => AluOp::SignedDiv,
         }
     }
 }

@@ -1,11 +1,12 @@
 //! Bytes to instructions.
 
-ghost use Rattle.std.specs.Prelude.{◌++◌, List, ℕ, ◌≡◌, ◌+◌, ◌*◌, ◌≤◌, [], ◌∷◌, length, IfOk, IfErr, IsErrAnd, Ok, Some, None, IsTrue};
+ghost use Rattle.std.specs.Prelude.{◌++◌, List, ℕ, ◌≡◌, ◌≢◌, ◌+◌, ◌*◌, ◌≤◌, [], ◌∷◌, length, drop, IfOk, OnOk, IfErr, IsErrAnd, Ok, Some, None, IsTrue};
 ghost use Rattle.insn_codec.specs.inside.Slots.{slot_of};
 ghost use Rattle.insn_codec.specs.inside.Form.{listed};
+ghost use Rattle.insn_codec.specs.inside.Opcodes.{opcode_of};
 ghost use Rattle.insn_codec.specs.Spelling.{slots, spelling, IsInsn, Begins};
 ghost use Rattle.insn_codec.specs.Fault.{HasFault};
-ghost use Rattle.insn_codec.specs.inside.FirstFault.{first_fault, second_fault};
+ghost use Rattle.insn_codec.specs.inside.FirstFault.{fault_in_form, first_fault, second_fault};
 ghost use Rattle.insn_codec.specs.declared.insn.Insn.{Insn as AnyInsn};
 ghost use Rattle.insn_codec.specs.declared.fault.FaultKind.{FaultKind as AnyKind};
 ghost use Rattle.insn_codec.specs.declared.form.OpcodeForm.TheVariants.{Wide};
@@ -13,20 +14,25 @@ ghost use Rattle.insn_codec.specs.declared.form.OpcodeForm.TheVariants.{Wide};
 use crate::fault::{CodecFault, FaultKind};
 use crate::form::OpcodeForm;
 use crate::insn::{Insn, Reg};
-use crate::opcode::WideKind;
+use crate::opcode::{SourceBit, WideKind};
 use crate::slot::SlotFields;
 
-/// The wide instruction that begins with this slot.
-fn wide(slot: SlotFields, dst: Reg, rest: &[u8]) -> Result<Insn, FaultKind>
-    requires opcode { slot.opcode ≡ 0x18 }
-    requires listed { IsTrue (listed Wide slot) }
-    requires dst { slot.dst ≡ dst }
+/// Reads the wide instruction whose first slot is at the front of the bytes into an entry.
+fn read_wide(entry: &mut Insn, dst: Reg, bytes: &[u8]) -> Result<(), FaultKind>
+    requires long { 8 ≤ length bytes.now }
+    requires opcode { (slot_of bytes.now).opcode ≡ 0x18 }
+    requires listed { IsTrue (listed Wide (slot_of bytes.now)) }
+    requires dst { (slot_of bytes.now).dst ≡ dst }
     requires dst_bound { dst ≤ 10 }
-    ensures found { IfOk result (λ i. IsInsn i × (8 ≤ length rest.now)
-        × (slots i ≡ slot ∷ slot_of rest.now ∷ [])) }
-    ensures none { IfOk result (λ _. second_fault Wide slot.src rest.now ≡ None) }
-    ensures fault { IfErr result (λ kind. second_fault Wide slot.src rest.now ≡ Some kind) }
+    ensures found { OnOk result (IsInsn entry.new × (8 ≤ length (drop 8 bytes.now))
+        × (slots entry.new ≡ slot_of bytes.now ∷ slot_of (drop 8 bytes.now) ∷ [])) }
+    ensures none { OnOk result (second_fault Wide (slot_of bytes.now).src (drop 8 bytes.now)
+        ≡ None) }
+    ensures fault { IfErr result (λ kind. second_fault Wide (slot_of bytes.now).src
+        (drop 8 bytes.now) ≡ Some kind) }
 {
+    let slot = SlotFields::first(bytes);
+    let (_, rest) = bytes.split_at(8);
     let Some(kind) = WideKind::of(slot.src) else {
         unreachable!();
     };
@@ -37,49 +43,134 @@ fn wide(slot: SlotFields, dst: Reg, rest: &[u8]) -> Result<Insn, FaultKind>
     if !kind.lists_second(next) {
         return Err(FaultKind::SecondSlot);
     }
-    match kind {
-        WideKind::Number => Ok(Insn::Const {
+    *entry = match kind {
+        WideKind::Number => Insn::Const {
             dst,
             value: u64::from(slot.imm) + u64::from(next.imm) * 0x1_0000_0000,
-        }),
-        WideKind::Map => Ok(Insn::MapFd {
+        },
+        WideKind::Map => Insn::MapFd {
             dst,
             fd: slot.imm.cast_signed(),
-        }),
-        WideKind::MapValue => Ok(Insn::MapValue {
+        },
+        WideKind::MapValue => Insn::MapValue {
             dst,
             fd: slot.imm.cast_signed(),
             off: next.imm,
-        }),
-    }
+        },
+    };
+    Ok(())
 }
 
-/// The instruction at the front.
-#[tactic(auto, unfolding(crate::specs::inside::FirstFault::first_fault, crate::specs::inside::FirstFault::fault_in_form))]
-pub(crate) fn instruction(bytes: &[u8]) -> Result<Insn, FaultKind>
-    ensures found { IfOk result (λ i. IsInsn i × Begins i bytes.now) }
-    ensures fault { IfErr result (λ kind. first_fault bytes.now ≡ Some kind) }
+/// Whether the fields of a slot have values that its form lists, and both registers exist.
+#[inline(always)]
+#[tactic(auto, unfolding(crate::specs::inside::FirstFault::fault_in_form))]
+fn check_fields(form: OpcodeForm, slot: SlotFields) -> Result<(), FaultKind>
+    ensures listed { OnOk result (IsTrue (listed form slot)) }
+    ensures dst { OnOk result (slot.dst ≤ 10) }
+    ensures src { OnOk result (slot.src ≤ 10) }
+    ensures fault { IfErr result (λ kind. (rest : List ℕ) → fault_in_form form slot rest
+        ≡ Some kind) }
 {
-    if bytes.len() < 8 {
-        return Err(FaultKind::Ragged);
-    }
-    let slot = SlotFields::first(bytes);
-    let Some(form) = OpcodeForm::of(slot.opcode) else {
-        return Err(FaultKind::Opcode);
-    };
     if !form.lists(slot) {
         return Err(FaultKind::Reserved);
     }
     if slot.dst > 10 || slot.src > 10 {
         return Err(FaultKind::Register);
     }
-    let dst = Reg::new(slot.dst);
+    Ok(())
+}
+
+/// Reads an instruction of one slot, which begins this form, into an entry.
+#[inline(always)]
+fn read_as(form: OpcodeForm, entry: &mut Insn, bytes: &[u8]) -> Result<usize, FaultKind>
+    requires single { form ≢ Wide }
+    requires long { 8 ≤ length bytes.now }
+    requires opcode { (slot_of bytes.now).opcode ≡ opcode_of form }
+    ensures found { OnOk result (IsInsn entry.new × Begins entry.new bytes.now) }
+    ensures count { IfOk result (λ n. n ≡ length (slots entry.new)) }
+    ensures fault { IfErr result (λ kind. fault_in_form form (slot_of bytes.now)
+        (drop 8 bytes.now) ≡ Some kind) }
+{
+    let slot = SlotFields::first(bytes);
+    check_fields(form, slot)?;
+    form.put(entry, slot, Reg::new(slot.dst), Reg::new(slot.src));
+    Ok(1)
+}
+
+/// Reads an instruction whose first slot, at the front of the bytes, begins this form. Each form stands by itself, and each
+/// source of the most frequent ones: where it is known, its own tests alone are left of the two functions above.
+#[inline(always)]
+fn read_form(form: OpcodeForm, entry: &mut Insn, bytes: &[u8]) -> Result<usize, FaultKind>
+    requires long { 8 ≤ length bytes.now }
+    requires opcode { (slot_of bytes.now).opcode ≡ opcode_of form }
+    ensures found { OnOk result (IsInsn entry.new × Begins entry.new bytes.now) }
+    ensures count { IfOk result (λ n. n ≡ length (slots entry.new)) }
+    ensures fault { IfErr result (λ kind. fault_in_form form (slot_of bytes.now)
+        (drop 8 bytes.now) ≡ Some kind) }
+{
     match form {
+        OpcodeForm::Alu { wide, code, source } => match source {
+            SourceBit::Imm => {
+                let source = SourceBit::Imm;
+                read_as(OpcodeForm::Alu { wide, code, source }, entry, bytes)
+            }
+            SourceBit::Reg => {
+                let source = SourceBit::Reg;
+                read_as(OpcodeForm::Alu { wide, code, source }, entry, bytes)
+            }
+        },
+        OpcodeForm::Neg { wide } => read_as(OpcodeForm::Neg { wide }, entry, bytes),
+        OpcodeForm::End { how } => read_as(OpcodeForm::End { how }, entry, bytes),
+        OpcodeForm::Ja => read_as(OpcodeForm::Ja, entry, bytes),
+        OpcodeForm::Jal => read_as(OpcodeForm::Jal, entry, bytes),
+        OpcodeForm::Jump { wide, cond, source } => match source {
+            SourceBit::Imm => {
+                let source = SourceBit::Imm;
+                read_as(OpcodeForm::Jump { wide, cond, source }, entry, bytes)
+            }
+            SourceBit::Reg => {
+                let source = SourceBit::Reg;
+                read_as(OpcodeForm::Jump { wide, cond, source }, entry, bytes)
+            }
+        },
+        OpcodeForm::Call => read_as(OpcodeForm::Call, entry, bytes),
+        OpcodeForm::Exit => read_as(OpcodeForm::Exit, entry, bytes),
+        OpcodeForm::Load { kind } => read_as(OpcodeForm::Load { kind }, entry, bytes),
+        OpcodeForm::Store { size, source } => match source {
+            SourceBit::Imm => {
+                let source = SourceBit::Imm;
+                read_as(OpcodeForm::Store { size, source }, entry, bytes)
+            }
+            SourceBit::Reg => {
+                let source = SourceBit::Reg;
+                read_as(OpcodeForm::Store { size, source }, entry, bytes)
+            }
+        },
+        OpcodeForm::Atomic { size } => read_as(OpcodeForm::Atomic { size }, entry, bytes),
         OpcodeForm::Wide => {
-            let (_, rest) = bytes.split_at(8);
-            wide(slot, dst, rest)
+            let slot = SlotFields::first(bytes);
+            check_fields(OpcodeForm::Wide, slot)?;
+            read_wide(entry, Reg::new(slot.dst), bytes)?;
+            Ok(2)
         }
-        _ => Ok(form.insn(slot, dst, Reg::new(slot.src))),
+    }
+}
+
+/// Reads the instruction at the front into an entry, in place: an instruction is as large as two slots. In how many slots it
+/// is spelled.
+#[tactic(auto, unfolding(crate::specs::inside::FirstFault::first_fault))]
+pub(crate) fn read_front(entry: &mut Insn, bytes: &[u8]) -> Result<usize, FaultKind>
+    ensures found { OnOk result (IsInsn entry.new × Begins entry.new bytes.now) }
+    ensures count { IfOk result (λ n. n ≡ length (slots entry.new)) }
+    ensures fault { IfErr result (λ kind. first_fault bytes.now ≡ Some kind) }
+{
+    if bytes.len() < 8 {
+        return Err(FaultKind::Ragged);
+    }
+    let slot = SlotFields::first(bytes);
+    match OpcodeForm::of(slot.opcode) {
+        Some(form) => read_form(form, entry, bytes),
+        None => Err(FaultKind::Opcode),
     }
 }
 
@@ -102,8 +193,9 @@ pub fn decode(bytes: &[u8]) -> Result<(Insn, usize), CodecFault>
     ensures faulty { (kind : AnyKind) → HasFault bytes.now kind → IsErrAnd result
         (λ e. e.kind ≡ kind) }
 {
-    match instruction(bytes) {
-        Ok(insn) => Ok((insn, insn.slots())),
+    let mut insn = Insn::Exit;
+    match read_front(&mut insn, bytes) {
+        Ok(slots) => Ok((insn, slots)),
         Err(kind) => Err(CodecFault { slot: 0, kind }),
     }
 }

@@ -23,6 +23,7 @@ pub(crate) enum Direction {
 }
 
 /// A value that may be read.
+#[inline(always)]
 pub(crate) fn readable(kind: Kind) -> Result<Kind, Reason>
     ensures { result ≡ readable kind }
 {
@@ -136,7 +137,8 @@ fn pointer_moved(way: Direction, pointer: Kind, range: Range) -> Result<Kind, Re
 }
 
 /// The range of an operator's results.
-fn result_range(wide: bool, op: Operator, a: Range, b: Range) -> Range
+#[inline(always)]
+pub(crate) fn result_range(wide: bool, op: Operator, a: Range, b: Range) -> Range
     ensures { result ≡ range_of (width wide) op a b }
 {
     if wide {

@@ -1,6 +1,6 @@
 //! What each instruction does to what is known.
 
-ghost use Rattle.std.specs.Prelude.{◌≡◌, ◌<◌, ℕ, pos, if◌then◌else◌, ◌+ℤ◌, ◌%◌, ◌==◌, unsigned_abs, false, IfOk, IfErr, OnErr, OnOk, Ok, Err};
+ghost use Rattle.std.specs.Prelude.{◌≡◌, ◌<◌, ℕ, pos, IfSome, Some, None, if◌then◌else◌, ◌+ℤ◌, ◌%◌, ◌==◌, unsigned_abs, false, IfOk, IfErr, OnErr, OnOk, Ok, Err};
 ghost use Rattle.words.specs.Words.{unsigned};
 ghost use Rattle.tagged_model.specs.Operators.{width, size_of, atomic_size};
 ghost use Rattle.tagged_model.specs.Shape.{longest_value};
@@ -11,17 +11,19 @@ ghost use Rattle.reg_kinds.specs.Stack.{bytes_of, is_in_stack};
 ghost use Rattle.reg_kinds.specs.declared.reason.Reason.TheVariants.{OutsideStack, PointerStored};
 ghost use Rattle.tagged_model.specs.Named.{shapes_named};
 ghost use Rattle.transfer.specs.Flows.{edges_of};
-ghost use Rattle.reg_kinds.specs.Kinds.{is_pointer, with_kind};
+ghost use Rattle.reg_kinds.specs.Kinds.{is_pointer, kind_at, with_kind};
+ghost use Rattle.reg_kinds.specs.declared.kind.Kind.TheVariants.{Scalar};
 ghost use Rattle.transfer.specs.declared.branches.Flow.TheVariants.{Falls};
 
-use crate::arithmetic::{arithmetic, of_scalar, readable};
+use crate::arithmetic::{arithmetic, of_scalar, readable, result_range};
 use crate::branches::{Flow, branch};
 use crate::calls::{behind, call, room_of};
 use insn_codec::{AluOp, AtomicSize, Insn, Load, Movsx, Operand, Reg, Size};
 use interval::Range;
 use reg_kinds::{AccessSize, Facts, Kind, Reason, ValuePointer, loaded, read_stack, write_stack};
 use tagged_model::{
-    CONTEXT_WORDS, Named, access_size, byte_order, kept_bits, known_helper, narrow, shape_of,
+    CONTEXT_WORDS, Named, access_size, byte_order, kept_bits, known_helper, narrow, operator,
+    shape_of,
 };
 use words::Operator;
 
@@ -40,6 +42,7 @@ fn constant_word(wide: bool, imm: i32) -> u64
 }
 
 /// The kind of the second operand.
+#[inline(always)]
 fn source(facts: &Facts, wide: bool, src: &Operand) -> Kind
     ensures { result ≡ source_kind facts.now wide src.now }
 {
@@ -50,6 +53,7 @@ fn source(facts: &Facts, wide: bool, src: &Operand) -> Kind
 }
 
 /// The kind of the first operand, which a move does not read.
+#[inline(always)]
 fn first(op: AluOp, kind: Kind) -> Result<Kind, Reason>
     ensures { result ≡ first_kind op kind }
 {
@@ -259,6 +263,7 @@ fn value_of(named: &[Named], descriptor: u32, offset: u32) -> Result<Kind, Reaso
 }
 
 /// Gives a register the kind that an instruction leaves in it.
+#[inline(always)]
 fn assign(facts: &mut Facts, dst: Reg, kind: Kind) -> Flow
     ensures flow { result ≡ Falls }
     ensures facts { facts.new ≡ with_kind facts.old dst kind }
@@ -267,8 +272,33 @@ fn assign(facts: &mut Facts, dst: Reg, kind: Kind) -> Flow
     Flow::Falls
 }
 
-/// An operator of two operands.
-fn operate(facts: &mut Facts, wide: bool, op: AluOp, dst: Reg, src: Operand) -> Result<(), Reason>
+/// The ranges of both operands, if both are numbers.
+#[inline(always)]
+fn numbers(facts: &Facts, wide: bool, dst: Reg, src: &Operand) -> Option<(Range, Range)>
+    ensures numbers { IfSome result (λ p. (kind_at facts.now dst ≡ Scalar p.0)
+        × (source_kind facts.now wide src.now ≡ Scalar p.1)) }
+{
+    let Kind::Scalar(a) = facts.kind(usize::from(dst.number())) else {
+        return None;
+    };
+    match src {
+        Operand::Reg(reg) => match facts.kind(usize::from(reg.number())) {
+            Kind::Scalar(b) => Some((a, b)),
+            _ => None,
+        },
+        Operand::Imm(imm) => Some((a, Range::constant(constant_word(wide, *imm)))),
+    }
+}
+
+/// An operator of two operands, of which one may be a pointer, or a move.
+#[inline(never)]
+fn operate_on_any(
+    facts: &mut Facts,
+    wide: bool,
+    op: AluOp,
+    dst: Reg,
+    src: Operand,
+) -> Result<(), Reason>
     ensures ok { OnOk result (operator_edges wide op dst src facts.old ≡ falls facts.new) }
     ensures refused { IfErr result (λ reason. operator_edges wide op dst src facts.old
         ≡ Err reason) }
@@ -279,6 +309,29 @@ fn operate(facts: &mut Facts, wide: bool, op: AluOp, dst: Reg, src: Operand) -> 
     let kind = arithmetic(wide, op, a, b)?;
     facts.set_kind(usize::from(dst.number()), kind);
     Ok(())
+}
+
+/// An operator of two operands.
+#[inline(always)]
+fn operate(facts: &mut Facts, wide: bool, op: AluOp, dst: Reg, src: Operand) -> Result<(), Reason>
+    ensures ok { OnOk result (operator_edges wide op dst src facts.old ≡ falls facts.new) }
+    ensures refused { IfErr result (λ reason. operator_edges wide op dst src facts.old
+        ≡ Err reason) }
+    ensures stays { OnErr result (facts.new ≡ facts.old) }
+{
+    if wide && op == AluOp::Mov {
+        let kind = readable(source(facts, wide, &src))?;
+        facts.set_kind(usize::from(dst.number()), kind);
+        return Ok(());
+    }
+    match numbers(facts, wide, dst, &src) {
+        Some((a, b)) if op != AluOp::Mov => {
+            let kind = Kind::Scalar(result_range(wide, operator(op), a, b));
+            facts.set_kind(usize::from(dst.number()), kind);
+            Ok(())
+        }
+        _ => operate_on_any(facts, wide, op, dst, src),
+    }
 }
 
 /// The end of a run.

@@ -1,9 +1,12 @@
 -- The descriptors of a program's loads of maps, instruction by instruction.
-use Rattle.std.proofs.Common.{◌≡◌, ℕ, ◌==◌, Bool, true, false, not, cond, ◌||◌, List, [], ◌∷◌, ◌++◌, Option, None, Some, refl, sym, ap, ◌∙◌, append-nil, arith}
-use Rattle.std.specs.Option.{option_to_list}
-use Rattle.std.specs.List.{list_any, filter_map, cons_option}
+use Rattle.std.proofs.Common.{◌≡◌, ℕ, ◌<◌, ◌==◌, length, get_or, Bool, true, false, not, cond, ◌||◌, List, [], ◌∷◌, ◌++◌, Option, None, Some, refl, sym, ap, ◌∙◌, append-nil, arith}
+use Rattle.std.specs.Option.{option_to_list, is_some}
+use Rattle.std.proofs.lemmas.Bool.{false≢true}
+use Rattle.std.proofs.lemmas.Option.{same_Some, slice_get-get_or}
+use Rattle.std.specs.List.{slice_get, list_any, filter_map, cons_option}
 use Rattle.std.proofs.lemmas.List.Elements.{filter-append, filter_map-append}
 use Rattle.insn_codec.specs.declared.insn.Insn.{Insn}
+use Rattle.tagged_model.specs.Cells.{and_then}
 use Rattle.verdict.specs.Shape.{descriptor}
 use Rattle.verdict.specs.Maps.{without, distinct, maps_of}
 use Rattle.verdict.specs.inside.Descriptors.{with_descriptor}
@@ -83,3 +86,18 @@ loaded_nowhere before after o step none =
     ap maps_of (sym (append-nil before))
     ∙ ap (λ (p : Option Insn). maps_of (before ++ option_to_list p)) (sym none)
     ∙ ap maps_of (sym step)
+
+-- what begins at the slot adds what it names
+pub loaded_at : (before after : List Insn) (o : Option Insn) → after ≡ before ++ option_to_list o → with_descriptor (maps_of before) (and_then o descriptor) ≡ maps_of after
+loaded_at before after None step = loaded_nowhere before after None step refl
+loaded_at before after (Some i) step = loaded_here before after (Some i) i step refl
+
+-- where what begins at the slot names none, nothing is added
+pub loaded_silent : (before after entries : List Insn) (entry : Insn) (slot : ℕ) (o : Option Insn) → after ≡ before ++ option_to_list o → ((i : Insn) → o ≡ Some i → slice_get entries slot ≡ Some i) → slot < length entries → entry ≡ get_or entries slot entry → is_some (descriptor entry) ≡ false → maps_of before ≡ maps_of after
+loaded_silent before after entries entry slot None step entry_at within here silent = loaded_nowhere before after None step refl
+loaded_silent before after entries entry slot (Some i) step entry_at within here silent =
+    let same : entry ≡ i = here ∙ same_Some _ i (sym (slice_get-get_or entries slot entry within) ∙ entry_at i refl) in
+    sym (ap (with_descriptor (maps_of before)) (none_of (descriptor i) (ap (λ (j : Insn). is_some (descriptor j)) (sym same) ∙ silent))) ∙ loaded_here before after (Some i) i step refl where
+      none_of : (d : Option ℕ) → is_some d ≡ false → d ≡ None
+      none_of None e = refl
+      none_of (Some fd) e = absurd (false≢true (sym e))

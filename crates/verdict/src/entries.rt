@@ -90,6 +90,9 @@ impl Entries {
         ensures known { known.new ≡ joined known.old (brought_to slot self.old) }
         ensures taken { self.new ≡ slice_set self.old slot None }
     {
+        if self.facts[slot].is_none() {
+            return;
+        }
         if let Some(entry) = self.facts[slot].take() {
             known.join(&entry);
             keep(&mut self.places, entry);

@@ -1,6 +1,8 @@
 //! The maps that a program loads, or values of which it loads.
 
-ghost use Rattle.std.specs.Prelude.{◌≡◌, IfOk, OnOk};
+ghost use Rattle.std.specs.Prelude.{◌≡◌, is_some, IfOk, OnOk};
+ghost use Rattle.insn_codec.specs.Program.{begins_at};
+ghost use Rattle.tagged_model.specs.Cells.{and_then};
 ghost use Rattle.verdict.specs.Shape.{descriptor};
 ghost use Rattle.verdict.specs.Maps.{maps_of, is_among, entries_of};
 ghost use Rattle.verdict.specs.inside.Descriptors.{with_descriptor};
@@ -21,15 +23,34 @@ fn add_descriptor(maps: &mut Vec<u32>, insn: &Insn) -> Result<(), AllocError>
     Ok(())
 }
 
+/// Adds the descriptor that the instruction at a slot names, if one begins there and names one.
+fn add_at(maps: &mut Vec<u32>, program: &Program, slot: usize) -> Result<(), AllocError>
+    ensures { OnOk result (maps.new.items
+        ≡ with_descriptor maps.old.items (and_then (begins_at program.now slot) descriptor)) }
+{
+    match program.get(slot) {
+        Some(insn) => add_descriptor(maps, insn),
+        None => Ok(()),
+    }
+}
+
+/// Whether it is a load of a map, or of a value of one.
+fn names_map(insn: &Insn) -> bool
+    ensures { result ≡ is_some (descriptor insn.now) }
+{
+    matches!(insn, Insn::MapFd { .. } | Insn::MapValue { .. })
+}
+
 /// The descriptors of the maps that a program loads, each once, in the order of the first load of each.
 pub(crate) fn loaded_maps(alloc: Global, program: &Program) -> Result<Vec<u32>, AllocError>
     ensures { IfOk result (λ maps. maps.items ≡ maps_of program.now) }
 {
     program.insns_in_order();
     let mut maps = Vec::new(alloc);
-    for slot in 0..program.slots() {
-        if let Some(insn) = program.get(slot) {
-            add_descriptor(&mut maps, insn)?;
+    let code = program.code();
+    for slot in 0..code.len() {
+        if names_map(&code[slot]) {
+            add_at(&mut maps, program, slot)?;
         }
     }
     Ok(maps)

@@ -31,23 +31,26 @@ struct Pass {
 
 impl Pass {
     /// Sends the facts in hand along the edges of an instruction.
-    fn leave(&mut self, flow: Flow, target: Option<usize>) -> Result<(), AllocError>
+    fn leave(&mut self, flow: Flow, insn: &Insn, slot: usize) -> Result<(), AllocError>
+        requires room { slot < MAX_SLOTS }
         requires known { IsSome self.old.falling }
-        requires lands { IfSome target (λ to. to < length self.old.entries) }
+        requires lands { IfSome (jump_target insn.now slot) (λ to. to < length self.old.entries) }
         ensures falling { OnOk result (self.new.falling ≡ on_falling_edge flow self.old) }
-        ensures sent { OnOk result ((i : ℕ)
-            → Brings target (on_jumping_edge flow self.old) self.old.entries self.new.entries i) }
+        ensures sent { OnOk result ((i : ℕ) → Brings (jump_target insn.now slot)
+            (on_jumping_edge flow self.old) self.old.entries self.new.entries i) }
         ensures long { OnOk result (length self.new.entries ≡ length self.old.entries) }
     {
         match flow {
             Flow::Ends => self.falling.is_known = false,
             Flow::Falls => {}
             Flow::Jumps => {
+                let target = jump_target(insn, slot);
                 self.entries.send(target, Some(&self.falling.facts))?;
                 self.falling.is_known = false;
             }
             Flow::Branches { falls, jumps } => {
                 if jumps {
+                    let target = jump_target(insn, slot);
                     self.entries.send(target, Some(&self.taken))?;
                 }
                 self.falling.is_known = falls;
@@ -76,7 +79,7 @@ impl Pass {
         self.entries.join_at(slot, &mut self.falling);
         if self.falling.is_known {
             match apply(&mut self.falling.facts, &mut self.taken, named, slot, insn) {
-                Ok(flow) => self.leave(flow, jump_target(insn, slot))?,
+                Ok(flow) => self.leave(flow, insn, slot)?,
                 Err(reason) => return Err(VerifyFault { slot, reason }),
             }
         }

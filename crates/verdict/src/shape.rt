@@ -1,7 +1,7 @@
 //! The shape of a program.
 
-ghost use Rattle.std.specs.Prelude.{◌≡◌, ◌⊎◌, ◌+◌, ◌<◌, ◌≤◌, ◌&&◌, ◌||◌, ℕ, false, [], ◌∷◌, length, slice_index_or, IsTrue, IfSome, IfErr, OnOk, Some};
-ghost use Rattle.reg_kinds.specs.declared.reason.Reason.TheVariants.{JumpOutside, JumpBackward, DescriptorNotOpen, DescriptorNotMap, NoDirectValue};
+ghost use Rattle.std.specs.Prelude.{◌≡◌, ◌⊎◌, ◌+◌, ◌<◌, ◌≤◌, ◌&&◌, ◌||◌, ℕ, nat_le, not, false, [], ◌∷◌, length, slice_index_or, IsTrue, IfSome, IfErr, OnOk, Some};
+ghost use Rattle.reg_kinds.specs.declared.reason.Reason.TheVariants.{JumpOutside, JumpBackward, FallsOff, Unreachable, FramePointerWritten, DescriptorNotOpen, DescriptorNotMap, NoDirectValue};
 ghost use Rattle.insn_codec.specs.Flow.{falls_to, jumps_to, falls, jumps, jump_target, written_register};
 ghost use Rattle.verdict.specs.Shape.{leads_into, is_reachable, is_slot, calls_unknown, descriptor, is_not_open, is_not_map, lacks_value, leads_outside, leads_backward, first_reason, shape_reason, shape_fault};
 ghost use Rattle.verdict.specs.inside.Jumps.{JumpsLand};
@@ -111,8 +111,52 @@ fn jump_reason(program: &Program, insn: &Insn, slot: usize) -> Option<Reason>
     }
 }
 
+/// What is wrong with an instruction of one slot at a slot, which leads to the next one alone and names nothing.
+#[inline(always)]
+fn plain_reason(dst: Option<Reg>, slot: usize, slots: usize, is_reached: bool) -> Option<Reason>
+    requires room { slot ≤ MAX_SLOTS }
+    ensures { result ≡ first_reason ((nat_le slots (slot + 1), FallsOff)
+        ∷ (not is_reached, Unreachable) ∷ (is_slot dst 10, FramePointerWritten) ∷ []) }
+{
+    if slot + 1 >= slots {
+        return Some(Reason::FallsOff);
+    }
+    if !is_reached {
+        return Some(Reason::Unreachable);
+    }
+    match dst {
+        Some(register) if register.number() == FRAME_POINTER => Some(Reason::FramePointerWritten),
+        _ => None,
+    }
+}
+
 /// What is wrong with an instruction at a slot, whatever the registers hold.
+#[inline(always)]
 fn shape_reason(
+    program: &Program,
+    named: &[Named],
+    insn: &Insn,
+    slot: usize,
+    is_reached: bool,
+) -> Option<Reason>
+    requires room { slot ≤ MAX_SLOTS }
+    requires reached { is_reached ≡ is_reachable program.now slot }
+    ensures { result ≡ shape_reason program.now named.now insn.now slot }
+{
+    let slots = program.slots();
+    match *insn {
+        Insn::Alu { dst, .. } | Insn::Neg { dst, .. } | Insn::End { dst, .. } => {
+            plain_reason(Some(dst), slot, slots, is_reached)
+        }
+        Insn::Movsx(Movsx { dst, .. }) => plain_reason(Some(dst), slot, slots, is_reached),
+        Insn::Load(Load { dst, .. }) => plain_reason(Some(dst), slot, slots, is_reached),
+        Insn::Store { .. } | Insn::Atomic { .. } => plain_reason(None, slot, slots, is_reached),
+        _ => other_reason(program, named, insn, slot, is_reached),
+    }
+}
+
+/// What is wrong with an instruction at a slot, whatever the registers hold.
+fn other_reason(
     program: &Program,
     named: &[Named],
     insn: &Insn,

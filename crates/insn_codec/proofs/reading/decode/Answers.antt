@@ -10,13 +10,13 @@ use Rattle.insn_codec.proofs.reading.decode.Goals as goal
 
 pub returns-in-Ok-clause-only : goal.returns-in-Ok-clause-only
 returns-in-Ok-clause-only c = λ insn fits begins.
-    let same : c.in-Ok.insn ≡ insn = same_insn c.in-Ok.insn insn c.args.bytes.now c.in-Ok.ensures.found.0 fits c.in-Ok.ensures.found.1 begins in
-    let used : c.slots.result ≡ length (slots insn) = c.slots.ensures.count ∙ ap (λ (i : Insn). length (slots i)) same in
+    let same : c.read_front.new.entry ≡ insn = same_insn c.read_front.new.entry insn c.args.bytes.now c.in-Ok.ensures.found.0 fits c.in-Ok.ensures.found.1 begins in
+    let used : c.in-Ok.slots ≡ length (slots insn) = c.in-Ok.ensures.count ∙ ap (λ (i : Insn). length (slots i)) same in
     cc
 
 pub returns-in-Ok-clause-faulty : goal.returns-in-Ok-clause-faulty
 returns-in-Ok-clause-faulty c = λ kind fault.
-    absurd (insn_has_no_fault c.args.bytes.now kind (c.in-Ok.insn, c.in-Ok.ensures.found.0, c.in-Ok.ensures.found.1) fault)
+    absurd (insn_has_no_fault c.args.bytes.now kind (c.read_front.new.entry, c.in-Ok.ensures.found.0, c.in-Ok.ensures.found.1) fault)
 
 told : (c : goal.In-Err) → HasFault c.args.bytes.now c.in-Err.kind
 told c = has_fault c.args.bytes.now c.in-Err.kind (λ k. omega (arith, c.type_inv.bytes k)) c.in-Err.ensures.fault

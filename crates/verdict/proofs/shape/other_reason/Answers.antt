@@ -6,7 +6,7 @@ use Rattle.reg_kinds.specs.declared.reason.Reason.TheVariants.{JumpOutside, Jump
 use Rattle.insn_codec.specs.Flow.{falls_to, jumps_to, falls, jumps, written_register}
 use Rattle.verdict.specs.Shape.{is_reachable, is_slot, calls_unknown, descriptor, is_not_open, is_not_map, lacks_value, leads_outside, leads_backward}
 use Rattle.verdict.proofs.Reached.{told_early}
-use Rattle.verdict.proofs.shape.shape_reason.Goals as goal
+use Rattle.verdict.proofs.shape.other_reason.Goals as goal
 
 pub returns-in-Some : goal.returns-in-Some
 returns-in-Some c =

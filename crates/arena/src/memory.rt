@@ -5,7 +5,7 @@ ghost use Rattle.std.specs.Borrow.{sem};
 ghost use Rattle.arena.specs.Bytes.{IsSize};
 ghost use Rattle.arena.specs.Memory.{base, place_of, loaded, stored, copied, part_start, part_bytes, size_of};
 
-use crate::numbers::{read, write};
+use crate::numbers::{copy_bytes, read, write};
 use crate::trace::Trace;
 use std::alloc::{AllocError, Global};
 use std::marker::Model;
@@ -212,8 +212,29 @@ impl Arena {
         let size = self.bytes.len();
         let source = place(size, length, from)?;
         let target = place(size, length, to)?;
-        self.bytes.copy_within(source..source + length, target);
+        copy_bytes(&mut self.bytes, source, target, length);
         Some(())
+    }
+
+    /// Writes so many bytes at one address, at least one, over those at another, as if through a buffer, where both are known to
+    /// lie in the memory.
+    #[inline(always)]
+    pub fn copy_inside(&mut self, to: u64, from: u64, length: usize, trace: &mut Trace)
+        requires some { 1 ≤ length }
+        requires source { IsSome (place_of (size_of self.old) length from) }
+        requires target { IsSome (place_of (size_of self.old) length to) }
+        ensures bytes { self.new ≡ copied self.old length (place_of (size_of self.old) length from)
+            (place_of (size_of self.old) length to) }
+        ensures steps { trace.new.steps ≡ trace.old.steps }
+        ensures ranges { trace.new.ranges ≡ trace.old.ranges ++ (from, length) ∷ [] ++ (to, length)
+            ∷ [] }
+    {
+        trace.range(from, length as u64);
+        trace.range(to, length as u64);
+        let size = self.bytes.len();
+        let source = place_inside(size, length, from);
+        let target = place_inside(size, length, to);
+        copy_bytes(&mut self.bytes, source, target, length);
     }
 
     /// The bytes of a tenant's part, to write. All other bytes stay.

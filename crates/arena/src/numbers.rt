@@ -47,6 +47,15 @@ fn read_double(bytes: &[u8], at: usize) -> u64
     ])
 }
 
+/// The number whose low bytes are eight from a place on.
+#[inline(always)]
+fn spelled_double(bytes: &[u8], at: usize) -> u64
+    requires { at + 8 ≤ length bytes.now }
+    ensures { low_bytes 8 result ≡ bytes_at bytes.now at 8 }
+{
+    read_double(bytes, at)
+}
+
 /// Writes the low bytes of a number.
 #[inline(always)]
 pub(crate) fn write(bytes: &mut [u8], at: usize, size: usize, value: u64)
@@ -63,6 +72,31 @@ pub(crate) fn write(bytes: &mut [u8], at: usize, size: usize, value: u64)
         put(bytes, at, &spelled[..2]);
     } else {
         put(bytes, at, &spelled[..1]);
+    }
+}
+
+/// Writes the eight bytes from a place on over those from another, as one number.
+#[inline(always)]
+pub(crate) fn copy_double(bytes: &mut [u8], from: usize, to: usize)
+    requires source { from + 8 ≤ length bytes.old }
+    requires target { to + 8 ≤ length bytes.old }
+    ensures { bytes.new ≡ written_at bytes.old to (bytes_at bytes.old from 8) }
+{
+    let double = spelled_double(bytes, from);
+    write(bytes, to, 8, double);
+}
+
+/// Writes so many bytes from a place on over those from another, as if through a buffer.
+#[inline(always)]
+pub(crate) fn copy_bytes(bytes: &mut [u8], from: usize, to: usize, count: usize)
+    requires source { from + count ≤ length bytes.old }
+    requires target { to + count ≤ length bytes.old }
+    ensures { bytes.new ≡ written_at bytes.old to (bytes_at bytes.old from count) }
+{
+    if count == 8 {
+        copy_double(bytes, from, to);
+    } else {
+        bytes.copy_within(from..from + count, to);
     }
 }
 

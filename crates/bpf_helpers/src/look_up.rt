@@ -9,15 +9,16 @@ ghost use Rattle.bpf_helpers.specs.Calls.{AreLive};
 ghost use Rattle.bpf_helpers.specs.inside.Flat.{bound_map, part_place, flat_look_up};
 
 use arena::{Arena, Trace};
-use bpf_maps::{MapKey, Maps};
+use bpf_maps::{MapKey, Maps, PART};
 
 /// The map that a word names.
+#[inline(always)]
 pub(crate) fn bound(bind: &[MapKey], word: u64) -> Option<MapKey>
     ensures value { result ≡ bound_map bind.now word }
     ensures listed { IfSome result (λ key.
         (word - 1 < length bind.now) × (key ≡ slice_index bind.now (word - 1))) }
 {
-    let index = word.checked_sub(1)?;
+    let index = word.wrapping_sub(1);
     if index >= bind.len() as u64 {
         return None;
     }
@@ -25,22 +26,24 @@ pub(crate) fn bound(bind: &[MapKey], word: u64) -> Option<MapKey>
 }
 
 /// The place in a tenant's part of so many bytes at an address, if they lie in it.
+#[inline(always)]
 pub(crate) fn place_in(arena: &Arena, tenant: usize, size: usize, address: u64) -> Option<usize>
-    requires { tenant < arena.now.parts }
+    requires tenant { tenant < arena.now.parts }
+    requires part { arena.now.part ≡ PART }
     ensures value { result ≡ part_place (part_start arena.now tenant) arena.now.part size address }
     ensures within { IfSome result (λ at. at + size ≤ arena.now.part) }
     ensures inside { IfSome result (λ at. IsInside arena.now tenant (address, size)) }
 {
     arena.memory_is_its_parts();
-    let part = arena.part(tenant).len();
-    let at = address.checked_sub(arena.address(tenant))?;
-    if size > part || at > (part - size) as u64 {
+    let at = address.wrapping_sub(arena.address(tenant));
+    if size > PART || at > (PART - size) as u64 {
         return None;
     }
     Some(at as usize)
 }
 
 /// The place of bytes that are asked for, which is noted.
+#[inline(always)]
 pub(crate) fn asked_place(
     arena: &Arena,
     tenant: usize,
@@ -48,7 +51,8 @@ pub(crate) fn asked_place(
     address: u64,
     trace: &mut Trace,
 ) -> Option<usize>
-    requires { tenant < arena.now.parts }
+    requires tenant { tenant < arena.now.parts }
+    requires part { arena.now.part ≡ PART }
     ensures value { result ≡ part_place (part_start arena.now tenant) arena.now.part size address }
     ensures within { IfSome result (λ at. at + size ≤ arena.now.part) }
     ensures inside { AddsInside arena.now tenant trace.old.ranges trace.new.ranges }
@@ -60,6 +64,7 @@ pub(crate) fn asked_place(
 }
 
 /// The address of the value of a key, or 0: helper 1. The words name the map and the address of the key.
+#[inline(always)]
 pub(crate) fn look_up(
     map: u64,
     key: u64,

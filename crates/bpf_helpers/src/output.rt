@@ -4,10 +4,12 @@ ghost use Rattle.std.specs.Prelude.{◌≡◌, ◌+◌, ◌<◌, ◌≤◌, leng
 ghost use Rattle.tagged_model.specs.Helpers.{negative, outside};
 ghost use Rattle.arena.specs.Memory.{part_start, with_bytes};
 ghost use Rattle.arena.specs.Ranges.{AddsInside};
+ghost use Rattle.bpf_maps.specs.declared.part.TheConstants.{PART};
 ghost use Rattle.bpf_helpers.specs.inside.Flat.{LoadsBy};
 
 use crate::look_up::asked_place;
 use arena::{Arena, Trace, writes_are_in_parts};
+use bpf_maps::PART;
 
 // The offset in a packet is read in 32 bits, and may not be negative.
 const OFFSETS: u64 = 0x1_0000_0000;
@@ -18,6 +20,7 @@ const LAST_OFFSET: u64 = 0x7fff_ffff;
 pub(crate) const OUTSIDE: u64 = 0xffff_ffff_ffff_fff2;
 
 /// Writes bytes at a place of a tenant's part.
+#[inline(always)]
 pub(crate) fn write_bytes(arena: &mut Arena, tenant: usize, at: usize, bytes: &[u8])
     requires tenant { tenant < arena.old.parts }
     requires room { at + length bytes.now ≤ arena.old.part }
@@ -30,6 +33,7 @@ pub(crate) fn write_bytes(arena: &mut Arena, tenant: usize, at: usize, bytes: &[
 }
 
 /// Writes zeros at a place of a tenant's part.
+#[inline(always)]
 pub(crate) fn write_zeros(arena: &mut Arena, tenant: usize, at: usize, count: usize)
     requires tenant { tenant < arena.old.parts }
     requires room { at + count ≤ arena.old.part }
@@ -44,6 +48,7 @@ pub(crate) fn write_zeros(arena: &mut Arena, tenant: usize, at: usize, count: us
 
 /// Copies bytes of the packet to an address: helper 26. Where they leave the packet, zeros are written and an error is
 /// answered. It answers nothing where no part of the tenant's is at the address.
+#[inline(always)]
 pub(crate) fn load_bytes(
     offset: u64,
     to: u64,
@@ -54,13 +59,13 @@ pub(crate) fn load_bytes(
     trace: &mut Trace,
 ) -> Option<u64>
     requires tenant { tenant < arena.old.parts }
+    requires part { arena.old.part ≡ PART }
     ensures loaded { LoadsBy arena.old tenant packet.now offset to count result arena.new }
     ensures unchanged { IfNone result (arena.new ≡ arena.old) }
     ensures inside { AddsInside arena.old tenant trace.old.ranges trace.new.ranges }
     ensures steps { trace.new.steps ≡ trace.old.steps }
 {
-    arena.memory_is_its_parts();
-    if count > arena.part(tenant).len() as u64 {
+    if count > PART as u64 {
         return None;
     }
     let count = count as usize;

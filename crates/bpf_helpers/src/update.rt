@@ -66,8 +66,7 @@ pub(crate) fn put(
         Ok(place) => {
             let start = arena.address(tenant);
             let to = start + maps.value_at(map, place) as u64;
-            // Both ranges lie in the part.
-            let _ = arena.copy(to, start + value as u64, shape.value_size as usize, trace);
+            arena.copy_inside(to, start + value as u64, shape.value_size as usize, trace);
             0
         }
         Err(fault) => refusal(fault),

@@ -44,7 +44,7 @@ impl AnyMap {
 impl ValueMap for AnyMap {
     ghost places = { places_of };
 
-    #[inline]
+    #[inline(always)]
     fn find(&self, key: &[u8]) -> Option<u32> {
         match self {
             AnyMap::Array(map) => map.find(key),
@@ -52,6 +52,7 @@ impl ValueMap for AnyMap {
         }
     }
 
+    #[inline(always)]
     fn claim(&mut self, key: &[u8], flags: u64) -> Result<u32, MapFault> {
         match self {
             AnyMap::Array(map) => map.claim(key, flags),

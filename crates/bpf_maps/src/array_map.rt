@@ -92,12 +92,13 @@ impl ArrayMap {
 impl ValueMap for ArrayMap {
     ghost places = { λ m. m };
 
-    #[inline]
+    #[inline(always)]
     fn find(&self, key: &[u8]) -> Option<u32> {
         self.is_array();
         self.place_of(key)
     }
 
+    #[inline(always)]
     fn claim(&mut self, key: &[u8], flags: u64) -> Result<u32, MapFault> {
         self.is_array();
         if flags > EXIST {

@@ -90,6 +90,8 @@ impl HashMapIx {
     }
 
     /// A place for a new key, which goes last.
+    #[cold]
+    #[inline(never)]
     fn add(&mut self, key: &[u8]) -> Result<u32, MapFault>
         requires absent { look_up (table_of self.old) key.now ≡ None }
         requires size { length key.now ≡ self.old.shape.key_size }
@@ -114,12 +116,13 @@ impl HashMapIx {
 impl ValueMap for HashMapIx {
     ghost places = { λ m. m };
 
-    #[inline]
+    #[inline(never)]
     fn find(&self, key: &[u8]) -> Option<u32> {
         self.is_hash_map();
         self.place_of(key)
     }
 
+    #[inline(never)]
     fn claim(&mut self, key: &[u8], flags: u64) -> Result<u32, MapFault> {
         self.is_hash_map();
         if flags > EXIST {

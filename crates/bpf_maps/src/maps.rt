@@ -227,7 +227,7 @@ impl Maps {
 
     /// Where the value at a place of a map begins in the tenant's part. The values of all maps lie in the part, behind the
     /// stack and the context, and apart from one another.
-    #[inline]
+    #[inline(always)]
     pub fn value_at(&self, map: MapKey, place: u32) -> usize
         requires live { IsSome (live_at self.now map) }
         requires place { place < (shape_at self.now map).max_entries }
@@ -240,7 +240,7 @@ impl Maps {
     }
 
     /// The place of a key.
-    #[inline]
+    #[inline(always)]
     pub fn find(&self, map: MapKey, key: &[u8]) -> Option<u32>
         requires live { IsSome (live_at self.now map) }
         requires size { length key.now ≡ (shape_at self.now map).key_size }
@@ -258,6 +258,7 @@ impl Maps {
     /// # Errors
     ///
     /// Those of an update with these flags; no map has changed then. `Memory` is answered only to a new key of a hash map.
+    #[inline(always)]
     pub fn claim(&mut self, map: MapKey, key: &[u8], flags: u64) -> Result<u32, MapFault>
         requires live { IsSome (live_at self.old map) }
         requires size { length key.now ≡ (shape_at self.old map).key_size }

@@ -16,14 +16,6 @@ pub enum Helper {
     LoadBytes,
 }
 
-/// The functions that a program may call.
-const KNOWN: [Helper; 4] = [
-    Helper::LookUp,
-    Helper::Update,
-    Helper::Delete,
-    Helper::LoadBytes,
-];
-
 impl Helper {
     ghost use Rattle.tagged_model.specs.Helpers.{id_of};
 
@@ -42,8 +34,15 @@ impl Helper {
 
 /// The function with a number, if there is one.
 #[tactic(auto, unfolding(crate::specs::Helpers::known_helpers))]
+#[inline(always)]
 pub fn known_helper(id: i32) -> Option<Helper>
     ensures { result ≡ helper_of id }
 {
-    KNOWN.into_iter().find(|helper| helper.id() == id)
+    match id {
+        1 => Some(Helper::LookUp),
+        2 => Some(Helper::Update),
+        3 => Some(Helper::Delete),
+        26 => Some(Helper::LoadBytes),
+        _ => None,
+    }
 }

@@ -34,7 +34,7 @@ returns-in-Ok-clause-updated c =
       rest = c.in-Ok.ensures.rest;
       flag = c.in-Ok.ensures.refused;
       word_is = refl;
-      memory_is = c.copy.ensures.bytes
+      memory_is = c.copy_inside.ensures.bytes
           ∙ copied_is memory c.shape-shape.result.value_size (c.address-start.result + c.args.value) (c.address-start.result + c.value_at.result) (part_start memory t + c.args.value) (part_start memory t + offset_at old k c.in-Ok.place)
           (omega (arith, c.address-start.ensures.value))
           (omega (arith, c.address-start.ensures.value, c.value_at.ensures.offset, stays))

@@ -180,9 +180,9 @@ fn the_areas_are_summed(rt: HostRuntime) -> Result<(), Fail> {
     let mut maps = Maps::new(rt.alloc())?;
     let small = create(&mut maps, shape(MapKind::Hash, 1, 1)?, part)?;
     let large = shape(MapKind::Array, 4096, 16)?;
-    for _ in 0..3 {
-        create(&mut maps, large, part)?;
-    }
+    create(&mut maps, large, part)?;
+    create(&mut maps, large, part)?;
+    create(&mut maps, large, part)?;
     assert_eq!(rt; create(&mut maps, large, part), Err(MapFault::NoSpace));
     maps.release(small, part);
     let map = create(&mut maps, large, part)?;

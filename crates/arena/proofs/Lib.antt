@@ -3,4 +3,3 @@ pub mod Parts
 pub mod Apart
 pub mod Within
 pub mod Asked
-mod Spelled

@@ -1,7 +1,7 @@
 -- A new array is the list of its indices, and no call changes it.
 use Rattle.std.proofs.Common.{◌≡◌, ℕ, ◌+◌, ◌*◌, ◌<◌, ◌^◌, ◌/◌, ◌%◌, ◌==◌, Bool, true, List, [], ◌∷◌, length, Some, None, refl, sym, ap, subst, ◌∙◌, nat_lt, if◌then◌else◌, arith, get_or, eqb-true}
-use Rattle.std.specs.Int.{w32, to_le_bytes}
 use Rattle.std.specs.Map.{keys_of, values_of}
+use Rattle.words.specs.Bytes.{low_bytes}
 use Rattle.tagged_model.specs.declared.shape.MapKind.{MapKind}
 use Rattle.tagged_model.specs.declared.shape.MapKind.TheVariants.{Array, Hash}
 use Rattle.tagged_model.specs.declared.shape.MapShape.{MapShape}
@@ -74,13 +74,9 @@ module _ (t : PlaceTable) (array : t.shape.kind ≡ Array) (whole : t ≡ new_pl
   run_ends = whole ∙ ap after_run (sym whole)
 
 -- the bytes of an index
-pub spells : (i : ℕ) → to_le_bytes w32 i ≡ index_key i
+pub spells : (i : ℕ) → low_bytes 4 i ≡ index_key i
 unfolding index_key
-spells i =
-    let b : i / 256 % 256 ≡ i / 256 % 256 = refl in
-    let c : i / 65536 % 256 ≡ i / 256 / 256 % 256 = omega arith in
-    let d : i / 16777216 % 256 ≡ i / 256 / 256 / 256 % 256 = omega arith in
-    λ k. i % 256 ∷ b k ∷ c k ∷ d k ∷ []
+spells i = refl
 
 -- the index that four bytes spell
 pub spelled : (key : List ℕ) (n : ℕ) → length key ≡ 4 → ((i : ℕ) → get_or key i 0 < 256) → n ≡ get_or key 0 0 + get_or key 1 0 * 256 + get_or key 2 0 * 65536 + get_or key 3 0 * 16777216 → index_key n ≡ key

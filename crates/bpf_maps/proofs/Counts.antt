@@ -67,3 +67,12 @@ sized-without n key (e ∷ es) h = by (is_key key e.0) (sized-without n key es h
 pub sized-with : (n : ℕ) (key : List ℕ) (p : ℕ) (es : List (List ℕ × ℕ)) → length key ≡ n → IsSized n es → IsSized n (with_key key p es)
 sized-with n key p [] e h = (e, tt)
 sized-with n key p (x ∷ es) e h = (h.0, sized-with n key p es e h.1)
+
+-- a key that is not there is not taken out
+pub without-absent : (key : List ℕ) (es : List (List ℕ × ℕ)) → found key es ≡ None → without key es ≡ es
+without-absent key [] h = refl
+without-absent key (e ∷ es) h = by (is_key key e.0) h (without-absent key es)
+  where
+    by : (b : Bool) → cond b (Some e.1) (found key es) ≡ None → (found key es ≡ None → without key es ≡ es) → cond b es (e ∷ without key es) ≡ e ∷ es
+    by true g r = absurd (none-some e.1 (sym g))
+    by false g r = ap (λ (xs : List (List ℕ × ℕ)). e ∷ xs) (r g)

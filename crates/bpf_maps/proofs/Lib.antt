@@ -1,5 +1,6 @@
 pub mod Counts
-pub mod Bare
+pub mod Shown
+pub mod WordKeys
 pub mod Kept
 pub mod Answered
 pub mod Shapes

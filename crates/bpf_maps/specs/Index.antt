@@ -1,23 +1,31 @@
 -- How the two kinds of map are kept. This project's own.
-use Rattle.std.specs.Prelude.{◌≡◌, ℕ, ◌+◌, ◌≤◌, List, length, map, nat_lt, if◌then◌else◌, vec_capacity}
+use Rattle.std.specs.Prelude.{◌≡◌, ℕ, ◌+◌, ◌≤◌, List, length, nat_lt, if◌then◌else◌, vec_capacity}
 use Rattle.std.specs.Map.{values_of}
-use Rattle.std.specs.declared.vec.Vec.{Vec}
 use Rattle.tagged_model.specs.declared.shape.MapKind.TheVariants.{Hash}
 use Rattle.bpf_maps.specs.Places.{PlaceTable, occurrences, IsSized}
+use Rattle.bpf_maps.specs.declared.key_index.KeyIndex.{KeyIndex}
+use Rattle.bpf_maps.specs.declared.key_index.KeyIndex.TheVariants.{Words, Bytes}
 use Rattle.bpf_maps.specs.declared.hash_map.HashMapIx.TheInside.{Inside}
 
 -- the bytes of each key, with its place
-abbrev pub bare : {X : Type 0} → List (Vec ℕ X × ℕ) → List (List ℕ × ℕ)
-bare es = map (λ e. (e.0.items, e.1)) es
+abbrev pub entries_of : KeyIndex → List (List ℕ × ℕ)
+entries_of (Words keys) = keys.entries
+entries_of (Bytes es) = es
+
+-- it takes keys of so many bytes
+abbrev pub TakesKeys : KeyIndex → ℕ → Type 0
+TakesKeys (Words keys) size = size ≡ keys.size
+TakesKeys (Bytes es) size = Unit {0}
 
 abbrev pub shown : Inside → PlaceTable
-shown a = record { shape = a.shape; entries = bare a.index.entries; kept = a.kept.items }
+shown a = record { shape = a.shape; entries = entries_of a.index; kept = a.kept.items }
 
 -- each place is in use, or kept apart, or free, and there is room to keep all places apart and to free them
 pub record IsWellFormedHash (a : Inside) : Type 0 where
   pub kind : a.shape.kind ≡ Hash
-  pub once : (p : ℕ) → occurrences p (values_of (bare a.index.entries)) + occurrences p a.kept.items + occurrences p a.free.items ≡ (if nat_lt p a.shape.max_entries then 1 else 0)
-  pub all : length a.index.entries + length a.kept.items + length a.free.items ≡ a.shape.max_entries
+  pub takes : TakesKeys a.index a.shape.key_size
+  pub once : (p : ℕ) → occurrences p (values_of (entries_of a.index)) + occurrences p a.kept.items + occurrences p a.free.items ≡ (if nat_lt p a.shape.max_entries then 1 else 0)
+  pub all : length (entries_of a.index) + length a.kept.items + length a.free.items ≡ a.shape.max_entries
   pub kept_room : a.shape.max_entries ≤ vec_capacity a.kept
   pub free_room : a.shape.max_entries ≤ vec_capacity a.free
-  pub sized : IsSized a.shape.key_size (bare a.index.entries)
+  pub sized : IsSized a.shape.key_size (entries_of a.index)

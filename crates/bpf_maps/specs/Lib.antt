@@ -1,4 +1,7 @@
 pub mod Places
+pub mod KeyLists
+pub mod Words
+pub mod Given
 pub mod Index
 pub mod Laws
 pub mod LiveLaws

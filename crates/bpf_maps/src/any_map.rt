@@ -1,13 +1,14 @@
 //! The two kinds of map as one.
 
-ghost use Rattle.std.specs.Prelude.{◌≡◌, ◌≤◌, ◌<◌, ◌⊎◌, ◌++◌, length, [], drop, IfOk, IfSome};
+ghost use Rattle.std.specs.Prelude.{◌≡◌, ◌<◌, ◌⊎◌, length, [], option_map, IfOk, IfSome};
 ghost use Rattle.tagged_model.specs.Table.{look_up, verdict, removal, next_of};
-ghost use Rattle.bpf_maps.specs.Places.{PlaceTable, table_of, IsSound, Claims, Removes, GivesKey, new_places, after_run};
+ghost use Rattle.bpf_maps.specs.Places.{PlaceTable, table_of, IsSound, Claims, Removes, new_places, after_run};
+ghost use Rattle.bpf_maps.specs.Given.{given_bytes};
 ghost use Rattle.bpf_maps.specs.Any.{places_of};
 
 use crate::array_map::ArrayMap;
+use crate::given_key::GivenKey;
 use crate::hash_map::HashMapIx;
-use crate::part::KEY_ROOM;
 use crate::value_map::ValueMap;
 use std::alloc::{AllocError, Global};
 use tagged_model::{MapFault, MapKind, MapShape};
@@ -67,10 +68,10 @@ impl ValueMap for AnyMap {
         }
     }
 
-    fn next_key(&self, key: &[u8], next: &mut [u8; KEY_ROOM]) -> Result<(), MapFault> {
+    fn key_after(&self, key: &[u8]) -> Option<GivenKey<'_>> {
         match self {
-            AnyMap::Array(map) => map.next_key(key, next),
-            AnyMap::Hash(map) => map.next_key(key, next),
+            AnyMap::Array(map) => map.key_after(key),
+            AnyMap::Hash(map) => map.key_after(key),
         }
     }
 

@@ -1,14 +1,18 @@
 //! An array map.
 
-ghost use Rattle.std.specs.Prelude.{◌≡◌, ◌<◌, ◌⊎◌, [], IfSome, Some, None, nat_lt, if◌then◌else◌, length};
+ghost use Rattle.std.specs.Prelude.{◌≡◌, ◌<◌, ◌⊎◌, [], IfSome, Some, None, nat_lt, if◌then◌else◌, length, option_map};
 ghost use Rattle.tagged_model.specs.declared.shape.MapKind.TheVariants.{Array};
 ghost use Rattle.tagged_model.specs.Table.{look_up, next_of, index_key};
 ghost use Rattle.bpf_maps.specs.Places.{PlaceTable, table_of, IsSound, new_places};
+ghost use Rattle.bpf_maps.specs.Given.{given_bytes};
 
-use crate::part::KEY_ROOM;
-use crate::value_map::{EXIST, NOEXIST, ValueMap, put_key};
+use crate::given_key::{GivenKey, ShortKey};
+use crate::value_map::{EXIST, NOEXIST, ValueMap};
 use std::marker::Model;
 use tagged_model::{MapFault, MapShape};
+
+/// The bytes of an index.
+const INDEX_SIZE: usize = 4;
 
 /// An array, which has all its indices from the start. The place of an index is the index.
 #[derive(Drop)]
@@ -121,13 +125,13 @@ impl ValueMap for ArrayMap {
         Err(MapFault::Invalid)
     }
 
-    fn next_key(&self, key: &[u8], next: &mut [u8; KEY_ROOM]) -> Result<(), MapFault> {
+    fn key_after(&self, key: &[u8]) -> Option<GivenKey<'_>> {
+        self.is_array();
         let index = self.index_after(key);
         if index >= self.shape.max_entries {
-            return Err(MapFault::NoEntry);
+            return None;
         }
-        put_key(&index.to_le_bytes(), next);
-        Ok(())
+        Some(GivenKey::Short(ShortKey::of_word(u64::from(index), INDEX_SIZE)))
     }
 
     fn end_run(&mut self) {

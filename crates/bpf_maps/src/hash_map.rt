@@ -1,14 +1,13 @@
 //! A hash map.
 
-ghost use Rattle.std.specs.Prelude.{◌≡◌, ℕ, ◌<◌, ◌≤◌, None, IfOk, IfSome, nat_lt, if◌then◌else◌, vec_len, vec_capacity, length, slice_get};
+ghost use Rattle.std.specs.Prelude.{◌≡◌, ℕ, ◌<◌, ◌≤◌, None, IfOk, IfSome, nat_lt, if◌then◌else◌, vec_len, vec_capacity, length};
 ghost use Rattle.tagged_model.specs.declared.shape.MapKind.TheVariants.{Hash};
 ghost use Rattle.tagged_model.specs.Table.{look_up, of_absent, is_full, verdict, removal, next_of};
-ghost use Rattle.bpf_maps.specs.Places.{PlaceTable, table_of, IsSound, Claims, Removes, GivesKey, new_places, after_run, occurrences};
-ghost use Rattle.bpf_maps.specs.inside.Keys.{key_of};
+ghost use Rattle.bpf_maps.specs.Places.{PlaceTable, table_of, IsSound, Claims, Removes, new_places, after_run, occurrences};
 
-use crate::part::KEY_ROOM;
-use crate::value_map::{EXIST, NOEXIST, ValueMap, put_key};
-use indexmap::IndexMap;
+use crate::given_key::GivenKey;
+use crate::key_index::KeyIndex;
+use crate::value_map::{EXIST, NOEXIST, ValueMap};
 use std::alloc::{AllocError, Global};
 use std::marker::Model;
 use tagged_model::{MapFault, MapShape};
@@ -16,9 +15,8 @@ use tagged_model::{MapFault, MapShape};
 /// A map from keys of any bytes to places, in the order in which the keys came.
 #[derive(Drop)]
 pub struct HashMapIx {
-    alloc: Global,
     shape: MapShape,
-    index: IndexMap<Vec<u8>, u32>,
+    index: KeyIndex,
     // Places of keys that were removed in this run.
     kept: Vec<u32>,
     // Places that are not in use.
@@ -46,9 +44,8 @@ impl HashMapIx {
         let free = all_places(alloc, shape.max_entries)?;
         let kept = Vec::with_capacity(alloc, shape.max_entries as usize)?;
         Ok(HashMapIx {
-            alloc,
             shape,
-            index: IndexMap::new(alloc),
+            index: KeyIndex::new(alloc, shape.key_size as usize),
             kept,
             free,
         })
@@ -73,20 +70,11 @@ impl HashMapIx {
     /// The place of a key.
     #[inline(always)]
     fn place_of(&self, key: &[u8]) -> Option<u32>
+        requires { length key.now ≡ self.now.shape.key_size }
         ensures place { result ≡ look_up (table_of self.now) key.now }
         ensures within { IfSome result (λ place. place < self.now.shape.max_entries) }
     {
-        self.index.get(key).copied()
-    }
-
-    /// The index of the entry that follows a key. An unknown key is followed by the first.
-    fn index_after(&self, key: &[u8]) -> usize
-        ensures { key_of (slice_get self.now.entries result) ≡ next_of (table_of self.now) key.now }
-    {
-        match self.index.get_index_of(key) {
-            Some(index) => index + 1,
-            None => 0,
-        }
+        self.index.get(key)
     }
 
     /// A place for a new key, which goes last.
@@ -102,10 +90,7 @@ impl HashMapIx {
         let Some(place) = self.free.last().copied() else {
             return Err(MapFault::TooBig);
         };
-        let Ok(own) = copy_of(self.alloc, key) else {
-            return Err(MapFault::Memory);
-        };
-        if self.index.insert(own, place).is_err() {
+        if self.index.insert(key, place).is_err() {
             return Err(MapFault::Memory);
         }
         self.free.pop();
@@ -147,19 +132,15 @@ impl ValueMap for HashMapIx {
     }
 
     fn remove(&mut self, key: &[u8]) -> Result<(), MapFault> {
-        let Some(place) = self.index.shift_remove(key) else {
+        let Some(place) = self.index.remove(key) else {
             return Err(MapFault::NoEntry);
         };
         self.kept.push_reserved(place);
         Ok(())
     }
 
-    fn next_key(&self, key: &[u8], next: &mut [u8; KEY_ROOM]) -> Result<(), MapFault> {
-        let Some((following, _)) = self.index.get_index(self.index_after(key)) else {
-            return Err(MapFault::NoEntry);
-        };
-        put_key(following, next);
-        Ok(())
+    fn key_after(&self, key: &[u8]) -> Option<GivenKey<'_>> {
+        self.index.key_after(key)
     }
 
     fn end_run(&mut self) {
@@ -167,14 +148,6 @@ impl ValueMap for HashMapIx {
             self.free.push_reserved(place);
         }
     }
-}
-
-fn copy_of(alloc: Global, key: &[u8]) -> Result<Vec<u8>, AllocError>
-    ensures { IfOk result (λ own. own.items ≡ key.now) }
-{
-    let mut own = Vec::with_capacity(alloc, key.len())?;
-    own.extend_from_slice(key)?;
-    Ok(own)
 }
 
 /// All places below a number.

@@ -6,15 +6,21 @@
 
 mod any_map;
 mod array_map;
+mod bytes_index;
 mod callers;
+mod given_key;
 mod hash_map;
+mod key_index;
 mod laws;
+mod long_key;
 mod maps;
 mod part;
 mod value_map;
+mod word_index;
 
 pub use any_map::AnyMap;
 pub use array_map::ArrayMap;
+pub use given_key::{GivenKey, ShortKey};
 pub use hash_map::HashMapIx;
 pub use laws::{
     areas_keep_places, calls_are_those_of_a_map, deletes_keep_places, live_maps_refine_values,

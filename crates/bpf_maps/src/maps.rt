@@ -5,11 +5,13 @@ ghost use Rattle.tagged_model.specs.declared.shape.MapKind.TheVariants.{Array};
 ghost use Rattle.tagged_model.specs.Table.{look_up, verdict, removal, next_of, new_table};
 ghost use Rattle.bpf_maps.specs.declared.part.TheConstants.{PART, FRONT, MAPS, LARGEST_SUM};
 ghost use Rattle.bpf_maps.specs.Places.{table_of, IsSound, Claims, Removes, GivesKey, after_run};
+ghost use Rattle.bpf_maps.specs.Given.{given_bytes};
 ghost use Rattle.bpf_maps.specs.Live.{live_at, places_at, shape_at, holds_at, held_at, offset_at, value_in, map_in, LiesInPart, IsLaid, IsPacked, ClosesUp, start_at, AreSound, SameAreas, SameValues, KeepsMap, KeepsMaps, KeepsOthers, count, areas, SameRoom, OnlyKeysChange, HasOneMore, create_fault, Creates, one_more, one_less, is_memory};
 ghost use Rattle.bpf_maps.specs.InMaps.{closed_up};
 ghost use Rattle.slab.specs.Slab.{ContainsKey, get};
 
 use crate::any_map::AnyMap;
+use crate::given_key::GivenKey;
 use crate::part::{FRONT, KEY_ROOM, LARGEST_SUM, MAPS, PART, clear};
 use crate::value_map::ValueMap;
 use slab::Slab;
@@ -289,6 +291,19 @@ impl Maps {
     {
         let entry = &mut self.slots[map.number];
         entry.map.remove(key)
+    }
+
+    /// The key that follows a key, if one does. An empty or unknown key is followed by the first.
+    pub fn key_after(&self, map: MapKey, key: &[u8]) -> Option<GivenKey<'_>>
+        requires live { IsSome (live_at self.now map) }
+        requires size { (key.now ≡ []) ⊎ (length key.now ≡ (shape_at self.now map).key_size) }
+        ensures given { option_map given_bytes result
+            ≡ next_of (table_of (places_at self.now map)) key.now }
+        ensures size { IfSome result (λ given.
+            length (given_bytes given) ≡ (shape_at self.now map).key_size) }
+    {
+        let entry = &self.slots[map.number];
+        entry.map.key_after(key)
     }
 
     /// Writes the key that follows a key at the front of `next`. An empty or unknown key is followed by the first.

@@ -1,10 +1,12 @@
 //! What the two kinds of map have in common.
 
-ghost use Rattle.std.specs.Prelude.{◌≡◌, ◌≤◌, ◌<◌, ◌⊎◌, length, [], ◌++◌, drop, IfOk, IfSome};
+ghost use Rattle.std.specs.Prelude.{◌≡◌, ◌≤◌, ◌<◌, ◌⊎◌, length, [], ◌++◌, drop, option_map, IfOk, IfSome};
 ghost use Rattle.tagged_model.specs.Table.{look_up, verdict, removal, next_of};
-ghost use Rattle.bpf_maps.specs.declared.part.TheConstants.{KEY_ROOM};
 ghost use Rattle.bpf_maps.specs.Places.{PlaceTable, table_of, IsSound, Claims, Removes, GivesKey, after_run};
+ghost use Rattle.bpf_maps.specs.Given.{given_bytes};
+ghost use Rattle.bpf_maps.specs.declared.part.TheConstants.{KEY_ROOM};
 
+use crate::given_key::GivenKey;
 use crate::part::KEY_ROOM;
 use tagged_model::MapFault;
 
@@ -55,6 +57,15 @@ pub trait ValueMap {
         ensures shape { (places self.new).shape ≡ (places self.old).shape }
         ensures sound { IsSound (places self.new) };
 
+    /// The key that follows a key, if one does. An empty or unknown key is followed by the first.
+    fn key_after(&self, key: &[u8]) -> Option<GivenKey<'_>>
+        requires size { (key.now ≡ []) ⊎ (length key.now ≡ (places self.now).shape.key_size) }
+        ensures given { option_map given_bytes result
+            ≡ next_of (table_of (places self.now)) key.now }
+        ensures size { IfSome result (λ given.
+            length (given_bytes given) ≡ (places self.now).shape.key_size) }
+        ensures short { IfSome result (λ given. length (given_bytes given) ≤ KEY_ROOM) };
+
     /// Writes the key that follows a key at the front of `next`. An empty or unknown key is followed by the first.
     ///
     /// # Errors
@@ -63,7 +74,14 @@ pub trait ValueMap {
     fn next_key(&self, key: &[u8], next: &mut [u8; KEY_ROOM]) -> Result<(), MapFault>
         requires size { (key.now ≡ []) ⊎ (length key.now ≡ (places self.now).shape.key_size) }
         ensures given { GivesKey (next_of (table_of (places self.now)) key.now) next.old result
-            next.new };
+            next.new }
+    {
+        let Some(following) = self.key_after(key) else {
+            return Err(MapFault::NoEntry);
+        };
+        put_key(following.bytes(), next);
+        Ok(())
+    }
 
     /// Ends a run: the places that were kept apart are free again. It takes no memory.
     fn end_run(&mut self)
@@ -72,7 +90,7 @@ pub trait ValueMap {
 }
 
 /// Writes a key at the front of `next`. What is behind it stays.
-pub(crate) fn put_key(key: &[u8], next: &mut [u8; KEY_ROOM])
+fn put_key(key: &[u8], next: &mut [u8; KEY_ROOM])
     requires { length key.now ≤ KEY_ROOM }
     ensures { next.new ≡ key.now ++ drop (length key.now) next.old }
 {

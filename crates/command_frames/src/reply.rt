@@ -1,6 +1,7 @@
 //! Replies.
 
-ghost use Rattle.std.specs.Prelude.{◌≡◌, ◌+◌, ◌≤◌, ◌++◌, ◌<◌, [], length, IfOk};
+ghost use Rattle.std.specs.Prelude.{◌≡◌, ◌+◌, ◌≤◌, ◌++◌, ◌<◌, [], length, pos, vec_capacity, IfOk};
+ghost use Rattle.byteorder.specs.Endian.{little_bytes};
 ghost use Rattle.command_frames.specs.Frame.{front_bytes, longest_payload, longest_reply, reply_bytes};
 
 use crate::command::Head;
@@ -13,11 +14,14 @@ const REPLY_HEAD: usize = 8;
 /// The bytes before the payload.
 const FRONT_LENGTH: usize = 4 + REPLY_HEAD;
 
+/// The length that a reply with a number has.
+const NUMBER_LENGTH: u32 = REPLY_HEAD as u32 + 4;
+
 /// The bytes of the longest payload of a reply.
 pub const LONGEST_PAYLOAD: usize = 4096;
 
 /// The bytes of the longest reply.
-const LONGEST_REPLY: usize = FRONT_LENGTH + LONGEST_PAYLOAD;
+pub const LONGEST_REPLY: usize = FRONT_LENGTH + LONGEST_PAYLOAD;
 
 /// Room for one reply. In contracts it is the list of the reply's bytes.
 #[derive(Drop)]
@@ -26,14 +30,15 @@ pub struct ReplyBuf {
 }
 
 impl Model for ReplyBuf {
-    ghost use Rattle.std.specs.Prelude.{List, ℕ, ◌≤◌, vec_capacity};
+    ghost use Rattle.std.specs.Prelude.{List, ℕ, ◌≤◌, length, vec_capacity};
     ghost use Rattle.command_frames.specs.Frame.{longest_reply};
 
     ghost Value = { List ℕ };
 
     ghost view = { λ r. r.bytes.items };
 
-    ghost invariant = { λ r. longest_reply ≤ vec_capacity r.bytes };
+    ghost invariant = { λ r. (longest_reply ≤ vec_capacity r.bytes)
+        × (length r.bytes.items ≤ longest_reply) };
 }
 
 impl ReplyBuf {
@@ -46,9 +51,30 @@ impl ReplyBuf {
         })
     }
 
-    /// The reply that was written last: its length, tenant, command, status and payload.
+    /// Takes the room of a vector, which has room for the longest reply, 4,108 bytes. What is in it is forgotten.
+    pub fn from_vec(bytes: Vec<u8>) -> ReplyBuf
+        requires { longest_reply ≤ vec_capacity bytes }
+        ensures { result ≡ [] }
+    {
+        let mut bytes = bytes;
+        bytes.clear();
+        ReplyBuf { bytes }
+    }
+
+    /// The vector that the reply stands in, with its room.
+    pub fn into_vec(self) -> Vec<u8>
+        ensures bytes { result.items ≡ self }
+        ensures bound { length result.items ≤ longest_reply }
+        ensures room { longest_reply ≤ vec_capacity result }
+    {
+        let ReplyBuf { bytes } = self;
+        bytes
+    }
+
+    /// The reply that was written last: its length, tenant, command, status and payload, at most 4,108 bytes.
     pub fn bytes(&self) -> &[u8]
-        ensures { result.now ≡ self.now }
+        ensures bytes { result.now ≡ self.now }
+        ensures bound { length result.now ≤ longest_reply }
     {
         &self.bytes
     }
@@ -89,4 +115,14 @@ pub fn write_reply(head: Head, status: i32, payload: &[u8], reply: &mut ReplyBuf
     reply.clear();
     reply.append(&front(head, status, length));
     reply.append(payload);
+}
+
+/// Leaves the bytes of a reply whose payload is a number of four bytes, the lowest first, in the room for it. Its status is 0.
+pub fn write_number(head: Head, number: u32, reply: &mut ReplyBuf)
+    ensures { reply.new ≡ reply_bytes head.tenant head.command (pos 0) (little_bytes 4 number) }
+{
+    let [a, b, c, d, e, f, g, h, i, j, k, l] = front(head, 0, NUMBER_LENGTH);
+    let [m, n, o, p] = number.to_le_bytes();
+    reply.clear();
+    reply.append(&[a, b, c, d, e, f, g, h, i, j, k, l, m, n, o, p]);
 }

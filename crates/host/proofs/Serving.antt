@@ -15,8 +15,9 @@ use Rattle.tenant.specs.Alone.{frames_of, replies_of, MayReply, IsFault, AloneWi
 use Rattle.host.specs.declared.server.ServeFaultKind.{ServeFaultKind}
 use Rattle.host.specs.declared.server.ServeFaultKind.TheVariants.{Read, Write, Truncated, TooManyFrames, Memory}
 use Rattle.host.specs.Laws.{UnrefusedAreToldAlone}
-use Rattle.host.specs.Served.{EachIsToldByItsMachine, StreamState, NoCallFailed, Serves, ServesAlone, AnswersFrames, CutsLastReply, joined_replies, ServesToEnd, StopsWithFault, StopsAlone}
-use Rattle.host.specs.inside.Frame.{Handles, ServesOneFrame, ReadsOnly, ServesFrameOrEnds, StopsInFrame}
+use Rattle.host.specs.Served.{EachIsToldByItsMachine, NoneFaults, StreamState, NoCallFailed, Serves, ServesAlone, AnswersFrames, CutsLastReply, joined_replies, ServesToEnd, StopsWithFault, StopsAlone}
+use Rattle.host.specs.Handled.{Handles, HandlesInOrder, CallsAreToldAlone}
+use Rattle.host.specs.inside.Frame.{ServesOneFrame, ReadsOnly, ServesFrameOrEnds, StopsInFrame}
 
 alone_more : (a b c : Option TenantState) (frames others replies more : List (List ℕ)) → AloneWithRefusals a frames replies b → AloneWithRefusals b others more c → AloneWithRefusals a (frames ++ others) (replies ++ more) c
 alone_more a b c [] others [] more h k = subst (λ (x : Option TenantState). AloneWithRefusals x others more c) h k
@@ -59,6 +60,29 @@ served_more before mid after frames replies frame reply len served h t =
     let fs : frames_of t (frames ++ frame ∷ []) ≡ frames_of t frames ++ frames_of t (frame ∷ []) = filter-append (λ f. owner f == t) frames (frame ∷ []) in
     let rs = replies_of-push t frames replies frame reply len in
     rw (fs, rs) more
+
+-- ---- calls of `handle`, one after another
+
+ahead : (same : Bool) (frame reply : List ℕ) (frames replies : List (List ℕ)) (before mid after : Option TenantState) → (same ≡ true → MayReply frame reply before mid) → (same ≡ false → mid ≡ before)
+    → AloneWithRefusals mid frames replies after → AloneWithRefusals before (if same then frame ∷ frames else frames) (if same then reply ∷ replies else replies) after
+ahead true frame reply frames replies before mid after own other rest = (mid, own refl, rest)
+ahead false frame reply frames replies before mid after own other rest = subst (λ (x : Option TenantState). AloneWithRefusals x frames replies after) (other refl) rest
+
+calls_told : (before after : List TenantState) (frames replies : List (List ℕ)) → HandlesInOrder before frames replies after → EachIsToldByItsMachine before frames replies after × NoneFaults replies
+calls_told before after [] [] same = ((λ t. ap (λ (s : List TenantState). slice_get s t) same), tt)
+calls_told before after (frame ∷ frames) (reply ∷ replies) (mid, h, rest) =
+    let (told, sound) = calls_told mid after frames replies rest in (
+      (λ t. ahead (owner frame == t) frame reply (frames_of t frames) (replies_of t frames replies) (slice_get before t) (slice_get mid t) (slice_get after t)
+          (λ e. subst (λ (n : ℕ). MayReply frame reply (slice_get before n) (slice_get mid n)) (eqb-true (owner frame) t e) h.own)
+          (λ e. h.others t (λ k. eqb-false (owner frame) t e (sym k))) (told t)),
+      (h.no_fault, sound),
+    )
+calls_told before after [] (reply ∷ replies) h = absurd h
+calls_told before after (frame ∷ frames) [] h = absurd h
+
+pub calls_are_told_alone : UnrefusedAreToldAlone → CallsAreToldAlone
+calls_are_told_alone alone before after frames replies h =
+    let (told, sound) = calls_told before after frames replies h in (told, alone before after frames replies told, sound)
 
 -- ---- the bytes
 
@@ -127,8 +151,8 @@ answered_rest old mid new count rest (frames, replies, len, s) h = (
 -- the room held as much of the frame as its answer depends on
 pub turns : (old new : StreamState) (frame front reply out : List ℕ) → IsFrame frame → Consumes old.input new.input (framed frame) → IsKeptFrontOf front frame
     → Appends old.output new.output out → MayReply front reply (slice_get old.states (owner front)) (slice_get new.states (owner front))
-    → ((other : ℕ) → other ≢ owner front → slice_get new.states other ≡ slice_get old.states other) → ¬ IsFault reply → ServesOneFrame old new frame reply out
-turns old new frame front reply out is_frame read stands written own others no_fault =
+    → ((other : ℕ) → other ≢ owner front → slice_get new.states other ≡ slice_get old.states other) → length new.states ≡ length old.states → ¬ IsFault reply → ServesOneFrame old new frame reply out
+turns old new frame front reply out is_frame read stands written own others count no_fault =
     let same = stands_owner front frame stands in
     record {
       is_frame = is_frame;
@@ -137,6 +161,7 @@ turns old new frame front reply out is_frame read stands written own others no_f
       handled = record {
         own = subst (λ (n : ℕ). MayReply frame reply (slice_get old.states n) (slice_get new.states n)) same (stands_tells front frame reply _ _ stands own);
         others = λ other ne. others other (λ e. ne (e ∙ same));
+        count = count;
         no_fault = no_fault;
       };
     }

@@ -1,5 +1,5 @@
 -- The states of all tenants, of which one moves.
-use Rattle.std.proofs.Common.{◌≡◌, ◌≢◌, ℕ, zero, suc, ◌+◌, ◌<◌, List, [], ◌∷◌, ◌++◌, length, Option, Some, None, refl, sym, ap, subst, ◌∙◌, arith, get_or, set, length-set}
+use Rattle.std.proofs.Common.{◌≡◌, ◌≢◌, ℕ, zero, suc, ◌+◌, ◌<◌, ◌≤◌, Bool, true, false, List, [], ◌∷◌, ◌++◌, length, Option, Some, None, refl, sym, ap, subst, ◌∙◌, arith, get_or, set, length-set}
 use Rattle.std.proofs.lemmas.Option.{slice_get_read}
 use Rattle.std.specs.Prelude.{slice_get, option_map, replicate, nat_lt, if◌then◌else◌}
 use Rattle.arena.specs.Memory.{Memory, part_bytes}
@@ -9,7 +9,9 @@ use Rattle.tenant.specs.Alone.{MayReply}
 use Rattle.tenant.specs.Errno.{status_of}
 use Rattle.tenant.specs.State.{TenantState, new_tenant}
 use Rattle.tenant.specs.declared.errno.Errno.TheVariants.{NotPermitted, Invalid}
+use Rattle.host.specs.Served.{IsUnrefused}
 use Rattle.host.specs.States.{states_from, states_in}
+use Rattle.host.proofs.Heads.{no_state}
 
 pub slice_get-set_same : {X : Type 0} (xs : List X) (i : ℕ) (x : X) → i < length xs → slice_get (set xs i x) i ≡ Some x
 slice_get-set_same [] i x lt = absurd (omega arith)
@@ -90,6 +92,24 @@ tells_own m n ks states i o k l frame reply is own lt found told =
 pub tells_none : (states : List TenantState) (i : ℕ) (frame reply : List ℕ) → slice_get states i ≡ None
     → reply ≡ reply_to frame (status_of (if nat_lt (length frame) 4 then Invalid else NotPermitted)) [] → MayReply frame reply (slice_get states i) (slice_get states i)
 tells_none states i frame reply none told = subst (λ (x : Option TenantState). MayReply frame reply x x) (sym none) ([], (refl, told))
+
+-- ---- the flag
+
+-- what is told of the flag of a tenant that is served is told of its state
+pub told_unrefused : (m : Memory) (ks : List KeptTenant) (states : List TenantState) (i : ℕ) (k : KeptTenant) (flag : Bool) → states_in m ks ≡ states → slice_get ks i ≡ Some k
+    → ((part : List ℕ) → flag ≡ (state_in part k).refused) → flag ≡ false → IsUnrefused (slice_get states i)
+told_unrefused m ks states i k flag is found told clear =
+    subst IsUnrefused (sym (own_before m ks i k found) ∙ ap (λ (s : List TenantState). slice_get s i) is) (sym (told (part_bytes m i)) ∙ clear)
+
+pub told_refused : (m : Memory) (ks : List KeptTenant) (states : List TenantState) (i : ℕ) (k : KeptTenant) (flag : Bool) → states_in m ks ≡ states → slice_get ks i ≡ Some k
+    → ((part : List ℕ) → flag ≡ (state_in part k).refused) → flag ≡ true → ¬ IsUnrefused (slice_get states i)
+told_refused m ks states i k flag is found told set unrefused =
+    let here : (state_in (part_bytes m i) k).refused ≡ false = subst IsUnrefused (ap (λ (s : List TenantState). slice_get s i) (sym is) ∙ own_before m ks i k found) unrefused in
+    let wrong : true ≡ false = sym set ∙ told (part_bytes m i) ∙ here in cc wrong
+
+-- one that is not served has no state, and so no flag
+pub none_unrefused : (states : List TenantState) (i : ℕ) → length states ≤ i → IsUnrefused (slice_get states i)
+none_unrefused states i few = subst IsUnrefused (sym (no_state states i few)) tt
 
 -- ---- new tenants
 

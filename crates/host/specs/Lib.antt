@@ -1,6 +1,7 @@
 pub mod Stream
 pub mod States
 pub mod Served
+pub mod Handled
 pub mod Laws
 pub mod program
 pub mod inside

@@ -1,11 +1,12 @@
 //! The host of all tenants.
 
-ghost use Rattle.std.specs.Prelude.{◌≡◌, ◌≢◌, ℕ, ◌<◌, ◌≤◌, [], length, replicate, slice_get, IfOk, IfSome, None};
+ghost use Rattle.std.specs.Prelude.{◌≡◌, ◌≢◌, ℕ, ◌<◌, ◌≤◌, [], length, replicate, slice_get, IfOk, IfSome, None, true, false};
 ghost use Rattle.arena.specs.Memory.{Memory};
 ghost use Rattle.command_frames.specs.Frame.{head_length, owner, reply_to};
 ghost use Rattle.tenant.specs.Alone.{unserved_errno, MayReply, IsFault};
 ghost use Rattle.tenant.specs.Errno.{status_of};
 ghost use Rattle.tenant.specs.State.{new_tenant};
+ghost use Rattle.host.specs.Served.{IsUnrefused};
 ghost use Rattle.host.specs.States.{states_from};
 ghost use Rattle.host.specs.declared.host.TheConstants.{MOST_TENANTS};
 
@@ -99,6 +100,18 @@ impl Host {
         let served = self.tenants.len();
         let tenant = usize::from(head(frame)?.tenant);
         if tenant < served { Some(tenant) } else { None }
+    }
+
+    /// Whether memory was ever refused to a tenant, whose replies may then differ from those that it would be given
+    /// alone. A number that is not served takes no memory.
+    pub fn memory_was_refused(&self, tenant: usize) -> bool
+        ensures refused { result ≡ true → ¬ IsUnrefused (slice_get self.now tenant) }
+        ensures unrefused { result ≡ false → IsUnrefused (slice_get self.now tenant) }
+    {
+        match self.tenants.get(tenant) {
+            Some(tenant) => tenant.memory_was_refused(),
+            None => false,
+        }
     }
 
     /// Handles a frame, which is what follows the length field; every length is allowed. The reply is left in the room

@@ -1,5 +1,6 @@
 //! Laws of streams. Each is the contract of a function that does nothing.
 
+ghost use Rattle.host.specs.Handled.{CallsAreToldAlone};
 ghost use Rattle.host.specs.Laws.{UnrefusedAreToldAlone, SameFramesSameReplies};
 
 use tenant::{clear_flag_means_alone, one_alone};
@@ -9,6 +10,13 @@ pub fn unrefused_are_told_alone()
     ensures { UnrefusedAreToldAlone }
 {
     clear_flag_means_alone();
+}
+
+/// Calls of `Host::handle` one after another tell each tenant what its machine tells it.
+pub fn calls_are_told_alone()
+    ensures { CallsAreToldAlone }
+{
+    unrefused_are_told_alone();
 }
 
 /// Two streams that agree on a tenant's frames give it the same replies.

@@ -10,9 +10,9 @@ mod server;
 mod stream;
 mod writing;
 
-pub use command_frames::ReplyBuf;
+pub use command_frames::{LONGEST_REPLY, ReplyBuf};
 pub use host::{Host, MOST_TENANTS};
-pub use laws::{same_frames_same_replies, unrefused_are_told_alone};
+pub use laws::{calls_are_told_alone, same_frames_same_replies, unrefused_are_told_alone};
 pub use program::arguments::{refuse_unread_words, run_words};
 pub use program::shapes::{BadShape, read_shape};
 pub use server::{MOST_FRAMES, ServeFault, ServeFaultKind, serve};

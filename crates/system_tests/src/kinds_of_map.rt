@@ -2,7 +2,7 @@
 
 ghost use Rattle.std.specs.Prelude.{◌≡◌, ◌⊎◌, [], length, IfOk};
 
-use bpf_maps::{ANY, ArrayMap, EXIST, HashMapIx, KEY_ROOM, MapFault, NOEXIST, ValueMap};
+use bpf_maps::{ANY, ArrayMap, EXIST, GivenKey, HashMapIx, MapFault, NOEXIST, ValueMap};
 use std::alloc::Global;
 use std::test::Fail;
 use tagged_model::{MapKind, MapShape, ShapeFault};
@@ -36,6 +36,12 @@ fn key(number: u8) -> [u8; 4] {
     [number, 0, 0, 0]
 }
 
+/// The first byte of a key that is given.
+fn first_byte(given: Option<GivenKey<'_>>) -> Option<u8> {
+    let given = given?;
+    given.bytes().first().copied()
+}
+
 impl<M: ValueMap + Drop> Small<M> {
     fn find(&self, number: u8) -> Option<u32> {
         self.map.find(&key(number))
@@ -61,17 +67,13 @@ impl<M: ValueMap + Drop> Small<M> {
     }
 
     /// The first byte of the first key.
-    fn first(&self) -> Result<u8, MapFault> {
-        let mut room = [0; KEY_ROOM];
-        self.map.next_key(&[], &mut room)?;
-        Ok(room[0])
+    fn first(&self) -> Option<u8> {
+        first_byte(self.map.key_after(&[]))
     }
 
     /// The first byte of the key that follows a key.
-    fn next(&self, number: u8) -> Result<u8, MapFault> {
-        let mut room = [0; KEY_ROOM];
-        self.map.next_key(&key(number), &mut room)?;
-        Ok(room[0])
+    fn next(&self, number: u8) -> Option<u8> {
+        first_byte(self.map.key_after(&key(number)))
     }
 
     /// The first bytes of the first keys, in their order.
@@ -79,7 +81,7 @@ impl<M: ValueMap + Drop> Small<M> {
         let mut keys = [0; 4];
         let mut answer = self.first();
         for place in &mut keys {
-            let Ok(number) = answer else {
+            let Some(number) = answer else {
                 break;
             };
             *place = number;
@@ -115,12 +117,12 @@ fn updates_of_a_full_map(rt: HostRuntime) -> Result<(), Fail> {
 #[test]
 fn keys_follow_in_the_order_in_which_they_came(rt: HostRuntime) -> Result<(), Fail> {
     let mut map = hash_map(rt.alloc(), 3)?;
-    assert_eq!(rt; map.first(), Err(MapFault::NoEntry));
+    assert_eq!(rt; map.first(), None);
     assert_eq!(rt; map.update(1, ANY), Ok(()));
     assert_eq!(rt; map.update(2, ANY), Ok(()));
     assert_eq!(rt; map.update(3, ANY), Ok(()));
     assert_eq!(rt; map.keys(), [1, 2, 3, 0]);
-    assert_eq!(rt; map.next(9), Ok(1));
+    assert_eq!(rt; map.next(9), Some(1));
     Ok(())
 }
 
@@ -139,9 +141,9 @@ fn a_key_that_comes_again_is_last(rt: HostRuntime) -> Result<(), Fail> {
 #[test]
 fn an_array_has_all_its_indices(rt: HostRuntime) -> Result<(), Fail> {
     let mut map = array_map(1)?;
-    assert_eq!(rt; map.first(), Ok(0));
-    assert_eq!(rt; map.next(0), Err(MapFault::NoEntry));
-    assert_eq!(rt; map.next(7), Ok(0));
+    assert_eq!(rt; map.first(), Some(0));
+    assert_eq!(rt; map.next(0), None);
+    assert_eq!(rt; map.next(7), Some(0));
     assert_eq!(rt; map.find(0), Some(0));
     assert_eq!(rt; map.find(1), None);
     assert_eq!(rt; map.update(1, ANY), Err(MapFault::TooBig));

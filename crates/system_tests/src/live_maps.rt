@@ -4,7 +4,7 @@ ghost use Rattle.std.specs.Prelude.{◌≡◌, ◌≢◌, ◌<◌, ℕ, length, 
 ghost use Rattle.bpf_maps.specs.declared.part.TheConstants.{PART};
 ghost use Rattle.bpf_maps.specs.Live.{live_at, shape_at, holds_at};
 
-use bpf_maps::{ANY, KEY_ROOM, MapFault, MapKey, Maps, NOEXIST, PART};
+use bpf_maps::{ANY, MapFault, MapKey, Maps, NOEXIST, PART};
 use std::test::Fail;
 use tagged_model::{MapKind, MapShape, ShapeFault};
 
@@ -105,13 +105,12 @@ fn find(maps: &Maps, map: MapKey, number: u8) -> Option<u32>
 }
 
 /// The first byte of the key that follows a key.
-fn next(maps: &Maps, map: MapKey, number: u8) -> Result<u8, MapFault>
+fn next(maps: &Maps, map: MapKey, number: u8) -> Option<u8>
     requires live { IsSome (live_at maps.now map) }
     requires key_size { (shape_at maps.now map).key_size ≡ 4 }
 {
-    let mut room = [0; KEY_ROOM];
-    maps.next_key(map, &[number, 0, 0, 0], &mut room)?;
-    Ok(room[0])
+    let following = maps.key_after(map, &[number, 0, 0, 0])?;
+    following.bytes().first().copied()
 }
 
 #[test]
@@ -199,7 +198,7 @@ fn a_held_map_stays(rt: HostRuntime) -> Result<(), Fail> {
     let map = create(&mut maps, shape(MapKind::Array, 8, 3)?, part)?;
     hold_and_release(&mut maps, map, part);
     assert_eq!(rt; find(&maps, map, 2), Some(2));
-    assert_eq!(rt; next(&maps, map, 1), Ok(2));
+    assert_eq!(rt; next(&maps, map, 1), Some(2));
     Ok(())
 }
 

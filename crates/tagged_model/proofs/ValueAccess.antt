@@ -1,7 +1,7 @@
 -- Loads and stores within the values of maps.
-use Rattle.std.proofs.Common.{ℕ, zero, suc, ◌+◌, ◌*◌, ◌/◌, ◌<◌, ◌^◌, List, [], ◌∷◌, length, sym, ap, subst, arith, pos, ◌+ℤ◌, ◌≤ℤ◌}
+use Rattle.std.proofs.Common.{ℕ, zero, suc, ◌/◌, ◌<◌, ◌^◌, List, length, sym, ap, subst, arith, pos, ◌+ℤ◌, ◌≤ℤ◌}
 use Rattle.words.specs.Bytes.{number_of, low_bytes}
-use Rattle.words.specs.ByteLaws.{length-low_bytes}
+use Rattle.words.specs.ByteLaws.{length-low_bytes, number_below}
 use Rattle.reg_kinds.specs.Stack.{bytes_of}
 use Rattle.tagged_model.specs.declared.value.Tagged.TheVariants.{Scalar}
 use Rattle.tagged_model.specs.Cells.{widened, number_from}
@@ -11,13 +11,6 @@ use Rattle.tagged_model.proofs.Numbers.{widened_is}
 use Rattle.tagged_model.proofs.Objects.{object_read, object_over}
 
 -- ---- bytes and numbers
-
-below_more : (b n x : ℕ) → b < 256 → x < 256 ^ n → b + 256 * x < 256 ^ suc n
-below_more b n x h g = omega arith
-
-number_below : (bs : List ℕ) → AreBytes bs → number_of bs < 256 ^ length bs
-number_below [] h = omega arith
-number_below (b ∷ bs) h = below_more b (length bs) (number_of bs) (h 0 0 (omega arith)) (number_below bs (λ k d lt. h (suc k) d (omega arith)))
 
 low_bytes_small : (n x : ℕ) → AreBytes (low_bytes n x)
 low_bytes_small zero x k d lt = absurd (omega arith)
@@ -29,7 +22,7 @@ low_bytes_small (suc n) x (suc k) d lt = low_bytes_small n (x / 256) k d (omega 
 pub value_loaded : ValueLoadAdmits
 value_loaded witness s m number shape y size signed proper object low high =
     let h = object_read s m number shape proper object y (bytes_of size) low high in
-    let small : number_of h.0 < 256 ^ bytes_of size = subst (λ n. number_of h.0 < 256 ^ n) h.2 (number_below h.0 h.3) in
+    let small : number_of h.0 < 256 ^ bytes_of size = subst (λ n. number_of h.0 < 256 ^ n) h.2 (number_below h.0 (λ i below. h.3 i 0 below)) in
     (Scalar (widened size signed (number_of h.0)), ap (number_from size signed) h.1, widened_is witness size signed (number_of h.0) small)
 
 pub value_stored : ValueStoreAdmits

@@ -2,6 +2,7 @@
 use Rattle.std.proofs.Common.{Result, Ok, Err, ◌≡◌, ◌≢◌, ℕ, ◌≤◌, Bool, List, [], ◌∷◌, length, refl, sym, ap}
 use Rattle.std.specs.Prelude.{IfOk}
 use Rattle.std.specs.Borrow.{Bor}
+use Rattle.bpf_maps.specs.declared.given_key.GivenKey.{GivenKey}
 use Rattle.command_frames.specs.declared.command.Head.{Head}
 use Rattle.command_frames.specs.Command.{Command, prog_load, prog_test_run}
 use Rattle.tenant.specs.declared.errno.Errno.{Errno}
@@ -10,7 +11,7 @@ use Rattle.tenant.specs.declared.loading.LoadReply.{LoadReply}
 use Rattle.tenant.specs.declared.loading.LoadReply.TheVariants.{Opened, Refused, RefusedAt}
 use Rattle.tenant.specs.inside.Frames.{Writes, AnswersCommand, OpensBelow}
 use Rattle.tenant.specs.Machine.{Answer, Answers, Loads, run_of, created}
-use Rattle.tenant.specs.Replies.{lent_answer, front_answer, done_answer, opened_answer}
+use Rattle.tenant.specs.Replies.{lent_answer, given_answer, done_answer, opened_answer}
 use Rattle.tenant.specs.inside.Answers.{load_answer, run_answer}
 use Rattle.tenant.specs.State.{TenantState}
 use Rattle.tagged_model.specs.declared.shape.MapShape.{MapShape}
@@ -43,9 +44,9 @@ pub opened_after : (r : Result ℕ Errno) (s : TenantState) → s ≡ (opened_an
 opened_after (Ok fd) s = refl
 opened_after (Err errno) s = refl
 
-pub front_after : (r : Result ℕ Errno) (bytes : List ℕ) (s : TenantState) → s ≡ (front_answer r bytes s).after
-front_after (Ok n) bytes s = refl
-front_after (Err errno) bytes s = refl
+pub given_after : (r : Result GivenKey Errno) (s : TenantState) → s ≡ (given_answer r s).after
+given_after (Ok key) s = refl
+given_after (Err errno) s = refl
 
 pub load_after : (r : LoadReply) (s : TenantState) → s ≡ (load_answer r s).after
 load_after (Opened fd) s = refl

@@ -3,7 +3,9 @@ use Rattle.std.proofs.Common.{◌≡◌, ℕ, ◌≤◌, Bool, true, false, List
 use Rattle.std.specs.Prelude.{◌||◌, nat_lt, if◌then◌else◌}
 use Rattle.std.proofs.lemmas.Bool.Decides.{nat_tests}
 use Rattle.bpf_maps.specs.Live.{LiveMaps}
+use Rattle.fd_table.specs.Table.{named}
 use Rattle.flat_machine.specs.Runs.{SimulatesRun, RunKeepsMaps, KeepsValues, given_maps}
+use Rattle.insn_codec.specs.declared.insn.Insn.{Insn}
 use Rattle.tagged_model.specs.Step.{MapsByDescriptor, left_with, was_refused}
 use Rattle.tagged_model.specs.declared.value.Outcome.{Outcome}
 use Rattle.verdict.specs.Laws.{MapsAreListed}
@@ -15,7 +17,7 @@ use Rattle.tenant.specs.Machine.{outcome_answer, ran, run_of, refuses, maps_give
 use Rattle.tenant.specs.State.{Map, TenantState}
 use Rattle.tenant.specs.inside.TestRun.{HasKeys}
 use Rattle.tenant.proofs.StillKept.{with_live}
-use Rattle.tenant.proofs.TestRunKeys.{place_within}
+use Rattle.tenant.proofs.TestRunKeys.{Binds, bound_of, place_within}
 use Rattle.tenant.proofs.TestRunMaps.{given_is, left_is}
 
 or_assoc : (a b c : Bool) → (a || (b || c)) ≡ ((a || b) || c)
@@ -53,3 +55,20 @@ ran_as listed part later k new l bind words packet before steps outcome h =
       r.refusals,
       ap₂ outcome_answer r.value state,
     )
+
+-- what a test run of an open program answers, and what it leaves
+abbrev pub IsTold : (before : KeptTenant) (part : List ℕ) (fd : ℕ) (words packet : List ℕ) (outcome : Outcome) (later : List ℕ) (after : KeptTenant) → Type 0
+IsTold before part fd words packet outcome later after =
+    (refusals : List Bool) × (outcome_answer outcome (state_in later after) ≡ run_of refusals (state_in part before) words packet (named before.objects fd))
+
+module _ (listed : MapsAreListed) (part : List ℕ) (k : KeptTenant) (fd : ℕ) (l : LoadedProgram) (words packet : List ℕ) (kept : IsWellFormedTenant k) (opened : named k.objects fd ≡ Some (object.Program l)) (fits : length packet ≤ longest_packet) where
+  -- the run of the code and the context of a program that is open
+  pub told_of : (later : List ℕ) (new : LiveMaps) (bind : List ℕ) → Binds k l bind → (code : List Insn) (context : List ℕ) (before steps : ℕ) (outcome : Outcome) → code ≡ l.insns → context ≡ length packet ∷ words
+      → SimulatesRun code bind (given_maps code bind k.live part) context packet k.live before outcome new later steps → RunKeepsMaps bind k.live new → KeepsValues bind k.live part new later
+      → IsTold k part fd words packet outcome later (with_live k new)
+  told_of later new bind binds code context before steps outcome same given runs keeps values =
+      let of_context = subst (λ (ws : List ℕ). SimulatesRun code bind (given_maps code bind k.live part) ws packet k.live before outcome new later steps) given runs in
+      let of_program = subst (λ (is : List Insn). SimulatesRun is bind (given_maps is bind k.live part) (length packet ∷ words) packet k.live before outcome new later steps) same of_context in
+      let (refusals, answer) = ran_as listed part later k new l bind words packet before steps outcome
+      (record { kept = kept; bound = bound_of k fd l kept opened; count = binds.count; keys = binds.keys; runs = of_program; maps = keeps; values = values }) in
+      (refusals, answer ∙ fits_is refusals (state_in part k) l words packet fits ∙ ap (λ o. run_of refusals (state_in part k) words packet o) (sym opened))

@@ -1,6 +1,6 @@
 -- The keys that are bound for a run.
 use Rattle.std.proofs.Common.{◌≡◌, ℕ, zero, suc, ◌-◌, ◌<◌, ◌≤◌, Bool, true, false, cond, List, [], ◌∷◌, length, take, get_or, Option, Some, None, IsSome, refl, sym, ap, subst, ◌∙◌, arith, rules, length-take}
-use Rattle.std.specs.Prelude.{◌==◌, slice_get, slice_index, IfSome, IfNone}
+use Rattle.std.specs.Prelude.{◌==◌, slice_get, slice_index}
 use Rattle.std.specs.Map.{lookup, keys_of}
 use Rattle.std.proofs.lemmas.Bool.{eq-eqb, eqb-true, true≢false}
 use Rattle.std.proofs.lemmas.List.{get_or-take}
@@ -105,10 +105,6 @@ front_keys keys maps found has room = (
   λ i lt. has i lt ∙ ap (λ (n : ℕ). Some n) (sym (get_or-take (length maps) found i 0 lt)),
 )
 
--- where there are no maps, none is bound
-pub no_keys : (keys : List (Option ℕ)) (maps : List (ℕ × ℕ)) → length maps ≡ 0 → (0 ≡ length maps) × HasKeys keys maps []
-no_keys keys maps none = (sym none, λ i lt. absurd (omega arith))
-
 -- a program that is open
 pub bound_of : (k : KeptTenant) (fd : ℕ) (l : LoadedProgram) → IsWellFormedTenant k → named k.objects fd ≡ Some (object.Program l) → IsBound k l
 bound_of k fd l is opened = is.bound (fd - first_descriptor) l (closed_at k.objects fd (object.Program l) opened).1
@@ -118,16 +114,13 @@ pub record Binds (k : KeptTenant) (l : LoadedProgram) (bind : List ℕ) : Type 0
   pub count : length bind ≡ length l.maps
   pub keys : HasKeys k.keys l.maps bind
 
-pub front_binds : (k : KeptTenant) (l : LoadedProgram) (o : Option (List ℕ)) (found : List ℕ) (asked lent : List (ℕ × ℕ)) → o ≡ Some found → IfSome o (λ f. HasKeys k.keys asked f) → IfSome o (λ f. length f ≡ MAPS)
-    → asked ≡ l.maps → lent ≡ l.maps → length l.maps ≤ MAPS → Binds k l (take (length lent) found)
-front_binds k l o found asked lent is keys long same same_lent few =
-    let has : HasKeys k.keys asked found = subst (λ (p : Option (List ℕ)). IfSome p (λ f. HasKeys k.keys asked f)) is keys in
-    let all : length found ≡ MAPS = subst (λ (p : Option (List ℕ)). IfSome p (λ f. length f ≡ MAPS)) is long in
-    let (count, front) = front_keys k.keys l.maps found (subst (λ (ms : List (ℕ × ℕ)). HasKeys k.keys ms found) same has) (omega arith) in
+pub front_binds : (k : KeptTenant) (l : LoadedProgram) (found : List ℕ) (asked lent : List (ℕ × ℕ)) → HasKeys k.keys asked found → length found ≡ MAPS → asked ≡ l.maps → lent ≡ l.maps → length l.maps ≤ MAPS → Binds k l (take (length lent) found)
+front_binds k l found asked lent keys long same same_lent few =
+    let (count, front) = front_keys k.keys l.maps found (subst (λ (ms : List (ℕ × ℕ)). HasKeys k.keys ms found) same keys) (omega arith) in
     subst (λ (ms : List (ℕ × ℕ)). Binds k l (take (length ms) found)) (sym same_lent) (record { count = count; keys = front })
 
-pub none_binds : (k : KeptTenant) (l : LoadedProgram) (o : Option (List ℕ)) (asked : List (ℕ × ℕ)) → o ≡ None → IfNone o (length asked ≡ 0) → asked ≡ l.maps → Binds k l []
-none_binds k l o asked is none same =
-    let no : length asked ≡ 0 = subst (λ (p : Option (List ℕ)). IfNone p (length asked ≡ 0)) is none in
-    let (count, front) = no_keys k.keys l.maps (subst (λ (ms : List (ℕ × ℕ)). length ms ≡ 0) same no) in
-    record { count = count; keys = front }
+-- where there are no maps, none is bound
+pub none_binds : (k : KeptTenant) (l : LoadedProgram) (asked : List (ℕ × ℕ)) → length asked ≡ 0 → asked ≡ l.maps → Binds k l []
+none_binds k l asked none same =
+    let no : length l.maps ≡ 0 = subst (λ (ms : List (ℕ × ℕ)). length ms ≡ 0) same none in
+    record { count = sym no; keys = λ i lt. absurd (omega arith) }

@@ -1,6 +1,8 @@
 -- What the code's answers stand for. This project's own.
-use Rattle.std.specs.Prelude.{ℕ, List, [], take, Result, Ok, Err}
+use Rattle.std.specs.Prelude.{ℕ, List, [], Result, Ok, Err}
 use Rattle.std.specs.Borrow.{Bor}
+use Rattle.bpf_maps.specs.declared.given_key.GivenKey.{GivenKey}
+use Rattle.bpf_maps.specs.Given.{given_bytes}
 use Rattle.tenant.specs.declared.errno.Errno.{Errno}
 use Rattle.tenant.specs.State.{TenantState}
 use Rattle.tenant.specs.Machine.{Answer, gives, opens, refuses}
@@ -10,10 +12,10 @@ abbrev pub lent_answer : Result (Bor (List ℕ)) Errno → TenantState → Answe
 lent_answer (Ok bytes) s = gives bytes.now s
 lent_answer (Err errno) s = refuses errno s
 
--- the first so many bytes of these, or a refusal
-abbrev pub front_answer : Result ℕ Errno → List ℕ → TenantState → Answer
-front_answer (Ok n) bytes s = gives (take n bytes) s
-front_answer (Err errno) bytes s = refuses errno s
+-- a key that is given, or a refusal
+abbrev pub given_answer : Result GivenKey Errno → TenantState → Answer
+given_answer (Ok key) s = gives (given_bytes key) s
+given_answer (Err errno) s = refuses errno s
 
 -- nothing but that it was done, or a refusal
 abbrev pub done_answer : Result (Unit {0}) Errno → TenantState → Answer

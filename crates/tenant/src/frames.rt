@@ -2,7 +2,8 @@
 
 ghost use Rattle.std.specs.Prelude.{◌≡◌, ◌≢◌, ◌≤◌, ◌<◌, ◌^◌, ℕ, List, [], length, Some, Ok, Result, IfOk};
 ghost use Rattle.arena.specs.Memory.{part_bytes};
-ghost use Rattle.bpf_maps.specs.declared.part.TheConstants.{KEY_ROOM, PART};
+ghost use Rattle.bpf_maps.specs.declared.part.TheConstants.{PART};
+ghost use Rattle.bpf_maps.specs.Given.{given_bytes};
 ghost use Rattle.tagged_model.specs.declared.shape.MapShape.{MapShape};
 ghost use Rattle.command_frames.specs.Command.{longest_frame, map_create, map_lookup, map_update, map_delete, map_next_key, prog_load, prog_test_run, close};
 ghost use Rattle.command_frames.specs.Frame.{head_length, longest_payload, reply_to};
@@ -11,7 +12,7 @@ ghost use Rattle.tenant.specs.Alone.{MayReply, frame_errno};
 ghost use Rattle.tenant.specs.Errno.{status_of};
 ghost use Rattle.tenant.specs.Kept.{state_in};
 ghost use Rattle.tenant.specs.Machine.{kind_of, asked_shape};
-ghost use Rattle.tenant.specs.Replies.{lent_answer, front_answer, done_answer, opened_answer};
+ghost use Rattle.tenant.specs.Replies.{lent_answer, given_answer, done_answer, opened_answer};
 ghost use Rattle.tenant.specs.inside.Answers.{load_answer, run_answer};
 ghost use Rattle.tenant.specs.State.{TenantState};
 ghost use Rattle.tenant.specs.declared.errno.Errno.TheVariants.{BadAddress};
@@ -22,8 +23,8 @@ use crate::loading::LoadReply;
 use crate::shape::asked_shape;
 use crate::tenant::{Tenant, write_refusal};
 use arena::{Arena, parts_are_apart};
-use bpf_maps::KEY_ROOM;
-use command_frames::{BadFrame, Command, GIVEN_WORDS, Head, ReplyBuf, head, parse, write_reply};
+use bpf_maps::GivenKey;
+use command_frames::{BadFrame, Command, GIVEN_WORDS, Head, ReplyBuf, head, parse, write_number, write_reply};
 use std::alloc::Global;
 use tagged_model::MapShape;
 
@@ -70,18 +71,13 @@ fn write_lent(head: Head, answer: Result<&[u8], Errno>, room: &mut ReplyBuf)
     }
 }
 
-/// The reply to a request for a key, which stands at the front of these bytes.
-fn write_front(
-    head: Head,
-    answer: Result<usize, Errno>,
-    bytes: &[u8; KEY_ROOM],
-    room: &mut ReplyBuf,
-)
-    requires { IfOk answer (λ size. size ≤ KEY_ROOM) }
-    ensures { (s : TenantState) → Writes head room.new (front_answer answer bytes.now s) }
+/// The reply to a request for a key, which is the payload.
+fn write_key(head: Head, answer: Result<GivenKey<'_>, Errno>, room: &mut ReplyBuf)
+    requires { IfOk answer (λ given. length (given_bytes given) ≤ longest_payload) }
+    ensures { (s : TenantState) → Writes head room.new (given_answer answer.entry s) }
 {
     match answer {
-        Ok(size) => write_reply(head, 0, &bytes[..size], room),
+        Ok(key) => write_reply(head, 0, key.bytes(), room),
         Err(errno) => write_refusal(head, errno, room),
     }
 }
@@ -111,7 +107,7 @@ fn write_run(head: Head, answer: Result<u32, Errno>, room: &mut ReplyBuf)
     ensures { (s : TenantState) → Writes head room.new (run_answer answer s) }
 {
     match answer {
-        Ok(value) => write_reply(head, 0, &value.to_le_bytes(), room),
+        Ok(value) => write_number(head, value, room),
         Err(errno) => write_refusal(head, errno, room),
     }
 }
@@ -186,9 +182,8 @@ impl Tenant {
             (state_in part self.now) (state_in part self.now) }
     {
         self.table_has_all_places();
-        let mut next = [0; KEY_ROOM];
-        let answer = self.next_key(fd, key, &mut next);
-        write_front(head, answer, &next, room);
+        let answer = self.next_key(fd, key);
+        write_key(head, answer, room);
     }
 
     /// PROG_LOAD.

@@ -2,9 +2,11 @@
 
 ghost use Rattle.std.specs.Prelude.{◌≡◌, ◌+◌, ◌<◌, ◌≤◌, ◌==◌, if◌then◌else◌, slice_index_or, ℕ, Bool, false, List, [], is_none, position, None, Ok, length, IfOk, IfErr, Some, IsSome};
 ghost use Rattle.words.specs.Bytes.{written_at};
-ghost use Rattle.bpf_maps.specs.declared.part.TheConstants.{KEY_ROOM, MAPS, PART};
+ghost use Rattle.bpf_maps.specs.declared.part.TheConstants.{MAPS, PART};
+ghost use Rattle.bpf_maps.specs.Given.{given_bytes};
 ghost use Rattle.bpf_maps.specs.Live.{live_at};
 ghost use Rattle.tagged_model.specs.Cells.{and_then};
+ghost use Rattle.tagged_model.specs.Shape.{longest_key};
 ghost use Rattle.fd_table.specs.Table.{most, named, lowest, with_open};
 ghost use Rattle.tenant.specs.declared.object.OpenObject.TheVariants as object;
 ghost use Rattle.tenant.specs.Errno.{status_of};
@@ -13,13 +15,13 @@ ghost use Rattle.command_frames.specs.Frame.{longest_payload, reply_bytes};
 ghost use Rattle.tenant.specs.Machine.{created, element_looked_up, element_updated, element_deleted, given_next, closed, object_target, targets};
 ghost use Rattle.tenant.specs.Kept.{key_at, times_listed, places_taken, holds_in, MapsAreAtPlaces, state_in};
 ghost use Rattle.tenant.specs.inside.Leaves.{LeavesHeldMaps};
-ghost use Rattle.tenant.specs.Replies.{lent_answer, front_answer, done_answer, opened_answer};
+ghost use Rattle.tenant.specs.Replies.{lent_answer, given_answer, done_answer, opened_answer};
 ghost use Rattle.tenant.specs.inside.Answers.{map_fault};
 
 use crate::errno::Errno;
 use crate::object::OpenObject;
 use bpf_maps::{
-    KEY_ROOM, MAPS, MapKey, Maps, areas_keep_places, calls_are_those_of_a_map,
+    GivenKey, MAPS, MapKey, Maps, areas_keep_places, calls_are_those_of_a_map,
     live_maps_refine_values, values_are_written,
 };
 use command_frames::{Head, ReplyBuf, write_reply};
@@ -326,17 +328,15 @@ impl Tenant {
         Ok(())
     }
 
-    /// MAP_GET_NEXT_KEY: the key that follows is written at the front of `next`, and its length is answered. After no key, and
-    /// after one that is not there, follows the first.
+    /// MAP_GET_NEXT_KEY: the key that follows. After no key, and after one that is not there, follows the first.
     ///
     /// # Errors
     ///
     /// `BadDescriptor` where no map is open under the descriptor, `Invalid` at a key of another size, `NoEntry` where none follows.
-    pub fn next_key(&self, fd: u32, key: &[u8], next: &mut [u8; KEY_ROOM]) -> Result<usize, Errno>
-        ensures answer { (part : List ℕ) →
-            front_answer result next.new (state_in part self.now)
+    pub fn next_key(&self, fd: u32, key: &[u8]) -> Result<GivenKey<'_>, Errno>
+        ensures answer { (part : List ℕ) → given_answer result (state_in part self.now)
             ≡ given_next (state_in part self.now) fd key.now }
-        ensures bound { IfOk result (λ size. size ≤ KEY_ROOM) }
+        ensures bound { IfOk result (λ given. length (given_bytes given) ≤ longest_key) }
     {
         calls_refine_values();
         let map = self.map_named(fd)?;
@@ -344,10 +344,9 @@ impl Tenant {
         if !key.is_empty() && key.len() != size {
             return Err(Errno::Invalid);
         }
-        self.maps.maps_are_laid();
-        match self.maps.next_key(map, key, next) {
-            Ok(()) => Ok(size),
-            Err(_) => Err(Errno::NoEntry),
+        match self.maps.key_after(map, key) {
+            Some(following) => Ok(following),
+            None => Err(Errno::NoEntry),
         }
     }
 
@@ -374,6 +373,13 @@ impl Tenant {
         };
         release(&mut self.keys, &mut self.maps, place, part);
         Ok(())
+    }
+
+    /// Whether memory was ever refused to this tenant: to a load, to a new map or to a new key.
+    pub fn memory_was_refused(&self) -> bool
+        ensures { (part : List ℕ) → result ≡ (state_in part self.now).refused }
+    {
+        self.refused || self.maps.refused()
     }
 
     /// A law: there are as many places for objects as descriptors. It does nothing when it runs.

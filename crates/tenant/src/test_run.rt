@@ -1,6 +1,6 @@
 //! Test runs of programs that are loaded.
 
-ghost use Rattle.std.specs.Prelude.{◌≡◌, ◌≢◌, ℕ, ◌<◌, ◌≤◌, Bool, List, ◌∷◌, length, Err, IfSome, IfNone};
+ghost use Rattle.std.specs.Prelude.{◌≡◌, ◌≢◌, ℕ, ◌<◌, ◌≤◌, Bool, List, ◌∷◌, length, Err};
 ghost use Rattle.arena.specs.Memory.{part_bytes};
 ghost use Rattle.bpf_maps.specs.declared.part.TheConstants.{MAPS, PART};
 ghost use Rattle.fd_table.specs.Table.{named};
@@ -32,22 +32,25 @@ fn context_words(length: u32, words: &[u32; GIVEN_WORDS]) -> [u32; CONTEXT_WORDS
     context
 }
 
-/// The keys of the maps at these places stand first, in their order; where there is no place, there are none.
-fn keys_at(keys: &[Option<MapKey>; MAPS], maps: &[(u32, u8)]) -> Option<[MapKey; MAPS]>
-    requires there { AreThere keys.now maps.now }
+/// The keys of the maps at these places, of which there are some, stand first, in their order.
+fn keys_at(keys: &[Option<MapKey>; MAPS], maps: &[(u32, u8)]) -> [MapKey; MAPS]
+    requires some { 0 < length maps.now }
     requires few { length maps.now ≤ MAPS }
-    ensures keys { IfSome result (λ found. HasKeys keys.now maps.now found) }
-    ensures long { IfSome result (λ found. length found ≡ MAPS) }
-    ensures none { IfNone result (length maps.now ≡ 0) }
+    requires there { AreThere keys.now maps.now }
+    ensures keys { HasKeys keys.now maps.now result }
+    ensures long { length result ≡ MAPS }
 {
-    let mut found = [keys[usize::from(maps.first()?.1)]?; MAPS];
+    let Some(first) = keys[usize::from(maps[0].1)] else {
+        unreachable!();
+    };
+    let mut found = [first; MAPS];
     for (i, map) in maps.iter().enumerate() {
         let Some(key) = keys[usize::from(map.1)] else {
             unreachable!();
         };
         found[i] = key;
     }
-    Some(found)
+    found
 }
 
 impl Tenant {
@@ -89,22 +92,32 @@ impl Tenant {
             return Err(Errno::TooBig);
         }
         let context = context_words(packet.len() as u32, words);
-        let keys = keys_at(&self.keys, program.maps());
-        let bind = match &keys {
-            Some(keys) => &keys[..program.maps().len()],
-            None => &[],
-        };
         let mut trace = Trace::new();
-        match run(
-            program.program(),
-            bind,
-            tenant,
-            arena,
-            &mut self.maps,
-            &context,
-            packet,
-            &mut trace,
-        ) {
+        let outcome = if program.maps().is_empty() {
+            run(
+                program.program(),
+                &[],
+                tenant,
+                arena,
+                &mut self.maps,
+                &context,
+                packet,
+                &mut trace,
+            )
+        } else {
+            let keys = keys_at(&self.keys, program.maps());
+            run(
+                program.program(),
+                &keys[..program.maps().len()],
+                tenant,
+                arena,
+                &mut self.maps,
+                &context,
+                packet,
+                &mut trace,
+            )
+        };
+        match outcome {
             Outcome::Value(value) => Ok(value),
             Outcome::Fault => Err(Errno::BadAddress),
         }

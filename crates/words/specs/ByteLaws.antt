@@ -1,7 +1,7 @@
 -- What holds of bytes that are written into a list and read from it, and of the bytes of a number: laws of the definitions
 -- of `Bytes`, proved here for the proofs of the crates above. This project's own. No contract cites them, so there is nothing
 -- in them to believe.
-use Rattle.std.proofs.Common.{◌≡◌, ◌⊎◌, inl, inr, ℕ, zero, suc, ◌+◌, ◌-◌, ◌*◌, ◌/◌, ◌%◌, ◌<◌, ◌≤◌, ◌^◌, List, ◌++◌, length, get_or, take, drop, slice_range, refl, sym, ap, ◌∙◌, ⊎_elim, arith}
+use Rattle.std.proofs.Common.{◌≡◌, ◌⊎◌, inl, inr, ℕ, zero, suc, ◌+◌, ◌-◌, ◌*◌, ◌/◌, ◌%◌, ◌<◌, ◌≤◌, ◌^◌, List, [], ◌∷◌, ◌++◌, length, get_or, take, drop, slice_range, refl, sym, ap, ◌∙◌, ⊎_elim, arith}
 use Rattle.std.proofs.Math.Nat.{pow-suc}
 use Rattle.std.proofs.Math.Seq.{take-take, drop-append-add, take-append_seam, drop-append_seam}
 use Rattle.std.proofs.lemmas.Bool.{cases_lt}
@@ -187,3 +187,24 @@ number_of-low_bytes (suc n) x h =
     let g = rw pow-suc at h in
     let small : x / 256 < 256 ^ n = omega arith in
     ap (λ (y : ℕ). x % 256 + 256 * y) (number_of-low_bytes n (x / 256) small) ∙ omega arith
+
+-- the number that n bytes make has n bytes
+pub number_below : (bytes : List ℕ) → ((i : ℕ) → i < length bytes → get_or bytes i 0 < 256) → number_of bytes < 256 ^ length bytes
+number_below [] small = omega arith
+number_below (b ∷ bytes) small =
+    below_more b (length bytes) (number_of bytes) (small 0 (omega arith)) (number_below bytes (λ i below. small (suc i) (omega arith)))
+  where
+    below_more : (b n x : ℕ) → b < 256 → x < 256 ^ n → b + 256 * x < 256 ^ suc n
+    below_more b n x h g = omega arith
+
+-- bytes that make a number are its low bytes
+pub low_bytes_of_number : (bytes : List ℕ) → ((i : ℕ) → i < length bytes → get_or bytes i 0 < 256) → low_bytes (length bytes) (number_of bytes) ≡ bytes
+low_bytes_of_number [] small = refl
+low_bytes_of_number (b ∷ bytes) small =
+    let first : b < 256 = small 0 (omega arith) in
+    let rest : low_bytes (length bytes) (number_of bytes) ≡ bytes = low_bytes_of_number bytes (λ i below. small (suc i) (omega arith)) in
+    let low : (b + 256 * number_of bytes) % 256 ≡ b = omega arith in
+    let high : (b + 256 * number_of bytes) / 256 ≡ number_of bytes = omega arith in
+    ap (λ (x : ℕ). x ∷ low_bytes (length bytes) ((b + 256 * number_of bytes) / 256)) low
+    ∙ ap (λ (n : ℕ). b ∷ low_bytes (length bytes) n) high
+    ∙ ap (λ (xs : List ℕ). b ∷ xs) rest

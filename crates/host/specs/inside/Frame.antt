@@ -1,18 +1,11 @@
 -- How one frame is served: read, handled, answered. This project's own.
-use Rattle.std.specs.Prelude.{◌≡◌, ◌≢◌, Bool, true, false, ℕ, ◌<◌, List, [], length, take, slice_get}
+use Rattle.std.specs.Prelude.{◌≡◌, Bool, true, false, ℕ, ◌<◌, List, [], length, take}
 use Rattle.std.specs.Io.KnownBytes.{Consumes, Appends, IsAtEnd}
 use Rattle.host.specs.declared.server.ServeFaultKind.{ServeFaultKind}
 use Rattle.host.specs.declared.server.ServeFaultKind.TheVariants.{Read, Write, Truncated, TooManyFrames, Memory}
-use Rattle.command_frames.specs.Frame.{framed, IsFrame, IsPartial, owner}
-use Rattle.tenant.specs.State.{TenantState}
-use Rattle.tenant.specs.Alone.{MayReply, IsFault}
+use Rattle.command_frames.specs.Frame.{framed, IsFrame, IsPartial}
 use Rattle.host.specs.Served.{StreamState, NoCallFailed}
-
--- the states before and after one frame, with its reply
-pub record Handles (before : List TenantState) (frame reply : List ℕ) (after : List TenantState) : Type 0 where
-  pub own : MayReply frame reply (slice_get before (owner frame)) (slice_get after (owner frame))
-  pub others : (other : ℕ) → other ≢ owner frame → slice_get after other ≡ slice_get before other
-  pub no_fault : ¬ IsFault reply
+use Rattle.host.specs.Handled.{Handles}
 
 -- a frame was read, answered, and its reply written as far as `out`
 pub record ServesOneFrame (old new : StreamState) (frame reply out : List ℕ) : Type 0 where

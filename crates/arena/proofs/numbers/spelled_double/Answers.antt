@@ -1,7 +1,6 @@
 use Rattle.std.proofs.Common.{◌≡◌, ℕ, ◌<◌, ◌+◌, length, get_or, ap, sym, subst, ◌∙◌, arith}
 use Rattle.words.specs.Bytes.{number_of, low_bytes, bytes_at}
-use Rattle.words.specs.ByteLaws.{byte_of, length-bytes_at}
-use Rattle.arena.proofs.Spelled.{low_bytes_of_number}
+use Rattle.words.specs.ByteLaws.{byte_of, length-bytes_at, low_bytes_of_number}
 use Rattle.arena.proofs.numbers.spelled_double.Goals as goal
 
 pub returns : goal.returns

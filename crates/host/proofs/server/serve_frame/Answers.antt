@@ -13,7 +13,7 @@ returns-clause-done g c =
     let back : c.deref.result.now ≡ c.read_frame.new.buffer = c.deref.ensures.value ∙ refilled c.args.rooms.now.frame.len c.read_frame.new.buffer c.args.rooms.now.frame.items (omega (arith, c.read_frame.auto.buffer, c.deref_mut.ensures.len, c.args.rooms.now.frame.ok.0, c.args.rooms.now.long)) in
     let held : IsKeptFrontOf front frame = subst (λ (b : List ℕ). IsKeptFrontOf (take c.in-Some.kept b) frame) (sym back) stands in
     let reply = c.handle.new.reply in
-    ((frame, reply, turns _ _ frame front reply reply is_frame read held (subst (Appends _ _) c.bytes.ensures c.in_ok-write_whole.ensures.whole) c.handle.ensures.own c.handle.ensures.others c.handle.ensures.no_fault), (c.in_ok-kept.ensures.sound, c.in_ok-write_whole.ensures.sound))
+    ((frame, reply, turns _ _ frame front reply reply is_frame read held (subst (Appends _ _) c.bytes.ensures.bytes c.in_ok-write_whole.ensures.whole) c.handle.ensures.own c.handle.ensures.others c.handle.ensures.count c.handle.ensures.no_fault), (c.in_ok-kept.ensures.sound, c.in_ok-write_whole.ensures.sound))
 
 pub returns-in_err-write_whole-clause-fault : goal.returns-in_err-write_whole-clause-fault
 returns-in_err-write_whole-clause-fault g c =
@@ -24,5 +24,5 @@ returns-in_err-write_whole-clause-fault g c =
     let held : IsKeptFrontOf front frame = subst (λ (b : List ℕ). IsKeptFrontOf (take c.in-Some.kept b) frame) (sym back) stands in
     let reply = c.handle.new.reply in
     let (n, few, out) = c.in_err-write_whole.ensures.part in
-    let out_of_reply : Appends (g.W.Sink.contents c.args.writer.now) (g.W.Sink.contents c.write_whole.new.writer) (take n reply) = subst (λ (b : List ℕ). Appends (g.W.Sink.contents c.args.writer.now) (g.W.Sink.contents c.write_whole.new.writer) (take n b)) c.bytes.ensures out in
-    rw (p.1, p.2, c.in_err-write_whole.ensures.kind) ((frame, reply, n, turns _ _ frame front reply (take n reply) is_frame read held out_of_reply c.handle.ensures.own c.handle.ensures.others c.handle.ensures.no_fault), c.in_err-write_whole.ensures.failed)
+    let out_of_reply : Appends (g.W.Sink.contents c.args.writer.now) (g.W.Sink.contents c.write_whole.new.writer) (take n reply) = subst (λ (b : List ℕ). Appends (g.W.Sink.contents c.args.writer.now) (g.W.Sink.contents c.write_whole.new.writer) (take n b)) c.bytes.ensures.bytes out in
+    rw (p.1, p.2, c.in_err-write_whole.ensures.kind) ((frame, reply, n, turns _ _ frame front reply (take n reply) is_frame read held out_of_reply c.handle.ensures.own c.handle.ensures.others c.handle.ensures.count c.handle.ensures.no_fault), c.in_err-write_whole.ensures.failed)

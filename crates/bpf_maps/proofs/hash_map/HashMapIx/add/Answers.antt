@@ -1,10 +1,10 @@
 use Rattle.std.proofs.Common.{◌≡◌, ℕ, ◌∙◌, sym, ap, subst, refl, Some, [], ◌∷◌, ◌++◌, List, length, slice_get, ◌-◌}
-use Rattle.tagged_model.specs.Table.{look_up, with_key}
-use Rattle.bpf_maps.specs.Places.{PlaceTable, table_of}
-use Rattle.bpf_maps.specs.Index.{bare, shown, IsWellFormedHash}
+use Rattle.tagged_model.specs.Table.{with_key}
+use Rattle.bpf_maps.specs.Places.{PlaceTable}
+use Rattle.bpf_maps.specs.Index.{entries_of, TakesKeys, shown, IsWellFormedHash}
 use Rattle.bpf_maps.specs.declared.hash_map.HashMapIx.TheInside.{Inside}
-use Rattle.bpf_maps.proofs.Bare.{last_is, on_ok, index_with}
-use Rattle.bpf_maps.proofs.Kept.{sound, kept_by_add, not_full, is_free}
+use Rattle.bpf_maps.proofs.Shown.{on_ok}
+use Rattle.bpf_maps.proofs.Kept.{last_is, sound, kept_by_add, not_full, is_free}
 use Rattle.bpf_maps.proofs.Answered.{claims_new, same_table}
 use Rattle.bpf_maps.proofs.hash_map.HashMapIx.add.Goals as goal
 
@@ -15,20 +15,19 @@ module _ (c : goal.After-pop) where
       subst (λ (xs : List ℕ). slice_get xs (length xs - 1) ≡ Some c.in-Some.place) c.deref.ensures.value (sym c.last.ensures.value ∙ sym c.copied.ensures ∙ c.in-Some.is) in
       last_is c.self.inside.free.items c.pop.new.self.items c.pop.result c.self.inside.free.len c.in-Some.place c.self.inside.free.ok.0 shown_last c.pop.ensures.items c.pop.ensures.value
 
-  index : bare c.insert.new.self.entries ≡ with_key c.args.key.now c.in-Some.place (bare c.self.inside.index.entries)
-  index =
-      index_with c.self.inside.index c.in-Ok.own c.args.key.now c.in-Some.place c.insert.new.self.entries c.in-Ok.ensures
-      (ap (λ (t : PlaceTable). look_up (table_of t) c.args.key.now) c.self.view_is ∙ c.requires.absent)
-      (on_ok c.insert.result (sym c.is_err.ensures.value ∙ c.if-is_err.false) c.insert.ensures.entries)
+  index : entries_of c.insert.new.self ≡ with_key c.args.key.now c.in-Some.place (entries_of c.self.inside.index)
+  index = on_ok c.insert.result (sym c.is_err.ensures.value ∙ c.if-is_err.false) c.insert.ensures.added
 
   size : length c.args.key.now ≡ c.self.inside.shape.key_size
   size = c.requires.size ∙ ap (λ (t : PlaceTable). t.shape.key_size) (sym c.self.view_is)
 
   abbrev after : Inside
-  after = record { alloc = c.self.inside.alloc; shape = c.self.inside.shape; index = c.insert.new.self; kept = c.self.inside.kept; free = c.pop.new.self }
+  after = record { shape = c.self.inside.shape; index = c.insert.new.self; kept = c.self.inside.kept; free = c.pop.new.self }
 
   whole : IsWellFormedHash after
-  whole = kept_by_add c.self.inside c.self.invariant c.in-Some.place c.pop.new.self.items last after c.args.key.now size refl index refl refl c.pop.ensures.capacity
+  whole =
+      kept_by_add c.self.inside c.self.invariant c.in-Some.place c.pop.new.self.items last after c.args.key.now size refl index refl refl c.pop.ensures.capacity
+      (subst (TakesKeys c.insert.new.self) size c.insert.ensures.takes)
 
 pub invariant_of-self-2 : goal.invariant_of-self-2
 invariant_of-self-2 c = whole c

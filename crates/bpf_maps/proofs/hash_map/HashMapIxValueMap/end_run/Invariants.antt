@@ -1,5 +1,5 @@
 use Rattle.std.proofs.Common.{◌≡◌, vec_len}
-use Rattle.bpf_maps.specs.Index.{bare, IsWellFormedHash}
+use Rattle.bpf_maps.specs.Index.{entries_of, IsWellFormedHash}
 use Rattle.bpf_maps.proofs.hash_map.HashMapIxValueMap.end_run.Given as goal
 
 -- the places stay whole, and the keys with them
@@ -7,7 +7,7 @@ abbrev pub invariant-loop-place : goal.invariant-loop-place
 invariant-loop-place l = record {
   whole : IsWellFormedHash l.self-inside;
   shape : l.self-inside.shape ≡ l.fn.self.shape;
-  entries : bare l.self-inside.index.entries ≡ l.fn.self.entries;
+  entries : entries_of l.self-inside.index ≡ l.fn.self.entries;
 }
 
 abbrev pub decreases-loop-place : goal.decreases-loop-place

@@ -1,0 +1,257 @@
+/* Each call and each code: what is written where it is done, and that nothing is where it is not. */
+#include "common.h"
+#include <string.h>
+
+static uint8_t room[BPFHOST_LONGEST_REPLY];
+static const uint8_t close_nothing[8] = {0, 0, 0, 1, 99};
+
+static void checks_new(void)
+{
+    bpfhost host = BPFHOST_EMPTY;
+    void *first;
+    CHECK(bpfhost_new(NULL, 1) == BPFHOST_NULL);
+    CHECK(bpfhost_new(&host, 0) == BPFHOST_TENANTS && host.at == NULL);
+    CHECK(bpfhost_new(&host, BPFHOST_MOST_TENANTS + 1) == BPFHOST_TENANTS && host.at == NULL);
+    CHECK(bpfhost_new(&host, SIZE_MAX) == BPFHOST_TENANTS && host.at == NULL);
+    CHECK(bpfhost_new(&host, BPFHOST_MOST_TENANTS) == BPFHOST_DONE && host.at != NULL);
+    bpfhost_free(&host);
+    CHECK(host.at == NULL);
+    CHECK(bpfhost_new(&host, 2) == BPFHOST_DONE);
+    open_counter(&host, 1);
+    CHECK(count_once(&host, 1) == 1);
+    /* A second one leaves the first. */
+    first = host.at;
+    CHECK(bpfhost_new(&host, 3) == BPFHOST_HAS_HOST && host.at == first);
+    CHECK(bpfhost_new(&host, 0) == BPFHOST_TENANTS && host.at == first);
+    CHECK(count_once(&host, 1) == 2);
+    bpfhost_free(&host);
+    bpfhost_free(&host);
+    bpfhost_free(NULL);
+    CHECK(host.at == NULL);
+}
+
+static void checks_empty_handle(void)
+{
+    bpfhost host = BPFHOST_EMPTY;
+    bpfhost_bytes lent = {room, 7};
+    bpfhost_reply reply;
+    size_t written = 7;
+    bool refused = true;
+    memset(&reply, 0x5a, sizeof reply);
+    memset(room, 0x5a, sizeof room);
+    CHECK(bpfhost_handle(&host, close_nothing, 8, room, sizeof room, &written) == BPFHOST_NO_HOST);
+    CHECK(written == 7 && room[0] == 0x5a && room[sizeof room - 1] == 0x5a);
+    CHECK(bpfhost_handle_lent(&host, close_nothing, 8, &lent) == BPFHOST_NO_HOST && lent.length == 0);
+    CHECK(bpfhost_ask(&host, close_nothing, 8, &reply) == BPFHOST_NO_HOST && reply.command == 0x5a5a);
+    CHECK(bpfhost_memory_refused(&host, 0, &refused) == BPFHOST_NO_HOST && refused);
+    bpfhost_free(&host);
+    CHECK(host.at == NULL);
+}
+
+static void checks_nulls_and_lengths(bpfhost *host)
+{
+    size_t written = 7, few = 4, none = 0, all = sizeof room;
+    size_t too_long = (size_t)PTRDIFF_MAX + 1;
+    bpfhost_bytes lent;
+    bpfhost_reply reply;
+    bool refused = true;
+    CHECK(bpfhost_handle(NULL, close_nothing, 8, room, all, &written) == BPFHOST_NULL);
+    CHECK(bpfhost_handle(host, NULL, few, room, all, &written) == BPFHOST_NULL);
+    CHECK(bpfhost_handle(host, close_nothing, 8, NULL, none, &written) == BPFHOST_NULL);
+    CHECK(bpfhost_handle(host, close_nothing, 8, room, all, NULL) == BPFHOST_NULL);
+    CHECK(bpfhost_handle(host, close_nothing, too_long, room, all, &written) == BPFHOST_LENGTH);
+    CHECK(bpfhost_handle(host, close_nothing, SIZE_MAX, room, all, &written) == BPFHOST_LENGTH);
+    CHECK(bpfhost_handle(host, close_nothing, 8, room, too_long, &written) == BPFHOST_LENGTH);
+    CHECK(bpfhost_handle(host, close_nothing, 8, room, SIZE_MAX, &written) == BPFHOST_LENGTH);
+    CHECK(bpfhost_handle(host, close_nothing, 8, room, 0, &written) == BPFHOST_ROOM);
+    CHECK(bpfhost_handle(host, close_nothing, 8, room, all - 1, &written) == BPFHOST_ROOM);
+    CHECK(written == 7);
+    CHECK(bpfhost_handle(host, NULL, 0, room, all, &written) == BPFHOST_DONE && written == 12);
+    CHECK(bpfhost_handle_lent(NULL, close_nothing, 8, &lent) == BPFHOST_NULL && lent.length == 0);
+    CHECK(bpfhost_handle_lent(host, NULL, few, &lent) == BPFHOST_NULL && lent.length == 0);
+    CHECK(bpfhost_handle_lent(host, close_nothing, 8, NULL) == BPFHOST_NULL);
+    CHECK(bpfhost_handle_lent(host, close_nothing, too_long, &lent) == BPFHOST_LENGTH && lent.length == 0);
+    CHECK(bpfhost_handle_lent(host, NULL, 0, &lent) == BPFHOST_DONE && lent.length == 12);
+    CHECK(bpfhost_ask(NULL, close_nothing, 8, &reply) == BPFHOST_NULL);
+    CHECK(bpfhost_ask(host, close_nothing, 8, NULL) == BPFHOST_NULL);
+    CHECK(bpfhost_memory_refused(NULL, 0, &refused) == BPFHOST_NULL && refused);
+    CHECK(bpfhost_memory_refused(host, 0, NULL) == BPFHOST_NULL);
+    CHECK(bpfhost_memory_refused(host, 0, &refused) == BPFHOST_DONE && !refused);
+    refused = true;
+    CHECK(bpfhost_memory_refused(host, 65535, &refused) == BPFHOST_DONE && !refused);
+}
+
+static void checks_overlaps(bpfhost *host)
+{
+    static union {
+        uint8_t bytes[2 * BPFHOST_LONGEST_REPLY];
+        size_t number;
+        bpfhost handle;
+        bpfhost_bytes lent;
+    } whole;
+    uint8_t *b = whole.bytes;
+    size_t written = 7, all = BPFHOST_LONGEST_REPLY;
+    bool *on_handle = (bool *)(void *)host;
+    CHECK(bpfhost_handle(host, b, 8, b, all, &written) == BPFHOST_OVERLAP);
+    CHECK(bpfhost_handle(host, b + all - 1, 8, b, all, &written) == BPFHOST_OVERLAP);
+    CHECK(bpfhost_handle(host, b, 8, b + 7, all, &written) == BPFHOST_OVERLAP);
+    CHECK(bpfhost_handle(host, host, 1, b, all, &written) == BPFHOST_OVERLAP);
+    CHECK(bpfhost_handle(host, close_nothing, 8, host, all, &written) == BPFHOST_OVERLAP);
+    CHECK(bpfhost_handle(host, close_nothing, 8, b, all, &whole.number) == BPFHOST_OVERLAP);
+    CHECK(bpfhost_handle(host, b, 8, b + 8, all, &whole.number) == BPFHOST_OVERLAP);
+    CHECK(bpfhost_handle(host, close_nothing, 8, b, all, (size_t *)(void *)host) == BPFHOST_OVERLAP);
+    CHECK(written == 7);
+    CHECK(bpfhost_handle_lent(host, host, 8, &whole.lent) == BPFHOST_OVERLAP);
+    CHECK(bpfhost_handle_lent(host, b, 8, &whole.lent) == BPFHOST_OVERLAP);
+    CHECK(bpfhost_handle_lent(host, close_nothing, 8, (bpfhost_bytes *)(void *)host) == BPFHOST_OVERLAP);
+    CHECK(bpfhost_memory_refused(host, 0, on_handle) == BPFHOST_OVERLAP);
+    /* Side by side is apart, and an empty frame may stand anywhere. */
+    memcpy(b, close_nothing, 8);
+    CHECK(bpfhost_handle(host, b, 8, b + 8, all, &written) == BPFHOST_DONE && written == 12);
+    memcpy(b + all, close_nothing, 8);
+    CHECK(bpfhost_handle(host, b + all, 8, b, all, &written) == BPFHOST_DONE);
+    CHECK(bpfhost_handle(host, b + 1, 0, b, all, &written) == BPFHOST_DONE && written == 12);
+    CHECK(bpfhost_are_apart(b, 0, b, 8) && !bpfhost_are_apart(b, 1, b, 8) && bpfhost_are_apart(b, 1, b + 1, 8));
+    CHECK(bpfhost_are_apart((void *)(UINTPTR_MAX - 3), 4, (void *)4, 4));
+}
+
+/* The reply is at the front of the room, and nothing behind it has changed; lent, it is the same. */
+static void checks_replies(bpfhost *host)
+{
+    uint8_t key[4] = {0}, value[BPFHOST_LONGEST_PAYLOAD], frame[4200];
+    bpfhost_bytes lent;
+    bpfhost_reply reply;
+    size_t length, written;
+    for (size_t i = 0; i < sizeof value; i++)
+        value[i] = (uint8_t)(i * 7 + 1);
+    length = bpfhost_frame_map_create(frame, sizeof frame, 0, BPFHOST_ARRAY, 4, sizeof value, 1, 0);
+    CHECK(ask(host, frame, length).status == 3);
+    length = bpfhost_frame_map_update(frame, sizeof frame, 0, 3, BPFHOST_EXIST, key, 4, value, sizeof value);
+    CHECK(length == 16 + 4 + 4096 && ask(host, frame, length).status == 0);
+    length = bpfhost_frame_map_lookup(frame, sizeof frame, 0, 3, key, 4);
+    memset(room, 0xa5, sizeof room);
+    CHECK(bpfhost_handle(host, frame, length, room, sizeof room, &written) == BPFHOST_DONE);
+    CHECK(written == BPFHOST_LONGEST_REPLY && memcmp(room + 12, value, sizeof value) == 0);
+    CHECK(bpfhost_handle_lent(host, frame, length, &lent) == BPFHOST_DONE);
+    CHECK(lent.length == written && memcmp(lent.at, room, written) == 0);
+    memset(room, 0xa5, sizeof room);
+    CHECK(bpfhost_handle(host, close_nothing, 8, room, sizeof room, &written) == BPFHOST_DONE && written == 12);
+    for (size_t i = written; i < sizeof room; i++)
+        CHECK(room[i] == 0xa5);
+    CHECK(bpfhost_read_reply(room, written, &reply) == BPFHOST_DONE);
+    CHECK(reply.tenant == 0 && reply.command == BPFHOST_CLOSE && reply.status == -9 && reply.payload_length == 0);
+    memset(&reply, 0x5a, sizeof reply);
+    CHECK(bpfhost_read_reply(room, 11, &reply) == BPFHOST_NO_REPLY);
+    CHECK(bpfhost_read_reply(room, 13, &reply) == BPFHOST_NO_REPLY);
+    CHECK(bpfhost_read_reply(room, sizeof room + 1, &reply) == BPFHOST_NO_REPLY);
+    CHECK(bpfhost_read_reply(NULL, 12, &reply) == BPFHOST_NULL && bpfhost_read_reply(room, 12, NULL) == BPFHOST_NULL);
+    CHECK(reply.status == 0x5a5a5a5a);
+    length = bpfhost_frame_close(frame, sizeof frame, 0, 3);
+    CHECK(ask(host, frame, length).status == 0);
+}
+
+/* Each command by its function, and the frames against bytes that were written from docs/PROTOCOL.md by hand. */
+static void checks_frames(bpfhost *host)
+{
+    static const uint8_t create[24] = {2, 1, 0, 0, 1, 0, 0, 0, 4, 0, 0, 0, 8, 0, 0, 0, 16, 0, 0, 0, 0, 0, 0, 0};
+    static const uint8_t update[28] = {1, 0, 2, 0, 3, 0, 0, 0, 8, 7, 6, 5, 4, 3, 2, 1, 'k', 'e', 'y', '1',
+                                       'v', 'a', 'l', 'u', 'e', '0', '0', '1'};
+    static const uint8_t look_up[12] = {1, 0, 1, 0, 3, 0, 0, 0, 'k', 'e', 'y', '1'};
+    static const uint8_t load[24] = {1, 0, 5, 0, 1, 0, 0, 0, 0x61, 0x10, 0, 0, 0, 0, 0, 0, 0x95};
+    static const uint8_t run[51] = {1, 0, 10, 0, 4, 0, 0, 0, 1, 0, 0, 0, 2, 0, 0, 0, 3, 0, 0, 0, 4, 0, 0, 0, 5, 0, 0, 0, 6, 0, 0, 0,
+                                    7, 0, 0, 0, 8, 0, 0, 0, 9, 0, 0, 0, 10, 0, 0, 0, 'p', 'k', 't'};
+    static const uint8_t close_four[8] = {1, 0, 0, 1, 4, 0, 0, 0};
+    const bpfhost_context context = {1, 2, 3, 4, 5, 6, 7, 8, 9, 10};
+    uint8_t f[64];
+    size_t n;
+    bpfhost_reply reply;
+    CHECK(bpfhost_frame_map_create(f, 24, 258, BPFHOST_HASH, 4, 8, 16, 0) == 24 && memcmp(f, create, 24) == 0);
+    CHECK(bpfhost_frame_map_update(f, 28, 1, 3, 0x0102030405060708, "key1", 4, "value001", 8) == 28);
+    CHECK(memcmp(f, update, 28) == 0);
+    CHECK(bpfhost_frame_map_lookup(f, 12, 1, 3, "key1", 4) == 12 && memcmp(f, look_up, 12) == 0);
+    CHECK(bpfhost_frame_map_delete(f, 12, 1, 3, "key1", 4) == 12 && f[2] == 3 && memcmp(f + 4, look_up + 4, 8) == 0);
+    CHECK(bpfhost_frame_map_next_key(f, 12, 1, 3, "key1", 4) == 12 && f[2] == 4 && memcmp(f + 4, look_up + 4, 8) == 0);
+    CHECK(bpfhost_frame_map_next_key(f, 8, 1, 3, NULL, 0) == 8);
+    CHECK(bpfhost_frame_prog_load(f, 24, 1, BPFHOST_SOCKET_FILTER, answers_length, 2) == 24 && memcmp(f, load, 24) == 0);
+    CHECK(bpfhost_frame_prog_test_run(f, 51, 1, 4, &context, "pkt", 3) == 51 && memcmp(f, run, 51) == 0);
+    CHECK(bpfhost_frame_test_run_head(f, 48, 1, 4, &context) == 48 && memcmp(f, run, 48) == 0);
+    CHECK(bpfhost_frame_close(f, 8, 1, 4) == 8 && memcmp(f, close_four, 8) == 0);
+    /* Too small a room, a null pointer or a length that does not fit: nothing is written. */
+    memset(f, 0x5a, sizeof f);
+    CHECK(bpfhost_frame_map_create(f, 23, 1, 1, 4, 8, 16, 0) == 0 && bpfhost_frame_map_create(NULL, 24, 1, 1, 4, 8, 16, 0) == 0);
+    CHECK(bpfhost_frame_map_update(f, 27, 1, 3, 0, "key1", 4, "value001", 8) == 0);
+    CHECK(bpfhost_frame_map_update(f, 64, 1, 3, 0, NULL, 4, "value001", 8) == 0);
+    CHECK(bpfhost_frame_map_update(f, 64, 1, 3, 0, "key1", 4, NULL, 8) == 0);
+    CHECK(bpfhost_frame_map_update(f, 64, 1, 3, 0, "key1", SIZE_MAX, "value001", 8) == 0);
+    CHECK(bpfhost_frame_map_lookup(f, 11, 1, 3, "key1", 4) == 0 && bpfhost_frame_map_lookup(f, 64, 1, 3, NULL, 4) == 0);
+    CHECK(bpfhost_frame_map_lookup(f, 64, 1, 3, "key1", SIZE_MAX - 4) == 0);
+    CHECK(bpfhost_frame_prog_load(f, 64, 1, 1, answers_length, SIZE_MAX / 8 + 1) == 0);
+    CHECK(bpfhost_frame_prog_load(f, 23, 1, 1, answers_length, 2) == 0);
+    CHECK(bpfhost_frame_prog_test_run(f, 50, 1, 4, NULL, "pkt", 3) == 0 && bpfhost_frame_prog_test_run(f, 64, 1, 4, NULL, NULL, 3) == 0);
+    CHECK(bpfhost_frame_test_run_head(f, 47, 1, 4, NULL) == 0 && bpfhost_frame_close(f, 7, 1, 4) == 0);
+    for (n = 0; n < sizeof f; n++)
+        CHECK(f[n] == 0x5a);
+    /* And each at a host. */
+    n = bpfhost_frame_map_create(f, sizeof f, 1, BPFHOST_HASH, 4, 8, 16, 0);
+    CHECK(ask(host, f, n).status == 3);
+    n = bpfhost_frame_map_update(f, sizeof f, 1, 3, BPFHOST_NOEXIST, "key1", 4, "value001", 8);
+    CHECK(ask(host, f, n).status == 0 && ask(host, f, n).status == -17);
+    n = bpfhost_frame_map_lookup(f, sizeof f, 1, 3, "key1", 4);
+    reply = ask(host, f, n);
+    CHECK(reply.status == 0 && reply.payload_length == 8 && memcmp(reply.payload, "value001", 8) == 0);
+    n = bpfhost_frame_map_next_key(f, sizeof f, 1, 3, NULL, 0);
+    reply = ask(host, f, n);
+    CHECK(reply.status == 0 && reply.payload_length == 4 && memcmp(reply.payload, "key1", 4) == 0);
+    n = bpfhost_frame_map_delete(f, sizeof f, 1, 3, "key1", 4);
+    CHECK(ask(host, f, n).status == 0 && ask(host, f, n).status == -2);
+    n = bpfhost_frame_prog_load(f, sizeof f, 1, BPFHOST_SOCKET_FILTER, answers_length, 2);
+    CHECK(ask(host, f, n).status == 4);
+    n = bpfhost_frame_prog_test_run(f, sizeof f, 1, 4, NULL, "packet", 6);
+    reply = ask(host, f, n);
+    CHECK(reply.status == 0 && reply.result == 6 && reply.tenant == 1 && reply.command == BPFHOST_PROG_TEST_RUN);
+    n = bpfhost_frame_prog_load(f, sizeof f, 1, BPFHOST_SOCKET_FILTER, answers_length + 8, 1);
+    reply = ask(host, f, n); /* exit, and register 0 holds nothing */
+    CHECK(reply.status == -13 && reply.slot == 0 && reply.reason == 20);
+    n = bpfhost_frame_close(f, sizeof f, 1, 4);
+    CHECK(ask(host, f, n).status == 0 && ask(host, f, n).status == -9);
+    n = bpfhost_frame_close(f, sizeof f, 9, 4);
+    CHECK(ask(host, f, n).status == -1);
+}
+
+/* The longest program, with a branch at each second slot, is loaded and run: it is what takes the most stack. */
+static void checks_longest_program(bpfhost *host)
+{
+    static uint8_t slots[4096 * 8], frame[8 + sizeof slots];
+    static const uint8_t begins[8] = {0xb7}, ends[8] = {0x95};           /* r0 = 0, exit */
+    static const uint8_t branches[8] = {0x15, 0x00, 0x01, 0x00, 0x07};   /* if r0 == 7 goto +1 */
+    static const uint8_t adds[8] = {0x07, 0x00, 0x00, 0x00, 0x01};       /* r0 += 1 */
+    size_t length;
+    bpfhost_reply reply;
+    memcpy(slots, begins, 8);
+    for (size_t i = 1; i < 4095; i++)
+        memcpy(slots + 8 * i, i % 2 == 1 ? branches : adds, 8);
+    memcpy(slots + 8 * 4095, ends, 8);
+    length = bpfhost_frame_prog_load(frame, sizeof frame, 0, BPFHOST_SOCKET_FILTER, slots, 4096);
+    CHECK(length == sizeof frame && ask(host, frame, length).status == 3);
+    length = bpfhost_frame_test_run_head(frame, sizeof frame, 0, 3, NULL);
+    reply = ask(host, frame, length);
+    CHECK(reply.status == 0 && reply.result == 7);
+    length = bpfhost_frame_close(frame, sizeof frame, 0, 3);
+    CHECK(ask(host, frame, length).status == 0);
+}
+
+int main(void)
+{
+    bpfhost host = BPFHOST_EMPTY;
+    checks_new();
+    checks_empty_handle();
+    CHECK(bpfhost_new(&host, 2) == BPFHOST_DONE);
+    checks_nulls_and_lengths(&host);
+    checks_overlaps(&host);
+    checks_replies(&host);
+    checks_frames(&host);
+    checks_longest_program(&host);
+    bpfhost_free(&host);
+    puts("calls: each code, and each frame by its bytes");
+    return 0;
+}

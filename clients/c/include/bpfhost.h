@@ -1,0 +1,417 @@
+/* bpfhost.h: bpfhost as a library for C11 and C++11. A host of 1 to 64 tenants; a frame in, a reply out.
+ *
+ * The functions bpfhost_c_* are Rattle, proved in crates/bpfhost_c. All else here is C, which nobody proves: it tests what a
+ * proved function can't be asked about, as a null pointer, builds frames and reads replies. docs/PROTOCOL.md has the commands,
+ * their limits and their error numbers; linux/bpf.h names the same numbers BPF_MAP_CREATE and so on.
+ *
+ * Units: all lengths and sizes are bytes, unless a name says slots, entries or tenants. Numbers in frames are little-endian, and
+ * these functions write and read them so on every machine.
+ *
+ * What a caller owes, and nothing tests:
+ *   - A bpfhost begins as BPFHOST_EMPTY, and only these functions write it. It is not copied: a host has one handle.
+ *   - A pointer that is not null is aligned for its type and leads to as many bytes as the call says. They belong to the call
+ *     while it lasts.
+ *   - A lent reply (bpfhost_handle_lent, bpfhost_ask) is read only before the next call on its handle, bpfhost_free included, and
+ *     is not the frame of that call.
+ *   - A handle is in one call at a time. It may go from thread to thread, ordered by a lock, or by a thread's start or join; a
+ *     lent reply goes with it. Two handles share nothing.
+ *   - No call from a signal handler, or from the forked child of a process with threads.
+ *   - There is stack: 256 KiB are more than enough.
+ *   - malloc, realloc and free come from one allocator, and align as malloc does.
+ */
+#ifndef BPFHOST_H
+#define BPFHOST_H
+
+#include <stdbool.h>
+#include <stddef.h>
+#include <stdint.h>
+#include <string.h>
+
+#ifdef __cplusplus
+extern "C" {
+#endif
+
+/* ---- limits: docs/PROTOCOL.md has the others. tools/header compares these numbers with the library's. */
+
+#define BPFHOST_MOST_TENANTS 64
+#define BPFHOST_LONGEST_FRAME 131072 /* of a frame that is looked at; a longer one is answered -7 (E2BIG) */
+#define BPFHOST_LONGEST_REPLY 4108
+#define BPFHOST_LONGEST_PAYLOAD 4096
+#define BPFHOST_TEST_RUN_HEAD 48 /* the bytes of a PROG_TEST_RUN frame before its packet */
+
+/* ---- codes of calls. Each call answers one; a status in a reply is another thing. */
+
+enum bpfhost_code {
+    BPFHOST_DONE = 0,      /* the call did what it says */
+    BPFHOST_NO_HOST = -1,  /* the handle is empty */
+    BPFHOST_HAS_HOST = -2, /* the handle has a host already */
+    BPFHOST_TENANTS = -3,  /* a host has 1 to BPFHOST_MOST_TENANTS tenants */
+    BPFHOST_MEMORY = -4,   /* there is no memory for the host */
+    BPFHOST_ROOM = -5,     /* the room has less than BPFHOST_LONGEST_REPLY bytes */
+    /* of this header alone */
+    BPFHOST_NULL = -16,     /* a pointer is null */
+    BPFHOST_LENGTH = -17,   /* no object has so many bytes: the length is above PTRDIFF_MAX */
+    BPFHOST_OVERLAP = -18,  /* two of the frame, the room, the handle and what the call writes overlap */
+    BPFHOST_NO_REPLY = -19  /* the bytes are not one whole reply */
+};
+
+/* ---- a host */
+
+/* What holds a host; empty at first. */
+typedef struct bpfhost {
+    void *at;
+} bpfhost;
+
+#define BPFHOST_EMPTY {NULL}
+
+/* Bytes that are lent. */
+typedef struct bpfhost_bytes {
+    const uint8_t *at;
+    size_t length;
+} bpfhost_bytes;
+
+/* The proved functions. No pointer is null, no length is above PTRDIFF_MAX, what they are given does not overlap, `*refused` is
+ * false or true, and `reply->at` leads to `reply->length` bytes. Call those below in their place. */
+int32_t bpfhost_c_new(bpfhost *handle, size_t tenants);
+int32_t bpfhost_c_handle(bpfhost *handle, const uint8_t *frame, size_t frame_length, uint8_t *room, size_t room_length,
+                         size_t *written);
+int32_t bpfhost_c_handle_lent(bpfhost *handle, const uint8_t *frame, size_t frame_length, bpfhost_bytes *reply);
+int32_t bpfhost_c_memory_refused(bpfhost *handle, uint16_t tenant, bool *refused);
+void bpfhost_c_free(bpfhost *handle);
+
+/* Whether two objects have no byte in common. */
+static inline bool bpfhost_are_apart(const void *a, size_t a_length, const void *b, size_t b_length)
+{
+    return a_length == 0 || b_length == 0
+        || ((uintptr_t)a - (uintptr_t)b >= b_length && (uintptr_t)b - (uintptr_t)a >= a_length);
+}
+
+/* Makes a host for so many tenants, numbered from 0, and puts it behind an empty handle. It takes some 260 KiB for each tenant,
+ * which bpfhost_free gives back. TENANTS, HAS_HOST, MEMORY, NULL: the handle is as it was. */
+static inline int bpfhost_new(bpfhost *handle, size_t tenants)
+{
+    if (handle == NULL)
+        return BPFHOST_NULL;
+    return (int)bpfhost_c_new(handle, tenants);
+}
+
+/* What is wrong with a frame for a call, or DONE. */
+static inline int bpfhost_frame_code(const bpfhost *handle, const void *frame, size_t frame_length)
+{
+    if (handle == NULL || (frame == NULL && frame_length != 0))
+        return BPFHOST_NULL;
+    if (frame_length > PTRDIFF_MAX)
+        return BPFHOST_LENGTH;
+    if (!bpfhost_are_apart(handle, sizeof *handle, frame, frame_length))
+        return BPFHOST_OVERLAP;
+    return BPFHOST_DONE;
+}
+
+/* Where a frame stands; an empty one may be null. */
+static inline const uint8_t *bpfhost_frame_at(const void *frame, size_t frame_length)
+{
+    static const uint8_t no_bytes[1] = {0};
+    return frame_length == 0 ? no_bytes : (const uint8_t *)frame;
+}
+
+/* Handles a frame of any length and content, which is what follows the length field in a stream, and leaves the reply, with its
+ * length field, at the front of the room; `written` gets its length, 12 to BPFHOST_LONGEST_REPLY. ROOM, NO_HOST, NULL, LENGTH,
+ * OVERLAP: nothing is written, and no tenant's state has changed. */
+static inline int bpfhost_handle(bpfhost *handle, const void *frame, size_t frame_length, void *room, size_t room_length,
+                                 size_t *written)
+{
+    int code = bpfhost_frame_code(handle, frame, frame_length);
+    if (room == NULL || written == NULL)
+        return BPFHOST_NULL;
+    if (code != BPFHOST_DONE)
+        return code;
+    if (room_length > PTRDIFF_MAX)
+        return BPFHOST_LENGTH;
+    if (!bpfhost_are_apart(room, room_length, frame, frame_length)
+        || !bpfhost_are_apart(room, room_length, handle, sizeof *handle)
+        || !bpfhost_are_apart(room, room_length, written, sizeof *written)
+        || !bpfhost_are_apart(written, sizeof *written, frame, frame_length)
+        || !bpfhost_are_apart(written, sizeof *written, handle, sizeof *handle))
+        return BPFHOST_OVERLAP;
+    return (int)bpfhost_c_handle(handle, bpfhost_frame_at(frame, frame_length), frame_length, (uint8_t *)room, room_length,
+                                 written);
+}
+
+/* The same, but the reply is lent where it stands, in the host's own room, until the next call on this handle: nothing is copied.
+ * NO_HOST, NULL, LENGTH, OVERLAP: `reply` has no bytes, unless it is null or overlaps, and no tenant's state has changed. */
+static inline int bpfhost_handle_lent(bpfhost *handle, const void *frame, size_t frame_length, bpfhost_bytes *reply)
+{
+    int code = bpfhost_frame_code(handle, frame, frame_length);
+    if (reply == NULL)
+        return BPFHOST_NULL;
+    if (code == BPFHOST_DONE
+        && (!bpfhost_are_apart(reply, sizeof *reply, frame, frame_length)
+            || !bpfhost_are_apart(reply, sizeof *reply, handle, sizeof *handle)))
+        return BPFHOST_OVERLAP;
+    reply->at = bpfhost_frame_at(NULL, 0);
+    reply->length = 0;
+    if (code != BPFHOST_DONE)
+        return code;
+    return (int)bpfhost_c_handle_lent(handle, bpfhost_frame_at(frame, frame_length), frame_length, reply);
+}
+
+/* Whether memory was ever refused to a tenant: then its replies may differ from those that it would be given alone. False for a
+ * number that is not served. NO_HOST, NULL, OVERLAP: nothing is written. */
+static inline int bpfhost_memory_refused(bpfhost *handle, uint16_t tenant, bool *refused)
+{
+    bool found = false;
+    int code;
+    if (handle == NULL || refused == NULL)
+        return BPFHOST_NULL;
+    if (!bpfhost_are_apart(refused, sizeof *refused, handle, sizeof *handle))
+        return BPFHOST_OVERLAP;
+    code = (int)bpfhost_c_memory_refused(handle, tenant, &found);
+    if (code == BPFHOST_DONE)
+        *refused = found;
+    return code;
+}
+
+/* Frees the host behind a handle, which is empty then. An empty handle, or null, is left alone. */
+static inline void bpfhost_free(bpfhost *handle)
+{
+    if (handle != NULL)
+        bpfhost_c_free(handle);
+}
+
+/* ---- frames. Each function writes a frame into a room and answers its length; 0 where the room is too small, or a pointer is
+ * null that has bytes to give, and then nothing is written. What they are given may not overlap the room. A number of a tenant, a
+ * descriptor or a size need not be right: the host says so in its reply. */
+
+enum bpfhost_command {
+    BPFHOST_MAP_CREATE = 0,
+    BPFHOST_MAP_LOOKUP = 1,
+    BPFHOST_MAP_UPDATE = 2,
+    BPFHOST_MAP_DELETE = 3,
+    BPFHOST_MAP_NEXT_KEY = 4,
+    BPFHOST_PROG_LOAD = 5,
+    BPFHOST_PROG_TEST_RUN = 10,
+    BPFHOST_CLOSE = 256
+};
+
+enum bpfhost_map_type { BPFHOST_HASH = 1, BPFHOST_ARRAY = 2 };
+enum bpfhost_prog_type { BPFHOST_SOCKET_FILTER = 1 };
+enum bpfhost_update_flags { BPFHOST_ANY = 0, BPFHOST_NOEXIST = 1, BPFHOST_EXIST = 2 };
+
+static inline uint8_t *bpfhost_put16(uint8_t *at, uint16_t number)
+{
+    at[0] = (uint8_t)number;
+    at[1] = (uint8_t)(number >> 8);
+    return at + 2;
+}
+
+static inline uint8_t *bpfhost_put32(uint8_t *at, uint32_t number)
+{
+    return bpfhost_put16(bpfhost_put16(at, (uint16_t)number), (uint16_t)(number >> 16));
+}
+
+static inline uint8_t *bpfhost_put_bytes(uint8_t *at, const void *bytes, size_t length)
+{
+    if (length != 0)
+        memcpy(at, bytes, length);
+    return at + length;
+}
+
+static inline uint16_t bpfhost_get16(const uint8_t *at)
+{
+    return (uint16_t)(at[0] | at[1] << 8);
+}
+
+static inline uint32_t bpfhost_get32(const uint8_t *at)
+{
+    return (uint32_t)bpfhost_get16(at) | (uint32_t)bpfhost_get16(at + 2) << 16;
+}
+
+/* The head of a frame and a first number, where a frame of `fixed` bytes and `more` behind them fits; else null. */
+static inline uint8_t *bpfhost_frame_begin(void *frame, size_t room, size_t fixed, size_t more, uint16_t tenant,
+                                           enum bpfhost_command command, uint32_t first)
+{
+    if (frame == NULL || room < fixed || room - fixed < more)
+        return NULL;
+    return bpfhost_put32(bpfhost_put16(bpfhost_put16((uint8_t *)frame, tenant), (uint16_t)command), first);
+}
+
+/* MAP_CREATE: 24 bytes. The status of the reply is a new descriptor. `type` is BPFHOST_HASH or BPFHOST_ARRAY, `flags` 0. */
+static inline size_t bpfhost_frame_map_create(void *frame, size_t room, uint16_t tenant, uint32_t type, uint32_t key_size,
+                                              uint32_t value_size, uint32_t entries, uint32_t flags)
+{
+    uint8_t *at = bpfhost_frame_begin(frame, room, 24, 0, tenant, BPFHOST_MAP_CREATE, type);
+    if (at == NULL)
+        return 0;
+    bpfhost_put32(bpfhost_put32(bpfhost_put32(bpfhost_put32(at, key_size), value_size), entries), flags);
+    return 24;
+}
+
+/* A frame of a descriptor and bytes: 8 and the bytes'. */
+static inline size_t bpfhost_frame_of_key(void *frame, size_t room, uint16_t tenant, enum bpfhost_command command, uint32_t fd,
+                                          const void *key, size_t key_size)
+{
+    uint8_t *at = key == NULL && key_size != 0 ? NULL : bpfhost_frame_begin(frame, room, 8, key_size, tenant, command, fd);
+    if (at == NULL)
+        return 0;
+    bpfhost_put_bytes(at, key, key_size);
+    return 8 + key_size;
+}
+
+/* MAP_LOOKUP_ELEM: 8 bytes and the key. The payload of the reply is the value. */
+static inline size_t bpfhost_frame_map_lookup(void *frame, size_t room, uint16_t tenant, uint32_t fd, const void *key,
+                                              size_t key_size)
+{
+    return bpfhost_frame_of_key(frame, room, tenant, BPFHOST_MAP_LOOKUP, fd, key, key_size);
+}
+
+/* MAP_DELETE_ELEM: 8 bytes and the key. */
+static inline size_t bpfhost_frame_map_delete(void *frame, size_t room, uint16_t tenant, uint32_t fd, const void *key,
+                                              size_t key_size)
+{
+    return bpfhost_frame_of_key(frame, room, tenant, BPFHOST_MAP_DELETE, fd, key, key_size);
+}
+
+/* MAP_GET_NEXT_KEY: 8 bytes and the key, which may be null and empty. The payload of the reply is the key that follows. */
+static inline size_t bpfhost_frame_map_next_key(void *frame, size_t room, uint16_t tenant, uint32_t fd, const void *key,
+                                                size_t key_size)
+{
+    return bpfhost_frame_of_key(frame, room, tenant, BPFHOST_MAP_NEXT_KEY, fd, key, key_size);
+}
+
+/* MAP_UPDATE_ELEM: 16 bytes, the key and the value. `flags` is one of bpfhost_update_flags. */
+static inline size_t bpfhost_frame_map_update(void *frame, size_t room, uint16_t tenant, uint32_t fd, uint64_t flags,
+                                              const void *key, size_t key_size, const void *value, size_t value_size)
+{
+    uint8_t *at;
+    if ((key == NULL && key_size != 0) || (value == NULL && value_size != 0) || key_size > SIZE_MAX - value_size)
+        return 0;
+    at = bpfhost_frame_begin(frame, room, 16, key_size + value_size, tenant, BPFHOST_MAP_UPDATE, fd);
+    if (at == NULL)
+        return 0;
+    at = bpfhost_put32(bpfhost_put32(at, (uint32_t)flags), (uint32_t)(flags >> 32));
+    bpfhost_put_bytes(bpfhost_put_bytes(at, key, key_size), value, value_size);
+    return 16 + key_size + value_size;
+}
+
+/* PROG_LOAD: 8 bytes and 8 for each slot, in the bytes of RFC 9669 as a little-endian machine has them. The status of the reply is
+ * a new descriptor, or the payload says the slot and the reason. `type` is BPFHOST_SOCKET_FILTER. */
+static inline size_t bpfhost_frame_prog_load(void *frame, size_t room, uint16_t tenant, uint32_t type, const void *slots,
+                                             size_t slot_count)
+{
+    if (slot_count > SIZE_MAX / 8)
+        return 0;
+    return bpfhost_frame_of_key(frame, room, tenant, BPFHOST_PROG_LOAD, type, slots, 8 * slot_count);
+}
+
+/* What a test run finds in its context behind the packet's length: the fields of the kernel's __sk_buff, with any values. */
+typedef struct bpfhost_context {
+    uint32_t pkt_type, mark, queue_mapping, protocol, vlan_present, vlan_tci, vlan_proto, priority, ingress_ifindex, ifindex;
+} bpfhost_context;
+
+/* PROG_TEST_RUN without its packet: writes BPFHOST_TEST_RUN_HEAD bytes in front of a packet that stands behind them already, so
+ * that it is not copied. The frame is these bytes and the packet. `context` may be null, for zeros. */
+static inline size_t bpfhost_frame_test_run_head(void *head, size_t room, uint16_t tenant, uint32_t fd,
+                                                 const bpfhost_context *context)
+{
+    static const bpfhost_context zeros = {0, 0, 0, 0, 0, 0, 0, 0, 0, 0};
+    const bpfhost_context *c = context == NULL ? &zeros : context;
+    uint8_t *at = bpfhost_frame_begin(head, room, BPFHOST_TEST_RUN_HEAD, 0, tenant, BPFHOST_PROG_TEST_RUN, fd);
+    if (at == NULL)
+        return 0;
+    at = bpfhost_put32(bpfhost_put32(bpfhost_put32(at, c->pkt_type), c->mark), c->queue_mapping);
+    at = bpfhost_put32(bpfhost_put32(bpfhost_put32(at, c->protocol), c->vlan_present), c->vlan_tci);
+    at = bpfhost_put32(bpfhost_put32(bpfhost_put32(at, c->vlan_proto), c->priority), c->ingress_ifindex);
+    bpfhost_put32(at, c->ifindex);
+    return BPFHOST_TEST_RUN_HEAD;
+}
+
+/* PROG_TEST_RUN: BPFHOST_TEST_RUN_HEAD bytes and the packet, which is copied. The reply has the result. */
+static inline size_t bpfhost_frame_prog_test_run(void *frame, size_t room, uint16_t tenant, uint32_t fd,
+                                                 const bpfhost_context *context, const void *packet, size_t packet_length)
+{
+    if ((packet == NULL && packet_length != 0) || room < BPFHOST_TEST_RUN_HEAD
+        || room - BPFHOST_TEST_RUN_HEAD < packet_length || bpfhost_frame_test_run_head(frame, room, tenant, fd, context) == 0)
+        return 0;
+    bpfhost_put_bytes((uint8_t *)frame + BPFHOST_TEST_RUN_HEAD, packet, packet_length);
+    return BPFHOST_TEST_RUN_HEAD + packet_length;
+}
+
+/* CLOSE: 8 bytes. */
+static inline size_t bpfhost_frame_close(void *frame, size_t room, uint16_t tenant, uint32_t fd)
+{
+    return bpfhost_frame_of_key(frame, room, tenant, BPFHOST_CLOSE, fd, NULL, 0);
+}
+
+/* ---- replies */
+
+typedef struct bpfhost_reply {
+    uint16_t tenant;
+    uint16_t command;
+    int32_t status;         /* a new descriptor, 0, or a negative error number of bpf(2) */
+    const uint8_t *payload; /* inside the bytes that were read */
+    size_t payload_length;  /* 0 to BPFHOST_LONGEST_PAYLOAD */
+    uint32_t result;        /* of a PROG_TEST_RUN with status 0; else 0 */
+    uint32_t slot;          /* of a PROG_LOAD that is refused with a payload, the slot and the reason; else 0 */
+    uint16_t reason;
+} bpfhost_reply;
+
+/* Reads one whole reply. NULL, NO_REPLY: nothing is written. */
+static inline int bpfhost_read_reply(const void *bytes, size_t length, bpfhost_reply *reply)
+{
+    const uint8_t *at = (const uint8_t *)bytes;
+    if (bytes == NULL || reply == NULL)
+        return BPFHOST_NULL;
+    if (length < 12 || length > BPFHOST_LONGEST_REPLY || bpfhost_get32(at) != length - 4)
+        return BPFHOST_NO_REPLY;
+    reply->tenant = bpfhost_get16(at + 4);
+    reply->command = bpfhost_get16(at + 6);
+    reply->status = (int32_t)bpfhost_get32(at + 8);
+    reply->payload = at + 12;
+    reply->payload_length = length - 12;
+    reply->result = 0;
+    reply->slot = 0;
+    reply->reason = 0;
+    if (reply->command == BPFHOST_PROG_TEST_RUN && reply->status == 0 && reply->payload_length == 4)
+        reply->result = bpfhost_get32(reply->payload);
+    if (reply->command == BPFHOST_PROG_LOAD && reply->status < 0 && reply->payload_length == 6) {
+        reply->slot = bpfhost_get32(reply->payload);
+        reply->reason = bpfhost_get16(reply->payload + 4);
+    }
+    return BPFHOST_DONE;
+}
+
+/* Handles a frame and reads the reply, whose payload is lent until the next call on this handle. The codes are those of
+ * bpfhost_handle_lent; `reply` is written where DONE is answered. */
+static inline int bpfhost_ask(bpfhost *handle, const void *frame, size_t frame_length, bpfhost_reply *reply)
+{
+    bpfhost_bytes lent;
+    int code;
+    if (reply == NULL)
+        return BPFHOST_NULL;
+    code = bpfhost_handle_lent(handle, frame, frame_length, &lent);
+    return code == BPFHOST_DONE ? bpfhost_read_reply(lent.at, lent.length, reply) : code;
+}
+
+/* A code in words. */
+static inline const char *bpfhost_code_text(int code)
+{
+    switch (code) {
+    case BPFHOST_DONE: return "done";
+    case BPFHOST_NO_HOST: return "the handle is empty";
+    case BPFHOST_HAS_HOST: return "the handle has a host already";
+    case BPFHOST_TENANTS: return "a host has 1 to 64 tenants";
+    case BPFHOST_MEMORY: return "there is no memory for the host";
+    case BPFHOST_ROOM: return "the room is smaller than the longest reply";
+    case BPFHOST_NULL: return "a pointer is null";
+    case BPFHOST_LENGTH: return "no object is so long";
+    case BPFHOST_OVERLAP: return "two objects overlap";
+    case BPFHOST_NO_REPLY: return "not one whole reply";
+    default: return "no code of bpfhost";
+    }
+}
+
+#ifdef __cplusplus
+}
+#endif
+
+#endif

@@ -1,0 +1,11 @@
+-- Keys with their places, as the indices of a hash map show them. This project's own.
+use Rattle.std.specs.Prelude.{ℕ, List, map}
+
+-- each entry with the bytes that its key stands for
+abbrev pub shown_by : {K : Type 0} → (K → List ℕ) → List (K × ℕ) → List (List ℕ × ℕ)
+shown_by bytes es = map (λ e. (bytes e.0, e.1)) es
+
+-- keys of one size with their places, in order
+pub record SizedKeys : Type 0 where
+  pub size : ℕ
+  pub entries : List (List ℕ × ℕ)

@@ -1,0 +1,82 @@
+//! Places by keys of any length.
+
+ghost use Rattle.std.specs.Prelude.{◌≡◌, None, OnOk, OnErr, [], slice_get, option_map};
+ghost use Rattle.tagged_model.specs.Table.{found, with_key, without, key_after};
+ghost use Rattle.bpf_maps.specs.inside.Keys.{key_of, lent_key};
+
+use crate::long_key::{KeyBytes, LongKey};
+use indexmap::IndexMap;
+use std::alloc::{AllocError, Global};
+use std::marker::Model;
+
+/// Keys of any length, each with its place, in the order in which they came. Contracts see the keys' bytes with their places.
+#[derive(Drop)]
+pub struct BytesIndex {
+    map: IndexMap<LongKey, u32>,
+}
+
+impl Model for BytesIndex {
+    ghost use Rattle.std.specs.Prelude.{ℕ, List};
+
+    ghost Value = { List (List ℕ × ℕ) };
+
+    ghost view = { λ b. b.map.entries };
+}
+
+impl BytesIndex {
+    /// No key yet.
+    pub(crate) fn new(alloc: Global) -> BytesIndex
+        ensures { result ≡ [] }
+    {
+        BytesIndex {
+            map: IndexMap::new(alloc),
+        }
+    }
+
+    /// The place of a key.
+    #[inline(always)]
+    pub(crate) fn get(&self, key: &[u8]) -> Option<u32>
+        ensures { result ≡ found key.now self.now }
+    {
+        self.map.get(KeyBytes { bytes: key }).copied()
+    }
+
+    /// The index of the entry that follows a key. A key that is not there is followed by the first.
+    fn index_after(&self, key: &[u8]) -> usize
+        ensures { key_of (slice_get self.now result) ≡ key_after key.now self.now }
+    {
+        // An index is below the number of keys, so the next one is a number too.
+        let _count = self.map.len();
+        match self.map.get_index_of(KeyBytes { bytes: key }) {
+            Some(index) => index + 1,
+            None => 0,
+        }
+    }
+
+    /// The key that follows a key, if one does. A key that is not there is followed by the first.
+    pub(crate) fn key_after(&self, key: &[u8]) -> Option<&[u8]>
+        ensures { option_map lent_key result ≡ key_after key.now self.now }
+    {
+        let (following, _) = self.map.get_index(self.index_after(key))?;
+        Some(following.bytes())
+    }
+
+    /// Puts a new key last. An error is want of memory, and nothing has changed then.
+    pub(crate) fn insert(&mut self, key: &[u8], place: u32) -> Result<(), AllocError>
+        requires { found key.now self.old ≡ None }
+        ensures added { OnOk result (self.new ≡ with_key key.now place self.old) }
+        ensures refused { OnErr result (self.new ≡ self.old) }
+    {
+        let own = LongKey::copy_of(*self.map.allocator(), key)?;
+        self.map.insert(own, place)?;
+        Ok(())
+    }
+
+    /// Takes a key out, and answers its place. The others keep their order.
+    pub(crate) fn remove(&mut self, key: &[u8]) -> Option<u32>
+        ensures place { result ≡ found key.now self.old }
+        ensures left { self.new ≡ without key.now self.old }
+    {
+        self.map.shift_remove(KeyBytes { bytes: key })
+    }
+}

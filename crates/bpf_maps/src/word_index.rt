@@ -1,0 +1,145 @@
+//! Places by keys of at most eight bytes.
+
+ghost use Rattle.std.specs.Prelude.{◌≡◌, ◌≤◌, None, OnOk, OnErr, [], length, slice_get, option_map};
+ghost use Rattle.words.specs.Bytes.{number_of};
+ghost use Rattle.tagged_model.specs.Table.{found, with_key, without, key_after};
+ghost use Rattle.bpf_maps.specs.inside.Keys.{key_of};
+
+use crate::given_key::ShortKey;
+use indexmap::IndexMap;
+use std::alloc::{AllocError, Global};
+use std::marker::Model;
+
+/// The bytes of the longest key that is kept as a number.
+pub(crate) const LONGEST_WORD: usize = 8;
+
+/// Keys of one size, at most eight bytes, each with its place, in the order in which they came. A key is kept as the number
+/// that its bytes make, the lowest byte first. Contracts see the size and the keys' bytes with their places.
+#[derive(Drop)]
+pub struct WordIndex {
+    size: usize,
+    map: IndexMap<u64, u32>,
+}
+
+impl Model for WordIndex {
+    ghost use Rattle.bpf_maps.specs.KeyLists.{SizedKeys};
+
+    ghost Value = { SizedKeys };
+
+    ghost use Rattle.bpf_maps.specs.Words.{words_shown, IsWellFormedWords};
+
+    ghost view = { words_shown };
+
+    ghost invariant = { IsWellFormedWords };
+}
+
+impl WordIndex {
+    /// No key yet.
+    pub(crate) fn new(alloc: Global, size: usize) -> WordIndex
+        requires { size ≤ LONGEST_WORD }
+        ensures size { result.size ≡ size }
+        ensures entries { result.entries ≡ [] }
+    {
+        WordIndex {
+            size,
+            map: IndexMap::new(alloc),
+        }
+    }
+
+    /// The place of a key.
+    #[inline(always)]
+    pub(crate) fn get(&self, key: &[u8]) -> Option<u32>
+        requires { length key.now ≡ self.now.size }
+        ensures { result ≡ found key.now self.now.entries }
+    {
+        self.map.get(&word_of(key)).copied()
+    }
+
+    /// The index of the entry that follows a key. A key that is not there is followed by the first, also one of another size.
+    fn index_after(&self, key: &[u8]) -> usize
+        ensures { key_of (slice_get self.now.entries result) ≡ key_after key.now self.now.entries }
+    {
+        if key.len() != self.size {
+            return 0;
+        }
+        // An index is below the number of keys, so the next one is a number too.
+        let _count = self.map.len();
+        match self.map.get_index_of(&word_of(key)) {
+            Some(index) => index + 1,
+            None => 0,
+        }
+    }
+
+    /// The key that follows a key, if one does. A key that is not there is followed by the first, also one of another size.
+    pub(crate) fn key_after(&self, key: &[u8]) -> Option<ShortKey>
+        ensures { result ≡ key_after key.now self.now.entries }
+    {
+        let (word, _) = self.map.get_index(self.index_after(key))?;
+        Some(ShortKey::of_word(*word, self.size))
+    }
+
+    /// Puts a new key last. An error is want of memory, and nothing has changed then.
+    pub(crate) fn insert(&mut self, key: &[u8], place: u32) -> Result<(), AllocError>
+        requires size { length key.now ≡ self.old.size }
+        requires absent { found key.now self.old.entries ≡ None }
+        ensures added { OnOk result (self.new.entries ≡ with_key key.now place self.old.entries) }
+        ensures refused { OnErr result (self.new.entries ≡ self.old.entries) }
+        ensures size { self.new.size ≡ self.old.size }
+    {
+        self.map.insert(word_of(key), place)?;
+        Ok(())
+    }
+
+    /// Takes a key out, and answers its place. The others keep their order.
+    pub(crate) fn remove(&mut self, key: &[u8]) -> Option<u32>
+        requires { length key.now ≡ self.old.size }
+        ensures place { result ≡ found key.now self.old.entries }
+        ensures left { self.new.entries ≡ without key.now self.old.entries }
+        ensures size { self.new.size ≡ self.old.size }
+    {
+        self.map.shift_remove(&word_of(key))
+    }
+}
+
+/// The number that the bytes of a key make, the lowest first. Keys of four and of eight bytes are one load.
+#[inline(always)]
+fn word_of(key: &[u8]) -> u64
+    requires { length key.now ≤ LONGEST_WORD }
+    ensures { result ≡ number_of key.now }
+{
+    match key.len() {
+        4 => u64::from(four_bytes(key)),
+        8 => eight_bytes(key),
+        _ => filled_word(key),
+    }
+}
+
+#[inline(always)]
+fn four_bytes(key: &[u8]) -> u32
+    requires { length key.now ≡ 4 }
+    ensures { result ≡ number_of key.now }
+{
+    u32::from_le_bytes([key[0], key[1], key[2], key[3]])
+}
+
+#[inline(always)]
+fn eight_bytes(key: &[u8]) -> u64
+    requires { length key.now ≡ 8 }
+    ensures { result ≡ number_of key.now }
+{
+    u64::from_le_bytes([
+        key[0], key[1], key[2], key[3], key[4], key[5], key[6], key[7],
+    ])
+}
+
+/// The number of a key of another length: zeros follow its bytes.
+#[cold]
+#[inline(never)]
+fn filled_word(key: &[u8]) -> u64
+    requires { length key.now ≤ LONGEST_WORD }
+    ensures { result ≡ number_of key.now }
+{
+    let mut bytes = [0; LONGEST_WORD];
+    bytes[..key.len()].copy_from_slice(key);
+    eight_bytes(&bytes)
+}

@@ -1,0 +1,35 @@
+-- What the calls from C do. This project's own.
+use denote.RawPtr.{Ptr}
+use Rattle.std.specs.Prelude.{◌≡◌, ℕ, ℤ, nat_lt, ◌||◌, if◌then◌else◌, is_none, List, [], vec_len, Option, Some, None}
+use Rattle.std.specs.Vec.{vec_ptr}
+use Rattle.host.specs.Frame.{longest_reply}
+use Rattle.host.specs.State.{TenantState}
+use Rattle.host.specs.declared.host.TheConstants.{MOST_TENANTS}
+use Rattle.bpfhost_c.specs.declared.codes.TheConstants.{DONE, NO_HOST, HAS_HOST, TENANTS, ROOM}
+use Rattle.bpfhost_c.specs.declared.session.Session.{Session}
+
+-- the states of the tenants of the host behind a handle; an empty one has none
+abbrev pub states : Option Session → List TenantState
+states None = []
+states (Some s) = s.host
+
+-- A reply stands at an address: it is the bytes of the vector of the session's last reply, which begin there. The session owns
+-- them, and the handle the session.
+abbrev pub StandsAt : Option Session → List ℕ → Ptr → ℕ → Type 0
+StandsAt None reply at length = ⊥
+StandsAt (Some s) reply at length = (s.reply.items ≡ reply) × (at ≡ vec_ptr s.reply) × (length ≡ vec_len s.reply)
+
+-- ---- codes
+
+-- of `new`, where memory is not refused
+abbrev pub new_code : Option Session → ℕ → ℤ
+new_code before tenants =
+    if nat_lt tenants 1 || nat_lt MOST_TENANTS tenants then TENANTS else (if is_none before then DONE else HAS_HOST)
+
+-- of a call that takes a host
+abbrev pub host_code : Option Session → ℤ
+host_code before = if is_none before then NO_HOST else DONE
+
+-- of one that takes room for the longest reply too
+abbrev pub room_code : Option Session → ℕ → ℤ
+room_code before room = if nat_lt room longest_reply then ROOM else host_code before

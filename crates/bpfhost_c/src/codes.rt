@@ -1,0 +1,19 @@
+//! What a call answers C. `clients/c/include/bpfhost.h` has the same numbers.
+
+/// The call did what it says.
+pub(crate) const DONE: i32 = 0;
+
+/// The handle has no host.
+pub(crate) const NO_HOST: i32 = -1;
+
+/// The handle has a host already.
+pub(crate) const HAS_HOST: i32 = -2;
+
+/// A host has 1 to `MOST_TENANTS` tenants.
+pub(crate) const TENANTS: i32 = -3;
+
+/// There is no memory for the host.
+pub(crate) const MEMORY: i32 = -4;
+
+/// The room has fewer than `LONGEST_REPLY` bytes.
+pub(crate) const ROOM: i32 = -5;

@@ -1,0 +1,90 @@
+//! What C holds of a session: a pointer to it, or null.
+
+ghost use Rattle.std.specs.Prelude.{◌≡◌, Some, None, Option, option_map};
+ghost use Rattle.bpfhost_c.specs.declared.session.Session.{Session};
+ghost use Rattle.bpfhost_c.specs.Owned.{handle_coded, handle_owns};
+
+use crate::raw_box::RawBox;
+use crate::session::Session;
+use std::alloc::Global;
+use std::marker::Model;
+use std::mem::replace;
+use std::ptr::null_mut;
+
+/// A pointer to a session, or null. C declares it as a struct of one pointer.
+#[repr(C)]
+pub struct Handle {
+    at: *mut u8,
+    alloc: Global,
+    pub ghost session: { Option Session } by { handle_coded },
+}
+
+impl Model for Handle {
+    ghost also_owns = { λ h. handle_owns h.alloc h.at h.session };
+}
+
+impl Handle {
+    /// A handle with no session.
+    pub(crate) fn empty(alloc: Global) -> Handle
+        ensures { result.session ≡ None }
+    {
+        Handle {
+            at: null_mut(),
+            alloc,
+        }
+    }
+
+    /// A handle with the session of a box.
+    pub(crate) fn from_raw_box(raw: RawBox<Session, Global>) -> Handle
+        ensures { result.session ≡ Some raw.value }
+    {
+        let RawBox { at, alloc } = raw;
+        Handle {
+            at: at as *mut u8,
+            alloc,
+        }
+    }
+
+    /// The box of the session, if there is one.
+    pub(crate) fn into_raw_box(self) -> Option<RawBox<Session, Global>>
+        ensures { option_map (λ raw. raw.value) result ≡ self.session }
+    {
+        let Handle { at, alloc } = self;
+        if at.is_null() {
+            return None;
+        }
+        Some(RawBox {
+            at: at as *mut Session,
+            alloc,
+        })
+    }
+
+    /// Takes the session out, if there is one. The handle is empty then.
+    pub(crate) fn take(&mut self, alloc: Global) -> Option<Box<Session>>
+        ensures session { option_map (λ b. b.value) result ≡ self.old.session }
+        ensures empty { self.new.session ≡ None }
+    {
+        match replace(self, Handle::empty(alloc)).into_raw_box() {
+            Some(raw) => Some(raw.into_box()),
+            None => None,
+        }
+    }
+
+    /// Puts a session in. What was there is dropped.
+    pub(crate) fn put(&mut self, session: Box<Session>)
+        ensures { self.new.session ≡ Some session.value }
+    {
+        *self = Handle::from_raw_box(RawBox::from_box(session));
+    }
+}
+
+impl Drop for Handle {
+    fn drop(self) {
+        if let Some(raw) = self.into_raw_box() {
+            drop(raw.into_box());
+        }
+    }
+}
+
+// The box behind it is its own, and a session may go to another thread.
+unsafe impl Send for Handle {}

@@ -1,0 +1,162 @@
+//! The host as a library for C: a handle, frames in, replies out. `clients/c/include/bpfhost.h` is the header.
+#![tactic(auto)]
+
+mod codes;
+mod handle;
+mod raw_box;
+mod session;
+
+ghost use Rattle.std.specs.Prelude.{◌≡◌, ◌≢◌, ◌≤◌, ℕ, List, ◌++◌, length, drop, replicate, slice_get, true, false, None};
+ghost use Rattle.host.specs.Frame.{longest_reply};
+ghost use Rattle.host.specs.Handled.{Handles};
+ghost use Rattle.host.specs.Served.{IsUnrefused};
+ghost use Rattle.host.specs.State.{new_tenant};
+ghost use Rattle.bpfhost_c.specs.Calls.{states, StandsAt, new_code, host_code, room_code};
+ghost use Rattle.bpfhost_c.specs.declared.codes.TheConstants.{DONE, MEMORY};
+
+use codes::{DONE, HAS_HOST, MEMORY, NO_HOST, ROOM, TENANTS};
+use handle::Handle;
+use host::{LONGEST_REPLY, MOST_TENANTS};
+use session::Session;
+use std::alloc::Global;
+
+/// Where a reply stands, and how many bytes it has.
+#[derive(Drop)]
+#[repr(C)]
+pub struct Lent {
+    pub at: *const u8,
+    pub length: usize,
+}
+
+/// Makes a host for 1 to `MOST_TENANTS` tenants, and puts it behind an empty handle.
+///
+/// It answers `DONE`; else `TENANTS`, `HAS_HOST` or `MEMORY`, and the handle is as it was.
+#[unsafe(no_mangle)]
+pub extern "C" fn bpfhost_c_new(alloc: Global, handle: &mut Handle, tenants: usize) -> i32
+    ensures made { result ≡ DONE → states handle.new.session ≡ replicate tenants new_tenant }
+    ensures otherwise { result ≢ DONE → handle.new.session ≡ handle.old.session }
+    ensures code { result ≢ MEMORY → result ≡ new_code handle.old.session tenants }
+    ensures memory { result ≡ MEMORY → new_code handle.old.session tenants ≡ DONE }
+{
+    if tenants < 1 || MOST_TENANTS < tenants {
+        return TENANTS;
+    }
+    if let Some(session) = handle.take(alloc) {
+        handle.put(session);
+        return HAS_HOST;
+    }
+    match Session::new(alloc, tenants) {
+        Ok(session) => {
+            handle.put(session);
+            DONE
+        }
+        Err(_) => MEMORY,
+    }
+}
+
+/// Copies bytes to the front of the room, which is no shorter, and says how many.
+fn copy_to_front(bytes: &[u8], room: &mut [u8]) -> usize
+    requires { length bytes.now ≤ length room.old }
+    ensures count { result ≡ length bytes.now }
+    ensures room { room.new ≡ bytes.now ++ drop (length bytes.now) room.old }
+{
+    let count = bytes.len();
+    room[..count].copy_from_slice(bytes);
+    count
+}
+
+/// Handles a frame, which is what follows the length field and may have any length, and copies the reply to the front of the
+/// room. `written` is the reply's length.
+///
+/// It answers `DONE`; else `ROOM` or `NO_HOST`, and host, room and `written` are as they were.
+#[unsafe(no_mangle)]
+pub extern "C" fn bpfhost_c_handle(
+    alloc: Global,
+    handle: &mut Handle,
+    frame: &[u8],
+    room: &mut [u8],
+    written: &mut usize,
+) -> i32
+    ensures done { result ≡ DONE → (reply : List ℕ)
+        × Handles (states handle.old.session) frame.now reply (states handle.new.session)
+        × (written.new ≡ length reply) × (room.new ≡ reply ++ drop (length reply) room.old) }
+    ensures bound { result ≡ DONE → written.new ≤ longest_reply }
+    ensures code { result ≡ room_code handle.old.session (length room.old) }
+    ensures otherwise { result ≢ DONE → handle.new.session ≡ handle.old.session }
+    ensures room { result ≢ DONE → room.new ≡ room.old }
+    ensures written { result ≢ DONE → written.new ≡ written.old }
+{
+    if room.len() < LONGEST_REPLY {
+        return ROOM;
+    }
+    let Some(mut session) = handle.take(alloc) else {
+        return NO_HOST;
+    };
+    session.handle(frame);
+    *written = copy_to_front(&session.reply, room);
+    handle.put(session);
+    DONE
+}
+
+/// Handles a frame, and says where the reply stands. There it stays until the next call with this handle.
+///
+/// It answers `DONE`; else `NO_HOST`, and handle and `lent` are as they were.
+#[unsafe(no_mangle)]
+pub extern "C" fn bpfhost_c_handle_lent(
+    alloc: Global,
+    handle: &mut Handle,
+    frame: &[u8],
+    lent: &mut Lent,
+) -> i32
+    ensures done { result ≡ DONE → (reply : List ℕ)
+        × Handles (states handle.old.session) frame.now reply (states handle.new.session)
+        × StandsAt handle.new.session reply lent.new.at lent.new.length }
+    ensures bound { result ≡ DONE → lent.new.length ≤ longest_reply }
+    ensures code { result ≡ host_code handle.old.session }
+    ensures otherwise { result ≢ DONE → handle.new.session ≡ handle.old.session }
+    ensures lent { result ≢ DONE → lent.new ≡ lent.old }
+{
+    let Some(mut session) = handle.take(alloc) else {
+        return NO_HOST;
+    };
+    session.handle(frame);
+    lent.at = session.reply.as_ptr();
+    lent.length = session.reply.len();
+    handle.put(session);
+    DONE
+}
+
+/// Tells whether memory was ever refused to a tenant: the premise of what each tenant is promised. A number that is not served
+/// takes no memory.
+///
+/// It answers `DONE`; else `NO_HOST`, and `refused` is as it was.
+#[unsafe(no_mangle)]
+pub extern "C" fn bpfhost_c_memory_refused(
+    alloc: Global,
+    handle: &mut Handle,
+    tenant: u16,
+    refused: &mut bool,
+) -> i32
+    ensures refused { result ≡ DONE → refused.new ≡ true
+        → ¬ IsUnrefused (slice_get (states handle.old.session) tenant) }
+    ensures unrefused { result ≡ DONE → refused.new ≡ false
+        → IsUnrefused (slice_get (states handle.old.session) tenant) }
+    ensures code { result ≡ host_code handle.old.session }
+    ensures host { handle.new.session ≡ handle.old.session }
+    ensures otherwise { result ≢ DONE → refused.new ≡ refused.old }
+{
+    let Some(session) = handle.take(alloc) else {
+        return NO_HOST;
+    };
+    *refused = session.host.memory_was_refused(usize::from(tenant));
+    handle.put(session);
+    DONE
+}
+
+/// Frees the host behind a handle, which is empty then; an empty handle stays so.
+#[unsafe(no_mangle)]
+pub extern "C" fn bpfhost_c_free(alloc: Global, handle: &mut Handle)
+    ensures { handle.new.session ≡ None }
+{
+    *handle = Handle::empty(alloc);
+}

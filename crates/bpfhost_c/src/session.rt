@@ -1,0 +1,44 @@
+//! A host, and where its last reply stands.
+
+ghost use Rattle.std.specs.Prelude.{◌≡◌, ◌≤◌, length, replicate, vec_capacity, IfOk};
+ghost use Rattle.host.specs.Frame.{longest_reply};
+ghost use Rattle.host.specs.Handled.{Handles};
+ghost use Rattle.host.specs.State.{new_tenant};
+ghost use Rattle.host.specs.declared.host.TheConstants.{MOST_TENANTS};
+
+use host::{Host, LONGEST_REPLY, MOST_TENANTS, ReplyBuf};
+use std::alloc::{AllocError, Global};
+use std::mem::replace;
+
+/// A host and its last reply, in a vector that has room for the longest one.
+#[derive(Drop)]
+pub struct Session {
+    pub(crate) host: Host,
+    pub(crate) reply: Vec<u8>,
+    alloc: Global,
+    ghost room: { longest_reply ≤ vec_capacity reply },
+}
+
+impl Session {
+    /// A session of a new host. An error is want of memory.
+    pub(crate) fn new(alloc: Global, tenants: usize) -> Result<Box<Session>, AllocError>
+        requires some { 1 ≤ tenants }
+        requires few { tenants ≤ MOST_TENANTS }
+        ensures { IfOk result (λ session. session.value.host ≡ replicate tenants new_tenant) }
+    {
+        let host = Host::new(alloc, tenants)?;
+        let reply = Vec::with_capacity(alloc, LONGEST_REPLY)?;
+        Ok(Box::new(alloc, Session { host, reply, alloc })?)
+    }
+
+    /// Handles a frame. The reply is the last one then.
+    pub(crate) fn handle(&mut self, frame: &[u8])
+        ensures handled { Handles self.old.host frame.now self.new.reply.items self.new.host }
+        ensures bound { length self.new.reply.items ≤ longest_reply }
+    {
+        let room = replace(&mut self.reply, Vec::new(self.alloc));
+        let mut reply = ReplyBuf::from_vec(room);
+        self.host.handle(frame, &mut reply);
+        self.reply = reply.into_vec();
+    }
+}

@@ -1,0 +1,96 @@
+use crate::library::{Handle, Lent, bpfhost_c_free, bpfhost_c_handle_lent, bpfhost_c_memory_refused, bpfhost_c_new};
+use crate::numbers::{DONE, LONGEST_FRAME, MEMORY, TENANTS};
+use crate::{Error, Reply, Tenant};
+use std::ptr::null;
+
+/// A host of 1 to [`MOST_TENANTS`](crate::MOST_TENANTS) tenants, numbered from 0.
+///
+/// It may go to another thread, and is in one call at a time:
+///
+/// ```
+/// fn may_go_to_another_thread<T: Send>() {}
+/// may_go_to_another_thread::<bpfhost::Host>();
+/// ```
+///
+/// ```compile_fail
+/// fn may_be_shared_by_threads<T: Sync>() {}
+/// may_be_shared_by_threads::<bpfhost::Host>();
+/// ```
+pub struct Host {
+    handle: Handle,
+    // Where the commands of `Tenant` build their frames.
+    frame: Vec<u8>,
+}
+
+impl Host {
+    /// Makes a host, whose tenants have nothing open. It takes some 260 KiB for each tenant, which are free again when it is dropped.
+    ///
+    /// # Errors
+    ///
+    /// [`Error::Tenants`] where their number is not 1 to [`MOST_TENANTS`](crate::MOST_TENANTS), [`Error::NoMemory`].
+    pub fn new(tenants: usize) -> Result<Host, Error> {
+        let mut handle = Handle::empty();
+        match bpfhost_c_new(&mut handle, tenants) {
+            DONE => Ok(Host { handle, frame: Vec::new() }),
+            TENANTS => Err(Error::Tenants { asked: tenants }),
+            MEMORY => Err(Error::NoMemory),
+            code => panic!("{}", unexpected(code)),
+        }
+    }
+
+    /// What speaks for one tenant. Each command for a number that is not served is answered [`EPERM`](crate::Errno::EPERM).
+    pub fn tenant(&mut self, number: u16) -> Tenant<'_> {
+        Tenant::new(self, number)
+    }
+
+    /// Handles a frame of any length and content, which is what follows the length field in a stream. The reply is lent where it
+    /// stands; nothing is copied.
+    pub fn handle(&mut self, frame: &[u8]) -> Reply<'_> {
+        handle(&mut self.handle, frame)
+    }
+
+    /// Handles a frame of a tenant, a command and its fields. A frame that is too long is cut behind one byte too many: it is answered
+    /// as it is, since only its head and its length are looked at.
+    pub(crate) fn ask(&mut self, tenant: u16, command: u16, fields: &[&[u8]]) -> Reply<'_> {
+        self.frame.clear();
+        self.frame.extend_from_slice(&tenant.to_le_bytes());
+        self.frame.extend_from_slice(&command.to_le_bytes());
+        for field in fields {
+            let left = LONGEST_FRAME + 1 - self.frame.len();
+            self.frame.extend_from_slice(&field[..field.len().min(left)]);
+        }
+        handle(&mut self.handle, &self.frame)
+    }
+
+    /// Whether memory was ever refused to a tenant. While it was not, the tenant's replies are those that it would be given alone.
+    /// False for a number that is not served.
+    pub fn memory_was_refused(&mut self, tenant: u16) -> bool {
+        let mut refused = false;
+        let code = bpfhost_c_memory_refused(&mut self.handle, tenant, &mut refused);
+        assert_eq!(code, DONE, "{}", unexpected(code));
+        refused
+    }
+}
+
+impl Drop for Host {
+    fn drop(&mut self) {
+        bpfhost_c_free(&mut self.handle);
+    }
+}
+
+/// The reply to a frame, lent as long as the handle.
+fn handle<'a>(handle: &'a mut Handle, frame: &[u8]) -> Reply<'a> {
+    let mut lent = Lent { at: null(), length: 0 };
+    // SAFETY: `bpfhost_c_handle_lent` requires nothing but its types. The address and the length are those of a slice: it is not null,
+    // leads to so many bytes, not above isize::MAX, and no `&mut` overlaps it, neither the handle's nor that of `lent`.
+    let code = unsafe { bpfhost_c_handle_lent(handle, frame.as_ptr(), frame.len(), &mut lent) };
+    assert_eq!(code, DONE, "{}", unexpected(code));
+    // SAFETY: by `done` of the same contract the reply stands there (`StandsAt`): these are the bytes of a vector that the handle
+    // owns. They change at the next call with the handle, and no call can come while the reply is used, which borrows the handle for 'a.
+    Reply::new(unsafe { std::slice::from_raw_parts(lent.at, lent.length) })
+}
+
+/// By `code` of the contracts no other code comes: a `Host` has a host behind its handle from its first moment to its last.
+fn unexpected(code: i32) -> String {
+    format!("the code {code} of bpfhost comes here from no library of this version")
+}

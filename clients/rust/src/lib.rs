@@ -1,0 +1,19 @@
+#![doc = include_str!("../README.md")]
+#![deny(missing_docs, unsafe_op_in_unsafe_fn, clippy::undocumented_unsafe_blocks)]
+
+mod errno;
+mod error;
+mod host;
+mod library;
+mod numbers;
+mod packet;
+mod reply;
+mod tenant;
+
+pub use errno::Errno;
+pub use error::Error;
+pub use host::Host;
+pub use numbers::{LONGEST_FRAME, LONGEST_PAYLOAD, LONGEST_REPLY, MOST_TENANTS, TEST_RUN_HEAD};
+pub use packet::{Context, Packet};
+pub use reply::Reply;
+pub use tenant::{Fd, MapShape, MapType, Tenant, Update};

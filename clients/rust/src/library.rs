@@ -1,0 +1,44 @@
+//! The proved functions, as `bpfhost.h` declares them. Their contracts stand in `crates/bpfhost_c/src/lib.rt`.
+
+use std::ffi::c_void;
+use std::ptr::null_mut;
+
+/// What holds a host, or nothing. It begins empty, and only the library writes it.
+#[repr(C)]
+pub(crate) struct Handle {
+    at: *mut c_void,
+}
+
+/// Where a reply stands, and how many bytes it has.
+#[repr(C)]
+pub(crate) struct Lent {
+    pub(crate) at: *const u8,
+    pub(crate) length: usize,
+}
+
+impl Handle {
+    /// A handle without a host.
+    pub(crate) fn empty() -> Handle {
+        Handle { at: null_mut() }
+    }
+}
+
+// SAFETY: the library proves it: `unsafe impl Send for Handle` in `crates/bpfhost_c/src/handle.rt`, with its proof. A handle owns
+// its host alone, and two hosts share nothing.
+unsafe impl Send for Handle {}
+
+// SAFETY: these are the symbols and the types of `bpfhost.h`. No contract of these functions has a `requires`, so all that a call
+// owes are its parameters' types. A `Handle` is empty or as the library left it, since its field is private; a `&mut` is aligned, leads
+// to a whole value and overlaps no other parameter. So three of the functions are safe. The one that is not takes an address and a
+// length of C, and its caller owes that they are those of bytes that no other parameter overlaps.
+unsafe extern "C" {
+    pub(crate) safe fn bpfhost_c_new(handle: &mut Handle, tenants: usize) -> i32;
+    pub(crate) fn bpfhost_c_handle_lent(
+        handle: &mut Handle,
+        frame: *const u8,
+        frame_length: usize,
+        lent: &mut Lent,
+    ) -> i32;
+    pub(crate) safe fn bpfhost_c_memory_refused(handle: &mut Handle, tenant: u16, refused: &mut bool) -> i32;
+    pub(crate) safe fn bpfhost_c_free(handle: &mut Handle);
+}

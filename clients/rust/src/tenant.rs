@@ -1,0 +1,167 @@
+use crate::numbers::{
+    ANY, ARRAY, CLOSE, EXIST, HASH, MAP_CREATE, MAP_DELETE, MAP_LOOKUP, MAP_NEXT_KEY, MAP_UPDATE, NOEXIST, PROG_LOAD,
+    PROG_TEST_RUN, SOCKET_FILTER, TEST_RUN_HEAD,
+};
+use crate::{Context, Errno, Error, Host, Reply};
+
+/// A descriptor: what names a map or a program to the tenant that opened it. The host gives 3 to 66; another number is answered
+/// [`EBADF`](Errno::EBADF).
+#[derive(Debug, Clone, Copy, PartialEq, Eq, Hash, PartialOrd, Ord)]
+pub struct Fd(pub u32);
+
+/// The kind of a map.
+#[derive(Debug, Clone, Copy, PartialEq, Eq)]
+#[repr(u32)]
+pub enum MapType {
+    /// Has no key at first. Its keys stand in the order in which they were put there.
+    Hash = HASH,
+    /// Has all its entries from the beginning, each value zero. A key is an index of four bytes, the lowest first.
+    Array = ARRAY,
+}
+
+/// What a map is made of.
+#[derive(Debug, Clone, Copy, PartialEq, Eq)]
+pub struct MapShape {
+    /// Its kind.
+    pub map_type: MapType,
+    /// Bytes of a key: 1 to 512; 4 in an array.
+    pub key_size: u32,
+    /// Bytes of a value: 1 to 4,096.
+    pub value_size: u32,
+    /// Its most entries: 1 to 4,096. So many values, each rounded up to a multiple of eight bytes, take 65,536 bytes at most.
+    pub max_entries: u32,
+}
+
+/// Which keys an update is for.
+#[derive(Debug, Clone, Copy, PartialEq, Eq)]
+#[repr(u64)]
+pub enum Update {
+    /// All of them: BPF_ANY.
+    Any = ANY,
+    /// Those that are not there: BPF_NOEXIST.
+    NoExist = NOEXIST,
+    /// Those that are there: BPF_EXIST.
+    Exist = EXIST,
+}
+
+/// What speaks for one tenant of a host: whoever has it can ask nothing for another tenant.
+///
+/// Its functions are the commands of bpf(2). docs/PROTOCOL.md has all limits, and all errors in the order in which they are tried;
+/// [`EPERM`](Errno::EPERM) comes before them, where the tenant is not served. A refused command changes nothing.
+pub struct Tenant<'a> {
+    host: &'a mut Host,
+    number: u16,
+}
+
+impl<'a> Tenant<'a> {
+    pub(crate) fn new(host: &'a mut Host, number: u16) -> Tenant<'a> {
+        Tenant { host, number }
+    }
+
+    /// The tenant's number.
+    pub fn number(&self) -> u16 {
+        self.number
+    }
+
+    /// Makes a map. The descriptor is the lowest that is free.
+    ///
+    /// # Errors
+    ///
+    /// EINVAL: a size or the number of entries is outside its limits, or an array's key is not of four bytes. E2BIG: the values
+    /// take more than 65,536 bytes. EMFILE, ENOSPC, ENOMEM.
+    pub fn map_create(&mut self, shape: MapShape) -> Result<Fd, Error> {
+        let flags = 0;
+        let fields = [shape.map_type as u32, shape.key_size, shape.value_size, shape.max_entries, flags];
+        self.ask(MAP_CREATE, &[fields.map(u32::to_le_bytes).as_flattened()]).done().map(Fd)
+    }
+
+    /// The value of a key, lent until the host's next call.
+    ///
+    /// # Errors
+    ///
+    /// EBADF; EINVAL: the descriptor names a program, or the key is of another size than the map's. ENOENT: the key is not
+    /// there; in an array, the index is past the end.
+    pub fn map_lookup(&mut self, map: Fd, key: &[u8]) -> Result<&[u8], Error> {
+        let reply = self.ask(MAP_LOOKUP, &[&map.0.to_le_bytes(), key]);
+        reply.done().map(|_| reply.payload())
+    }
+
+    /// Puts a value under a key. The host takes key and value as one piece of bytes: where one is too short by as much as the other is
+    /// too long, it sees no fault.
+    ///
+    /// # Errors
+    ///
+    /// EBADF; EINVAL: the descriptor names a program, or the bytes are not as many as the map's key and value have. E2BIG: the index is
+    /// past the end, or the key is new and the map full. EEXIST, ENOENT: `update` does not want such a key. ENOMEM.
+    pub fn map_update(&mut self, map: Fd, update: Update, key: &[u8], value: &[u8]) -> Result<(), Error> {
+        let fields = [&map.0.to_le_bytes()[..], &(update as u64).to_le_bytes(), key, value];
+        self.ask(MAP_UPDATE, &fields).done().map(drop)
+    }
+
+    /// Takes a key out of a hash map.
+    ///
+    /// # Errors
+    ///
+    /// EBADF; EINVAL: the descriptor names a program or an array, or the key is of another size than the map's. ENOENT.
+    pub fn map_delete(&mut self, map: Fd, key: &[u8]) -> Result<(), Error> {
+        self.ask(MAP_DELETE, &[&map.0.to_le_bytes(), key]).done().map(drop)
+    }
+
+    /// The key that follows, lent until the host's next call: behind no key, and behind one that is not there, the first.
+    ///
+    /// # Errors
+    ///
+    /// EBADF; EINVAL: the descriptor names a program, or the key is of another size than the map's. ENOENT: no key follows.
+    pub fn map_get_next_key(&mut self, map: Fd, key: Option<&[u8]>) -> Result<&[u8], Error> {
+        let reply = self.ask(MAP_NEXT_KEY, &[&map.0.to_le_bytes(), key.unwrap_or_default()]);
+        reply.done().map(|_| reply.payload())
+    }
+
+    /// Loads a socket filter of 1 to 4,096 slots, in the bytes of RFC 9669 as a little-endian machine has them. It keeps the maps that
+    /// its slots name. The descriptor is the lowest that is free.
+    ///
+    /// # Errors
+    ///
+    /// [`Error::Refused`] tells the first slot that breaks a rule, and the rule. EMFILE, ENOMEM.
+    pub fn prog_load(&mut self, slots: &[[u8; 8]]) -> Result<Fd, Error> {
+        self.ask(PROG_LOAD, &[&SOCKET_FILTER.to_le_bytes(), slots.as_flattened()]).done().map(Fd)
+    }
+
+    /// Runs a program on a packet of 65,536 bytes at most, and gives the low 32 bits of its result. The packet is copied into the frame;
+    /// [`prog_test_run_in_place`](Tenant::prog_test_run_in_place) copies none.
+    ///
+    /// # Errors
+    ///
+    /// EBADF; EINVAL: the descriptor names a map. E2BIG: the packet is too long.
+    pub fn prog_test_run(&mut self, prog: Fd, context: &Context, packet: &[u8]) -> Result<u32, Error> {
+        let head = context.head(self.number, prog.0);
+        let reply = self.ask(PROG_TEST_RUN, &[&head[4..], packet]);
+        reply.done().map(|_| reply.result())
+    }
+
+    /// Runs a program on a packet where it lies: behind the first [`TEST_RUN_HEAD`] bytes of `room`, which are overwritten. The packet
+    /// stays as it is. [`Packet`](crate::Packet) has such a room.
+    ///
+    /// # Errors
+    ///
+    /// As [`prog_test_run`](Tenant::prog_test_run); and EINVAL: the room is shorter than [`TEST_RUN_HEAD`] bytes, which stay then.
+    pub fn prog_test_run_in_place(&mut self, prog: Fd, context: &Context, room: &mut [u8]) -> Result<u32, Error> {
+        let head = room.first_chunk_mut::<TEST_RUN_HEAD>().ok_or(Error::Status(Errno::EINVAL))?;
+        *head = context.head(self.number, prog.0);
+        let reply = self.host.handle(room);
+        reply.done().map(|_| reply.result())
+    }
+
+    /// Closes a descriptor. A map goes when no descriptor and no open program names it.
+    ///
+    /// # Errors
+    ///
+    /// EBADF.
+    pub fn close(&mut self, fd: Fd) -> Result<(), Error> {
+        self.ask(CLOSE, &[&fd.0.to_le_bytes()]).done().map(drop)
+    }
+
+    fn ask(&mut self, command: u16, fields: &[&[u8]]) -> Reply<'_> {
+        self.host.ask(self.number, command, fields)
+    }
+}

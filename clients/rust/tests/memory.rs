@@ -31,27 +31,44 @@ fn without_memory<T>(work: impl FnOnce() -> T) -> T {
     found
 }
 
+/// Makes hosts until there is no memory for one more.
+fn use_up(hosts: &mut Vec<Host>) -> Error {
+    let mut refused = Error::NoMemory;
+    for tenants in [64, 1] {
+        refused = loop {
+            match Host::new(tenants) {
+                Ok(host) => hosts.push(host),
+                Err(error) => break error,
+            }
+        };
+    }
+    refused
+}
+
 #[test]
 fn refused_memory_is_told() {
     let mut host = host(2);
-    // Long enough that what the process has already is used up.
     let mut long = vec![0xb700_0000_0000_0000; 4095];
     long.push(LENGTH[1]);
     let long = slots(&long);
     assert_eq!(host.tenant(1).prog_load(&long), Ok(Fd(3)));
     assert!(!host.memory_was_refused(0) && !host.memory_was_refused(1));
 
-    assert_eq!(without_memory(|| Host::new(64).err()), Some(Error::NoMemory));
-    let mut loaded = Vec::with_capacity(64);
-    without_memory(|| {
+    // Vectors that take no memory later.
+    let (mut hosts, mut loaded) = (Vec::with_capacity(10_000), Vec::with_capacity(64));
+    let refused = without_memory(|| {
+        let refused = use_up(&mut hosts);
         while loaded.last().is_none_or(Result::is_ok) {
             loaded.push(host.tenant(0).prog_load(&long));
         }
+        refused
     });
+    assert_eq!(refused, Error::NoMemory);
     assert_eq!(loaded.last(), Some(&Err(Error::Status(Errno::ENOMEM))));
-    // Of this tenant and no other, and the same load is done when there is memory.
+
+    // It is told of this tenant and no other, also when the same load is done.
     assert!(host.memory_was_refused(0) && !host.memory_was_refused(1));
-    let next = Fd(3 + loaded.len() as u32 - 1);
-    assert_eq!(host.tenant(0).prog_load(&long), Ok(next));
+    drop(hosts);
+    assert_eq!(host.tenant(0).prog_load(&long), Ok(Fd(2 + loaded.len() as u32)));
     assert!(host.memory_was_refused(0));
 }

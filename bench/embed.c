@@ -1,0 +1,332 @@
+/* A command by a call of the library, by two pipes to `bpfhost serve`, and by bpf(2). README.md says what is printed.
+ * usage: embed BPFHOST STREAM..; a stream's last frame is the command that is timed, those before it come once. */
+#define _GNU_SOURCE
+#include <bpfhost.h>
+#include <errno.h>
+#include <linux/bpf.h>
+#include <stdio.h>
+#include <stdlib.h>
+#include <sys/syscall.h>
+#include <sys/wait.h>
+#include <time.h>
+#include <unistd.h>
+
+#define MOST_FRAMES 16
+#define AT_ONCE 32
+#define ROUNDS 40
+#define ROUND_SECONDS 5e-3
+
+struct frames {
+    const char *name;
+    uint8_t *bytes;
+    size_t count;
+    bpfhost_bytes each[MOST_FRAMES]; /* without their length fields */
+};
+
+static void fail(const char *what)
+{
+    fprintf(stderr, "embed: %s\n", what);
+    exit(1);
+}
+
+static void must(bool holds, const char *what)
+{
+    if (!holds)
+        fail(what);
+}
+
+static double now(void)
+{
+    struct timespec t;
+    clock_gettime(CLOCK_MONOTONIC, &t);
+    return (double)t.tv_sec + (double)t.tv_nsec * 1e-9;
+}
+
+/* Does a command so many times. */
+typedef void repeats(void *way, long times);
+
+/* The time of a command in ns: the least of many short rounds, so that others on the machine count little. */
+static double least(repeats *repeat, void *way)
+{
+    long times = 1;
+    double begin, taken, best;
+    do {
+        times *= 2;
+        begin = now();
+        repeat(way, times);
+        best = now() - begin;
+    } while (best < ROUND_SECONDS);
+    for (int i = 0; i < ROUNDS; i++) {
+        begin = now();
+        repeat(way, times);
+        taken = now() - begin;
+        best = taken < best ? taken : best;
+    }
+    return best / (double)times * 1e9;
+}
+
+static struct frames read_frames(const char *path)
+{
+    const char *slash = strrchr(path, '/');
+    struct frames it = {.name = slash ? slash + 1 : path};
+    FILE *file = fopen(path, "rb");
+    size_t room = 1 << 20, length, at = 0;
+    must(file && (it.bytes = malloc(room)), "a stream can't be read");
+    length = fread(it.bytes, 1, room, file);
+    fclose(file);
+    while (at < length) {
+        must(it.count < MOST_FRAMES, "a stream has too many frames");
+        it.each[it.count].at = it.bytes + at + 4;
+        it.each[it.count].length = bpfhost_get32(it.bytes + at);
+        at += 4 + it.each[it.count++].length;
+    }
+    must(at == length && it.count, "a stream is no list of whole frames");
+    return it;
+}
+
+static bpfhost_bytes last_of(const struct frames *frames)
+{
+    return frames->each[frames->count - 1];
+}
+
+/* ---- a call */
+
+struct call {
+    bpfhost host;
+    bpfhost_bytes frame, reply;
+};
+
+static void repeat_call(void *way, long times)
+{
+    struct call *call = way;
+    while (times--)
+        must(bpfhost_handle_lent(&call->host, call->frame.at, call->frame.length, &call->reply) == BPFHOST_DONE, "no reply");
+}
+
+static struct call by_call(const struct frames *frames)
+{
+    struct call it = {.host = BPFHOST_EMPTY};
+    must(bpfhost_new(&it.host, 1) == BPFHOST_DONE, "no host");
+    for (size_t i = 0; i < frames->count; i++) {
+        it.frame = frames->each[i];
+        repeat_call(&it, 1);
+    }
+    return it;
+}
+
+/* ---- two pipes */
+
+struct pipes {
+    int to, from;
+    pid_t process;
+    uint8_t *frames; /* AT_ONCE of them, one behind the other */
+    size_t frame_length, reply_length;
+    long at_once;
+    uint8_t replies[AT_ONCE * BPFHOST_LONGEST_REPLY];
+};
+
+static void repeat_pipes(void *way, long times)
+{
+    struct pipes *it = way;
+    for (long done = 0; done < times; done += it->at_once) {
+        size_t wanted = it->reply_length * (size_t)it->at_once, length = it->frame_length * (size_t)it->at_once;
+        must(write(it->to, it->frames, length) == (ssize_t)length, "a pipe takes too few bytes at once");
+        for (size_t has = 0; has < wanted;) {
+            ssize_t more = read(it->from, it->replies + has, wanted - has);
+            must(more > 0, "bpfhost serve has ended");
+            has += (size_t)more;
+        }
+    }
+}
+
+static void start(struct pipes *it, const char *program)
+{
+    int to[2], from[2];
+    must(pipe(to) == 0 && pipe(from) == 0 && (it->process = fork()) >= 0, "no pipes, or no process");
+    if (it->process == 0) {
+        dup2(to[0], 0);
+        dup2(from[1], 1);
+        close(to[1]);
+        close(from[0]);
+        execl(program, program, "serve", "--tenants", "1", (char *)NULL);
+        _exit(1);
+    }
+    close(to[0]);
+    close(from[1]);
+    it->to = to[1];
+    it->from = from[0];
+}
+
+/* Sends the frames before the last one, by the lengths of the replies that a host gives by calls. */
+static void by_pipes(struct pipes *it, const char *program, const struct frames *frames)
+{
+    struct call call = {.host = BPFHOST_EMPTY};
+    must(bpfhost_new(&call.host, 1) == BPFHOST_DONE, "no host");
+    start(it, program);
+    it->at_once = 1;
+    for (size_t i = 0; i < frames->count; i++) {
+        call.frame = frames->each[i];
+        repeat_call(&call, 1);
+        it->frames = (uint8_t *)(uintptr_t)(call.frame.at - 4);
+        it->frame_length = 4 + call.frame.length;
+        it->reply_length = call.reply.length;
+        repeat_pipes(it, 1);
+        must(memcmp(call.reply.at, it->replies, call.reply.length) == 0, "serve answers otherwise than the library");
+    }
+    bpfhost_free(&call.host);
+    must((it->frames = malloc(AT_ONCE * it->frame_length)) != NULL, "no memory");
+    for (size_t i = 0; i < AT_ONCE; i++)
+        memcpy(it->frames + i * it->frame_length, last_of(frames).at - 4, it->frame_length);
+}
+
+static void end(struct pipes *it)
+{
+    close(it->to);
+    close(it->from);
+    waitpid(it->process, NULL, 0);
+    free(it->frames);
+}
+
+/* ---- bpf(2) */
+
+struct kernel {
+    enum bpf_cmd command;
+    union bpf_attr attr;
+    uint8_t value[BPFHOST_LONGEST_PAYLOAD];
+    int fd;
+    char log[256];
+};
+
+static int bpf(struct kernel *it)
+{
+    return (int)syscall(SYS_bpf, it->command, &it->attr, sizeof it->attr);
+}
+
+static void repeat_kernel(void *way, long times)
+{
+    while (times--)
+        must(bpf(way) >= 0, "bpf(2) fails");
+}
+
+static uint64_t address(const void *at)
+{
+    return (uint64_t)(uintptr_t)at;
+}
+
+/* What the kernel is asked in place of a frame. A program is loaded for traffic control: a test run of a socket filter hides the
+ * Ethernet header. None of the programs loads a map, so there is one descriptor at a time. */
+static void for_kernel(struct kernel *it, bpfhost_bytes frame)
+{
+    const uint8_t *body = frame.at + 4;
+    memset(&it->attr, 0, sizeof it->attr);
+    switch (bpfhost_get16(frame.at + 2)) {
+    case BPFHOST_MAP_CREATE:
+        it->command = BPF_MAP_CREATE;
+        it->attr.map_type = bpfhost_get32(body);
+        it->attr.key_size = bpfhost_get32(body + 4);
+        it->attr.value_size = bpfhost_get32(body + 8);
+        it->attr.max_entries = bpfhost_get32(body + 12);
+        return;
+    case BPFHOST_MAP_UPDATE: /* of a key of four bytes */
+        it->command = BPF_MAP_UPDATE_ELEM;
+        it->attr.map_fd = (uint32_t)it->fd;
+        it->attr.key = address(body + 12);
+        it->attr.value = address(body + 16);
+        return;
+    case BPFHOST_MAP_LOOKUP:
+        it->command = BPF_MAP_LOOKUP_ELEM;
+        it->attr.map_fd = (uint32_t)it->fd;
+        it->attr.key = address(body + 4);
+        it->attr.value = address(it->value);
+        return;
+    case BPFHOST_PROG_LOAD:
+        it->command = BPF_PROG_LOAD;
+        it->attr.prog_type = BPF_PROG_TYPE_SCHED_CLS;
+        it->attr.insns = address(body + 4);
+        it->attr.insn_cnt = (uint32_t)(frame.length - 8) / 8;
+        it->attr.license = address("GPL");
+        return;
+    case BPFHOST_PROG_TEST_RUN:
+        it->command = BPF_PROG_TEST_RUN;
+        it->attr.test.prog_fd = (uint32_t)it->fd;
+        it->attr.test.data_in = address(frame.at + BPFHOST_TEST_RUN_HEAD);
+        it->attr.test.data_size_in = (uint32_t)(frame.length - BPFHOST_TEST_RUN_HEAD);
+        return;
+    default:
+        fail("a frame that the kernel is not asked");
+    }
+}
+
+/* Whether the kernel may be asked; else why not is in errno. */
+static bool by_kernel(struct kernel *it, const struct frames *frames)
+{
+    for (size_t i = 0; i < frames->count; i++) {
+        int told;
+        for_kernel(it, frames->each[i]);
+        told = bpf(it);
+        if (told < 0)
+            return false;
+        it->fd = told > 0 ? told : it->fd;
+    }
+    return true;
+}
+
+static void compare(const struct kernel *it, bpfhost_bytes reply)
+{
+    const void *told = it->command == BPF_PROG_TEST_RUN ? (const void *)&it->attr.test.retval : (const void *)it->value;
+    must(memcmp(told, reply.at + 12, reply.length - 12) == 0, "the kernel answers otherwise than the library");
+}
+
+/* ---- what is printed */
+
+static void print_time(double time, double call)
+{
+    printf("%10.0f%9.2f", time, time / call);
+}
+
+static void print_kernel(const struct frames *frames, struct call *call, double by_call)
+{
+    static struct kernel it;
+    memset(&it, 0, sizeof it);
+    if (!by_kernel(&it, frames)) {
+        printf("   bpf(2): %s", strerror(errno));
+        return;
+    }
+    compare(&it, call->reply);
+    print_time(least(repeat_kernel, &it), by_call);
+    if (it.command == BPF_PROG_TEST_RUN) {
+        it.attr.test.repeat = 100000;
+        repeat_kernel(&it, 1);
+        print_time(it.attr.test.duration, by_call);
+    }
+    close(it.fd);
+}
+
+static void measure(const char *program, const char *path)
+{
+    static struct pipes pipes;
+    struct frames frames = read_frames(path);
+    struct call call = by_call(&frames);
+    double time = least(repeat_call, &call);
+    printf("%-22s%8.0f", frames.name, time);
+    by_pipes(&pipes, program, &frames);
+    print_time(least(repeat_pipes, &pipes), time);
+    pipes.at_once = AT_ONCE;
+    print_time(least(repeat_pipes, &pipes), time);
+    end(&pipes);
+    print_kernel(&frames, &call, time);
+    puts("");
+    bpfhost_free(&call.host);
+    free(frames.bytes);
+}
+
+int main(int argc, char **argv)
+{
+    must(argc > 2, "usage: embed BPFHOST STREAM..");
+    setvbuf(stdout, NULL, _IOLBF, 0);
+    printf("ns a command, and how many times the call's\n");
+    printf("%-22s%8s%19s%19s%19s%19s\n", "", "call", "pipes, 1 frame", "pipes, 32 frames", "bpf(2)", "its run alone");
+    for (int i = 2; i < argc; i++)
+        measure(argv[1], argv[i]);
+    return 0;
+}

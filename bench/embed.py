@@ -30,9 +30,9 @@ def main():
     folder = pathlib.Path(sys.argv[1])
     program = parser()
     streams = {
-        "1 empty program": runs_of(Program(empty().slots, packet=bytes(ETHERNET_HEADER)), 1),
-        "2 parser, 1,500 bytes": runs_of(Program(program.slots, packet=program.packet.ljust(LONG_PACKET, b"\0")), 1),
-        "3 look-up": look_up(),
+        "empty program": runs_of(Program(empty().slots, packet=bytes(ETHERNET_HEADER)), 1),
+        "parser, 1,500 bytes": runs_of(Program(program.slots, packet=program.packet.ljust(LONG_PACKET, b"\0")), 1),
+        "look-up": look_up(),
     }
     for name, stream in streams.items():
         (folder / name).write_bytes(stream)

@@ -1,7 +1,8 @@
 use crate::library::{Handle, Lent, bpfhost_c_free, bpfhost_c_handle_lent, bpfhost_c_memory_refused, bpfhost_c_new};
 use crate::numbers::{DONE, LONGEST_FRAME, MEMORY, TENANTS};
 use crate::{Error, Reply, Tenant};
-use std::ptr::null;
+use std::fmt;
+use std::ptr::NonNull;
 
 /// A host of 1 to [`MOST_TENANTS`](crate::MOST_TENANTS) tenants, numbered from 0.
 ///
@@ -12,7 +13,7 @@ use std::ptr::null;
 /// may_go_to_another_thread::<bpfhost::Host>();
 /// ```
 ///
-/// ```compile_fail
+/// ```compile_fail,E0277
 /// fn may_be_shared_by_threads<T: Sync>() {}
 /// may_be_shared_by_threads::<bpfhost::Host>();
 /// ```
@@ -72,6 +73,12 @@ impl Host {
     }
 }
 
+impl fmt::Debug for Host {
+    fn fmt(&self, f: &mut fmt::Formatter<'_>) -> fmt::Result {
+        f.debug_struct("Host").finish_non_exhaustive()
+    }
+}
+
 impl Drop for Host {
     fn drop(&mut self) {
         bpfhost_c_free(&mut self.handle);
@@ -80,8 +87,8 @@ impl Drop for Host {
 
 /// The reply to a frame, lent as long as the handle.
 fn handle<'a>(handle: &'a mut Handle, frame: &[u8]) -> Reply<'a> {
-    let mut lent = Lent { at: null(), length: 0 };
-    // SAFETY: `bpfhost_c_handle_lent` requires nothing but its types. The address and the length are those of a slice: it is not null,
+    let mut lent = Lent { at: NonNull::dangling().as_ptr(), length: 0 };
+    // SAFETY: the contract of `bpfhost_c_handle_lent` requires nothing but its types. The address and the length are those of a slice: it is not null,
     // leads to so many bytes, not above isize::MAX, and no `&mut` overlaps it, neither the handle's nor that of `lent`.
     let code = unsafe { bpfhost_c_handle_lent(handle, frame.as_ptr(), frame.len(), &mut lent) };
     assert_eq!(code, DONE, "{}", unexpected(code));

@@ -1,7 +1,14 @@
 use crate::numbers::PROG_LOAD;
 use crate::{Errno, Error};
 
-/// A reply, lent by the host until its next call.
+/// A reply, lent by the host until its next call:
+///
+/// ```compile_fail,E0499
+/// # let mut host = bpfhost::Host::new(1).unwrap();
+/// let reply = host.handle(&[]);
+/// host.handle(&[]);
+/// reply.status();
+/// ```
 #[derive(Debug, Clone, Copy, PartialEq, Eq)]
 pub struct Reply<'a> {
     bytes: &'a [u8],

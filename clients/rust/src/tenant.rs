@@ -48,6 +48,7 @@ pub enum Update {
 ///
 /// Its functions are the commands of bpf(2). docs/PROTOCOL.md has all limits, and all errors in the order in which they are tried;
 /// [`EPERM`](Errno::EPERM) comes before them, where the tenant is not served. A refused command changes nothing.
+#[derive(Debug)]
 pub struct Tenant<'a> {
     host: &'a mut Host,
     number: u16,

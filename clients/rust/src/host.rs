@@ -88,12 +88,13 @@ impl Drop for Host {
 /// The reply to a frame, lent as long as the handle.
 fn handle<'a>(handle: &'a mut Handle, frame: &[u8]) -> Reply<'a> {
     let mut lent = Lent { at: NonNull::dangling().as_ptr(), length: 0 };
-    // SAFETY: the contract of `bpfhost_c_handle_lent` requires nothing but its types. The address and the length are those of a slice: it is not null,
-    // leads to so many bytes, not above isize::MAX, and no `&mut` overlaps it, neither the handle's nor that of `lent`.
+    // SAFETY: the contract of `bpfhost_c_handle_lent` requires nothing but its types. The address and the length are those of a slice:
+    // the address is not null and leads to so many bytes, isize::MAX at most, and no `&mut` overlaps them, neither the handle's nor
+    // that of `lent`.
     let code = unsafe { bpfhost_c_handle_lent(handle, frame.as_ptr(), frame.len(), &mut lent) };
     assert_eq!(code, DONE, "{}", unexpected(code));
     // SAFETY: by `done` of the same contract the reply stands there (`StandsAt`): these are the bytes of a vector that the handle
-    // owns. They change at the next call with the handle, and no call can come while the reply is used, which borrows the handle for 'a.
+    // owns. They change at the next call with the handle, and none can come while the reply is used, which borrows the handle for 'a.
     Reply::new(unsafe { std::slice::from_raw_parts(lent.at, lent.length) })
 }
 

@@ -1,5 +1,5 @@
 //! Memory is refused by a limit of the process, so this file has one test alone.
-#![cfg(target_os = "linux")]
+#![cfg(all(target_os = "linux", target_pointer_width = "64"))]
 
 mod common;
 

@@ -9,7 +9,7 @@ ghost use Rattle.bpf_helpers.specs.inside.Flat.{DeletesBy};
 use crate::look_up::{asked_place, bound};
 use crate::update::refusal;
 use arena::{Arena, Trace};
-use bpf_maps::{MapKey, Maps};
+use bpf_maps::{MapKey, Maps, sizes_fit_in_parts};
 
 /// A delete that is asked for by words, which name the map and the address of the key: helper 3. It answers nothing where they
 /// name none.
@@ -30,6 +30,7 @@ pub(crate) fn take_out(
     ensures inside { AddsInside arena.now tenant trace.old.ranges trace.new.ranges }
     ensures steps { trace.new.steps ≡ trace.old.steps }
 {
+    sizes_fit_in_parts();
     let map = bound(bind, map)?;
     let size = maps.shape(map).key_size as usize;
     let at = asked_place(arena, tenant, size, key, trace)?;

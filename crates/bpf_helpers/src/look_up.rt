@@ -9,7 +9,7 @@ ghost use Rattle.bpf_helpers.specs.Calls.{AreLive};
 ghost use Rattle.bpf_helpers.specs.inside.Flat.{bound_map, part_place, flat_look_up};
 
 use arena::{Arena, Trace};
-use bpf_maps::{MapKey, Maps, PART};
+use bpf_maps::{MapKey, Maps, PART, sizes_fit_in_parts};
 
 /// The map that a word names.
 #[inline(always)]
@@ -25,18 +25,19 @@ pub(crate) fn bound(bind: &[MapKey], word: u64) -> Option<MapKey>
     Some(bind[index as usize])
 }
 
-/// The place in a tenant's part of so many bytes at an address, if they lie in it.
+/// The place in a tenant's part of so many bytes at an address, no more than a part has, if they lie in it.
 #[inline(always)]
 pub(crate) fn place_in(arena: &Arena, tenant: usize, size: usize, address: u64) -> Option<usize>
     requires tenant { tenant < arena.now.parts }
     requires part { arena.now.part ≡ PART }
+    requires size { size ≤ PART }
     ensures value { result ≡ part_place (part_start arena.now tenant) arena.now.part size address }
     ensures within { IfSome result (λ at. at + size ≤ arena.now.part) }
     ensures inside { IfSome result (λ at. IsInside arena.now tenant (address, size)) }
 {
     arena.memory_is_its_parts();
     let at = address.wrapping_sub(arena.address(tenant));
-    if size > PART || at > (PART - size) as u64 {
+    if at > (PART - size) as u64 {
         return None;
     }
     Some(at as usize)
@@ -53,6 +54,7 @@ pub(crate) fn asked_place(
 ) -> Option<usize>
     requires tenant { tenant < arena.now.parts }
     requires part { arena.now.part ≡ PART }
+    requires size { size ≤ PART }
     ensures value { result ≡ part_place (part_start arena.now tenant) arena.now.part size address }
     ensures within { IfSome result (λ at. at + size ≤ arena.now.part) }
     ensures inside { AddsInside arena.now tenant trace.old.ranges trace.new.ranges }
@@ -81,6 +83,7 @@ pub(crate) fn look_up(
     ensures inside { AddsInside arena.now tenant trace.old.ranges trace.new.ranges }
     ensures steps { trace.new.steps ≡ trace.old.steps }
 {
+    sizes_fit_in_parts();
     arena.memory_is_its_parts();
     let map = bound(bind, map)?;
     let size = maps.shape(map).key_size as usize;

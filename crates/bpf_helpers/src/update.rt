@@ -10,7 +10,7 @@ ghost use Rattle.bpf_helpers.specs.inside.Flat.{key_bytes, value_bytes, Updates,
 
 use crate::look_up::{asked_place, bound};
 use arena::{Arena, Trace};
-use bpf_maps::{MapKey, Maps, areas_keep_places};
+use bpf_maps::{MapKey, Maps, areas_keep_places, sizes_fit_in_parts};
 use tagged_model::MapFault;
 
 /// The number of an error of bpf(2).
@@ -95,6 +95,7 @@ pub(crate) fn update(
     ensures inside { AddsInside arena.old tenant trace.old.ranges trace.new.ranges }
     ensures steps { trace.new.steps ≡ trace.old.steps }
 {
+    sizes_fit_in_parts();
     let map = bound(bind, map)?;
     let shape = maps.shape(map);
     let key = asked_place(arena, tenant, shape.key_size as usize, key, trace)?;

@@ -4,7 +4,7 @@ use Rattle.std.proofs.lemmas.Bool.{and_parts, leb-true}
 use Rattle.tagged_model.specs.declared.shape.MapKind.{MapKind}
 use Rattle.tagged_model.specs.declared.shape.MapKind.TheVariants.{Hash, Array}
 use Rattle.tagged_model.specs.declared.shape.MapShape.{MapShape}
-use Rattle.tagged_model.specs.Shape.{is_from_to, is_shape, longest_key, most_entries}
+use Rattle.tagged_model.specs.Shape.{is_from_to, is_shape, longest_key, longest_value, most_entries}
 
 within : (low high n : ℕ) → is_from_to low high n ≡ true → n ≤ high
 within low high n h = leb-true n high (and_parts _ _ h).1
@@ -15,6 +15,12 @@ key_fits Hash key value max h = within 1 longest_key key (and_parts _ _ (and_par
 
 pub key_fits_room : (s : MapShape) → s.key_size ≤ longest_key
 key_fits_room s = key_fits s.kind s.key_size s.value_size s.max_entries s.listed
+
+value_fits : (k : MapKind) (key value max : ℕ) → IsTrue (is_shape k key value max) → value ≤ longest_value
+value_fits k key value max h = within 1 longest_value value (and_parts _ _ (and_parts _ _ (and_parts _ _ (and_parts _ _ h).0).0).0).1
+
+pub value_fits_room : (s : MapShape) → s.value_size ≤ longest_value
+value_fits_room s = value_fits s.kind s.key_size s.value_size s.max_entries s.listed
 
 few : (k : MapKind) (key value max : ℕ) → IsTrue (is_shape k key value max) → max ≤ most_entries
 few k key value max h = within 1 most_entries max (and_parts _ _ (and_parts _ _ (and_parts _ _ h).0).0).1

@@ -6,6 +6,7 @@ use Rattle.tagged_model.specs.declared.shape.MapShape.{MapShape}
 use Rattle.tagged_model.specs.Table as map
 pub use Rattle.tagged_model.specs.MapLaws.{CallsRefineValues}
 use Rattle.bpf_maps.specs.Places.{PlaceTable, table_of, occurrences, IsSound, new_places, with_place, with_kept, after_run}
+use Rattle.bpf_maps.specs.declared.part.TheConstants.{PART}
 use Rattle.bpf_maps.specs.Live.{LiveMaps, live_at, offset_at, SameAreas}
 
 -- as a map of places
@@ -43,3 +44,7 @@ abbrev pub DeletesKeepPlaces : Type 0
 DeletesKeepPlaces =
     (t : PlaceTable) (key : List ℕ) (place p : ℕ) → map.look_up (table_of t) key ≡ Some place
     → occurrences p (values_of (with_kept t key place).entries) + occurrences p (with_kept t key place).kept ≡ occurrences p (values_of t.entries) + occurrences p t.kept
+
+-- a key and a value of any shape are no longer than a part
+abbrev pub SizesFitInParts : Type 0
+SizesFitInParts = (s : MapShape) → (s.key_size ≤ PART) × (s.value_size ≤ PART)

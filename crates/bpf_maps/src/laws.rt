@@ -1,7 +1,7 @@
 //! Laws of the tables of places. Each is the contract of a function that does nothing.
 
 ghost use Rattle.std.specs.Prelude.{ℕ, List};
-ghost use Rattle.bpf_maps.specs.Laws.{CallsAreThoseOfAMap, WritesRefineValues, ValuesAgree, PlacesAreWithin, AreasKeepPlaces, DeletesKeepPlaces};
+ghost use Rattle.bpf_maps.specs.Laws.{SizesFitInParts, CallsAreThoseOfAMap, WritesRefineValues, ValuesAgree, PlacesAreWithin, AreasKeepPlaces, DeletesKeepPlaces};
 ghost use Rattle.bpf_maps.specs.InPart.{ValuesAreWritten, LiveMapsRefineValues};
 
 use tagged_model::{calls_refine_values, map_verdicts_match_look_ups};
@@ -31,6 +31,11 @@ pub fn areas_keep_places()
 /// A delete keeps each place in use.
 pub fn deletes_keep_places()
     ensures { DeletesKeepPlaces }
+{}
+
+/// A key and a value of a map are no longer than a part.
+pub fn sizes_fit_in_parts()
+    ensures { SizesFitInParts }
 {}
 
 /// The bytes of a value, written at the place of a key, are that key's value, and no other key of a live map changes.

@@ -24,7 +24,7 @@ pub use given_key::{GivenKey, ShortKey};
 pub use hash_map::HashMapIx;
 pub use laws::{
     areas_keep_places, calls_are_those_of_a_map, deletes_keep_places, live_maps_refine_values,
-    values_agree, values_are_written, writes_refine_values,
+    sizes_fit_in_parts, values_agree, values_are_written, writes_refine_values,
 };
 pub use maps::{MapKey, Maps};
 pub use part::{FRONT, KEY_ROOM, LARGEST_SUM, MAPS, PART};

@@ -272,7 +272,9 @@ impl Maps {
     {
         let entry = &mut self.slots[map.number];
         let answer = entry.map.claim(key, flags);
-        self.refused = self.refused || matches!(answer, Err(MapFault::Memory));
+        if matches!(answer, Err(MapFault::Memory)) {
+            self.refused = true;
+        }
         answer
     }
 

@@ -24,7 +24,9 @@ use crate::shape::asked_shape;
 use crate::tenant::{Tenant, write_refusal};
 use arena::{Arena, parts_are_apart};
 use bpf_maps::GivenKey;
-use command_frames::{BadFrame, Command, GIVEN_WORDS, Head, ReplyBuf, head, parse, write_number, write_reply};
+use command_frames::{
+    BadFrame, Command, GIVEN_WORDS, Head, ReplyBuf, head, parse, write_number, write_reply,
+};
 use std::alloc::Global;
 use tagged_model::MapShape;
 

@@ -1,10 +1,33 @@
-use Rattle.std.proofs.Common.{◌<◌, IfOk, subst}
+use Rattle.std.proofs.Common.{◌<◌, IfOk, subst, true}
 use Rattle.bpf_maps.specs.Places.{PlaceTable}
 use Rattle.bpf_maps.proofs.KeyChanges.{IsKeyChange, places_before, places_after, keys_whole, only_keys}
 use Rattle.bpf_maps.proofs.Along.{claims_shape, claims_along}
 use Rattle.bpf_maps.proofs.maps.Maps.claim.Goals as goal
 
-module _ (c : goal.After-self-2-1) where
+-- memory was refused
+module _ (c : goal.After-self-then-matches-1) where
+  change_refused : IsKeyChange c.self.inside c.args.self.now c.map.inside.number c.args.map c.index_mut-entry.result.now c.claim-answer.new.self
+  change_refused = record {
+    view = c.self.view_is;
+    whole = c.self.invariant;
+    same = c.map.view_is;
+    here = c.index_mut-entry.ensures.value;
+    shape = claims_shape _ c.args.key.now _ _ c.claim-answer.result c.claim-answer.ensures.claimed;
+    sound = c.claim-answer.ensures.sound;
+  }
+
+pub invariant_of-self : goal.invariant_of-self
+invariant_of-self c = keys_whole c.self.inside c.args.self.now c.map.inside.number c.args.map c.index_mut-entry.result.now c.claim-answer.new.self true (change_refused c)
+
+pub returns-then-matches-clause-claimed : goal.returns-then-matches-clause-claimed
+returns-then-matches-clause-claimed c =
+    claims_along c.args.key.now c.args.flags c.claim-answer.result _ _ _ _ (places_before _ _ _ _ _ _ true (change_refused c)) (places_after _ _ _ _ _ _ true (change_refused c)) c.claim-answer.ensures.claimed
+
+pub returns-then-matches-clause-rest : goal.returns-then-matches-clause-rest
+returns-then-matches-clause-rest c = only_keys c.self.inside c.args.self.now c.map.inside.number c.args.map c.index_mut-entry.result.now c.claim-answer.new.self true (change_refused c)
+
+-- it was not
+module _ (c : goal.Else-matches) where
   change : IsKeyChange c.self.inside c.args.self.now c.map.inside.number c.args.map c.index_mut-entry.result.now c.claim-answer.new.self
   change = record {
     view = c.self.view_is;
@@ -15,15 +38,15 @@ module _ (c : goal.After-self-2-1) where
     sound = c.claim-answer.ensures.sound;
   }
 
-pub invariant_of-self : goal.invariant_of-self
-invariant_of-self c = keys_whole c.self.inside c.args.self.now c.map.inside.number c.args.map c.index_mut-entry.result.now c.claim-answer.new.self c.if-self.self (change c)
+pub invariant_of-self-else-matches : goal.invariant_of-self-else-matches
+invariant_of-self-else-matches c = keys_whole c.self.inside c.args.self.now c.map.inside.number c.args.map c.index_mut-entry.result.now c.claim-answer.new.self c.self.inside.refused (change c)
 
-pub returns-clause-claimed : goal.returns-clause-claimed
-returns-clause-claimed c =
-    claims_along c.args.key.now c.args.flags c.claim-answer.result _ _ _ _ (places_before _ _ _ _ _ _ c.if-self.self (change c)) (places_after _ _ _ _ _ _ c.if-self.self (change c)) c.claim-answer.ensures.claimed
+pub returns-else-matches-clause-claimed : goal.returns-else-matches-clause-claimed
+returns-else-matches-clause-claimed c =
+    claims_along c.args.key.now c.args.flags c.claim-answer.result _ _ _ _ (places_before _ _ _ _ _ _ c.self.inside.refused (change c)) (places_after _ _ _ _ _ _ c.self.inside.refused (change c)) c.claim-answer.ensures.claimed
 
-pub returns-clause-within : goal.returns-clause-within
-returns-clause-within c = subst (λ (t : PlaceTable). IfOk c.claim-answer.result (λ p. p < t.shape.max_entries)) (places_after _ _ _ _ _ _ c.if-self.self (change c)) c.claim-answer.ensures.within
+pub returns-else-matches-clause-within : goal.returns-else-matches-clause-within
+returns-else-matches-clause-within c = subst (λ (t : PlaceTable). IfOk c.claim-answer.result (λ p. p < t.shape.max_entries)) (places_after _ _ _ _ _ _ c.self.inside.refused (change c)) c.claim-answer.ensures.within
 
-pub returns-clause-rest : goal.returns-clause-rest
-returns-clause-rest c = only_keys c.self.inside c.args.self.now c.map.inside.number c.args.map c.index_mut-entry.result.now c.claim-answer.new.self c.if-self.self (change c)
+pub returns-else-matches-clause-rest : goal.returns-else-matches-clause-rest
+returns-else-matches-clause-rest c = only_keys c.self.inside c.args.self.now c.map.inside.number c.args.map c.index_mut-entry.result.now c.claim-answer.new.self c.self.inside.refused (change c)

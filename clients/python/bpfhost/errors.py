@@ -1,0 +1,86 @@
+"""What can go wrong, as exceptions. Each one's text is a plain sentence."""
+
+from __future__ import annotations
+
+import signal
+from typing import TYPE_CHECKING
+
+from bpfhost.numbers import Errno
+
+if TYPE_CHECKING:
+    from bpfhost.replies import Reply
+
+
+class BpfhostError(Exception):
+    """The base of all that this package raises, but for a ValueError where a caller's argument is wrong."""
+
+
+class HostError(BpfhostError):
+    """bpfhost did not start, or ended with another status than 0.
+
+    `fault` is what it wrote to standard error, and `written` what it had written to standard output and nobody has read.
+    """
+
+    def __init__(self, message: str, fault: str = "", written: bytes = b"") -> None:
+        super().__init__(message)
+        self.fault = fault
+        self.written = written
+
+    @classmethod
+    def of(cls, what: str, status: int, fault: bytes, written: bytes = b"") -> HostError:
+        """`what` ended with a status, or by a signal where that is negative, and wrote `fault` on standard error."""
+        said = fault.decode(errors="replace").strip()
+        by = f"by {_signal_name(-status)}" if status < 0 else f"with status {status}"
+        return cls(f"{what} ended {by}: {said or 'it did not say why'}", said, written)
+
+
+def _signal_name(number: int) -> str:
+    try:
+        return signal.Signals(number).name
+    except ValueError:
+        return f"signal {number}"
+
+
+class ReplyError(BpfhostError, ValueError):
+    """Bytes that are no stream of replies, or a reply to something else than was asked."""
+
+
+class Refused(BpfhostError):
+    """The host refused a command: `status` is its negative status, and `reply` all that it said."""
+
+    def __init__(self, reply: Reply) -> None:
+        super().__init__(str(reply))
+        self.reply = reply
+
+    @property
+    def status(self) -> int:
+        """The negative status."""
+        return self.reply.status
+
+    def has(self, errno: Errno) -> bool:
+        """Whether this is the error."""
+        return self.reply.status == -errno
+
+
+class ProgramRefused(Refused):
+    """The host refused a program, at a slot for a reason of the verifier or of the codec."""
+
+    def __init__(self, reply: Reply, slot: int, reason: int) -> None:
+        super().__init__(reply)
+        self.slot = slot
+        self.reason = reason
+
+
+class InputError(BpfhostError, ValueError):
+    """A file or a text that is not what it should be."""
+
+
+class CaptureError(InputError):
+    """A capture that is cut off, is none, or has a packet that no test run takes."""
+
+
+class MissingPackage(BpfhostError):
+    """A Python package that is not there."""
+
+    def __init__(self, module: str, debian: str) -> None:
+        super().__init__(f"the Python package {module} is missing: apt-get install {debian}")

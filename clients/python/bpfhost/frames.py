@@ -1,0 +1,94 @@
+"""The bytes of command frames (docs/PROTOCOL.md). Each function has the name of its command, and takes the tenant first.
+
+A number that has no room in its field is a ValueError; all else, right or wrong, is the host's to judge.
+"""
+
+from dataclasses import astuple, dataclass
+
+from bpfhost.numbers import SOCKET_FILTER, Command, MapType, Update
+
+
+@dataclass(frozen=True)
+class Context:
+    """The words of a test run's context behind the packet's length: fields of the kernel's `__sk_buff`, 32 bits each."""
+
+    pkt_type: int = 0
+    mark: int = 0
+    queue_mapping: int = 0
+    protocol: int = 0
+    vlan_present: int = 0
+    vlan_tci: int = 0
+    vlan_proto: int = 0
+    priority: int = 0
+    ingress_ifindex: int = 0
+    ifindex: int = 0
+
+    def to_bytes(self) -> bytes:
+        """The ten words as a frame has them."""
+        return b"".join(_number("a word of the context", word, 32) for word in astuple(self))
+
+
+NO_CONTEXT = Context()
+
+
+def _number(name: str, value: int, bits: int) -> bytes:
+    """The bytes of a number, the lowest first."""
+    if not 0 <= value < 1 << bits:
+        raise ValueError(f"{name} is {value}, and a frame has room for 0 to {(1 << bits) - 1}")
+    return value.to_bytes(bits // 8, "little")
+
+
+def frame(tenant: int, command: int, body: bytes = b"") -> bytes:
+    """A frame with any body, right or wrong."""
+    head = _number("the tenant", tenant, 16) + _number("the command", command, 16)
+    return _number("the length", len(head) + len(body), 32) + head + body
+
+
+def map_create(
+    tenant: int, map_type: MapType | int, key_size: int, value_size: int, max_entries: int, flags: int = 0
+) -> bytes:
+    """Makes a map; sizes in bytes."""
+    fields = {"the type": map_type, "the key's size": key_size, "the value's size": value_size}
+    fields.update({"the number of entries": max_entries, "the flags": flags})
+    body = b"".join(_number(name, value, 32) for name, value in fields.items())
+    return frame(tenant, Command.MAP_CREATE, body)
+
+
+def _on_descriptor(tenant: int, command: int, descriptor: int, rest: bytes = b"") -> bytes:
+    return frame(tenant, command, _number("the descriptor", descriptor, 32) + rest)
+
+
+def map_lookup_elem(tenant: int, descriptor: int, key: bytes) -> bytes:
+    """Asks for the value of a key."""
+    return _on_descriptor(tenant, Command.MAP_LOOKUP_ELEM, descriptor, key)
+
+
+def map_update_elem(tenant: int, descriptor: int, key: bytes, value: bytes, flags: Update | int = Update.ANY) -> bytes:
+    """Puts a value under a key."""
+    rest = _number("the flags", flags, 64) + key + value
+    return _on_descriptor(tenant, Command.MAP_UPDATE_ELEM, descriptor, rest)
+
+
+def map_delete_elem(tenant: int, descriptor: int, key: bytes) -> bytes:
+    """Takes a key out of a hash map."""
+    return _on_descriptor(tenant, Command.MAP_DELETE_ELEM, descriptor, key)
+
+
+def map_get_next_key(tenant: int, descriptor: int, key: bytes = b"") -> bytes:
+    """Asks for the key behind `key`, or for the first one."""
+    return _on_descriptor(tenant, Command.MAP_GET_NEXT_KEY, descriptor, key)
+
+
+def prog_load(tenant: int, slots: bytes, prog_type: int = SOCKET_FILTER) -> bytes:
+    """Loads a program, by the bytes of its slots (`bpfhost.assemble` makes them of a text)."""
+    return frame(tenant, Command.PROG_LOAD, _number("the program's type", prog_type, 32) + slots)
+
+
+def prog_test_run(tenant: int, descriptor: int, packet: bytes = b"", context: Context = NO_CONTEXT) -> bytes:
+    """Runs a program on a packet."""
+    return _on_descriptor(tenant, Command.PROG_TEST_RUN, descriptor, context.to_bytes() + packet)
+
+
+def close(tenant: int, descriptor: int) -> bytes:
+    """Closes a descriptor of a map or of a program."""
+    return _on_descriptor(tenant, Command.CLOSE, descriptor)

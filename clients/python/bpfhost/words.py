@@ -1,0 +1,93 @@
+"""Errors, reasons and faults in words: docs/PROTOCOL.md, docs/VERIFIER.md ("Reasons"), docs/INSTRUCTIONS.md ("Text")."""
+
+from bpfhost.numbers import Command, Errno
+
+ERRNO_WORDS = {
+    Errno.EPERM: "not permitted",
+    Errno.ENOENT: "no such key, or none behind it",
+    Errno.E2BIG: "too large, or full",
+    Errno.EBADF: "the descriptor is not open",
+    Errno.ENOMEM: "memory was refused",
+    Errno.EACCES: "not allowed",
+    Errno.EEXIST: "the key is there",
+    Errno.EINVAL: "a field or a size is wrong",
+    Errno.EMFILE: "no descriptor is free",
+    Errno.ENOSPC: "no room for a map",
+}
+
+REASONS = {
+    1: "a jump out of the program, or into the second half of a wide instruction",
+    2: "a jump to the same or an earlier slot",
+    3: "the last instruction can go on past the end",
+    4: "no path leads to the instruction",
+    5: "an unknown helper",
+    6: "arithmetic or a load into the frame pointer",
+    7: "a map's descriptor is not open",
+    8: "a map's descriptor is of something else",
+    9: "a value is loaded directly that the map does not have",
+    20: "an unreadable register is read",
+    21: "the result at the exit is not a scalar",
+    22: "an access at what is not a pointer",
+    23: "arithmetic on a pointer",
+    24: "a pointer is moved too far",
+    25: "outside the stack",
+    26: "not aligned in the stack",
+    27: "a stack byte that may not be written is read",
+    28: "a part of a spilled pointer",
+    29: "outside a map's value",
+    30: "the pointer may be null",
+    31: "an access to the context other than a load of one of its words",
+    32: "a pointer is stored outside the stack",
+    33: "a pointer is compared with something other than null",
+    34: "a helper's argument of the wrong kind",
+    35: "a helper's length may be zero or too large",
+    36: "an atomic operation in a map's value at an offset that is not known to be a multiple of its size",
+    40: "the verifier got no memory",
+    101: "no instruction begins with this byte",
+    102: "a field has a value that no instruction has there",
+    103: "a register's number is above 10",
+    104: "the second slot of a wide load is missing or wrong",
+    105: "the bytes are no whole slots",
+    106: "there is no slot",
+    107: "there are more than 4,096 slots",
+    108: "memory was refused to the program",
+}
+
+TEXT_FAULTS = {
+    1: "it is none of the forms",
+    2: "a number is out of its range",
+    3: "its jump names a label that no line defines",
+    4: "it defines a label that an earlier line defines",
+    5: "its slots are the first past 4,096",
+    6: "there is no instruction",
+    7: "memory was refused",
+}
+
+
+def errno_name(status: int) -> str:
+    """A negative status with the name of its error: `EINVAL (-22)`."""
+    try:
+        return f"{Errno(-status).name} ({status})"
+    except ValueError:
+        return f"error {status}"
+
+
+def errno_words(status: int) -> str:
+    """What a negative status means."""
+    try:
+        return ERRNO_WORDS[Errno(-status)]
+    except ValueError:
+        return "not an error of the protocol"
+
+
+def reason_words(reason: int) -> str:
+    """What the reason of a refused program means."""
+    return REASONS.get(reason, "not a reason of the verifier")
+
+
+def command_name(number: int) -> str:
+    """The name of a command."""
+    try:
+        return Command(number).name
+    except ValueError:
+        return f"command {number}"

@@ -5,8 +5,14 @@ README.md of this package shows how to use it; docs/PROTOCOL.md of the repositor
 
 from bpfhost.errors import BpfhostError, CaptureError, HostError, InputError, MissingPackage, ProgramRefused, Refused, ReplyError
 from bpfhost.frames import Context
+from bpfhost.host import Host
+from bpfhost.maps import Map
 from bpfhost.numbers import Command, Errno, MapType, Update
+from bpfhost.packets import Packets
+from bpfhost.program import MapShape, Verdict, assemble, disassemble, find_program, hex_lines, serve, verify
 from bpfhost.replies import Reply, read_replies
+from bpfhost.runs import TestRuns
+from bpfhost.tenant import Tenant
 
 __all__ = [
     "BpfhostError",
@@ -14,14 +20,27 @@ __all__ = [
     "Command",
     "Context",
     "Errno",
+    "Host",
     "HostError",
     "InputError",
+    "Map",
+    "MapShape",
     "MapType",
     "MissingPackage",
+    "Packets",
     "ProgramRefused",
     "Refused",
     "Reply",
     "ReplyError",
+    "Tenant",
+    "TestRuns",
     "Update",
+    "Verdict",
+    "assemble",
+    "disassemble",
+    "find_program",
+    "hex_lines",
     "read_replies",
+    "serve",
+    "verify",
 ]

@@ -55,8 +55,8 @@ MOST_TENANTS, MOST_DESCRIPTORS, MOST_MAPS, MOST_ENTRIES, MOST_SLOTS = 64, 64, 16
 # Bytes.
 LONGEST_KEY, LONGEST_VALUE, LARGEST_AREA, LARGEST_SUM = 512, 4096, 65_536, 262_144
 LONGEST_PACKET, LONGEST_FRAME, LONGEST_PAYLOAD = 65_536, 131_072, 4096
-# Bytes of a reply without its payload, and of a test run's frame before the packet.
-REPLY_HEAD, TEST_RUN_HEAD = 12, 52
+# Bytes of a reply before its payload, its length field among them.
+REPLY_HEAD = 12
 
 # A reply to a frame that is too short to have a tenant and a command has this number in both places.
 NOBODY = 65535

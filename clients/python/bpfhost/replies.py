@@ -82,5 +82,6 @@ def read_replies(stream: bytes) -> Iterator[Reply]:
         fields = stream[at + 4 : at + 4 + length]
         if len(stream) - at < 4 or length < _HEAD.size or len(fields) < length:
             raise ReplyError(f"the bytes from {at} on begin with no whole reply")
-        yield Reply(*_HEAD.unpack(fields[: _HEAD.size]), fields[_HEAD.size :])
+        tenant, command, status = _HEAD.unpack(fields[: _HEAD.size])
+        yield Reply(tenant, command, status, fields[_HEAD.size :])
         at += 4 + length

@@ -1,0 +1,67 @@
+"""Captures: pcap and pcapng files, read as pieces of many packets, and written as pcap.
+
+dpkt knows the headers. The packets are read without it, since it makes an object for each, drops the length that a cut packet
+had, and does not tell where a capture ends in the middle of one.
+"""
+
+from __future__ import annotations
+
+import os
+from collections.abc import Iterator
+from contextlib import contextmanager
+from typing import BinaryIO
+
+from bpfhost.captures.piece import Capture, Piece
+from bpfhost.errors import CaptureError, MissingPackage
+
+__all__ = ["Capture", "Piece", "open_capture", "link_type_name"]
+
+# Names of link types that are met often (tcpdump.org/linktypes.html).
+_LINK_TYPES = {
+    0: "NULL",
+    1: "ETHERNET",
+    101: "RAW",
+    105: "IEEE802_11",
+    108: "LOOP",
+    113: "LINUX_SLL",
+    127: "IEEE802_11_RADIOTAP",
+    228: "IPV4",
+    229: "IPV6",
+    276: "LINUX_SLL2",
+}
+
+
+def link_type_name(link_type: int) -> str:
+    """A link type with its name, where it is a frequent one: `113 (LINUX_SLL)`."""
+    name = _LINK_TYPES.get(link_type)
+    return f"{link_type} ({name})" if name else str(link_type)
+
+
+@contextmanager
+def open_capture(path: str | os.PathLike[str]) -> Iterator[Capture]:
+    """The capture of a file, pcap or pcapng by what it begins with.
+
+    A CaptureError where the file can't be read or is neither; and, from the pieces, where it is cut off or wrong. What comes
+    before is given first. A MissingPackage where there is no dpkt.
+    """
+    name = os.fspath(path)
+    try:
+        file = open(path, "rb")
+    except OSError as error:
+        raise CaptureError(f"{name}: {error.strerror}") from error
+    with file:
+        yield _begun(name, file)
+
+
+def _begun(name: str, file: BinaryIO) -> Capture:
+    try:
+        from bpfhost.captures import pcap, pcapng
+    except ModuleNotFoundError as error:
+        raise MissingPackage("dpkt", "python3-dpkt") from error
+    try:
+        magic = file.read(4)
+        if magic == pcapng.SECTION:
+            return pcapng.PcapngCapture(name, file, magic)
+        return pcap.PcapCapture(name, file, magic)
+    except OSError as error:
+        raise CaptureError(f"{name}: {error.strerror}") from error

@@ -1,0 +1,79 @@
+"""The format pcap (pcap-savefile(5)): a header of 24 bytes, and before each packet one of 16."""
+
+from __future__ import annotations
+
+import struct
+from dataclasses import dataclass, field
+from typing import BinaryIO
+
+from dpkt import pcap
+
+from bpfhost.captures.piece import Capture, Piece, Stamp
+from bpfhost.numbers import LONGEST_PACKET
+
+_NANOSECONDS = (pcap.TCPDUMP_MAGIC_NANO, pcap.PMUDPCT_MAGIC_NANO)
+# The highest bits of the link type tell something else.
+_LINK_TYPE = 0xFFFF
+
+
+@dataclass(frozen=True)
+class _Layout:
+    """What stands before a packet: how many bytes, the numbers of its time and length, and the nanoseconds of a part of a second."""
+
+    head: int
+    times: struct.Struct
+    part: int
+
+
+@dataclass(frozen=True)
+class _PcapPiece(Piece):
+    layout: _Layout = field(kw_only=True)
+
+    def stamp(self, at: int) -> Stamp:
+        seconds, parts, length = self.layout.times.unpack_from(self.data, self.starts[at] - self.layout.head)
+        return Stamp(seconds, parts * self.layout.part, length)
+
+
+class PcapCapture(Capture):
+    """A capture in the format pcap, in either byte order, with microseconds or nanoseconds."""
+
+    def __init__(self, name: str, file: BinaryIO, magic: bytes) -> None:
+        """Reads the header, whose first bytes are `magic`."""
+        super().__init__(name, file)
+        number = int.from_bytes(magic, "big")
+        kind = pcap.MAGIC_TO_PKT_HDR.get(number) if len(magic) == 4 else None
+        if kind is None:
+            raise self.error("it is no capture, neither pcap nor pcapng")
+        header = magic + self._read(pcap.FileHdr.__hdr_len__ - len(magic))
+        if len(header) < pcap.FileHdr.__hdr_len__:
+            raise self.error("it is cut off in its header")
+        order = "<" if kind.__byte_order__ == "<" else ">"
+        read = (pcap.LEFileHdr if order == "<" else pcap.FileHdr)(header)
+        if read.v_major != pcap.PCAP_VERSION_MAJOR:
+            raise self.error(f"it has version {read.v_major} of pcap, and only 2 is known")
+        self.bytes_read = len(header)
+        self.has_nanoseconds = number in _NANOSECONDS
+        self._link_type = read.linktype & _LINK_TYPE
+        self._length = struct.Struct(f"{order}8xI")
+        self._layout = _Layout(kind.__hdr_len__, struct.Struct(f"{order}II4xI"), 1 if self.has_nanoseconds else 1000)
+
+    def _next_piece(self, data: bytes, at: int, most: int) -> tuple[Piece | None, int]:
+        starts: list[int] = []
+        ends: list[int] = []
+        head, unpack, size = self._layout.head, self._length.unpack_from, len(data)
+        for _ in range(most):
+            start = at + head
+            if start > size:
+                break
+            (length,) = unpack(data, at)
+            end = start + length
+            if length > LONGEST_PACKET or end > size:
+                break
+            starts.append(start)
+            ends.append(end)
+            at = end
+        if starts:
+            return _PcapPiece(data, starts, ends, self._link_type, layout=self._layout), at
+        if at + head <= size and length > LONGEST_PACKET:
+            raise self._too_long(length)
+        return None, at

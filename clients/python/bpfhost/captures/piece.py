@@ -1,0 +1,98 @@
+"""What captures of both formats have: pieces of packets, and the time and the length of each."""
+
+from __future__ import annotations
+
+from abc import ABC, abstractmethod
+from collections.abc import Generator, Iterator
+from dataclasses import dataclass
+from typing import BinaryIO
+
+from bpfhost.errors import CaptureError
+from bpfhost.numbers import LONGEST_PACKET
+from bpfhost.packets import Packets
+
+# A capture is read by so many bytes.
+_CHUNK = 1 << 20
+# A piece has so many packets at most.
+MOST_PACKETS = 1024
+
+
+@dataclass(frozen=True)
+class Stamp:
+    """When a packet was captured, and how many bytes it had then, of which the capture may have fewer."""
+
+    seconds: int
+    nanoseconds: int
+    length: int
+
+
+@dataclass(frozen=True)
+class Piece(Packets, ABC):
+    """Packets of a capture."""
+
+    @abstractmethod
+    def stamp(self, at: int) -> Stamp:
+        """The time and the length of a packet."""
+
+
+class Capture(ABC):
+    """A capture that is read from its front to its end."""
+
+    # Whether times have more digits than microseconds have.
+    has_nanoseconds = False
+
+    def __init__(self, name: str, file: BinaryIO) -> None:
+        self.name = name
+        self._file = file
+        self.bytes_read = 0
+        self.packets_read = 0
+
+    @abstractmethod
+    def _next_piece(self, data: bytes, at: int, most: int) -> tuple[Piece | None, int]:
+        """The whole packets in bytes from `at` on, at most so many, and where they end; None where no whole one is left.
+
+        A CaptureError where what stands at `at` is wrong.
+        """
+
+    def pieces(self, most: int = MOST_PACKETS) -> Iterator[Piece]:
+        """The packets in pieces, in order; a CaptureError behind the packets before which the capture is wrong."""
+        rest = b""
+        while chunk := self._read(_CHUNK):
+            data = rest + chunk if rest else chunk
+            at = yield from self._pieces_in(data, most)
+            rest = data[at:]
+        if rest:
+            raise self._cut_off()
+
+    def _pieces_in(self, data: bytes, most: int) -> Generator[Piece, None, int]:
+        """The pieces in bytes, and where the last one ends."""
+        at = 0
+        while True:
+            piece, at = self._next_piece(data, at, most)
+            if piece is None:
+                return at
+            self.packets_read += len(piece)
+            yield piece
+
+    def error(self, fault: str) -> CaptureError:
+        """The error that tells the file and a fault."""
+        return CaptureError(f"{self.name}: {fault}")
+
+    def _read(self, size: int) -> bytes:
+        try:
+            read = self._file.read(size)
+        except OSError as error:
+            raise self.error(error.strerror or "it can't be read") from error
+        self.bytes_read += len(read)
+        return read
+
+    def _next_packet(self) -> str:
+        return f"packet {self.packets_read + 1:,}"
+
+    def _cut_off(self) -> CaptureError:
+        return self.error(f"it is cut off in {self._next_packet()}")
+
+    def _too_long(self, length: int) -> CaptureError:
+        return self.error(
+            f"{self._next_packet()} has {length:,} bytes, and that of a test run has {LONGEST_PACKET:,} at most"
+        )

@@ -1,0 +1,126 @@
+"""The program bpfhost, by its path: where it is, and what its subcommands asm, dis, verify and serve answer."""
+
+from __future__ import annotations
+
+import os
+import shutil
+import subprocess
+from collections.abc import Iterable, Sequence
+from dataclasses import dataclass
+from pathlib import Path
+
+from bpfhost.errors import HostError
+from bpfhost.numbers import FIRST_DESCRIPTOR, SLOT_SIZE, MapType
+
+Program = str | os.PathLike[str]
+
+# Where a build leaves the program, in a clone that this package stands in.
+_BUILT = Path(__file__).resolve().parents[3] / "crates/bpfhost/out/bpfhost"
+_KINDS = {MapType.HASH: "hash", MapType.ARRAY: "array"}
+
+
+def find_program(named: Program | None = None) -> str:
+    """The program: that which is named; else of the variable BPFHOST, of PATH, or as the build of this clone leaves it.
+
+    A HostError where there is none of these.
+    """
+    found = named or os.environ.get("BPFHOST") or shutil.which("bpfhost")
+    if found:
+        return os.fspath(found)
+    if _BUILT.is_file():
+        return str(_BUILT)
+    raise HostError("there is no program bpfhost: name it by --bpfhost or by the variable BPFHOST")
+
+
+def _called(program: Program, words: Sequence[str], given: bytes) -> subprocess.CompletedProcess[bytes]:
+    try:
+        return subprocess.run([os.fspath(program), *words], input=given, capture_output=True, check=False)
+    except OSError as error:
+        raise HostError(f"{os.fspath(program)} does not start: {error.strerror}") from error
+
+
+def _written(program: Program, words: Sequence[str], given: bytes) -> bytes:
+    """What the program writes when it is given these bytes, where its status is 0."""
+    ended = _called(program, words, given)
+    if ended.returncode:
+        raise HostError.of(f"bpfhost {words[0]}", ended.returncode, ended.stderr, ended.stdout)
+    return ended.stdout
+
+
+def serve(program: Program, tenants: int, stream: bytes) -> bytes:
+    """The replies, as bytes, that `bpfhost serve` writes for a whole stream of frames."""
+    return _written(program, ["serve", "--tenants", str(tenants)], stream)
+
+
+def assemble(program: Program, text: str) -> bytes:
+    """The slots, as bytes, that `bpfhost asm` makes of a program's text."""
+    return bytes.fromhex(_written(program, ["asm"], text.encode()).decode())
+
+
+def disassemble(program: Program, slots: bytes) -> str:
+    """The text that `bpfhost dis` makes of a program's slots."""
+    return _written(program, ["dis"], hex_lines(slots).encode()).decode()
+
+
+def hex_lines(slots: bytes) -> str:
+    """Slots as lines of hex digits, which `dis` and `verify` read."""
+    if len(slots) % SLOT_SIZE:
+        raise ValueError(f"{len(slots)} bytes are no whole slots of eight bytes")
+    return "".join(f"{slots[at:at + SLOT_SIZE].hex()}\n" for at in range(0, len(slots), SLOT_SIZE))
+
+
+@dataclass(frozen=True)
+class MapShape:
+    """What a map is made of: its kind, the bytes of a key and of a value, and its most entries."""
+
+    map_type: MapType
+    key_size: int
+    value_size: int
+    max_entries: int
+
+    def word(self, descriptor: int) -> str:
+        """The map as an argument of `verify`: `3:array:4:8:1`."""
+        return f"{descriptor}:{_KINDS[self.map_type]}:{self.key_size}:{self.value_size}:{self.max_entries}"
+
+
+@dataclass(frozen=True)
+class Verdict:
+    """The verdict on a program: accepted, or refused at a slot for a reason."""
+
+    refused: tuple[int, int] | None
+
+
+def verify(program: Program, slots: bytes, maps: Iterable[MapShape] = ()) -> Verdict:
+    """The verdict of `bpfhost verify` on slots; the maps have the descriptors from 3 on, in their order."""
+    words = ["verify", *_map_words(maps)]
+    ended = _called(program, words, hex_lines(slots).encode())
+    said = ended.stdout.decode(errors="replace").split()
+    if ended.returncode == 0 and said == ["accepted"]:
+        return Verdict(None)
+    if ended.returncode == 1 and said[:2] == ["refused:", "slot"] and len(said) == 5:
+        return Verdict((int(said[2]), int(said[4])))
+    raise HostError.of("bpfhost verify", ended.returncode, ended.stderr, ended.stdout)
+
+
+def _map_words(maps: Iterable[MapShape]) -> list[str]:
+    return [shape.word(descriptor) for descriptor, shape in enumerate(maps, FIRST_DESCRIPTOR)]
+
+
+def find_verifier_log(program: Program) -> str | None:
+    """The program `verifier_log`, beside bpfhost or of PATH, or None."""
+    beside = Path(program).parent / "verifier_log"
+    if beside.is_file() and os.access(beside, os.X_OK):
+        return str(beside)
+    return shutil.which("verifier_log")
+
+
+def verifier_log(program: Program, slots: bytes, maps: Iterable[MapShape] = ()) -> str | None:
+    """The log of the verifier on slots, with maps as `verify` has them; None where no log can be had."""
+    logger = find_verifier_log(program)
+    if logger is None:
+        return None
+    try:
+        ended = _called(logger, _map_words(maps), hex_lines(slots).encode())
+    except HostError:
+        return None
+    return ended.stdout.decode(errors="replace") if ended.returncode in (0, 1) else None

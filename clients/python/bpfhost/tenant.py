@@ -1,0 +1,80 @@
+"""One tenant of a running host: the commands, by their names."""
+
+from __future__ import annotations
+
+from collections.abc import Iterable, Iterator
+from typing import TYPE_CHECKING
+
+from bpfhost import frames
+from bpfhost.errors import Refused
+from bpfhost.frames import NO_CONTEXT, Context
+from bpfhost.maps import Map
+from bpfhost.numbers import Errno, MapType, Update
+from bpfhost.packets import Packets
+from bpfhost.program import MapShape
+from bpfhost.runs import TestRuns
+
+if TYPE_CHECKING:
+    from bpfhost.host import Host
+    from bpfhost.replies import Reply
+
+
+class Tenant:
+    """What speaks for one tenant of a host. Each command that the host refuses is a Refused, which has its reply.
+
+    docs/PROTOCOL.md tells each command's errors. A refused command changes nothing.
+    """
+
+    def __init__(self, host: Host, number: int) -> None:
+        """The tenant of this number, from 0."""
+        self.host = host
+        self.number = number
+
+    def map_create(self, map_type: MapType, key_size: int, value_size: int, max_entries: int) -> Map:
+        """Makes a map; sizes in bytes. Its descriptor is the lowest that is free."""
+        made = self._done(frames.map_create(self.number, map_type, key_size, value_size, max_entries))
+        return Map(self, made.status, MapShape(map_type, key_size, value_size, max_entries))
+
+    def map_lookup_elem(self, descriptor: int, key: bytes) -> bytes:
+        """The value of a key."""
+        return self._done(frames.map_lookup_elem(self.number, descriptor, key)).payload
+
+    def map_update_elem(self, descriptor: int, key: bytes, value: bytes, flags: Update = Update.ANY) -> None:
+        """Puts a value under a key."""
+        self._done(frames.map_update_elem(self.number, descriptor, key, value, flags))
+
+    def map_delete_elem(self, descriptor: int, key: bytes) -> None:
+        """Takes a key out of a hash map."""
+        self._done(frames.map_delete_elem(self.number, descriptor, key))
+
+    def map_get_next_key(self, descriptor: int, key: bytes = b"") -> bytes | None:
+        """The key behind `key`, or without one the first; None where there is none."""
+        try:
+            return self._done(frames.map_get_next_key(self.number, descriptor, key)).payload
+        except Refused as refused:
+            if refused.has(Errno.ENOENT):
+                return None
+            raise
+
+    def prog_load(self, slots: bytes) -> int:
+        """Loads a socket filter, and gives its descriptor; a ProgramRefused tells the slot and the reason."""
+        return self._done(frames.prog_load(self.number, slots)).status
+
+    def prog_test_run(self, descriptor: int, packet: bytes = b"", context: Context = NO_CONTEXT) -> int:
+        """Runs a program on a packet, and gives its result."""
+        return self._done(frames.prog_test_run(self.number, descriptor, packet, context)).result()
+
+    def prog_test_runs(
+        self, descriptor: int, pieces: Iterable[Packets], context: Context = NO_CONTEXT
+    ) -> Iterator[tuple[int, ...]]:
+        """Runs a program on many packets, and gives the results in order (`TestRuns`)."""
+        return TestRuns(self.host, self.number, descriptor, context).results(pieces)
+
+    def close(self, descriptor: int) -> None:
+        """Closes a descriptor of a map or of a program."""
+        self._done(frames.close(self.number, descriptor))
+
+    def _done(self, frame: bytes) -> Reply:
+        reply = self.host.ask(frame)
+        reply.done()
+        return reply

@@ -1,11 +1,9 @@
-"""What the checks use: the client of examples/, numbers as bytes, and a program that looks up index 0 of an array."""
+"""What the checks use: the path of the client in Python, numbers as bytes, and a program that looks up index 0 of an array."""
 
 import sys
 from pathlib import Path
 
-sys.path.insert(0, str(Path(__file__).resolve().parents[1] / "examples"))
-
-import client  # noqa: E402, F401
+sys.path.insert(0, str(Path(__file__).resolve().parents[1] / "clients/python"))
 
 # The descriptors that a tenant is given, in their order.
 MAP, SECOND, THIRD = 3, 4, 5

@@ -11,7 +11,8 @@ from dataclasses import dataclass
 
 sys.dont_write_bytecode = True
 
-from common import MAP, READS_INDEX, SECOND, client, number  # noqa: E402
+from common import MAP, READS_INDEX, SECOND, number  # noqa: E402
+from bpfhost import Errno, MapType, assemble, frames, read_replies, serve  # noqa: E402
 
 FLIPPED, OTHER = 0, 1
 PACKET = bytes([1, 2, 3, 4])
@@ -23,8 +24,8 @@ INDEX = number(0, 4)
 
 def array_with(value):
     return (
-        client.map_create(FLIPPED, client.MapType.ARRAY, 4, 8, 1),
-        client.map_update(FLIPPED, MAP, INDEX, value),
+        frames.map_create(FLIPPED, MapType.ARRAY, 4, 8, 1),
+        frames.map_update_elem(FLIPPED, MAP, INDEX, value),
     )
 
 
@@ -132,11 +133,11 @@ exit
 """
 
 HASH_OF_ONE = (
-    client.map_create(FLIPPED, client.MapType.HASH, 4, 8, 1),
-    client.map_update(FLIPPED, MAP, ONE, number(5, 8)),
+    frames.map_create(FLIPPED, MapType.HASH, 4, 8, 1),
+    frames.map_update_elem(FLIPPED, MAP, ONE, number(5, 8)),
 )
 CASES = [
-    Case("a look-up", READS_INDEX, (client.map_create(FLIPPED, client.MapType.ARRAY, 4, 8, 1),)),
+    Case("a look-up", READS_INDEX, (frames.map_create(FLIPPED, MapType.ARRAY, 4, 8, 1),)),
     Case("a byte of a value", BYTE_OF_VALUE, array_with(bytes(range(10, 18)))),
     Case("a deleted value", WRITES_WHAT_IT_DELETED, HASH_OF_ONE),
     Case("a counter and a maximum", COUNTS_AND_KEEPS_GREATEST, array_with(number(2, 4) + number(3, 4))),
@@ -146,18 +147,18 @@ CASES = [
 ]
 
 OTHERS_OPENING = (
-    client.map_create(OTHER, client.MapType.ARRAY, 4, 8, 1),
-    client.map_update(OTHER, MAP, INDEX, number(5, 8)),
-    client.map_create(OTHER, client.MapType.HASH, 4, 4, 2),
-    client.map_update(OTHER, SECOND, ONE, number(1, 4)),
+    frames.map_create(OTHER, MapType.ARRAY, 4, 8, 1),
+    frames.map_update_elem(OTHER, MAP, INDEX, number(5, 8)),
+    frames.map_create(OTHER, MapType.HASH, 4, 4, 2),
+    frames.map_update_elem(OTHER, SECOND, ONE, number(1, 4)),
 )
-OTHERS_LOOK_UPS = (client.map_lookup(OTHER, MAP, INDEX), client.map_lookup(OTHER, SECOND, ONE))
+OTHERS_LOOK_UPS = (frames.map_lookup_elem(OTHER, MAP, INDEX), frames.map_lookup_elem(OTHER, SECOND, ONE))
 OTHERS_STATUSES = [MAP, 0, SECOND, 0, 0, 0]
 OTHERS_VALUES = [number(5, 8), number(1, 4)]
 
 
-def replies(bpfhost, frames):
-    return list(client.read_replies(client.serve(bpfhost, 2, b"".join(frames))))
+def replies(bpfhost, sent):
+    return list(read_replies(serve(bpfhost, 2, b"".join(sent))))
 
 
 def of(tenant, told):
@@ -167,8 +168,8 @@ def of(tenant, told):
 def play(bpfhost, case, slots):
     """What is wrong with the answers, or None; and whether the program was accepted."""
     program = SECOND if case.opening else MAP
-    load = client.prog_load(FLIPPED, slots)
-    run = client.prog_test_run(FLIPPED, program, PACKET)
+    load = frames.prog_load(FLIPPED, slots)
+    run = frames.prog_test_run(FLIPPED, program, PACKET)
     ours = (*case.opening, load, run)
     told = replies(bpfhost, (*OTHERS_OPENING, *ours, *OTHERS_LOOK_UPS))
     others = of(OTHER, told)
@@ -178,7 +179,7 @@ def play(bpfhost, case, slots):
         return "the other tenant's maps have changed", accepted
     if not accepted and not loaded.refusal():
         return f"the load is neither accepted nor refused: {loaded}", accepted
-    if ran.status != (0 if accepted else -client.Error.EBADF):
+    if ran.status != (0 if accepted else -Errno.EBADF):
         return f"the run: {ran}", accepted
     if of(FLIPPED, told) != replies(bpfhost, ours):
         return "alone the tenant is answered something else", accepted
@@ -186,7 +187,7 @@ def play(bpfhost, case, slots):
 
 
 def check(bpfhost, case):
-    slots = client.assemble(bpfhost, case.text)
+    slots = assemble(bpfhost, case.text)
     wrong, accepted = play(bpfhost, case, slots)
     if wrong or not accepted:
         sys.exit(f"flipped bits, {case.name} as it is: {wrong or 'refused'}")

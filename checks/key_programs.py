@@ -9,7 +9,8 @@ import random
 from collections.abc import Callable
 
 from common import number
-from model import WORD, Code, Flags, Map, answer_of
+from bpfhost import Update
+from model import WORD, Code, Map, answer_of
 
 LOOK_UP = "*(u32 *)(r10 - 4) = {key}\nr2 = r10\nr2 += -4\nr1 = map_fd {fd} ll\ncall 1\nif r0 != 0 goto +2\nr0 = 0\nexit\n"
 UPDATE = "r2 = r10\nr2 += -4\nr3 = r10\nr3 += -16\nr1 = map_fd {fd} ll\nr4 = {flags}\ncall 2\n"
@@ -51,10 +52,10 @@ def replaces(key: bytes, other: bytes, value: int) -> Code:
         if not answer_of(lambda: on.delete(key)):
             on.deleted += 1
         elif key in on.values:
-            result = answer_of(lambda: on.update(other, number(value, 8), Flags.ANY))
+            result = answer_of(lambda: on.update(other, number(value, 8), Update.ANY))
             on.values[key][:8] = number(9, 8)
             return result
-        return answer_of(lambda: on.update(other, number(value, 8), Flags.ANY))
+        return answer_of(lambda: on.update(other, number(value, 8), Update.ANY))
 
     return on_maps(act)
 

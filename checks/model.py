@@ -10,14 +10,25 @@ import struct
 from collections.abc import Callable, Iterable
 from dataclasses import dataclass, field
 
-from common import client, number
+from common import number
+from bpfhost import Command, Errno, MapType, Reply, Update
+from bpfhost.numbers import (
+    FIRST_DESCRIPTOR,
+    LARGEST_AREA,
+    LARGEST_SUM,
+    LONGEST_FRAME,
+    LONGEST_KEY,
+    LONGEST_PACKET,
+    MOST_DESCRIPTORS,
+    MOST_MAPS,
+    NOBODY,
+    SOCKET_FILTER,
+)
 from slots import WideLoad, misspelled, wide_loads
 
-FIRST_DESCRIPTOR = 3
 STACK = 512
 WORD = 1 << 32
 INDEX_0 = bytes(4)
-Command, Error, Flags, MapType = client.Command, client.Error, client.Flags, client.MapType
 
 
 class Refused(Exception):
@@ -68,26 +79,26 @@ class Map:
         return self.kind == MapType.ARRAY and self.most == 1
 
     def update(self, key: bytes, value: bytes, flags: int) -> None:
-        demand(flags <= Flags.EXIST, Error.EINVAL)
+        demand(flags <= Update.EXIST, Errno.EINVAL)
         is_there = key in self.values
-        demand(is_there or self.kind == MapType.HASH, Error.E2BIG)
-        demand(not is_there or flags != Flags.NOEXIST, Error.EEXIST)
-        demand(is_there or flags != Flags.EXIST, Error.ENOENT)
-        demand(is_there or len(self.values) + self.deleted < self.most, Error.E2BIG)
+        demand(is_there or self.kind == MapType.HASH, Errno.E2BIG)
+        demand(not is_there or flags != Update.NOEXIST, Errno.EEXIST)
+        demand(is_there or flags != Update.EXIST, Errno.ENOENT)
+        demand(is_there or len(self.values) + self.deleted < self.most, Errno.E2BIG)
         if is_there:
             self.values[key][:] = value
         else:
             self.values[key] = bytearray(value)
 
     def delete(self, key: bytes) -> None:
-        demand(self.kind == MapType.HASH, Error.EINVAL)
-        demand(key in self.values, Error.ENOENT)
+        demand(self.kind == MapType.HASH, Errno.EINVAL)
+        demand(key in self.values, Errno.ENOENT)
         del self.values[key]
 
     def next_key(self, key: bytes) -> bytes:
         keys = list(self.values)
         behind = keys[keys.index(key) + 1 :] if key in self.values else keys
-        demand(behind, Error.ENOENT)
+        demand(behind, Errno.ENOENT)
         return behind[0]
 
 
@@ -175,7 +186,7 @@ def refuse_first(reasons: Iterable[tuple[int, int]]) -> None:
     """Refuses a program at the first of these slots that has a reason."""
     for slot, reason in reasons:
         if reason:
-            error = Error.EBADF if reason == 7 else Error.EACCES if reason == 6 or 20 <= reason <= 36 else Error.EINVAL
+            error = Errno.EBADF if reason == 7 else Errno.EACCES if reason == 6 or 20 <= reason <= 36 else Errno.EINVAL
             raise Refused(error, struct.pack("<IH", slot, reason))
 
 
@@ -212,23 +223,23 @@ class Tenant:
         return list(dict.fromkeys(named))
 
     def free(self) -> int:
-        numbers = range(FIRST_DESCRIPTOR, FIRST_DESCRIPTOR + client.MOST_DESCRIPTORS)
+        numbers = range(FIRST_DESCRIPTOR, FIRST_DESCRIPTOR + MOST_DESCRIPTORS)
         free = [fd for fd in numbers if fd not in self.open]
-        demand(free, Error.EMFILE)
+        demand(free, Errno.EMFILE)
         return free[0]
 
     def map_at(self, fd: int) -> Map:
-        demand(fd in self.open, Error.EBADF)
+        demand(fd in self.open, Errno.EBADF)
         on = self.open[fd]
         if not isinstance(on, Map):
-            raise Refused(Error.EINVAL)
+            raise Refused(Errno.EINVAL)
         return on
 
     def program_at(self, fd: int) -> Program:
-        demand(fd in self.open, Error.EBADF)
+        demand(fd in self.open, Errno.EBADF)
         program = self.open[fd]
         if not isinstance(program, Program):
-            raise Refused(Error.EINVAL)
+            raise Refused(Errno.EINVAL)
         return program
 
     def answer(self, command: int, body: bytes) -> tuple[int, bytes]:
@@ -244,56 +255,56 @@ class Tenant:
             Command.CLOSE: self.close,
         }
         try:
-            demand(command in calls, Error.EINVAL)
+            demand(command in calls, Errno.EINVAL)
             return calls[Command(command)](body)
         except Refused as refused:
             return -refused.error, refused.payload
 
     def create(self, body: bytes) -> tuple[int, bytes]:
-        demand(len(body) == 20, Error.EINVAL)
+        demand(len(body) == 20, Errno.EINVAL)
         kind, key_size, value_size, most, flags = struct.unpack("<5I", body)
-        keys = {MapType.HASH: range(1, client.LONGEST_KEY + 1), MapType.ARRAY: range(4, 5)}
+        keys = {MapType.HASH: range(1, LONGEST_KEY + 1), MapType.ARRAY: range(4, 5)}
         sizes = key_size in keys.get(kind, ()) and value_size in range(1, 4097) and most in range(1, 4097)
-        demand(sizes and flags == 0, Error.EINVAL)
+        demand(sizes and flags == 0, Errno.EINVAL)
         new = Map(kind, key_size, value_size, most)
-        demand(new.area() <= client.LARGEST_AREA, Error.E2BIG)
+        demand(new.area() <= LARGEST_AREA, Errno.E2BIG)
         fd = self.free()
         live = self.live()
         areas = sum(on.area() for on in (*live, new))
-        demand(len(live) < client.MOST_MAPS and areas <= client.LARGEST_SUM, Error.ENOSPC)
+        demand(len(live) < MOST_MAPS and areas <= LARGEST_SUM, Errno.ENOSPC)
         self.open[fd] = new
         return fd, b""
 
     def map_and_rest(self, body: bytes, least: int = 4) -> tuple[Map, bytes]:
-        demand(len(body) >= least, Error.EINVAL)
+        demand(len(body) >= least, Errno.EINVAL)
         return self.map_at(int.from_bytes(body[:4], "little")), body[4:]
 
     def lookup(self, body: bytes) -> tuple[int, bytes]:
         on, key = self.map_and_rest(body)
-        demand(len(key) == on.key_size, Error.EINVAL)
-        demand(key in on.values, Error.ENOENT)
+        demand(len(key) == on.key_size, Errno.EINVAL)
+        demand(key in on.values, Errno.ENOENT)
         return 0, bytes(on.values[key])
 
     def update(self, body: bytes) -> tuple[int, bytes]:
         on, rest = self.map_and_rest(body, 12)
         flags, key, value = int.from_bytes(rest[:8], "little"), rest[8 : 8 + on.key_size], rest[8 + on.key_size :]
-        demand(len(rest) == 8 + on.key_size + on.value_size, Error.EINVAL)
+        demand(len(rest) == 8 + on.key_size + on.value_size, Errno.EINVAL)
         on.update(key, value, flags)
         return 0, b""
 
     def delete(self, body: bytes) -> tuple[int, bytes]:
         on, key = self.map_and_rest(body)
-        demand(len(key) == on.key_size, Error.EINVAL)
+        demand(len(key) == on.key_size, Errno.EINVAL)
         on.delete(key)
         return 0, b""
 
     def next_key(self, body: bytes) -> tuple[int, bytes]:
         on, key = self.map_and_rest(body)
-        demand(len(key) in (0, on.key_size), Error.EINVAL)
+        demand(len(key) in (0, on.key_size), Errno.EINVAL)
         return 0, on.next_key(key)
 
     def load(self, body: bytes) -> tuple[int, bytes]:
-        demand(len(body) >= 4 and int.from_bytes(body[:4], "little") == client.SOCKET_FILTER, Error.EINVAL)
+        demand(len(body) >= 4 and int.from_bytes(body[:4], "little") == SOCKET_FILTER, Errno.EINVAL)
         fd = self.free()
         slots = body[4:]
         code, loads = KNOWN[slots], wide_loads(slots)
@@ -305,15 +316,15 @@ class Tenant:
         return fd, b""
 
     def test_run(self, body: bytes) -> tuple[int, bytes]:
-        demand(len(body) >= 44, Error.EINVAL)
+        demand(len(body) >= 44, Errno.EINVAL)
         program = self.program_at(int.from_bytes(body[:4], "little"))
-        demand(len(body) - 44 <= client.LONGEST_PACKET, Error.E2BIG)
+        demand(len(body) - 44 <= LONGEST_PACKET, Errno.E2BIG)
         return 0, number(program.run(body[44:]), 4)
 
     def close(self, body: bytes) -> tuple[int, bytes]:
-        demand(len(body) == 4, Error.EINVAL)
+        demand(len(body) == 4, Errno.EINVAL)
         fd = int.from_bytes(body, "little")
-        demand(fd in self.open, Error.EBADF)
+        demand(fd in self.open, Errno.EBADF)
         del self.open[fd]
         return 0, b""
 
@@ -321,11 +332,11 @@ class Tenant:
 def reply_to(tenants: list[Tenant], after_length: bytes) -> bytes:
     """The bytes of the reply to a frame, by what follows its length."""
     if len(after_length) < 4:
-        return client.Reply(client.NOBODY, client.NOBODY, -Error.EINVAL, b"").to_bytes()
+        return Reply(NOBODY, NOBODY, -Errno.EINVAL, b"").to_bytes()
     tenant, command = struct.unpack("<HH", after_length[:4])
-    status, payload = -Error.EPERM, b""
+    status, payload = -Errno.EPERM, b""
     if tenant < len(tenants):
-        status = -Error.E2BIG
-        if len(after_length) <= client.LONGEST_FRAME:
+        status = -Errno.E2BIG
+        if len(after_length) <= LONGEST_FRAME:
             status, payload = tenants[tenant].answer(command, after_length[4:])
-    return client.Reply(tenant, command, status, payload).to_bytes()
+    return Reply(tenant, command, status, payload).to_bytes()

@@ -19,10 +19,12 @@ from collections.abc import Callable
 sys.dont_write_bytecode = True
 
 from atomic_programs import Atomics  # noqa: E402
-from common import client, number  # noqa: E402
+from common import number  # noqa: E402
+from bpfhost import Command, MapType, Reply, assemble, frames, read_replies, serve  # noqa: E402
+from bpfhost.numbers import LONGEST_FRAME, LONGEST_KEY, LONGEST_PACKET, SOCKET_FILTER  # noqa: E402
 from direct_programs import Direct  # noqa: E402
 from key_programs import write_program  # noqa: E402
-from model import KNOWN, WORD, Code, Command, Map, MapType, Program, Tenant, reply_to  # noqa: E402
+from model import KNOWN, WORD, Code, Map, Program, Tenant, reply_to  # noqa: E402
 from slots import atomics, spoiled, wide_loads  # noqa: E402
 
 STREAMS, FRAMES, TENANTS = 60, 500, 3
@@ -70,28 +72,28 @@ class Stream:
         """A map of any kind and size, or an array of one element."""
         draw = self.draw
         kind = MapType.ARRAY if is_single else draw.choice((1, 2) * 12 + (0, 3))
-        key_size = draw.choice((4,) * 16 + (1, 8, 64, client.LONGEST_KEY, 0, client.LONGEST_KEY + 1))
+        key_size = draw.choice((4,) * 16 + (1, 8, 64, LONGEST_KEY, 0, LONGEST_KEY + 1))
         value_size = draw.choice((8,) * 8 + (16, 24, 9, 12, 100) * 2 + (1, 4096, 0, 4097))
         most = 1 if is_single else draw.choice((1, 2, 3, 4, 5, 6) * 4 + (16, 64, 0, 4097))
         body = struct.pack("<5I", kind, key_size, value_size, most, draw.random() < 0.02)
-        return client.frame(tenant, Command.MAP_CREATE, body[: self.size(20)])
+        return frames.frame(tenant, Command.MAP_CREATE, body[: self.size(20)])
 
     def update(self, tenant: int) -> bytes:
         fd, on = self.on_map(tenant)
         value = self.draw.randbytes(self.size(on.value_size))
-        return client.map_update(tenant, fd, self.key(on), value, self.draw.choice((0, 0, 0, 1, 2, 3)))
+        return frames.map_update_elem(tenant, fd, self.key(on), value, self.draw.choice((0, 0, 0, 1, 2, 3)))
 
     def lookup(self, tenant: int) -> bytes:
         fd, on = self.on_map(tenant)
-        return client.map_lookup(tenant, fd, self.key(on))
+        return frames.map_lookup_elem(tenant, fd, self.key(on))
 
     def delete(self, tenant: int) -> bytes:
         fd, on = self.on_map(tenant)
-        return client.map_delete(tenant, fd, self.key(on))
+        return frames.map_delete_elem(tenant, fd, self.key(on))
 
     def next_key(self, tenant: int) -> bytes:
         fd, on = self.on_map(tenant)
-        return client.map_next_key(tenant, fd, self.key(on) if self.draw.random() < 0.8 else b"")
+        return frames.map_get_next_key(tenant, fd, self.key(on) if self.draw.random() < 0.8 else b"")
 
     def load(self, tenant: int) -> bytes:
         kind = self.draw.choice((None, Direct, Atomics))
@@ -104,30 +106,30 @@ class Stream:
         if any(on.key_size != 4 or on.value_size < 8 for on in named) or max(fd, other) >= WORD // 2:
             return self.close(tenant)
         text, code = write_program(self.draw, fd, other, fd in maps and maps[fd].value_size == 8)
-        return self.load_of(tenant, client.assemble(self.bpfhost, text), code)
+        return self.load_of(tenant, assemble(self.bpfhost, text), code)
 
     def load_drawn(self, tenant: int, kind: type[Direct]) -> bytes:
         maps = self.tenants[tenant].maps()
         if not any(on.is_single() for on in maps.values()) and self.draw.random() < 0.95:
             return self.create(tenant, is_single=True)
         program = kind(self.draw, maps, lambda: self.descriptor(tenant, right=0.5))
-        slots = client.assemble(self.bpfhost, program.text())
+        slots = assemble(self.bpfhost, program.text())
         if self.draw.random() < 0.06:
             slots = spoiled(self.draw, slots)
         return self.load_of(tenant, slots, program.code())
 
     def load_of(self, tenant: int, slots: bytes, code: Code) -> bytes:
         KNOWN[slots] = code
-        return client.prog_load(tenant, slots, client.SOCKET_FILTER if self.draw.random() < 0.98 else 2)
+        return frames.prog_load(tenant, slots, SOCKET_FILTER if self.draw.random() < 0.98 else 2)
 
     def test_run(self, tenant: int) -> bytes:
         fd, size = self.descriptor(tenant, Program), self.draw.randrange(12)
         if self.draw.random() < 0.05:
-            size = self.draw.choice((60, client.LONGEST_PACKET, client.LONGEST_PACKET + 1, client.LONGEST_FRAME))
+            size = self.draw.choice((60, LONGEST_PACKET, LONGEST_PACKET + 1, LONGEST_FRAME))
         program = self.tenants[tenant].open.get(fd)
         if isinstance(program, Program) and family(program.slots):
             self.look_behind(tenant, program)
-        return client.prog_test_run(tenant, fd, self.draw.randbytes(size))
+        return frames.prog_test_run(tenant, fd, self.draw.randbytes(size))
 
     def look_behind(self, tenant: int, program: Program) -> None:
         """Half of the runs with direct loads are followed by look-ups of values that they may have written."""
@@ -137,10 +139,10 @@ class Stream:
         if self.draw.random() < 0.5:
             named = {fd: list(on.values) for fd, on in maps.items() if on in program.maps.values()}
             keys = [(fd, key) for fd, them in named.items() for key in self.draw.sample(them[:4], min(2, len(them)))]
-            self.queued += [client.map_lookup(tenant, *it) for it in keys]
+            self.queued += [frames.map_lookup_elem(tenant, *it) for it in keys]
             self.seen[kind, "look-ups"] += len(keys)
 
-    def note_load(self, frame: bytes, reply: client.Reply) -> None:
+    def note_load(self, frame: bytes, reply: Reply) -> None:
         kind = family(frame[12:]) if reply.command == Command.PROG_LOAD else ""
         if kind:
             refusal = reply.refusal()
@@ -148,14 +150,14 @@ class Stream:
             self.seen[kind, "loads"] += 1
 
     def close(self, tenant: int) -> bytes:
-        return client.close(tenant, self.descriptor(tenant))
+        return frames.close(tenant, self.descriptor(tenant))
 
     def other(self, tenant: int) -> bytes:
         """A frame of a tenant that is not served, of no command, or that is too short."""
         if self.draw.random() < 0.3:
             return number(3, 4) + self.draw.randbytes(3)
         where = self.draw.choice((tenant, TENANTS, 65_534))
-        return client.frame(where, self.draw.choice((6, 7, 9, 255, 257)), self.draw.randbytes(self.draw.randrange(30)))
+        return frames.frame(where, self.draw.choice((6, 7, 9, 255, 257)), self.draw.randbytes(self.draw.randrange(30)))
 
     def frame(self) -> bytes:
         if self.queued:
@@ -178,12 +180,12 @@ class Stream:
 def check(bpfhost: str, seed: int) -> Counter[tuple[str, str]]:
     """Plays a stream, and counts what was seen in it."""
     stream = Stream(bpfhost, seed)
-    frames, wanted = [], []
+    sent, wanted = [], []
     for _ in range(FRAMES):
-        frames.append(stream.frame())
-        wanted.append(reply_to(stream.tenants, frames[-1][4:]))
-    told = list(client.read_replies(client.serve(bpfhost, TENANTS, b"".join(frames))))
-    for at, (frame, reply, want) in enumerate(zip(frames, told, wanted)):
+        sent.append(stream.frame())
+        wanted.append(reply_to(stream.tenants, sent[-1][4:]))
+    told = list(read_replies(serve(bpfhost, TENANTS, b"".join(sent))))
+    for at, (frame, reply, want) in enumerate(zip(sent, told, wanted)):
         if reply.to_bytes() != want:
             what = f"{reply.to_bytes()[:60].hex()} where {want[:60].hex()} is wanted"
             sys.exit(f"stream {seed}, frame {at}, {frame[:60].hex()}: {what}")

@@ -16,7 +16,8 @@ from pathlib import Path
 
 sys.dont_write_bytecode = True
 
-from common import MAP, READS_INDEX, SECOND, THIRD, client, number  # noqa: E402
+from common import MAP, READS_INDEX, SECOND, THIRD, number  # noqa: E402
+from bpfhost import Errno, Host, HostError, MapType, Update, assemble, frames, hex_lines  # noqa: E402
 
 PROGRAM = SECOND
 TENANTS = 2
@@ -66,38 +67,38 @@ def of_first_tenant(slots):
     """A hash map, a program that puts a key into it, and each command on the map."""
     key, other, value = number(1, 4), number(2, 4), number(8, 8)
     return [
-        Step(client.map_create(0, client.MapType.HASH, 4, 8, 4), grows=True),
-        Step(client.prog_load(0, slots), grows=True),
-        Step(client.prog_test_run(0, PROGRAM), run_grows=True),
-        Step(client.map_lookup(0, MAP, key)),
-        Step(client.map_update(0, MAP, other, value), grows=True),
-        Step(client.map_update(0, MAP, other, value, client.Flags.EXIST)),
-        Step(client.map_update(0, MAP, key, value)),
-        Step(client.map_next_key(0, MAP)),
-        Step(client.map_next_key(0, MAP, key)),
-        Step(client.map_delete(0, MAP, key)),
-        Step(client.map_create(0, client.MapType.ARRAY, 4, 16, 3), grows=True),
-        Step(client.map_update(0, THIRD, number(2, 4), bytes(range(16)))),
-        Step(client.map_lookup(0, THIRD, number(2, 4))),
-        *[Step(client.close(0, descriptor)) for descriptor in (PROGRAM, MAP, THIRD)],
+        Step(frames.map_create(0, MapType.HASH, 4, 8, 4), grows=True),
+        Step(frames.prog_load(0, slots), grows=True),
+        Step(frames.prog_test_run(0, PROGRAM), run_grows=True),
+        Step(frames.map_lookup_elem(0, MAP, key)),
+        Step(frames.map_update_elem(0, MAP, other, value), grows=True),
+        Step(frames.map_update_elem(0, MAP, other, value, Update.EXIST)),
+        Step(frames.map_update_elem(0, MAP, key, value)),
+        Step(frames.map_get_next_key(0, MAP)),
+        Step(frames.map_get_next_key(0, MAP, key)),
+        Step(frames.map_delete_elem(0, MAP, key)),
+        Step(frames.map_create(0, MapType.ARRAY, 4, 16, 3), grows=True),
+        Step(frames.map_update_elem(0, THIRD, number(2, 4), bytes(range(16)))),
+        Step(frames.map_lookup_elem(0, THIRD, number(2, 4))),
+        *[Step(frames.close(0, descriptor)) for descriptor in (PROGRAM, MAP, THIRD)],
     ]
 
 
 def of_second_tenant(slots, direct):
     """An array, a program that reads it, and one that counts in it by a direct load."""
     return [
-        Step(client.map_create(1, client.MapType.ARRAY, 4, 8, 1), grows=True),
-        Step(client.map_update(1, MAP, number(0, 4), number(5, 8))),
-        Step(client.prog_load(1, slots), grows=True),
-        Step(client.prog_test_run(1, PROGRAM)),
-        Step(client.map_lookup(1, MAP, number(0, 4))),
-        Step(client.prog_load(1, direct), grows=True),
-        Step(client.prog_test_run(1, THIRD)),
-        Step(client.prog_test_run(1, PROGRAM)),
-        Step(client.close(1, MAP)),
-        Step(client.prog_test_run(1, PROGRAM)),
-        Step(client.close(1, PROGRAM)),
-        Step(client.prog_test_run(1, THIRD)),
+        Step(frames.map_create(1, MapType.ARRAY, 4, 8, 1), grows=True),
+        Step(frames.map_update_elem(1, MAP, number(0, 4), number(5, 8))),
+        Step(frames.prog_load(1, slots), grows=True),
+        Step(frames.prog_test_run(1, PROGRAM)),
+        Step(frames.map_lookup_elem(1, MAP, number(0, 4))),
+        Step(frames.prog_load(1, direct), grows=True),
+        Step(frames.prog_test_run(1, THIRD)),
+        Step(frames.prog_test_run(1, PROGRAM)),
+        Step(frames.close(1, MAP)),
+        Step(frames.prog_test_run(1, PROGRAM)),
+        Step(frames.close(1, PROGRAM)),
+        Step(frames.prog_test_run(1, THIRD)),
     ]
 
 
@@ -107,19 +108,19 @@ def in_turn(ours, theirs):
 
 def is_want_of_memory(reply, step):
     """Whether the reply tells want of memory to a command that may have been refused some: -12, and no payload."""
-    return step.grows and reply.status == -client.Error.ENOMEM and not reply.payload
+    return step.grows and reply.status == -Errno.ENOMEM and not reply.payload
 
 
 def helper_was_refused(reply, step):
     """Whether a run's result is the helper's want of memory."""
-    return step.run_grows and not reply.status and reply.result() == -client.Error.ENOMEM % 2**32
+    return step.run_grows and not reply.status and reply.result() == -Errno.ENOMEM % 2**32
 
 
 def ask_again(host, step, reply, wanted):
     """What was refused is done at the second asking; the key that the helper was refused is not there before."""
     if helper_was_refused(reply, step):
-        missing = host.ask(client.map_lookup(0, MAP, number(1, 4)))
-        if missing.status != -client.Error.ENOENT or missing.payload:
+        missing = host.ask(frames.map_lookup_elem(0, MAP, number(1, 4)))
+        if missing.status != -Errno.ENOENT or missing.payload:
             raise Differs(f"the key that was refused: {missing}")
     elif not is_want_of_memory(reply, step):
         raise Differs(f"{reply}, in place of {wanted}")
@@ -132,13 +133,13 @@ def play(bpfhost, steps, wanted):
     """How many steps were refused memory; None where the host ended for want of it before any reply."""
     told = 0
     try:
-        with client.Host(bpfhost, TENANTS) as host:
+        with Host(bpfhost, TENANTS) as host:
             for at, (step, answer) in enumerate(zip(steps, wanted)):
                 reply = host.ask(step.frame)
                 if reply != answer:
                     ask_again(host, step, reply, answer)
                     told += 1
-    except client.HostError as error:
+    except HostError as error:
         if at or told or error.fault != "out of memory" or error.written:
             raise Differs(f"{error}, after {at} replies") from error
         return None
@@ -208,13 +209,13 @@ def check_words(bpfhost, refusals, words, given, wanted, unseen=0):
 
 def main():
     bpfhost, library = sys.argv[1:]
-    puts, reads, counts = (client.assemble(bpfhost, text) for text in (PUTS_KEY, READS_INDEX, COUNTS))
+    puts, reads, counts = (assemble(bpfhost, text) for text in (PUTS_KEY, READS_INDEX, COUNTS))
     steps = in_turn(of_first_tenant(puts), of_second_tenant(reads, counts))
-    with client.Host(bpfhost, TENANTS) as host:
+    with Host(bpfhost, TENANTS) as host:
         wanted = [host.ask(step.frame) for step in steps]
     if any(reply.status < 0 for reply in wanted):
         raise Differs("a reply is an error where memory is ample")
-    lines = client.hex_lines(reads).encode()
+    lines = hex_lines(reads).encode()
     texts = [
         (["asm"], READS_INDEX.encode(), 0),
         (["dis"], lines, 0),

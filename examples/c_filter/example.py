@@ -12,9 +12,9 @@ from pathlib import Path
 
 HERE = Path(__file__).resolve().parent
 sys.dont_write_bytecode = True
-sys.path.insert(0, str(HERE.parent))
+sys.path.insert(0, str(HERE.parents[1] / "clients/python"))
 
-import client  # noqa: E402
+from bpfhost import Host, HostError, MapType, ReplyError, assemble, disassemble, frames  # noqa: E402
 
 TENANT, KEPT, FILTER = 0, 3, 4
 # The version of clang that made filter.txt; another one may make other slots of the same C.
@@ -45,9 +45,9 @@ def compiled(clang, objcopy):
 def slots_of_filter(bpfhost, tools):
     text = (HERE / "filter.txt").read_text()
     if not tools:
-        return client.assemble(bpfhost, text)
+        return assemble(bpfhost, text)
     slots = compiled(*tools)
-    if CLANG_OF_TEXT in tool(tools[0], "--version") and client.disassemble(bpfhost, slots) != text:
+    if CLANG_OF_TEXT in tool(tools[0], "--version") and disassemble(bpfhost, slots) != text:
         sys.exit("c_filter: filter.txt is not what `bpfhost dis` writes for the slots of filter.c")
     return slots
 
@@ -67,13 +67,13 @@ def packets():
 
 
 def show(host, slots):
-    made = host.ask(client.map_create(TENANT, client.MapType.ARRAY, 4, 8, 1))
+    made = host.ask(frames.map_create(TENANT, MapType.ARRAY, 4, 8, 1))
     print(f"the map: {made.says()}")
-    print(f"the filter: {host.ask(client.prog_load(TENANT, slots)).says()}")
+    print(f"the filter: {host.ask(frames.prog_load(TENANT, slots)).says()}")
     for name, packet in packets().items():
-        reply = host.ask(client.prog_test_run(TENANT, FILTER, packet))
+        reply = host.ask(frames.prog_test_run(TENANT, FILTER, packet))
         print(f"{name}, {len(packet)} bytes: {reply.says()}")
-    kept = host.ask(client.map_lookup(TENANT, KEPT, bytes(4)))
+    kept = host.ask(frames.map_lookup_elem(TENANT, KEPT, bytes(4)))
     print(f"kept: {int.from_bytes(kept.payload, 'little')}")
 
 
@@ -83,9 +83,9 @@ def main():
     bpfhost, *tools = sys.argv[1:]
     try:
         slots = slots_of_filter(bpfhost, tools)
-        with client.Host(bpfhost) as host:
+        with Host(bpfhost) as host:
             show(host, slots)
-    except (client.HostError, client.ReplyError) as error:
+    except (HostError, ReplyError) as error:
         sys.exit(f"c_filter: {error}")
 
 

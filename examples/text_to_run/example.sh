@@ -5,7 +5,7 @@ bpfhost=$(realpath "${1:?usage: example.sh BPFHOST}")
 cd "$(dirname "$0")"
 scratch=$(mktemp -d)
 trap 'rm -rf "$scratch"' EXIT
-client() { python3 -B ../client.py "$@"; }
+client() { PYTHONPATH=../../clients/python python3 -B -m bpfhost "$@"; }
 
 echo "asm makes slots of the text:"
 "$bpfhost" asm < program.txt | tee "$scratch/slots"

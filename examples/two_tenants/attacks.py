@@ -2,7 +2,8 @@
 
 from dataclasses import dataclass
 
-import client
+from bpfhost import Command, MapType, assemble, frames
+from bpfhost.numbers import LONGEST_FRAME, LONGEST_PACKET
 
 HOSTILE, HONEST, NOT_SERVED = 0, 1, 2
 OWN_MAP = 3
@@ -19,7 +20,7 @@ class Attack:
     is_refused: bool
 
 
-OWN_MAP_FRAME = client.map_create(HOSTILE, client.MapType.ARRAY, 4, 8, 1)
+OWN_MAP_FRAME = frames.map_create(HOSTILE, MapType.ARRAY, 4, 8, 1)
 
 # Looks index 0 of the own map up, and leaves register 0 as the answer.
 LOOK_UP = f"""
@@ -66,18 +67,18 @@ PROGRAMS = {
 }
 
 FRAMES = {
-    "looks into the other tenant's map": client.map_lookup(HOSTILE, FOREIGN_MAP, bytes(4)),
-    "runs the other tenant's program": client.prog_test_run(HOSTILE, FOREIGN_PROGRAM),
-    "closes the other tenant's program": client.close(HOSTILE, FOREIGN_PROGRAM),
-    "runs its map as a program": client.prog_test_run(HOSTILE, OWN_MAP),
-    "closes a descriptor of a tenant that is not served": client.close(NOT_SERVED, 3),
+    "looks into the other tenant's map": frames.map_lookup_elem(HOSTILE, FOREIGN_MAP, bytes(4)),
+    "runs the other tenant's program": frames.prog_test_run(HOSTILE, FOREIGN_PROGRAM),
+    "closes the other tenant's program": frames.close(HOSTILE, FOREIGN_PROGRAM),
+    "runs its map as a program": frames.prog_test_run(HOSTILE, OWN_MAP),
+    "closes a descriptor of a tenant that is not served": frames.close(NOT_SERVED, 3),
     "sends a frame without a tenant": bytes([3, 0, 0, 0]) + b"bad",
-    "sends a command that there is not": client.frame(HOSTILE, 7),
-    "sends a body that is cut off": client.frame(HOSTILE, client.Command.MAP_UPDATE_ELEM, bytes(7)),
-    "sends a frame that is too long": client.frame(HOSTILE, client.Command.PROG_TEST_RUN, bytes(client.LONGEST_FRAME - 3)),
-    "loads bytes that are no instructions": client.prog_load(HOSTILE, b"\xff" * 8),
-    "loads half a slot": client.prog_load(HOSTILE, bytes(4)),
-    "asks for a map of 16 MiB": client.map_create(HOSTILE, client.MapType.HASH, 4, 4096, 4096),
+    "sends a command that there is not": frames.frame(HOSTILE, 7),
+    "sends a body that is cut off": frames.frame(HOSTILE, Command.MAP_UPDATE_ELEM, bytes(7)),
+    "sends a frame that is too long": frames.frame(HOSTILE, Command.PROG_TEST_RUN, bytes(LONGEST_FRAME - 3)),
+    "loads bytes that are no instructions": frames.prog_load(HOSTILE, b"\xff" * 8),
+    "loads half a slot": frames.prog_load(HOSTILE, bytes(4)),
+    "asks for a map of 16 MiB": frames.map_create(HOSTILE, MapType.HASH, 4, 4096, 4096),
 }
 
 
@@ -94,26 +95,26 @@ OWN_PROGRAM, OWN_HASH = 4, 5
 
 def floods(program):
     """Frames that fill each of the tenant's own tables."""
-    run, long_run = (client.prog_test_run(HOSTILE, OWN_PROGRAM, packet) for packet in (b"", bytes(client.LONGEST_PACKET + 1)))
-    small_map = client.map_create(HOSTILE, client.MapType.HASH, 4, 8, 2)
+    run, long_run = (frames.prog_test_run(HOSTILE, OWN_PROGRAM, packet) for packet in (b"", bytes(LONGEST_PACKET + 1)))
+    small_map = frames.map_create(HOSTILE, MapType.HASH, 4, 8, 2)
     keys = [number.to_bytes(4, "little") for number in range(5)]
     tried = {
         "loads a program that leaves 0xff all over its stack and its value": [program],
         "runs it on three packets": [run] * 3,
         "runs it on a packet that is too long": [long_run],
         "makes a hash map for two keys": [small_map],
-        "puts five keys into it": [client.map_update(HOSTILE, OWN_HASH, key, bytes(8)) for key in keys],
+        "puts five keys into it": [frames.map_update_elem(HOSTILE, OWN_HASH, key, bytes(8)) for key in keys],
         "makes 20 maps more": [small_map] * 20,
         "loads 60 programs more": [program] * 60,
     }
-    return [Attack(does, tuple(frames), False) for does, frames in tried.items()]
+    return [Attack(does, tuple(them), False) for does, them in tried.items()]
 
 
 def attacks(bpfhost):
     """All of them, in order."""
 
     def load(text):
-        return client.prog_load(HOSTILE, client.assemble(bpfhost, text))
+        return frames.prog_load(HOSTILE, assemble(bpfhost, text))
 
     programs = {does: load(text) for does, text in PROGRAMS.items()}
     refused = [Attack(does, (frame,), True) for does, frame in {**programs, **FRAMES}.items()]

@@ -7,9 +7,10 @@ from pathlib import Path
 
 HERE = Path(__file__).resolve().parent
 sys.dont_write_bytecode = True
-sys.path.insert(0, str(HERE.parent))
+sys.path.insert(0, str(HERE.parents[1] / "clients/python"))
 
-import client  # noqa: E402
+from bpfhost import HostError, MapType, ReplyError, assemble, frames, read_replies, serve  # noqa: E402
+from bpfhost.words import command_name  # noqa: E402
 from attacks import HONEST, attacks  # noqa: E402
 
 TENANTS = 2
@@ -22,26 +23,26 @@ BEFORE_LIE = 10
 
 def honest_frames(bpfhost):
     """Two maps, a program that adds up the lengths of packets, and what one does with them."""
-    slots = client.assemble(bpfhost, (HERE / "totals.txt").read_text())
+    slots = assemble(bpfhost, (HERE / "totals.txt").read_text())
     index, keys = bytes(4), [b"one", b"two", b"six"]
-    runs = [client.prog_test_run(HONEST, FILTER, b"x" * length) for length in (3, 50, 1500)]
+    runs = [frames.prog_test_run(HONEST, FILTER, b"x" * length) for length in (3, 50, 1500)]
     return [
-        client.map_create(HONEST, client.MapType.ARRAY, 4, 8, 1),
-        client.map_create(HONEST, client.MapType.HASH, 3, 16, 4),
-        client.prog_load(HONEST, slots),
+        frames.map_create(HONEST, MapType.ARRAY, 4, 8, 1),
+        frames.map_create(HONEST, MapType.HASH, 3, 16, 4),
+        frames.prog_load(HONEST, slots),
         runs[0],
-        *[client.map_update(HONEST, NAMES, key, key * 5 + b".") for key in keys],
+        *[frames.map_update_elem(HONEST, NAMES, key, key * 5 + b".") for key in keys],
         runs[1],
-        client.map_lookup(HONEST, NAMES, b"two"),
-        client.map_delete(HONEST, NAMES, b"two"),
-        client.map_lookup(HONEST, NAMES, b"two"),
-        *[client.map_next_key(HONEST, NAMES, key) for key in (b"", b"one", b"six")],
+        frames.map_lookup_elem(HONEST, NAMES, b"two"),
+        frames.map_delete_elem(HONEST, NAMES, b"two"),
+        frames.map_lookup_elem(HONEST, NAMES, b"two"),
+        *[frames.map_get_next_key(HONEST, NAMES, key) for key in (b"", b"one", b"six")],
         runs[2],
-        client.map_lookup(HONEST, TOTALS, index),
-        client.map_update(HONEST, TOTALS, index, bytes(8)),
+        frames.map_lookup_elem(HONEST, TOTALS, index),
+        frames.map_update_elem(HONEST, TOTALS, index, bytes(8)),
         *runs,
-        client.map_lookup(HONEST, TOTALS, index),
-        *[client.close(HONEST, descriptor) for descriptor in (NAMES, FILTER, TOTALS, TOTALS)],
+        frames.map_lookup_elem(HONEST, TOTALS, index),
+        *[frames.close(HONEST, descriptor) for descriptor in (NAMES, FILTER, TOTALS, TOTALS)],
     ]
 
 
@@ -65,11 +66,11 @@ def by_chance(ours, theirs, seed):
     return merged(ours, theirs, lambda left, others: chance.random() * (left + others) < left)
 
 
-def replies(bpfhost, frames):
+def replies(bpfhost, sent):
     """The replies to these frames, one for each."""
-    told = list(client.read_replies(client.serve(bpfhost, TENANTS, b"".join(frames))))
-    if len(told) != len(frames):
-        raise client.ReplyError(f"{len(frames)} frames have {len(told)} replies")
+    told = list(read_replies(serve(bpfhost, TENANTS, b"".join(sent))))
+    if len(told) != len(sent):
+        raise ReplyError(f"{len(sent)} frames have {len(told)} replies")
     return told
 
 
@@ -120,9 +121,9 @@ def show_cut_off(bpfhost, ours, alone):
     print(f"Between {BEFORE_LIE} frames of tenant 1 and the others, a frame that says it has 4 GiB:")
     lie = b"\xff\xff\xff\xff" + bytes(4)
     try:
-        client.serve(bpfhost, TENANTS, b"".join([*ours[:BEFORE_LIE], lie, *ours[BEFORE_LIE:]]))
-    except client.HostError as error:
-        same = list(client.read_replies(error.written)) == alone[:BEFORE_LIE]
+        serve(bpfhost, TENANTS, b"".join([*ours[:BEFORE_LIE], lie, *ours[BEFORE_LIE:]]))
+    except HostError as error:
+        same = list(read_replies(error.written)) == alone[:BEFORE_LIE]
         print(f"  {error}; {in_words(same)} to tenant 1 for its {BEFORE_LIE} frames, and none for the others")
         if same:
             return
@@ -137,7 +138,7 @@ def show(bpfhost):
     show_attacks(tried, to_hostile)
     print("Tenant 1 is told meanwhile:")
     for reply in to_honest:
-        print(f"  {client.command_name(reply.command)}: {reply.says()}")
+        print(f"  {command_name(reply.command)}: {reply.says()}")
     alone = replies(bpfhost, ours), replies(bpfhost, theirs)
     show_mixed(bpfhost, ours, theirs, alone)
     show_cut_off(bpfhost, ours, alone[0])
@@ -148,7 +149,7 @@ def main():
         sys.exit("usage: example.py BPFHOST")
     try:
         show(sys.argv[1])
-    except (client.HostError, client.ReplyError) as error:
+    except (HostError, ReplyError) as error:
         sys.exit(f"two_tenants: {error}")
 
 

@@ -71,6 +71,19 @@ class ProgramRefused(Refused):
         self.reason = reason
 
 
+class SourceRefused(BpfhostError):
+    """A program of an object is refused, at a slot for a reason.
+
+    The text has the line of the source, where the object tells it. `log` is the verifier's log, where there is one.
+    """
+
+    def __init__(self, message: str, slot: int, reason: int, log: str | None = None) -> None:
+        super().__init__(message)
+        self.slot = slot
+        self.reason = reason
+        self.log = log
+
+
 class InputError(BpfhostError, ValueError):
     """A file or a text that is not what it should be."""
 

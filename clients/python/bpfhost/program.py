@@ -3,19 +3,21 @@
 from __future__ import annotations
 
 import os
+import re
 import shutil
 import subprocess
-from collections.abc import Iterable, Sequence
+from collections.abc import Mapping, Sequence
 from dataclasses import dataclass
 from pathlib import Path
 
-from bpfhost.errors import HostError
-from bpfhost.numbers import FIRST_DESCRIPTOR, SLOT_SIZE, MapType
+from bpfhost.errors import HostError, InputError
+from bpfhost.numbers import SLOT_SIZE, MapType
 
 Program = str | os.PathLike[str]
 
 # Where a build leaves the program, in a clone that this package stands in.
 _BUILT = Path(__file__).resolve().parents[3] / "crates/bpfhost/out/bpfhost"
+_SLOT = re.compile(r"[0-9A-Fa-f]{16}")
 _KINDS = {MapType.HASH: "hash", MapType.ARRAY: "array"}
 
 
@@ -69,6 +71,17 @@ def hex_lines(slots: bytes) -> str:
     return "".join(f"{slots[at:at + SLOT_SIZE].hex()}\n" for at in range(0, len(slots), SLOT_SIZE))
 
 
+def slots_of(text: str, name: str = "standard input") -> bytes:
+    """The slots that hex lines are, read as `dis` reads them; an InputError names the line that is none."""
+    slots = b""
+    for number, line in enumerate(text.split("\n"), 1):
+        digits = line.strip(" \t\r")
+        if digits and not _SLOT.fullmatch(digits):
+            raise InputError(f"{name}:{number}: a slot is sixteen hexadecimal digits on a line, and nothing else")
+        slots += bytes.fromhex(digits)
+    return slots
+
+
 @dataclass(frozen=True)
 class MapShape:
     """What a map is made of: its kind, the bytes of a key and of a value, and its most entries."""
@@ -90,20 +103,19 @@ class Verdict:
     refused: tuple[int, int] | None
 
 
-def verify(program: Program, slots: bytes, maps: Iterable[MapShape] = ()) -> Verdict:
-    """The verdict of `bpfhost verify` on slots; the maps have the descriptors from 3 on, in their order."""
-    words = ["verify", *_map_words(maps)]
-    ended = _called(program, words, hex_lines(slots).encode())
+def verify(program: Program, slots: bytes, maps: Mapping[int, MapShape]) -> Verdict:
+    """The verdict of `bpfhost verify` on slots, with maps by their descriptors."""
+    ended = _called(program, ["verify", *_map_words(maps)], hex_lines(slots).encode())
     said = ended.stdout.decode(errors="replace").split()
     if ended.returncode == 0 and said == ["accepted"]:
         return Verdict(None)
-    if ended.returncode == 1 and said[:2] == ["refused:", "slot"] and len(said) == 5:
+    if ended.returncode == 1 and said[:2] == ["refused:", "slot"] and said[3:4] == ["reason"]:
         return Verdict((int(said[2]), int(said[4])))
     raise HostError.of("bpfhost verify", ended.returncode, ended.stderr, ended.stdout)
 
 
-def _map_words(maps: Iterable[MapShape]) -> list[str]:
-    return [shape.word(descriptor) for descriptor, shape in enumerate(maps, FIRST_DESCRIPTOR)]
+def _map_words(maps: Mapping[int, MapShape]) -> list[str]:
+    return [shape.word(descriptor) for descriptor, shape in maps.items()]
 
 
 def find_verifier_log(program: Program) -> str | None:
@@ -114,13 +126,12 @@ def find_verifier_log(program: Program) -> str | None:
     return shutil.which("verifier_log")
 
 
-def verifier_log(program: Program, slots: bytes, maps: Iterable[MapShape] = ()) -> str | None:
-    """The log of the verifier on slots, with maps as `verify` has them; None where no log can be had."""
+def verifier_log(program: Program, slots: bytes, maps: Mapping[int, MapShape]) -> str | None:
+    """The log of the verifier on slots, with maps by their descriptors; None where there is no program `verifier_log` to write it."""
     logger = find_verifier_log(program)
     if logger is None:
         return None
-    try:
-        ended = _called(logger, _map_words(maps), hex_lines(slots).encode())
-    except HostError:
-        return None
-    return ended.stdout.decode(errors="replace") if ended.returncode in (0, 1) else None
+    ended = _called(logger, _map_words(maps), hex_lines(slots).encode())
+    if ended.returncode not in (0, 1):
+        raise HostError.of("verifier_log", ended.returncode, ended.stderr, ended.stdout)
+    return ended.stdout.decode(errors="replace")

@@ -2,6 +2,8 @@
 
 from __future__ import annotations
 
+import os
+import stat
 from abc import ABC, abstractmethod
 from collections.abc import Generator, Iterator
 from dataclasses import dataclass
@@ -73,6 +75,11 @@ class Capture(ABC):
                 return at
             self.packets_read += len(piece)
             yield piece
+
+    def size(self) -> int | None:
+        """The bytes of the file, or None where it is no regular file."""
+        status = os.fstat(self._file.fileno())
+        return status.st_size if stat.S_ISREG(status.st_mode) else None
 
     def error(self, fault: str) -> CaptureError:
         """The error that tells the file and a fault."""

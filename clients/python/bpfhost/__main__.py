@@ -1,0 +1,7 @@
+"""`python3 -m bpfhost`: the command."""
+
+import sys
+
+from bpfhost.command import main
+
+sys.exit(main())

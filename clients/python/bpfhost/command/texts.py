@@ -1,0 +1,94 @@
+"""`asm` and `dis`: programs as text."""
+
+from __future__ import annotations
+
+import argparse
+import re
+import sys
+from pathlib import Path
+
+from bpfhost.command.objects import first_descriptors, read_object
+from bpfhost.errors import HostError, InputError
+from bpfhost.program import assemble, disassemble, find_program, hex_lines, slots_of
+from bpfhost.words import TEXT_FAULTS, reason_words
+
+_ELF = b"\x7fELF"
+
+
+def _read(file: str | None) -> tuple[str, bytes]:
+    """The name of an input and its bytes."""
+    return (file, Path(file).read_bytes()) if file else ("standard input", sys.stdin.buffer.read())
+
+
+def _decoded(name: str, given: bytes) -> str:
+    try:
+        return given.decode("ascii")
+    except UnicodeDecodeError as error:
+        line = given.count(b"\n", 0, error.start) + 1
+        raise InputError(f"{name}:{line}: a byte that is not ASCII") from error
+
+
+def asm(said: argparse.Namespace) -> int:
+    """Writes the slots of a text as hex lines; a fault is told with its line."""
+    name, given = _read(said.file)
+    text = _decoded(name, given)
+    try:
+        slots = assemble(find_program(said.bpfhost), text)
+    except HostError as error:
+        raise _of_line(error, name, text) or error from error
+    sys.stdout.write(hex_lines(slots))
+    return 0
+
+
+def _of_line(error: HostError, name: str, text: str) -> InputError | None:
+    """What `line L: fault K` means."""
+    fault = re.fullmatch(r"line (\d+): fault (\d+)", error.fault)
+    if not fault:
+        return None
+    line, words = int(fault[1]), TEXT_FAULTS.get(int(fault[2]), f"fault {fault[2]}")
+    if not line:
+        return InputError(f"{name}: {words}")
+    at_fault = text.split("\n")[line - 1].strip()
+    return InputError(f"{name}:{line}: {at_fault}: {words}")
+
+
+def dis(said: argparse.Namespace) -> int:
+    """Writes the text of hex lines, or of an object's programs, with the lines of the source that they come from."""
+    name, given = _read(said.file)
+    program = find_program(said.bpfhost)
+    if given.startswith(_ELF):
+        return _dis_object(said, program)
+    slots = slots_of(_decoded(name, given), name)
+    sys.stdout.write(_text_of(program, slots, name))
+    return 0
+
+
+def _text_of(program: str, slots: bytes, name: str) -> str:
+    try:
+        return disassemble(program, slots)
+    except HostError as error:
+        fault = re.fullmatch(r"slot (\d+): fault (\d+)", error.fault)
+        if not fault:
+            raise
+        raise InputError(f"{name}: slot {fault[1]}: {reason_words(100 + int(fault[2]))}") from error
+
+
+def _dis_object(said: argparse.Namespace, program: str) -> int:
+    if not said.file:
+        raise InputError("an object is read from a file that is named, and not from standard input")
+    object_file = read_object(said.file)
+    for each in object_file.programs:
+        print(f"// {each.name}, section {each.section}")
+        text = _text_of(program, each.linked(first_descriptors(object_file)), said.file)
+        sources = {line.slot: f"// {line.file}:{line.line}: {line.text.strip()}\n" for line in each.lines}
+        sys.stdout.write(_with_sources(text, sources))
+    return 0
+
+
+def _with_sources(text: str, sources: dict[int, str]) -> str:
+    """A program's text, with a line of the source before the first instruction that comes from it."""
+    slot, parts = 0, []
+    for line in text.splitlines():
+        parts += [sources.get(slot, ""), f"{line}\n"]
+        slot += 2 if line.endswith(" ll") else 1
+    return "".join(parts)

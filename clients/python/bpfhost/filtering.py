@@ -11,7 +11,6 @@ from dataclasses import dataclass, field
 from bpfhost.captures import Capture, Piece
 from bpfhost.captures.writer import CaptureWriter
 from bpfhost.errors import BpfhostError, CaptureError
-from bpfhost.loading import LoadedProgram
 from bpfhost.runs import TestRuns
 
 
@@ -35,10 +34,14 @@ class Outcome:
         """Counts the results of a piece."""
         self.packets += len(results)
         self.accepted += len(results) - results.count(0)
-        self.bytes_kept += sum(min(result, length) for result, length in zip(results, piece.lengths()))
+        self.bytes_kept += sum(map(_lesser, results, piece.lengths()))
         self.results.update(results)
         if piece.link_type not in self.link_types:
             self.link_types.append(piece.link_type)
+
+
+# `min` has many types; this is the one of two numbers.
+_lesser: Callable[[int, int], int] = min
 
 
 class TenantsDiffer(BpfhostError):
@@ -63,9 +66,10 @@ def accept_to(writer: CaptureWriter) -> Callable[[Piece, tuple[int, ...]], None]
 class Filter:
     """One filter, loaded for one or more tenants of a host, each of which runs it on each packet."""
 
-    def __init__(self, loaded: Sequence[LoadedProgram]) -> None:
-        self._host = loaded[0].tenant.host
-        self._runs = [TestRuns(self._host, one.tenant.number, one.descriptor) for one in loaded]
+    def __init__(self, runs: Sequence[TestRuns]) -> None:
+        """The filter by its runs for each tenant, from 0 on."""
+        self._host = runs[0].host
+        self._runs = list(runs)
         self._fault: CaptureError | None = None
 
     def run(

@@ -24,7 +24,7 @@ LONGEST_REPLY = REPLY_HEAD + LONGEST_PAYLOAD
 # A pipe of a system that does not tell its size is taken to hold so many bytes.
 _LEAST_PIPE = 4096
 # A batch of frames has about so many bytes at most.
-_SENT_AT_ONCE = 1 << 20
+_SENT_AT_ONCE = 1 << 17
 _SECONDS_TO_END = 5
 
 

@@ -8,6 +8,7 @@ from bpfhost.errors import InputError, ProgramRefused, Refused, SourceRefused
 from bpfhost.maps import Map
 from bpfhost.objects import ObjectFile, ObjectMap, ObjectProgram
 from bpfhost.program import MapShape, verifier_log
+from bpfhost.runs import TestRuns
 from bpfhost.tenant import Tenant
 from bpfhost.words import reason_words
 
@@ -64,6 +65,10 @@ class LoadedProgram:
     program: ObjectProgram
     descriptor: int
     maps: tuple[LoadedMap, ...]
+
+    def runs(self) -> TestRuns:
+        """Test runs of the program."""
+        return TestRuns(self.tenant.host, self.tenant.number, self.descriptor)
 
 
 def load_program(tenant: Tenant, object_file: ObjectFile, program: ObjectProgram) -> LoadedProgram:

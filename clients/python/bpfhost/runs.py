@@ -29,6 +29,9 @@ _PROTOCOL = slice(12, 16)
 _LEAST_TYPE, _ETH_P_802_2 = b"\x06\x00", b"\x00\x04"
 
 
+_NO_WORDS: tuple[int, ...] = ()
+
+
 class _Starts(dict[int, bytes]):
     """What a frame begins with, up to its descriptor, by the length of its packet."""
 
@@ -69,7 +72,7 @@ class TestRuns:
     __test__ = False
 
     def __init__(self, host: Host, tenant: int, program: int, context: Context = NO_CONTEXT) -> None:
-        self._host = host
+        self.host = host
         self._starts = _Starts(tenant, program)
         self._contexts = _Contexts(context)
         self._whose = tenant | Command.PROG_TEST_RUN << 16
@@ -80,11 +83,11 @@ class TestRuns:
 
         A Refused where a run is refused, and a ValueError where a packet has more than 65,536 bytes.
         """
-        return self._host.pipelined(self.send, self.receive, (few for piece in pieces for few in piece.split(self.most)))
+        return self.host.pipelined(self.send, self.receive, (few for piece in pieces for few in piece.split(self.most)))
 
     def send(self, packets: Packets) -> None:
         """Sends the frames of runs on packets, `most` at most, which `receive` then reads the replies to."""
-        self._host.send(self.frames(packets))
+        self.host.send(self.frames(packets))
 
     def frames(self, packets: Packets) -> bytearray:
         """The frames of runs on packets."""
@@ -111,17 +114,16 @@ class TestRuns:
     def receive(self, packets: Packets) -> tuple[int, ...]:
         """The results of runs whose frames were sent; a Refused where one was refused, once all replies are read."""
         count = len(packets)
-        replies = bytearray()
-        while len(replies) < count * _REPLY_SIZE:
-            replies += self._host.read(count * _REPLY_SIZE - len(replies))
-            if not self._are_results(replies):
-                return self._one_by_one(bytes(replies), count)
-        return struct.unpack(f"<{4 * count}I", replies)[3::4]
+        size, replies, words = count * _REPLY_SIZE, b"", _NO_WORDS
+        while len(replies) < size:
+            replies += self.host.read(size - len(replies))
+            words = struct.unpack_from(f"<{len(replies) // 4}I", replies)
+            if not self._are_results(words):
+                return self._one_by_one(replies, count)
+        return words[3::4]
 
-    def _are_results(self, replies: bytearray) -> bool:
-        """Whether these bytes begin with results of this program, and nothing else, as far as whole words go."""
-        many = len(replies) // 4
-        words = struct.unpack_from(f"<{many}I", replies)
+    def _are_results(self, words: tuple[int, ...]) -> bool:
+        """Whether words are those of results of this program, as far as they go: a refusal is shorter, so it is seen at once."""
         lengths, owners = words[0::4], words[1::4]
         return (
             lengths.count(_REPLY_SIZE - 4) == len(lengths)
@@ -143,7 +145,7 @@ class TestRuns:
         if size > REPLY_HEAD + 6:
             raise ReplyError(f"a reply of {size} bytes to a test run")
         if len(begun) < size:
-            begun += self._host.read_whole(size - len(begun))
+            begun += self.host.read_whole(size - len(begun))
         return begun[:size], begun[size:]
 
     def _result(self, reply: Reply) -> int:

@@ -35,7 +35,7 @@ def run(said: argparse.Namespace) -> int:
     with open_capture(said.capture) as capture, Host(find_program(said.bpfhost), said.tenants) as host:
         loaded = [load_program(host.tenant(number), object_file, program) for number in range(said.tenants)]
         with _accepting(said, capture) as accept, _progress(capture) as advanced:
-            outcome = Filter(loaded).run(capture, said.limit, accept, advanced)
+            outcome = Filter([each.runs() for each in loaded]).run(capture, said.limit, accept, advanced)
         report = show.Report.of(object_file, loaded[0], said.capture, said.tenants, outcome)
     if said.json:
         show.write_json(report)

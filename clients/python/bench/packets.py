@@ -1,0 +1,96 @@
+#!/usr/bin/env python3
+"""Measures what a run of a filter on a capture costs the client, beside what it costs the host.
+
+usage: packets.py [BPFHOST] [--packets N] [--pcapng]
+
+A capture of packets of 64 to 1,500 bytes is made in a temporary folder, and a filter of two instructions is run on it as `python3 -m
+bpfhost run` does. What is printed is processor time, of this process and of the host, for each packet. A busy machine makes
+both longer, so believe their ratio, and three runs.
+"""
+
+from __future__ import annotations
+
+import argparse
+import random
+import resource
+import struct
+import sys
+import tempfile
+from pathlib import Path
+from typing import BinaryIO
+
+sys.dont_write_bytecode = True
+sys.path.insert(0, str(Path(__file__).resolve().parents[1]))
+
+from bpfhost import Host, TestRuns, assemble, find_program  # noqa: E402
+from bpfhost.captures import open_capture  # noqa: E402
+from bpfhost.filtering import Filter, Outcome  # noqa: E402
+
+SHORTEST, LONGEST = 64, 1500
+LENGTH = "r0 = *(u32 *)(r1 + 0)\nexit\n"
+IPV4 = bytes(12) + b"\x08\x00"
+MICROSECONDS_WANTED = 3.0
+
+
+def write_pcap(file: BinaryIO, lengths: list[int]) -> None:
+    """A capture of IPv4 packets of these lengths, filled up with zeros."""
+    file.write(struct.pack("<IHHiIII", 0xA1B2C3D4, 2, 4, 0, 0, 65_536, 1))
+    for at, length in enumerate(lengths):
+        file.write(struct.pack("<IIII", at, 0, length, length) + IPV4 + bytes(length - len(IPV4)))
+
+
+def write_pcapng(file: BinaryIO, lengths: list[int]) -> None:
+    """The same in the other format."""
+    file.write(struct.pack("<IIIHHqI", 0x0A0D0D0A, 28, 0x1A2B3C4D, 1, 0, -1, 28))
+    file.write(struct.pack("<IIHHII", 1, 20, 1, 0, 65_536, 20))
+    for at, length in enumerate(lengths):
+        block = 32 + (length + 3) // 4 * 4
+        packet = IPV4 + bytes(length - len(IPV4))
+        file.write(struct.pack("<7I", 6, block, 0, 0, at, length, length) + packet.ljust(block - 32, b"\0"))
+        file.write(struct.pack("<I", block))
+
+
+def processor_time(whose: int) -> float:
+    """The seconds of processor time that this process, or the processes that it has waited for, have taken."""
+    used = resource.getrusage(whose)
+    return used.ru_utime + used.ru_stime
+
+
+def run_filter(program: str, capture: Path) -> Outcome:
+    """Runs the filter on the capture; the host has ended then."""
+    with open_capture(capture) as opened, Host(program) as host:
+        loaded = host.tenant().prog_load(assemble(program, LENGTH))
+        return Filter([TestRuns(host, 0, loaded)]).run(opened)
+
+
+def measure(program: str, capture: Path, lengths: list[int]) -> tuple[float, float]:
+    """The processor time of this process and of the host, in microseconds for each packet."""
+    before = [processor_time(whose) for whose in (resource.RUSAGE_SELF, resource.RUSAGE_CHILDREN)]
+    outcome = run_filter(program, capture)
+    behind = [processor_time(whose) for whose in (resource.RUSAGE_SELF, resource.RUSAGE_CHILDREN)]
+    if outcome.packets != len(lengths) or outcome.bytes_kept != sum(lengths) or outcome.fault:
+        sys.exit(f"packets: the filter has kept {outcome.bytes_kept} bytes of {outcome.packets} packets")
+    client, host = ((late - early) / len(lengths) * 1e6 for early, late in zip(before, behind))
+    return client, host
+
+
+def main() -> None:
+    """Makes the capture, and prints what was measured."""
+    parser = argparse.ArgumentParser(description="Measures what a run on a capture costs the client.")
+    parser.add_argument("bpfhost", nargs="?")
+    parser.add_argument("--packets", type=int, default=1_000_000)
+    parser.add_argument("--pcapng", action="store_true")
+    said = parser.parse_args()
+    draw = random.Random(37)
+    lengths = [draw.randint(SHORTEST, LONGEST) for _ in range(said.packets)]
+    with tempfile.TemporaryDirectory() as scratch:
+        capture = Path(scratch, "capture")
+        with open(capture, "wb") as file:
+            (write_pcapng if said.pcapng else write_pcap)(file, lengths)
+        client, host = measure(find_program(said.bpfhost), capture, lengths)
+    print(f"{said.packets:,} packets: client {client:.2f} us a packet, host {host:.2f} us a packet, ratio {client / host:.2f}")
+    print(f"wanted of the client: less than {MICROSECONDS_WANTED:.2f} us a packet")
+
+
+if __name__ == "__main__":
+    main()

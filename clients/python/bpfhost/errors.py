@@ -29,7 +29,7 @@ class HostError(BpfhostError):
     @classmethod
     def of(cls, what: str, status: int, fault: bytes, written: bytes = b"") -> HostError:
         """`what` ended with a status, or by a signal where that is negative, and wrote `fault` on standard error."""
-        said = fault.decode(errors="replace").strip()
+        said = "; ".join(line for line in fault.decode(errors="replace").splitlines() if line.strip())
         by = f"by {_signal_name(-status)}" if status < 0 else f"with status {status}"
         return cls(f"{what} ended {by}: {said or 'it did not say why'}", said, written)
 

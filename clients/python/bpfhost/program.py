@@ -106,11 +106,12 @@ class Verdict:
 def verify(program: Program, slots: bytes, maps: Mapping[int, MapShape]) -> Verdict:
     """The verdict of `bpfhost verify` on slots, with maps by their descriptors."""
     ended = _called(program, ["verify", *_map_words(maps)], hex_lines(slots).encode())
-    said = ended.stdout.decode(errors="replace").split()
-    if ended.returncode == 0 and said == ["accepted"]:
+    said = ended.stdout.decode(errors="replace")
+    refused = re.fullmatch(r"refused: slot ([0-9]+) reason ([0-9]+)\n", said)
+    if ended.returncode == 0 and said == "accepted\n":
         return Verdict(None)
-    if ended.returncode == 1 and said[:2] == ["refused:", "slot"] and said[3:4] == ["reason"]:
-        return Verdict((int(said[2]), int(said[4])))
+    if ended.returncode == 1 and refused:
+        return Verdict((int(refused[1]), int(refused[2])))
     raise HostError.of("bpfhost verify", ended.returncode, ended.stderr, ended.stdout)
 
 

@@ -1,0 +1,1 @@
+"""Tests of the package bpfhost. `clients/python/check` runs them."""

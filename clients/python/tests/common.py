@@ -1,0 +1,47 @@
+"""What tests share: the program under test, a limit of time, and programs that only pretend to be bpfhost."""
+
+from __future__ import annotations
+
+import os
+import signal
+import stat
+import sys
+import tempfile
+import unittest
+from pathlib import Path
+
+PROGRAM = os.environ.get("BPFHOST", "")
+SECONDS = 60
+
+# r0 = 1; exit: the program of the repository's README.
+ONE = bytes.fromhex("b700000001000000 9500000000000000")
+# r0 = *(u32 *)(r1 + 0); exit: the packet's length, by docs/INSTRUCTIONS.md.
+LENGTH = bytes.fromhex("6110000000000000 9500000000000000")
+
+
+def _hangs(_number: int, _frame: object) -> None:
+    raise TimeoutError(f"a test takes longer than {SECONDS} seconds")
+
+
+class TimedTest(unittest.TestCase):
+    """A test that may not hang."""
+
+    def setUp(self) -> None:
+        signal.signal(signal.SIGALRM, _hangs)
+        signal.alarm(SECONDS)
+        self.addCleanup(signal.alarm, 0)
+        scratch = tempfile.TemporaryDirectory()
+        self.addCleanup(scratch.cleanup)
+        self.scratch = Path(scratch.name)
+
+    def pretender(self, script: str) -> str:
+        """A program in Python that stands where bpfhost should."""
+        path = self.scratch / "pretender"
+        path.write_text(f"#!{sys.executable}\nimport os, sys, time\nread = sys.stdin.buffer.read\n{script}\n")
+        path.chmod(path.stat().st_mode | stat.S_IXUSR)
+        return str(path)
+
+
+@unittest.skipUnless(PROGRAM, "the variable BPFHOST names no program")
+class HostTest(TimedTest):
+    """A test that starts bpfhost."""

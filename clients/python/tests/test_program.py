@@ -1,0 +1,96 @@
+"""The program bpfhost by its path, its subcommands, and the verifier's log."""
+
+from __future__ import annotations
+
+import os
+import unittest
+from unittest import mock
+
+from bpfhost import HostError, InputError, MapShape, MapType, assemble, disassemble, find_program, hex_lines, serve, verify
+from bpfhost.program import slots_of, verifier_log
+from tests.common import ONE, PROGRAM, HostTest, TimedTest
+
+
+class Lines(unittest.TestCase):
+    def test_hex_lines(self) -> None:
+        self.assertEqual(hex_lines(ONE), "b700000001000000\n9500000000000000\n")
+        self.assertRaises(ValueError, hex_lines, ONE[:7])
+
+    def test_slots_of_lines_as_the_page_on_instructions_has_them(self) -> None:
+        self.assertEqual(slots_of("\tB700000001000000 \r\n\n9500000000000000"), ONE)
+        for bad in ("b70000000100000", "b7000000010000000", "b7 00000001000000", "b700000001000000 95", "zz00000001000000"):
+            with self.assertRaisesRegex(InputError, "file:2: a slot is sixteen hexadecimal digits"):
+                slots_of(f"9500000000000000\n{bad}\n", "file")
+
+
+class Finding(TimedTest):
+    def test_the_named_program_goes_first(self) -> None:
+        with mock.patch.dict(os.environ, {"BPFHOST": "/of/the/variable"}):
+            self.assertEqual(find_program("/named"), "/named")
+            self.assertEqual(find_program(), "/of/the/variable")
+
+    def test_then_that_of_path(self) -> None:
+        program = self.scratch / "bpfhost"
+        program.write_text("#!/bin/sh\n")
+        program.chmod(0o755)
+        with mock.patch.dict(os.environ, {"PATH": str(self.scratch)}):
+            os.environ.pop("BPFHOST", None)
+            self.assertEqual(find_program(), str(program))
+
+    def test_none_is_told(self) -> None:
+        with mock.patch.dict(os.environ, {"PATH": ""}), mock.patch("bpfhost.program._BUILT", self.scratch / "nothing"):
+            os.environ.pop("BPFHOST", None)
+            self.assertRaisesRegex(HostError, "there is no program bpfhost", find_program)
+
+    def test_a_program_that_does_not_start(self) -> None:
+        self.assertRaisesRegex(HostError, "/nowhere/bpfhost does not start: No such file", serve, "/nowhere/bpfhost", 1, b"")
+
+    def test_a_verdict_that_is_none(self) -> None:
+        for said in ("refused: slot one reason 2", "refused: slot 1 reason", "perhaps"):
+            program = self.pretender(f"print({said!r}); sys.exit(1)")
+            self.assertRaises(HostError, verify, program, ONE, {})
+
+
+class Subcommands(HostTest):
+    def test_asm_and_dis(self) -> None:
+        self.assertEqual(assemble(PROGRAM, "r0 = 1\nexit\n"), ONE)
+        self.assertEqual(disassemble(PROGRAM, ONE), "r0 = 1\nexit\n")
+        self.assertRaisesRegex(HostError, "bpfhost asm ended with status 1: line 1: fault 1", assemble, PROGRAM, "r0 =+ 1\n")
+
+    def test_serve(self) -> None:
+        self.assertEqual(serve(PROGRAM, 1, b""), b"")
+        with self.assertRaises(HostError) as ended:
+            serve(PROGRAM, 1, bytes.fromhex("08000000 0000 0001 03000000 ff"))
+        self.assertEqual(ended.exception.fault, "truncated after 1 frames")
+        self.assertEqual(ended.exception.written, bytes.fromhex("08000000 0000 0001 f7ffffff"))
+
+    def test_verify_as_the_readme_has_it(self) -> None:
+        slots = bytes.fromhex("1811000003000000 0000000000000000 b700000000000000 9500000000000000")
+        one = MapShape(MapType.ARRAY, 4, 8, 1)
+        self.assertIsNone(verify(PROGRAM, slots, {3: one}).refused)
+        self.assertEqual(verify(PROGRAM, slots, {}).refused, (0, 7))
+        self.assertEqual(verify(PROGRAM, slots, {4: one}).refused, (0, 7))
+        self.assertRaisesRegex(HostError, "map word 1 is wrong", verify, PROGRAM, slots, {3: MapShape(MapType.ARRAY, 5, 8, 1)})
+
+    def test_slots_that_are_no_program(self) -> None:
+        self.assertEqual(verify(PROGRAM, b"\xff" * 8, {}).refused, (0, 101))
+
+
+class Log(TimedTest):
+    def log_of(self, script: str) -> str | None:
+        """The log of a program `verifier_log` that stands beside another one."""
+        os.rename(self.pretender(script), self.scratch / "verifier_log")
+        return verifier_log(self.scratch / "bpfhost", ONE, {3: MapShape(MapType.HASH, 4, 8, 2)})
+
+    def test_it_is_given_slots_and_maps(self) -> None:
+        self.assertEqual(self.log_of("print(sys.argv[1:], read())"), f"['3:hash:4:8:2'] {hex_lines(ONE).encode()!r}\n")
+
+    def test_a_refused_program_has_a_log_too(self) -> None:
+        self.assertEqual(self.log_of("print('0: r0 = 1'); sys.exit(1)"), "0: r0 = 1\n")
+
+    def test_another_status_is_told(self) -> None:
+        self.assertRaisesRegex(HostError, "verifier_log ended with status 4: out of memory", self.log_of, "sys.exit(print('out of memory', file=sys.stderr) or 4)")
+
+    def test_there_may_be_none(self) -> None:
+        with mock.patch.dict(os.environ, {"PATH": ""}):
+            self.assertIsNone(verifier_log(self.scratch / "bpfhost", ONE, {}))

@@ -1,0 +1,24 @@
+"""ELF objects of machine BPF, as clang writes them: programs, maps, global variables, types and lines of the source.
+
+    found = load_object("filter.o")
+    for program in found.programs:
+        print(program.section, program.name, len(program.slots) // 8)
+
+It wants pyelftools (Debian: python3-pyelftools), and `load_object` raises a MissingPackage where there is none.
+"""
+
+from bpfhost.objects.errors import ObjectError
+from bpfhost.objects.load import load_object
+from bpfhost.objects.model import MapSlot, ObjectFile, ObjectMap, ObjectProgram, SourceLine
+from bpfhost.objects.types import Types
+
+__all__ = [
+    "MapSlot",
+    "ObjectError",
+    "ObjectFile",
+    "ObjectMap",
+    "ObjectProgram",
+    "SourceLine",
+    "Types",
+    "load_object",
+]

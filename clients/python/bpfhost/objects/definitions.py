@@ -1,0 +1,220 @@
+"""Maps that an object defines: variables of the section .maps, by BTF, and of the section maps, as `struct bpf_map_def`.
+
+Source: libbpf's conventions: bpf_helpers.h (`__uint`, `__type`), parse_btf_map_def and bpf_object__init_user_maps of
+libbpf.c before version 1.0.
+"""
+
+from __future__ import annotations
+
+import struct
+from collections.abc import Iterator
+from dataclasses import dataclass
+
+from bpfhost.numbers import MapType
+from bpfhost.objects.btf import Array, Btf, Composite, DataSection, Member, Pointer, Variable
+from bpfhost.objects.elf import ElfObject, Section, Symbol
+from bpfhost.objects.errors import ObjectError
+from bpfhost.objects.layout import resolve, size_of
+from bpfhost.objects.limits import check_map
+from bpfhost.objects.model import ObjectMap
+
+BTF_MAPS, LEGACY_MAPS = ".maps", "maps"
+
+# Those of `enum bpf_map_type` in linux/bpf.h that programs ask for most, by their names there.
+_MAP_TYPES = {
+    0: "UNSPEC",
+    3: "PROG_ARRAY",
+    4: "PERF_EVENT_ARRAY",
+    5: "PERCPU_HASH",
+    6: "PERCPU_ARRAY",
+    7: "STACK_TRACE",
+    8: "CGROUP_ARRAY",
+    9: "LRU_HASH",
+    10: "LRU_PERCPU_HASH",
+    11: "LPM_TRIE",
+    12: "ARRAY_OF_MAPS",
+    13: "HASH_OF_MAPS",
+    14: "DEVMAP",
+    15: "SOCKMAP",
+    16: "CPUMAP",
+    17: "XSKMAP",
+    18: "SOCKHASH",
+    22: "QUEUE",
+    23: "STACK",
+    24: "SK_STORAGE",
+    27: "RINGBUF",
+    30: "BLOOM_FILTER",
+}
+
+
+@dataclass(frozen=True)
+class DefinedMap:
+    """A map with the symbol that names it: its section, and the offset of its definition there."""
+
+    section: int
+    offset: int
+    size: int
+    map: ObjectMap
+
+
+def defined_maps(elf: ElfObject, btf: Btf | None) -> list[DefinedMap]:
+    """All maps that the object defines, those of each section in their order. An ObjectError where the host has no such map."""
+    found: list[DefinedMap] = []
+    for section in elf.sections:
+        if section.name == BTF_MAPS and section.size:
+            found.extend(_by_btf(elf, btf, section))
+        elif section.name == LEGACY_MAPS and section.size:
+            found.extend(_by_struct(elf, section))
+    return found
+
+
+def _map_type(number: int, where: str) -> MapType:
+    try:
+        return MapType(number)
+    except ValueError:
+        name = f" ({_MAP_TYPES[number]})" if number in _MAP_TYPES else ""
+        raise ObjectError(f"{where} has type {number}{name}, and the host has HASH (1) and ARRAY (2) alone") from None
+
+
+def _symbols(elf: ElfObject, section: Section) -> list[Symbol]:
+    if elf.relocations_of(section):
+        first = elf.relocations_of(section)[0]
+        owner = elf.owner_of(section, first.offset)
+        raise ObjectError(
+            f"map {owner} in section {section.name} has the address of {first.symbol.name}: maps in maps are not supported"
+        )
+    found = elf.symbols_of(section)
+    if not found:
+        raise ObjectError(f"section {section.name} has bytes, and no symbol names a map there")
+    return found
+
+
+# By BTF.
+
+
+def _by_btf(elf: ElfObject, btf: Btf | None, section: Section) -> Iterator[DefinedMap]:
+    if btf is None:
+        raise ObjectError(f"section {section.name} has maps, and there is no section .BTF that describes them: compile with -g")
+    variables = _variables(btf, section.name)
+    for symbol in _symbols(elf, section):
+        where = f"map {symbol.name} in section {section.name}"
+        if symbol.name not in variables:
+            raise ObjectError(f"{where} is not described by section .BTF")
+        found = resolve(btf, variables[symbol.name].type)
+        if not isinstance(found, Composite) or found.is_union:
+            raise ObjectError(f"{where} is no struct")
+        yield DefinedMap(section.index, symbol.value, symbol.size, _Attributes(btf, where).read(symbol.name, found))
+
+
+def _variables(btf: Btf, name: str) -> dict[str, Variable]:
+    """The variables of a section by their names."""
+    found: dict[str, Variable] = {}
+    for data in btf.types:
+        if isinstance(data, DataSection) and data.name == name:
+            for placed in data.variables:
+                variable = btf.type(placed.variable)
+                if isinstance(variable, Variable):
+                    found[variable.name] = variable
+    return found
+
+
+class _Attributes:
+    """The members of a map's struct, of which each tells one thing."""
+
+    def __init__(self, btf: Btf, where: str) -> None:
+        self._btf = btf
+        self._where = where
+        self._numbers: dict[str, int] = {}
+        self._types: dict[str, int] = {}
+
+    def read(self, name: str, found: Composite) -> ObjectMap:
+        """The map that the members describe."""
+        for member in found.members:
+            self._add(member)
+        for needless in ("map_flags", "pinning", "numa_node", "map_extra"):
+            if self._numbers.get(needless):
+                raise ObjectError(f"{self._where} has {needless} {self._numbers[needless]}, and the host has none")
+        if "type" not in self._numbers:
+            raise ObjectError(f"{self._where} has no type")
+        declared = ObjectMap(
+            name=name,
+            map_type=_map_type(self._numbers["type"], self._where),
+            key_size=self._size("key"),
+            value_size=self._size("value"),
+            max_entries=self._numbers.get("max_entries", 0),
+            key_type=self._types.get("key"),
+            value_type=self._types.get("value"),
+            initial=None,
+        )
+        return check_map(declared, self._where)
+
+    def _add(self, member: Member) -> None:
+        if member.name in ("key", "value"):
+            self._types[member.name] = self._target(member)
+        elif member.name in _NUMBERS:
+            self._numbers[member.name] = self._number(member)
+        else:
+            raise ObjectError(f"{self._where} has a member {member.name or 'without a name'}, which is not known")
+
+    def _target(self, member: Member) -> int:
+        """The type that `__type` tells: the member is a pointer to it."""
+        found = resolve(self._btf, member.type)
+        if not isinstance(found, Pointer):
+            raise ObjectError(f"{self._where} has a member {member.name} that is no pointer: __type tells it")
+        return found.target
+
+    def _number(self, member: Member) -> int:
+        """The number that `__uint` tells: the member is a pointer to an array of so many."""
+        found = resolve(self._btf, self._target(member))
+        if not isinstance(found, Array):
+            raise ObjectError(f"{self._where} has a member {member.name} that is no pointer to an array: __uint tells it")
+        return found.count
+
+    def _size(self, what: str) -> int:
+        told = self._numbers.get(f"{what}_size")
+        if what not in self._types:
+            if told is None:
+                raise ObjectError(f"{self._where} has neither {what} nor {what}_size")
+            return told
+        size = self._of_type(what)
+        if told not in (None, size):
+            raise ObjectError(f"{self._where} has {what}_size {told}, and its {what} has {size} bytes")
+        return size
+
+    def _of_type(self, what: str) -> int:
+        try:
+            return size_of(self._btf, self._types[what])
+        except ObjectError as error:
+            raise ObjectError(f"{self._where}: its {what} has no size, for {error}") from error
+
+
+_NUMBERS = ("type", "key_size", "value_size", "max_entries", "map_flags", "pinning", "numa_node", "map_extra")
+
+
+# By struct bpf_map_def.
+
+_FIELDS = ("type", "key_size", "value_size", "max_entries", "map_flags")
+_LEAST_FIELDS = 4
+
+
+def _by_struct(elf: ElfObject, section: Section) -> Iterator[DefinedMap]:
+    data = elf.data(section)
+    for symbol in _symbols(elf, section):
+        where = f"map {symbol.name} in section {section.name}"
+        if symbol.size < 4 * _LEAST_FIELDS:
+            raise ObjectError(f"{where} has {symbol.size} bytes, and struct bpf_map_def has at least {4 * _LEAST_FIELDS}")
+        if symbol.value + symbol.size > len(data):
+            raise ObjectError(f"{where} ends at byte {symbol.value + symbol.size}, and the section has {len(data)}")
+        definition = data[symbol.value : symbol.value + symbol.size]
+        yield DefinedMap(section.index, symbol.value, symbol.size, _legacy(symbol.name, definition, where))
+
+
+def _legacy(name: str, definition: bytes, where: str) -> ObjectMap:
+    size = 4 * len(_FIELDS)
+    if any(definition[size:]):
+        raise ObjectError(f"{where} has fields behind those of struct bpf_map_def that are not 0")
+    kind, key_size, value_size, max_entries, flags = struct.unpack("<5I", definition[:size].ljust(size, b"\0"))
+    if flags:
+        raise ObjectError(f"{where} has map_flags {flags}, and the host has none")
+    declared = ObjectMap(name, _map_type(kind, where), key_size, value_size, max_entries, None, None, None)
+    return check_map(declared, where)

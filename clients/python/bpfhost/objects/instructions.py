@@ -1,0 +1,93 @@
+"""What the instructions of a program ask for that the host does not have, told before it is loaded.
+
+Source: RFC 9669; docs/INSTRUCTIONS.md for what the host has. What is no instruction at all is left to the host's verdict.
+"""
+
+from __future__ import annotations
+
+from collections.abc import Iterator
+from typing import Protocol
+
+from bpfhost.numbers import SLOT_SIZE
+from bpfhost.objects.elf import Symbol
+from bpfhost.objects.errors import ObjectError
+
+HELPERS = (1, 2, 3, 26)
+_CALL, _CALL_REGISTER, _WIDE_LOAD = 0x85, 0x8D, 0x18
+_ATOMIC = (0xC3, 0xDB)
+_ATOMIC_OPERATIONS = (0x00, 0x40, 0x50, 0xA0)
+_FETCH = {
+    0x01: "an atomic addition with FETCH",
+    0x41: "an atomic or with FETCH",
+    0x51: "an atomic and with FETCH",
+    0xA1: "an atomic exclusive or with FETCH",
+    0xE1: "an atomic exchange (XCHG)",
+    0xF1: "an atomic comparison with exchange (CMPXCHG)",
+}
+# LD with the modes ABS and IND, of 4, 2 and 1 bytes.
+_PACKET_ACCESS = (0x20, 0x28, 0x30, 0x40, 0x48, 0x50)
+
+
+class Place(Protocol):
+    """What is needed of where a program is."""
+
+    @property
+    def begin(self) -> int:
+        """The first byte of the program in its section."""
+
+    @property
+    def functions(self) -> tuple[Symbol, ...]:
+        """The functions of its section."""
+
+    def told(self, slot: int, what: str) -> str:
+        """A sentence on a slot."""
+
+
+def is_wide_load(slots: bytes | bytearray, slot: int) -> bool:
+    """Whether a wide load of a number stands at a slot, whole."""
+    at = SLOT_SIZE * slot
+    return at + 16 <= len(slots) and slots[at] == _WIDE_LOAD and slots[at + 1] >> 4 == 0
+
+
+def check_instructions(slots: bytes, place: Place) -> None:
+    """Refuses the first instruction that asks for what the host does not have, in a sentence."""
+    for slot in _first_slots(slots):
+        lacks = _lacks(slots[SLOT_SIZE * slot : SLOT_SIZE * (slot + 1)], slot, place)
+        if lacks:
+            raise ObjectError(place.told(slot, lacks))
+
+
+def _first_slots(slots: bytes) -> Iterator[int]:
+    """The slots at which instructions begin: a wide load has two."""
+    slot = 0
+    while slot < len(slots) // SLOT_SIZE:
+        yield slot
+        slot += 2 if slots[SLOT_SIZE * slot] == _WIDE_LOAD else 1
+
+
+def _lacks(instruction: bytes, slot: int, place: Place) -> str | None:
+    opcode, source = instruction[0], instruction[1] >> 4
+    constant = int.from_bytes(instruction[4:], "little", signed=True)
+    if opcode == _CALL:
+        return _lacks_call(source, constant, slot, place)
+    if opcode == _CALL_REGISTER:
+        return "calls a function by its address, and the host has no such calls"
+    if opcode in _ATOMIC and constant not in _ATOMIC_OPERATIONS:
+        return f"has {_FETCH.get(constant, f'an atomic operation {constant:#x}')}, which the host does not have"
+    if opcode in _PACKET_ACCESS:
+        return "reads the packet by a legacy load (ABS or IND), which the host does not have: bpf_skb_load_bytes reads it"
+    return None
+
+
+def _lacks_call(source: int, constant: int, slot: int, place: Place) -> str | None:
+    if source == 0:
+        return None if constant in HELPERS else f"calls helper {constant}, and the host has {_helpers()}"
+    if source == 1:
+        target = place.begin + SLOT_SIZE * (slot + 1 + constant)
+        callee = next((function.name for function in place.functions if function.value == target), None)
+        return f"calls function {callee or f'at byte {target}'}, and calls between functions are not supported"
+    return f"calls function {constant} of the kernel, which the host does not have"
+
+
+def _helpers() -> str:
+    return f"{', '.join(map(str, HELPERS[:-1]))} and {HELPERS[-1]}"

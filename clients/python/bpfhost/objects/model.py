@@ -1,0 +1,81 @@
+"""What an object file has: programs, maps, types."""
+
+from __future__ import annotations
+
+from bisect import bisect_right
+from collections.abc import Sequence
+from dataclasses import dataclass
+
+from bpfhost.numbers import SLOT_SIZE, MapType
+from bpfhost.objects.types import Types
+
+
+@dataclass(frozen=True)
+class SourceLine:
+    """The line of the source that the instructions from a slot on are of; slots count from the program's first."""
+
+    slot: int
+    file: str
+    line: int
+    column: int
+    text: str
+
+
+@dataclass(frozen=True)
+class MapSlot:
+    """A wide load that names a map, by its slot; `map` is an index in `ObjectFile.maps`."""
+
+    slot: int
+    map: int
+
+
+@dataclass(frozen=True)
+class ObjectMap:
+    """A map that an object asks for; sizes in bytes.
+
+    `key_type` and `value_type` are types of the object, where it tells them. `initial` is the value of element 0 of a
+    section of global variables, and None in any other map.
+    """
+
+    name: str
+    map_type: MapType
+    key_size: int
+    value_size: int
+    max_entries: int
+    key_type: int | None
+    value_type: int | None
+    initial: bytes | None
+
+
+@dataclass(frozen=True)
+class ObjectProgram:
+    """A function of an executable section. Its slots lack the descriptors of maps, which `linked` fills in."""
+
+    section: str
+    name: str
+    slots: bytes
+    map_slots: tuple[MapSlot, ...]
+    lines: tuple[SourceLine, ...]
+
+    def line_of(self, slot: int) -> SourceLine | None:
+        """The last line that begins at the slot or before it, or None where none does."""
+        behind = bisect_right(self.lines, slot, key=lambda line: line.slot)
+        return self.lines[behind - 1] if behind else None
+
+    def linked(self, descriptors: Sequence[int]) -> bytes:
+        """The slots with the descriptors of the object's maps, in the order of `ObjectFile.maps`."""
+        slots = bytearray(self.slots)
+        for each in self.map_slots:
+            at = SLOT_SIZE * each.slot + 4
+            slots[at : at + 4] = descriptors[each.map].to_bytes(4, "little")
+        return bytes(slots)
+
+
+@dataclass(frozen=True)
+class ObjectFile:
+    """An object file: its programs in the order of their sections, its maps, and its types where it has any."""
+
+    path: str
+    programs: tuple[ObjectProgram, ...]
+    maps: tuple[ObjectMap, ...]
+    types: Types | None

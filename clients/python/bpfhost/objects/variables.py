@@ -1,0 +1,100 @@
+"""Sections of global variables: each is an array of one element, whose value has the section's bytes.
+
+Source: libbpf's bpf_object__init_global_data_maps, and Documentation/bpf/libbpf/program_types.rst for the names; the host
+loads addresses in the value of such a map (docs/INSTRUCTIONS.md, "Wide loads").
+"""
+
+from __future__ import annotations
+
+from dataclasses import replace
+
+from bpfhost.numbers import LONGEST_VALUE, MapType
+from bpfhost.objects.btf import Btf, DataSection, Placed, Variable
+from bpfhost.objects.definitions import DefinedMap
+from bpfhost.objects.elf import ElfObject, Section
+from bpfhost.objects.errors import ObjectError
+from bpfhost.objects.layout import size_of
+from bpfhost.objects.limits import ARRAY_KEY, check_map
+from bpfhost.objects.model import ObjectMap
+
+_NAMES = (".data", ".rodata", ".bss")
+
+
+def is_of_variables(section: Section) -> bool:
+    """Whether a section is one of global variables, by its name; one without bytes has none."""
+    named = any(section.name == name or section.name.startswith(f"{name}.") for name in _NAMES)
+    return named and section.allocated and not section.executable and section.size > 0
+
+
+def variable_maps(elf: ElfObject, btf: Btf | None) -> list[DefinedMap]:
+    """The maps of the sections of variables, in the order of the sections."""
+    return [_map(elf, btf, section) for section in elf.sections if is_of_variables(section)]
+
+
+def _map(elf: ElfObject, btf: Btf | None, section: Section) -> DefinedMap:
+    where = f"section {section.name}"
+    if section.size > LONGEST_VALUE:
+        raise ObjectError(f"{where} has {section.size:,} bytes of variables, and a map's value {LONGEST_VALUE:,} at most")
+    _refuse_addresses(elf, section)
+    declared = ObjectMap(
+        name=section.name,
+        map_type=MapType.ARRAY,
+        key_size=ARRAY_KEY,
+        value_size=section.size,
+        max_entries=1,
+        key_type=None,
+        value_type=_type_of(btf, section),
+        initial=elf.data(section),
+    )
+    return DefinedMap(section.index, 0, section.size, check_map(declared, where))
+
+
+def _refuse_addresses(elf: ElfObject, section: Section) -> None:
+    for relocation in elf.relocations_of(section):
+        owner = elf.owner_of(section, relocation.offset)
+        raise ObjectError(
+            f"variable {owner} in section {section.name} has the address of {relocation.symbol.name or 'something'}, "
+            "and a map's value can't have one"
+        )
+
+
+def _type_of(btf: Btf | None, section: Section) -> int | None:
+    """The id of the section's type, where it describes some variable."""
+    for type_id, found in enumerate(btf.types if btf else ()):
+        if isinstance(found, DataSection) and found.name == section.name and found.variables:
+            return type_id
+    return None
+
+
+def with_places(btf: Btf, elf: ElfObject) -> Btf:
+    """The types with the sizes of sections and the places of variables, which compilers leave to who loads the object.
+
+    A variable that other files see has its place from its symbol; that of a static one stands in the type.
+    """
+    return replace(btf, types=tuple(_placed(btf, elf, found) if isinstance(found, DataSection) else found for found in btf.types))
+
+
+def _placed(btf: Btf, elf: ElfObject, found: DataSection) -> DataSection:
+    section = elf.section(found.name)
+    if section is None or not is_of_variables(section):
+        return found
+    places = {symbol.name: symbol.value for symbol in elf.symbols_of(section) if not symbol.local}
+    variables = [_place(btf, section, each, places) for each in found.variables]
+    return replace(found, size=section.size, variables=tuple(sorted(variables, key=_offset)))
+
+
+def _offset(each: Placed) -> int:
+    return each.offset
+
+
+def _place(btf: Btf, section: Section, each: Placed, places: dict[str, int]) -> Placed:
+    variable = btf.type(each.variable)
+    if not isinstance(variable, Variable):
+        raise ObjectError(f"section .BTF has something else than a variable in section {section.name}")
+    offset = each.offset if variable.is_static else places.get(variable.name, each.offset)
+    size = size_of(btf, variable.type)
+    if offset + size > section.size:
+        raise ObjectError(
+            f"variable {variable.name} ends at byte {offset + size} of section {section.name}, and there are {section.size}"
+        )
+    return replace(each, offset=offset, size=size)

@@ -54,6 +54,7 @@ class Host:
         # So many bytes of replies may wait unread: the host finds room for each while it is sent to, and so goes on to read. It
         # is half of what the pipe holds, as a reply begins a new page where it does not fit into the last one.
         self.room = _pipe_size(self._replies) // 2
+        self._unread = b""
 
     def __enter__(self) -> Host:
         return self
@@ -71,7 +72,7 @@ class Host:
     def ask(self, frame: bytes) -> Reply:
         """Sends a whole frame and waits for its reply."""
         self.send(_whole(frame))
-        return self._reply()
+        return self.read_reply()
 
     def ask_all(self, frames: Iterable[bytes]) -> Iterator[Reply]:
         """Sends whole frames, many at once, and yields their replies in order.
@@ -118,10 +119,17 @@ class Host:
     def read(self, most: int) -> bytes:
         """Waits for bytes of replies, and reads so many of those that are there; a HostError where the host has ended."""
         self._is_open()
+        if self._unread:
+            read, self._unread = self._unread[:most], self._unread[most:]
+            return read
         read = self._replies.read(most)
         if not read:
             raise self._ended()
         return read
+
+    def unread(self, replies: bytes) -> None:
+        """Gives back bytes of replies that were read too early: they are read next."""
+        self._unread = replies + self._unread
 
     def read_whole(self, size: int) -> bytes:
         """Waits for so many bytes of replies."""
@@ -135,9 +143,10 @@ class Host:
         self.send(b"".join(frames))
 
     def _replies_to(self, frames: list[bytes]) -> list[Reply]:
-        return [self._reply() for _ in frames]
+        return [self.read_reply() for _ in frames]
 
-    def _reply(self) -> Reply:
+    def read_reply(self) -> Reply:
+        """Waits for a reply."""
         head = self.read_whole(4)
         length = int.from_bytes(head, "little")
         if not REPLY_HEAD <= 4 + length <= LONGEST_REPLY:
@@ -149,7 +158,7 @@ class Host:
         if self._frames.closed:
             return
         self._frames.close()
-        rest = self._replies.readall()
+        rest = self._unread + self._replies.readall()
         status = self._status()
         said = self._said()
         if status:

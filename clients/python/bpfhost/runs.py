@@ -13,7 +13,7 @@ from bpfhost.errors import ReplyError
 from bpfhost.frames import NO_CONTEXT, Context
 from bpfhost.numbers import LONGEST_PACKET, REPLY_HEAD, Command
 from bpfhost.packets import ETHERNET, Packets
-from bpfhost.replies import Reply, read_replies
+from bpfhost.replies import Reply
 
 if TYPE_CHECKING:
     from bpfhost.host import Host
@@ -119,7 +119,8 @@ class TestRuns:
             replies += self.host.read(size - len(replies))
             words = struct.unpack_from(f"<{len(replies) // 4}I", replies)
             if not self._are_results(words):
-                return self._one_by_one(replies, count)
+                self.host.unread(replies)
+                return self._one_by_one(count)
         return words[3::4]
 
     def _are_results(self, words: tuple[int, ...]) -> bool:
@@ -131,22 +132,10 @@ class TestRuns:
             and not any(words[2::4])
         )
 
-    def _one_by_one(self, begun: bytes, count: int) -> tuple[int, ...]:
-        """The results in so many replies, some of which are none; `begun` is what is read of them."""
-        replies = []
-        for _ in range(count):
-            head, begun = self._taken(begun, 4)
-            rest, begun = self._taken(begun, int.from_bytes(head, "little"))
-            replies.append(next(read_replies(head + rest)))
+    def _one_by_one(self, count: int) -> tuple[int, ...]:
+        """The results in so many replies, some of which are none."""
+        replies = [self.host.read_reply() for _ in range(count)]
         return tuple(self._result(reply) for reply in replies)
-
-    def _taken(self, begun: bytes, size: int) -> tuple[bytes, bytes]:
-        """So many bytes of replies, and what is left of those that were read."""
-        if size > REPLY_HEAD + 6:
-            raise ReplyError(f"a reply of {size} bytes to a test run")
-        if len(begun) < size:
-            begun += self.host.read_whole(size - len(begun))
-        return begun[:size], begun[size:]
 
     def _result(self, reply: Reply) -> int:
         reply.done()

@@ -77,18 +77,20 @@ def _dis_object(said: argparse.Namespace, program: str) -> int:
     if not said.file:
         raise InputError("an object is read from a file that is named, and not from standard input")
     object_file = read_object(said.file)
+    from bpfhost.loading import source_of
+
     for each in object_file.programs:
         print(f"// {each.name}, section {each.section}")
         text = _text_of(program, each.linked(first_descriptors(object_file)), said.file)
-        sources = {line.slot: f"// {line.file}:{line.line}: {line.text.strip()}\n" for line in each.lines}
-        sys.stdout.write(_with_sources(text, sources))
+        sys.stdout.write(_with_sources(text, {line.slot: f"// {source_of(line)}\n" for line in each.lines}))
     return 0
 
 
 def _with_sources(text: str, sources: dict[int, str]) -> str:
-    """A program's text, with a line of the source before the first instruction that comes from it."""
-    slot, parts = 0, []
+    """A program's text, with a line of the source before the instructions that come from it."""
+    slot, parts, last = 0, [], ""
     for line in text.splitlines():
-        parts += [sources.get(slot, ""), f"{line}\n"]
-        slot += 2 if line.endswith(" ll") else 1
+        source = sources.get(slot, last)
+        parts += [source if source != last else "", f"{line}\n"]
+        slot, last = slot + (2 if line.endswith(" ll") else 1), source
     return "".join(parts)

@@ -1,0 +1,128 @@
+#!/usr/bin/env python3
+"""Filters written in C, run on a capture by the command of clients/python. usage: example.py BPFHOST [CLANG]
+
+With a clang the objects are those that it makes of the C, and without it those of this folder. Where there is a tcpdump, what it
+keeps of the capture by the same rule, and how many packets it finds of each flow, are compared.
+"""
+
+from __future__ import annotations
+
+import json
+import os
+import shutil
+import subprocess
+import sys
+import tempfile
+from pathlib import Path
+
+HERE = Path(__file__).resolve().parent
+PACKAGE = HERE.parents[1] / "clients/python"
+NAMES = ("flows", "counter", "refused")
+# The version of clang that made the objects of this folder; another one may make others of the same C.
+CLANG_OF_OBJECTS = "version 14."
+# What flows.c keeps, in the words of pcap-filter(7).
+KEPT = "tcp or udp or (vlan and (tcp or udp))"
+# Bytes of a capture's header, which differs in what it says of the longest packet.
+HEADER = 24
+
+
+def called(*words: object, cwd: Path = HERE) -> bytes:
+    """What a program writes; the example ends where it fails."""
+    ended = subprocess.run([str(word) for word in words], capture_output=True, check=False, cwd=cwd)
+    if ended.returncode:
+        sys.exit(f"capture: {words[0]} failed: {ended.stderr.decode(errors='replace').strip()}")
+    return ended.stdout
+
+
+def command(scratch: Path, *words: str) -> subprocess.CompletedProcess[str]:
+    """Runs the command in the folder of the objects."""
+    environment = {**os.environ, "PYTHONPATH": str(PACKAGE), "PYTHONDONTWRITEBYTECODE": "1"}
+    calls = [sys.executable, "-m", "bpfhost", *words]
+    return subprocess.run(calls, capture_output=True, check=False, text=True, cwd=scratch, env=environment)
+
+
+def show(scratch: Path, *words: str) -> None:
+    """Shows the command and what it writes, but for the time, which is another one in each run, and for a verifier's log."""
+    ended = command(scratch, *words)
+    print(f"$ python3 -m bpfhost {' '.join(words)}")
+    print("".join(line for line in ended.stdout.splitlines(True) if not line.startswith("time a packet")), end="")
+    print(ended.stderr.partition("\n")[0])
+    if ended.returncode:
+        print(f"(status {ended.returncode})")
+
+
+def make_objects(scratch: Path, clang: str | None) -> None:
+    """Puts the objects and the capture into a folder."""
+    for name in NAMES:
+        if clang is None:
+            shutil.copy(HERE / f"{name}.o", scratch)
+        else:
+            called(clang, "-O2", "-g", "-fdebug-compilation-dir=.", "-target", "bpf", "-c", f"{name}.c", "-o", scratch / f"{name}.o")
+    shutil.copy(HERE / "sample.pcap", scratch)
+    if clang is not None and CLANG_OF_OBJECTS in called(clang, "--version").decode():
+        compare_objects(scratch)
+
+
+def compare_objects(scratch: Path) -> None:
+    """The objects of this folder have the programs that clang makes of the C, with the same lines."""
+    for name in NAMES:
+        texts = [command(folder, "dis", f"{name}.o").stdout for folder in (HERE, scratch)]
+        if not texts[0] or texts[0] != texts[1]:
+            sys.exit(f"capture: {name}.o is not what clang makes of {name}.c")
+
+
+def compare_capture(scratch: Path) -> None:
+    """The capture is the one that the script makes."""
+    called(sys.executable, HERE / "make_capture.py", scratch / "made.pcap")
+    if (scratch / "made.pcap").read_bytes() != (HERE / "sample.pcap").read_bytes():
+        sys.exit("capture: sample.pcap is not what make_capture.py makes")
+
+
+def compare_kept(scratch: Path) -> None:
+    """tcpdump keeps the same packets, byte for byte."""
+    command(scratch, "run", "flows.o", "sample.pcap", "--accepted", "kept.pcap")
+    called("tcpdump", "-r", "sample.pcap", "-w", "kept_by_tcpdump.pcap", KEPT, cwd=scratch)
+    ours, theirs = ((scratch / name).read_bytes()[HEADER:] for name in ("kept.pcap", "kept_by_tcpdump.pcap"))
+    if not ours or ours != theirs:
+        sys.exit(f"capture: tcpdump keeps other packets by {KEPT}")
+
+
+def compare_flows(scratch: Path) -> None:
+    """tcpdump finds as many packets of each of the busiest flows."""
+    report = json.loads(command(scratch, "run", "flows.o", "sample.pcap", "--json").stdout)
+    entries = report["maps"]["busiest"]["entries"]
+    for entry in entries:
+        rule = rule_of(entry["key"])
+        found = called("tcpdump", "-nn", "-t", "-q", "-r", "sample.pcap", f"{rule} or (vlan and {rule})", cwd=scratch)
+        if len(found.splitlines()) != entry["value"]["packets"]:
+            sys.exit(f"capture: tcpdump finds {len(found.splitlines())} packets, and not {entry['value']['packets']}, by {rule}")
+    if len(entries) != 10:
+        sys.exit(f"capture: there are {len(entries)} busiest flows, and not ten")
+
+
+def rule_of(flow: dict[str, object]) -> str:
+    """A flow in the words of pcap-filter(7)."""
+    source, destination = (".".join(map(str, flow[side])) for side in ("source", "destination"))
+    protocol = str(flow["protocol"]).lower()
+    hosts = f"src host {source} and dst host {destination}"
+    return f"(ip and {hosts} and {protocol} src port {flow['source_port']} and {protocol} dst port {flow['destination_port']})"
+
+
+def main() -> None:
+    """Shows the runs, and compares what can be compared."""
+    if len(sys.argv) not in (2, 3):
+        sys.exit("usage: example.py BPFHOST [CLANG]")
+    os.environ["BPFHOST"] = str(Path(sys.argv[1]).resolve())
+    with tempfile.TemporaryDirectory() as folder:
+        scratch = Path(folder)
+        make_objects(scratch, sys.argv[2] if len(sys.argv) == 3 else None)
+        compare_capture(scratch)
+        show(scratch, "run", "flows.o", "sample.pcap")
+        show(scratch, "run", "counter.o", "sample.pcap", "--tenants", "3", "--limit", "200", "--accepted", "first_bytes.pcap")
+        show(scratch, "run", "refused.o", "sample.pcap")
+        if shutil.which("tcpdump"):
+            compare_kept(scratch)
+            compare_flows(scratch)
+
+
+main()

@@ -127,6 +127,7 @@ def _parts(report: Report) -> Iterator[str | Table]:
     tenants = f", by each of {report.tenants} tenants, which are told the same" if report.tenants > 1 else ""
     yield f"{report.program} of {report.object_file.path} on {report.capture}{tenants}"
     yield _counts(report.outcome)
+    yield _time(report.outcome)
     yield ""
     yield _results(report.outcome)
     for shown in report.maps:
@@ -148,9 +149,13 @@ def _counts(outcome: Outcome) -> Table:
     table.add_row("packets", f"{outcome.packets:,}")
     table.add_row("accepted", f"{outcome.accepted:,}")
     table.add_row("bytes kept", f"{outcome.bytes_kept:,}")
-    time = _microseconds(outcome)
-    table.add_row("time a packet", "-" if time is None else f"{time:.2f} us")
     return table
+
+
+def _time(outcome: Outcome) -> str:
+    """The time, in a line of its own: it has other digits in each run, and the tables are the same."""
+    time = _microseconds(outcome)
+    return "time a packet: -" if time is None else f"time a packet: {time:.2f} us"
 
 
 def _results(outcome: Outcome) -> Table:

@@ -18,20 +18,22 @@ class BpfhostError(Exception):
 class HostError(BpfhostError):
     """bpfhost did not start, or ended with another status than 0.
 
-    `fault` is what it wrote to standard error, and `written` what it had written to standard output and nobody has read.
+    `fault` is what it wrote to standard error, `written` what it had written to standard output and nobody has read, and `status`
+    its status, where it has ended.
     """
 
-    def __init__(self, message: str, fault: str = "", written: bytes = b"") -> None:
+    def __init__(self, message: str, fault: str = "", written: bytes = b"", status: int | None = None) -> None:
         super().__init__(message)
         self.fault = fault
         self.written = written
+        self.status = status
 
     @classmethod
     def of(cls, what: str, status: int, fault: bytes, written: bytes = b"") -> HostError:
         """`what` ended with a status, or by a signal where that is negative, and wrote `fault` on standard error."""
         said = "; ".join(line for line in fault.decode(errors="replace").splitlines() if line.strip())
         by = f"by {_signal_name(-status)}" if status < 0 else f"with status {status}"
-        return cls(f"{what} ended {by}: {said or 'it did not say why'}", said, written)
+        return cls(f"{what} ended {by}: {said or 'it did not say why'}", said, written, status)
 
 
 def _signal_name(number: int) -> str:
@@ -90,6 +92,10 @@ class InputError(BpfhostError, ValueError):
 
 class CaptureError(InputError):
     """A capture that is cut off, is none, or has a packet that no test run takes."""
+
+
+# What parts of this package want, by the names of modules and of Debian's packages.
+PACKAGES = {"elftools": "python3-pyelftools", "dpkt": "python3-dpkt", "rich": "python3-rich"}
 
 
 class MissingPackage(BpfhostError):

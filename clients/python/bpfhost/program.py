@@ -121,7 +121,7 @@ def _map_words(maps: Mapping[int, MapShape]) -> list[str]:
 
 def find_verifier_log(program: Program) -> str | None:
     """The program `verifier_log`, beside bpfhost or of PATH, or None."""
-    beside = Path(program).parent / "verifier_log"
+    beside = Path(program).absolute().parent / "verifier_log"
     if beside.is_file() and os.access(beside, os.X_OK):
         return str(beside)
     return shutil.which("verifier_log")

@@ -47,7 +47,7 @@ class PcapCapture(Capture):
         header = magic + self._read(pcap.FileHdr.__hdr_len__ - len(magic))
         if len(header) < pcap.FileHdr.__hdr_len__:
             raise self.error("it is cut off in its header")
-        order = "<" if kind.__byte_order__ == "<" else ">"
+        order = kind.__hdr_fmt__[0]
         read = (pcap.LEFileHdr if order == "<" else pcap.FileHdr)(header)
         if read.v_major != pcap.PCAP_VERSION_MAJOR:
             raise self.error(f"it has version {read.v_major} of pcap, and only 2 is known")

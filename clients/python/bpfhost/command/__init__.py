@@ -11,7 +11,7 @@ import sys
 from collections.abc import Sequence
 
 from bpfhost.command.arguments import parse
-from bpfhost.errors import BpfhostError, HostError, MissingPackage, SourceRefused
+from bpfhost.errors import PACKAGES, BpfhostError, HostError, MissingPackage, SourceRefused
 
 GOOD, REFUSED, WRONG_WORDS, FAILED, INTERRUPTED = 0, 1, 2, 3, 130
 
@@ -28,6 +28,11 @@ def main(words: Sequence[str] | None = None) -> int:
         return _told("what reads the output has ended", REFUSED)
     except (HostError, MissingPackage) as error:
         return _told(str(error), FAILED)
+    except ModuleNotFoundError as error:
+        module = (error.name or "").partition(".")[0]
+        if module not in PACKAGES:
+            raise
+        return _told(str(MissingPackage(module, PACKAGES[module])), FAILED)
     except SourceRefused as error:
         _told(str(error), REFUSED)
         print(error.log or "", end="", file=sys.stderr)

@@ -8,11 +8,13 @@ import sys
 from pathlib import Path
 
 from bpfhost.command.objects import first_descriptors, read_object
-from bpfhost.errors import HostError, InputError
+from bpfhost.errors import BpfhostError, HostError, InputError
 from bpfhost.program import assemble, disassemble, find_program, hex_lines, slots_of
 from bpfhost.words import TEXT_FAULTS, reason_words
 
 _ELF = b"\x7fELF"
+# The status of `asm` and `dis` where it is their input that is wrong (docs/INSTRUCTIONS.md).
+_INPUT_REFUSED = 1
 
 
 def _read(file: str | None) -> tuple[str, bytes]:
@@ -35,21 +37,9 @@ def asm(said: argparse.Namespace) -> int:
     try:
         slots = assemble(find_program(said.bpfhost), text)
     except HostError as error:
-        raise _of_line(error, name, text) or error from error
+        raise _refused(error, name, text) from error
     sys.stdout.write(hex_lines(slots))
     return 0
-
-
-def _of_line(error: HostError, name: str, text: str) -> InputError | None:
-    """What `line L: fault K` means."""
-    fault = re.fullmatch(r"line (\d+): fault (\d+)", error.fault)
-    if not fault:
-        return None
-    line, words = int(fault[1]), TEXT_FAULTS.get(int(fault[2]), f"fault {fault[2]}")
-    if not line:
-        return InputError(f"{name}: {words}")
-    at_fault = text.split("\n")[line - 1].strip()
-    return InputError(f"{name}:{line}: {at_fault}: {words}")
 
 
 def dis(said: argparse.Namespace) -> int:
@@ -58,8 +48,7 @@ def dis(said: argparse.Namespace) -> int:
     program = find_program(said.bpfhost)
     if given.startswith(_ELF):
         return _dis_object(said, program)
-    slots = slots_of(_decoded(name, given), name)
-    sys.stdout.write(_text_of(program, slots, name))
+    sys.stdout.write(_text_of(program, slots_of(_decoded(name, given), name), name))
     return 0
 
 
@@ -67,10 +56,24 @@ def _text_of(program: str, slots: bytes, name: str) -> str:
     try:
         return disassemble(program, slots)
     except HostError as error:
-        fault = re.fullmatch(r"slot (\d+): fault (\d+)", error.fault)
-        if not fault:
-            raise
-        raise InputError(f"{name}: slot {fault[1]}: {reason_words(100 + int(fault[2]))}") from error
+        raise _refused(error, name, hex_lines(slots)) from error
+
+
+def _refused(error: HostError, name: str, text: str) -> BpfhostError:
+    """What the fault line of `asm` or `dis` means; the error itself where it is not the input that is refused."""
+    if error.status != _INPUT_REFUSED:
+        return error
+    fault = re.fullmatch(r"(line|slot) (\d+): fault (\d+)", error.fault)
+    if not fault:
+        return InputError(f"{name}: {error.fault}")
+    where, number, kind = fault[1], int(fault[2]), int(fault[3])
+    if where == "slot":
+        return InputError(f"{name}: slot {number}: {reason_words(100 + kind)}")
+    words = TEXT_FAULTS.get(kind, f"fault {kind}")
+    if not number:
+        return InputError(f"{name}: {words}")
+    line = text.split("\n")[number - 1].strip()
+    return InputError(f"{name}:{number}: {line}: {words}")
 
 
 def _dis_object(said: argparse.Namespace, program: str) -> int:

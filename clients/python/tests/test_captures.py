@@ -1,0 +1,301 @@
+"""Captures, whose bytes are written here by hand from pcap-savefile(5) and the draft of pcapng."""
+
+from __future__ import annotations
+
+import importlib.util
+import random
+import struct
+import subprocess
+import sys
+import unittest
+from pathlib import Path
+
+from bpfhost import CaptureError, MissingPackage
+from bpfhost.captures import link_type_name, open_capture
+from bpfhost.captures.piece import Stamp
+from tests.common import TimedTest
+
+HAS_DPKT = importlib.util.find_spec("dpkt") is not None
+needs_dpkt = unittest.skipUnless(HAS_DPKT, "python3-dpkt is missing")
+
+MICRO, NANO = 0xA1B2C3D4, 0xA1B23C4D
+RAW_IP = 101
+Record = tuple[bytes, Stamp]
+RECORDS: list[Record] = [
+    (b"first", Stamp(1_700_000_000, 123_456_000, 5)),
+    (b"", Stamp(1, 0, 9)),
+    (bytes(range(256)), Stamp(4_294_967_295, 999_999_000, 1500)),
+]
+
+
+def pcap(records: list[Record] = RECORDS, order: str = "<", magic: int = MICRO, link_type: int = 1) -> bytes:
+    """A pcap file."""
+    part = 1 if magic == NANO else 1000
+    head = struct.pack(f"{order}IHHiIII", magic, 2, 4, 0, 0, 65_536, link_type)
+    heads = (struct.pack(f"{order}IIII", s.seconds, s.nanoseconds // part, len(packet), s.length) for packet, s in records)
+    return head + b"".join(head + packet for head, (packet, _) in zip(heads, records))
+
+
+def block(kind: int, body: bytes, order: str) -> bytes:
+    """A block of a pcapng file."""
+    body += bytes(-len(body) % 4)
+    length = struct.pack(f"{order}I", len(body) + 12)
+    return struct.pack(f"{order}I", kind) + length + body + length
+
+
+def section(order: str) -> bytes:
+    """A section header."""
+    return block(0x0A0D0D0A, struct.pack(f"{order}IHHq", 0x1A2B3C4D, 1, 0, -1), order)
+
+
+def interface(order: str, link_type: int = 1, options: bytes = b"", longest: int = 0) -> bytes:
+    """An interface description."""
+    return block(1, struct.pack(f"{order}HHI", link_type, 0, longest) + options, order)
+
+
+def enhanced(order: str, packet: bytes, ticks: int, length: int, of: int = 0, kept: int | None = None) -> bytes:
+    """An enhanced packet block; `kept` is what it says of the packet's length."""
+    kept = len(packet) if kept is None else kept
+    body = struct.pack(f"{order}5I", of, ticks >> 32, ticks & 0xFFFFFFFF, kept, length)
+    return block(6, body + packet, order)
+
+
+def pcapng(records: list[Record] = RECORDS, order: str = "<") -> bytes:
+    """A pcapng file with microseconds, which it has where nothing else is said."""
+    ticks = [stamp.seconds * 1_000_000 + stamp.nanoseconds // 1000 for _, stamp in records]
+    blocks = (enhanced(order, packet, tick, stamp.length) for tick, (packet, stamp) in zip(ticks, records))
+    return section(order) + interface(order) + b"".join(blocks)
+
+
+class CaptureTest(TimedTest):
+    def written(self, content: bytes) -> Path:
+        """A file with these bytes."""
+        path = self.scratch / "capture"
+        path.write_bytes(content)
+        return path
+
+    def read(self, content: bytes, most: int = 1024) -> list[Record]:
+        """The packets of a capture with their stamps."""
+        with open_capture(self.written(content)) as capture:
+            return [(piece[at], piece.stamp(at)) for piece in capture.pieces(most) for at in range(len(piece))]
+
+    def read_to_fault(self, content: bytes) -> tuple[list[bytes], str]:
+        """The packets before a fault, and the fault."""
+        packets: list[bytes] = []
+        try:
+            with open_capture(self.written(content)) as capture:
+                for piece in capture.pieces():
+                    packets += piece
+        except CaptureError as error:
+            return packets, str(error).removeprefix(f"{self.scratch}/")
+        return packets, ""
+
+
+@needs_dpkt
+class Pcap(CaptureTest):
+    def test_both_orders_and_both_precisions(self) -> None:
+        for order in "<>":
+            for magic in (MICRO, NANO):
+                self.assertEqual(self.read(pcap(RECORDS, order, magic)), RECORDS)
+
+    def test_nanoseconds_are_kept(self) -> None:
+        records = [(b"x", Stamp(5, 123_456_789, 1))]
+        self.assertEqual(self.read(pcap(records, ">", NANO)), records)
+
+    def test_the_header_of_modified_pcap(self) -> None:
+        # Eight bytes more before each packet: interface, protocol, type, padding.
+        head = struct.pack("<IHHiIII", 0xA1B2CD34, 2, 4, 0, 0, 65_536, 1)
+        record = struct.pack("<IIII", 7, 8, 2, 3) + bytes(8) + b"ab"
+        self.assertEqual(self.read(head + record * 2), [(b"ab", Stamp(7, 8000, 3))] * 2)
+
+    def test_pieces(self) -> None:
+        records = [(bytes([number]) * number, Stamp(number, 0, number)) for number in range(200)]
+        for most in (1, 3, 199, 200, 201):
+            self.assertEqual(self.read(pcap(records), most), records)
+
+    def test_packets_over_the_ends_of_what_is_read_at_once(self) -> None:
+        draw = random.Random(1)
+        records = [(draw.randbytes(draw.choice((0, 60, 1500, 65_536))), Stamp(number, 0, 70_000)) for number in range(100)]
+        self.assertEqual(self.read(pcap(records)), records)
+        self.assertEqual(self.read(pcapng(records)), records)
+
+    def test_link_type_stands_in_the_low_half(self) -> None:
+        with open_capture(self.written(pcap(link_type=0x1000_0000 | RAW_IP))) as capture:
+            self.assertEqual({piece.link_type for piece in capture.pieces()}, {RAW_IP})
+
+    def test_no_packets(self) -> None:
+        self.assertEqual(self.read(pcap([])), [])
+
+    def test_it_is_cut_off(self) -> None:
+        whole = pcap()
+        self.assertEqual(self.read_to_fault(whole[:3]), ([], "capture: it is no capture, neither pcap nor pcapng"))
+        for end in range(4, 24):
+            self.assertEqual(self.read_to_fault(whole[:end]), ([], "capture: it is cut off in its header"))
+        ends = {24: 0, 45: 1, 61: 2, len(whole): 3}
+        for end in range(24, len(whole)):
+            packets = max(number for at, number in ends.items() if at <= end)
+            fault = "" if end in ends else f"capture: it is cut off in packet {packets + 1}"
+            self.assertEqual(self.read_to_fault(whole[:end]), ([packet for packet, _ in RECORDS][:packets], fault))
+
+    def test_a_packet_that_is_too_long(self) -> None:
+        for length in (65_537, 0xFFFF_FFFF):
+            content = pcap() + struct.pack("<IIII", 0, 0, length, length) + bytes(100_000)
+            packets, fault = self.read_to_fault(content)
+            self.assertEqual(len(packets), 3)
+            self.assertEqual(fault, f"capture: packet 4 has {length:,} bytes, and that of a test run has 65,536 at most")
+
+    def test_another_version(self) -> None:
+        content = struct.pack("<IHHiIII", MICRO, 3, 0, 0, 0, 65_536, 1)
+        self.assertEqual(self.read_to_fault(content), ([], "capture: it has version 3 of pcap, and only 2 is known"))
+
+
+@needs_dpkt
+class Pcapng(CaptureTest):
+    def test_both_orders(self) -> None:
+        for order in "<>":
+            self.assertEqual(self.read(pcapng(order=order)), RECORDS)
+
+    def test_sections_of_different_orders(self) -> None:
+        self.assertEqual(self.read(pcapng(order="<") + pcapng(order=">")), RECORDS * 2)
+
+    def test_all_kinds_of_packets(self) -> None:
+        simple = block(3, struct.pack("<I", 9) + b"simple..", "<")
+        old = block(2, struct.pack("<HHIIII", 0, 7, 0, 5_000_000, 3, 4) + b"old", "<")
+        unknown = block(5, bytes(8), "<") + block(0x0BAD, b"", "<")
+        content = section("<") + interface("<", longest=6) + unknown + simple + old + unknown
+        self.assertEqual(self.read(content), [(b"simple", Stamp(0, 0, 9)), (b"old", Stamp(5, 0, 4))])
+
+    def test_resolutions_and_offsets(self) -> None:
+        # if_tsresol (9) of 10^-9 and of 2^-10; if_tsoffset (14) of 100 seconds.
+        nano = struct.pack("<HHB3xHH", 9, 1, 9, 0, 0)
+        binary = struct.pack("<HHB3xHHqHH", 9, 1, 0x8A, 14, 8, 100, 0, 0)
+        content = section("<") + interface("<", options=nano) + interface("<", options=binary)
+        content += enhanced("<", b"a", 5_000_000_007, 1) + enhanced("<", b"b", 3 * 1024 + 512, 1, of=1)
+        self.assertEqual(self.read(content), [(b"a", Stamp(5, 7, 1)), (b"b", Stamp(103, 500_000_000, 1))])
+
+    def test_link_types_of_interfaces(self) -> None:
+        content = section("<") + interface("<") + interface("<", RAW_IP)
+        content += b"".join(enhanced("<", bytes([at]), 0, 1, of) for at, of in enumerate((0, 0, 1, 0)))
+        with open_capture(self.written(content)) as capture:
+            pieces = [(piece.link_type, list(piece)) for piece in capture.pieces()]
+        self.assertEqual(pieces, [(1, [b"\0", b"\1"]), (RAW_IP, [b"\2"]), (1, [b"\3"])])
+
+    def test_it_is_cut_off(self) -> None:
+        whole = pcapng()
+        ends = {0, 28, 48}
+        at = 48
+        for packet, _ in RECORDS:
+            at += 32 + (len(packet) + 3) // 4 * 4
+            ends.add(at)
+        for end in range(4, len(whole)):
+            packets, fault = self.read_to_fault(whole[:end])
+            self.assertEqual(packets, [packet for packet, _ in RECORDS][: len(packets)])
+            wanted = "" if end in ends else f"capture: it is cut off in the block of packet {len(packets) + 1}, or before it"
+            self.assertEqual(fault, wanted)
+
+    def test_blocks_that_are_wrong(self) -> None:
+        begun = section("<") + interface("<")
+        packet = enhanced("<", b"abcd", 0, 4)
+        wrong = {
+            begun + packet[:-4] + b"\0\0\0\0": "it has a block with two lengths before packet 1",
+            begun + struct.pack("<II", 6, 8) + bytes(8): "it has a block of 8 bytes before packet 1",
+            begun + struct.pack("<II", 6, 0x7FFFFFF0) + bytes(8): "it has a block of 2,147,483,632 bytes before packet 1",
+            begun + enhanced("<", b"abcd", 0, 4, kept=5): "the block of packet 1 has not what it says",
+            begun + enhanced("<", b"abcd", 0, 4, kept=65_537): "packet 1 has 65,537 bytes, and that of a test run has 65,536 at most",
+            begun + enhanced("<", b"abcd", 0, 4, of=1): "the block of packet 1 has not what it says",
+            section("<") + packet: "the block of packet 1 has not what it says",
+            section("<") + block(3, struct.pack("<I", 4) + b"abcd", "<"): "the block of packet 1 has not what it says",
+            begun + block(6, bytes(8), "<"): "the block of packet 1 has not what it says",
+            section("<")[:8] + bytes(20): "it has a section of no byte order",
+            begun + packet + begun[:8] + bytes(20): "it has a section of no byte order",
+            section("<") + block(1, b"", "<"): "it has an interface whose block is wrong",
+            section("<") + interface("<", options=struct.pack("<HH", 9, 0)): "it has an interface whose block is wrong",
+        }
+        for content, fault in wrong.items():
+            self.assertEqual(self.read_to_fault(content)[1], f"capture: {fault}")
+
+
+class Wrong(CaptureTest):
+    @needs_dpkt
+    def test_files_that_are_none(self) -> None:
+        for content in (b"", b"\x7fELF" + bytes(100), bytes(100)):
+            self.assertEqual(self.read_to_fault(content), ([], "capture: it is no capture, neither pcap nor pcapng"))
+
+    def test_files_that_can_not_be_read(self) -> None:
+        for path, fault in ((self.scratch / "nothing", "No such file or directory"), (self.scratch, "Is a directory")):
+            with self.assertRaisesRegex(CaptureError, fault), open_capture(path):
+                pass
+
+    @needs_dpkt
+    def test_flipped_bits_end_in_packets_or_a_sentence(self) -> None:
+        draw = random.Random(2)
+        contents = [pcap(RECORDS[:2]), pcapng(RECORDS[:2]), pcapng(RECORDS[:2], ">")]
+        for number in range(3000):
+            content = bytearray(contents[number % len(contents)])
+            for _ in range(draw.choice((1, 1, 2, 8))):
+                content[draw.randrange(len(content))] ^= 1 << draw.randrange(8)
+            try:
+                self.read(bytes(content))
+            except CaptureError as error:
+                self.assertNotIn("\n", str(error))
+
+    def test_without_dpkt(self) -> None:
+        script = (
+            "import sys; sys.modules['dpkt'] = None\n"
+            "from bpfhost import MissingPackage\nfrom bpfhost.captures import open_capture\n"
+            "try:\n    open_capture(sys.argv[1]).__enter__()\nexcept MissingPackage as error: print(error)"
+        )
+        path = self.written(pcap())
+        told = subprocess.run([sys.executable, "-c", script, str(path)], capture_output=True, text=True, check=True)
+        self.assertEqual(told.stdout, f"{MissingPackage('dpkt', 'python3-dpkt')}\n")
+
+    def test_names_of_link_types(self) -> None:
+        self.assertEqual((link_type_name(113), link_type_name(9999)), ("113 (LINUX_SLL)", "9999"))
+
+
+@needs_dpkt
+class Writer(CaptureTest):
+    def copied(self, content: bytes, longest: int = 100_000, has_nanoseconds: bool | None = None) -> bytes:
+        """A capture that the packets of another one are written to."""
+        from bpfhost.captures.writer import CaptureWriter
+
+        path = self.scratch / "written"
+        with open_capture(self.written(content)) as capture:
+            has_more = capture.has_nanoseconds if has_nanoseconds is None else has_nanoseconds
+            with CaptureWriter(path, has_more) as writer:
+                for piece in capture.pieces():
+                    for at in range(len(piece)):
+                        writer.write(piece, at, longest)
+        return path.read_bytes()
+
+    def test_it_is_the_same_capture(self) -> None:
+        for order in "<>":
+            for magic in (MICRO, NANO):
+                self.assertEqual(self.copied(pcap(RECORDS, order, magic, RAW_IP)), pcap(RECORDS, "<", magic, RAW_IP))
+
+    def test_pcapng_becomes_pcap_with_nanoseconds(self) -> None:
+        self.assertEqual(self.copied(pcapng()), pcap(magic=NANO))
+
+    def test_packets_are_cut(self) -> None:
+        self.assertEqual(self.copied(pcap(), longest=3), pcap([(packet[:3], stamp) for packet, stamp in RECORDS]))
+
+    def test_no_packets(self) -> None:
+        self.assertEqual(self.copied(pcap([])), pcap([]))
+
+    def test_link_types_that_are_not_in_one_file(self) -> None:
+        content = section("<") + interface("<") + interface("<", RAW_IP)
+        content += enhanced("<", b"a", 0, 1) + enhanced("<", b"b", 0, 1, of=1)
+        with self.assertRaisesRegex(CaptureError, "no room for packets of the link types 1 and 101"):
+            self.copied(content)
+
+    def test_times_that_are_not_in_the_file(self) -> None:
+        with self.assertRaisesRegex(CaptureError, "no room for the time of a packet"):
+            self.copied(section("<") + interface("<") + enhanced("<", b"a", 1 << 60, 1))
+
+    def test_files_that_can_not_be_written(self) -> None:
+        from bpfhost.captures.writer import CaptureWriter
+
+        self.assertRaisesRegex(CaptureError, "Is a directory", CaptureWriter, self.scratch, False)
+        if Path("/dev/full").exists():
+            with self.assertRaisesRegex(CaptureError, "/dev/full: No space left on device"), CaptureWriter("/dev/full", False):
+                pass

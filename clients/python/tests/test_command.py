@@ -1,0 +1,260 @@
+"""The command: what it writes, and one sentence and a status for each input that is wrong."""
+
+from __future__ import annotations
+
+import importlib.util
+import json
+import os
+import shutil
+import subprocess
+import sys
+import unittest
+from pathlib import Path
+
+from bpfhost import hex_lines
+from tests.common import LENGTH, ONE, PROGRAM, HostTest
+from tests.test_captures import RAW_IP, RECORDS, pcap, pcapng
+
+PACKAGE = Path(__file__).resolve().parents[1]
+EXAMPLE = PACKAGE.parents[1] / "examples/capture"
+MODULES = {"elftools": "python3-pyelftools", "dpkt": "python3-dpkt", "rich": "python3-rich"}
+needs_packages = unittest.skipUnless(
+    all(map(importlib.util.find_spec, MODULES)), "python3-pyelftools, python3-dpkt or python3-rich is missing"
+)
+
+
+class CommandTest(HostTest):
+    def command(self, *words: str, given: bytes = b"", **variables: str) -> subprocess.CompletedProcess[bytes]:
+        """Runs the command in the scratch folder."""
+        environment = {**os.environ, "PYTHONPATH": str(PACKAGE), "BPFHOST": PROGRAM, **variables}
+        call = [sys.executable, "-m", "bpfhost", *words]
+        return subprocess.run(call, input=given, capture_output=True, check=False, cwd=self.scratch, env=environment)
+
+    def writes(self, wanted: str, *words: str, given: bytes = b"") -> None:
+        """The command writes this, and its status is 0."""
+        ended = self.command(*words, given=given)
+        self.assertEqual((ended.stdout.decode(), ended.stderr.decode(), ended.returncode), (wanted, "", 0))
+
+    def refuses(self, status: int, wanted: str, *words: str, given: bytes = b"", **variables: str) -> None:
+        """The command tells one sentence that has this in it, and nothing else."""
+        ended = self.command(*words, given=given, **variables)
+        told = ended.stderr.decode()
+        self.assertIn(wanted, told)
+        self.assertRegex(told, r"\Abpfhost: .*\n\Z")
+        self.assertEqual((ended.stdout, ended.returncode), (b"", status), told)
+
+    def example(self, *names: str) -> None:
+        """Copies files of the example into the scratch folder."""
+        for name in names:
+            shutil.copy(EXAMPLE / name, self.scratch)
+
+
+class Words(CommandTest):
+    def test_wrong_words(self) -> None:
+        wrong = {
+            (): "the following arguments are required: WORD",
+            ("walk",): "invalid choice: 'walk'",
+            ("run",): "the following arguments are required: OBJECT, CAPTURE",
+            ("run", "a", "b", "--tenants", "65"): "invalid number from 1 to 64",
+            ("run", "a", "b", "--tenants", "0"): "invalid number from 1 to 64",
+            ("run", "a", "b", "--limit", "-1"): "invalid number of at least 0",
+            ("run", "a", "b", "--limit", "ten"): "invalid number of at least 0",
+            ("run", "a", "b", "c"): "unrecognized arguments: c",
+            ("check",): "the following arguments are required: OBJECT",
+            ("test-run", "0"): "the following arguments are required: DESCRIPTOR",
+            ("test-run", "0", "3", "abc"): "invalid bytes in hexadecimal digits",
+        }
+        for words, told in wrong.items():
+            self.refuses(2, told, *words)
+
+    def test_help(self) -> None:
+        ended = self.command("--help")
+        self.assertEqual(ended.returncode, 0)
+        for word in ("run", "check", "asm", "dis", "replies", "load", "test-run"):
+            self.assertIn(word, ended.stdout.decode())
+
+
+class Texts(CommandTest):
+    def test_asm(self) -> None:
+        self.writes(hex_lines(ONE), "asm", given=b"r0 = 1\nexit\n")
+        (self.scratch / "program.txt").write_text("r0 = 1\nexit\n")
+        self.writes(hex_lines(ONE), "asm", "program.txt")
+
+    def test_asm_tells_the_line(self) -> None:
+        faults = {
+            b"r0 = 0\nr0 =+ 1\nexit\n": "standard input:2: r0 =+ 1: it is none of the forms",
+            b"r0 = 4294967296\n": "standard input:1: r0 = 4294967296: a number is out of its range",
+            b"goto there\nexit\n": "standard input:1: goto there: its jump names a label that no line defines",
+            b"a:\na:\nexit\n": "standard input:2: a:: it defines a label that an earlier line defines",
+            b"": "standard input: there is no instruction",
+            b"exit\nr0 = 1 // \xc3\xa9\n": "standard input:2: a byte that is not ASCII",
+        }
+        for text, told in faults.items():
+            self.refuses(1, told, "asm", given=text)
+        self.refuses(1, "nothing: No such file or directory", "asm", "nothing")
+
+    def test_dis(self) -> None:
+        self.writes("r0 = *(u32 *)(r1 + 0)\nexit\n", "dis", given=hex_lines(LENGTH).encode())
+
+    def test_dis_tells_what_is_wrong(self) -> None:
+        self.refuses(1, "standard input:2: a slot is sixteen hexadecimal digits", "dis", given=b"9500000000000000\n95\n")
+        self.refuses(1, "standard input: slot 1: no instruction begins with this byte", "dis", given=b"b700000001000000\nff00000000000000\n")
+        self.refuses(1, "standard input: there is no instruction", "dis", given=b"")
+        self.refuses(1, "standard input: input too long", "dis", given=b"9500000000000000\n" * 70_000)
+
+    def test_the_program_is_not_there(self) -> None:
+        self.refuses(3, "/nowhere does not start: No such file or directory", "asm", "--bpfhost", "/nowhere")
+        self.refuses(3, "there is no program bpfhost", "asm", BPFHOST="", PATH="") if not self.is_built() else None
+
+    def is_built(self) -> bool:
+        """Whether the clone that the package stands in has a program."""
+        return (PACKAGE.parents[1] / "crates/bpfhost/out/bpfhost").exists()
+
+
+class Frames(CommandTest):
+    def test_frames_and_replies(self) -> None:
+        load = self.command("load", "0", given=hex_lines(ONE).encode()).stdout
+        run = self.command("test-run", "0", "3", "abcd").stdout
+        self.assertEqual(load, bytes.fromhex("18000000 0000 0500 01000000") + ONE)
+        self.assertEqual(run, bytes.fromhex("32000000 0000 0a00 03000000") + bytes(40) + b"\xab\xcd")
+        replies = bytes.fromhex("08000000 0000 0500 03000000 0c000000 0000 0a00 00000000 01000000")
+        self.writes("tenant 0, PROG_LOAD: descriptor 3\ntenant 0, PROG_TEST_RUN: result 1\n", "replies", given=replies)
+
+    def test_what_is_wrong(self) -> None:
+        self.refuses(1, "the bytes from 0 on begin with no whole reply", "replies", given=b"abc")
+        self.refuses(1, "standard input:1: a slot is", "load", "0", given=b"abc")
+        self.refuses(1, "the tenant is 65536", "test-run", "65536", "3")
+
+    def test_nobody_reads(self) -> None:
+        replies = bytes.fromhex("08000000 0000 0500 03000000") * 100_000
+        call = f"{sys.executable} -m bpfhost replies | head -n 1"
+        environment = {**os.environ, "PYTHONPATH": str(PACKAGE)}
+        ended = subprocess.run(["bash", "-c", call], input=replies, capture_output=True, check=False, env=environment)
+        self.assertEqual(ended.stderr, b"bpfhost: what reads the output has ended\n")
+
+
+@needs_packages
+class Check(CommandTest):
+    def test_accepted(self) -> None:
+        self.example("flows.o")
+        self.assertIn("keep_flows in section socket is accepted\n", self.command("check", "flows.o").stdout.decode())
+
+    def test_refused_points_at_the_source(self) -> None:
+        self.example("refused.o")
+        ended = self.command("check", "refused.o")
+        line = next(at for at, text in enumerate((EXAMPLE / "refused.c").read_text().splitlines(), 1) if "return table" in text)
+        told = f"keep_class in section socket is refused: refused.c:{line}: return table[class]; ("
+        self.assertTrue(ended.stdout.decode().startswith(told), ended.stdout)
+        self.assertIn("outside a map's value, reason 29", ended.stdout.decode())
+        self.assertEqual(ended.returncode, 1)
+
+    def test_a_log_is_shown_where_it_can_be_had(self) -> None:
+        self.example("refused.o")
+        os.symlink(PROGRAM, self.scratch / "bpfhost")
+        os.rename(self.pretender("print('the log of', sys.argv[1]); sys.exit(1)"), self.scratch / "verifier_log")
+        (self.scratch / "sample").write_bytes(pcap())
+        checked = self.command("check", "refused.o", "--bpfhost", "./bpfhost")
+        self.assertTrue(checked.stdout.decode().endswith("reason 29)\nthe log of 3:array:4:64:1\n"), checked.stdout)
+        ran = self.command("run", "refused.o", "sample", "--bpfhost", "./bpfhost")
+        self.assertTrue(ran.stderr.decode().endswith("reason 29)\nthe log of 3:array:4:64:1\n"), ran.stderr)
+
+    def test_dis_of_an_object_has_its_source(self) -> None:
+        self.example("refused.o")
+        text = self.command("dis", "refused.o").stdout.decode()
+        self.assertTrue(text.startswith("// keep_class, section socket\n// refused.c:"), text)
+        self.assertIn("return table[class];\n", text)
+        self.refuses(1, "an object is read from a file that is named", "dis", given=(EXAMPLE / "refused.o").read_bytes())
+
+
+@needs_packages
+class Run(CommandTest):
+    def setUp(self) -> None:
+        super().setUp()
+        self.example("flows.o", "counter.o", "refused.o", "sample.pcap")
+
+    def test_tables(self) -> None:
+        ended = self.command("run", "counter.o", "sample.pcap", "--limit", "10")
+        lines = ended.stdout.decode().splitlines()
+        self.assertEqual(lines[0], "keep_first_bytes of counter.o on sample.pcap")
+        self.assertRegex(lines[1], r"\Apackets +10\Z")
+        self.assertRegex(lines[4], r"\Atime a packet: \d+\.\d\d us\Z")
+        self.assertEqual((ended.stderr, ended.returncode), (b"", 0))
+
+    def test_json(self) -> None:
+        (self.scratch / "capture").write_bytes(pcap([record for record in RECORDS if record[0]]))
+        report = json.loads(self.command("run", "counter.o", "capture", "--json", "--tenants", "2").stdout)
+        self.assertGreater(report.pop("microseconds_per_packet"), 0)
+        maps = report.pop("maps")
+        self.assertEqual(
+            report,
+            {
+                "object": "counter.o",
+                "section": "socket",
+                "program": "keep_first_bytes",
+                "capture": "capture",
+                "link_types": [1],
+                "tenants": 2,
+                "packets": 2,
+                "accepted": 2,
+                "bytes_kept": 5 + 64,
+                "results": {"5": 1, "64": 1},
+                "fault": None,
+            },
+        )
+        self.assertEqual(maps[".bss"]["entries"], [{"key": 0, "value": {"packets": 2, "bytes": 261, "longest": 256}}])
+        self.assertEqual(maps[".rodata"]["entries"], [{"key": 0, "value": {"kept": 64}}])
+
+    def test_packets_that_are_kept(self) -> None:
+        (self.scratch / "capture").write_bytes(pcap())
+        self.assertEqual(self.command("run", "counter.o", "capture", "--accepted", "kept").returncode, 0)
+        kept = [(packet[:64], stamp) for packet, stamp in RECORDS if packet]
+        self.assertEqual((self.scratch / "kept").read_bytes(), pcap(kept))
+
+    def test_a_capture_is_not_written_over(self) -> None:
+        before = (self.scratch / "sample.pcap").read_bytes()
+        os.symlink("sample.pcap", self.scratch / "the_same")
+        self.refuses(1, "can't be written over the capture", "run", "counter.o", "sample.pcap", "--accepted", "the_same")
+        self.assertEqual((self.scratch / "sample.pcap").read_bytes(), before)
+
+    def test_sections(self) -> None:
+        for named in ("socket", "keep_first_bytes"):
+            self.assertEqual(self.command("run", "counter.o", "sample.pcap", "--section", named).returncode, 0)
+        told = "counter.o: xdp names not one program, of keep_first_bytes in section socket"
+        self.refuses(1, told, "run", "counter.o", "sample.pcap", "--section", "xdp")
+
+    def test_a_refused_filter(self) -> None:
+        self.refuses(1, "return table[class]; (slot", "run", "refused.o", "sample.pcap")
+
+    def test_other_link_types_are_told(self) -> None:
+        (self.scratch / "capture").write_bytes(pcap(link_type=RAW_IP))
+        ended = self.command("run", "counter.o", "capture")
+        told = "bpfhost: capture: its packets of link type 101 (RAW) are passed to the filter as they are\n"
+        self.assertEqual((ended.stderr.decode(), ended.returncode), (told, 0))
+
+    def test_a_capture_that_is_cut_off(self) -> None:
+        (self.scratch / "capture").write_bytes(pcapng()[:-1])
+        ended = self.command("run", "counter.o", "capture")
+        self.assertEqual(ended.stderr, b"bpfhost: capture: it is cut off in the block of packet 3, or before it\n")
+        self.assertRegex(ended.stdout.decode().splitlines()[1], r"\Apackets +2\Z")
+        self.assertEqual(ended.returncode, 1)
+
+    def test_inputs_that_are_wrong(self) -> None:
+        (self.scratch / "cut.o").write_bytes((self.scratch / "flows.o").read_bytes()[:3000])
+        self.refuses(1, "nothing.o", "run", "nothing.o", "sample.pcap")
+        self.refuses(1, "cut.o", "run", "cut.o", "sample.pcap")
+        self.refuses(1, "sample.pcap", "run", "sample.pcap", "sample.pcap")
+        self.refuses(1, "flows.o: it is no capture", "run", "counter.o", "flows.o")
+        self.refuses(1, "nothing: No such file or directory", "run", "counter.o", "nothing")
+        self.refuses(1, "nowhere/kept: No such file", "run", "counter.o", "sample.pcap", "--accepted", "nowhere/kept")
+
+    def test_a_host_that_ends(self) -> None:
+        program = self.pretender("read(28); print('out of memory', file=sys.stderr); sys.exit(4)")
+        self.refuses(3, "ended with status 4: out of memory", "run", "counter.o", "sample.pcap", "--bpfhost", program)
+
+    def test_a_package_that_is_missing(self) -> None:
+        for module, package in MODULES.items():
+            (self.scratch / module).mkdir()
+            (self.scratch / module / "__init__.py").write_text(f"raise ModuleNotFoundError('no {module}', name='{module}')\n")
+            path = f"{self.scratch}:{PACKAGE}"
+            self.refuses(3, f"the Python package {module} is missing: apt-get install {package}", "run", "counter.o", "sample.pcap", PYTHONPATH=path)
+            shutil.rmtree(self.scratch / module)

@@ -7,6 +7,7 @@ from __future__ import annotations
 
 from collections.abc import Callable, Iterator
 from dataclasses import dataclass
+from functools import cached_property
 
 from bpfhost.objects.byte_reader import ByteReader
 from bpfhost.objects.errors import ObjectError
@@ -176,6 +177,18 @@ class Btf:
             raise ObjectError(f"section .BTF has no type {type_id}, but 0 to {len(self.types) - 1}")
         return self.types[type_id]
 
+    def section(self, name: str) -> tuple[int, DataSection] | None:
+        """The first type, with its id, that describes a section of this name."""
+        return self._sections.get(name)
+
+    @cached_property
+    def _sections(self) -> dict[str, tuple[int, DataSection]]:
+        found: dict[str, tuple[int, DataSection]] = {}
+        for type_id, each in enumerate(self.types):
+            if isinstance(each, DataSection):
+                found.setdefault(each.name, (type_id, each))
+        return found
+
 
 @dataclass(frozen=True)
 class _Record:
@@ -203,12 +216,11 @@ class _Record:
 def read_btf(section: bytes) -> Btf:
     """Reads a .BTF section. An ObjectError where a range, an id or a kind is wrong."""
     whole = ByteReader(section, "section .BTF")
-    first, header_size = whole.words(0, 2)
-    check_head(first, "section .BTF")
-    if header_size < _HEADER_SIZE:
-        raise ObjectError(f"section .BTF has a header of {header_size} bytes, and one has at least {_HEADER_SIZE}")
+    header_size = read_head(whole)
     type_at, type_size, string_at, string_size = whole.words(8, 4)
     strings = whole.part(header_size + string_at, string_size, "the strings of section .BTF")
+    if not strings.data.endswith(b"\0"):
+        raise ObjectError("the strings of section .BTF do not end with a zero byte")
     records = whole.part(header_size + type_at, type_size, "the types of section .BTF")
     types = (Void(), *_types(records, strings))
     for type_id, found in enumerate(types):
@@ -216,12 +228,16 @@ def read_btf(section: bytes) -> Btf:
     return Btf(types, strings)
 
 
-def check_head(word: int, name: str) -> None:
-    """The magic number and the version of a .BTF or a .BTF.ext section."""
-    if word & 0xFFFF != MAGIC:
-        raise ObjectError(f"{name} does not begin with the number of BTF, {MAGIC:#x}, but with {word & 0xFFFF:#x}")
-    if word >> 16 & 0xFF != 1:
-        raise ObjectError(f"{name} is of version {word >> 16 & 0xFF}, and 1 is known")
+def read_head(whole: ByteReader) -> int:
+    """The size of the header of a .BTF or a .BTF.ext section, whose first words are looked at."""
+    first, size = whole.words(0, 2)
+    if first & 0xFFFF != MAGIC:
+        raise ObjectError(f"{whole.name} does not begin with the number of BTF, {MAGIC:#x}, but with {first & 0xFFFF:#x}")
+    if first >> 16 & 0xFF != 1:
+        raise ObjectError(f"{whole.name} is of version {first >> 16 & 0xFF}, and 1 is known")
+    if size < _HEADER_SIZE:
+        raise ObjectError(f"{whole.name} has a header of {size} bytes, and one has at least {_HEADER_SIZE}")
+    return size
 
 
 def _types(reader: ByteReader, strings: ByteReader) -> Iterator[Type]:

@@ -7,7 +7,7 @@ from __future__ import annotations
 
 from dataclasses import dataclass
 
-from bpfhost.objects.btf import check_head
+from bpfhost.objects.btf import read_head
 from bpfhost.objects.byte_reader import ByteReader
 from bpfhost.objects.errors import ObjectError
 
@@ -27,7 +27,7 @@ class LineInfo:
 
 @dataclass(frozen=True)
 class BtfExt:
-    """Lines by the names of sections, in the order of their offsets; and the offsets of instructions with CO-RE relocations."""
+    """Lines, and the offsets of instructions with CO-RE relocations; by the names of sections, in the order of the offsets."""
 
     lines: dict[str, tuple[LineInfo, ...]]
     relocated: dict[str, tuple[int, ...]]
@@ -39,13 +39,12 @@ NOTHING = BtfExt({}, {})
 def read_btf_ext(section: bytes, strings: ByteReader) -> BtfExt:
     """Reads a .BTF.ext section, with the strings of .BTF. An ObjectError where a range is wrong."""
     whole = ByteReader(section, _NAME)
-    first, header_size = whole.words(0, 2)
-    check_head(first, _NAME)
+    header_size = read_head(whole)
     # The header may end behind the offsets and sizes of functions and lines; what follows came later (CO-RE).
     lines_at, lines_size = whole.words(16, 2)
     rows = _rows(whole.part(header_size + lines_at, lines_size, f"the lines of {_NAME}"), strings, 4)
-    lines = {name: tuple(_line(row, strings) for row in of_section) for name, of_section in rows.items()}
-    return BtfExt({name: _in_order(of_section) for name, of_section in lines.items()}, _relocated(whole, header_size, strings))
+    lines = {name: _in_order(of_section, strings) for name, of_section in rows.items()}
+    return BtfExt(lines, _relocated(whole, header_size, strings))
 
 
 def _relocated(whole: ByteReader, header_size: int, strings: ByteReader) -> dict[str, tuple[int, ...]]:
@@ -53,16 +52,18 @@ def _relocated(whole: ByteReader, header_size: int, strings: ByteReader) -> dict
         return {}
     at, size = whole.words(24, 2)
     rows = _rows(whole.part(header_size + at, size, f"the CO-RE relocations of {_NAME}"), strings, 4)
-    return {name: tuple(row[0] for row in of_section) for name, of_section in rows.items()}
+    return {name: tuple(sorted(row[0] for row in of_section)) for name, of_section in rows.items()}
 
 
-def _in_order(lines: tuple[LineInfo, ...]) -> tuple[LineInfo, ...]:
-    return tuple(sorted(lines, key=lambda line: line.offset))
+def _in_order(rows: list[tuple[int, ...]], strings: ByteReader) -> tuple[LineInfo, ...]:
+    """The lines in the order of their instructions, one for each: the last that is told of it."""
+    by_offset = {row[0]: row for row in rows}
+    return tuple(_line(by_offset[offset], strings) for offset in sorted(by_offset))
 
 
 def _line(row: tuple[int, ...], strings: ByteReader) -> LineInfo:
     offset, file_at, text_at, place = row
-    return LineInfo(offset, strings.string(file_at), place >> 10, place & 0x3FF, strings.long_string(text_at).strip())
+    return LineInfo(offset, strings.string(file_at), place >> 10, place & 0x3FF, strings.cut_string(text_at).strip())
 
 
 def _rows(reader: ByteReader, strings: ByteReader, width: int) -> dict[str, list[tuple[int, ...]]]:

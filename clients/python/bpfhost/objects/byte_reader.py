@@ -1,12 +1,14 @@
 """Numbers and strings in bytes that nobody has checked yet."""
 
+from __future__ import annotations
+
 import struct
 from dataclasses import dataclass
 
 from bpfhost.objects.errors import ObjectError
 
 # A name is refused where it is longer: no compiler writes such a name, and many of them would take all memory.
-LONGEST_NAME = 4096
+LONGEST_NAME = 1024
 
 
 @dataclass(frozen=True)
@@ -26,29 +28,23 @@ class ByteReader:
         if at < 0 or size < 0 or at + size > len(self.data):
             raise ObjectError(f"{self.name} has {len(self.data)} bytes, and {size} bytes are to be read at offset {at}")
 
-    def part(self, at: int, size: int, name: str) -> "ByteReader":
+    def part(self, at: int, size: int, name: str) -> ByteReader:
         """A range of the bytes."""
         self.check(at, size)
         return ByteReader(self.data[at : at + size], name)
 
     def string(self, at: int) -> str:
         """The string that begins here and ends before a zero byte; what is not UTF-8 is replaced."""
-        return self._string(at, LONGEST_NAME)
-
-    def long_string(self, at: int) -> str:
-        """As `string`, and a string that is longer than a name is cut."""
-        end = self.data.find(0, at, at + LONGEST_NAME + 1)
-        self.check(at, 1)
-        return self.data[at:end].decode(errors="replace") if end >= 0 else self._cut(at)
-
-    def _cut(self, at: int) -> str:
-        if self.data.find(0, at) < 0:
-            raise ObjectError(f"the string at offset {at} of {self.name} has no end")
-        return self.data[at : at + LONGEST_NAME].decode(errors="replace")
-
-    def _string(self, at: int, longest: int) -> str:
-        self.check(at, 1)
-        end = self.data.find(0, at, at + longest + 1)
+        end = self._end(at)
         if end < 0:
-            raise ObjectError(f"the string at offset {at} of {self.name} has no end, or is longer than {longest} bytes")
+            raise ObjectError(f"the string at offset {at} of {self.name} has no end, or more than {LONGEST_NAME:,} bytes")
         return self.data[at:end].decode(errors="replace")
+
+    def cut_string(self, at: int) -> str:
+        """As `string`, but a string that is too long is cut."""
+        end = self._end(at)
+        return self.data[at : end if end >= 0 else at + LONGEST_NAME].decode(errors="replace")
+
+    def _end(self, at: int) -> int:
+        self.check(at, 1)
+        return self.data.find(0, at, at + LONGEST_NAME + 1)

@@ -10,15 +10,15 @@ import struct
 from collections.abc import Iterator
 from dataclasses import dataclass
 
-from bpfhost.numbers import MapType
-from bpfhost.objects.btf import Array, Btf, Composite, DataSection, Member, Pointer, Variable
+from bpfhost.numbers import MOST_MAPS, MapType
+from bpfhost.objects.btf import Array, Btf, Composite, Member, Pointer, Variable
 from bpfhost.objects.elf import ElfObject, Section, Symbol
 from bpfhost.objects.errors import ObjectError
 from bpfhost.objects.layout import resolve, size_of
 from bpfhost.objects.limits import check_map
 from bpfhost.objects.model import ObjectMap
 
-BTF_MAPS, LEGACY_MAPS = ".maps", "maps"
+BTF_MAPS, LEGACY_MAPS = MAP_SECTIONS = (".maps", "maps")
 
 # Those of `enum bpf_map_type` in linux/bpf.h that programs ask for most, by their names there.
 _MAP_TYPES = {
@@ -77,15 +77,15 @@ def _map_type(number: int, where: str) -> MapType:
 
 
 def _symbols(elf: ElfObject, section: Section) -> list[Symbol]:
-    if elf.relocations_of(section):
-        first = elf.relocations_of(section)[0]
-        owner = elf.owner_of(section, first.offset)
-        raise ObjectError(
-            f"map {owner} in section {section.name} has the address of {first.symbol.name}: maps in maps are not supported"
-        )
+    """The symbols of a section's maps."""
     found = elf.symbols_of(section)
     if not found:
         raise ObjectError(f"section {section.name} has bytes, and no symbol names a map there")
+    if len(found) > MOST_MAPS:
+        raise ObjectError(f"section {section.name} has {len(found):,} maps, and a tenant {MOST_MAPS} at most")
+    for relocation in elf.relocations_of(section):
+        where = f"map {elf.owner_of(section, relocation.offset)} in section {section.name}"
+        raise ObjectError(f"{where} has the address of {relocation.symbol.name or 'something'}, and the host has no maps in maps")
     return found
 
 
@@ -108,14 +108,9 @@ def _by_btf(elf: ElfObject, btf: Btf | None, section: Section) -> Iterator[Defin
 
 def _variables(btf: Btf, name: str) -> dict[str, Variable]:
     """The variables of a section by their names."""
-    found: dict[str, Variable] = {}
-    for data in btf.types:
-        if isinstance(data, DataSection) and data.name == name:
-            for placed in data.variables:
-                variable = btf.type(placed.variable)
-                if isinstance(variable, Variable):
-                    found[variable.name] = variable
-    return found
+    found = btf.section(name)
+    types = [btf.type(placed.variable) for placed in found[1].variables] if found else []
+    return {variable.name: variable for variable in types if isinstance(variable, Variable)}
 
 
 class _Attributes:

@@ -17,7 +17,9 @@ from bpfhost.errors import MissingPackage
 from bpfhost.objects.byte_reader import LONGEST_NAME
 from bpfhost.objects.errors import ObjectError
 
-LARGEST_FILE = 16 * 1024 * 1024
+# No file is read that is larger, or has more sections: no compiler writes such an object.
+LARGEST_FILE = 8 * 1024 * 1024
+MOST_SECTIONS = 4096
 
 # Flags of sections, and the sizes of entries of tables in bytes.
 _ALLOCATED, _EXECUTABLE, _COMPRESSED = 2, 4, 0x800
@@ -96,8 +98,7 @@ class ElfObject:
 
     def symbols_of(self, section: Section) -> list[Symbol]:
         """The functions and variables of a section, in the order in which they stand there."""
-        named = self._defined.get(section.index, ())
-        return sorted(named, key=lambda symbol: (symbol.value, symbol.name))
+        return self._defined.get(section.index, [])
 
     def owner_of(self, section: Section, offset: int) -> str:
         """The name of the function or variable at an offset, or else the offset itself."""
@@ -112,7 +113,7 @@ class ElfObject:
     @cached_property
     def _defined(self) -> dict[int, list[Symbol]]:
         by_section: dict[int, list[Symbol]] = {}
-        for symbol in self.symbols:
+        for symbol in sorted(self.symbols, key=_order):
             if symbol.section is not None and symbol.kind in ("STT_FUNC", "STT_OBJECT"):
                 by_section.setdefault(symbol.section, []).append(symbol)
         return by_section
@@ -136,6 +137,10 @@ class ElfObject:
         if number >= len(self.symbols):
             raise ObjectError(f"a relocation of section {table.name} names symbol {number} of {len(self.symbols)}")
         return Relocation(entry["r_offset"], entry["r_info_type"], self.symbols[number])
+
+
+def _order(symbol: Symbol) -> tuple[int, str]:
+    return symbol.value, symbol.name
 
 
 def read_elf(path: str | os.PathLike[str]) -> ElfObject:
@@ -199,6 +204,8 @@ def _sections(content: bytes, reader: Any) -> tuple[Section, ...]:
     if reader["e_shoff"] == 0:
         raise ObjectError("the object has no sections")
     count = _told("the table of sections", reader.num_sections)
+    if count > MOST_SECTIONS:
+        raise ObjectError(f"the object has {count:,} sections, and at most {MOST_SECTIONS:,} are read")
     if reader["e_shentsize"] != _SECTION_HEADER:
         raise ObjectError(f"a section's header has {reader['e_shentsize']} bytes, and not {_SECTION_HEADER}")
     _check_range(content, "the table of sections", reader["e_shoff"], count * _SECTION_HEADER)

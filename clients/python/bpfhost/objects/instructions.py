@@ -6,11 +6,9 @@ Source: RFC 9669; docs/INSTRUCTIONS.md for what the host has. What is no instruc
 from __future__ import annotations
 
 from collections.abc import Iterator
-from typing import Protocol
 
 from bpfhost.numbers import SLOT_SIZE
-from bpfhost.objects.elf import Symbol
-from bpfhost.objects.errors import ObjectError
+from bpfhost.objects.place import Place
 
 HELPERS = (1, 2, 3, 26)
 _CALL, _CALL_REGISTER, _WIDE_LOAD = 0x85, 0x8D, 0x18
@@ -28,21 +26,6 @@ _FETCH = {
 _PACKET_ACCESS = (0x20, 0x28, 0x30, 0x40, 0x48, 0x50)
 
 
-class Place(Protocol):
-    """What is needed of where a program is."""
-
-    @property
-    def begin(self) -> int:
-        """The first byte of the program in its section."""
-
-    @property
-    def functions(self) -> tuple[Symbol, ...]:
-        """The functions of its section."""
-
-    def told(self, slot: int, what: str) -> str:
-        """A sentence on a slot."""
-
-
 def is_wide_load(slots: bytes | bytearray, slot: int) -> bool:
     """Whether a wide load of a number stands at a slot, whole."""
     at = SLOT_SIZE * slot
@@ -54,7 +37,7 @@ def check_instructions(slots: bytes, place: Place) -> None:
     for slot in _first_slots(slots):
         lacks = _lacks(slots[SLOT_SIZE * slot : SLOT_SIZE * (slot + 1)], slot, place)
         if lacks:
-            raise ObjectError(place.told(slot, lacks))
+            raise place.refused(slot, lacks)
 
 
 def _first_slots(slots: bytes) -> Iterator[int]:

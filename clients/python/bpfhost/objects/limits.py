@@ -19,6 +19,8 @@ from bpfhost.objects.errors import ObjectError
 from bpfhost.objects.model import ObjectMap
 
 ARRAY_KEY = 4
+# Of an object; this package's own limit.
+MOST_PROGRAMS = 512
 
 
 def check_map(declared: ObjectMap, where: str) -> ObjectMap:

@@ -8,7 +8,7 @@ from __future__ import annotations
 
 from dataclasses import replace
 
-from bpfhost.numbers import LONGEST_VALUE, MapType
+from bpfhost.numbers import LONGEST_VALUE, MOST_MAPS, MapType
 from bpfhost.objects.btf import Btf, DataSection, Placed, Variable
 from bpfhost.objects.definitions import DefinedMap
 from bpfhost.objects.elf import ElfObject, Section
@@ -28,7 +28,10 @@ def is_of_variables(section: Section) -> bool:
 
 def variable_maps(elf: ElfObject, btf: Btf | None) -> list[DefinedMap]:
     """The maps of the sections of variables, in the order of the sections."""
-    return [_map(elf, btf, section) for section in elf.sections if is_of_variables(section)]
+    sections = [section for section in elf.sections if is_of_variables(section)]
+    if len(sections) > MOST_MAPS:
+        raise ObjectError(f"the object has {len(sections):,} sections of variables, each a map, and a tenant has {MOST_MAPS} maps at most")
+    return [_map(elf, btf, section) for section in sections]
 
 
 def _map(elf: ElfObject, btf: Btf | None, section: Section) -> DefinedMap:
@@ -59,11 +62,9 @@ def _refuse_addresses(elf: ElfObject, section: Section) -> None:
 
 
 def _type_of(btf: Btf | None, section: Section) -> int | None:
-    """The id of the section's type, where it describes some variable."""
-    for type_id, found in enumerate(btf.types if btf else ()):
-        if isinstance(found, DataSection) and found.name == section.name and found.variables:
-            return type_id
-    return None
+    """The id of the section's type, where that has some variable."""
+    found = btf.section(section.name) if btf else None
+    return found[0] if found and found[1].variables else None
 
 
 def with_places(btf: Btf, elf: ElfObject) -> Btf:
@@ -71,16 +72,19 @@ def with_places(btf: Btf, elf: ElfObject) -> Btf:
 
     A variable that other files see has its place from its symbol; that of a static one stands in the type.
     """
-    return replace(btf, types=tuple(_placed(btf, elf, found) if isinstance(found, DataSection) else found for found in btf.types))
+    types = list(btf.types)
+    for section in elf.sections:
+        found = btf.section(section.name) if is_of_variables(section) else None
+        if found:
+            type_id, described = found
+            types[type_id] = _placed(btf, elf, section, described)
+    return replace(btf, types=tuple(types))
 
 
-def _placed(btf: Btf, elf: ElfObject, found: DataSection) -> DataSection:
-    section = elf.section(found.name)
-    if section is None or not is_of_variables(section):
-        return found
+def _placed(btf: Btf, elf: ElfObject, section: Section, described: DataSection) -> DataSection:
     places = {symbol.name: symbol.value for symbol in elf.symbols_of(section) if not symbol.local}
-    variables = [_place(btf, section, each, places) for each in found.variables]
-    return replace(found, size=section.size, variables=tuple(sorted(variables, key=_offset)))
+    variables = [_place(btf, section, each, places) for each in described.variables]
+    return replace(described, size=section.size, variables=tuple(sorted(variables, key=_offset)))
 
 
 def _offset(each: Placed) -> int:

@@ -1,0 +1,45 @@
+"""Where a program is, for sentences on its instructions."""
+
+from __future__ import annotations
+
+from bisect import bisect_right
+from dataclasses import dataclass
+
+from bpfhost.objects.elf import Section, Symbol
+from bpfhost.objects.errors import ObjectError
+from bpfhost.objects.model import SourceLine
+
+
+@dataclass(frozen=True)
+class Place:
+    """A function of a section: `functions` are all of the section, and `lines` those of this one by their slots."""
+
+    section: Section
+    function: Symbol
+    functions: tuple[Symbol, ...]
+    lines: tuple[SourceLine, ...]
+
+    @property
+    def begin(self) -> int:
+        """The function's first byte in its section."""
+        return self.function.value
+
+    @property
+    def end(self) -> int:
+        """The byte behind its last one."""
+        return self.function.value + self.function.size
+
+    def refused(self, slot: int, what: str) -> ObjectError:
+        """The error that a slot does what the host does not have, with the line of the source where it is known."""
+        behind = bisect_right(self.lines, slot, key=slot_of_line)
+        line = self.lines[behind - 1] if behind else None
+        source = f" ({line.file}:{line.line}: {line.text})" if line else ""
+        return ObjectError(f"{self} {what}, at slot {slot}{source}")
+
+    def __str__(self) -> str:
+        return f"function {self.function.name} in section {self.section.name}"
+
+
+def slot_of_line(line: SourceLine) -> int:
+    """The slot at which a line begins."""
+    return line.slot

@@ -3,7 +3,8 @@
 README.md of this package shows how to use it; docs/PROTOCOL.md of the repository has the protocol.
 """
 
-from bpfhost.errors import BpfhostError, CaptureError, HostError, InputError, MissingPackage, ProgramRefused, Refused, ReplyError
+from bpfhost import frames
+from bpfhost.errors import BpfhostError, CaptureError, HostError, InputError, MissingPackage, ProgramRefused, Refused, ReplyError, SourceRefused
 from bpfhost.frames import Context
 from bpfhost.host import Host
 from bpfhost.maps import Map
@@ -32,6 +33,7 @@ __all__ = [
     "Refused",
     "Reply",
     "ReplyError",
+    "SourceRefused",
     "Tenant",
     "TestRuns",
     "Update",
@@ -39,6 +41,7 @@ __all__ = [
     "assemble",
     "disassemble",
     "find_program",
+    "frames",
     "hex_lines",
     "read_replies",
     "serve",

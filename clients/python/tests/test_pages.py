@@ -1,0 +1,62 @@
+"""What the pages show is what happens: the tutorial's commands and outputs, and the programs of the tutorial and the README."""
+
+from __future__ import annotations
+
+import os
+import re
+import shutil
+import subprocess
+import sys
+
+from bpfhost import hex_lines
+from tests.common import ONE, PROGRAM, HostTest
+from tests.test_command import EXAMPLE, PACKAGE, needs_packages
+
+TUTORIAL = PACKAGE.parents[1] / "docs/TUTORIAL.md"
+CLANG = shutil.which("clang-14")
+# The time of a run is another one each time.
+TIME = re.compile(r"time a packet: [0-9.]+ us")
+
+
+def blocks(page: str, kind: str) -> list[str]:
+    """The blocks of a page that are of this kind."""
+    return re.findall(rf"^```{kind}\n(.*?)^```$", page, re.M | re.S)
+
+
+class Pages(HostTest):
+    def shell(self, command: str) -> str:
+        """What a command writes, on both outputs, in the scratch folder."""
+        path = f"{self.scratch}/bin:{os.environ['PATH']}"
+        environment = {**os.environ, "PATH": path, "PYTHONPATH": str(PACKAGE), "BPFHOST": f"{self.scratch}/bin/bpfhost", "COLUMNS": "80"}
+        call = ["bash", "-c", command]
+        ended = subprocess.run(call, stdout=subprocess.PIPE, stderr=subprocess.STDOUT, text=True, cwd=self.scratch, env=environment)
+        return ended.stdout
+
+    def set_up(self) -> None:
+        """The names that the pages use: python3, bpfhost, clang."""
+        (self.scratch / "bin").mkdir()
+        for name, target in (("python3", sys.executable), ("bpfhost", PROGRAM), ("clang", CLANG)):
+            if target:
+                os.symlink(os.path.realpath(target), self.scratch / "bin" / name)
+
+    @needs_packages
+    def test_tutorial(self) -> None:
+        if not CLANG:
+            self.skipTest("clang 14 is missing")
+        self.set_up()
+        page = TUTORIAL.read_text()
+        (self.scratch / "flows.c").write_text(blocks(page, "c")[0])
+        for file in (EXAMPLE.parent / "c_filter/bpfhost.h", EXAMPLE / "sample.pcap"):
+            shutil.copy(file, self.scratch)
+        for block in blocks(page, "console"):
+            told = "".join(f"$ {command}\n{self.shell(command)}" for command in re.findall(r"^\$ (.*)$", block, re.M))
+            self.assertEqual(TIME.sub("", told), TIME.sub("", block))
+        (self.scratch / "flows.py").write_text(blocks(page, "python")[0])
+        self.assertEqual(self.shell("python3 flows.py"), blocks(page, "text")[0])
+
+    def test_readme(self) -> None:
+        self.set_up()
+        page = (PACKAGE / "README.md").read_text()
+        (self.scratch / "shown.py").write_text(blocks(page, "python")[0])
+        self.assertEqual(self.shell("python3 shown.py"), blocks(page, "text")[0])
+        self.assertEqual(self.shell("echo 'r0 = 1\nexit' | python3 -m bpfhost asm"), hex_lines(ONE))

@@ -2,7 +2,6 @@
 
 from __future__ import annotations
 
-import dataclasses
 import time
 from collections import Counter
 from collections.abc import Callable, Iterator, Sequence
@@ -34,14 +33,10 @@ class Outcome:
         """Counts the results of a piece."""
         self.packets += len(results)
         self.accepted += len(results) - results.count(0)
-        self.bytes_kept += sum(map(_lesser, results, piece.lengths()))
+        self.bytes_kept += sum([result if result < length else length for result, length in zip(results, piece.lengths)])
         self.results.update(results)
         if piece.link_type not in self.link_types:
             self.link_types.append(piece.link_type)
-
-
-# `min` has many types; this is the one of two numbers.
-_lesser: Callable[[int, int], int] = min
 
 
 class TenantsDiffer(BpfhostError):
@@ -100,7 +95,7 @@ class Filter:
         try:
             for piece in capture.pieces(self._runs[0].most):
                 if left is not None:
-                    piece = dataclasses.replace(piece, starts=piece.starts[:left], ends=piece.ends[:left])
+                    piece = piece.first(left)
                     left -= len(piece)
                 if len(piece):
                     yield piece

@@ -24,7 +24,7 @@ LONGEST_REPLY = REPLY_HEAD + LONGEST_PAYLOAD
 # A pipe of a system that does not tell its size is taken to hold so many bytes.
 _LEAST_PIPE = 4096
 # A batch of frames has about so many bytes at most.
-_SENT_AT_ONCE = 1 << 17
+_SENT_AT_ONCE = 1 << 16
 _SECONDS_TO_END = 5
 
 
@@ -51,6 +51,7 @@ class Host:
             raise HostError(f"{self.program} does not start: {error.strerror}") from error
         # Without a buffer, both pipes are raw files.
         self._frames, self._replies = cast(FileIO, self._process.stdin), cast(FileIO, self._process.stdout)
+        _widen(self._frames)
         # So many bytes of replies may wait unread: the host finds room for each while it is sent to, and so goes on to read. It
         # is half of what the pipe holds, as a reply begins a new page where it does not fit into the last one.
         self.room = _pipe_size(self._replies) // 2
@@ -204,6 +205,14 @@ def _pipe_size(pipe: FileIO) -> int:
         return max(fcntl.fcntl(pipe, fcntl.F_GETPIPE_SZ), _LEAST_PIPE)
     except (ImportError, AttributeError, OSError):
         return _LEAST_PIPE
+
+
+def _widen(pipe: FileIO) -> None:
+    """Lets a pipe hold several batches, where that is allowed, so that the host seldom waits for the next one."""
+    with contextlib.suppress(ImportError, AttributeError, OSError):
+        import fcntl
+
+        fcntl.fcntl(pipe, fcntl.F_SETPIPE_SZ, 4 * _SENT_AT_ONCE)
 
 
 def _whole(frame: bytes) -> bytes:

@@ -5,7 +5,10 @@ No object is made for a packet, so that a run costs its client little beside wha
 
 from __future__ import annotations
 
+import itertools
 import struct
+import sys
+from array import array
 from collections.abc import Iterable, Iterator
 from typing import TYPE_CHECKING
 
@@ -29,36 +32,40 @@ _PROTOCOL = slice(12, 16)
 _LEAST_TYPE, _ETH_P_802_2 = b"\x06\x00", b"\x00\x04"
 
 
-_NO_WORDS: tuple[int, ...] = ()
 
 
-class _Starts(dict[int, bytes]):
-    """What a frame begins with, up to its descriptor, by the length of its packet."""
-
-    def __init__(self, tenant: int, program: int) -> None:
-        super().__init__()
-        self._rest = struct.pack("<HHI", tenant, Command.PROG_TEST_RUN, program)
-
-    def __missing__(self, length: int) -> bytes:
-        if length > LONGEST_PACKET:
-            raise ValueError(f"a packet has {length:,} bytes, and that of a test run has {LONGEST_PACKET:,} at most")
-        self[length] = struct.pack("<I", _HEAD + length) + self._rest
-        return self[length]
+def _words(replies: bytes) -> array[int]:
+    """The whole words of 32 bits at the front of bytes."""
+    words = array("I", replies[: len(replies) // 4 * 4])
+    if sys.byteorder == "big":
+        words.byteswap()
+    return words
 
 
-class _Contexts(dict[bytes, bytes]):
-    """The words of the context, by the two bytes of the type in an Ethernet header, or none."""
+class _Heads:
+    """What stands before packets in the frames of test runs of a program.
 
-    def __init__(self, context: Context) -> None:
-        super().__init__()
+    `starts` is what a frame begins with, up to its descriptor, by the length of its packet; `contexts` the words of its context, by the
+    two bytes of the type in an Ethernet header, or none. Both have what `learn` was given.
+    """
+
+    def __init__(self, tenant: int, program: int, context: Context) -> None:
+        self.starts: dict[int, bytes] = {}
+        self.contexts: dict[bytes, bytes] = {}
+        self._whose = struct.pack("<HHI", tenant, Command.PROG_TEST_RUN, program)
         self._words = context.to_bytes()
 
-    def __missing__(self, ethernet_type: bytes) -> bytes:
-        words = bytearray(self._words)
-        if ethernet_type:
-            words[_PROTOCOL] = (ethernet_type if ethernet_type >= _LEAST_TYPE else _ETH_P_802_2) + bytes(2)
-        self[ethernet_type] = bytes(words)
-        return self[ethernet_type]
+    def learn(self, lengths: set[int], ethernet_types: set[bytes]) -> None:
+        """Takes lengths of packets, and types in their headers; a ValueError where no test run takes such a packet."""
+        for length in lengths - self.starts.keys():
+            if length > LONGEST_PACKET:
+                raise ValueError(f"a packet has {length:,} bytes, and that of a test run has {LONGEST_PACKET:,} at most")
+            self.starts[length] = struct.pack("<I", _HEAD + length) + self._whose
+        for ethernet_type in ethernet_types - self.contexts.keys():
+            words = bytearray(self._words)
+            if ethernet_type:
+                words[_PROTOCOL] = (ethernet_type if ethernet_type >= _LEAST_TYPE else _ETH_P_802_2) + bytes(2)
+            self.contexts[ethernet_type] = bytes(words)
 
 
 class TestRuns:
@@ -73,9 +80,10 @@ class TestRuns:
 
     def __init__(self, host: Host, tenant: int, program: int, context: Context = NO_CONTEXT) -> None:
         self.host = host
-        self._starts = _Starts(tenant, program)
-        self._contexts = _Contexts(context)
+        self._heads = _Heads(tenant, program, context)
+        # The first three words of the reply to a run that ended.
         self._whose = tenant | Command.PROG_TEST_RUN << 16
+        self._head = (_REPLY_SIZE - 4, self._whose, 0)
         self.most = max(1, host.room // 2 // _REPLY_SIZE)
 
     def results(self, pieces: Iterable[Packets]) -> Iterator[tuple[int, ...]]:
@@ -89,48 +97,52 @@ class TestRuns:
         """Sends the frames of runs on packets, `most` at most, which `receive` then reads the replies to."""
         self.host.send(self.frames(packets))
 
-    def frames(self, packets: Packets) -> bytearray:
+    def frames(self, packets: Packets) -> bytes:
         """The frames of runs on packets."""
-        return self._of_ethernet(packets) if packets.link_type == ETHERNET else self._of_others(packets)
+        if packets.link_type != ETHERNET or min(packets.lengths, default=0) < _ETHERNET_HEAD:
+            return b"".join(map(self._frame, packets, itertools.repeat(packets.link_type == ETHERNET)))
+        try:
+            return self._joined(packets)
+        except KeyError:
+            data = packets.data
+            self._heads.learn(set(packets.lengths), {data[start + 12 : start + 14] for start in packets.starts})
+            return self._joined(packets)
 
-    def _of_ethernet(self, packets: Packets) -> bytearray:
-        frames, data, view = bytearray(), packets.data, memoryview(packets.data)
-        beginnings, contexts = self._starts, self._contexts
-        for start, end in zip(packets.starts, packets.ends):
-            frames += beginnings[end - start]
-            frames += contexts[data[start + 12 : start + 14] if end - start >= _ETHERNET_HEAD else b""]
-            frames += view[start:end]
-        return frames
+    def _frame(self, packet: bytes, is_ethernet: bool) -> bytes:
+        """The frame of a run on a packet that may have no Ethernet header."""
+        ethernet_type = packet[12:14] if is_ethernet and len(packet) >= _ETHERNET_HEAD else b""
+        self._heads.learn({len(packet)}, {ethernet_type})
+        return self._heads.starts[len(packet)] + self._heads.contexts[ethernet_type] + packet
 
-    def _of_others(self, packets: Packets) -> bytearray:
-        frames, view = bytearray(), memoryview(packets.data)
-        beginnings, context = self._starts, self._contexts[b""]
-        for start, end in zip(packets.starts, packets.ends):
-            frames += beginnings[end - start]
-            frames += context
-            frames += view[start:end]
-        return frames
+    def _joined(self, packets: Packets) -> bytes:
+        """The frames of runs on packets that all have an Ethernet header, in as few steps as can be.
+
+        A KeyError where a length or a type was not learned.
+        """
+        data, beginnings, contexts = packets.data, self._heads.starts, self._heads.contexts
+        pieces: list[bytes] = []
+        for start, length in zip(packets.starts, packets.lengths):
+            pieces.append(beginnings[length])
+            pieces.append(contexts[data[start + 12 : start + 14]])
+            pieces.append(data[start : start + length])
+        return b"".join(pieces)
 
     def receive(self, packets: Packets) -> tuple[int, ...]:
         """The results of runs whose frames were sent; a Refused where one was refused, once all replies are read."""
         count = len(packets)
-        size, replies, words = count * _REPLY_SIZE, b"", _NO_WORDS
+        size, replies, words = count * _REPLY_SIZE, b"", array("I")
         while len(replies) < size:
             replies += self.host.read(size - len(replies))
-            words = struct.unpack_from(f"<{len(replies) // 4}I", replies)
+            words = _words(replies)
             if not self._are_results(words):
                 self.host.unread(replies)
                 return self._one_by_one(count)
-        return words[3::4]
+        return tuple(words[3::4])
 
-    def _are_results(self, words: tuple[int, ...]) -> bool:
+    def _are_results(self, words: array[int]) -> bool:
         """Whether words are those of results of this program, as far as they go: a refusal is shorter, so it is seen at once."""
-        lengths, owners = words[0::4], words[1::4]
-        return (
-            lengths.count(_REPLY_SIZE - 4) == len(lengths)
-            and owners.count(self._whose) == len(owners)
-            and not any(words[2::4])
-        )
+        heads = (words[at::4] for at in range(len(self._head)))
+        return all(found == array("I", [word]) * len(found) for found, word in zip(heads, self._head))
 
     def _one_by_one(self, count: int) -> tuple[int, ...]:
         """The results in so many replies, some of which are none."""

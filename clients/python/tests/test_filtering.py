@@ -2,13 +2,19 @@
 
 from __future__ import annotations
 
+import unittest
+
 from bpfhost import Host, MapType, TestRuns, assemble
 from bpfhost.captures import open_capture
-from bpfhost.captures.writer import CaptureWriter
-from bpfhost.filtering import Filter, Outcome, TenantsDiffer, accept_none, accept_to
-from tests.common import LENGTH, PROGRAM, HostTest
-from tests.test_captures import RAW_IP, needs_dpkt, pcap, pcapng
 from bpfhost.captures.piece import Stamp
+from tests.common import LENGTH, PROGRAM, HostTest
+from tests.test_captures import HAS_DPKT, RAW_IP, pcap, pcapng
+
+if not HAS_DPKT:
+    raise unittest.SkipTest("python3-dpkt is missing")
+
+from bpfhost.captures.writer import CaptureWriter  # noqa: E402
+from bpfhost.filtering import Filter, Outcome, TenantsDiffer, accept_none, accept_to  # noqa: E402
 
 # Keeps packets of at least 3 bytes, and of these 4 bytes at most.
 FOUR_BYTES = "r0 = *(u32 *)(r1 + 0)\nif r0 > 2 goto +2\nr0 = 0\nexit\nif r0 < 4 goto +1\nr0 = 4\nexit\n"
@@ -17,7 +23,6 @@ COUNT = "r1 = map_value 3 + 0 ll\nr0 = *(u64 *)(r1 + 0)\nr0 += 1\n*(u64 *)(r1 + 
 RECORDS = [(bytes(length), Stamp(length, 1000 * length, length + 1)) for length in (0, 2, 3, 4, 5, 70)] * 300
 
 
-@needs_dpkt
 class Filtering(HostTest):
     def run_on(self, content: bytes, slots: bytes, tenants: int = 1, limit: int | None = None, written: str = "") -> Outcome:
         """What a program answers to the packets of a capture."""

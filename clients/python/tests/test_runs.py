@@ -96,8 +96,9 @@ class Runs(HostTest):
 class PacketsInOnePiece(TimedTest):
     def test_they_are_those_that_were_joined(self) -> None:
         packets = Packets.of([b"ab", b"", b"cde"])
-        self.assertEqual((packets.data, packets.starts, packets.ends), (b"abcde", [0, 2, 2], [2, 2, 5]))
-        self.assertEqual((list(packets), packets[2], len(packets), packets.lengths()), ([b"ab", b"", b"cde"], b"cde", 3, [2, 0, 3]))
+        self.assertEqual((packets.data, packets.starts, packets.lengths), (b"abcde", [0, 2, 2], [2, 0, 3]))
+        self.assertEqual((list(packets), packets[2], len(packets)), ([b"ab", b"", b"cde"], b"cde", 3))
+        self.assertEqual((list(packets.first(2)), list(packets.first(9)), Packets.of([])), ([b"ab", b""], list(packets), Packets(b"", [], [])))
 
     def test_split(self) -> None:
         packets = Packets.of([b"ab", b"", b"cde"], RAW_IP)

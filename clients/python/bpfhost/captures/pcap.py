@@ -59,7 +59,7 @@ class PcapCapture(Capture):
 
     def _next_piece(self, data: bytes, at: int, most: int) -> tuple[Piece | None, int]:
         starts: list[int] = []
-        ends: list[int] = []
+        lengths: list[int] = []
         head, unpack, size = self._layout.head, self._length.unpack_from, len(data)
         for _ in range(most):
             start = at + head
@@ -70,10 +70,10 @@ class PcapCapture(Capture):
             if length > LONGEST_PACKET or end > size:
                 break
             starts.append(start)
-            ends.append(end)
+            lengths.append(length)
             at = end
         if starts:
-            return _PcapPiece(data, starts, ends, self._link_type, layout=self._layout), at
+            return _PcapPiece(data, starts, lengths, self._link_type, layout=self._layout), at
         if at + head <= size and length > LONGEST_PACKET:
             raise self._too_long(length)
         return None, at

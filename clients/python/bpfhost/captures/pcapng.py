@@ -12,13 +12,13 @@ from dpkt import pcapng
 from bpfhost.captures.piece import Capture, Piece, Stamp
 from bpfhost.errors import CaptureError
 from bpfhost.numbers import LONGEST_PACKET
-from bpfhost.packets import ETHERNET
 
 # The type of a section header block, the same in both byte orders.
 SECTION = b"\x0a\x0d\x0d\x0a"
 _ORDERS = {b"\x4d\x3c\x2b\x1a": "<", b"\x1a\x2b\x3c\x4d": ">"}
-# Bytes around the body of a block: its type and length before it, and the length once more behind it.
-_BEFORE, _BEHIND, _SHORTEST_BLOCK = 8, 4, 12
+# Bytes of a block without a body; of a packet's block before and around the packet; and of a simple one's before it.
+_SHORTEST_BLOCK, _BEFORE, _AROUND, _BEFORE_SIMPLE = 12, 28, 32, 12
+_ENHANCED: int = pcapng.PCAPNG_BT_EPB
 # A longer block is taken for a lie.
 _LONGEST_BLOCK = 1 << 24
 _SECOND = 1_000_000_000
@@ -30,41 +30,27 @@ class _Interface:
 
     link_type: int
     longest: int
-    per_second: int = 1_000_000
-    offset: int = 0
+    per_second: int
+    offset: int
 
 
 @dataclass(frozen=True)
 class _PcapngPiece(Piece):
-    # Of each packet: its interface, its time in parts of a second, its length when it was captured.
-    records: list[tuple[_Interface, int, int]] = field(kw_only=True)
+    """Packets of blocks of one kind, in one section."""
+
+    kind: int = field(kw_only=True)
+    order: str = field(kw_only=True)
+    interfaces: tuple[_Interface, ...] = field(kw_only=True)
 
     def stamp(self, at: int) -> Stamp:
-        interface, ticks, length = self.records[at]
-        nanoseconds = ticks * _SECOND // interface.per_second
+        if self.kind == pcapng.PCAPNG_BT_SPB:
+            (length,) = struct.unpack_from(f"{self.order}I", self.data, self.starts[at] - 4)
+            return Stamp(0, 0, length)
+        layout = "5I" if self.kind == pcapng.PCAPNG_BT_EPB else "H2x4I"
+        number, high, low, _, length = struct.unpack_from(f"{self.order}{layout}", self.data, self.starts[at] - 20)
+        interface = self.interfaces[number]
+        nanoseconds = (high << 32 | low) * _SECOND // interface.per_second
         return Stamp(interface.offset + nanoseconds // _SECOND, nanoseconds % _SECOND, length)
-
-
-@dataclass
-class _Found:
-    """The packets that are found so far, all of one link type, as they go into a piece."""
-
-    link_type: int = ETHERNET
-    starts: list[int] = field(default_factory=list)
-    ends: list[int] = field(default_factory=list)
-    records: list[tuple[_Interface, int, int]] = field(default_factory=list)
-
-    def add(self, start: int, length: int, record: tuple[_Interface, int, int]) -> bool:
-        """Takes a packet, unless it has another link type than those before."""
-        link_type = record[0].link_type
-        if not self.starts:
-            self.link_type = link_type
-        if link_type != self.link_type:
-            return False
-        self.starts.append(start)
-        self.ends.append(start + length)
-        self.records.append(record)
-        return True
 
 
 class PcapngCapture(Capture):
@@ -76,15 +62,15 @@ class PcapngCapture(Capture):
         """Reads nothing; `magic` is what was read of the file."""
         super().__init__(name, file)
         self._magic = magic
-        self._interfaces: list[_Interface] = []
+        self._interfaces: tuple[_Interface, ...] = ()
         self._has_order("<")
 
     def _has_order(self, order: str) -> None:
         self._order = order
         self._pair = struct.Struct(f"{order}II").unpack_from
-        # Of an enhanced packet block and of the old kind: interface, time, length here, length when it was captured.
-        self._enhanced = struct.Struct(f"{order}5I").unpack_from
-        self._old = struct.Struct(f"{order}H2x4I").unpack_from
+        # A block with a packet, up to the packet's length: its kind, its length, the interface, the time, the packet's length.
+        self._enhanced = struct.Struct(f"{order}3I8xI").unpack_from
+        self._old = struct.Struct(f"{order}2IH10xI").unpack_from
 
     def _read(self, size: int) -> bytes:
         magic, self._magic = self._magic, b""
@@ -95,19 +81,45 @@ class PcapngCapture(Capture):
         return self.error(f"it is cut off in the block of {self._next_packet()}, or before it")
 
     def _next_piece(self, data: bytes, at: int, most: int) -> tuple[Piece | None, int]:
-        found = _Found()
-        try:
-            while len(found.starts) < most:
-                end = self._block_end(data, at)
-                if end is None or not self._take(data, at, end, found):
+        while True:
+            starts, lengths, at, link_type = self._enhanced_packets(data, at, most)
+            if starts:
+                return self._piece(data, starts, lengths, link_type, pcapng.PCAPNG_BT_EPB), at
+            end = self._block_end(data, at)
+            if end is None:
+                return None, at
+            piece, at = self._take(data, at, end), end
+            if piece:
+                return piece, at
+
+    def _piece(self, data: bytes, starts: list[int], lengths: list[int], link_type: int, kind: int) -> Piece:
+        order, interfaces = self._order, self._interfaces
+        return _PcapngPiece(data, starts, lengths, link_type, kind=kind, order=order, interfaces=interfaces)
+
+    def _enhanced_packets(self, data: bytes, at: int, most: int) -> tuple[list[int], list[int], int, int]:
+        """The packets of whole enhanced packet blocks of one link type, from `at` on, up to the first block that is something else.
+
+        Their starts and lengths, where they end, and the link type.
+        """
+        starts: list[int] = []
+        lengths: list[int] = []
+        unpack, last, size, link_type = self._enhanced, len(data) - _AROUND, len(data), -1
+        link_types = [interface.link_type for interface in self._interfaces]
+        while at <= last and len(starts) < most:
+            kind, block, number, length = unpack(data, at)
+            end = at + block
+            if kind != _ENHANCED or end > size or length > LONGEST_PACKET or block < _AROUND + length or block & 3:
+                break
+            if data[end - 4 : end] != data[at + 4 : at + 8] or number >= len(link_types):
+                break
+            if link_types[number] != link_type:
+                if starts:
                     break
-                at = end
-        except CaptureError:
-            if not found.starts:
-                raise
-        if not found.starts:
-            return None, at
-        return _PcapngPiece(data, found.starts, found.ends, found.link_type, records=found.records), at
+                link_type = link_types[number]
+            starts.append(at + _BEFORE)
+            lengths.append(length)
+            at = end
+        return starts, lengths, at, link_type
 
     def _block_end(self, data: bytes, at: int) -> int | None:
         """Where the block that begins at `at` ends, or None where it is not whole; a section's block sets the byte order."""
@@ -128,43 +140,43 @@ class PcapngCapture(Capture):
             raise self.error(f"it has a block with two lengths before {self._next_packet()}")
         return end
 
-    def _take(self, data: bytes, at: int, end: int, found: _Found) -> bool:
-        """Reads a whole block; False where its packet belongs into another piece."""
-        kind = self._pair(data, at)[0]
-        if kind == pcapng.PCAPNG_BT_EPB:
-            return self._take_packet(self._enhanced(data, at + _BEFORE) if end - at >= 32 else None, at + 28, end, found)
-        if kind == pcapng.PCAPNG_BT_PB:
-            return self._take_packet(self._old(data, at + _BEFORE) if end - at >= 32 else None, at + 28, end, found)
-        if kind == pcapng.PCAPNG_BT_SPB:
-            return self._take_simple(data, at, end, found)
-        if kind == pcapng.PCAPNG_BT_IDB:
-            self._interfaces.append(self._interface(data[at:end]))
+    def _take(self, data: bytes, at: int, end: int) -> Piece | None:
+        """Reads a whole block, and gives its packet, where it has one."""
+        kind: int = self._pair(data, at)[0]
         if kind == pcapng.PCAPNG_BT_SHB:
-            self._interfaces = []
-        return True
+            self._interfaces = ()
+        if kind == pcapng.PCAPNG_BT_IDB:
+            self._interfaces += (self._interface(data[at:end]),)
+        if kind == pcapng.PCAPNG_BT_SPB:
+            return self._simple_packet(data, at, end)
+        if kind in (pcapng.PCAPNG_BT_EPB, pcapng.PCAPNG_BT_PB):
+            return self._packet(data, at, end, kind)
+        return None
 
-    def _take_packet(self, numbers: tuple[int, ...] | None, start: int, end: int, found: _Found) -> bool:
-        if numbers is None:
-            raise self._wrong_packet(found)
-        interface, high, low, length, whole = numbers
+    def _packet(self, data: bytes, at: int, end: int, kind: int) -> Piece:
+        """The packet of a block of the old kind; an enhanced packet block that comes here is wrong."""
+        if end - at < _AROUND:
+            raise self._wrong_packet()
+        _, _, number, length = (self._old if kind == pcapng.PCAPNG_BT_PB else self._enhanced)(data, at)
         if length > LONGEST_PACKET:
             raise self._too_long(length)
-        if interface >= len(self._interfaces) or start + length > end - _BEHIND:
-            raise self._wrong_packet(found)
-        return found.add(start, length, (self._interfaces[interface], high << 32 | low, whole))
+        if number >= len(self._interfaces) or end - at < _AROUND + length:
+            raise self._wrong_packet()
+        return self._piece(data, [at + _BEFORE], [length], self._interfaces[number].link_type, kind)
 
-    def _take_simple(self, data: bytes, at: int, end: int, found: _Found) -> bool:
-        if not self._interfaces or end - at < 16:
-            raise self._wrong_packet(found)
+    def _simple_packet(self, data: bytes, at: int, end: int) -> Piece:
+        """The packet of a simple packet block, which is of the first interface and has no length of its own."""
+        if not self._interfaces or end - at < _BEFORE_SIMPLE + 4:
+            raise self._wrong_packet()
         interface = self._interfaces[0]
         whole: int = self._pair(data, at + 4)[1]
-        length = min(whole, interface.longest or whole, end - _BEHIND - at - 12)
+        length = min(whole, interface.longest or whole, end - at - _BEFORE_SIMPLE - 4)
         if length > LONGEST_PACKET:
             raise self._too_long(length)
-        return found.add(at + 12, length, (interface, 0, whole))
+        return self._piece(data, [at + _BEFORE_SIMPLE], [length], interface.link_type, pcapng.PCAPNG_BT_SPB)
 
-    def _wrong_packet(self, found: _Found) -> CaptureError:
-        return self.error(f"the block of packet {self.packets_read + len(found.starts) + 1:,} has not what it says")
+    def _wrong_packet(self) -> CaptureError:
+        return self.error(f"the block of {self._next_packet()} has not what it says")
 
     def _interface(self, block: bytes) -> _Interface:
         kind = pcapng.InterfaceDescriptionBlockLE if self._order == "<" else pcapng.InterfaceDescriptionBlock

@@ -14,7 +14,7 @@ from bpfhost.numbers import LONGEST_PACKET
 from bpfhost.packets import Packets
 
 # A capture is read by so many bytes: few enough to stay in the processor's cache until they are sent.
-_CHUNK = 1 << 17
+_CHUNK = 1 << 16
 # A piece has so many packets at most.
 MOST_PACKETS = 1024
 

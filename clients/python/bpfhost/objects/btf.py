@@ -122,11 +122,10 @@ class Function:
 
 @dataclass(frozen=True)
 class Variable:
-    """A variable; `is_static` where the linkage is, so that no other file sees it."""
+    """A variable."""
 
     name: str
     type: int
-    is_static: bool
 
 
 @dataclass(frozen=True)
@@ -320,7 +319,7 @@ def _function(record: _Record) -> Type:
 
 
 def _variable(record: _Record) -> Type:
-    return Variable(record.name, record.size, record.word() == 0)
+    return Variable(record.name, record.size)
 
 
 def _data_section(record: _Record) -> Type:

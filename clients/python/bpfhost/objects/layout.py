@@ -44,7 +44,7 @@ def resolve_id(btf: Btf, type_id: int) -> int:
 
 def size_of(btf: Btf, type_id: int) -> int:
     """The size of a type's values, in bytes. An ObjectError where the type has no values: void, functions, forward declarations."""
-    count = 1
+    first, count = type_id, 1
     for _ in range(DEEPEST + 1):
         found = resolve(btf, type_id)
         match found:
@@ -58,7 +58,7 @@ def size_of(btf: Btf, type_id: int) -> int:
                 pass
             case _:
                 raise ObjectError(f"the type {spelling(btf, type_id)} has no size")
-    raise ObjectError(f"type {type_id} of section .BTF is nested more than {DEEPEST} times")
+    raise ObjectError(f"type {first} of section .BTF is nested more than {DEEPEST} times")
 
 
 def spelling(btf: Btf, type_id: int) -> str:

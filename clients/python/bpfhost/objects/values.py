@@ -67,20 +67,21 @@ def decode(btf: Btf, type_id: int, data: bytes) -> Value:
     size = size_of(btf, type_id)
     if len(data) < size:
         raise ObjectError(f"a value of type {spelling(btf, type_id)} has {size} bytes, and there are {len(data)}")
-    return _Decoder(btf, data).value(type_id, 0, DEEPEST)
+    return _Decoder(btf, type_id, data).value(type_id, 0, DEEPEST)
 
 
 @dataclass
 class _Decoder:
-    """Reads values at offsets of the same bytes, and counts them."""
+    """Reads the parts of one value at their offsets, and counts them."""
 
     btf: Btf
+    whole: int
     data: bytes
     left: int = MOST_PARTS
 
     def value(self, type_id: int, at: int, depth: int) -> Value:
         """The value of a type at an offset in bytes, with so many types in one another at most."""
-        self._count(type_id, depth)
+        self._count(depth)
         found = resolve(self.btf, type_id)
         match found:
             case Int():
@@ -102,10 +103,10 @@ class _Decoder:
                 return self.value(target, at, depth - 1)
         raise ObjectError(f"the type {spelling(self.btf, type_id)} has no values")
 
-    def _count(self, type_id: int, depth: int) -> None:
+    def _count(self, depth: int) -> None:
         self.left -= 1
         if depth < 0 or self.left < 0:
-            raise ObjectError(f"the type {spelling(self.btf, type_id)} has too many parts to be shown")
+            raise ObjectError(f"the type {spelling(self.btf, self.whole)} has too many parts to be shown")
 
     def _array(self, found: Array, at: int, depth: int) -> Value:
         size = size_of(self.btf, found.element)
@@ -133,7 +134,7 @@ class _Decoder:
         found = resolve(self.btf, member.type)
         if not member.bits and member.bit_offset % 8 == 0:
             return self.value(member.type, at + member.bit_offset // 8, depth - 1)
-        self._count(member.type, depth)
+        self._count(depth)
         first = 8 * at + member.bit_offset
         match found:
             case Int():

@@ -68,10 +68,7 @@ def _type_of(btf: Btf | None, section: Section) -> int | None:
 
 
 def with_places(btf: Btf, elf: ElfObject) -> Btf:
-    """The types with the sizes of sections and the places of variables, which compilers leave to who loads the object.
-
-    A variable that other files see has its place from its symbol; that of a static one stands in the type.
-    """
+    """The types with the sizes of sections and the places of variables, which compilers leave to who loads the object."""
     types = list(btf.types)
     for section in elf.sections:
         found = btf.section(section.name) if is_of_variables(section) else None
@@ -82,8 +79,10 @@ def with_places(btf: Btf, elf: ElfObject) -> Btf:
 
 
 def _placed(btf: Btf, elf: ElfObject, section: Section, described: DataSection) -> DataSection:
-    places = {symbol.name: symbol.value for symbol in elf.symbols_of(section) if not symbol.local}
-    variables = [_place(btf, section, each, places) for each in described.variables]
+    places: dict[str, list[int]] = {}
+    for symbol in elf.symbols_of(section):
+        places.setdefault(symbol.name, []).append(symbol.value)
+    variables = [placed for each in described.variables for placed in _place(btf, section, each, places)]
     return replace(described, size=section.size, variables=tuple(sorted(variables, key=_offset)))
 
 
@@ -91,14 +90,21 @@ def _offset(each: Placed) -> int:
     return each.offset
 
 
-def _place(btf: Btf, section: Section, each: Placed, places: dict[str, int]) -> Placed:
+def _place(btf: Btf, section: Section, each: Placed, places: dict[str, list[int]]) -> list[Placed]:
+    """A variable where its symbol is; nothing where the section has no such symbol.
+
+    A static variable's place stands in the type too, and counts where several have one name. Clang describes constant strings
+    as variables of .rodata, though they and their symbols are in .rodata.str1.1.
+    """
     variable = btf.type(each.variable)
     if not isinstance(variable, Variable):
         raise ObjectError(f"section .BTF has something else than a variable in section {section.name}")
-    offset = each.offset if variable.is_static else places.get(variable.name, each.offset)
+    known = places.get(variable.name)
+    if not known:
+        return []
+    offset = each.offset if each.offset in known else known[0]
     size = size_of(btf, variable.type)
     if offset + size > section.size:
-        raise ObjectError(
-            f"variable {variable.name} ends at byte {offset + size} of section {section.name}, and there are {section.size}"
-        )
-    return replace(each, offset=offset, size=size)
+        end = f"ends at byte {offset + size} of section {section.name}"
+        raise ObjectError(f"variable {variable.name} {end}, and there are {section.size}")
+    return [replace(each, offset=offset, size=size)]

@@ -247,7 +247,8 @@ class Built(unittest.TestCase):
         self.refused(array, bytes(8), "type 3 of section .BTF is nested more than 32 times")
         self.refused(struct, bytes(8), "the type struct itself has too many parts to be shown")
         types = self.types()
-        for type_id in (1, 2, 3, 4):
+        self.assertEqual([types.name(1), types.name(2)], ["one", "two"])
+        for type_id in (3, 4):
             self.assertRaises(ObjectError, types.name, type_id)
 
     def test_too_many_parts(self) -> None:

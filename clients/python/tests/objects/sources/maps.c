@@ -5,7 +5,7 @@
 struct flow {
     __u32 source, destination;
     __u16 ports[2];
-    __u8 protocol;
+    __u8 protocol, zeros[3];
 };
 
 struct {
@@ -35,13 +35,13 @@ SEC("socket") int count(struct __sk_buff *skb)
 {
     struct flow flow = { .source = skb->mark };
     __u64 one = 1, *found = bpf_map_lookup_elem(&flows, &flow);
-    __u32 index = 2;
+    __u32 index = 2, result = 0;
     if (found)
-        *found += 1;
+        result = *found += 1;
     else
         bpf_map_update_elem(&flows, &flow, &one, 1);
     __u64 *sum = bpf_map_lookup_elem(&sized, &index);
     if (sum)
         sum[2] += skb->len;
-    return found ? *found : 0;
+    return result;
 }

@@ -11,6 +11,13 @@ from bpfhost.objects.errors import ObjectError
 LONGEST_NAME = 1024
 
 
+def printable(name: str) -> str:
+    """A name with an escape in place of each character that is not printable: names come to terminals."""
+    if name.isprintable():
+        return name
+    return "".join(each if each.isprintable() else each.encode("unicode_escape").decode() for each in name)
+
+
 @dataclass(frozen=True)
 class ByteReader:
     """Reads little-endian numbers at offsets; what lies outside the bytes is an ObjectError that has `name`."""
@@ -34,16 +41,17 @@ class ByteReader:
         return ByteReader(self.data[at : at + size], name)
 
     def string(self, at: int) -> str:
-        """The string that begins here and ends before a zero byte; what is not UTF-8 is replaced."""
+        """The string that begins here and ends before a zero byte, as `printable` gives it; what is not UTF-8 is replaced."""
         end = self._end(at)
         if end < 0:
             raise ObjectError(f"the string at offset {at} of {self.name} has no end, or more than {LONGEST_NAME:,} bytes")
-        return self.data[at:end].decode(errors="replace")
+        return printable(self.data[at:end].decode(errors="replace"))
 
     def cut_string(self, at: int) -> str:
-        """As `string`, but a string that is too long is cut."""
+        """As `string`, but a string that is too long is cut, and each tab is a space."""
         end = self._end(at)
-        return self.data[at : end if end >= 0 else at + LONGEST_NAME].decode(errors="replace")
+        found = self.data[at : end if end >= 0 else at + LONGEST_NAME].decode(errors="replace")
+        return printable(found.replace("\t", " "))
 
     def _end(self, at: int) -> int:
         self.check(at, 1)

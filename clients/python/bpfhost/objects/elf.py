@@ -14,7 +14,7 @@ from functools import cached_property
 from typing import Any
 
 from bpfhost.errors import MissingPackage
-from bpfhost.objects.byte_reader import LONGEST_NAME
+from bpfhost.objects.byte_reader import LONGEST_NAME, printable
 from bpfhost.objects.errors import ObjectError
 
 # No file is read that is larger, or has more sections: no compiler writes such an object.
@@ -240,7 +240,7 @@ def _section(content: bytes, reader: Any, index: int, size_of_names: int) -> Sec
     header = read.header
     section = Section(
         index=index,
-        name=read.name,
+        name=printable(read.name),
         kind=str(header["sh_type"]),
         flags=header["sh_flags"],
         offset=header["sh_offset"],
@@ -275,11 +275,11 @@ def _symbol(content: bytes, table: Any, number: int, names: Section, sections: t
     read = _told(f"symbol {number}", lambda: table.get_symbol(number))
     where = read["st_shndx"]
     if isinstance(where, int) and where >= len(sections):
-        raise ObjectError(f"symbol {read.name or number} is in section {where}, and there are {len(sections)}")
+        raise ObjectError(f"symbol {printable(read.name) or number} is in section {where}, and there are {len(sections)}")
     kind = str(read["st_info"]["type"])
     section = where if isinstance(where, int) else None
     return Symbol(
-        name=sections[section].name if kind == "STT_SECTION" and section is not None else read.name,
+        name=sections[section].name if kind == "STT_SECTION" and section is not None else printable(read.name),
         kind=kind,
         local=read["st_info"]["bind"] == "STB_LOCAL",
         value=read["st_value"],

@@ -149,6 +149,14 @@ class Built(ObjectTest):
         builder.names.data += b"unended"
         self.assertEqual(self.refused(builder.to_bytes()), "section .strtab is damaged: its last string has no end")
 
+    def test_names_for_terminals(self) -> None:
+        builder = good()
+        builder.symbol("f\n\x1b[2J", builder.program("a\tb", "8500000005000000"), 0, 8)
+        self.assertEqual(
+            self.refused(builder.to_bytes()),
+            r"function f\n\x1b[2J in section a\tb calls helper 5, and the host has 1, 2, 3 and 26, at slot 0",
+        )
+
     def test_kinds_of_sections(self) -> None:
         """A section of a kind that is nothing to this package is left alone, or tells that it is damaged."""
         for kind in (*range(2, 20), 0x6FFFFFF6, 0x6FFFFFFD, 0x6FFFFFFE, 0x6FFFFFFF, 0x70000003):

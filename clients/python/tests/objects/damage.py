@@ -1,0 +1,212 @@
+"""Damages objects and loads them: each ends in a sentence or in a load, within seconds.
+
+usage: python3 -m tests.objects.damage [--count N] [--seed N] [--checks N]   (in clients/python)
+
+It takes the objects of `sources`, where a clang compiles for BPF, and one that is built. In each it flips bits, writes other
+bytes, clears, cuts, or repeats a range, most often in the parts that are read: headers, symbols, relocations, types, lines,
+code. Of what is loaded all is tried: slots with descriptors, lines, values in their types. `--checks` gives that many to the
+command `check` too, which asks the program of the variable BPFHOST. An object that is not treated so is kept, and named.
+"""
+
+from __future__ import annotations
+
+import argparse
+import contextlib
+import io
+import os
+import random
+import signal
+import sys
+import tempfile
+from collections import Counter
+from collections.abc import Iterator
+from dataclasses import dataclass
+from pathlib import Path
+
+from bpfhost.command import main as command
+from bpfhost.objects import ObjectError, ObjectFile, load_object
+from bpfhost.objects.elf import read_elf
+from tests.objects.btf_builder import BtfBuilder
+from tests.objects.common import SOURCES, clang, compile_object
+from tests.objects.elf_builder import OBJECT, SECTION, ElfBuilder
+
+# An object that takes longer hangs.
+SECONDS = 20
+_READ = (".symtab", ".strtab", ".BTF", ".BTF.ext", ".maps", "maps", ".data", ".rodata", ".bss", "socket")
+
+
+@dataclass(frozen=True)
+class Original:
+    """A good object, and the ranges of its bytes that matter."""
+
+    name: str
+    content: bytes
+    ranges: tuple[range, ...]
+
+    @classmethod
+    def of(cls, path: Path, name: str) -> Original:
+        """The object of a file."""
+        elf = read_elf(path)
+        ranges = [range(0, 64), range(int.from_bytes(elf.content[40:48], "little"), len(elf.content)), range(len(elf.content))]
+        for section in elf.sections:
+            is_read = section.name in _READ or section.name.startswith(".rel") and not section.name.startswith(".rel.debug")
+            if is_read and section.kind != "SHT_NOBITS" and section.size:
+                ranges.append(range(section.offset, section.offset + section.size))
+        return cls(name, elf.content, tuple(ranges))
+
+
+def built() -> bytes:
+    """An object with types and variables that needs no compiler."""
+    types = BtfBuilder()
+    word = types.integer("unsigned int", 4)
+    variable = types.record(14, "number", word, 1)
+    types.record(15, ".data", 0, variable, 0, 4, count=1)
+    builder = ElfBuilder()
+    section = builder.program("socket", "1801000000000000 0000000000000000 6110000000000000 9500000000000000")
+    builder.symbol("f", section, 0, 32)
+    data = builder.section(".data", b"\5\0\0\0")
+    builder.symbol("number", data, 0, 4, OBJECT)
+    builder.section(".BTF", types.to_bytes(), 0)
+    builder.relocations(section, (0, 1, builder.symbol("", data, kind=SECTION)))
+    return builder.to_bytes()
+
+
+def originals(scratch: Path) -> list[Original]:
+    """The objects that are damaged."""
+    path = scratch / "built.o"
+    path.write_bytes(built())
+    found = [Original.of(path, "built")]
+    for source in sorted(SOURCES.glob("*.c")) if clang() else ():
+        found.append(Original.of(compile_object(source, scratch / f"{source.stem}.o"), source.stem))
+    return found
+
+
+def damaged(original: Original, chance: random.Random) -> bytes:
+    """The object with some damage."""
+    content = bytearray(original.content)
+    for _ in range(chance.choice((1, 1, 1, 2, 3, 8))):
+        if not content:
+            break
+        place = chance.choice(original.ranges)
+        at = min(chance.choice(place), len(content) - 1)
+        _damage(content, at, chance)
+    return bytes(content)
+
+
+def _damage(content: bytearray, at: int, chance: random.Random) -> None:
+    """Does one thing to the bytes from a place on."""
+    size = chance.choice((1, 2, 4, 8))
+    match chance.randrange(8):
+        case 0 | 1 | 2:
+            content[at] ^= 1 << chance.randrange(8)
+        case 3:
+            content[at : at + size] = chance.randbytes(size)[: len(content) - at]
+        case 4:
+            content[at : at + size] = chance.choice((b"\0", b"\xff", b"\x7f", b"\x80")) * min(size, len(content) - at)
+        case 5:
+            # Small numbers lead into other records more often than wild ones.
+            content[at] = chance.randrange(32)
+        case 6:
+            other = chance.randrange(len(content))
+            content[at : at + size] = content[other : other + size]
+        case _:
+            del content[at if chance.random() < 0.5 else at + 1 + chance.randrange(len(content) - at) :]
+
+
+def try_all(found: ObjectFile) -> None:
+    """Tries all that a loaded object can do. An ObjectError is an answer; another exception is none."""
+    descriptors = list(range(3, 3 + len(found.maps)))
+    for program in found.programs:
+        slots = program.linked(descriptors)
+        assert len(slots) == len(program.slots) and len(slots) % 8 == 0
+        for slot in range(len(slots) // 8):
+            program.line_of(slot)
+    for each in found.maps:
+        for type_id, data in ((each.key_type, bytes(each.key_size)), (each.value_type, each.initial or bytes(each.value_size))):
+            if found.types and type_id is not None:
+                with contextlib.suppress(ObjectError):
+                    found.types.show(type_id, data)
+                    found.types.plain(type_id, data)
+                    found.types.name(type_id)
+
+
+class Hangs(BaseException):
+    """What is no Exception, so that nothing that catches those takes it for an answer."""
+
+
+def _hangs(_number: int, _frame: object) -> None:
+    raise Hangs(f"it takes longer than {SECONDS} seconds")
+
+
+@contextlib.contextmanager
+def limit() -> Iterator[None]:
+    """Ends what takes too long."""
+    before = signal.signal(signal.SIGALRM, _hangs)
+    left = signal.alarm(SECONDS)
+    try:
+        yield
+    finally:
+        signal.alarm(0)
+        signal.signal(signal.SIGALRM, before)
+        signal.alarm(left)
+
+
+def outcome_of(path: Path) -> str:
+    """What comes of loading an object: `loaded`, or `refused` with a sentence."""
+    with limit():
+        try:
+            found = load_object(path)
+        except ObjectError as error:
+            sentence = str(error)
+            assert sentence.startswith(f"{path}: ") and len(sentence.splitlines()) == 1, sentence
+            return "refused"
+        try_all(found)
+        return "loaded"
+
+
+def outcome_of_check(path: Path, program: str) -> str:
+    """What comes of the command `check`, with its status. Its errors are one sentence."""
+    written, errors = io.StringIO(), io.StringIO()
+    with limit(), contextlib.redirect_stdout(written), contextlib.redirect_stderr(errors):
+        status = command(["check", "--bpfhost", program, str(path)])
+    assert status in (0, 1), (status, errors.getvalue())
+    assert len(errors.getvalue().splitlines()) <= 1 and "Traceback" not in errors.getvalue(), errors.getvalue()
+    return f"check with status {status}"
+
+
+def run(count: int, seed: int, checks: int, program: str) -> Counter[str]:
+    """Damages so many objects, gives so many of them to `check`, and counts what came of them."""
+    chance = random.Random(seed)
+    counts: Counter[str] = Counter()
+    with tempfile.TemporaryDirectory() as folder:
+        scratch = Path(folder)
+        good = originals(scratch)
+        for number in range(count):
+            original = chance.choice(good)
+            path = scratch / "damaged.o"
+            path.write_bytes(damaged(original, chance))
+            try:
+                counts[outcome_of(path)] += 1
+                if number < checks:
+                    counts[outcome_of_check(path, program)] += 1
+            except BaseException as error:
+                kept = Path(tempfile.gettempdir()) / f"damaged-{original.name}-{seed}-{number}.o"
+                kept.write_bytes(path.read_bytes())
+                raise AssertionError(f"object {number} of seed {seed}, of {original.name}, kept as {kept}: {error!r}") from error
+    return counts
+
+
+def main() -> int:
+    """The command."""
+    parser = argparse.ArgumentParser(prog="damage", description="Damages objects and loads them.")
+    parser.add_argument("--count", type=int, default=5000, help="so many objects")
+    parser.add_argument("--seed", type=int, default=1, help="of the random numbers")
+    parser.add_argument("--checks", type=int, default=0, help="so many of them for the command check")
+    said = parser.parse_args()
+    counts = run(said.count, said.seed, said.checks, os.environ.get("BPFHOST", ""))
+    print(", ".join(f"{count} {what}" for what, count in sorted(counts.items())))
+    return 0
+
+
+if __name__ == "__main__":
+    sys.exit(main())

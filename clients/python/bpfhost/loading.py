@@ -2,12 +2,11 @@
 
 from __future__ import annotations
 
-import os
 from dataclasses import dataclass
 
 from bpfhost.errors import InputError, ProgramRefused, Refused, SourceRefused
 from bpfhost.maps import Map
-from bpfhost.objects import ObjectFile, ObjectMap, ObjectProgram, SourceLine
+from bpfhost.objects import ObjectFile, ObjectMap, ObjectProgram
 from bpfhost.program import MapShape, verifier_log
 from bpfhost.runs import TestRuns
 from bpfhost.tenant import Tenant
@@ -27,14 +26,7 @@ def place(object_file: ObjectFile, program: ObjectProgram, slot: int) -> str:
     line = program.line_of(slot)
     if line is None:
         return f"{object_file.path}: {program.name} in section {program.section}"
-    return source_of(line)
-
-
-def source_of(line: SourceLine) -> str:
-    """A line of the source as compilers tell it; its file as seen from the working directory, where it lies there."""
-    file = os.path.normpath(line.file)
-    here = os.path.join(os.getcwd(), "")
-    return f"{file.removeprefix(here)}:{line.line}: {line.text.strip()}".removesuffix(": ")
+    return str(line)
 
 
 def shape_of(declared: ObjectMap) -> MapShape:

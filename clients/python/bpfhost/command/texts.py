@@ -80,12 +80,10 @@ def _dis_object(said: argparse.Namespace, program: str) -> int:
     if not said.file:
         raise InputError("an object is read from a file that is named, and not from standard input")
     object_file = read_object(said.file)
-    from bpfhost.loading import source_of
-
     for each in object_file.programs:
         print(f"// {each.name}, section {each.section}")
         text = _text_of(program, each.linked(first_descriptors(object_file)), said.file)
-        sys.stdout.write(_with_sources(text, {line.slot: f"// {source_of(line)}\n" for line in each.lines}))
+        sys.stdout.write(_with_sources(text, {line.slot: f"// {line}\n" for line in each.lines}))
     return 0
 
 

@@ -91,6 +91,9 @@ def _symbols(elf: ElfObject, section: Section) -> list[Symbol]:
 
 # By BTF.
 
+_OTHERS = ("map_flags", "pinning", "numa_node", "map_extra")
+_NUMBERS = ("type", "key_size", "value_size", "max_entries", *_OTHERS)
+
 
 def _by_btf(elf: ElfObject, btf: Btf | None, section: Section) -> Iterator[DefinedMap]:
     if btf is None:
@@ -126,9 +129,7 @@ class _Attributes:
         """The map that the members describe."""
         for member in found.members:
             self._add(member)
-        for needless in ("map_flags", "pinning", "numa_node", "map_extra"):
-            if self._numbers.get(needless):
-                raise ObjectError(f"{self._where} has {needless} {self._numbers[needless]}, and the host has none")
+        self._refuse_others()
         if "type" not in self._numbers:
             raise ObjectError(f"{self._where} has no type")
         declared = ObjectMap(
@@ -142,6 +143,12 @@ class _Attributes:
             initial=None,
         )
         return check_map(declared, self._where)
+
+    def _refuse_others(self) -> None:
+        """What the host's maps do not have may be told, as 0."""
+        for name in _OTHERS:
+            if self._numbers.get(name):
+                raise ObjectError(f"{self._where} has {name} {self._numbers[name]}, and the host has none")
 
     def _add(self, member: Member) -> None:
         if member.name in ("key", "value"):
@@ -181,9 +188,6 @@ class _Attributes:
             return size_of(self._btf, self._types[what])
         except ObjectError as error:
             raise ObjectError(f"{self._where}: its {what} has no size, for {error}") from error
-
-
-_NUMBERS = ("type", "key_size", "value_size", "max_entries", "map_flags", "pinning", "numa_node", "map_extra")
 
 
 # By struct bpf_map_def.

@@ -209,17 +209,9 @@ def _sections(content: bytes, reader: Any) -> tuple[Section, ...]:
     if reader["e_shentsize"] != _SECTION_HEADER:
         raise ObjectError(f"a section's header has {reader['e_shentsize']} bytes, and not {_SECTION_HEADER}")
     _check_range(content, "the table of sections", reader["e_shoff"], count * _SECTION_HEADER)
-    names = _told("the table of sections", lambda: _header_at(reader, reader.get_shstrndx(), count))
+    names = _told("the table of section names", lambda: reader.get_section(reader.get_shstrndx()))
     _check_names(content, "the table of section names", names["sh_offset"], names["sh_size"])
     return tuple(_section(content, reader, index, names["sh_size"]) for index in range(count))
-
-
-def _header_at(reader: Any, index: int, count: int) -> Any:
-    """The header of the section with the sections' names, which the library has read and keeps to itself."""
-    if index >= count:
-        raise IndexError(index)
-    reader.stream.seek(reader["e_shoff"] + index * _SECTION_HEADER)
-    return reader.structs.Elf_Shdr.parse_stream(reader.stream)
 
 
 def _check_names(content: bytes, part: str, offset: int, size: int) -> None:

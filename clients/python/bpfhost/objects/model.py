@@ -2,6 +2,7 @@
 
 from __future__ import annotations
 
+import os
 from bisect import bisect_right
 from collections.abc import Sequence
 from dataclasses import dataclass
@@ -12,13 +13,27 @@ from bpfhost.objects.types import Types
 
 @dataclass(frozen=True)
 class SourceLine:
-    """The line of the source that the instructions from a slot on are of; slots count from the program's first."""
+    """The line of the source that the instructions from a slot on are of; slots count from the program's first.
+
+    `file` is as the compiler was told it, most often a whole path, and `column` counts from 1.
+    """
 
     slot: int
     file: str
     line: int
     column: int
     text: str
+
+    def __str__(self) -> str:
+        """The line as compilers tell it, as `filter.c:23: return table[i];`; its file as seen from the working directory, where it is there."""
+        file = os.path.normpath(self.file).removeprefix(os.path.join(os.getcwd(), ""))
+        return f"{file}:{self.line}: {self.text}".removesuffix(": ")
+
+
+def line_at(lines: Sequence[SourceLine], slot: int) -> SourceLine | None:
+    """The last of some lines, in the order of their slots, that begins at the slot or before it; None where none does."""
+    behind = bisect_right(lines, slot, key=lambda line: line.slot)
+    return lines[behind - 1] if behind else None
 
 
 @dataclass(frozen=True)
@@ -59,11 +74,10 @@ class ObjectProgram:
 
     def line_of(self, slot: int) -> SourceLine | None:
         """The last line that begins at the slot or before it, or None where none does."""
-        behind = bisect_right(self.lines, slot, key=lambda line: line.slot)
-        return self.lines[behind - 1] if behind else None
+        return line_at(self.lines, slot)
 
     def linked(self, descriptors: Sequence[int]) -> bytes:
-        """The slots with the descriptors of the object's maps, in the order of `ObjectFile.maps`."""
+        """The slots with the descriptors of the object's maps, one for each in the order of `ObjectFile.maps`."""
         slots = bytearray(self.slots)
         for each in self.map_slots:
             at = SLOT_SIZE * each.slot + 4

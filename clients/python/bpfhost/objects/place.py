@@ -2,12 +2,11 @@
 
 from __future__ import annotations
 
-from bisect import bisect_right
 from dataclasses import dataclass
 
 from bpfhost.objects.elf import Section, Symbol
 from bpfhost.objects.errors import ObjectError
-from bpfhost.objects.model import SourceLine
+from bpfhost.objects.model import SourceLine, line_at
 
 
 @dataclass(frozen=True)
@@ -31,15 +30,8 @@ class Place:
 
     def refused(self, slot: int, what: str) -> ObjectError:
         """The error that a slot does what the host does not have, with the line of the source where it is known."""
-        behind = bisect_right(self.lines, slot, key=slot_of_line)
-        line = self.lines[behind - 1] if behind else None
-        source = f" ({line.file}:{line.line}: {line.text})" if line else ""
-        return ObjectError(f"{self} {what}, at slot {slot}{source}")
+        line = line_at(self.lines, slot)
+        return ObjectError(f"{self} {what}, at slot {slot}{f' ({line})' if line else ''}")
 
     def __str__(self) -> str:
         return f"function {self.function.name} in section {self.section.name}"
-
-
-def slot_of_line(line: SourceLine) -> int:
-    """The slot at which a line begins."""
-    return line.slot

@@ -6,9 +6,10 @@ so is no program of its own.
 
 from __future__ import annotations
 
-from bisect import bisect_left
+from bisect import bisect_left, bisect_right
 from collections.abc import Callable, Sequence
 from dataclasses import dataclass
+from itertools import accumulate
 from typing import TypeVar
 
 from bpfhost.numbers import SLOT_SIZE
@@ -106,14 +107,17 @@ class _Section:
 
 def _check_owners(section: Section, functions: Sequence[Symbol], relocations: Sequence[Relocation]) -> None:
     """Each relocation is in a function."""
-    at = end = 0
+    begins = [function.value for function in functions]
+    ends: list[int] = list(accumulate([function.value + function.size for function in functions], _further))
     for relocation in relocations:
-        while at < len(functions) and functions[at].value <= relocation.offset:
-            end = max(end, functions[at].value + functions[at].size)
-            at += 1
-        if relocation.offset >= end:
+        before = bisect_right(begins, relocation.offset)
+        if not before or relocation.offset >= ends[before - 1]:
             name = relocation.symbol.name or "without a name"
             raise ObjectError(f"a relocation for symbol {name} is at offset {relocation.offset} of section {section.name}, in no function")
+
+
+def _further(end: int, other: int) -> int:
+    return max(end, other)
 
 
 def _between(rows: Sequence[_Row], begin: int, end: int, key: Callable[[_Row], int]) -> Sequence[_Row]:

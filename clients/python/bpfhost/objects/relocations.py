@@ -65,7 +65,7 @@ class Linker:
             why = _NO_PLACE.get(symbol.place, "is not defined in the object")
             raise place.refused(slot, f"loads the address of {symbol.name}, which {why}")
         section = self.elf.sections[symbol.section]
-        offset = (symbol.value + wide_number(slots, slot)) % (1 << 64)
+        offset = (symbol.value + _wide_number(slots, slot)) % (1 << 64)
         if section.name in MAP_SECTIONS:
             return self._map(place, slots, slot, section, offset, symbol)
         return self._variable(place, slots, slot, section, offset, symbol)
@@ -99,7 +99,7 @@ def _address_in(section: Section, offset: int, symbol: Symbol) -> str:
     return f"{name}, at offset {signed} of section {section.name}"
 
 
-def wide_number(slots: bytes | bytearray, slot: int) -> int:
+def _wide_number(slots: bytes | bytearray, slot: int) -> int:
     """The number of a wide load: its low half stands in the first slot, its high half in the second."""
     at = SLOT_SIZE * slot
     return int.from_bytes(slots[at + 4 : at + 8] + slots[at + 12 : at + 16], "little")

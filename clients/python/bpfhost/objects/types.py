@@ -5,7 +5,7 @@ from __future__ import annotations
 from dataclasses import dataclass
 
 from bpfhost.objects.btf import Btf
-from bpfhost.objects.layout import size_of, spelling
+from bpfhost.objects.layout import spelling
 from bpfhost.objects.values import decode, plain, text
 
 
@@ -29,7 +29,3 @@ class Types:
     def name(self, type_id: int) -> str:
         """The type as C spells it; an ObjectError where there is none."""
         return spelling(self.btf, type_id)
-
-    def size(self, type_id: int) -> int:
-        """The bytes of a value; an ObjectError where the type has no values."""
-        return size_of(self.btf, type_id)

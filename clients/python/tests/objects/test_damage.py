@@ -10,8 +10,8 @@ from tests.objects.damage import built, outcome_of, run
 
 class Damaged(ObjectTest):
     def test_each_ends_in_a_sentence_or_a_load(self) -> None:
-        counts = run(1000, 37, 40 if PROGRAM else 0, PROGRAM)
-        self.assertEqual(counts["refused"] + counts["loaded"], 1000)
+        counts = run(600, 37, 30 if PROGRAM else 0, PROGRAM)
+        self.assertEqual(counts["refused"] + counts["loaded"], 600)
         # Damage that is never noticed, or always, would try little.
         self.assertGreater(counts["refused"], 100)
         self.assertGreater(counts["loaded"], 100)

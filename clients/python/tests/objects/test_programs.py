@@ -2,7 +2,7 @@
 
 from __future__ import annotations
 
-from bpfhost.objects import MapSlot
+from bpfhost.objects import MapSlot, load_object
 from tests.objects.common import ClangTest, ObjectTest
 from tests.objects.elf_builder import ALLOC, EXECINSTR, SECTION, ElfBuilder
 
@@ -141,8 +141,6 @@ class Built(ObjectTest):
         builder = ElfBuilder()
         builder.symbol("f", builder.program("socket", NONE * 2048), 0, 16 * 2048)
         path = self.written(builder.to_bytes())
-        from bpfhost.objects import load_object
-
         self.assertEqual(len(load_object(path).programs[0].slots), 8 * 4096)
 
     def test_instructions_without_a_function(self) -> None:
@@ -165,8 +163,6 @@ class Built(ObjectTest):
         self.assertEqual(self.built("85000000ffffffff"), f"{where} calls helper -1, and the host has 1, 2, 3 and 26, at slot 0")
 
     def test_second_slots_are_no_instructions(self) -> None:
-        from bpfhost.objects import load_object
-
         builder = ElfBuilder()
         slots = "1800000000000000 8500000005000000 9500000000000000"
         builder.symbol("f", builder.program("socket", slots), 0, 24)
@@ -206,8 +202,6 @@ class Relocations(ObjectTest):
         return self.refusal_of(self.written(builder.to_bytes()))
 
     def test_a_right_one(self) -> None:
-        from bpfhost.objects import load_object
-
         builder, section, _data, symbol = self.builder()
         builder.relocations(section, (0, 1, symbol))
         (program,) = load_object(self.written(builder.to_bytes())).programs
@@ -263,8 +257,6 @@ class Relocations(ObjectTest):
         self.assertIn("an address, at offset -8 of section .data", self.refused(builder))
 
     def test_before_a_variable(self) -> None:
-        from bpfhost.objects import load_object
-
         builder, section, data, _symbol = self.builder("18010000f8ffffff 00000000ffffffff 9500000000000000")
         builder.relocations(section, (0, 1, builder.symbol("last", data, 12, 4, kind=1)))
         (program,) = load_object(self.written(builder.to_bytes())).programs
@@ -281,8 +273,6 @@ class Relocations(ObjectTest):
         self.assertEqual(self.refused(builder), "section .relsocket has relocations with addends, which clang does not write for BPF")
 
     def test_of_sections_that_are_not_loaded(self) -> None:
-        from bpfhost.objects import load_object
-
         builder, _section, _data, symbol = self.builder()
         builder.relocations(builder.section(".debug_info", bytes(16), 0), (0, 2, symbol), (99, 3, 2))
         builder.relocations(builder.section(".text", bytes(16), ALLOC | EXECINSTR), (0, 10, symbol))

@@ -1,7 +1,7 @@
 """Maps that an object defines: variables of the section .maps, by BTF, and of the section maps, as `struct bpf_map_def`.
 
-Source: libbpf's conventions: bpf_helpers.h (`__uint`, `__type`), parse_btf_map_def and bpf_object__init_user_maps of
-libbpf.c before version 1.0.
+Source: libbpf's conventions: bpf_helpers.h (`__uint`, `__type`) and parse_btf_map_def of libbpf.c; for the struct
+bpf_object__init_user_maps, which libbpf.c had before version 1.0.
 """
 
 from __future__ import annotations
@@ -49,11 +49,10 @@ _MAP_TYPES = {
 
 @dataclass(frozen=True)
 class DefinedMap:
-    """A map with the symbol that names it: its section, and the offset of its definition there."""
+    """A map with the place that relocations name: the number of a section, and an offset in bytes there."""
 
     section: int
     offset: int
-    size: int
     map: ObjectMap
 
 
@@ -106,7 +105,7 @@ def _by_btf(elf: ElfObject, btf: Btf | None, section: Section) -> Iterator[Defin
         found = resolve(btf, variables[symbol.name].type)
         if not isinstance(found, Composite) or found.is_union:
             raise ObjectError(f"{where} is no struct")
-        yield DefinedMap(section.index, symbol.value, symbol.size, _Attributes(btf, where).read(symbol.name, found))
+        yield DefinedMap(section.index, symbol.value, _Attributes(btf, where).read(symbol.name, found))
 
 
 def _variables(btf: Btf, name: str) -> dict[str, Variable]:
@@ -205,7 +204,7 @@ def _by_struct(elf: ElfObject, section: Section) -> Iterator[DefinedMap]:
         if symbol.value + symbol.size > len(data):
             raise ObjectError(f"{where} ends at byte {symbol.value + symbol.size}, and the section has {len(data)}")
         definition = data[symbol.value : symbol.value + symbol.size]
-        yield DefinedMap(section.index, symbol.value, symbol.size, _legacy(symbol.name, definition, where))
+        yield DefinedMap(section.index, symbol.value, _legacy(symbol.name, definition, where))
 
 
 def _legacy(name: str, definition: bytes, where: str) -> ObjectMap:

@@ -59,7 +59,6 @@ class Symbol:
 
     name: str
     kind: str
-    local: bool
     value: int
     size: int
     section: int | None
@@ -87,6 +86,8 @@ class ElfObject:
     def data(self, section: Section) -> bytes:
         """The section's bytes; zeros where the file has none of them (SHT_NOBITS)."""
         if section.kind == "SHT_NOBITS":
+            if section.size > LARGEST_FILE:
+                raise ObjectError(f"section {section.name} has {section.size:,} bytes, and at most {LARGEST_FILE:,} are read")
             return bytes(section.size)
         if section.flags & _COMPRESSED:
             raise ObjectError(f"section {section.name} is compressed")
@@ -240,7 +241,7 @@ def _section(content: bytes, reader: Any, index: int, size_of_names: int) -> Sec
         link=header["sh_link"],
         info=header["sh_info"],
     )
-    if section.kind not in ("SHT_NOBITS", "SHT_NULL"):
+    if section.kind != "SHT_NOBITS":
         _check_range(content, f"section {section.name}", section.offset, section.size)
     return section
 
@@ -273,7 +274,6 @@ def _symbol(content: bytes, table: Any, number: int, names: Section, sections: t
     return Symbol(
         name=sections[section].name if kind == "STT_SECTION" and section is not None else printable(read.name),
         kind=kind,
-        local=read["st_info"]["bind"] == "STB_LOCAL",
         value=read["st_value"],
         size=read["st_size"],
         section=section,

@@ -25,7 +25,7 @@ class SourceLine:
     text: str
 
     def __str__(self) -> str:
-        """The line as compilers tell it, as `filter.c:23: return table[i];`; its file as seen from the working directory, where it is there."""
+        """The line as compilers tell it, as `filter.c:23: return table[i];`; a file in the working directory is seen from there."""
         file = os.path.normpath(self.file).removeprefix(os.path.join(os.getcwd(), ""))
         return f"{file}:{self.line}: {self.text}".removesuffix(": ")
 

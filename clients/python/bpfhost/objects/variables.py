@@ -1,7 +1,7 @@
 """Sections of global variables: each is an array of one element, whose value has the section's bytes.
 
-Source: libbpf's bpf_object__init_global_data_maps, and Documentation/bpf/libbpf/program_types.rst for the names; the host
-loads addresses in the value of such a map (docs/INSTRUCTIONS.md, "Wide loads").
+Source: bpf_object__init_global_data_maps of libbpf.c, and the names of sections there; the host loads addresses in the
+value of such a map (docs/INSTRUCTIONS.md, "Wide loads").
 """
 
 from __future__ import annotations
@@ -49,7 +49,7 @@ def _map(elf: ElfObject, btf: Btf | None, section: Section) -> DefinedMap:
         value_type=_type_of(btf, section),
         initial=elf.data(section),
     )
-    return DefinedMap(section.index, 0, section.size, check_map(declared, where))
+    return DefinedMap(section.index, 0, check_map(declared, where))
 
 
 def _refuse_addresses(elf: ElfObject, section: Section) -> None:

@@ -80,7 +80,7 @@ class Built(unittest.TestCase):
             self.told(self.section(self.rows(16, row, count=2))), f"{lines} has 28 bytes, and 32 bytes are to be read at offset 12"
         )
         self.assertIn("bytes are to be read at offset 12", self.told(self.section(self.rows(16, row, count=2**32 - 1))))
-        self.assertEqual(self.told(self.section(self.rows(16, row, name=99))), "strings has 24 bytes, and 1 bytes are to be read at offset 99")
+        self.assertIn("strings has 24 bytes, and 1 bytes", self.told(self.section(self.rows(16, row, name=99))))
         self.assertIn("strings has 24 bytes", self.told(self.section(self.rows(16, (0, 8, 99, 1)))))
         self.assertEqual(self.told(b"\x9f\xeb\1"), "section .BTF.ext has 3 bytes, and 8 bytes are to be read at offset 0")
 

@@ -273,6 +273,20 @@ class BuiltVariables(ObjectTest):
         builder.section(".bss", kind=NOBITS, size=2**63)
         self.assertIn("section .bss has 9,223,372,036,854,775,808 bytes of variables", self.refusal_of(self.written(builder.to_bytes())))
 
+    def test_huge_definitions(self) -> None:
+        for name in ("maps", ".BTF"):
+            builder = self.builder()
+            builder.symbol("m", builder.section(name, kind=NOBITS, size=2**63), 0, 2**63, OBJECT)
+            self.assertEqual(
+                self.refusal_of(self.written(builder.to_bytes())),
+                f"section {name} has 9,223,372,036,854,775,808 bytes, and at most 8,388,608 are read",
+            )
+
+    def test_null_sections_are_in_the_file_too(self) -> None:
+        builder = self.builder()
+        builder.section(".data", b"1234", kind=0, size=4000)
+        self.assertIn("section .data ends at byte", self.refusal_of(self.written(builder.to_bytes())))
+
     def test_compressed(self) -> None:
         builder = self.builder()
         builder.section(".data", bytes(64), ALLOC | 0x800)

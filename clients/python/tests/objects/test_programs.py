@@ -250,7 +250,8 @@ class Relocations(ObjectTest):
             builder.relocations(section, (0, 1, symbol))
             self.assertEqual(
                 self.refused(builder),
-                f"function f in section socket loads an address, at offset {offset} of section .data, and the section has 16 bytes, at slot 0",
+                f"function f in section socket loads an address, at offset {offset} of section .data, "
+                "and the section has 16 bytes, at slot 0",
             )
         builder, section, _data, symbol = self.builder("18010000f8ffffff 00000000ffffffff 9500000000000000")
         builder.relocations(section, (0, 1, symbol))

@@ -89,7 +89,7 @@ def main() -> None:
             (write_pcapng if said.pcapng else write_pcap)(file, lengths)
         client, host = measure(find_program(said.bpfhost), capture, lengths)
     print(f"{said.packets:,} packets: client {client:.2f} us a packet, host {host:.2f} us a packet, ratio {client / host:.2f}")
-    print(f"wanted of the client: less than {MICROSECONDS_WANTED:.2f} us a packet")
+    print(f"the client is to cost less than {MICROSECONDS_WANTED:.0f} us a packet beside the host")
 
 
 if __name__ == "__main__":

@@ -103,19 +103,21 @@ class PcapngCapture(Capture):
         """
         starts: list[int] = []
         lengths: list[int] = []
-        unpack, last, size, link_type = self._enhanced, len(data) - _AROUND, len(data), -1
-        link_types = [interface.link_type for interface in self._interfaces]
-        while at <= last and len(starts) < most:
+        unpack, size, link_type, interface = self._enhanced, len(data), -1, -1
+        link_types = [each.link_type for each in self._interfaces]
+        for _ in range(most):
+            if at + _AROUND > size:
+                break
             kind, block, number, length = unpack(data, at)
             end = at + block
             if kind != _ENHANCED or end > size or length > LONGEST_PACKET or block < _AROUND + length or block & 3:
                 break
-            if data[end - 4 : end] != data[at + 4 : at + 8] or number >= len(link_types):
+            if data[end - 4 : end] != data[at + 4 : at + 8]:
                 break
-            if link_types[number] != link_type:
-                if starts:
+            if number != interface:
+                if number >= len(link_types) or starts and link_types[number] != link_type:
                     break
-                link_type = link_types[number]
+                interface, link_type = number, link_types[number]
             starts.append(at + _BEFORE)
             lengths.append(length)
             at = end

@@ -4,7 +4,17 @@ README.md of this package shows how to use it; docs/PROTOCOL.md of the repositor
 """
 
 from bpfhost import frames
-from bpfhost.errors import BpfhostError, CaptureError, HostError, InputError, MissingPackage, ProgramRefused, Refused, ReplyError, SourceRefused
+from bpfhost.errors import (
+    BpfhostError,
+    CaptureError,
+    HostError,
+    InputError,
+    MissingPackage,
+    ProgramRefused,
+    Refused,
+    ReplyError,
+    SourceRefused,
+)
 from bpfhost.frames import Context
 from bpfhost.host import Host
 from bpfhost.maps import Map

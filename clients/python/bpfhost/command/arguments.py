@@ -49,9 +49,6 @@ def _parser() -> _Parser:
     return parser
 
 
-Words = "argparse._SubParsersAction[_Parser]"
-
-
 def _add_run(words: argparse._SubParsersAction[_Parser]) -> None:
     parser = words.add_parser("run", help="run a filter on every packet of a capture")
     parser.set_defaults(run=run.run)

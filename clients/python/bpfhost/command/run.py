@@ -11,7 +11,7 @@ from typing import TYPE_CHECKING
 
 from bpfhost.captures import open_capture
 from bpfhost.command.objects import read_object
-from bpfhost.errors import CaptureError, InputError
+from bpfhost.errors import InputError
 from bpfhost.host import Host
 from bpfhost.packets import ETHERNET
 from bpfhost.program import find_program

@@ -4,3 +4,4 @@ pub mod Steps
 pub mod Ends
 pub mod Laws
 pub mod Turns
+pub mod Rows

@@ -32,8 +32,6 @@ _PROTOCOL = slice(12, 16)
 _LEAST_TYPE, _ETH_P_802_2 = b"\x06\x00", b"\x00\x04"
 
 
-
-
 def _words(replies: bytes) -> array[int]:
     """The whole words of 32 bits at the front of bytes."""
     words = array("I", replies[: len(replies) // 4 * 4])

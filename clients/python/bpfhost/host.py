@@ -24,7 +24,7 @@ LONGEST_REPLY = REPLY_HEAD + LONGEST_PAYLOAD
 # A pipe of a system that does not tell its size is taken to hold so many bytes.
 _LEAST_PIPE = 4096
 # A batch of frames has about so many bytes at most.
-_SENT_AT_ONCE = 1 << 16
+_SENT_AT_ONCE = _READ_AT_ONCE = 1 << 16
 _SECONDS_TO_END = 5
 
 
@@ -51,7 +51,8 @@ class Host:
             raise HostError(f"{self.program} does not start: {error.strerror}") from error
         # Without a buffer, both pipes are raw files.
         self._frames, self._replies = cast(FileIO, self._process.stdin), cast(FileIO, self._process.stdout)
-        _widen(self._frames)
+        # The host seldom waits for the next batch of frames where the pipe holds several.
+        _widen(self._frames, 4 * _SENT_AT_ONCE)
         # So many bytes of replies may wait unread: the host finds room for each while it is sent to, and so goes on to read. It
         # is half of what the pipe holds, as a reply begins a new page where it does not fit into the last one.
         self.room = _pipe_size(self._replies) // 2
@@ -82,6 +83,16 @@ class Host:
         """
         for replies in self.pipelined(self._send_all, self._replies_to, _batches(frames, self.room // 2)):
             yield from replies
+
+    def ask_bytes(self, frames: Iterable[bytes]) -> Iterator[bytes]:
+        """The same as `ask_all`, with each reply as the bytes that the host wrote."""
+        for replies in self.pipelined(self._send_all, self._bytes_of_replies, _batches(frames, self.room // 2)):
+            yield from replies
+
+    def widen(self, size: int = 1 << 20) -> None:
+        """Lets more bytes of replies wait unread, where the system allows it, so that more frames are sent at once."""
+        _widen(self._replies, size)
+        self.room = _pipe_size(self._replies) // 2
 
     def pipelined(
         self, send: Callable[[Batch], None], receive: Callable[[Batch], Answer], batches: Iterable[Batch]
@@ -146,13 +157,31 @@ class Host:
     def _replies_to(self, frames: list[bytes]) -> list[Reply]:
         return [self.read_reply() for _ in frames]
 
+    def _bytes_of_replies(self, frames: list[bytes]) -> list[bytes]:
+        """So many replies, cut out of what is read at once."""
+        replies: list[bytes] = []
+        read, at = b"", 0
+        while len(replies) < len(frames):
+            end = at + 4 + (self._demand_reply(read[at : at + 4]) if at + 4 <= len(read) else 0)
+            if at + 4 < end <= len(read):
+                replies.append(read[at:end])
+                at = end
+            else:
+                read, at = read[at:] + self.read(_READ_AT_ONCE), 0
+        self.unread(read[at:])
+        return replies
+
     def read_reply(self) -> Reply:
         """Waits for a reply."""
         head = self.read_whole(4)
+        return next(read_replies(head + self.read_whole(self._demand_reply(head))))
+
+    def _demand_reply(self, head: bytes) -> int:
+        """The length that the first four bytes of a reply tell; a ReplyError where no reply has it."""
         length = int.from_bytes(head, "little")
         if not REPLY_HEAD <= 4 + length <= LONGEST_REPLY:
             raise ReplyError(f"{self.program} answers {head.hex()}, with which no reply begins")
-        return next(read_replies(head + self.read_whole(length)))
+        return length
 
     def close(self) -> None:
         """Ends the stream of frames, and the program with it; a HostError where its status is not 0."""
@@ -207,12 +236,12 @@ def _pipe_size(pipe: FileIO) -> int:
         return _LEAST_PIPE
 
 
-def _widen(pipe: FileIO) -> None:
-    """Lets a pipe hold several batches, where that is allowed, so that the host seldom waits for the next one."""
+def _widen(pipe: FileIO, size: int) -> None:
+    """Lets a pipe hold so many bytes, where that is allowed."""
     with contextlib.suppress(ImportError, AttributeError, OSError):
         import fcntl
 
-        fcntl.fcntl(pipe, fcntl.F_SETPIPE_SZ, 4 * _SENT_AT_ONCE)
+        fcntl.fcntl(pipe, fcntl.F_SETPIPE_SZ, size)
 
 
 def _whole(frame: bytes) -> bytes:

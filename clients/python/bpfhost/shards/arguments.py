@@ -1,0 +1,104 @@
+"""The words of the command."""
+
+from __future__ import annotations
+
+import argparse
+from collections.abc import Sequence
+from typing import NoReturn
+
+from bpfhost.shards.client import SECONDS
+from bpfhost.shards.directory import demand_name
+from bpfhost.shards.lease import SECONDS as LEASE_SECONDS
+from bpfhost.shards.names import PREFIX
+from bpfhost.shards.worker import Settings
+
+_ABOUT = "Serves customers by many hosts, behind Redis Streams (docs/SCALING.md)."
+_MOST_SHARD = (1 << 31) - 1
+
+
+class _Parser(argparse.ArgumentParser):
+    """Tells wrong words in one sentence, with the status 2."""
+
+    def error(self, message: str) -> NoReturn:
+        self.exit(2, f"bpfhost.shards: {message}\n")
+
+
+def _shard(word: str) -> int:
+    number = int(word)
+    if not 0 <= number <= _MOST_SHARD:
+        raise ValueError
+    return number
+
+
+_shard.__name__ = f"shard from 0 to {_MOST_SHARD}"
+
+
+def _name(word: str) -> str:
+    return demand_name(word)
+
+
+_name.__name__ = "name of 1 to 255 printable characters without spaces"
+
+
+def _seconds(word: str) -> float:
+    seconds = float(word)
+    if not 0.1 <= seconds <= 1e6:
+        raise ValueError
+    return seconds
+
+
+_seconds.__name__ = "number of seconds from 0.1 on"
+
+
+def _many(word: str) -> int:
+    many = int(word)
+    if many < 1:
+        raise ValueError
+    return many
+
+
+_many.__name__ = "number from 1 on"
+
+
+def _parser() -> _Parser:
+    parser = _Parser(prog="python3 -m bpfhost.shards", description=_ABOUT)
+    words = parser.add_subparsers(metavar="WORD", required=True, parser_class=_Parser, dest="word")
+    _add_worker(words)
+    client = words.add_parser("client", help="send the frames on standard input for a customer, and write their replies")
+    move = words.add_parser("move", help="move a customer to another shard; what was begun is ended")
+    remove = words.add_parser("remove", help="remove a customer, with all that it has")
+    for one in (client, move, remove):
+        one.add_argument("name", metavar="NAME", type=_name)
+        one.add_argument("--seconds", metavar="S", type=_seconds, default=SECONDS, help="how long to wait for a reply (30)")
+    move.add_argument("--to", metavar="SHARD", type=_shard, help="else the least loaded other one")
+    show = words.add_parser("show", help="show the shards, their workers, and where each customer is")
+    for one in (client, move, remove, show):
+        _add_redis(one, "the directory's Redis")
+    return parser
+
+
+def _add_worker(words: argparse._SubParsersAction[_Parser]) -> None:
+    usual = Settings()
+    parser = words.add_parser("worker", help="serve a shard until SIGTERM")
+    parser.add_argument("shard", metavar="SHARD", type=_shard)
+    _add_redis(parser, "the shard's Redis")
+    parser.add_argument("--directory", metavar="URL", help="the directory's Redis, where it is another one")
+    parser.add_argument("--bpfhost", metavar="PATH", help="the program; else that of the variable BPFHOST, of PATH, or of this clone")
+    parser.add_argument("--lease", metavar="S", type=_seconds, default=LEASE_SECONDS, help="the seconds of the lease (5)")
+    parser.add_argument(
+        "--snapshot-entries", metavar="N", type=_many, default=usual.snapshot_entries, help="calls between two snapshots (50000)"
+    )
+    parser.add_argument(
+        "--keep-replies", metavar="S", type=_seconds, default=usual.reply_seconds, help="how long replies stay that nobody has read (3600)"
+    )
+    parser.add_argument("--volatile", action="store_true", help="also on a Redis that may lose what it has answered")
+
+
+def _add_redis(parser: argparse.ArgumentParser, whose: str) -> None:
+    parser.add_argument("--redis", metavar="URL", help=f"{whose}; else that of the variable BPFHOST_REDIS, or of this machine")
+    parser.add_argument("--prefix", metavar="WORD", default=PREFIX, help="with which all keys begin (bpfhost)")
+
+
+def parse(words: Sequence[str] | None) -> argparse.Namespace:
+    """The words of the command; wrong ones end the process with the status 2."""
+    return _parser().parse_args(words)

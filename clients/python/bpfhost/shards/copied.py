@@ -1,0 +1,112 @@
+"""A second copy of a tenant, in which each live map has a descriptor.
+
+A map whose descriptor is closed lives on while a program keeps it, and no command reads it. So where a tenant has such a map, its
+frames are played once more on a host of their own, with one difference: a map is closed only when it ends. The numbers of descriptors
+then differ, so frames are sent with those of the copy, and a program is loaded when it is run, when all its maps are open. At most 16
+maps and 48 programs are open at once; so descriptors never run out. Each reply is compared with the one that the customer was given.
+"""
+
+from __future__ import annotations
+
+import struct
+from collections.abc import Iterable, Iterator
+
+from bpfhost import frames
+from bpfhost.host import Host
+from bpfhost.numbers import MOST_DESCRIPTORS, MOST_MAPS, SOCKET_FILTER, Command
+from bpfhost.program import Program
+from bpfhost.shards.errors import ShardError
+from bpfhost.shards.snapshot import Pairs, read_pairs
+from bpfhost.shards.tenancy import BODY, LiveMap, OpenProgram, Tenancy, renamed_maps
+
+_MOST_PROGRAMS = MOST_DESCRIPTORS - MOST_MAPS
+_OF_MAPS = (Command.MAP_UPDATE_ELEM, Command.MAP_DELETE_ELEM)
+
+# A frame and the reply that it has to have, but for the tenant.
+Asked = tuple[bytes, bytes]
+
+
+class Copy:
+    """The copy of one tenant, on a host of its own. It is a context manager, which ends the host."""
+
+    def __init__(self, program: Program) -> None:
+        self._host = Host(program, 1)
+        self._tenancy = Tenancy()
+        self._numbers: dict[LiveMap | OpenProgram, int] = {}
+
+    def __enter__(self) -> Copy:
+        return self
+
+    def __exit__(self, *_error: object) -> None:
+        self._host.kill()
+
+    def play(self, played: Iterable[Asked]) -> None:
+        """Plays frames that were answered by these replies; a ShardError where the copy answers otherwise."""
+        wanted: list[bytes] = []
+
+        def sent() -> Iterator[bytes]:
+            for frame, reply in played:
+                for here, answer in self._frames_here(frame, reply):
+                    wanted.append(answer)
+                    yield here
+
+        for at, reply in enumerate(self._host.ask_bytes(sent())):
+            if reply[6:] != wanted[at][6:]:
+                raise ShardError(f"the copy of a tenant answers {reply[:60].hex()} where the customer has {wanted[at][:60].hex()}")
+
+    def pairs(self, tenancy: Tenancy) -> dict[LiveMap, Pairs]:
+        """What is in each live map of the tenant, which has played the same frames."""
+        theirs, ours = tenancy.live(), self._tenancy.live()
+        read = read_pairs(self._host, 0, {on: self._numbers[on] for on in ours})
+        if [on.body for on in theirs] != [on.body for on in ours]:
+            raise ShardError("the copy of a tenant has other maps than the tenant")
+        return {on: read[same] for on, same in zip(theirs, ours)}
+
+    def _frames_here(self, frame: bytes, reply: bytes) -> Iterator[Asked]:
+        """What stands for a frame in the copy. What was refused changes nothing, and what only reads neither."""
+        status, command = int.from_bytes(reply[8:12], "little", signed=True), int.from_bytes(frame[6:BODY], "little")
+        if status < 0 or len(frame) < BODY:
+            return
+        on = self._tenancy.open.get(int.from_bytes(frame[BODY : BODY + 4], "little"))
+        if command == Command.PROG_TEST_RUN and isinstance(on, OpenProgram):
+            yield from self._loaded(on)
+        if on and (command in _OF_MAPS or command == Command.PROG_TEST_RUN):
+            yield frame[:BODY] + self._numbers[on].to_bytes(4, "little") + frame[BODY + 4 :], reply
+            return
+        known = set(self._tenancy.live())
+        self._tenancy.note(frame, status)
+        if command == Command.MAP_CREATE:
+            yield self._opened(self._tenancy.open[status], frame)
+        elif command == Command.CLOSE and on:
+            yield from self._closed(on, known)
+
+    def _closed(self, on: LiveMap | OpenProgram, known: set[LiveMap]) -> Iterator[Asked]:
+        """Closes a program, and the maps that have ended."""
+        ended: list[LiveMap | OpenProgram] = [on] if isinstance(on, OpenProgram) and on in self._numbers else []
+        ended += known - set(self._tenancy.live())
+        for one in ended:
+            yield self._close(one)
+
+    def _close(self, on: LiveMap | OpenProgram) -> Asked:
+        return frames.close(0, self._numbers.pop(on)), _reply(Command.CLOSE, 0)
+
+    def _opened(self, on: LiveMap | OpenProgram, frame: bytes) -> Asked:
+        """Gives the lowest free number to what a frame makes."""
+        taken = set(self._numbers.values())
+        number = next(number for number in range(3, 3 + MOST_DESCRIPTORS) if number not in taken)
+        self._numbers[on] = number
+        return frame, _reply(int.from_bytes(frame[6:BODY], "little"), number)
+
+    def _loaded(self, on: OpenProgram) -> Iterator[Asked]:
+        """Loads a program with the numbers that its maps have here, if it is not loaded yet; the oldest makes room for it."""
+        if on in self._numbers:
+            return
+        loaded = [other for other in self._numbers if isinstance(other, OpenProgram)]
+        if len(loaded) >= _MOST_PROGRAMS:
+            yield self._close(loaded[0])
+        names = {one.descriptor: self._numbers[one] for one in on.maps}
+        yield self._opened(on, frames.prog_load(0, renamed_maps(on.body[4:], names), SOCKET_FILTER))
+
+
+def _reply(command: int, status: int) -> bytes:
+    return struct.pack("<IHHi", 8, 0, command, status)

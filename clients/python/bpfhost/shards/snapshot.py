@@ -1,0 +1,129 @@
+"""The frames that make a tenant's state anew, on a host where the tenant is new.
+
+docs/SCALING.md says why they do. All of them name tenant 0; who plays them puts in the number.
+"""
+
+from __future__ import annotations
+
+from collections.abc import Iterable, Iterator, Mapping, Sequence
+from typing import Protocol
+
+from bpfhost import frames
+from bpfhost.numbers import FIRST_DESCRIPTOR, SOCKET_FILTER, Command, Errno, MapType
+from bpfhost.shards.errors import ShardError
+from bpfhost.shards.tenancy import BODY, LiveMap, OpenProgram, Tenancy
+
+# r0 = 0; exit: it takes a descriptor, and none of the room for maps.
+_FILLER = frames.prog_load(0, bytes.fromhex("b700000000000000 9500000000000000"), SOCKET_FILTER)
+
+# The pairs of a map, in order; of an array those alone that are not zero.
+Pairs = list[tuple[bytes, bytes]]
+
+
+class AsksBytes(Protocol):
+    """A host that is asked many frames at once, and gives the bytes of the replies in order."""
+
+    def ask_bytes(self, frames: Iterable[bytes]) -> Iterator[bytes]: ...
+
+
+def state_frames(tenancy: Tenancy, pairs: Mapping[LiveMap, Pairs]) -> list[bytes]:
+    """The frames that make the state of a tenant: what is open, and what is in each live map.
+
+    Maps and programs are made in their order, each at its descriptor: the free numbers below it are filled by programs that are
+    closed at the end, as are the maps that no descriptor names.
+    """
+    made: list[bytes] = []
+    taken: set[int] = set()
+    objects: list[LiveMap | OpenProgram] = [*tenancy.live(), *tenancy.programs()]
+    for on in sorted(objects, key=lambda on: on.number):
+        made += _filled_up_to(on.descriptor, taken)
+        command = Command.MAP_CREATE if isinstance(on, LiveMap) else Command.PROG_LOAD
+        made.append(frames.frame(0, command, on.body))
+        if isinstance(on, LiveMap):
+            made += (frames.map_update_elem(0, on.descriptor, key, value) for key, value in pairs[on])
+    made += (frames.close(0, number) for number in sorted(taken - set(tenancy.open)))
+    return made
+
+
+def _filled_up_to(descriptor: int, taken: set[int]) -> Iterator[bytes]:
+    """Frees a descriptor, and fills the free ones below it."""
+    if descriptor in taken:
+        yield frames.close(0, descriptor)
+    for number in range(FIRST_DESCRIPTOR, descriptor):
+        if number not in taken:
+            taken.add(number)
+            yield _FILLER
+    taken.add(descriptor)
+
+
+def wanted_status(tenancy: Tenancy, frame: bytes) -> int:
+    """What a frame of a snapshot is answered: the lowest free descriptor, or 0."""
+    command = int.from_bytes(frame[6:BODY], "little")
+    return tenancy.lowest_free() if command in (Command.MAP_CREATE, Command.PROG_LOAD) else 0
+
+
+def with_tenant(frame: bytes, tenant: int) -> bytes:
+    """A frame or a reply with another tenant's number; those that are too short to have one stay as they are."""
+    return frame[:4] + tenant.to_bytes(2, "little") + frame[6:] if len(frame) >= BODY else frame
+
+
+def split(stream: bytes) -> list[bytes]:
+    """The frames, or replies, that bytes are; a ValueError where they are none."""
+    found, at = [], 0
+    while at < len(stream):
+        end = at + 4 + int.from_bytes(stream[at : at + 4], "little")
+        if end > len(stream) or at + 4 > len(stream):
+            raise ValueError(f"the bytes from {at} on are no whole frame")
+        found.append(stream[at:end])
+        at = end
+    return found
+
+
+# Reading what is in maps.
+
+
+def read_pairs(host: AsksBytes, tenant: int, maps: Mapping[LiveMap, int]) -> dict[LiveMap, Pairs]:
+    """What is in maps, by the descriptors that name them. It changes nothing."""
+    keys = {on: _indices(on) for on in maps if on.shape.map_type == MapType.ARRAY}
+    keys.update(_walked(host, tenant, {on: fd for on, fd in maps.items() if on not in keys}))
+    asked = [(on, key) for on in maps for key in keys[on]]
+    replies = host.ask_bytes(frames.map_lookup_elem(tenant, maps[on], key) for on, key in asked)
+    pairs: dict[LiveMap, Pairs] = {on: [] for on in maps}
+    for (on, key), reply in zip(asked, replies):
+        value = _payload(reply)
+        if on.shape.map_type == MapType.HASH or any(value):
+            pairs[on].append((key, value))
+    return pairs
+
+
+def _indices(on: LiveMap) -> list[bytes]:
+    return [index.to_bytes(4, "little") for index in range(on.shape.max_entries)]
+
+
+def _walked(host: AsksBytes, tenant: int, maps: Mapping[LiveMap, int]) -> dict[LiveMap, list[bytes]]:
+    """The keys of hash maps in order. All maps are walked at once, a key of each in a batch of frames."""
+    keys: dict[LiveMap, list[bytes]] = {on: [] for on in maps}
+    going = dict(maps)
+    while going:
+        asked = (frames.map_get_next_key(tenant, fd, keys[on][-1] if keys[on] else b"") for on, fd in going.items())
+        for on, reply in zip(list(going), list(host.ask_bytes(asked))):
+            if _status(reply) == -Errno.ENOENT:
+                del going[on]
+            else:
+                keys[on].append(_payload(reply))
+    return keys
+
+
+def _status(reply: bytes) -> int:
+    return int.from_bytes(reply[8:12], "little", signed=True)
+
+
+def _payload(reply: bytes) -> bytes:
+    if _status(reply):
+        raise ShardError(f"a map can't be read: the host answers {_status(reply)}")
+    return reply[12:]
+
+
+def same_pairs(some: Mapping[LiveMap, Pairs], others: Mapping[LiveMap, Pairs], maps: Sequence[LiveMap]) -> bool:
+    """Whether both say the same of these maps."""
+    return all(some[on] == others[on] for on in maps)

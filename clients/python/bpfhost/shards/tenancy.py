@@ -1,0 +1,121 @@
+"""What a tenant has open, told by its frames and the replies to them: which descriptors name which maps and programs.
+
+What is in the maps is not told: test runs change it. A map has one descriptor in its life, from its creation on, and no number names
+it again once that is closed; the programs that were loaded with it keep it (docs/PROTOCOL.md, "What a tenant has").
+"""
+
+from __future__ import annotations
+
+import struct
+from dataclasses import dataclass
+
+from bpfhost.numbers import FIRST_DESCRIPTOR, MOST_DESCRIPTORS, SLOT_SIZE, Command, MapType
+from bpfhost.program import MapShape
+
+# Where the body of a frame begins, behind its length, tenant and command.
+BODY = 8
+_SHAPE = struct.Struct("<4I")
+_WIDE = 0x18
+# What the second half of the byte of registers says of a wide load: of a map, or of an address in a map's value.
+_OF_MAPS = (1, 2)
+_MAKES = (Command.MAP_CREATE, Command.PROG_LOAD)
+# Commands that change what is in a map.
+_CHANGES = (Command.MAP_UPDATE_ELEM, Command.MAP_DELETE_ELEM, Command.PROG_TEST_RUN)
+
+
+@dataclass(eq=False)
+class LiveMap:
+    """A map, the descriptor that it was given, and the body of the frame that made it; `number` counts what the tenant made."""
+
+    number: int
+    descriptor: int
+    body: bytes
+
+    @property
+    def shape(self) -> MapShape:
+        """Its kind and sizes."""
+        kind, *sizes = _SHAPE.unpack(self.body[: _SHAPE.size])
+        return MapShape(MapType(kind), *sizes)
+
+
+@dataclass(eq=False)
+class OpenProgram:
+    """A program, its descriptor, the body of the frame that loaded it, and the maps that it keeps."""
+
+    number: int
+    descriptor: int
+    body: bytes
+    maps: tuple[LiveMap, ...]
+
+
+class Tenancy:
+    """A tenant's open descriptors. It begins empty, as a new tenant does."""
+
+    def __init__(self) -> None:
+        self.open: dict[int, LiveMap | OpenProgram] = {}
+        self._made = 0
+
+    def note(self, frame: bytes, status: int) -> bool:
+        """Notes a frame of this tenant and the status of its reply; whether it may have changed anything."""
+        command = frame[6] | frame[7] << 8
+        if status < 0 or len(frame) < BODY:
+            return False
+        if command in _MAKES:
+            self._open(command, status, frame[BODY:])
+        elif command == Command.CLOSE:
+            del self.open[int.from_bytes(frame[BODY:], "little")]
+        else:
+            return command in _CHANGES
+        return True
+
+    def _open(self, command: int, descriptor: int, body: bytes) -> None:
+        self._made += 1
+        if command == Command.MAP_CREATE:
+            self.open[descriptor] = LiveMap(self._made, descriptor, body)
+        else:
+            named = [self.open[number] for number in dict.fromkeys(named_maps(body[4:]))]
+            maps = tuple(on for on in named if isinstance(on, LiveMap))
+            self.open[descriptor] = OpenProgram(self._made, descriptor, body, maps)
+
+    def lowest_free(self) -> int:
+        """The descriptor that is given next."""
+        numbers = range(FIRST_DESCRIPTOR, FIRST_DESCRIPTOR + MOST_DESCRIPTORS)
+        return next((number for number in numbers if number not in self.open), -1)
+
+    def programs(self) -> list[OpenProgram]:
+        """The open programs, in the order in which they were loaded."""
+        return sorted((on for on in self.open.values() if isinstance(on, OpenProgram)), key=lambda on: on.number)
+
+    def live(self) -> list[LiveMap]:
+        """The live maps, in the order in which they were made."""
+        named = [on for on in self.open.values() if isinstance(on, LiveMap)]
+        kept = [on for program in self.programs() for on in program.maps]
+        return sorted(dict.fromkeys(named + kept), key=lambda on: on.number)
+
+    def is_open(self, on: LiveMap) -> bool:
+        """Whether a descriptor names the map."""
+        return self.open.get(on.descriptor) is on
+
+
+def _map_loads(slots: bytes) -> list[int]:
+    """Where in a program's slots, in bytes, wide loads of maps begin. The program is one that was accepted."""
+    found, at = [], 0
+    while at < len(slots):
+        is_wide = slots[at] == _WIDE
+        if is_wide and slots[at + 1] >> 4 in _OF_MAPS:
+            found.append(at)
+        at += SLOT_SIZE * (2 if is_wide else 1)
+    return found
+
+
+def named_maps(slots: bytes) -> list[int]:
+    """The descriptors that wide loads of an accepted program name, in their order."""
+    return [int.from_bytes(slots[at + 4 : at + 8], "little") for at in _map_loads(slots)]
+
+
+def renamed_maps(slots: bytes, names: dict[int, int]) -> bytes:
+    """The same program with other numbers for its maps' descriptors."""
+    renamed = bytearray(slots)
+    for at in _map_loads(slots):
+        renamed[at + 4 : at + 8] = names[int.from_bytes(slots[at + 4 : at + 8], "little")].to_bytes(4, "little")
+    return bytes(renamed)

@@ -1,0 +1,206 @@
+"""A worker serves a shard: it reads frames from the stream, asks its host, and writes each reply under the id of its frames.
+
+How far it has come is the last id of the stream of replies, so replies and place are one. A worker that begins makes the state of the
+last snapshot, plays again what has replies already, compares, and goes on with the next.
+"""
+
+from __future__ import annotations
+
+import time
+from collections.abc import Callable, Iterator, Sequence
+from dataclasses import dataclass
+
+from bpfhost.program import Program
+from bpfhost.shards import scripts
+from bpfhost.shards.connection import Entry, Redis, demand_durable, entries_behind, last_id, patiently, told
+from bpfhost.shards.copied import Asked
+from bpfhost.shards.errors import RepliesDiffer, ShardError
+from bpfhost.shards.lease import SECONDS, Lease
+from bpfhost.shards.names import ARRIVES, FRAMES, LEAVES, REPLIES, START, TENANT, ShardKeys, after, before, order
+from bpfhost.shards.serving import MOST_ASKED, Serving, Written, answered
+from bpfhost.shards.snapshot import split
+
+_READ_AT_ONCE = 128
+# A script is given about so many bytes of replies at most.
+_WRITTEN_AT_ONCE = 1 << 22
+_SECONDS_FOR_REDIS = 30.0
+_PLACE, _TENANT = "place", "tenant:"
+
+
+@dataclass(frozen=True)
+class Settings:
+    """How a worker works: the seconds of its lease, how many entries lie between two snapshots, how long replies stay for those
+    that have not read them, and how many frames a host is asked before another one is started with the same state."""
+
+    lease_seconds: float = SECONDS
+    snapshot_entries: int = 50_000
+    reply_seconds: float = 3600.0
+    most_asked: int = MOST_ASKED
+    demand_durable: bool = True
+
+
+class Worker:
+    """The worker of one shard."""
+
+    def __init__(
+        self, redis: Redis, keys: ShardKeys, program: Program, settings: Settings = Settings(), tell: Callable[[str], None] = print
+    ) -> None:
+        self._redis, self._keys, self._program, self._settings, self._tell = redis, keys, program, settings, tell
+        self._lease = Lease(redis, keys, settings.lease_seconds)
+        self._place = self._snapshot_place = START
+        self._since_snapshot = 0
+
+    def run(self, is_stopped: Callable[[], bool] = lambda: False) -> None:
+        """Serves until it is stopped; then the lease is given back.
+
+        A LeaseHeld where another worker serves the shard, a LeaseLost where this one's lease ran out, a RepliesDiffer where a frame is
+        answered otherwise than it was, a MemoryRefused, a HostError or a RedisError else. What was written before is right.
+        """
+        self._with_redis(self._begin)
+        with Serving(self._program, self._history, self._lease.keep) as serving:
+            self._with_redis(lambda: self._restore(serving))
+            self._tell(f"shard {self._keys.number} is served, from entry {self._place.decode()} on")
+            while not is_stopped():
+                self._turn(serving)
+        self._lease.release()
+
+    def _begin(self) -> None:
+        with told():
+            if self._settings.demand_durable:
+                demand_durable(self._redis)
+            self._lease.take()
+
+    def _with_redis(self, call: Callable[[], None]) -> None:
+        patiently(call, time.monotonic() + _SECONDS_FOR_REDIS)
+
+    # One turn.
+
+    def _turn(self, serving: Serving) -> None:
+        wait = self._settings.lease_seconds / 4
+
+        def read() -> list[Entry]:
+            self._lease.keep()
+            return entries_behind(self._redis, self._keys.frames, self._place, _READ_AT_ONCE, wait)
+
+        for entries in _parted(patiently(read, time.monotonic() + _SECONDS_FOR_REDIS)):
+            for written in _pieces(serving.play(entries)):
+                self._write(written)
+            self._since_snapshot += len(entries)
+        if self._since_snapshot >= self._settings.snapshot_entries or serving.asked >= self._settings.most_asked:
+            self._take_snapshot(serving)
+
+    def _write(self, written: Sequence[Written]) -> None:
+        """Writes replies; they are there once, also where it is not known whether they were written and they are written again."""
+        keys = [self._keys.lease, self._keys.replies, self._keys.left]
+        replies = [part for one in written for part in (one.entry, one.name, one.value)]
+        kept = [part for one in written for pair in one.kept.items() for part in pair]
+        arguments = [self._lease.token, self._lease.milliseconds, len(written), *replies, *kept]
+        self._under_lease(lambda: scripts.WRITE(self._redis, keys, arguments))
+        self._place = written[-1].entry
+
+    def _under_lease(self, call: Callable[[], object]) -> None:
+        when = time.monotonic()
+        if not patiently(call, when + _SECONDS_FOR_REDIS):
+            raise self._lease.lost()
+        self._lease.renewed(when)
+
+    # Beginning.
+
+    def _restore(self, serving: Serving) -> None:
+        """The state of the last snapshot, and then what has replies already."""
+        with told():
+            fields = self._redis.hgetall(self._keys.snapshot)
+            last = last_id(self._redis, self._keys.replies)
+        self._place = self._snapshot_place = fields.pop(_PLACE.encode(), START)
+        serving.restore({int(name.removeprefix(_TENANT.encode())): stream for name, stream in fields.items()})
+        self._since_snapshot = 0
+        for entries, replies in self._both(self._place, last):
+            for piece in _parted(entries):
+                self._compare(serving.play(piece), replies)
+            self._since_snapshot += len(entries)
+            self._place = entries[-1][0]
+            self._lease.keep()
+        if self._place != last and order(self._place) < order(last):
+            raise ShardError(f"the stream of shard {self._keys.number} has no entry {last.decode()}, and a reply to it")
+
+    def _compare(self, written: Sequence[Written], replies: dict[bytes, dict[bytes, bytes]]) -> None:
+        for one in written:
+            was = replies.get(one.entry)
+            if was != {one.name: one.value}:
+                told_before = "none" if was is None else _shown(b"".join(was.values()))
+                raise RepliesDiffer(
+                    f"entry {one.entry.decode()} of shard {self._keys.number} is answered {_shown(one.value)}, and was answered"
+                    f" {told_before}: the shard is not served before somebody has looked at it"
+                )
+
+    def _both(self, place: bytes, last: bytes) -> Iterator[tuple[list[Entry], dict[bytes, dict[bytes, bytes]]]]:
+        """The entries behind a place up to another one, in pieces, with their replies."""
+        while order(place) < order(last):
+            with told():
+                entries = self._redis.xrange(self._keys.frames, after(place), last, count=_READ_AT_ONCE)
+                if not entries:
+                    return
+                place = entries[-1][0]
+                replies = dict(self._redis.xrange(self._keys.replies, entries[0][0], place))
+            yield entries, replies
+
+    # Snapshots.
+
+    def _take_snapshot(self, serving: Serving) -> None:
+        """Keeps the state, and drops the entries that led to it; a host that was asked often is replaced by a new one."""
+        new = serving.take_snapshot(after(self._place))
+        # By the server's clock, which has written the place.
+        kept = max(0, order(self._place)[0] - int(self._settings.reply_seconds * 1000))
+        fields = [part for tenant, stream in new.items() for part in (f"{_TENANT}{tenant}", stream)]
+        keys = [self._keys.lease, self._keys.snapshot, self._keys.frames, self._keys.replies]
+        arguments = [self._lease.token, self._lease.milliseconds, after(self._place), b"%d-0" % kept, _PLACE, self._place, *fields]
+        self._under_lease(lambda: scripts.KEEP_SNAPSHOT(self._redis, keys, arguments))
+        self._snapshot_place, self._since_snapshot = self._place, 0
+        if serving.asked >= self._settings.most_asked:
+            serving.restore(dict(serving.snapshot))
+
+    def _history(self, tenant: int, behind: bytes | None, limit: bytes) -> Iterator[Asked]:
+        """The frames of a tenant, with their replies, between two entries."""
+        own = b"%d" % tenant
+        for entries, replies in self._both(behind or self._snapshot_place, before(limit)):
+            self._lease.keep()
+            for entry, fields in entries:
+                if fields.get(TENANT) != own or LEAVES in fields:
+                    continue
+                if ARRIVES in fields:
+                    yield from answered(fields[ARRIVES])
+                elif FRAMES in fields and REPLIES in replies.get(entry, {}):
+                    yield from zip(split(fields[FRAMES]), split(replies[entry][REPLIES]), strict=True)
+
+
+def _parted(entries: Sequence[Entry]) -> Iterator[list[Entry]]:
+    """Entries in pieces, so that a tenant that leaves is alone in its piece: what was answered before is written then."""
+    piece: list[Entry] = []
+    for entry in entries:
+        if LEAVES in entry[1]:
+            if piece:
+                yield piece
+            yield [entry]
+            piece = []
+        else:
+            piece.append(entry)
+    if piece:
+        yield piece
+
+
+def _pieces(written: Sequence[Written]) -> Iterator[list[Written]]:
+    """Replies in pieces that a script is given at once."""
+    piece: list[Written] = []
+    size = 0
+    for one in written:
+        piece.append(one)
+        size += len(one.value) + sum(map(len, one.kept.values()))
+        if size > _WRITTEN_AT_ONCE:
+            yield piece
+            piece, size = [], 0
+    if piece:
+        yield piece
+
+
+def _shown(value: bytes) -> str:
+    return value[:60].hex() + (".." if len(value) > 60 else "")

@@ -1,0 +1,1 @@
+"""Tests of shards, with a Redis of their own."""

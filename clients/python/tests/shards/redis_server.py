@@ -1,0 +1,79 @@
+"""A Redis of the tests' own: a folder, a Unix socket and no port, each change on the disk before it is answered."""
+
+from __future__ import annotations
+
+import shutil
+import subprocess
+import time
+from pathlib import Path
+
+from bpfhost.shards.connection import Away, Redis, connect, told
+
+SERVER = shutil.which("redis-server")
+_SECONDS = 20
+
+
+def missing() -> str | None:
+    """What is missing for tests of shards, in a word, or None."""
+    if SERVER is None:
+        return "redis-server is missing"
+    try:
+        import redis  # type: ignore[import]  # noqa: F401
+    except ModuleNotFoundError:
+        return "python3-redis is missing"
+    return None
+
+
+class RedisServer:
+    """A running redis-server in a folder. It is a context manager, which kills it."""
+
+    def __init__(self, folder: Path, fsync: str = "always") -> None:
+        self.folder, self._fsync = folder, fsync
+        # The path of a Unix socket has 107 bytes at most.
+        self.url = f"unix://{folder}/s"
+        self.process: subprocess.Popen[bytes] | None = None
+        self.start()
+
+    def __enter__(self) -> RedisServer:
+        return self
+
+    def __exit__(self, *_error: object) -> None:
+        self.kill()
+
+    def start(self) -> None:
+        """Starts the server on what its folder has, and waits until it answers."""
+        options = {
+            "port": "0",
+            "unixsocket": f"{self.folder}/s",
+            "dir": str(self.folder),
+            "appendonly": "yes",
+            "appendfsync": self._fsync,
+            "save": "",
+            "daemonize": "no",
+            "loglevel": "warning",
+        }
+        words = [part for name, value in options.items() for part in (f"--{name}", value)]
+        log = open(self.folder / "log", "ab")
+        self.process = subprocess.Popen([str(SERVER), *words], stdin=subprocess.DEVNULL, stdout=log, stderr=log)
+        log.close()
+        self._wait()
+
+    def _wait(self) -> None:
+        redis: Redis = connect(self.url)
+        until = time.monotonic() + _SECONDS
+        while time.monotonic() < until:
+            try:
+                with told():
+                    redis.exists("nothing")
+                redis.close()
+                return
+            except Away:
+                time.sleep(0.01)
+        raise AssertionError(f"redis-server does not answer: {(self.folder / 'log').read_text()}")
+
+    def kill(self) -> None:
+        """Ends the server by SIGKILL."""
+        if self.process:
+            self.process.kill()
+            self.process.wait()
+            self.process = None

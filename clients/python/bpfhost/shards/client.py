@@ -63,7 +63,7 @@ class Client:
     def shard(self, number: int) -> tuple[Redis, ShardKeys]:
         """The Redis of a shard, and its keys."""
         if number not in self._shards:
-            url = self.directory.server(number)
+            url = patiently(lambda: self.directory.server(number), time.monotonic() + SECONDS)
             self._shards[number] = self._servers.setdefault(url, connect(url) if url else self._redis), ShardKeys(number, self._prefix)
         return self._shards[number]
 

@@ -56,6 +56,11 @@ class Lease:
             raise self.lost()
         self._renewed = now
 
+    def is_held(self) -> bool:
+        """Whether the lease is this worker's."""
+        with told():
+            return self._redis.get(self._keys.lease) == self.token.encode()
+
     def renewed(self, when: float) -> None:
         """Notes that a script has renewed the lease, which was asked at a time of `time.monotonic`."""
         self._renewed = when
@@ -67,7 +72,8 @@ class Lease:
 
     def lost(self) -> LeaseLost:
         """What to raise where the lease is not this worker's any more."""
-        holder = self._redis.get(self._keys.lease)
+        with told():
+            holder = self._redis.get(self._keys.lease)
         now = f"; it is now {_who(holder)}'s" if holder else ""
         return LeaseLost(f"the lease on shard {self._keys.number} ran out{now}: this worker writes nothing more")
 

@@ -14,7 +14,7 @@ from bpfhost.program import Program
 from bpfhost.shards import scripts
 from bpfhost.shards.connection import Entry, Redis, demand_durable, entries_behind, last_id, patiently, told
 from bpfhost.shards.copied import Asked
-from bpfhost.shards.errors import RepliesDiffer, ShardError
+from bpfhost.shards.errors import LeaseLost, RedisError, RepliesDiffer, ShardError
 from bpfhost.shards.lease import SECONDS, Lease
 from bpfhost.shards.names import ARRIVES, FRAMES, LEAVES, REPLIES, START, TENANT, ShardKeys, after, before, order
 from bpfhost.shards.serving import MOST_ASKED, Serving, Written, answered
@@ -57,12 +57,23 @@ class Worker:
         answered otherwise than it was, a MemoryRefused, a HostError or a RedisError else. What was written before is right.
         """
         self._with_redis(self._begin)
+        try:
+            self._serve(is_stopped)
+        except (RedisError, LeaseLost):
+            raise
+        except ShardError as error:
+            # Another worker may have dropped what this one was about to read.
+            if not self._lease.is_held():
+                raise self._lease.lost() from error
+            raise
+        self._lease.release()
+
+    def _serve(self, is_stopped: Callable[[], bool]) -> None:
         with Serving(self._program, self._history, self._lease.keep) as serving:
             self._with_redis(lambda: self._restore(serving))
             self._tell(f"shard {self._keys.number} is served, from entry {self._place.decode()} on")
             while not is_stopped():
                 self._turn(serving)
-        self._lease.release()
 
     def _begin(self) -> None:
         with told():

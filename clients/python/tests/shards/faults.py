@@ -1,0 +1,288 @@
+"""Faults while customers ask: workers and hosts are killed at random moments, workers are paused past their lease, Redis is killed and
+started on its files, connections are cut, customers are moved, and second workers are started on shards that are served.
+
+usage: python3 -m tests.shards.faults [--kills N] [--seconds S] [--seed N]
+
+Each customer's frames are also sent to a host that serves it alone, and each reply is compared, byte for byte. At the end each entry
+of each stream has one reply, and there are as many entries as calls were taken. It ends when so many kills are done, or after so many
+seconds; what was seen is told. The status is 1 where anything differs.
+"""
+
+from __future__ import annotations
+
+import argparse
+import os
+import random
+import signal
+import sys
+import tempfile
+import threading
+import time
+import traceback
+from collections import Counter
+from pathlib import Path
+
+from bpfhost import Host
+from bpfhost.shards import Client, NoReply, moving
+from bpfhost.shards.connection import connect, told
+from tests.shards.redis_server import RedisServer, missing
+from tests.shards.streams import Stream
+from tests.shards.worker_process import WorkerProcess
+
+PROGRAM = os.environ.get("BPFHOST", "")
+SHARDS, CUSTOMERS, LEASE = 3, 10, 0.5
+SNAPSHOT_ENTRIES = 120
+_SECONDS_TO_SETTLE = 60.0
+# The statuses of a worker that ended since its host or Redis was away, or another worker has its lease.
+_AWAY, _NO_LEASE = 3, 4
+
+
+class Differs(Exception):
+    """Something is not as it has to be."""
+
+
+class Supervisor:
+    """Starts a worker for a shard again whenever it ends, as an init system does."""
+
+    def __init__(self, url: str, shard: int, folder: Path, counts: Counter[str]) -> None:
+        self._url, self._shard, self._folder, self._counts = url, shard, folder, counts
+        self._started = 0
+        self.lock = threading.Lock()
+        self.worker = self.start()
+
+    def start(self) -> WorkerProcess:
+        """A new worker."""
+        self._started += 1
+        words = ["worker", str(self._shard), "--redis", self._url, "--bpfhost", PROGRAM, "--lease", str(LEASE)]
+        words += ["--snapshot-entries", str(SNAPSHOT_ENTRIES)]
+        return WorkerProcess(words, self._folder / f"worker-{self._shard}-{self._started}")
+
+    def look(self) -> None:
+        """Starts a new worker where the last one has ended."""
+        with self.lock:
+            status = self.worker.status()
+            if status is not None:
+                self.note(self.worker, status)
+                self.worker = self.start()
+
+    def note(self, worker: WorkerProcess, status: int) -> None:
+        """Notes how a worker has ended; a Differs where it should not have."""
+        said = worker.said()
+        self._counts["workers that served"] += "is served" in said
+        if status not in (0, -signal.SIGKILL, _AWAY, _NO_LEASE) or "Traceback" in said:
+            raise Differs(f"the worker of shard {self._shard} ended with {status}: {said}")
+
+    def replace(self) -> WorkerProcess:
+        """Puts a second worker in the place of the one that runs, which is given back."""
+        with self.lock:
+            old, self.worker = self.worker, self.start()
+            return old
+
+
+class Faults:
+    """Redis, shards, customers and what is done to them."""
+
+    def __init__(self, folder: Path, kills: int, seconds: float, seed: int) -> None:
+        self.counts: Counter[str] = Counter()
+        self._kills, self._until, self._draw = kills, time.monotonic() + seconds, random.Random(seed)
+        self._redis = RedisServer(folder)
+        self._seed, self._stopped, self._failures = seed, threading.Event(), list[str]()
+        self._calls: Counter[str] = Counter()
+        self.shards = [Supervisor(self._redis.url, shard, folder, self.counts) for shard in range(SHARDS)]
+
+    def run(self) -> None:
+        """All of it; a Differs where anything is wrong."""
+        self._wait_for_shards()
+        customers = [threading.Thread(target=self._guarded, args=(self._customer, number)) for number in range(CUSTOMERS)]
+        keeper = threading.Thread(target=self._guarded, args=(self._supervise, 0))
+        try:
+            for thread in (keeper, *customers):
+                thread.start()
+            self._do_faults()
+        finally:
+            self._stopped.set()
+            for thread in customers:
+                thread.join(_SECONDS_TO_SETTLE)
+            self._supervised = False
+            keeper.join(_SECONDS_TO_SETTLE)
+        if any(thread.is_alive() for thread in customers):
+            self._failures.append("a customer waits for ever")
+        if self._failures:
+            raise Differs(self._failures[0])
+        self._end()
+
+    _supervised = True
+
+    def _wait_for_shards(self) -> None:
+        with Client(self._redis.url) as client:
+            until = time.monotonic() + _SECONDS_TO_SETTLE
+            while len(client.directory.loads()) < SHARDS and time.monotonic() < until:
+                time.sleep(0.02)
+
+    def _guarded(self, run: object, number: int) -> None:
+        try:
+            assert callable(run)
+            run(number)
+        except BaseException:
+            self._failures.append(traceback.format_exc())
+            self._stopped.set()
+
+    # Customers.
+
+    def _customer(self, number: int) -> None:
+        """Sends random frames, and compares each reply with that of a host that serves this customer alone."""
+        name, draw = f"customer-{number}", random.Random(f"{self._seed} {number}")
+        stream = Stream(PROGRAM, f"{self._seed} {number}")
+        with Client(self._redis.url) as client, Host(PROGRAM) as alone:
+            customer = client.customer(name, _SECONDS_TO_SETTLE)
+            while not self._stopped.is_set():
+                frames, wanted = stream.play(alone, draw.randrange(1, 12))
+                replies = customer.wait(customer.post(b"".join(frames)))
+                if replies != wanted:
+                    at = next(at for at, pair in enumerate(zip(replies, wanted)) if pair[0] != pair[1])
+                    raise Differs(f"{name} is told {replies[at].hex()} of {frames[at].hex()}, and alone {wanted[at].hex()}")
+                self._calls[name] += 1
+                self.counts["frames"] += len(frames)
+
+    def _supervise(self, _number: int) -> None:
+        while self._supervised:
+            for shard in self.shards:
+                shard.look()
+            time.sleep(0.01)
+
+    # Faults.
+
+    def _do_faults(self) -> None:
+        kinds = {
+            self._kill_worker: 72,
+            self._kill_host: 8,
+            self._pause: 3,
+            self._kill_redis: 4,
+            self._cut: 6,
+            self._move: 6,
+            self._second_worker: 1,
+        }
+        # Each of them is seen, also in a short run.
+        first = list(kinds)
+        while self.counts["kills"] < self._kills or first:
+            if time.monotonic() > self._until or self._stopped.is_set():
+                return
+            time.sleep(self._draw.random() * 0.2)
+            (first.pop() if first else self._draw.choices(list(kinds), list(kinds.values()))[0])()
+
+    def _kill_worker(self) -> None:
+        self._draw.choice(self.shards).worker.send(signal.SIGKILL)
+        self.counts["kills"] += 1
+
+    def _kill_host(self) -> None:
+        host = self._draw.choice(self.shards).worker.host()
+        if host:
+            os.kill(host, signal.SIGKILL)
+            self.counts["hosts killed"] += 1
+
+    def _pause(self) -> None:
+        """Pauses a worker until another one has its lease; when it wakes, it may write nothing more."""
+        shard = self._draw.choice(self.shards)
+        until = time.monotonic() + _SECONDS_TO_SETTLE
+        while "is served" not in shard.worker.said() and time.monotonic() < until:
+            time.sleep(0.01)
+        old = shard.worker
+        old.send(signal.SIGSTOP)
+        shard.replace()
+        time.sleep(2 * LEASE + self._draw.random() * 0.2)
+        old.send(signal.SIGCONT)
+        status = old.wait(_SECONDS_TO_SETTLE)
+        if status is None:
+            raise Differs(f"a worker that was paused past its lease goes on: {old.said()}")
+        shard.note(old, status)
+        self.counts["paused past the lease"] += 1
+        self.counts["of which told so"] += status == _NO_LEASE
+
+    def _kill_redis(self) -> None:
+        self._redis.kill()
+        time.sleep(self._draw.random() * 0.3)
+        self._redis.start()
+        self.counts["Redis killed"] += 1
+
+    def _cut(self) -> None:
+        """Closes each connection to Redis, in the middle of whatever is asked there."""
+        redis = connect(self._redis.url)
+        with told():
+            redis.execute_command("CLIENT", "KILL", "TYPE", "normal")
+        redis.close()
+        self.counts["connections cut"] += 1
+
+    def _move(self) -> None:
+        name = f"customer-{self._draw.randrange(CUSTOMERS)}"
+        with Client(self._redis.url) as client:
+            if client.directory.seat(name):
+                before = client.directory.seat(name)
+                # Half of them are broken off, and ended by the next call.
+                if self._draw.random() < 0.5:
+                    try:
+                        moving.move(client, name, seconds=0.02)
+                    except NoReply:
+                        self.counts["moves broken off"] += 1
+                        moving.move(client, name, seconds=_SECONDS_TO_SETTLE)
+                else:
+                    moving.move(client, name, seconds=_SECONDS_TO_SETTLE)
+                self.counts["moved"] += client.directory.seat(name) != before
+
+    def _second_worker(self) -> None:
+        """Starts a second worker on a shard that is served: it ends, and says why."""
+        shard = self._draw.choice(self.shards)
+        until = time.monotonic() + _SECONDS_TO_SETTLE
+        while "is served" not in shard.worker.said() and time.monotonic() < until:
+            time.sleep(0.01)
+        second = shard.start()
+        status = second.wait(_SECONDS_TO_SETTLE)
+        if status != _NO_LEASE or "is served by another worker" not in second.said():
+            raise Differs(f"a second worker ends with {status}: {second.said()}")
+        self.counts["second workers refused"] += 1
+
+    # The end.
+
+    def _end(self) -> None:
+        """Stops the workers, and compares how many entries, replies and calls there are."""
+        for shard in self.shards:
+            shard.worker.send(signal.SIGTERM)
+            shard.worker.wait(_SECONDS_TO_SETTLE)
+        entries = 0
+        with Client(self._redis.url) as client:
+            for number in range(SHARDS):
+                redis, keys = client.shard(number)
+                asked, replied = (redis.xinfo_stream(name) for name in (keys.frames, keys.replies))
+                if asked["entries-added"] != replied["entries-added"] or asked["last-generated-id"] != replied["last-generated-id"]:
+                    raise Differs(f"shard {number} has {asked} and {replied}")
+                entries += asked["entries-added"]
+        calls = sum(self._calls.values())
+        if entries != calls + 2 * self.counts["moved"]:
+            raise Differs(f"{entries} entries, and {calls} calls and {self.counts['moved']} moves")
+        self.counts.update(entries=entries, calls=calls)
+        self._redis.kill()
+
+
+def main() -> int:
+    """The command."""
+    parser = argparse.ArgumentParser(prog="faults", description="Kills and pauses what serves shards, while customers ask.")
+    parser.add_argument("--kills", type=int, default=100, help="so many workers are killed")
+    parser.add_argument("--seconds", type=float, default=600, help="and then, or after so many seconds, it ends")
+    parser.add_argument("--seed", type=int, default=1, help="of the random numbers")
+    said = parser.parse_args()
+    why = missing()
+    if why:
+        print(f"faults of shards: skipped, as {why}")
+        return 0
+    with tempfile.TemporaryDirectory() as folder:
+        faults = Faults(Path(folder), said.kills, said.seconds, said.seed)
+        try:
+            faults.run()
+        except Differs as error:
+            print(f"faults of shards: {error}")
+            return 1
+    print("faults of shards: " + ", ".join(f"{many} {what}" for what, many in sorted(faults.counts.items())))
+    return 0
+
+
+if __name__ == "__main__":
+    sys.exit(main())

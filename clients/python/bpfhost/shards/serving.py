@@ -233,9 +233,11 @@ def _call_of(entry: bytes, fields: Mapping[bytes, bytes]) -> _Call | _Control | 
         tenant = int(fields.get(TENANT, b""))
         if not 0 <= tenant < MOST_TENANTS:
             raise ValueError(f"there is no tenant {tenant}")
-        for name in (LEAVES, ARRIVES):
-            if name in fields:
-                return _Control(entry, tenant, name, fields[name])
+        if LEAVES in fields:
+            return _Control(entry, tenant, LEAVES, fields[LEAVES])
+        if ARRIVES in fields:
+            split(fields[ARRIVES])
+            return _Control(entry, tenant, ARRIVES, fields[ARRIVES])
         return _Call(entry, tenant, whole_frames(fields.get(FRAMES, b"")))
     except ValueError as error:
         return Written(entry, FAULT, f"no call: {error}".encode())

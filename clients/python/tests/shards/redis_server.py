@@ -61,6 +61,8 @@ class RedisServer:
     def _wait(self) -> None:
         redis: Redis = connect(self.url)
         until = time.monotonic() + _SECONDS
+        while not (self.folder / "s").exists() and time.monotonic() < until:
+            time.sleep(0.005)
         while time.monotonic() < until:
             try:
                 with told():

@@ -1,0 +1,72 @@
+"""What tests of shards share: a Redis for each test, and workers in threads."""
+
+from __future__ import annotations
+
+import threading
+import time
+import unittest
+import warnings
+
+from bpfhost.shards import Client, Settings, ShardKeys, Worker
+from bpfhost.shards.connection import connect
+from tests.common import PROGRAM, HostTest
+from tests.shards.redis_server import RedisServer, missing
+
+_WHY = missing()
+SETTINGS = Settings(lease_seconds=1.0)
+
+
+class WorkerThread:
+    """A worker in a thread; `error` is what it ended with."""
+
+    def __init__(self, url: str, shard: int, settings: Settings = SETTINGS, program: str = PROGRAM) -> None:
+        self.told: list[str] = []
+        self.error: Exception | None = None
+        self._stopped = threading.Event()
+        self.worker = Worker(connect(url), ShardKeys(shard), program, settings, self.told.append)
+        self._thread = threading.Thread(target=self._run, daemon=True)
+        self._thread.start()
+
+    def _run(self) -> None:
+        try:
+            self.worker.run(self._stopped.is_set)
+        except Exception as error:
+            self.error = error
+
+    def wait(self) -> None:
+        """Waits until it serves, or has ended."""
+        until = time.monotonic() + 30
+        while not self.told and self._thread.is_alive() and time.monotonic() < until:
+            time.sleep(0.005)
+
+    def stop(self) -> None:
+        """Ends the worker."""
+        self._stopped.set()
+        self.join()
+
+    def join(self) -> None:
+        """Waits until it ends."""
+        self._thread.join(30)
+        assert not self._thread.is_alive()
+
+
+@unittest.skipIf(_WHY is not None, _WHY or "")
+class ShardTest(HostTest):
+    """A test with a Redis, a client, and workers."""
+
+    def setUp(self) -> None:
+        super().setUp()
+        # The library leaves a socket behind where it can't connect.
+        warnings.filterwarnings("ignore", "unclosed <socket", ResourceWarning)
+        self.server = RedisServer(self.scratch)
+        self.addCleanup(self.server.kill)
+        self.client = Client(self.server.url)
+        self.addCleanup(self.client.close)
+
+    def shard(self, number: int, settings: Settings = SETTINGS) -> WorkerThread:
+        """A shard of the directory, and its worker."""
+        self.client.directory.add_shard(number)
+        worker = WorkerThread(self.server.url, number, settings)
+        self.addCleanup(worker.stop)
+        worker.wait()
+        return worker

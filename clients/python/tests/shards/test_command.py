@@ -1,0 +1,91 @@
+"""The command: a worker, a client, moves, and what is wrong in one sentence."""
+
+from __future__ import annotations
+
+import os
+import re
+import signal
+import subprocess
+import sys
+import time
+
+from bpfhost import Host, MapType, frames
+from tests.common import PROGRAM
+from tests.shards.common import ShardTest
+from tests.shards.streams import Stream
+
+FROM_HOST = re.compile(r"served by \S+ process [0-9]+")
+
+
+class Commands(ShardTest):
+    def call(self, *words: str, given: bytes = b"") -> subprocess.CompletedProcess[bytes]:
+        """The command with these words."""
+        return subprocess.run(self.words(*words), input=given, capture_output=True, timeout=50)
+
+    def words(self, *words: str) -> list[str]:
+        return [sys.executable, "-m", "bpfhost.shards", words[0], "--redis", self.server.url, *words[1:]]
+
+    def start(self, shard: int) -> subprocess.Popen[str]:
+        """A worker, which says that it serves."""
+        worker = subprocess.Popen(self.words("worker", str(shard), "--lease", "1"), stderr=subprocess.PIPE, text=True)
+        assert worker.stderr is not None
+        self.addCleanup(worker.stderr.close)
+        self.addCleanup(worker.wait)
+        self.addCleanup(worker.kill)
+        self.assertRegex(worker.stderr.readline(), rf"^shard {shard} is served, from entry [0-9]+-[0-9]+ on\n$")
+        return worker
+
+    def test_all_of_it(self) -> None:
+        workers = [self.start(shard) for shard in (0, 1)]
+        with Host(PROGRAM) as host:
+            asked, wanted = Stream(PROGRAM, 1).play(host, 300)
+        for at, place in ((0, "shard 1, tenant 0"), (150, "shard 0, tenant 0")):
+            called = self.call("client", "acme", given=b"".join(asked[at : at + 150]))
+            self.assertEqual((called.stdout, called.stderr), (b"".join(wanted[at : at + 150]), b""))
+            self.assertEqual(self.call("move", "acme").stdout.decode(), f"acme: {place}\n")
+        self.assertEqual(
+            FROM_HOST.sub("served", self.call("show").stdout.decode()),
+            "shard 0: 1 customers, 0 calls wait, served\nshard 1: 0 customers, 0 calls wait, served\nacme: shard 0, tenant 0\n",
+        )
+        self.assertEqual(self.call("remove", "acme").returncode, 0)
+        for worker in workers:
+            worker.send_signal(signal.SIGTERM)
+            self.assertEqual(worker.wait(20), 0)
+        self.assertIn("shard 0: 0 customers, 0 calls wait, not served", self.call("show").stdout.decode())
+
+    def test_a_killed_worker(self) -> None:
+        frame = frames.map_create(0, MapType.HASH, 4, 8, 1)
+        worker = self.start(0)
+        self.assertEqual(self.call("client", "acme", given=frame).returncode, 0)
+        worker.kill()
+        began = time.monotonic()
+        self.start(0)
+        self.assertGreater(5, time.monotonic() - began)
+        self.assertEqual(self.call("client", "acme", given=frame).stdout[8:], bytes([4, 0, 0, 0]))
+
+    def test_one_sentence(self) -> None:
+        self.start(0)
+        nowhere = ["--redis", f"unix://{self.scratch}/nothing", "--seconds", "0.2"]
+        for words, status, sentence in (
+            (["worker", "0"], 4, "shard 0 is served by another worker, .*, whose lease is renewed"),
+            (["move", "acme"], 1, "customer acme can't be moved: the customer is not in the directory"),
+            (["client", "acme"], 1, "the bytes from 0 on are no whole frame"),
+            (["client", "acme", *nowhere], 3, "Redis can't be reached: .*"),
+            (["show", "--redis", "nonsense"], 3, "nonsense is no URL of a Redis: .*"),
+            (["worker", "0", "--bpfhost", "/nothing"], 3, "/nothing does not start: No such file or directory"),
+            (["worker", "x"], 2, "argument SHARD: invalid shard from 0 to 2147483647 value: 'x'"),
+            (["move", "a b"], 2, "argument NAME: invalid name of 1 to 255 .*"),
+            (["worker", "0", "--lease", "0"], 2, "argument --lease: invalid number of seconds from 0.1 on value: '0'"),
+            (["client", "acme", "--seconds"], 2, "argument --seconds: expected one argument"),
+        ):
+            shard = "1" if "/nothing" in words else words[1] if len(words) > 1 else ""
+            called = self.call(words[0], *([shard] if words[1:] else []), *words[2:], given=frames.close(0, 3)[: -1 if status == 1 else None])
+            self.assertEqual(called.returncode, status, (words, called.stderr))
+            self.assertRegex(called.stderr.decode(), f"^(bpfhost.shards: )?{sentence}\n$")
+
+    def test_a_missing_package(self) -> None:
+        (self.scratch / "redis.py").write_text("raise ModuleNotFoundError(name='redis')\n")
+        environment = {**os.environ, "PYTHONPATH": str(self.scratch)}
+        called = subprocess.run(self.words("show"), capture_output=True, text=True, env=environment)
+        self.assertEqual(called.returncode, 3)
+        self.assertEqual(called.stderr, "bpfhost.shards: the Python package redis is missing: apt-get install python3-redis\n")

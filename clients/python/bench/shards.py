@@ -1,23 +1,27 @@
 #!/usr/bin/env python3
-"""Measures shards beside a host by pipe: frames a second of 1, 2 and 4 shards, and how long a worker takes to play frames again.
+"""Measures shards beside a host by pipe: frames a second of 1, 2 and 4 shards, what a frame costs each process, and how long a worker
+takes to play frames again.
 
-usage: shards.py [BPFHOST] [--frames N] [--seconds S] [--folder FOLDER]
+usage: shards.py [BPFHOST] [--frames N] [--folder FOLDER]
 
 A customer's frames are test runs of a program that counts packets of 64 bytes in a hash map. They come in calls of so many frames each.
-All is on this machine, with a Redis of its own that writes each change to FOLDER before it answers, so the processes share the
-processors, and FOLDER's disk tells how long a write takes. Times of one run alone are to be compared.
+All is on this machine, customers too, with a Redis of its own that writes each change to FOLDER before it answers: the processes share
+the processors, and FOLDER's disk tells how long a write takes. Only figures of one run are to be compared.
 """
 
 from __future__ import annotations
 
 import argparse
+import contextlib
 import multiprocessing
 import os
 import sys
 import tempfile
 import time
-from collections.abc import Iterator
+from collections.abc import Iterable
+from dataclasses import dataclass
 from pathlib import Path
+from typing import Any
 
 sys.dont_write_bytecode = True
 sys.path.insert(0, str(Path(__file__).resolve().parents[1]))
@@ -25,28 +29,30 @@ sys.path.insert(0, str(Path(__file__).resolve().parents[1]))
 from bpfhost import Host, MapType, find_program, frames  # noqa: E402
 from bpfhost.shards import Client, Settings, ShardKeys, Worker  # noqa: E402
 from bpfhost.shards.connection import connect  # noqa: E402
+from bpfhost.shards.names import MOST_ENTRIES  # noqa: E402
 from tests.shards.redis_server import RedisServer, missing  # noqa: E402
 from tests.shards.streams import slots_of  # noqa: E402
 
 CALLS = (1, 16, 256)
-CUSTOMERS = 8
-NEVER = 1 << 40
+# How many shards there are, and how many servers of Redis they have together.
+SHARDS = ((1, 1), (2, 1), (4, 1), (4, 4))
+# A customer sends so many calls before it waits for the reply to the first one.
+CUSTOMERS, AHEAD = 8, 8
+NEVER = MOST_ENTRIES // 2
+REPLAYED = 100_000
 _context = multiprocessing.get_context("fork")
+_TICKS = os.sysconf("SC_CLK_TCK")
 
 
 def begins(program: str) -> list[bytes]:
     """What a customer sends first."""
-    return [frames.map_create(0, MapType.HASH, 4, 8, 16), frames.prog_load(0, slots_of(program, "add")), frames.map_update_elem(0, 3, bytes(4), bytes(8))]
+    made = frames.map_create(0, MapType.HASH, 4, 8, 16)
+    return [made, frames.prog_load(0, slots_of(program, "add")), frames.map_update_elem(0, 3, bytes(4), bytes(8))]
 
 
-def runs(many: int) -> Iterator[bytes]:
+def call(size: int) -> bytes:
     """So many test runs."""
-    return (frames.prog_test_run(0, 4, bytes(64)) for _ in range(many))
-
-
-def calls(many: int, size: int) -> list[bytes]:
-    """The same in calls."""
-    return [b"".join(runs(size)) for _ in range(many // size)]
+    return frames.prog_test_run(0, 4, bytes(64)) * size
 
 
 def by_pipe(program: str, many: int, size: int) -> float:
@@ -54,7 +60,7 @@ def by_pipe(program: str, many: int, size: int) -> float:
     with Host(program) as host:
         for frame in begins(program):
             host.ask(frame).done()
-        asked = [frame for frame in runs(size)]
+        asked = [call(1)] * size
         began = time.monotonic()
         for _ in range(many // size):
             for _reply in host.ask_bytes(asked):
@@ -64,72 +70,135 @@ def by_pipe(program: str, many: int, size: int) -> float:
 
 def work(url: str, program: str, shard: int) -> None:
     """A worker that takes no snapshot."""
-    settings = Settings(lease_seconds=5, snapshot_entries=NEVER, most_asked=NEVER)
+    settings = Settings(lease_seconds=5, snapshot_entries=NEVER)
     Worker(connect(url), ShardKeys(shard), program, settings, lambda _sentence: None).run()
 
 
-def ask(url: str, program: str, name: str, asked: list[bytes], ahead: int, barrier: object) -> None:
-    """A customer that sends its calls, so many of them before it waits for a reply, when all others do."""
+def ask(url: str, program: str, name: str, calls: int, size: int, barrier: Any) -> None:
+    """A customer that sends its calls when all others do."""
+    stream = call(size)
     with Client(url) as client:
         customer = client.customer(name)
         customer.wait(customer.post(b"".join(begins(program))))
-        barrier.wait()  # type: ignore[attr-defined]
+        barrier.wait()
         tickets = []
-        for at, stream in enumerate(asked):
+        for at in range(calls):
             tickets.append(customer.post(stream))
-            if at >= ahead:
-                customer.wait(tickets[at - ahead])
-        for ticket in tickets[-ahead:]:
+            if at >= AHEAD:
+                customer.wait(tickets[at - AHEAD])
+        for ticket in tickets[-AHEAD:]:
             customer.wait(ticket)
-        barrier.wait()  # type: ignore[attr-defined]
+        barrier.wait()
+        # So that its time can still be looked at.
+        barrier.wait()
 
 
-def by_shards(folder: Path, program: str, shards: int, many: int, size: int) -> float:
-    """Frames a second of so many shards together, which customers ask at once."""
-    with tempfile.TemporaryDirectory(dir=folder) as room, RedisServer(Path(room)) as server:
-        with Client(server.url) as client:
-            for shard in range(shards):
-                client.directory.add_shard(shard)
-            # So each shard has as many of them as the others.
+def processor_time(processes: Iterable[int]) -> float:
+    """The seconds of processor time that processes have taken."""
+    fields = [Path(f"/proc/{process}/stat").read_text().rpartition(")")[2].split() for process in processes]
+    return sum(int(one[11]) + int(one[12]) for one in fields) / _TICKS
+
+
+def children(processes: Iterable[int]) -> list[int]:
+    """The processes that these have started."""
+    return [int(one) for process in processes for one in Path(f"/proc/{process}/task/{process}/children").read_text().split()]
+
+
+@dataclass
+class Measured:
+    """Frames a second; what a frame costs each kind of process, in microseconds of processor time; its bytes in Redis's log."""
+
+    speed: float
+    costs: dict[str, float]
+    logged: float
+
+
+class Shards:
+    """So many shards with their workers, on so many servers of Redis, and customers who ask them."""
+
+    def __init__(self, folder: Path, program: str, shards: int, servers: int) -> None:
+        self._folder, self._program, self._shards, self._many = folder, program, shards, servers
+
+    def measure(self, many: int, size: int) -> Measured:
+        """Each customer sends its part of so many frames, in calls of so many."""
+        with contextlib.ExitStack() as stack:
+            servers = [_server(stack, self._folder) for _ in range(self._many)]
+            urls = [servers[shard % self._many].url for shard in range(self._shards)]
+            self._place(urls)
+            barrier = _context.Barrier(CUSTOMERS + 1)
+            calls = max(1, many // CUSTOMERS // size)
+            workers = [_context.Process(target=work, args=(url, self._program, shard)) for shard, url in enumerate(urls)]
+            customers = [
+                _context.Process(target=ask, args=(urls[0], self._program, f"customer-{number}", calls, size, barrier))
+                for number in range(CUSTOMERS)
+            ]
+            try:
+                for process in (*workers, *customers):
+                    process.start()
+                measured = self._measured(servers, workers, customers, barrier, calls * size * CUSTOMERS)
+            finally:
+                for process in (*customers, *workers):
+                    process.kill()
+                    process.join()
+        return measured
+
+    def _place(self, urls: list[str]) -> None:
+        """Gives each shard as many customers as the others."""
+        with Client(urls[0]) as client:
+            for shard, url in enumerate(urls):
+                client.directory.add_shard(shard, url)
             for number in range(CUSTOMERS):
                 client.directory.place(f"customer-{number}")
-        workers = [_context.Process(target=work, args=(server.url, program, shard), daemon=True) for shard in range(shards)]
-        barrier = _context.Barrier(CUSTOMERS + 1)
-        asked = calls(many // CUSTOMERS, size)
-        customers = [
-            _context.Process(target=ask, args=(server.url, program, f"customer-{number}", asked, 8, barrier), daemon=True)
-            for number in range(CUSTOMERS)
-        ]
-        for process in (*workers, *customers):
-            process.start()
+
+    def _measured(self, servers: list[RedisServer], workers: list[Any], customers: list[Any], barrier: Any, many: int) -> Measured:
         barrier.wait()
+        kinds = {"worker": [one.pid for one in workers], "customer": [one.pid for one in customers]}
+        kinds |= {"host": children(kinds["worker"]), "Redis": [one.process.pid for one in servers if one.process]}
+        before, logged = {kind: processor_time(of) for kind, of in kinds.items()}, sum(map(_size, servers))
         began = time.monotonic()
         barrier.wait()
         took = time.monotonic() - began
-        for process in (*customers, *workers):
-            process.kill()
-            process.join()
-        return len(asked) * size * CUSTOMERS / took
+        costs = {kind: (processor_time(of) - before[kind]) / many * 1e6 for kind, of in kinds.items()}
+        logged = sum(map(_size, servers)) - logged
+        barrier.wait()
+        return Measured(many / took, costs, logged / many)
 
 
-def replay(folder: Path, program: str, many: int, size: int) -> float:
-    """The seconds from the start of a worker to its first turn, when so many frames have replies already."""
-    with tempfile.TemporaryDirectory(dir=folder) as room, RedisServer(Path(room)) as server:
-        with Client(server.url) as client:
-            client.directory.add_shard(0)
-            first = _context.Process(target=work, args=(server.url, program, 0), daemon=True)
-            first.start()
-            customer = client.customer("one")
-            customer.wait(customer.post(b"".join(begins(program))))
-            for ticket in [customer.post(stream) for stream in calls(many, size)][-1:]:
-                customer.wait(ticket)
-            first.kill()
-            first.join()
-            redis, keys = client.shard(0)
-            redis.execute_command("DEL", keys.lease)
-            began = time.monotonic()
-            Worker(connect(server.url), keys, program, tell=lambda _sentence: None).run(lambda: True)
-            return time.monotonic() - began
+def _server(stack: contextlib.ExitStack, folder: Path) -> RedisServer:
+    return stack.enter_context(RedisServer(Path(stack.enter_context(tempfile.TemporaryDirectory(dir=folder)))))
+
+
+def _size(server: RedisServer) -> int:
+    return sum(file.stat().st_size for file in (server.folder / "appendonlydir").iterdir())
+
+
+def replay(folder: Path, program: str, size: int) -> float:
+    """The seconds from the start of a worker to its first turn, where frames in calls of so many have replies already."""
+    with tempfile.TemporaryDirectory(dir=folder) as room, RedisServer(Path(room)) as server, Client(server.url) as client:
+        client.directory.add_shard(0)
+        first = _context.Process(target=work, args=(server.url, program, 0))
+        first.start()
+        customer = client.customer("one", 600)
+        customer.wait(customer.post(b"".join(begins(program))))
+        for ticket in [customer.post(call(size)) for _ in range(REPLAYED // size)][-1:]:
+            customer.wait(ticket)
+        first.kill()
+        first.join()
+        redis, keys = client.shard(0)
+        redis.execute_command("DEL", keys.lease)
+        began = time.monotonic()
+        Worker(connect(server.url), keys, program, Settings(snapshot_entries=NEVER), lambda _sentence: None).run(lambda: True)
+        return time.monotonic() - began
+
+
+def tell(program: str, folder: Path, many: int, size: int) -> None:
+    """Measures calls of so many frames, and prints it."""
+    piped = by_pipe(program, many, size)
+    found = {each: Shards(folder, program, *each).measure(many, size) for each in SHARDS}
+    speeds = ", ".join(f"{shards} on {servers} Redis {one.speed:,.0f} ({one.speed / piped:.3f})" for (shards, servers), one in found.items())
+    print(f"{size} frames a call: by pipe {piped:,.0f}; shards {speeds}")
+    costs = ", ".join(f"{kind} {cost:.1f}" for kind, cost in found[SHARDS[0]].costs.items())
+    print(f"  us a frame of 1 shard: {costs}; {found[SHARDS[0]].logged:.0f} bytes a frame in the log", flush=True)
 
 
 def main() -> int:
@@ -137,23 +206,18 @@ def main() -> int:
     parser = argparse.ArgumentParser(description="Measures shards beside a host by pipe.")
     parser.add_argument("bpfhost", nargs="?")
     parser.add_argument("--frames", type=int, default=100_000)
-    parser.add_argument("--folder", type=Path, default=None, help="for the files of Redis; else the system's for temporary files")
+    parser.add_argument("--folder", type=Path, default=Path(tempfile.gettempdir()), help="for the files of Redis")
     said = parser.parse_args()
     why = missing()
     if why:
         print(f"shards: skipped, as {why}")
         return 0
     program = find_program(said.bpfhost)
-    folder = said.folder or Path(tempfile.gettempdir())
-    print(f"{os.cpu_count()} processors, {CUSTOMERS} customers; frames a second")
+    print(f"{os.cpu_count()} processors, {CUSTOMERS} customers; frames a second, and the ratio to the pipe")
     for size in CALLS:
-        many = said.frames if size > 1 else said.frames // 10
-        piped = by_pipe(program, many, size)
-        told = [f"{shards} shards {by_shards(folder, program, shards, many, size):,.0f}" for shards in (1, 2, 4)]
-        print(f"{size} frames a call: by pipe {piped:,.0f}, {', '.join(told)}")
+        tell(program, said.folder, said.frames if size > 1 else said.frames // 5, size)
     for size in CALLS:
-        took = replay(folder, program, 100_000, size)
-        print(f"100,000 frames in calls of {size} are played again in {took:.2f} s")
+        print(f"{REPLAYED:,} frames in calls of {size} are played again in {replay(said.folder, program, size):.2f} s", flush=True)
     return 0
 
 

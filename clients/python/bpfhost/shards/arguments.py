@@ -9,7 +9,7 @@ from typing import NoReturn
 from bpfhost.shards.client import SECONDS
 from bpfhost.shards.directory import demand_name
 from bpfhost.shards.lease import SECONDS as LEASE_SECONDS
-from bpfhost.shards.names import PREFIX
+from bpfhost.shards.names import MOST_ENTRIES, PREFIX
 from bpfhost.shards.worker import Settings
 
 _ABOUT = "Serves customers by many hosts, behind Redis Streams (docs/SCALING.md)."
@@ -52,12 +52,12 @@ _seconds.__name__ = "number of seconds from 0.1 on"
 
 def _many(word: str) -> int:
     many = int(word)
-    if many < 1:
+    if not 1 <= many <= MOST_ENTRIES // 2:
         raise ValueError
     return many
 
 
-_many.__name__ = "number from 1 on"
+_many.__name__ = f"number from 1 to {MOST_ENTRIES // 2}"
 
 
 def _parser() -> _Parser:

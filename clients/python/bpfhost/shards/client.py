@@ -22,14 +22,12 @@ from bpfhost.shards import scripts
 from bpfhost.shards.connection import Away, Redis, connect, entries_behind, last_id, patiently
 from bpfhost.shards.directory import Directory, Seat, demand_name
 from bpfhost.shards.errors import NoReply, NotTaken, ReplyGone, ShardError
-from bpfhost.shards.names import FAULT, PREFIX, REPLIES, ShardKeys, before, order
-from bpfhost.shards.serving import MOST_BYTES, MOST_FRAMES, whole_frames
+from bpfhost.shards.names import FAULT, MOST_BYTES, MOST_ENTRIES, PREFIX, REPLIES, ShardKeys, before, order
+from bpfhost.shards.serving import LONGEST_CALL, MOST_FRAMES, whole_frames
 from bpfhost.shards.snapshot import split
 from bpfhost.tenant import Tenant
 
 SECONDS = 30.0
-# A shard's stream has about so many entries at most: a call that finds more waits.
-MOST_ENTRIES = 200_000
 # So long the number of a session's last call is remembered; for half of that a call is sent again.
 SECONDS_REMEMBERED = 86_400
 _PAUSE = 0.02
@@ -155,7 +153,8 @@ class Customer:
         ticket.seat = seat
         redis, keys = self._client.shard(seat.shard)
         names = [keys.asked(ticket.session), keys.seats, keys.frames]
-        arguments = [ticket.number, seat.owned_by(self.name), seat.tenant, ticket.stream, MOST_ENTRIES, SECONDS_REMEMBERED]
+        limits = [MOST_ENTRIES, MOST_BYTES, SECONDS_REMEMBERED]
+        arguments = [ticket.number, seat.owned_by(self.name), seat.tenant, ticket.stream, *limits]
         what, *entry = scripts.ASK.patiently(redis, names, arguments, deadline, self._unknown)
         if what == b"taken":
             ticket.entry = entry[0]
@@ -230,7 +229,7 @@ def _calls(frames: Iterable[bytes]) -> Iterator[bytes]:
     piece: list[bytes] = []
     size = 0
     for frame in frames:
-        if piece and (len(piece) == MOST_FRAMES or size + len(frame) > MOST_BYTES):
+        if piece and (len(piece) == MOST_FRAMES or size + len(frame) > LONGEST_CALL):
             yield b"".join(piece)
             piece, size = [], 0
         piece.append(frame)

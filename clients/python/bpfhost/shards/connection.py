@@ -12,7 +12,7 @@ import time
 from collections.abc import Callable, Iterator, Sequence
 from typing import Any, Protocol, TypeVar, cast
 
-from bpfhost.errors import MissingPackage
+from bpfhost.errors import PACKAGES, MissingPackage
 from bpfhost.shards.errors import RedisError
 
 DEFAULT_URL = "redis://127.0.0.1:6379/0"
@@ -57,7 +57,7 @@ def _library() -> Any:
     try:
         import redis  # type: ignore[import]
     except ModuleNotFoundError:
-        raise MissingPackage("redis", "python3-redis") from None
+        raise MissingPackage("redis", PACKAGES["redis"]) from None
     return redis
 
 

@@ -14,6 +14,10 @@ TENANT, FRAMES, LEAVES, ARRIVES = b"t", b"f", b"leave", b"arrive"
 # Fields of an entry of replies: replies, or a sentence that says why the entry of frames is none.
 REPLIES, FAULT = b"r", b"e"
 
+# A shard's stream of frames has about so many entries and bytes at most: a call that finds more waits. A worker takes a snapshot, which
+# drops them, long before.
+MOST_ENTRIES, MOST_BYTES = 400_000, 1 << 30
+
 # Where no entry is.
 START = b"0-0"
 _MOST_SEQUENCE = (1 << 64) - 1
@@ -53,6 +57,11 @@ class ShardKeys:
     def snapshot(self) -> str:
         """A hash with the place of the snapshot, and for each tenant that is not empty the frames that make its state."""
         return self._key("snapshot")
+
+    @property
+    def parts(self) -> str:
+        """A hash with the parts of a snapshot that is too large for one call, while it is written."""
+        return self._key("parts")
 
     @property
     def left(self) -> str:

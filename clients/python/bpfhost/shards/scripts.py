@@ -2,8 +2,9 @@
 
 from bpfhost.shards.connection import Script
 
-# Takes a call: once for each number of a session, and while the customer has its seat.
-# KEYS: asked, seats, frames. ARGV: number, seat, tenant, frames, most entries, seconds that the number is remembered.
+# Takes a call: once for each number of a session, while the customer has its seat and the stream has room. Its bytes are looked at
+# for each 64th entry, and none is added to a stream that has too many.
+# KEYS: asked, seats, frames. ARGV: number, seat, tenant, frames, most entries, most bytes, seconds that the number is remembered.
 ASK = Script("""
 local asked = redis.call('GET', KEYS[1])
 if asked then
@@ -12,9 +13,11 @@ if asked then
   if tonumber(number) > tonumber(ARGV[1]) then return {'passed'} end
 end
 if redis.call('HGET', KEYS[2], ARGV[3]) ~= ARGV[2] then return {'seat'} end
-if redis.call('XLEN', KEYS[3]) >= tonumber(ARGV[5]) then return {'full'} end
+local entries = redis.call('XLEN', KEYS[3])
+if entries >= tonumber(ARGV[5]) then return {'full'} end
+if entries > 0 and entries % 64 == 0 and redis.call('MEMORY', 'USAGE', KEYS[3]) > tonumber(ARGV[6]) then return {'full'} end
 local entry = redis.call('XADD', KEYS[3], '*', 't', ARGV[3], 'f', ARGV[4])
-redis.call('SET', KEYS[1], ARGV[1] .. ' ' .. entry, 'EX', ARGV[6])
+redis.call('SET', KEYS[1], ARGV[1] .. ' ' .. entry, 'EX', ARGV[7])
 return {'taken', entry}
 """)
 
@@ -87,15 +90,30 @@ for at = behind + 1, #ARGV, 2 do redis.call('HSET', KEYS[3], ARGV[at], ARGV[at +
 return 1
 """)
 
+# Puts a part of a snapshot aside that is too large for one call, where the lease is held.
+# KEYS: lease, parts. ARGV: token, milliseconds, 1 for the first part, then fields of the snapshot with their bytes.
+KEEP_PART = Script("""
+if redis.call('GET', KEYS[1]) ~= ARGV[1] then return 0 end
+redis.call('PEXPIRE', KEYS[1], ARGV[2])
+if ARGV[3] == '1' then redis.call('DEL', KEYS[2]) end
+for at = 4, #ARGV, 2 do redis.call('HSET', KEYS[2], ARGV[at], ARGV[at + 1]) end
+return 1
+""")
+
 # Puts a snapshot in the place of an older one, where the lease is held, and drops what came before it.
-# KEYS: lease, snapshot, frames, replies. ARGV: token, milliseconds, the first id of frames and of replies that is kept, then fields of
-# the snapshot with their bytes, of which empty ones are no field.
+# KEYS: lease, snapshot, frames, replies, parts. ARGV: token, milliseconds, the first id of frames and of replies that is kept, 1 where
+# parts were put aside, then fields of the snapshot with their bytes, of which empty ones are no field.
 KEEP_SNAPSHOT = Script("""
 if redis.call('GET', KEYS[1]) ~= ARGV[1] then return 0 end
 redis.call('PEXPIRE', KEYS[1], ARGV[2])
-for at = 5, #ARGV, 2 do
-  if ARGV[at + 1] == '' then redis.call('HDEL', KEYS[2], ARGV[at]) else redis.call('HSET', KEYS[2], ARGV[at], ARGV[at + 1]) end
+local function keep(field, bytes)
+  if bytes == '' then redis.call('HDEL', KEYS[2], field) else redis.call('HSET', KEYS[2], field, bytes) end
 end
+if ARGV[5] == '1' then
+  for _, field in ipairs(redis.call('HKEYS', KEYS[5])) do keep(field, redis.call('HGET', KEYS[5], field)) end
+end
+redis.call('DEL', KEYS[5])
+for at = 6, #ARGV, 2 do keep(ARGV[at], ARGV[at + 1]) end
 redis.call('XTRIM', KEYS[3], 'MINID', ARGV[3])
 redis.call('XTRIM', KEYS[4], 'MINID', ARGV[4])
 return 1

@@ -22,7 +22,7 @@ from bpfhost.shards.tenancy import Tenancy
 from bpfhost import frames as make
 
 # An entry has at most so many frames and bytes; each of the replies may have 4,108 bytes.
-MOST_FRAMES, MOST_BYTES = 512, 262_144
+MOST_FRAMES, LONGEST_CALL = 512, 262_144
 # A host is asked at most so many frames, of which a snapshot may take some four million (docs/PROTOCOL.md: 16,777,216).
 MOST_ASKED = 12_000_000
 _ASKED_AT_ONCE = 1024
@@ -246,8 +246,8 @@ def _call_of(entry: bytes, fields: Mapping[bytes, bytes]) -> _Call | _Control | 
 def whole_frames(stream: bytes) -> list[bytes]:
     """The frames of a call; a ValueError where the bytes are none, or there are too many."""
     frames = split(stream)
-    if not frames or len(frames) > MOST_FRAMES or len(stream) > MOST_BYTES:
-        limits = f"1 to {MOST_FRAMES} frames of {MOST_BYTES} bytes together"
+    if not frames or len(frames) > MOST_FRAMES or len(stream) > LONGEST_CALL:
+        limits = f"1 to {MOST_FRAMES} frames of {LONGEST_CALL} bytes together"
         raise ValueError(f"a call has {limits}, and not {len(frames)} of {len(stream)}")
     if any(len(frame) < 8 or frame[4] or frame[5] for frame in frames):
         raise ValueError("a frame of a call has a head, and names tenant 0")

@@ -7,7 +7,7 @@ last snapshot, plays again what has replies already, compares, and goes on with 
 from __future__ import annotations
 
 import time
-from collections.abc import Callable, Iterator, Sequence
+from collections.abc import Callable, Iterator, Mapping, Sequence
 from dataclasses import dataclass
 
 from bpfhost.program import Program
@@ -16,7 +16,7 @@ from bpfhost.shards.connection import Entry, Redis, demand_durable, entries_behi
 from bpfhost.shards.copied import Asked
 from bpfhost.shards.errors import LeaseLost, RedisError, RepliesDiffer, ShardError
 from bpfhost.shards.lease import SECONDS, Lease
-from bpfhost.shards.names import ARRIVES, FRAMES, LEAVES, REPLIES, START, TENANT, ShardKeys, after, before, order
+from bpfhost.shards.names import ARRIVES, FRAMES, LEAVES, MOST_BYTES, MOST_ENTRIES, REPLIES, START, TENANT, ShardKeys, after, before, order
 from bpfhost.shards.serving import MOST_ASKED, Serving, Written, answered
 from bpfhost.shards.snapshot import split
 
@@ -29,14 +29,20 @@ _PLACE, _TENANT = "place", "tenant:"
 
 @dataclass(frozen=True)
 class Settings:
-    """How a worker works: the seconds of its lease, how many entries lie between two snapshots, how long replies stay for those
-    that have not read them, and how many frames a host is asked before another one is started with the same state."""
+    """How a worker works: the seconds of its lease, how many entries, or bytes of frames and replies, lie between two snapshots, how
+    long replies stay for those that have not read them, and how many frames a host is asked before another one is started with the
+    same state. Where there are too many entries between two snapshots, the stream would be full before: that is a ValueError."""
 
     lease_seconds: float = SECONDS
     snapshot_entries: int = 50_000
+    snapshot_bytes: int = MOST_BYTES // 4
     reply_seconds: float = 3600.0
     most_asked: int = MOST_ASKED
     demand_durable: bool = True
+
+    def __post_init__(self) -> None:
+        if self.snapshot_entries > MOST_ENTRIES // 2 or self.snapshot_bytes > MOST_BYTES // 2:
+            raise ValueError(f"between two snapshots lie at most {MOST_ENTRIES // 2} entries and {MOST_BYTES // 2} bytes")
 
 
 class Worker:
@@ -48,7 +54,8 @@ class Worker:
         self._redis, self._keys, self._program, self._settings, self._tell = redis, keys, program, settings, tell
         self._lease = Lease(redis, keys, settings.lease_seconds)
         self._place = self._snapshot_place = START
-        self._since_snapshot = 0
+        # Entries and bytes since the last snapshot.
+        self._entries = self._bytes = 0
 
     def run(self, is_stopped: Callable[[], bool] = lambda: False) -> None:
         """Serves until it is stopped; then the lease is given back.
@@ -96,9 +103,17 @@ class Worker:
         for entries in _parted(patiently(read, time.monotonic() + _SECONDS_FOR_REDIS)):
             for written in _pieces(serving.play(entries)):
                 self._write(written)
-            self._since_snapshot += len(entries)
-        if self._since_snapshot >= self._settings.snapshot_entries or serving.asked >= self._settings.most_asked:
+                self._bytes += sum(len(one.value) for one in written)
+            self._count(entries)
+        if self._is_due() or serving.asked >= self._settings.most_asked:
             self._take_snapshot(serving)
+
+    def _count(self, entries: Sequence[Entry]) -> None:
+        self._entries += len(entries)
+        self._bytes += sum(len(value) for _, fields in entries for value in fields.values())
+
+    def _is_due(self) -> bool:
+        return self._entries >= self._settings.snapshot_entries or self._bytes >= self._settings.snapshot_bytes
 
     def _write(self, written: Sequence[Written]) -> None:
         """Writes replies; they are there once, also where it is not known whether they were written and they are written again."""
@@ -124,11 +139,12 @@ class Worker:
             last = last_id(self._redis, self._keys.replies)
         self._place = self._snapshot_place = fields.pop(_PLACE.encode(), START)
         serving.restore({int(name.removeprefix(_TENANT.encode())): stream for name, stream in fields.items()})
-        self._since_snapshot = 0
+        self._entries = self._bytes = 0
         for entries, replies in self._both(self._place, last):
             for piece in _parted(entries):
                 self._compare(serving.play(piece), replies)
-            self._since_snapshot += len(entries)
+            self._count(entries)
+            self._bytes += sum(len(value) for fields in replies.values() for value in fields.values())
             self._place = entries[-1][0]
             self._lease.keep()
         if self._place != last and order(self._place) < order(last):
@@ -162,11 +178,15 @@ class Worker:
         new = serving.take_snapshot(after(self._place))
         # By the server's clock, which has written the place.
         kept = max(0, order(self._place)[0] - int(self._settings.reply_seconds * 1000))
-        fields = [part for tenant, stream in new.items() for part in (f"{_TENANT}{tenant}", stream)]
-        keys = [self._keys.lease, self._keys.snapshot, self._keys.frames, self._keys.replies]
-        arguments = [self._lease.token, self._lease.milliseconds, after(self._place), b"%d-0" % kept, _PLACE, self._place, *fields]
+        *parts, last = _parts(new)
+        held = [self._lease.token, self._lease.milliseconds]
+        for at, part in enumerate(parts):
+            words = [*held, int(at == 0), *part]
+            self._under_lease(lambda: scripts.KEEP_PART(self._redis, [self._keys.lease, self._keys.parts], words))
+        keys = [self._keys.lease, self._keys.snapshot, self._keys.frames, self._keys.replies, self._keys.parts]
+        arguments = [*held, after(self._place), b"%d-0" % kept, int(bool(parts)), _PLACE, self._place, *last]
         self._under_lease(lambda: scripts.KEEP_SNAPSHOT(self._redis, keys, arguments))
-        self._snapshot_place, self._since_snapshot = self._place, 0
+        self._snapshot_place, self._entries, self._bytes = self._place, 0, 0
         if serving.asked >= self._settings.most_asked:
             serving.restore(dict(serving.snapshot))
 
@@ -197,6 +217,19 @@ def _parted(entries: Sequence[Entry]) -> Iterator[list[Entry]]:
             piece.append(entry)
     if piece:
         yield piece
+
+
+def _parts(snapshot: Mapping[int, bytes]) -> list[list[str | bytes]]:
+    """Fields of a snapshot with their bytes, in parts that a script is given at once; one at least."""
+    parts: list[list[str | bytes]] = [[]]
+    size = 0
+    for tenant, stream in snapshot.items():
+        if parts[-1] and size + len(stream) > _WRITTEN_AT_ONCE:
+            parts.append([])
+            size = 0
+        parts[-1] += (f"{_TENANT}{tenant}", stream)
+        size += len(stream)
+    return parts
 
 
 def _pieces(written: Sequence[Written]) -> Iterator[list[Written]]:

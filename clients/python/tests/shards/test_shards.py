@@ -21,6 +21,7 @@ from bpfhost.shards import (
     move,
     remove,
     scripts,
+    worker as workers,
 )
 from bpfhost.shards.connection import Script, connect, demand_durable
 from bpfhost.shards.names import after, before, order
@@ -104,7 +105,7 @@ class Calls(ShardTest):
         names = [keys.asked("session"), keys.seats, keys.frames]
 
         def ask(number: int, of: bytes = seat.owned_by("acme"), most: int = 10) -> object:
-            return scripts.ASK(redis, names, [number, of, 0, CREATE, most, 60])
+            return scripts.ASK(redis, names, [number, of, 0, CREATE, most, 1 << 30, 60])
 
         self.assertEqual(ask(1), [b"seat"])
         self.assertEqual(scripts.CLAIM(redis, [keys.seats], [0, 1, seat.owned_by("acme")]), 1)
@@ -169,6 +170,20 @@ class Calls(ShardTest):
                 customer.post(LOOK_UP)
         self.shard(0)
         self.assertEqual(customer.ask(put(5)).status, 0)
+
+    def test_a_stream_with_many_bytes(self) -> None:
+        self.client.directory.add_shard(0)
+        customer = self.client.customer("acme", seconds=0.1)
+        with mock.patch.object(clients, "MOST_BYTES", 1 << 20):
+            with self.assertRaisesRegex(NotTaken, "the stream of shard 0 is full"):
+                for _ in range(65):
+                    customer.post(frames.frame(0, 1, bytes(100_000)))
+            # What is due by its bytes is dropped by a snapshot.
+            self.shard(0, Settings(1.0, snapshot_bytes=1 << 20))
+            redis, keys = self.client.shard(0)
+            while redis.xlen(keys.frames):
+                time.sleep(0.01)
+            self.assertEqual(customer.ask(CREATE).status, 3)
 
     def test_replies_that_nobody_read(self) -> None:
         self.shard(0, Settings(1.0, snapshot_entries=1, reply_seconds=0.0))
@@ -261,6 +276,26 @@ class Workers(ShardTest):
             self.assertEqual([reply.status for reply in customer.ask_all([put(value), LOOK_UP])], [0, 0])
         self.assertIsNone(worker.error)
         self.assertTrue(self.client.shard(0)[0].hget(ShardKeys(0).snapshot, "tenant:0"))
+
+    def test_a_snapshot_in_parts(self) -> None:
+        """More bytes than a script is given at once, of tenants that come and go."""
+        redis, keys = self.client.shard(0)
+        with mock.patch.object(workers, "_WRITTEN_AT_ONCE", 100):
+            first = self.shard(0, Settings(1.0, snapshot_entries=12))
+            redis.execute_command("HSET", keys.parts, "tenant:63", b"of a worker that was killed")
+            for number in range(8):
+                customer = self.client.customer(f"customer-{number}")
+                self.assertEqual([reply.status for reply in customer.ask_all([CREATE, put(number)])], [3, 0])
+            for number in (0, 3):
+                remove(self.client, f"customer-{number}")
+            for _ in range(30):
+                self.client.customer("customer-7").ask(LOOK_UP)
+        first.stop()
+        self.assertEqual(redis.exists(keys.parts), 0)
+        self.assertEqual(sorted(redis.hgetall(keys.snapshot)), sorted([b"place", *(b"tenant:%d" % at for at in (1, 2, 4, 5, 6, 7))]))
+        self.shard(0)
+        for number in (1, 2, 4, 5, 6, 7):
+            self.assertEqual(self.client.customer(f"customer-{number}").ask(LOOK_UP).payload, number.to_bytes(8, "little"))
 
     def test_a_redis_that_may_lose(self) -> None:
         redis = connect(self.server.url)

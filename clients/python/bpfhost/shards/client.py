@@ -131,8 +131,14 @@ class Customer:
         if time.monotonic() - ticket.began > SECONDS_REMEMBERED / 2:
             self._open = None
             raise NoReply(f"a call of customer {self.name} is so old that nobody knows whether it was taken; it is not sent again")
-        while ticket.entry is None:
-            self._send(ticket, deadline)
+        try:
+            while ticket.entry is None:
+                self._send(ticket, deadline)
+        except NotTaken:
+            self._open = None
+            raise
+        except Away as away:
+            raise self._unknown(away) from None
         self._open = None
 
     def wait(self, ticket: Ticket, seconds: float | None = None) -> list[bytes]:
@@ -155,7 +161,7 @@ class Customer:
         names = [keys.asked(ticket.session), keys.seats, keys.frames]
         limits = [MOST_ENTRIES, MOST_BYTES, SECONDS_REMEMBERED]
         arguments = [ticket.number, seat.owned_by(self.name), seat.tenant, ticket.stream, *limits]
-        what, *entry = scripts.ASK.patiently(redis, names, arguments, deadline, self._unknown)
+        what, *entry = scripts.ASK.patiently(redis, names, arguments, deadline)
         if what == b"taken":
             ticket.entry = entry[0]
         elif what == b"seat":
@@ -172,7 +178,6 @@ class Customer:
 
     def _pause(self, deadline: float, why: str) -> None:
         if time.monotonic() + _PAUSE > deadline:
-            self._open = None
             raise NotTaken(why)
         time.sleep(_PAUSE)
 

@@ -19,7 +19,7 @@ from bpfhost.program import find_program
 from bpfhost.shards import moving
 from bpfhost.shards.arguments import parse
 from bpfhost.shards.client import Client
-from bpfhost.shards.connection import connect, last_id, told
+from bpfhost.shards.connection import connect, last_id, redis_url, told
 from bpfhost.shards.directory import Directory, Seat
 from bpfhost.shards.errors import LeaseHeld, LeaseLost, MemoryRefused, NoReply, RedisError, RepliesDiffer
 from bpfhost.shards.names import ShardKeys
@@ -73,7 +73,8 @@ def run_worker(said: Namespace) -> None:
     for number in (signal.SIGTERM, signal.SIGINT):
         signal.signal(number, stop)
     redis = connect(said.redis)
-    Directory(connect(said.directory or said.redis), said.prefix).add_shard(said.shard, said.redis or "" if said.directory else "")
+    directory = Directory(connect(said.directory or said.redis), said.prefix)
+    directory.add_shard(said.shard, redis_url(said.redis) if said.directory else "")
     settings = Settings(said.lease, said.snapshot_entries, said.keep_replies, demand_durable=not said.volatile)
     worker = Worker(redis, ShardKeys(said.shard, said.prefix), find_program(said.bpfhost), settings, _say)
     worker.run(lambda: stopped[0])

@@ -61,10 +61,15 @@ def _library() -> Any:
     return redis
 
 
+def redis_url(url: str | None = None) -> str:
+    """A URL, as `redis://host:6379/0` or `unix:///path`; without one that of the variable BPFHOST_REDIS, or of this machine's Redis."""
+    return url or os.environ.get("BPFHOST_REDIS") or DEFAULT_URL
+
+
 def connect(url: str | None = None) -> Redis:
-    """The Redis of a URL, as `redis://host:6379/0` or `unix:///path`; without one that of the variable BPFHOST_REDIS, or this machine's."""
+    """The Redis of a URL (`redis_url`)."""
     library = _library()
-    where = url or os.environ.get("BPFHOST_REDIS") or DEFAULT_URL
+    where = redis_url(url)
     try:
         made = library.Redis.from_url(where, socket_timeout=_SECONDS_TO_ANSWER)
     except ValueError as error:

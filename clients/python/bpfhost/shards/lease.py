@@ -38,6 +38,9 @@ class Lease:
         holder, until = b"", 0.0
         while not self._redis.set(self._keys.lease, self.token, nx=True, px=self.milliseconds):
             found, left = self._redis.get(self._keys.lease) or b"", self._redis.pttl(self._keys.lease) / 1000
+            if found == self.token.encode():
+                # It was taken, and the answer was lost.
+                break
             if found and found != holder:
                 holder, until = found, time.monotonic() + left + _PAUSE
             if found and time.monotonic() > until and left > 0:

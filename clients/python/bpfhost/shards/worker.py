@@ -6,6 +6,7 @@ last snapshot, plays again what has replies already, compares, and goes on with 
 
 from __future__ import annotations
 
+import contextlib
 import time
 from collections.abc import Callable, Iterator, Mapping, Sequence
 from dataclasses import dataclass
@@ -73,7 +74,10 @@ class Worker:
             if not self._lease.is_held():
                 raise self._lease.lost() from error
             raise
-        self._lease.release()
+        finally:
+            # Nothing is written any more, so the next worker need not wait.
+            with contextlib.suppress(RedisError):
+                self._lease.release()
 
     def _serve(self, is_stopped: Callable[[], bool]) -> None:
         with Serving(self._program, self._history, self._lease.keep) as serving:

@@ -20,6 +20,7 @@ import threading
 import time
 import traceback
 from collections import Counter
+from collections.abc import Callable
 from pathlib import Path
 
 from bpfhost import Host
@@ -68,7 +69,7 @@ class Supervisor:
     def note(self, worker: WorkerProcess, status: int) -> None:
         """Notes how a worker has ended; a Differs where it should not have."""
         said = worker.said()
-        self._counts["workers that served"] += "is served" in said
+        self._counts["served"] += "is served" in said
         if status not in (0, -signal.SIGKILL, _AWAY, _NO_LEASE) or "Traceback" in said:
             raise Differs(f"the worker of shard {self._shard} ended with {status}: {said}")
 
@@ -86,7 +87,9 @@ class Faults:
         self.counts: Counter[str] = Counter()
         self._kills, self._until, self._draw = kills, time.monotonic() + seconds, random.Random(seed)
         self._redis = RedisServer(folder)
-        self._seed, self._stopped, self._failures = seed, threading.Event(), list[str]()
+        self._seed, self._failures = seed, list[str]()
+        # No more faults and calls; no more workers in the place of those that end.
+        self._stopped, self._ended = threading.Event(), threading.Event()
         self._calls: Counter[str] = Counter()
         self.shards = [Supervisor(self._redis.url, shard, folder, self.counts) for shard in range(SHARDS)]
 
@@ -103,7 +106,7 @@ class Faults:
             self._stopped.set()
             for thread in customers:
                 thread.join(_SECONDS_TO_SETTLE)
-            self._supervised = False
+            self._ended.set()
             keeper.join(_SECONDS_TO_SETTLE)
         if any(thread.is_alive() for thread in customers):
             self._failures.append("a customer waits for ever")
@@ -111,17 +114,14 @@ class Faults:
             raise Differs(self._failures[0])
         self._end()
 
-    _supervised = True
-
     def _wait_for_shards(self) -> None:
         with Client(self._redis.url) as client:
             until = time.monotonic() + _SECONDS_TO_SETTLE
             while len(client.directory.loads()) < SHARDS and time.monotonic() < until:
                 time.sleep(0.02)
 
-    def _guarded(self, run: object, number: int) -> None:
+    def _guarded(self, run: Callable[[int], None], number: int) -> None:
         try:
-            assert callable(run)
             run(number)
         except BaseException:
             self._failures.append(traceback.format_exc())
@@ -145,7 +145,7 @@ class Faults:
                 self.counts["frames"] += len(frames)
 
     def _supervise(self, _number: int) -> None:
-        while self._supervised:
+        while not self._ended.is_set():
             for shard in self.shards:
                 shard.look()
             time.sleep(0.01)
@@ -178,7 +178,7 @@ class Faults:
         host = self._draw.choice(self.shards).worker.host()
         if host:
             os.kill(host, signal.SIGKILL)
-            self.counts["hosts killed"] += 1
+            self.counts["hosts"] += 1
 
     def _pause(self) -> None:
         """Pauses a worker until another one has its lease; when it wakes, it may write nothing more."""
@@ -195,14 +195,13 @@ class Faults:
         if status is None:
             raise Differs(f"a worker that was paused past its lease goes on: {old.said()}")
         shard.note(old, status)
-        self.counts["paused past the lease"] += 1
-        self.counts["of which told so"] += status == _NO_LEASE
+        self.counts["paused"] += 1
 
     def _kill_redis(self) -> None:
         self._redis.kill()
         time.sleep(self._draw.random() * 0.3)
         self._redis.start()
-        self.counts["Redis killed"] += 1
+        self.counts["redis"] += 1
 
     def _cut(self) -> None:
         """Closes each connection to Redis, in the middle of whatever is asked there."""
@@ -210,23 +209,21 @@ class Faults:
         with told():
             redis.execute_command("CLIENT", "KILL", "TYPE", "normal")
         redis.close()
-        self.counts["connections cut"] += 1
+        self.counts["cut"] += 1
 
     def _move(self) -> None:
         name = f"customer-{self._draw.randrange(CUSTOMERS)}"
         with Client(self._redis.url) as client:
-            if client.directory.seat(name):
-                before = client.directory.seat(name)
-                # Half of them are broken off, and ended by the next call.
-                if self._draw.random() < 0.5:
-                    try:
-                        moving.move(client, name, seconds=0.02)
-                    except NoReply:
-                        self.counts["moves broken off"] += 1
-                        moving.move(client, name, seconds=_SECONDS_TO_SETTLE)
-                else:
-                    moving.move(client, name, seconds=_SECONDS_TO_SETTLE)
-                self.counts["moved"] += client.directory.seat(name) != before
+            before = client.directory.seat(name)
+            if before is None:
+                return
+            try:
+                # Half of them have little time, and those that are broken off are ended by the next call.
+                moving.move(client, name, seconds=self._draw.choice((0.02, _SECONDS_TO_SETTLE)))
+            except NoReply:
+                self.counts["broken off"] += 1
+                moving.move(client, name, seconds=_SECONDS_TO_SETTLE)
+            self.counts["moved"] += client.directory.seat(name) != before
 
     def _second_worker(self) -> None:
         """Starts a second worker on a shard that is served: it ends, and says why."""
@@ -238,9 +235,21 @@ class Faults:
         status = second.wait(_SECONDS_TO_SETTLE)
         if status != _NO_LEASE or "is served by another worker" not in second.said():
             raise Differs(f"a second worker ends with {status}: {second.said()}")
-        self.counts["second workers refused"] += 1
+        self.counts["second"] += 1
 
     # The end.
+
+    def summary(self, wanted: int) -> str:
+        """What was seen."""
+        counts = self.counts
+        short = f" (of {wanted} that were wanted)" if counts["kills"] < wanted else ""
+        return (
+            f"faults of shards: {counts['frames']:,} frames of {CUSTOMERS} customers in {counts['calls']:,} calls, each answered as by a host"
+            f" that serves the customer alone; {counts['entries']:,} entries, each with one reply;\n"
+            f"    {counts['kills']} workers killed{short} and {counts['hosts']} hosts, {counts['served']} workers had begun to serve;"
+            f" {counts['paused']} were paused past their lease; Redis killed {counts['redis']} times, connections cut {counts['cut']} times;"
+            f" {counts['moved']} moves, {counts['broken off']} of them broken off; {counts['second']} second workers refused"
+        )
 
     def _end(self) -> None:
         """Stops the workers, and compares how many entries, replies and calls there are."""
@@ -280,7 +289,7 @@ def main() -> int:
         except Differs as error:
             print(f"faults of shards: {error}")
             return 1
-    print("faults of shards: " + ", ".join(f"{many} {what}" for what, many in sorted(faults.counts.items())))
+    print(faults.summary(said.kills))
     return 0
 
 

@@ -70,7 +70,7 @@ class Commands(ShardTest):
             (["worker", "0"], 4, "shard 0 is served by another worker, .*, whose lease is renewed"),
             (["move", "acme"], 1, "customer acme can't be moved: the customer is not in the directory"),
             (["client", "acme"], 1, "the bytes from 0 on are no whole frame"),
-            (["client", "acme", *nowhere], 3, "Redis can't be reached: .*"),
+            (["client", "acme", *nowhere], 3, "it is not known whether a call of customer acme was taken: Redis can't be reached: .*"),
             (["show", "--redis", "nonsense"], 3, "nonsense is no URL of a Redis: .*"),
             (["worker", "0", "--bpfhost", "/nothing"], 3, "/nothing does not start: No such file or directory"),
             (["worker", "x"], 2, "argument SHARD: invalid shard from 0 to 2147483647 value: 'x'"),

@@ -139,6 +139,13 @@ class Calls(ShardTest):
         self.assertEqual(len(lost), 3)
         self.assertEqual(self.client.shard(0)[0].xlen(ShardKeys(0).frames), 2)
 
+    def test_a_call_that_is_not_taken_is_not_sent_later(self) -> None:
+        customer = self.client.customer("acme")
+        with self.assertRaises(NotTaken):
+            customer.post(CREATE)
+        self.shard(0)
+        self.assertEqual(customer.ask(CREATE).status, 3)
+
     def test_a_worker_that_comes_later(self) -> None:
         self.client.directory.add_shard(0)
         customer = self.client.customer("acme")

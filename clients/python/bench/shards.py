@@ -40,6 +40,7 @@ SHARDS = ((1, 1), (2, 1), (4, 1), (4, 4))
 CUSTOMERS, AHEAD = 8, 8
 NEVER = MOST_ENTRIES // 2
 REPLAYED = 100_000
+SETTINGS = Settings(snapshot_entries=NEVER, demand_durable=False)
 _context = multiprocessing.get_context("fork")
 _TICKS = os.sysconf("SC_CLK_TCK")
 
@@ -70,8 +71,7 @@ def by_pipe(program: str, many: int, size: int) -> float:
 
 def work(url: str, program: str, shard: int) -> None:
     """A worker that takes no snapshot."""
-    settings = Settings(lease_seconds=5, snapshot_entries=NEVER)
-    Worker(connect(url), ShardKeys(shard), program, settings, lambda _sentence: None).run()
+    Worker(connect(url), ShardKeys(shard), program, SETTINGS, lambda _sentence: None).run()
 
 
 def ask(url: str, program: str, name: str, calls: int, size: int, barrier: Any) -> None:
@@ -173,10 +173,13 @@ def _size(server: RedisServer) -> int:
 
 
 def replay(folder: Path, program: str, size: int) -> float:
-    """The seconds from the start of a worker to its first turn, where frames in calls of so many have replies already."""
-    with tempfile.TemporaryDirectory(dir=folder) as room, RedisServer(Path(room)) as server, Client(server.url) as client:
+    """The seconds from the start of a worker to its first turn, where frames in calls of so many have replies already.
+
+    Redis does not wait for its disk here, since nothing is written in this time, and much before it.
+    """
+    with tempfile.TemporaryDirectory(dir=folder) as room, RedisServer(Path(room), "no") as server, Client(server.url) as client:
         client.directory.add_shard(0)
-        first = _context.Process(target=work, args=(server.url, program, 0))
+        first = _context.Process(target=work, args=(server.url, program, 0), daemon=True)
         first.start()
         customer = client.customer("one", 600)
         customer.wait(customer.post(b"".join(begins(program))))
@@ -187,7 +190,7 @@ def replay(folder: Path, program: str, size: int) -> float:
         redis, keys = client.shard(0)
         redis.execute_command("DEL", keys.lease)
         began = time.monotonic()
-        Worker(connect(server.url), keys, program, Settings(snapshot_entries=NEVER), lambda _sentence: None).run(lambda: True)
+        Worker(connect(server.url), keys, program, SETTINGS, lambda _sentence: None).run(lambda: True)
         return time.monotonic() - began
 
 
@@ -195,7 +198,7 @@ def tell(program: str, folder: Path, many: int, size: int) -> None:
     """Measures calls of so many frames, and prints it."""
     piped = by_pipe(program, many, size)
     found = {each: Shards(folder, program, *each).measure(many, size) for each in SHARDS}
-    speeds = ", ".join(f"{shards} on {servers} Redis {one.speed:,.0f} ({one.speed / piped:.3f})" for (shards, servers), one in found.items())
+    speeds = ", ".join(f"{each[0]} on {each[1]} Redis {one.speed:,.0f} ({one.speed / piped:.3f})" for each, one in found.items())
     print(f"{size} frames a call: by pipe {piped:,.0f}; shards {speeds}")
     costs = ", ".join(f"{kind} {cost:.1f}" for kind, cost in found[SHARDS[0]].costs.items())
     print(f"  us a frame of 1 shard: {costs}; {found[SHARDS[0]].logged:.0f} bytes a frame in the log", flush=True)

@@ -35,6 +35,13 @@ class Asking(HostTest):
             replies = list(host.ask_all(frame for frame, _ in EXCHANGE))
         self.assertEqual([reply.to_bytes() for reply in replies], [bytes.fromhex(wanted) for _, wanted in EXCHANGE])
 
+    def test_the_same_as_bytes(self) -> None:
+        with Host(PROGRAM, 2) as host:
+            host.widen()
+            replies = list(host.ask_bytes(frame for frame, _ in EXCHANGE * 500))
+        self.assertEqual(replies[: len(EXCHANGE)], [bytes.fromhex(wanted) for _, wanted in EXCHANGE])
+        self.assertEqual(len(replies), 500 * len(EXCHANGE))
+
     def test_tenants_that_are_not_served(self) -> None:
         with Host(PROGRAM, 1) as host:
             self.assertEqual(host.ask(frames.close(1, 3)).status, -1)
@@ -138,6 +145,8 @@ class Ends(TimedTest):
             program = self.pretender(f"read(12); os.write(1, bytes.fromhex({said!r})); read()")
             with self.assertRaisesRegex(ReplyError, "with which no reply begins"), Host(program) as host:
                 host.ask(frames.close(0, 3))
+            with self.assertRaisesRegex(ReplyError, "with which no reply begins"), Host(program) as host:
+                list(host.ask_bytes([frames.close(0, 3)]))
 
     def test_it_answers_more_than_was_asked(self) -> None:
         program = self.pretender("read(12); os.write(1, bytes.fromhex('0800000000000001 00000000') * 2); read()")

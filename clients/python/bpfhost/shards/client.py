@@ -13,8 +13,8 @@ from dataclasses import dataclass, field
 from types import TracebackType
 from typing import cast
 
-from bpfhost.frames import NO_CONTEXT, Context
 from bpfhost import frames as make
+from bpfhost.frames import NO_CONTEXT, Context
 from bpfhost.host import Host
 from bpfhost.packets import Packets
 from bpfhost.replies import Reply, read_replies

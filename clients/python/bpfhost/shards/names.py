@@ -1,6 +1,7 @@
 """The keys of a shard and of the directory in Redis, the fields of entries, and the ids of entries.
 
-All keys of a shard have its number in braces, so that a cluster keeps them on one server; no script has keys of two shards.
+No script has keys of two shards, or of a shard and the directory, so each may be on a server of its own. The braces are what a cluster
+of Redis goes by.
 """
 
 from __future__ import annotations

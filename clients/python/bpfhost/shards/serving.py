@@ -10,6 +10,7 @@ from collections.abc import Callable, Iterable, Iterator, Mapping, Sequence
 from dataclasses import dataclass, field
 from itertools import islice
 
+from bpfhost import frames as make
 from bpfhost.host import Host
 from bpfhost.numbers import MOST_TENANTS, Command, Errno
 from bpfhost.program import Program
@@ -19,7 +20,6 @@ from bpfhost.shards.errors import MemoryRefused, ShardError
 from bpfhost.shards.names import ARRIVES, FAULT, FRAMES, LEAVES, REPLIES, TENANT
 from bpfhost.shards.snapshot import read_pairs, same_pairs, split, state_frames, wanted_status, with_tenant
 from bpfhost.shards.tenancy import Tenancy
-from bpfhost import frames as make
 
 # An entry has at most so many frames and bytes; each of the replies may have 4,108 bytes.
 MOST_FRAMES, LONGEST_CALL = 512, 262_144

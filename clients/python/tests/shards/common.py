@@ -7,13 +7,23 @@ import time
 import unittest
 import warnings
 
+from bpfhost import MapType, frames
 from bpfhost.shards import Client, Settings, ShardKeys, Worker
 from bpfhost.shards.connection import connect
 from tests.common import PROGRAM, HostTest
 from tests.shards.redis_server import RedisServer, missing
 
+# A customer makes a map, looks a key up there, and puts a number under it.
+CREATE = frames.map_create(0, MapType.HASH, 4, 8, 16)
+LOOK_UP = frames.map_lookup_elem(0, 3, b"key1")
+
 _WHY = missing()
 SETTINGS = Settings(lease_seconds=1.0)
+
+
+def put(value: int) -> bytes:
+    """The frame that does."""
+    return frames.map_update_elem(0, 3, b"key1", value.to_bytes(8, "little"))
 
 
 class WorkerThread:

@@ -95,6 +95,14 @@ class Faults:
 
     def run(self) -> None:
         """All of it; a Differs where anything is wrong."""
+        try:
+            self._run()
+        finally:
+            for shard in self.shards:
+                shard.worker.send(signal.SIGKILL)
+            self._redis.kill()
+
+    def _run(self) -> None:
         self._wait_for_shards()
         customers = [threading.Thread(target=self._guarded, args=(self._customer, number)) for number in range(CUSTOMERS)]
         keeper = threading.Thread(target=self._guarded, args=(self._supervise, 0))
@@ -244,11 +252,12 @@ class Faults:
         counts = self.counts
         short = f" (of {wanted} that were wanted)" if counts["kills"] < wanted else ""
         return (
-            f"faults of shards: {counts['frames']:,} frames of {CUSTOMERS} customers in {counts['calls']:,} calls, each answered as by a host"
-            f" that serves the customer alone; {counts['entries']:,} entries, each with one reply;\n"
+            f"faults of shards: {counts['frames']:,} frames of {CUSTOMERS} customers in {counts['calls']:,} calls, each answered as by a"
+            f" host that serves the customer alone; {counts['entries']:,} entries, each with one reply;\n"
             f"    {counts['kills']} workers killed{short} and {counts['hosts']} hosts, {counts['served']} workers had begun to serve;"
-            f" {counts['paused']} were paused past their lease; Redis killed {counts['redis']} times, connections cut {counts['cut']} times;"
-            f" {counts['moved']} moves, {counts['broken off']} of them broken off; {counts['second']} second workers refused"
+            f" {counts['paused']} were paused past their lease; Redis killed {counts['redis']} times, connections cut"
+            f" {counts['cut']} times; {counts['moved']} moves, {counts['broken off']} of them broken off; {counts['second']} second"
+            " workers refused"
         )
 
     def _end(self) -> None:
@@ -268,7 +277,6 @@ class Faults:
         if entries != calls + 2 * self.counts["moved"]:
             raise Differs(f"{entries} entries, and {calls} calls and {self.counts['moved']} moves")
         self.counts.update(entries=entries, calls=calls)
-        self._redis.kill()
 
 
 def main() -> int:

@@ -56,7 +56,11 @@ class RedisServer:
         log = open(self.folder / "log", "ab")
         self.process = subprocess.Popen([str(SERVER), *words], stdin=subprocess.DEVNULL, stdout=log, stderr=log)
         log.close()
-        self._wait()
+        try:
+            self._wait()
+        except BaseException:
+            self.kill()
+            raise
 
     def _wait(self) -> None:
         redis: Redis = connect(self.url)

@@ -43,6 +43,11 @@ def writes_eight(shape: MapShape) -> bool:
     return shape.key_size == 4 and shape.value_size == 8
 
 
+def has_global(shape: MapShape) -> bool:
+    """Whether programs may load the address of a value of eight bytes or more."""
+    return shape.map_type == MapType.ARRAY and shape.max_entries == 1 and shape.value_size >= 8
+
+
 class Stream:
     """Draws frames of tenant 0, and asks a host."""
 
@@ -92,7 +97,8 @@ class Stream:
     def _create(self) -> bytes:
         draw = self.draw
         kind = draw.choice((1, 1, 2))
-        sizes = draw.choice((4,) * 12 + (1, 8, 9, 512)) if kind == 1 else 4, draw.choice((8,) * 6 + (16, 9, 100)), draw.choice((1, 2, 3, 5, 6, 64))
+        key_size = draw.choice((4,) * 12 + (1, 8, 9, 512)) if kind == 1 else 4
+        sizes = key_size, draw.choice((8,) * 6 + (16, 9, 100)), draw.choice((1, 2, 3, 5, 6, 64))
         if draw.random() < 0.04:
             sizes = draw.choice(((4, 4096, 16), (0, 8, 1), (4, 8, 0), (4, 4096, 17), (513, 8, 1)))
         return frames.map_create(0, kind, *sizes)
@@ -117,8 +123,9 @@ class Stream:
     def _load(self) -> bytes:
         maps = {on.descriptor: on.shape for on in self.tenancy.open.values() if isinstance(on, LiveMap)}
         eight = [number for number, shape in maps.items() if writes_eight(shape)]
-        single = [number for number, shape in maps.items() if shape.map_type == MapType.ARRAY and shape.max_entries == 1 and shape.value_size >= 8]
-        names = ["length"] + ["add", "put", "drop", "read"] * bool(eight) + ["move"] * (3 * (len(eight) > 1)) + ["global"] * (2 * bool(single))
+        single = [number for number, shape in maps.items() if has_global(shape)]
+        names = ["length", *["add", "put", "drop", "read"] * bool(eight)]
+        names += ["move"] * (3 * (len(eight) > 1)) + ["global"] * (2 * bool(single))
         name = self.draw.choice(names)
         if self.draw.random() < 0.05:
             return frames.prog_load(0, slots_of(self._program, self.draw.choice(list(TEXTS)))[8 * self.draw.randrange(2) :])

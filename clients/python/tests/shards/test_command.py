@@ -12,6 +12,7 @@ import time
 from bpfhost import Host, MapType, frames
 from tests.common import PROGRAM
 from tests.shards.common import ShardTest
+from tests.shards.redis_server import RedisServer
 from tests.shards.streams import Stream
 
 FROM_HOST = re.compile(r"served by \S+ process [0-9]+")
@@ -25,9 +26,9 @@ class Commands(ShardTest):
     def words(self, *words: str) -> list[str]:
         return [sys.executable, "-m", "bpfhost.shards", words[0], "--redis", self.server.url, *words[1:]]
 
-    def start(self, shard: int) -> subprocess.Popen[str]:
+    def start(self, shard: int, *words: str) -> subprocess.Popen[str]:
         """A worker, which says that it serves."""
-        worker = subprocess.Popen(self.words("worker", str(shard), "--lease", "1"), stderr=subprocess.PIPE, text=True)
+        worker = subprocess.Popen(self.words("worker", str(shard), "--lease", "1", *words), stderr=subprocess.PIPE, text=True)
         assert worker.stderr is not None
         self.addCleanup(worker.stderr.close)
         self.addCleanup(worker.wait)
@@ -63,6 +64,14 @@ class Commands(ShardTest):
         self.assertGreater(5, time.monotonic() - began)
         self.assertEqual(self.call("client", "acme", given=frame).stdout[8:], bytes([4, 0, 0, 0]))
 
+    def test_a_shard_with_a_redis_of_its_own(self) -> None:
+        (self.scratch / "two").mkdir()
+        with RedisServer(self.scratch / "two") as other:
+            self.start(4, "--redis", other.url, "--directory", self.server.url)
+            frame = frames.map_create(0, MapType.HASH, 4, 8, 1)
+            self.assertEqual(self.call("client", "acme", given=frame).stdout[8:], bytes([3, 0, 0, 0]))
+            self.assertIn("shard 4: 1 customers, 0 calls wait, served by", self.call("show").stdout.decode())
+
     def test_one_sentence(self) -> None:
         self.start(0)
         nowhere = ["--redis", f"unix://{self.scratch}/nothing", "--seconds", "0.2"]
@@ -79,7 +88,8 @@ class Commands(ShardTest):
             (["client", "acme", "--seconds"], 2, "argument --seconds: expected one argument"),
         ):
             shard = "1" if "/nothing" in words else words[1] if len(words) > 1 else ""
-            called = self.call(words[0], *([shard] if words[1:] else []), *words[2:], given=frames.close(0, 3)[: -1 if status == 1 else None])
+            given = frames.close(0, 3)[: -1 if status == 1 else None]
+            called = self.call(words[0], *([shard] if words[1:] else []), *words[2:], given=given)
             self.assertEqual(called.returncode, status, (words, called.stderr))
             self.assertRegex(called.stderr.decode(), f"^(bpfhost.shards: )?{sentence}\n$")
 

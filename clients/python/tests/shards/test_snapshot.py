@@ -192,7 +192,7 @@ class MapsWithoutDescriptors(HostTest):
         self.assertEqual((len(tenancy.live()), len(tenancy.open), tenancy.lowest_free()), (16, 64, -1))
         with self.restored(tenancy, played) as host:
             for number, program in enumerate(one for one in tenancy.programs() if one.maps):
-                self.assertEqual(host.ask(frames.prog_test_run(0, program.descriptor)).result(), int.from_bytes(bytes([number] * 4), "little"))
+                self.assertEqual(host.ask(frames.prog_test_run(0, program.descriptor)).result(), number * 0x01010101)
             self.assertEqual(host.ask(frames.map_create(0, MapType.ARRAY, 4, 8, 1)).status, -24)
             host.ask(frames.close(0, 66)).done()
             self.assertEqual(host.ask(frames.map_create(0, MapType.ARRAY, 4, 8, 1)).status, -28)

@@ -1,0 +1,97 @@
+"""Customers that are moved and removed, also by calls that break off."""
+
+from __future__ import annotations
+
+from unittest import mock
+
+from bpfhost import Errno, MapType
+from bpfhost.shards import Client, Seat, ShardError, ShardKeys, move, remove, scripts
+from bpfhost.shards.connection import Script
+from tests.shards.common import CREATE, LOOK_UP, ShardTest, WorkerThread, put
+from tests.shards.redis_server import RedisServer
+
+
+class Moves(ShardTest):
+    def test_a_move(self) -> None:
+        for shard in (0, 1):
+            self.shard(shard)
+        customer, other = self.client.customer("acme"), self.client.customer("other")
+        tenant = customer.tenant()
+        counts = tenant.map_create(MapType.HASH, 4, 8, 16)
+        counts[b"key1"] = bytes([1] * 8)
+        other.ask(CREATE)
+        was = self.client.directory.seat("acme")
+        seat = move(self.client, "acme")
+        self.assertEqual((was and was.shard, seat.shard), (0, 1))
+        self.assertEqual(dict(counts.items()), {b"key1": bytes([1] * 8)})
+        self.assertEqual(other.ask(LOOK_UP).status, -Errno.ENOENT)
+        self.assertEqual(self.client.directory.loads(), {0: 0, 1: 2})
+        # Its number is free, and who comes there begins as a new tenant.
+        third = self.client.customer("third")
+        self.assertEqual(third.ask(CREATE).status, 3)
+        self.assertEqual(self.client.directory.seat("third"), Seat(0, 0, seat.generation + 1))
+
+    def test_moves_that_can_not_be(self) -> None:
+        with self.assertRaisesRegex(ShardError, "customer acme can't be moved: the customer is not in the directory"):
+            move(self.client, "acme")
+        self.shard(0)
+        self.client.customer("acme").ask(CREATE)
+        for shard, why in ((None, "there is no other shard"), (0, "the customer is there already"), (7, "there is no such shard")):
+            with self.assertRaisesRegex(ShardError, f"customer acme can't be moved: {why}"):
+                move(self.client, "acme", shard)
+
+    def test_each_step_is_taken_up_again(self) -> None:
+        """A move that breaks off behind any of its calls of Redis is ended by the next one."""
+        for shard in (0, 1):
+            self.shard(shard)
+        customer = self.client.customer("acme")
+        customer.ask(CREATE)
+        right = Script.__call__
+        for step in range(5):
+            customer.ask(put(step))
+            done: list[object] = []
+
+            def breaks(script: Script, *arguments: object) -> object:
+                if len(done) == step:
+                    raise RuntimeError("broken off")
+                done.append(right(script, *arguments))  # type: ignore[arg-type]
+                return done[-1]
+
+            mover = Client(self.server.url)
+            moves = (scripts.BEGIN_MOVE, scripts.CLAIM, scripts.LEAVE, scripts.ARRIVE, scripts.SEAT, scripts.END_MOVE)
+
+            def only_moves(script: Script, redis: object, *arguments: object) -> object:
+                if redis in mover._servers.values() and script in moves:
+                    return breaks(script, redis, *arguments)
+                return right(script, redis, *arguments)  # type: ignore[arg-type]
+
+            with mock.patch.object(Script, "__call__", only_moves), self.assertRaises(RuntimeError):
+                move(mover, "acme")
+            mover.close()
+            move(self.client, "acme")
+            self.assertEqual(customer.ask(LOOK_UP).payload, step.to_bytes(8, "little"))
+            self.assertEqual(sum(self.client.directory.loads().values()), 1)
+            for shard in (0, 1):
+                self.assertEqual(self.client.shard(shard)[0].hgetall(ShardKeys(shard).left), {})
+
+    def test_a_customer_that_is_removed(self) -> None:
+        self.shard(0)
+        customer = self.client.customer("acme")
+        customer.ask(CREATE)
+        remove(self.client, "acme")
+        self.assertEqual((self.client.directory.customers(), self.client.directory.loads()), ({}, {0: 0}))
+        # It is a new one then.
+        self.assertEqual(customer.ask(LOOK_UP).status, -Errno.EBADF)
+
+    def test_shards_on_two_servers(self) -> None:
+        (self.scratch / "two").mkdir()
+        with RedisServer(self.scratch / "two") as other:
+            self.client.directory.add_shard(1, other.url)
+            far = WorkerThread(other.url, 1)
+            self.shard(0)
+            for name in ("one", "two"):
+                self.assertEqual(self.client.customer(name).ask(CREATE).status, 3)
+            self.client.customer("one").ask(put(6))
+            self.assertEqual(move(self.client, "one", 1).shard, 1)
+            self.assertEqual(self.client.customer("one").ask(LOOK_UP).payload, (6).to_bytes(8, "little"))
+            far.stop()

@@ -19,6 +19,8 @@ from bpfhost.shards.names import ShardKeys
 SECONDS = 5.0
 _LEAST_SECONDS = 0.1
 _PAUSE = 0.02
+# What Redis says of the time that is left to a key that is not there.
+_EXPIRED = -2
 
 
 class Lease:
@@ -37,13 +39,13 @@ class Lease:
         """Takes the lease. Where another worker has it, waits until that would run out; a LeaseHeld where it is renewed meanwhile."""
         holder, until = b"", 0.0
         while not self._redis.set(self._keys.lease, self.token, nx=True, px=self.milliseconds):
-            found, left = self._redis.get(self._keys.lease) or b"", self._redis.pttl(self._keys.lease) / 1000
+            found, left = self._redis.get(self._keys.lease) or b"", self._redis.pttl(self._keys.lease)
             if found == self.token.encode():
                 # It was taken, and the answer was lost.
                 break
             if found and found != holder:
-                holder, until = found, time.monotonic() + left + _PAUSE
-            if found and time.monotonic() > until and left > 0:
+                holder, until = found, time.monotonic() + left / 1000 + _PAUSE
+            if found and time.monotonic() > until and left != _EXPIRED:
                 raise LeaseHeld(f"shard {self._keys.number} is served by another worker, {_who(found)}, whose lease is renewed")
             time.sleep(_PAUSE)
         self._renewed = time.monotonic()

@@ -204,7 +204,9 @@ class Worker:
                     continue
                 if ARRIVES in fields:
                     yield from answered(fields[ARRIVES])
-                elif FRAMES in fields and REPLIES in replies.get(entry, {}):
+                elif entry not in replies:
+                    raise ShardError(f"entry {entry.decode()} of shard {self._keys.number} has no reply any more")
+                elif REPLIES in replies[entry]:
                     yield from zip(split(fields[FRAMES]), split(replies[entry][REPLIES]), strict=True)
 
 

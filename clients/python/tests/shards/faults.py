@@ -252,12 +252,13 @@ class Faults:
         counts = self.counts
         short = f" (of {wanted} that were wanted)" if counts["kills"] < wanted else ""
         return (
-            f"faults of shards: {counts['frames']:,} frames of {CUSTOMERS} customers in {counts['calls']:,} calls, each answered as by a"
-            f" host that serves the customer alone; {counts['entries']:,} entries, each with one reply;\n"
-            f"    {counts['kills']} workers killed{short} and {counts['hosts']} hosts, {counts['served']} workers had begun to serve;"
-            f" {counts['paused']} were paused past their lease; Redis killed {counts['redis']} times, connections cut"
-            f" {counts['cut']} times; {counts['moved']} moves, {counts['broken off']} of them broken off; {counts['second']} second"
-            " workers refused"
+            f"faults of shards: {counts['frames']:,} frames of {CUSTOMERS} customers in {counts['calls']:,} calls,\n"
+            "    each answered as by a host that serves the customer alone;\n"
+            f"    {counts['entries']:,} entries, each with one reply;\n"
+            f"    {counts['kills']} workers killed{short} and {counts['hosts']} hosts, {counts['served']} workers had begun to serve;\n"
+            f"    {counts['paused']} workers paused past their lease, {counts['second']} second workers refused;\n"
+            f"    Redis killed {counts['redis']} times, connections cut {counts['cut']} times;\n"
+            f"    {counts['moved']} moves, {counts['broken off']} of them broken off and ended by the next call"
         )
 
     def _end(self) -> None:

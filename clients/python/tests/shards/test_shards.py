@@ -209,6 +209,12 @@ class Workers(ShardTest):
         self.assertEqual(self.client.customer("acme").ask(CREATE).status, 3)
         self.assertIsNone(first.error)
 
+    def test_a_lease_without_an_end(self) -> None:
+        redis, keys = self.client.shard(0)
+        redis.set(keys.lease, "token elsewhere process 7")
+        worker = self.shard(0)
+        self.assertIsInstance(worker.error, LeaseHeld)
+
     def test_a_lease_that_is_gone(self) -> None:
         worker = self.shard(0)
         customer = self.client.customer("acme")

@@ -3,6 +3,7 @@
 from __future__ import annotations
 
 import random
+import signal
 from collections.abc import Iterable
 
 from bpfhost import Host, MapType, frames
@@ -13,7 +14,7 @@ from bpfhost.shards.names import ARRIVES, FRAMES, LEAVES, TENANT, order
 from bpfhost.shards.serving import Serving, answered
 from bpfhost.shards.snapshot import split, state_frames, with_tenant
 from bpfhost.shards.tenancy import Tenancy, renamed_maps
-from tests.common import PROGRAM, HostTest
+from tests.common import PROGRAM, SECONDS, HostTest
 from tests.shards.streams import Stream, is_without_descriptor, slots_of
 
 SERVINGS, TENANTS, LENGTH = 5, 64, 200
@@ -82,6 +83,8 @@ class Snapshots(HostTest):
     def test_hundreds_of_streams(self) -> None:
         without = 0
         for number in range(SERVINGS):
+            # Each host has the time of a test.
+            signal.alarm(SECONDS)
             draw, log = random.Random(number), Log()
             streams = {tenant: Told(f"{number} {tenant}", LENGTH) for tenant in range(TENANTS)}
             without += sum(one.without_descriptor for one in streams.values())

@@ -34,6 +34,10 @@ class Seat:
         """As the directory has it."""
         return cls(*map(int, text.split()))
 
+    def text(self) -> bytes:
+        """The same."""
+        return b"%d %d %d" % (self.shard, self.tenant, self.generation)
+
     def owned_by(self, name: str) -> bytes:
         """What the shard's seats say while it is this customer's."""
         return b"%d %s" % (self.generation, name.encode())
@@ -84,10 +88,10 @@ class Directory:
             raise MoveError(f"customer {name} is being removed")
         return Seat.read(seat), None if what == NOWHERE else Seat.read(what)
 
-    def end_move(self, name: str) -> None:
-        """Gives the customer its next seat, and frees the old one. Twice is once."""
+    def end_move(self, name: str, seat: Seat, next_seat: Seat | None) -> None:
+        """Gives the customer its next seat, and frees the old one, if this move has not ended. Twice is once."""
         with told():
-            scripts.END_MOVE(self._redis, self._keys.all, [name])
+            scripts.END_MOVE(self._redis, self._keys.all, [name, seat.text(), next_seat.text() if next_seat else NOWHERE])
 
     def customers(self) -> dict[str, Seat]:
         """All customers."""

@@ -33,7 +33,7 @@ def move(client: Client, name: str, shard: int | None = None, seconds: float = S
         _arrive(client, seat, next_seat, deadline)
     _seat(client, name, next_seat, deadline)
     _forget(client, seat, deadline)
-    patiently(lambda: client.directory.end_move(name), deadline)
+    patiently(lambda: client.directory.end_move(name, seat, next_seat), deadline)
     return next_seat
 
 
@@ -43,7 +43,7 @@ def remove(client: Client, name: str, seconds: float = SECONDS) -> None:
     seat, _ = patiently(lambda: client.directory.begin_move(name, removed=True), deadline)
     _leave(client, name, seat, deadline)
     _forget(client, seat, deadline)
-    patiently(lambda: client.directory.end_move(name), deadline)
+    patiently(lambda: client.directory.end_move(name, seat, None), deadline)
 
 
 def _leave(client: Client, name: str, seat: Seat, deadline: float) -> None:
@@ -68,6 +68,9 @@ def _arrive(client: Client, seat: Seat, next_seat: Seat, deadline: float) -> Non
     redis, keys = client.shard(seat.shard)
     stream = patiently(lambda: redis.hget(keys.left, seat.generation), deadline)
     if stream is None:
+        if _has_arrived(client, next_seat, deadline):
+            # Another one has ended the same move meanwhile.
+            return
         raise MoveError(f"shard {seat.shard} has no state of generation {seat.generation}, which has left it")
     redis, keys = client.shard(next_seat.shard)
     words = [next_seat.tenant, next_seat.generation, stream]

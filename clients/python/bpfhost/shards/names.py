@@ -59,10 +59,9 @@ class ShardKeys:
         """A hash with the place of the snapshot, and for each tenant that is not empty the frames that make its state."""
         return self._key("snapshot")
 
-    @property
-    def parts(self) -> str:
-        """A hash with the parts of a snapshot that is too large for one call, while it is written."""
-        return self._key("parts")
+    def parts(self, place: bytes) -> str:
+        """A hash with the parts of the snapshot at a place that is too large for one call, while it is written; it expires."""
+        return self._key(f"parts:{place.decode()}")
 
     @property
     def left(self) -> str:

@@ -1,4 +1,7 @@
-"""The scripts of shards and of the directory. Redis runs each as one step."""
+"""The scripts of shards and of the directory. Redis runs each as one step.
+
+Each is right to run twice, and late: what was asked on a connection that was cut may be done after it was asked again on another one.
+"""
 
 from bpfhost.shards.connection import Script
 
@@ -56,12 +59,13 @@ redis.call('HSET', KEYS[1], ARGV[1], ARGV[2] .. ' arrives ' .. entry)
 return entry
 """)
 
-# Gives a seat to the customer that has arrived there.
+# Gives a seat to the customer that has arrived there, and has not left since.
 # KEYS: seats. ARGV: tenant, generation, seat.
 SEAT = Script("""
 local seat = redis.call('HGET', KEYS[1], ARGV[1])
-if seat and tonumber(string.match(seat, '^%d+')) == tonumber(ARGV[2]) then redis.call('HSET', KEYS[1], ARGV[1], ARGV[3]) end
-return redis.call('HGET', KEYS[1], ARGV[1])
+if not seat or not string.match(seat, '^' .. ARGV[2] .. ' arrives ') then return 0 end
+redis.call('HSET', KEYS[1], ARGV[1], ARGV[3])
+return 1
 """)
 
 # Renews a lease that is still held.
@@ -90,30 +94,32 @@ for at = behind + 1, #ARGV, 2 do redis.call('HSET', KEYS[3], ARGV[at], ARGV[at +
 return 1
 """)
 
-# Puts a part of a snapshot aside that is too large for one call, where the lease is held.
-# KEYS: lease, parts. ARGV: token, milliseconds, 1 for the first part, then fields of the snapshot with their bytes.
+# Puts a part of a snapshot aside that is too large for one call, for an hour, where the lease is held.
+# KEYS: lease, parts. ARGV: token, milliseconds, then fields of the snapshot with their bytes.
 KEEP_PART = Script("""
 if redis.call('GET', KEYS[1]) ~= ARGV[1] then return 0 end
 redis.call('PEXPIRE', KEYS[1], ARGV[2])
-if ARGV[3] == '1' then redis.call('DEL', KEYS[2]) end
-for at = 4, #ARGV, 2 do redis.call('HSET', KEYS[2], ARGV[at], ARGV[at + 1]) end
+for at = 3, #ARGV, 2 do redis.call('HSET', KEYS[2], ARGV[at], ARGV[at + 1]) end
+redis.call('EXPIRE', KEYS[2], 3600)
 return 1
 """)
 
-# Puts a snapshot in the place of an older one, where the lease is held, and drops what came before it.
-# KEYS: lease, snapshot, frames, replies, parts. ARGV: token, milliseconds, the first id of frames and of replies that is kept, 1 where
-# parts were put aside, then fields of the snapshot with their bytes, of which empty ones are no field.
+# Puts a snapshot in the place of the last one, where the lease is held, and drops what came before it.
+# KEYS: lease, snapshot, frames, replies, parts. ARGV: token, milliseconds, the first id of frames and of replies that is kept, the places
+# of the last snapshot and of this one, then fields with their bytes, of which empty ones are no field.
 KEEP_SNAPSHOT = Script("""
 if redis.call('GET', KEYS[1]) ~= ARGV[1] then return 0 end
 redis.call('PEXPIRE', KEYS[1], ARGV[2])
+local place = redis.call('HGET', KEYS[2], 'place') or '0-0'
+if place == ARGV[6] then return 1 end
+if place ~= ARGV[5] then return redis.error_reply('the last snapshot is at ' .. place .. ' and not at ' .. ARGV[5]) end
 local function keep(field, bytes)
   if bytes == '' then redis.call('HDEL', KEYS[2], field) else redis.call('HSET', KEYS[2], field, bytes) end
 end
-if ARGV[5] == '1' then
-  for _, field in ipairs(redis.call('HKEYS', KEYS[5])) do keep(field, redis.call('HGET', KEYS[5], field)) end
-end
+for _, field in ipairs(redis.call('HKEYS', KEYS[5])) do keep(field, redis.call('HGET', KEYS[5], field)) end
 redis.call('DEL', KEYS[5])
-for at = 6, #ARGV, 2 do keep(ARGV[at], ARGV[at + 1]) end
+for at = 7, #ARGV, 2 do keep(ARGV[at], ARGV[at + 1]) end
+redis.call('HSET', KEYS[2], 'place', ARGV[6])
 redis.call('XTRIM', KEYS[3], 'MINID', ARGV[3])
 redis.call('XTRIM', KEYS[4], 'MINID', ARGV[4])
 return 1
@@ -182,10 +188,11 @@ redis.call('HSET', KEYS[5], ARGV[1], given)
 return {seat, given}
 """)
 
-# Ends a move: the customer has its next seat, and the old one is free. KEYS: those of the directory. ARGV: name.
+# Ends a move from a seat to the next one: the customer has that, and the old one is free.
+# KEYS: those of the directory. ARGV: name, seat, next seat.
 END_MOVE = Script(_GIVE + """
 local seat, next = redis.call('HGET', KEYS[1], ARGV[1]), redis.call('HGET', KEYS[5], ARGV[1])
-if not next then return 0 end
+if seat ~= ARGV[2] or next ~= ARGV[3] then return 0 end
 if next == 'nowhere' then redis.call('HDEL', KEYS[1], ARGV[1]) else redis.call('HSET', KEYS[1], ARGV[1], next) end
 redis.call('HDEL', KEYS[5], ARGV[1])
 take_back(seat)

@@ -74,8 +74,9 @@ class Serving:
 
     def restore(self, snapshot: Mapping[int, bytes]) -> None:
         """Begins anew with the state of a snapshot."""
-        self._host.kill()
-        self._start()
+        if self.asked:
+            self._host.kill()
+            self._start()
         for tenant, stream in snapshot.items():
             self._make(tenant, stream)
         self.snapshot = dict(snapshot)

@@ -64,9 +64,20 @@ class Worker:
         A LeaseHeld where another worker serves the shard, a LeaseLost where this one's lease ran out, a RepliesDiffer where a frame is
         answered otherwise than it was, a MemoryRefused, a HostError or a RedisError else. What was written before is right.
         """
-        self._with_redis(self._begin)
+        # The host begins first, so that none of the lease's time goes by meanwhile.
+        with Serving(self._program, self._history, self._lease.keep) as serving:
+            self._with_redis(self._begin)
+            self._serve_under_lease(serving, is_stopped)
+
+    def _begin(self) -> None:
+        with told():
+            if self._settings.demand_durable:
+                demand_durable(self._redis)
+            self._lease.take()
+
+    def _serve_under_lease(self, serving: Serving, is_stopped: Callable[[], bool]) -> None:
         try:
-            self._serve(is_stopped)
+            self._serve(serving, is_stopped)
         except (RedisError, LeaseLost):
             raise
         except ShardError as error:
@@ -79,18 +90,11 @@ class Worker:
             with contextlib.suppress(RedisError):
                 self._lease.release()
 
-    def _serve(self, is_stopped: Callable[[], bool]) -> None:
-        with Serving(self._program, self._history, self._lease.keep) as serving:
-            self._with_redis(lambda: self._restore(serving))
-            self._tell(f"shard {self._keys.number} is served, from entry {self._place.decode()} on")
-            while not is_stopped():
-                self._turn(serving)
-
-    def _begin(self) -> None:
-        with told():
-            if self._settings.demand_durable:
-                demand_durable(self._redis)
-            self._lease.take()
+    def _serve(self, serving: Serving, is_stopped: Callable[[], bool]) -> None:
+        self._with_redis(lambda: self._restore(serving))
+        self._tell(f"shard {self._keys.number} is served, from entry {self._place.decode()} on")
+        while not is_stopped():
+            self._turn(serving)
 
     def _with_redis(self, call: Callable[[], None]) -> None:
         patiently(call, time.monotonic() + _SECONDS_FOR_REDIS)
@@ -183,12 +187,12 @@ class Worker:
         # By the server's clock, which has written the place.
         kept = max(0, order(self._place)[0] - int(self._settings.reply_seconds * 1000))
         *parts, last = _parts(new)
-        held = [self._lease.token, self._lease.milliseconds]
-        for at, part in enumerate(parts):
-            words = [*held, int(at == 0), *part]
-            self._under_lease(lambda: scripts.KEEP_PART(self._redis, [self._keys.lease, self._keys.parts], words))
-        keys = [self._keys.lease, self._keys.snapshot, self._keys.frames, self._keys.replies, self._keys.parts]
-        arguments = [*held, after(self._place), b"%d-0" % kept, int(bool(parts)), _PLACE, self._place, *last]
+        held, aside = [self._lease.token, self._lease.milliseconds], self._keys.parts(self._place)
+        for part in parts:
+            words = [*held, *part]
+            self._under_lease(lambda: scripts.KEEP_PART(self._redis, [self._keys.lease, aside], words))
+        keys = [self._keys.lease, self._keys.snapshot, self._keys.frames, self._keys.replies, aside]
+        arguments = [*held, after(self._place), b"%d-0" % kept, self._snapshot_place, self._place, *last]
         self._under_lease(lambda: scripts.KEEP_SNAPSHOT(self._redis, keys, arguments))
         self._snapshot_place, self._entries, self._bytes = self._place, 0, 0
         if serving.asked >= self._settings.most_asked:

@@ -18,7 +18,8 @@ CREATE = frames.map_create(0, MapType.HASH, 4, 8, 16)
 LOOK_UP = frames.map_lookup_elem(0, 3, b"key1")
 
 _WHY = missing()
-SETTINGS = Settings(lease_seconds=1.0)
+SECONDS = 3.0
+SETTINGS = Settings(lease_seconds=SECONDS)
 
 
 def put(value: int) -> bytes:

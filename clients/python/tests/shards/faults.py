@@ -31,7 +31,7 @@ from tests.shards.streams import Stream
 from tests.shards.worker_process import WorkerProcess
 
 PROGRAM = os.environ.get("BPFHOST", "")
-SHARDS, CUSTOMERS, LEASE = 3, 10, 0.5
+SHARDS, CUSTOMERS, LEASE = 3, 10, 1.0
 SNAPSHOT_ENTRIES = 120
 _SECONDS_TO_SETTLE = 60.0
 # The statuses of a worker that ended since its host or Redis was away, or another worker has its lease.

@@ -2,10 +2,12 @@
 
 from __future__ import annotations
 
+import contextlib
+import threading
 from unittest import mock
 
 from bpfhost import Errno, MapType
-from bpfhost.shards import Client, Seat, ShardError, ShardKeys, move, remove, scripts
+from bpfhost.shards import Client, MoveError, Seat, ShardError, ShardKeys, move, remove, scripts
 from bpfhost.shards.connection import Script
 from tests.shards.common import CREATE, LOOK_UP, ShardTest, WorkerThread, put
 from tests.shards.redis_server import RedisServer
@@ -73,6 +75,49 @@ class Moves(ShardTest):
             self.assertEqual(sum(self.client.directory.loads().values()), 1)
             for shard in (0, 1):
                 self.assertEqual(self.client.shard(shard)[0].hgetall(ShardKeys(shard).left), {})
+
+    def test_steps_that_come_late(self) -> None:
+        """What belongs to a move that has ended does nothing any more, also where the next one has begun."""
+        for shard in (0, 1):
+            self.shard(shard)
+        customer = self.client.customer("acme")
+        customer.ask_all([CREATE, put(5)])
+        self.assertEqual([reply.status for reply in customer.ask_all([CREATE, put(5)])], [3, 0])
+        first, second = self.client.directory.begin_move("acme")
+        move(self.client, "acme")
+        assert second is not None
+        self.client.directory.begin_move("acme")
+        redis, keys = self.client.shard(second.shard)
+        leaves = [second.tenant, second.generation, second.owned_by("acme")]
+        left = scripts.LEAVE(redis, [keys.seats, keys.frames], leaves)
+        # Of the first move, late: the seat stays taken back, and the directory does not have the next one yet.
+        self.assertEqual(scripts.SEAT(redis, [keys.seats], leaves), 0)
+        self.client.directory.end_move("acme", first, second)
+        self.assertEqual(self.client.directory.seat("acme"), second)
+        self.assertEqual(scripts.LEAVE(redis, [keys.seats, keys.frames], leaves), left)
+        third = move(self.client, "acme")
+        self.assertNotEqual(third, second)
+        self.assertEqual(customer.ask(LOOK_UP).payload, (5).to_bytes(8, "little"))
+
+    def test_two_who_move_at_once(self) -> None:
+        for shard in (0, 1):
+            self.shard(shard)
+        customer = self.client.customer("acme")
+        self.assertEqual(customer.ask(CREATE).status, 3)
+        for value in range(10):
+            customer.ask(put(value)).done()
+            movers = [threading.Thread(target=self.move_alone) for _ in range(3)]
+            for mover in movers:
+                mover.start()
+            for mover in movers:
+                mover.join()
+            self.assertEqual(customer.ask(LOOK_UP).payload, value.to_bytes(8, "little"))
+            self.assertEqual(sum(self.client.directory.loads().values()), 1)
+
+    def move_alone(self) -> None:
+        """Moves the customer by a client of its own; one that finds the move ended, or the customer gone again, says so."""
+        with Client(self.server.url) as client, contextlib.suppress(MoveError):
+            move(client, "acme")
 
     def test_a_customer_that_is_removed(self) -> None:
         self.shard(0)

@@ -25,7 +25,7 @@ from bpfhost.shards import (
 from bpfhost.shards.connection import Script, connect, demand_durable
 from bpfhost.shards.names import after, before, order
 from tests.common import LENGTH, PROGRAM
-from tests.shards.common import CREATE, LOOK_UP, ShardTest, WorkerThread, put
+from tests.shards.common import CREATE, LOOK_UP, SECONDS, ShardTest, WorkerThread, put
 from tests.shards.streams import Stream
 
 class Asking(ShardTest):
@@ -44,7 +44,7 @@ class Asking(ShardTest):
 
     def test_customers_are_told_what_they_are_told_alone(self) -> None:
         for shard in range(3):
-            self.shard(shard, Settings(1.0, snapshot_entries=10))
+            self.shard(shard, Settings(SECONDS, snapshot_entries=10))
         for number in range(9):
             with Host(PROGRAM) as host:
                 asked, wanted = Stream(PROGRAM, number).play(host, 400)
@@ -176,14 +176,14 @@ class Calls(ShardTest):
                 for _ in range(65):
                     customer.post(frames.frame(0, 1, bytes(100_000)))
             # What is due by its bytes is dropped by a snapshot.
-            self.shard(0, Settings(1.0, snapshot_bytes=1 << 20))
+            self.shard(0, Settings(SECONDS, snapshot_bytes=1 << 20))
             redis, keys = self.client.shard(0)
             while redis.xlen(keys.frames):
                 time.sleep(0.01)
             self.assertEqual(customer.ask(CREATE).status, 3)
 
     def test_replies_that_nobody_read(self) -> None:
-        self.shard(0, Settings(1.0, snapshot_entries=1, reply_seconds=0.0))
+        self.shard(0, Settings(SECONDS, snapshot_entries=1, reply_seconds=0.0))
         customer = self.client.customer("acme")
         ticket = customer.post(CREATE)
         time.sleep(0.01)
@@ -231,7 +231,7 @@ class Workers(ShardTest):
         self.assertEqual(customer.ask(LOOK_UP).payload, (1).to_bytes(8, "little"))
 
     def test_what_was_answered_is_played_again(self) -> None:
-        first = self.shard(0, Settings(1.0, snapshot_entries=100))
+        first = self.shard(0, Settings(SECONDS, snapshot_entries=100))
         customer = self.client.customer("acme")
         customer.ask(CREATE)
         for value in range(250):
@@ -272,7 +272,7 @@ class Workers(ShardTest):
         self.assertEqual(self.client.customer("acme").ask(CREATE).status, 3)
 
     def test_a_host_that_was_asked_often(self) -> None:
-        worker = self.shard(0, Settings(1.0, most_asked=100))
+        worker = self.shard(0, Settings(SECONDS, most_asked=100))
         customer = self.client.customer("acme")
         customer.ask(CREATE)
         for value in range(500):
@@ -284,8 +284,7 @@ class Workers(ShardTest):
         """More bytes than a script is given at once, of tenants that come and go."""
         redis, keys = self.client.shard(0)
         with mock.patch.object(workers, "_WRITTEN_AT_ONCE", 100):
-            first = self.shard(0, Settings(1.0, snapshot_entries=12))
-            redis.execute_command("HSET", keys.parts, "tenant:63", b"of a worker that was killed")
+            first = self.shard(0, Settings(SECONDS, snapshot_entries=12))
             for number in range(8):
                 customer = self.client.customer(f"customer-{number}")
                 self.assertEqual([reply.status for reply in customer.ask_all([CREATE, put(number)])], [3, 0])
@@ -294,11 +293,27 @@ class Workers(ShardTest):
             for _ in range(30):
                 self.client.customer("customer-7").ask(LOOK_UP)
         first.stop()
-        self.assertEqual(redis.exists(keys.parts), 0)
+        self.assertEqual(redis.execute_command("KEYS", "*parts*"), [])
         self.assertEqual(sorted(redis.hgetall(keys.snapshot)), sorted([b"place", *(b"tenant:%d" % at for at in (1, 2, 4, 5, 6, 7))]))
         self.shard(0)
         for number in (1, 2, 4, 5, 6, 7):
             self.assertEqual(self.client.customer(f"customer-{number}").ask(LOOK_UP).payload, number.to_bytes(8, "little"))
+
+    def test_a_snapshot_that_comes_late(self) -> None:
+        self.client.directory.add_shard(0)
+        redis, keys = self.client.shard(0)
+        redis.set(keys.lease, "token")
+        names = [keys.lease, keys.snapshot, keys.frames, keys.replies, keys.parts(b"5-0")]
+
+        def keep(last: str, this: str, tenant: bytes) -> object:
+            return scripts.KEEP_SNAPSHOT(redis, names, ["token", 60_000, "0-1", "0-1", last, this, "tenant:0", tenant])
+
+        self.assertEqual(keep("0-0", "5-0", b"one"), 1)
+        self.assertEqual(keep("5-0", "9-0", b"two"), 1)
+        self.assertEqual(keep("5-0", "9-0", b"two"), 1)
+        with self.assertRaisesRegex(Exception, "the last snapshot is at 9-0 and not at 0-0"):
+            keep("0-0", "5-0", b"one")
+        self.assertEqual(redis.hgetall(keys.snapshot), {b"place": b"9-0", b"tenant:0": b"two"})
 
     def test_a_redis_that_may_lose(self) -> None:
         redis = connect(self.server.url)

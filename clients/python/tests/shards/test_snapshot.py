@@ -6,14 +6,14 @@ import random
 import signal
 from collections.abc import Iterable
 
-from bpfhost import Host, MapType, frames
+from bpfhost import Host, MapType, assemble, frames
 from bpfhost.shards.connection import Entry
 from bpfhost.shards.copied import Asked, Copy
 from bpfhost.shards.errors import MemoryRefused, ShardError
 from bpfhost.shards.names import ARRIVES, FRAMES, LEAVES, TENANT, order
 from bpfhost.shards.serving import Serving, answered
 from bpfhost.shards.snapshot import split, state_frames, with_tenant
-from bpfhost.shards.tenancy import Tenancy, renamed_maps
+from bpfhost.shards.tenancy import Tenancy, named_maps, renamed_maps
 from tests.common import PROGRAM, SECONDS, HostTest
 from tests.shards.streams import Stream, is_without_descriptor, slots_of
 
@@ -206,6 +206,17 @@ class MapsWithoutDescriptors(HostTest):
         played[2] = played[2][0], played[2][1][:-4] + bytes(4)
         with Copy(PROGRAM) as copy, self.assertRaisesRegex(ShardError, "the copy of a tenant answers"):
             copy.play(played)
+
+
+class Names(HostTest):
+    """The maps that a program's slots name."""
+
+    def test_wide_loads(self) -> None:
+        text = "r2 = 1234605616436508552 ll\nr1 = map_fd 3 ll\nr3 = map_value 4 + 24 ll\nr4 = map_fd 3 ll\nr0 = 24\nexit\n"
+        slots = assemble(PROGRAM, text)
+        self.assertEqual(named_maps(slots), [3, 4, 3])
+        renamed = text.replace("map_fd 3", "map_fd 66").replace("map_value 4", "map_value 5")
+        self.assertEqual(renamed_maps(slots, {3: 66, 4: 5}), assemble(PROGRAM, renamed))
 
 
 class Entries(HostTest):

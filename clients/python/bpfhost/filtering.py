@@ -22,7 +22,6 @@ class Outcome:
     """
 
     packets: int = 0
-    accepted: int = 0
     bytes_kept: int = 0
     results: Counter[int] = field(default_factory=Counter)
     link_types: list[int] = field(default_factory=list)
@@ -32,11 +31,15 @@ class Outcome:
     def add(self, piece: Piece, results: tuple[int, ...]) -> None:
         """Counts the results of a piece."""
         self.packets += len(results)
-        self.accepted += len(results) - results.count(0)
         self.bytes_kept += sum([result if result < length else length for result, length in zip(results, piece.lengths)])
         self.results.update(results)
         if piece.link_type not in self.link_types:
             self.link_types.append(piece.link_type)
+
+    @property
+    def accepted(self) -> int:
+        """How many packets are kept, some bytes of them at least."""
+        return self.packets - self.results[0]
 
 
 class TenantsDiffer(BpfhostError):

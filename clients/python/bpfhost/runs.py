@@ -25,7 +25,8 @@ if TYPE_CHECKING:
 _REPLY_SIZE = REPLY_HEAD + 4
 # Bytes of a frame behind its length and before its packet.
 _HEAD = 48
-_ETHERNET_HEAD = 14
+# Where an Ethernet header has its type.
+_TYPE = slice(12, 14)
 # Where the word `protocol` stands in the context.
 _PROTOCOL = slice(12, 16)
 # A number below is no type but the length of IEEE 802.3, for which the kernel has a type of its own (linux/if_ether.h).
@@ -43,27 +44,31 @@ def _words(replies: bytes) -> array[int]:
 class _Heads:
     """What stands before packets in the frames of test runs of a program.
 
-    `starts` is what a frame begins with, up to its descriptor, by the length of its packet; `contexts` the words of its context, by the
-    two bytes of the type in an Ethernet header, or none. Both have what `learn` was given.
+    `lengths` is a frame's first field by the length of its packet, and `contexts` all behind that, up to the packet: by the bytes of the
+    packet where an Ethernet header has its type, fewer than two where there is no such header. Both have what `learn` was given.
     """
 
     def __init__(self, tenant: int, program: int, context: Context) -> None:
-        self.starts: dict[int, bytes] = {}
+        self.lengths: list[bytes] = []
         self.contexts: dict[bytes, bytes] = {}
         self._whose = struct.pack("<HHI", tenant, Command.PROG_TEST_RUN, program)
         self._words = context.to_bytes()
 
-    def learn(self, lengths: set[int], ethernet_types: set[bytes]) -> None:
-        """Takes lengths of packets, and types in their headers; a ValueError where no test run takes such a packet."""
-        for length in lengths - self.starts.keys():
-            if length > LONGEST_PACKET:
-                raise ValueError(f"a packet has {length:,} bytes, and that of a test run has {LONGEST_PACKET:,} at most")
-            self.starts[length] = struct.pack("<I", _HEAD + length) + self._whose
-        for ethernet_type in ethernet_types - self.contexts.keys():
-            words = bytearray(self._words)
-            if ethernet_type:
-                words[_PROTOCOL] = (ethernet_type if ethernet_type >= _LEAST_TYPE else _ETH_P_802_2) + bytes(2)
-            self.contexts[ethernet_type] = bytes(words)
+    def context(self, ethernet_type: bytes = b"") -> bytes:
+        """All between a frame's length and its packet."""
+        words = bytearray(self._words)
+        if len(ethernet_type) == 2:
+            words[_PROTOCOL] = (ethernet_type if ethernet_type >= _LEAST_TYPE else _ETH_P_802_2) + bytes(2)
+        return self._whose + words
+
+    def learn(self, packets: Packets) -> None:
+        """Takes packets' lengths and the types in their headers; a ValueError where no test run takes one of them."""
+        longest = max(packets.lengths)
+        if longest > LONGEST_PACKET:
+            raise ValueError(f"a packet has {longest:,} bytes, and that of a test run has {LONGEST_PACKET:,} at most")
+        self.lengths += [struct.pack("<I", _HEAD + length) for length in range(len(self.lengths), longest + 1)]
+        for ethernet_type in {packet[_TYPE] for packet in packets} - self.contexts.keys():
+            self.contexts[ethernet_type] = self.context(ethernet_type)
 
 
 class TestRuns:
@@ -79,9 +84,9 @@ class TestRuns:
     def __init__(self, host: Host, tenant: int, program: int, context: Context = NO_CONTEXT) -> None:
         self.host = host
         self._heads = _Heads(tenant, program, context)
-        # The first three words of the reply to a run that ended.
         self._whose = tenant | Command.PROG_TEST_RUN << 16
-        self._head = (_REPLY_SIZE - 4, self._whose, 0)
+        # The first two words of the reply to a run that ended.
+        self._head = struct.pack("<II", _REPLY_SIZE - 4, self._whose)
         self.most = max(1, host.room // 2 // _REPLY_SIZE)
 
     def results(self, pieces: Iterable[Packets]) -> Iterator[tuple[int, ...]]:
@@ -96,51 +101,48 @@ class TestRuns:
         self.host.send(self.frames(packets))
 
     def frames(self, packets: Packets) -> bytes:
-        """The frames of runs on packets."""
-        if packets.link_type != ETHERNET or min(packets.lengths, default=0) < _ETHERNET_HEAD:
-            return b"".join(map(self._frame, packets, itertools.repeat(packets.link_type == ETHERNET)))
+        """The frames of runs on packets; a ValueError where one has more than 65,536 bytes."""
+        join = self._joined if packets.link_type == ETHERNET else self._joined_as_they_are
         try:
-            return self._joined(packets)
-        except KeyError:
-            data = packets.data
-            self._heads.learn(set(packets.lengths), {data[start + 12 : start + 14] for start in packets.starts})
-            return self._joined(packets)
-
-    def _frame(self, packet: bytes, is_ethernet: bool) -> bytes:
-        """The frame of a run on a packet that may have no Ethernet header."""
-        ethernet_type = packet[12:14] if is_ethernet and len(packet) >= _ETHERNET_HEAD else b""
-        self._heads.learn({len(packet)}, {ethernet_type})
-        return self._heads.starts[len(packet)] + self._heads.contexts[ethernet_type] + packet
+            return join(packets)
+        except (IndexError, KeyError):
+            self._heads.learn(packets)
+            return join(packets)
 
     def _joined(self, packets: Packets) -> bytes:
-        """The frames of runs on packets that all have an Ethernet header, in as few steps as can be.
-
-        A KeyError where a length or a type was not learned.
-        """
-        data, beginnings, contexts = packets.data, self._heads.starts, self._heads.contexts
+        """The frames of runs on Ethernet packets, in as few steps as can be; an IndexError or a KeyError where one was not learned."""
+        data, lengths, contexts, where = packets.data, self._heads.lengths, self._heads.contexts, _TYPE
         pieces: list[bytes] = []
         for start, length in zip(packets.starts, packets.lengths):
-            pieces.append(beginnings[length])
-            pieces.append(contexts[data[start + 12 : start + 14]])
-            pieces.append(data[start : start + length])
+            packet = data[start : start + length]
+            pieces.append(lengths[length])
+            pieces.append(contexts[packet[where]])
+            pieces.append(packet)
         return b"".join(pieces)
+
+    def _joined_as_they_are(self, packets: Packets) -> bytes:
+        """The frames of runs on packets of another link type, which have no type; an IndexError where a length was not learned."""
+        lengths, context = self._heads.lengths, self._heads.context()
+        return b"".join([piece for packet in packets for piece in (lengths[len(packet)], context, packet)])
 
     def receive(self, packets: Packets) -> tuple[int, ...]:
         """The results of runs whose frames were sent; a Refused where one was refused, once all replies are read."""
         count = len(packets)
-        size, replies, words = count * _REPLY_SIZE, b"", array("I")
-        while len(replies) < size:
+        size, replies, are_results = count * _REPLY_SIZE, b"", True
+        while len(replies) < size and are_results:
             replies += self.host.read(size - len(replies))
-            words = _words(replies)
-            if not self._are_results(words):
-                self.host.unread(replies)
-                return self._one_by_one(count)
-        return tuple(words[3::4])
+            # A refusal is shorter, so it is seen at once, and nobody waits for bytes that do not come.
+            are_results = self._begin_as_results(replies)
+        words = _words(replies)
+        if are_results and not any(words[2::4]):
+            return tuple(words[3::4])
+        self.host.unread(replies)
+        return self._one_by_one(count)
 
-    def _are_results(self, words: array[int]) -> bool:
-        """Whether words are those of results of this program, as far as they go: a refusal is shorter, so it is seen at once."""
-        heads = (words[at::4] for at in range(len(self._head)))
-        return all(found == array("I", [word]) * len(found) for found, word in zip(heads, self._head))
+    def _begin_as_results(self, replies: bytes) -> bool:
+        """Whether replies have the length, the tenant and the command of a result of this program, as far as they go."""
+        found = array("Q", replies[: len(replies) // 8 * 8])[::2]
+        return found == array("Q", self._head) * len(found)
 
     def _one_by_one(self, count: int) -> tuple[int, ...]:
         """The results in so many replies, some of which are none."""

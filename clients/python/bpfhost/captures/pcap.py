@@ -2,6 +2,7 @@
 
 from __future__ import annotations
 
+import contextlib
 import struct
 from dataclasses import dataclass, field
 from typing import BinaryIO
@@ -61,17 +62,18 @@ class PcapCapture(Capture):
         starts: list[int] = []
         lengths: list[int] = []
         head, unpack, size = self._layout.head, self._length.unpack_from, len(data)
-        for _ in range(most):
-            start = at + head
-            if start > size:
-                break
-            (length,) = unpack(data, at)
-            end = start + length
-            if length > LONGEST_PACKET or end > size:
-                break
-            starts.append(start)
-            lengths.append(length)
-            at = end
+        length = 0
+        with contextlib.suppress(struct.error):
+            # Where no whole head is left, there is nothing to unpack.
+            for _ in range(most):
+                (length,) = unpack(data, at)
+                start = at + head
+                end = start + length
+                if end > size or length > LONGEST_PACKET:
+                    break
+                starts.append(start)
+                lengths.append(length)
+                at = end
         if starts:
             return _PcapPiece(data, starts, lengths, self._link_type, layout=self._layout), at
         if at + head <= size and length > LONGEST_PACKET:

@@ -2,6 +2,7 @@
 
 from __future__ import annotations
 
+import contextlib
 import struct
 from dataclasses import dataclass, field
 from typing import BinaryIO
@@ -71,6 +72,8 @@ class PcapngCapture(Capture):
         # A block with a packet, up to the packet's length: its kind, its length, the interface, the time, the packet's length.
         self._enhanced = struct.Struct(f"{order}3I8xI").unpack_from
         self._old = struct.Struct(f"{order}2IH10xI").unpack_from
+        # The same of an enhanced packet block, with the length that stands before it, at the end of another block.
+        self._end_and_enhanced = struct.Struct(f"{order}4I8xI").unpack_from
 
     def _read(self, size: int) -> bytes:
         magic, self._magic = self._magic, b""
@@ -99,28 +102,30 @@ class PcapngCapture(Capture):
     def _enhanced_packets(self, data: bytes, at: int, most: int) -> tuple[list[int], list[int], int, int]:
         """The packets of whole enhanced packet blocks of one link type, from `at` on, up to the first block that is something else.
 
-        Their starts and lengths, where they end, and the link type.
+        Their starts and lengths, where they end, and the link type. A block's end is read together with the head of the next one, which
+        is the only read for each packet; so the block behind which no whole head is left is not among these.
         """
         starts: list[int] = []
         lengths: list[int] = []
-        unpack, size, link_type, interface = self._enhanced, len(data), -1, -1
+        unpack, link_type, interface = self._end_and_enhanced, -1, -1
         link_types = [each.link_type for each in self._interfaces]
-        for _ in range(most):
-            if at + _AROUND > size:
-                break
-            kind, block, number, length = unpack(data, at)
-            end = at + block
-            if kind != _ENHANCED or end > size or length > LONGEST_PACKET or block < _AROUND + length or block & 3:
-                break
-            if data[end - 4 : end] != data[at + 4 : at + 8]:
-                break
-            if number != interface:
-                if number >= len(link_types) or starts and link_types[number] != link_type:
+        with contextlib.suppress(struct.error):
+            # Where the head or the end of the block at `at` lies behind the bytes, there is nothing to unpack.
+            kind, block, number, length = self._enhanced(data, at)
+            for _ in range(most):
+                if kind != _ENHANCED or length > LONGEST_PACKET or block < _AROUND + length or block & 3:
                     break
-                interface, link_type = number, link_types[number]
-            starts.append(at + _BEFORE)
-            lengths.append(length)
-            at = end
+                if number != interface:
+                    if number >= len(link_types) or starts and link_types[number] != link_type:
+                        break
+                    interface, link_type = number, link_types[number]
+                end, kind, next_block, number, next_length = unpack(data, at + block - 4)
+                if end != block:
+                    break
+                starts.append(at + _BEFORE)
+                lengths.append(length)
+                at += block
+                block, length = next_block, next_length
         return starts, lengths, at, link_type
 
     def _block_end(self, data: bytes, at: int) -> int | None:
@@ -156,7 +161,7 @@ class PcapngCapture(Capture):
         return None
 
     def _packet(self, data: bytes, at: int, end: int, kind: int) -> Piece:
-        """The packet of a block of the old kind; an enhanced packet block that comes here is wrong."""
+        """The packet of a block of the old kind, or of an enhanced packet block that is the last one in these bytes, or wrong."""
         if end - at < _AROUND:
             raise self._wrong_packet()
         _, _, number, length = (self._old if kind == pcapng.PCAPNG_BT_PB else self._enhanced)(data, at)

@@ -13,8 +13,9 @@ from bpfhost.errors import CaptureError
 from bpfhost.numbers import LONGEST_PACKET
 from bpfhost.packets import Packets
 
-# A capture is read by so many bytes: few enough to stay in the processor's cache until they are sent.
-_CHUNK = 1 << 16
+# A capture is read by so many bytes: enough for the costs of a piece to be small beside those of its packets, and few enough to stay
+# in the processor's cache until they are sent.
+_CHUNK = 1 << 17
 # A piece has so many packets at most.
 MOST_PACKETS = 1024
 

@@ -15,12 +15,17 @@ Some = TypeVar("Some", bound="Packets")
 
 @dataclass(frozen=True)
 class Packets:
-    """Packet i has `lengths[i]` bytes of `data`, from `starts[i]` on. All have one link type, as captures number them."""
+    """Packet i has `lengths[i]` bytes of `data`, from `starts[i]` on. All have one link type, as captures number them.
+
+    `types[i]`, where who read the packets gives it, is the number of the two bytes from byte 12 of packet i on, the lower one first:
+    there an Ethernet header has its type. It means nothing where the packet ends before.
+    """
 
     data: bytes
     starts: list[int]
     lengths: list[int]
     link_type: int = ETHERNET
+    types: list[int] | None = None
 
     @classmethod
     def of(cls, packets: Iterable[bytes], link_type: int = ETHERNET) -> Packets:
@@ -40,12 +45,17 @@ class Packets:
 
     def first(self: Some, many: int) -> Some:
         """The first of these packets, at most so many."""
-        return replace(self, starts=self.starts[:many], lengths=self.lengths[:many])
+        return self._some(0, many)
 
-    def split(self, most: int) -> Iterator[Packets]:
+    def split(self: Some, most: int) -> Iterator[Some]:
         """The same packets in pieces of so many at most."""
         if len(self) <= most:
             yield self
             return
         for at in range(0, len(self), most):
-            yield Packets(self.data, self.starts[at : at + most], self.lengths[at : at + most], self.link_type)
+            yield self._some(at, at + most)
+
+    def _some(self: Some, at: int, end: int) -> Some:
+        """The packets of these numbers."""
+        types = None if self.types is None else self.types[at:end]
+        return replace(self, starts=self.starts[at:end], lengths=self.lengths[at:end], types=types)

@@ -5,11 +5,10 @@ No object is made for a packet, so that a run costs its client little beside wha
 
 from __future__ import annotations
 
-import itertools
 import struct
 import sys
 from array import array
-from collections.abc import Iterable, Iterator
+from collections.abc import Iterable, Iterator, Sequence
 from typing import TYPE_CHECKING
 
 from bpfhost.errors import ReplyError
@@ -25,8 +24,7 @@ if TYPE_CHECKING:
 _REPLY_SIZE = REPLY_HEAD + 4
 # Bytes of a frame behind its length and before its packet.
 _HEAD = 48
-# Where an Ethernet header has its type.
-_TYPE = slice(12, 14)
+_ETHERNET_HEAD = 14
 # Where the word `protocol` stands in the context.
 _PROTOCOL = slice(12, 16)
 # A number below is no type but the length of IEEE 802.3, for which the kernel has a type of its own (linux/if_ether.h).
@@ -41,34 +39,44 @@ def _words(replies: bytes) -> array[int]:
     return words
 
 
+def _types(packets: Packets) -> Sequence[int | None]:
+    """The type in each packet's Ethernet header, as `Packets` has it, or None where the packet has no such header."""
+    if packets.link_type != ETHERNET:
+        return [None] * len(packets)
+    if packets.types is not None and min(packets.lengths, default=0) >= _ETHERNET_HEAD:
+        return packets.types
+    return [int.from_bytes(packet[12:14], "little") if len(packet) >= _ETHERNET_HEAD else None for packet in packets]
+
+
 class _Heads:
     """What stands before packets in the frames of test runs of a program.
 
-    `lengths` is a frame's first field by the length of its packet, and `contexts` all behind that, up to the packet: by the bytes of the
-    packet where an Ethernet header has its type, fewer than two where there is no such header. Both have what `learn` was given.
+    `lengths` is a frame's first field by the length of its packet, and `contexts` all behind that, up to the packet, by the type in
+    its Ethernet header or None. Both have what `learn` was given.
     """
 
     def __init__(self, tenant: int, program: int, context: Context) -> None:
         self.lengths: list[bytes] = []
-        self.contexts: dict[bytes, bytes] = {}
+        self.contexts: dict[int | None, bytes] = {}
         self._whose = struct.pack("<HHI", tenant, Command.PROG_TEST_RUN, program)
         self._words = context.to_bytes()
 
-    def context(self, ethernet_type: bytes = b"") -> bytes:
-        """All between a frame's length and its packet."""
-        words = bytearray(self._words)
-        if len(ethernet_type) == 2:
-            words[_PROTOCOL] = (ethernet_type if ethernet_type >= _LEAST_TYPE else _ETH_P_802_2) + bytes(2)
-        return self._whose + words
-
-    def learn(self, packets: Packets) -> None:
-        """Takes packets' lengths and the types in their headers; a ValueError where no test run takes one of them."""
-        longest = max(packets.lengths)
+    def learn(self, lengths: Sequence[int], types: Sequence[int | None]) -> None:
+        """Takes lengths of packets, and types in their headers; a ValueError where no test run takes such a packet."""
+        longest = max(lengths)
         if longest > LONGEST_PACKET:
             raise ValueError(f"a packet has {longest:,} bytes, and that of a test run has {LONGEST_PACKET:,} at most")
         self.lengths += [struct.pack("<I", _HEAD + length) for length in range(len(self.lengths), longest + 1)]
-        for ethernet_type in {packet[_TYPE] for packet in packets} - self.contexts.keys():
-            self.contexts[ethernet_type] = self.context(ethernet_type)
+        for ethernet_type in set(types) - self.contexts.keys():
+            self.contexts[ethernet_type] = self._context(ethernet_type)
+
+    def _context(self, ethernet_type: int | None) -> bytes:
+        words = bytearray(self._words)
+        if ethernet_type is not None:
+            # It stands there as in the packet.
+            protocol = ethernet_type.to_bytes(2, "little")
+            words[_PROTOCOL] = (protocol if protocol >= _LEAST_TYPE else _ETH_P_802_2) + bytes(2)
+        return self._whose + words
 
 
 class TestRuns:
@@ -102,28 +110,22 @@ class TestRuns:
 
     def frames(self, packets: Packets) -> bytes:
         """The frames of runs on packets; a ValueError where one has more than 65,536 bytes."""
-        join = self._joined if packets.link_type == ETHERNET else self._joined_as_they_are
+        types = _types(packets)
         try:
-            return join(packets)
+            return self._joined(packets, types)
         except (IndexError, KeyError):
-            self._heads.learn(packets)
-            return join(packets)
+            self._heads.learn(packets.lengths, types)
+            return self._joined(packets, types)
 
-    def _joined(self, packets: Packets) -> bytes:
-        """The frames of runs on Ethernet packets, in as few steps as can be; an IndexError or a KeyError where one was not learned."""
-        data, lengths, contexts, where = packets.data, self._heads.lengths, self._heads.contexts, _TYPE
-        pieces: list[bytes] = []
-        for start, length in zip(packets.starts, packets.lengths):
-            packet = data[start : start + length]
+    def _joined(self, packets: Packets, types: Sequence[int | None]) -> bytes:
+        """The frames, in as few steps as can be; an IndexError or a KeyError where a length or a type was not learned."""
+        data, lengths, contexts = memoryview(packets.data), self._heads.lengths, self._heads.contexts
+        pieces: list[bytes | memoryview] = []
+        for start, length, ethernet_type in zip(packets.starts, packets.lengths, types):
             pieces.append(lengths[length])
-            pieces.append(contexts[packet[where]])
-            pieces.append(packet)
+            pieces.append(contexts[ethernet_type])
+            pieces.append(data[start : start + length])
         return b"".join(pieces)
-
-    def _joined_as_they_are(self, packets: Packets) -> bytes:
-        """The frames of runs on packets of another link type, which have no type; an IndexError where a length was not learned."""
-        lengths, context = self._heads.lengths, self._heads.context()
-        return b"".join([piece for packet in packets for piece in (lengths[len(packet)], context, packet)])
 
     def receive(self, packets: Packets) -> tuple[int, ...]:
         """The results of runs whose frames were sent; a Refused where one was refused, once all replies are read."""

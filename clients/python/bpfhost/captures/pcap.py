@@ -9,7 +9,7 @@ from typing import BinaryIO
 
 from dpkt import pcap
 
-from bpfhost.captures.piece import Capture, Piece, Stamp
+from bpfhost.captures.piece import Capture, Piece, Stamp, low_first
 from bpfhost.numbers import LONGEST_PACKET
 
 _NANOSECONDS = (pcap.TCPDUMP_MAGIC_NANO, pcap.PMUDPCT_MAGIC_NANO)
@@ -40,7 +40,7 @@ class PcapCapture(Capture):
 
     def __init__(self, name: str, file: BinaryIO, magic: bytes) -> None:
         """Reads the header, whose first bytes are `magic`."""
-        super().__init__(name, file)
+        super().__init__(name, file, b"")
         number = int.from_bytes(magic, "big")
         kind = pcap.MAGIC_TO_PKT_HDR.get(number) if len(magic) == 4 else None
         if kind is None:
@@ -55,27 +55,43 @@ class PcapCapture(Capture):
         self.bytes_read = len(header)
         self.has_nanoseconds = number in _NANOSECONDS
         self._link_type = read.linktype & _LINK_TYPE
-        self._length = struct.Struct(f"{order}8xI")
+        self._order = order
+        self._length = struct.Struct(f"{order}8xI").unpack_from
         self._layout = _Layout(kind.__hdr_len__, struct.Struct(f"{order}II4xI"), 1 if self.has_nanoseconds else 1000)
+        # A packet's length, and the type in its Ethernet header: what lies between them is as long as what stands before a packet.
+        self._length_and_type = struct.Struct(f"{order}8xI{kind.__hdr_len__}xH").unpack_from
 
     def _next_piece(self, data: bytes, at: int, most: int) -> tuple[Piece | None, int]:
         starts: list[int] = []
         lengths: list[int] = []
-        head, unpack, size = self._layout.head, self._length.unpack_from, len(data)
-        length = 0
+        types: list[int] = []
+        head, unpack, size = self._layout.head, self._length_and_type, len(data)
         with contextlib.suppress(struct.error):
-            # Where no whole head is left, there is nothing to unpack.
+            # Where the bytes end before the type, there is nothing to unpack.
             for _ in range(most):
-                (length,) = unpack(data, at)
+                length, ethernet_type = unpack(data, at)
                 start = at + head
                 end = start + length
                 if end > size or length > LONGEST_PACKET:
                     break
                 starts.append(start)
                 lengths.append(length)
+                types.append(ethernet_type)
                 at = end
         if starts:
-            return _PcapPiece(data, starts, lengths, self._link_type, layout=self._layout), at
-        if at + head <= size and length > LONGEST_PACKET:
+            return self._piece(data, starts, lengths, low_first(types, self._order)), at
+        return self._last_packet(data, at)
+
+    def _last_packet(self, data: bytes, at: int) -> tuple[Piece | None, int]:
+        """The packet at `at` and where it ends, where it is whole, though the bytes may end before the type in its header."""
+        start = at + self._layout.head
+        if start > len(data):
+            return None, at
+        length: int = self._length(data, at)[0]
+        if length > LONGEST_PACKET:
             raise self._too_long(length)
-        return None, at
+        end = start + length
+        return (self._piece(data, [start], [length], None), end) if end <= len(data) else (None, at)
+
+    def _piece(self, data: bytes, starts: list[int], lengths: list[int], types: list[int] | None) -> Piece:
+        return _PcapPiece(data, starts, lengths, self._link_type, types, layout=self._layout)

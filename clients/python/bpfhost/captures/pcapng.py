@@ -10,7 +10,7 @@ from typing import BinaryIO
 import dpkt
 from dpkt import pcapng
 
-from bpfhost.captures.piece import Capture, Piece, Stamp
+from bpfhost.captures.piece import Capture, Piece, Stamp, low_first
 from bpfhost.errors import CaptureError
 from bpfhost.numbers import LONGEST_PACKET
 
@@ -61,8 +61,7 @@ class PcapngCapture(Capture):
 
     def __init__(self, name: str, file: BinaryIO, magic: bytes) -> None:
         """Reads nothing; `magic` is what was read of the file."""
-        super().__init__(name, file)
-        self._magic = magic
+        super().__init__(name, file, magic)
         self._interfaces: tuple[_Interface, ...] = ()
         self._has_order("<")
 
@@ -72,22 +71,18 @@ class PcapngCapture(Capture):
         # A block with a packet, up to the packet's length: its kind, its length, the interface, the time, the packet's length.
         self._enhanced = struct.Struct(f"{order}3I8xI").unpack_from
         self._old = struct.Struct(f"{order}2IH10xI").unpack_from
-        # The same of an enhanced packet block, with the length that stands before it, at the end of another block.
-        self._end_and_enhanced = struct.Struct(f"{order}4I8xI").unpack_from
-
-    def _read(self, size: int) -> bytes:
-        magic, self._magic = self._magic, b""
-        self.bytes_read += len(magic)
-        return magic + super()._read(size)
+        # The same of an enhanced packet block with the type in the packet's Ethernet header, and behind the end of the block before.
+        self._enhanced_with_type = struct.Struct(f"{order}3I8xI16xH").unpack_from
+        self._end_and_enhanced = struct.Struct(f"{order}4I8xI16xH").unpack_from
 
     def _cut_off(self) -> CaptureError:
         return self.error(f"it is cut off in the block of {self._next_packet()}, or before it")
 
     def _next_piece(self, data: bytes, at: int, most: int) -> tuple[Piece | None, int]:
         while True:
-            starts, lengths, at, link_type = self._enhanced_packets(data, at, most)
-            if starts:
-                return self._piece(data, starts, lengths, link_type, pcapng.PCAPNG_BT_EPB), at
+            piece, at = self._enhanced_packets(data, at, most)
+            if piece:
+                return piece, at
             end = self._block_end(data, at)
             if end is None:
                 return None, at
@@ -95,23 +90,25 @@ class PcapngCapture(Capture):
             if piece:
                 return piece, at
 
-    def _piece(self, data: bytes, starts: list[int], lengths: list[int], link_type: int, kind: int) -> Piece:
+    def _piece(
+        self, data: bytes, starts: list[int], lengths: list[int], link_type: int, kind: int, types: list[int] | None = None
+    ) -> Piece:
         order, interfaces = self._order, self._interfaces
-        return _PcapngPiece(data, starts, lengths, link_type, kind=kind, order=order, interfaces=interfaces)
+        return _PcapngPiece(data, starts, lengths, link_type, types, kind=kind, order=order, interfaces=interfaces)
 
-    def _enhanced_packets(self, data: bytes, at: int, most: int) -> tuple[list[int], list[int], int, int]:
+    def _enhanced_packets(self, data: bytes, at: int, most: int) -> tuple[Piece | None, int]:
         """The packets of whole enhanced packet blocks of one link type, from `at` on, up to the first block that is something else.
 
-        Their starts and lengths, where they end, and the link type. A block's end is read together with the head of the next one, which
-        is the only read for each packet; so the block behind which no whole head is left is not among these.
+        Also where they end. A block's end is read together with the head of the next one, which is the only read for each packet; so
+        where the bytes end before the type in the next packet's header, the block is not among these.
         """
         starts: list[int] = []
         lengths: list[int] = []
+        types: list[int] = []
         unpack, link_type, interface = self._end_and_enhanced, -1, -1
         link_types = [each.link_type for each in self._interfaces]
         with contextlib.suppress(struct.error):
-            # Where the head or the end of the block at `at` lies behind the bytes, there is nothing to unpack.
-            kind, block, number, length = self._enhanced(data, at)
+            kind, block, number, length, ethernet_type = self._enhanced_with_type(data, at)
             for _ in range(most):
                 if kind != _ENHANCED or length > LONGEST_PACKET or block < _AROUND + length or block & 3:
                     break
@@ -119,14 +116,17 @@ class PcapngCapture(Capture):
                     if number >= len(link_types) or starts and link_types[number] != link_type:
                         break
                     interface, link_type = number, link_types[number]
-                end, kind, next_block, number, next_length = unpack(data, at + block - 4)
+                end, kind, next_block, number, next_length, next_type = unpack(data, at + block - 4)
                 if end != block:
                     break
                 starts.append(at + _BEFORE)
                 lengths.append(length)
+                types.append(ethernet_type)
                 at += block
-                block, length = next_block, next_length
-        return starts, lengths, at, link_type
+                block, length, ethernet_type = next_block, next_length, next_type
+        if not starts:
+            return None, at
+        return self._piece(data, starts, lengths, link_type, _ENHANCED, low_first(types, self._order)), at
 
     def _block_end(self, data: bytes, at: int) -> int | None:
         """Where the block that begins at `at` ends, or None where it is not whole; a section's block sets the byte order."""

@@ -5,6 +5,7 @@ from __future__ import annotations
 import os
 import stat
 from abc import ABC, abstractmethod
+from array import array
 from collections.abc import Generator, Iterator
 from dataclasses import dataclass
 from typing import BinaryIO
@@ -38,16 +39,27 @@ class Piece(Packets, ABC):
         """The time and the length of a packet."""
 
 
+def low_first(types: list[int], order: str) -> list[int]:
+    """The numbers that pairs of bytes are with the lower one first, which were read in a byte order of struct's."""
+    if order == "<":
+        return types
+    swapped = array("H", types)
+    swapped.byteswap()
+    return swapped.tolist()
+
+
 class Capture(ABC):
     """A capture that is read from its front to its end."""
 
     # Whether times have more digits than microseconds have.
     has_nanoseconds = False
 
-    def __init__(self, name: str, file: BinaryIO) -> None:
+    def __init__(self, name: str, file: BinaryIO, begun: bytes) -> None:
+        """Reads nothing; `begun` is what was read of the file."""
         self.name = name
         self._file = file
-        self.bytes_read = 0
+        self._rest = begun
+        self.bytes_read = len(begun)
         self.packets_read = 0
 
     @abstractmethod
@@ -59,12 +71,10 @@ class Capture(ABC):
 
     def pieces(self, most: int = MOST_PACKETS) -> Iterator[Piece]:
         """The packets in pieces, in order; a CaptureError behind the packets before which the capture is wrong."""
-        rest = b""
-        while chunk := self._read(_CHUNK):
-            data = rest + chunk if rest else chunk
+        while len(data := self._with_more(self._rest)) > len(self._rest):
             at = yield from self._pieces_in(data, most)
-            rest = data[at:]
-        if rest:
+            self._rest = data[at:]
+        if self._rest:
             raise self._cut_off()
 
     def _pieces_in(self, data: bytes, most: int) -> Generator[Piece, None, int]:
@@ -76,6 +86,21 @@ class Capture(ABC):
                 return at
             self.packets_read += len(piece)
             yield piece
+
+    def _with_more(self, rest: bytes) -> bytes:
+        """The bytes that were read last, and what follows; nothing follows at the end of the file.
+
+        They are read once more where the file lets it, which is cheaper than to join them with so many bytes more.
+        """
+        more = max(_CHUNK, 2 * len(rest))
+        if not self._file.seekable():
+            return rest + self._read(more)
+        try:
+            self._file.seek(-len(rest), os.SEEK_CUR)
+        except OSError as error:
+            raise self.error(error.strerror or "it can't be read") from error
+        self.bytes_read -= len(rest)
+        return self._read(more)
 
     def size(self) -> int | None:
         """The bytes of the file, or None where it is no regular file."""

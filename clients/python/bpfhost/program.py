@@ -73,13 +73,13 @@ def hex_lines(slots: bytes) -> str:
 
 def slots_of(text: str, name: str = "standard input") -> bytes:
     """The slots that hex lines are, read as `dis` reads them; an InputError names the line that is none."""
-    slots = b""
+    slots: list[bytes] = []
     for number, line in enumerate(text.split("\n"), 1):
         digits = line.strip(" \t\r")
         if digits and not _SLOT.fullmatch(digits):
             raise InputError(f"{name}:{number}: a slot is sixteen hexadecimal digits on a line, and nothing else")
-        slots += bytes.fromhex(digits)
-    return slots
+        slots.append(bytes.fromhex(digits))
+    return b"".join(slots)
 
 
 @dataclass(frozen=True)

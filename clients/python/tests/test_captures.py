@@ -71,6 +71,8 @@ class CaptureTest(TimedTest):
     def written(self, content: bytes) -> Path:
         """A file with these bytes."""
         path = self.scratch / "capture"
+        # A new file is made faster than an old one is written over.
+        path.unlink(missing_ok=True)
         path.write_bytes(content)
         return path
 

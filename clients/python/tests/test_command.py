@@ -2,33 +2,68 @@
 
 from __future__ import annotations
 
+import contextlib
 import importlib.util
+import io
 import json
 import os
+import re
 import shutil
+import signal
 import subprocess
 import sys
+import time
 import unittest
+from contextlib import ExitStack
+from dataclasses import dataclass
 from pathlib import Path
+from unittest import mock
 
 from bpfhost import hex_lines
+from bpfhost.command import main
 from tests.common import LENGTH, ONE, PROGRAM, HostTest
 from tests.test_captures import RAW_IP, RECORDS, pcap, pcapng
 
 PACKAGE = Path(__file__).resolve().parents[1]
 EXAMPLE = PACKAGE.parents[1] / "examples/capture"
+TIME = re.compile(rb"time a packet: [0-9.]+ us")
 MODULES = {"elftools": "python3-pyelftools", "dpkt": "python3-dpkt", "rich": "python3-rich"}
 needs_packages = unittest.skipUnless(
     all(map(importlib.util.find_spec, MODULES)), "python3-pyelftools, python3-dpkt or python3-rich is missing"
 )
 
 
+@dataclass(frozen=True)
+class Ended:
+    """What a command wrote, and its status."""
+
+    stdout: bytes
+    stderr: bytes
+    returncode: int
+
+
 class CommandTest(HostTest):
-    def command(self, *words: str, given: bytes = b"", **variables: str) -> subprocess.CompletedProcess[bytes]:
-        """Runs the command in the scratch folder."""
+    def command(self, *words: str, given: bytes = b"", **variables: str) -> Ended:
+        """Runs the command in the scratch folder, in this process, with streams of its own."""
+        given_stream, written, errors = (io.TextIOWrapper(io.BytesIO(content), "utf-8", newline="") for content in (given, b"", b""))
+        with ExitStack() as stack:
+            stack.enter_context(contextlib.chdir(self.scratch))
+            stack.enter_context(mock.patch.dict(os.environ, {"BPFHOST": PROGRAM, **variables}))
+            stack.enter_context(mock.patch.multiple(sys, stdin=given_stream, stdout=written, stderr=errors))
+            try:
+                status = main(words)
+            except SystemExit as exit:
+                status = int(exit.code or 0)
+            written.flush()
+            errors.flush()
+        return Ended(_bytes_of(written), _bytes_of(errors), status)
+
+    def process(self, *words: str, given: bytes = b"", **variables: str) -> Ended:
+        """The same by `python3 -m bpfhost`, in a process of its own."""
         environment = {**os.environ, "PYTHONPATH": str(PACKAGE), "BPFHOST": PROGRAM, **variables}
         call = [sys.executable, "-m", "bpfhost", *words]
-        return subprocess.run(call, input=given, capture_output=True, check=False, cwd=self.scratch, env=environment)
+        ended = subprocess.run(call, input=given, capture_output=True, check=False, cwd=self.scratch, env=environment)
+        return Ended(ended.stdout, ended.stderr, ended.returncode)
 
     def writes(self, wanted: str, *words: str, given: bytes = b"") -> None:
         """The command writes this, and its status is 0."""
@@ -37,7 +72,10 @@ class CommandTest(HostTest):
 
     def refuses(self, status: int, wanted: str, *words: str, given: bytes = b"", **variables: str) -> None:
         """The command tells one sentence that has this in it, and nothing else."""
-        ended = self.command(*words, given=given, **variables)
+        self.is_refusal(self.command(*words, given=given, **variables), status, wanted)
+
+    def is_refusal(self, ended: Ended, status: int, wanted: str) -> None:
+        """What a command wrote is one sentence that has this in it, and nothing else."""
         told = ended.stderr.decode()
         self.assertIn(wanted, told)
         self.assertRegex(told, r"\Abpfhost: .*\n\Z")
@@ -47,6 +85,46 @@ class CommandTest(HostTest):
         """Copies files of the example into the scratch folder."""
         for name in names:
             shutil.copy(EXAMPLE / name, self.scratch)
+
+
+def _bytes_of(stream: io.TextIOWrapper) -> bytes:
+    """What was written to a stream over bytes."""
+    assert isinstance(stream.buffer, io.BytesIO)
+    return stream.buffer.getvalue()
+
+
+class Process(CommandTest):
+    """`python3 -m bpfhost` in a process of its own: its streams and its status are those that the other tests see in theirs."""
+
+    def test_a_text_and_what_is_wrong_with_one(self) -> None:
+        self.assertEqual(self.process("asm", given=b"r0 = 1\nexit\n"), Ended(hex_lines(ONE).encode(), b"", 0))
+        self.is_refusal(self.process("asm", given=b"r0 =+ 1\n"), 1, "standard input:1: r0 =+ 1: it is none of the forms")
+        self.is_refusal(self.process("walk"), 2, "invalid choice: 'walk'")
+        self.is_refusal(self.process("asm", "--bpfhost", "/nowhere"), 3, "/nowhere does not start: No such file or directory")
+
+    @needs_packages
+    def test_a_run(self) -> None:
+        self.example("counter.o", "sample.pcap")
+        words = ("run", "counter.o", "sample.pcap", "--limit", "10")
+        alone, here = (TIME.sub(b"", ended.stdout) for ended in (self.process(*words), self.command(*words)))
+        self.assertTrue(here.startswith(b"keep_first_bytes of counter.o on sample.pcap\npackets"), here)
+        self.assertEqual(alone, here)
+
+    def test_it_is_interrupted(self) -> None:
+        """A host that never answers, and then the signal that Ctrl-C sends."""
+        waits = self.pretender("open('begun', 'w'); time.sleep(1000)")
+        environment = {**os.environ, "PYTHONPATH": str(PACKAGE)}
+        call = [sys.executable, "-m", "bpfhost", "asm", "--bpfhost", waits]
+        pipe = subprocess.PIPE
+        with subprocess.Popen(call, stdin=pipe, stdout=pipe, stderr=pipe, cwd=self.scratch, env=environment) as process:
+            assert process.stdin is not None
+            process.stdin.close()
+            process.stdin = None
+            while not (self.scratch / "begun").exists():
+                time.sleep(0.01)
+            process.send_signal(signal.SIGINT)
+            written, told = process.communicate()
+        self.assertEqual((written, told, process.returncode), (b"", b"bpfhost: interrupted\n", 130))
 
 
 class Words(CommandTest):
@@ -256,5 +334,6 @@ class Run(CommandTest):
             (self.scratch / module).mkdir()
             (self.scratch / module / "__init__.py").write_text(f"raise ModuleNotFoundError('no {module}', name='{module}')\n")
             path = f"{self.scratch}:{PACKAGE}"
-            self.refuses(3, f"the Python package {module} is missing: apt-get install {package}", "run", "counter.o", "sample.pcap", PYTHONPATH=path)
+            ended = self.process("run", "counter.o", "sample.pcap", PYTHONPATH=path)
+            self.is_refusal(ended, 3, f"the Python package {module} is missing: apt-get install {package}")
             shutil.rmtree(self.scratch / module)

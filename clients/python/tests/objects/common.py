@@ -54,6 +54,7 @@ class ObjectTest(TimedTest):
     def written(self, content: bytes, name: str = "built.o") -> Path:
         """A file of these bytes."""
         path = self.scratch / name
+        path.unlink(missing_ok=True)
         path.write_bytes(content)
         return path
 

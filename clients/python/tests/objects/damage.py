@@ -184,6 +184,7 @@ def run(count: int, seed: int, checks: int, program: str) -> Counter[str]:
         for number in range(count):
             original = chance.choice(good)
             path = scratch / "damaged.o"
+            path.unlink(missing_ok=True)
             path.write_bytes(damaged(original, chance))
             try:
                 counts[outcome_of(path)] += 1

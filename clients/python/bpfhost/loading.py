@@ -7,7 +7,7 @@ from dataclasses import dataclass
 from bpfhost.errors import InputError, ProgramRefused, Refused, SourceRefused
 from bpfhost.maps import Map
 from bpfhost.objects import ObjectFile, ObjectMap, ObjectProgram
-from bpfhost.program import MapShape, verifier_log
+from bpfhost.program import MapShape, log_or_fault
 from bpfhost.runs import TestRuns
 from bpfhost.tenant import Tenant
 from bpfhost.words import reason_words
@@ -81,7 +81,7 @@ def load_program(tenant: Tenant, object_file: ObjectFile, program: ObjectProgram
     try:
         return LoadedProgram(tenant, program, tenant.prog_load(slots), maps)
     except ProgramRefused as refused:
-        log = verifier_log(tenant.host.program, slots, {each.map.descriptor: each.map.shape for each in maps})
+        log = log_or_fault(tenant.host.program, slots, {each.map.descriptor: each.map.shape for each in maps})
         raise refused_at(object_file, program, refused.slot, refused.reason, log) from refused
 
 

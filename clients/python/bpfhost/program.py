@@ -15,8 +15,10 @@ from bpfhost.numbers import SLOT_SIZE, MapType
 
 Program = str | os.PathLike[str]
 
-# Where a build leaves the program, in a clone that this package stands in.
-_BUILT = Path(__file__).resolve().parents[3] / "crates/bpfhost/out/bpfhost"
+# Where a build leaves the programs, in a clone that this package stands in.
+_CRATES = Path(__file__).resolve().parents[3] / "crates"
+_BUILT = _CRATES / "bpfhost/out/bpfhost"
+_BUILT_LOG = _CRATES / "verifier_log/out/verifier_log"
 _SLOT = re.compile(r"[0-9A-Fa-f]{16}")
 _KINDS = {MapType.HASH: "hash", MapType.ARRAY: "array"}
 
@@ -120,15 +122,30 @@ def _map_words(maps: Mapping[int, MapShape]) -> list[str]:
 
 
 def find_verifier_log(program: Program) -> str | None:
-    """The program `verifier_log`, beside bpfhost or of PATH, or None."""
-    beside = Path(program).absolute().parent / "verifier_log"
-    if beside.is_file() and os.access(beside, os.X_OK):
-        return str(beside)
-    return shutil.which("verifier_log")
+    """The program `verifier_log`, or None.
+
+    It is that which the variable VERIFIER_LOG names, where that is set, and none where it is empty; else the one beside bpfhost, or of
+    the same build, or of PATH, or as the build of this clone leaves it.
+    """
+    named = os.environ.get("VERIFIER_LOG")
+    if named is not None:
+        return named or None
+    folder = Path(shutil.which(program) or program).absolute().parent
+    for of_build in (folder / "verifier_log", folder.parents[1] / "verifier_log/out/verifier_log" if folder.name == "out" else None):
+        if of_build and _is_program(of_build):
+            return str(of_build)
+    return shutil.which("verifier_log") or (str(_BUILT_LOG) if _is_program(_BUILT_LOG) else None)
+
+
+def _is_program(path: Path) -> bool:
+    return path.is_file() and os.access(path, os.X_OK)
 
 
 def verifier_log(program: Program, slots: bytes, maps: Mapping[int, MapShape]) -> str | None:
-    """The log of the verifier on slots, with maps by their descriptors; None where there is no program `verifier_log` to write it."""
+    """The log of the verifier on slots, with maps by their descriptors; None where there is no program `verifier_log` to write it.
+
+    A HostError where it ends with another status than those of an accepted and of a refused program, 0 and 1.
+    """
     logger = find_verifier_log(program)
     if logger is None:
         return None
@@ -136,3 +153,11 @@ def verifier_log(program: Program, slots: bytes, maps: Mapping[int, MapShape]) -
     if ended.returncode not in (0, 1):
         raise HostError.of("verifier_log", ended.returncode, ended.stderr, ended.stdout)
     return ended.stdout.decode(errors="replace")
+
+
+def log_or_fault(program: Program, slots: bytes, maps: Mapping[int, MapShape]) -> str | None:
+    """The log, or a line with the reason why it can't be had: a verdict is told all the same."""
+    try:
+        return verifier_log(program, slots, maps)
+    except HostError as error:
+        return f"there is no log: {error}\n"

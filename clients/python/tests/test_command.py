@@ -48,7 +48,7 @@ class CommandTest(HostTest):
         given_stream, written, errors = (io.TextIOWrapper(io.BytesIO(content), "utf-8", newline="") for content in (given, b"", b""))
         with ExitStack() as stack:
             stack.enter_context(contextlib.chdir(self.scratch))
-            stack.enter_context(mock.patch.dict(os.environ, {"BPFHOST": PROGRAM, **variables}))
+            stack.enter_context(mock.patch.dict(os.environ, {"BPFHOST": PROGRAM, "VERIFIER_LOG": "", **variables}))
             stack.enter_context(mock.patch.multiple(sys, stdin=given_stream, stdout=written, stderr=errors))
             try:
                 status = main(words)
@@ -60,7 +60,7 @@ class CommandTest(HostTest):
 
     def process(self, *words: str, given: bytes = b"", **variables: str) -> Ended:
         """The same by `python3 -m bpfhost`, in a process of its own."""
-        environment = {**os.environ, "PYTHONPATH": str(PACKAGE), "BPFHOST": PROGRAM, **variables}
+        environment = {**os.environ, "PYTHONPATH": str(PACKAGE), "BPFHOST": PROGRAM, "VERIFIER_LOG": "", **variables}
         call = [sys.executable, "-m", "bpfhost", *words]
         ended = subprocess.run(call, input=given, capture_output=True, check=False, cwd=self.scratch, env=environment)
         return Ended(ended.stdout, ended.stderr, ended.returncode)
@@ -228,13 +228,20 @@ class Check(CommandTest):
 
     def test_a_log_is_shown_where_it_can_be_had(self) -> None:
         self.example("refused.o")
-        os.symlink(PROGRAM, self.scratch / "bpfhost")
-        os.rename(self.pretender("print('the log of', sys.argv[1]); sys.exit(1)"), self.scratch / "verifier_log")
+        log = self.pretender("print('the log of', sys.argv[1]); sys.exit(1)")
         (self.scratch / "sample").write_bytes(pcap())
-        checked = self.command("check", "refused.o", "--bpfhost", "./bpfhost")
+        checked = self.command("check", "refused.o", VERIFIER_LOG=log)
         self.assertTrue(checked.stdout.decode().endswith("reason 29)\nthe log of 3:array:4:64:1\n"), checked.stdout)
-        ran = self.command("run", "refused.o", "sample", "--bpfhost", "./bpfhost")
+        ran = self.command("run", "refused.o", "sample", VERIFIER_LOG=log)
         self.assertTrue(ran.stderr.decode().endswith("reason 29)\nthe log of 3:array:4:64:1\n"), ran.stderr)
+        self.assertEqual((checked.returncode, ran.returncode), (1, 1))
+
+    def test_a_verdict_is_told_where_its_log_can_not_be_had(self) -> None:
+        self.example("refused.o", "sample.pcap")
+        log = self.pretender("print('out of memory', file=sys.stderr); sys.exit(4)")
+        told = "reason 29)\nthere is no log: verifier_log ended with status 4: out of memory\n"
+        self.assertTrue(self.command("check", "refused.o", VERIFIER_LOG=log).stdout.decode().endswith(told))
+        self.assertTrue(self.command("run", "refused.o", "sample.pcap", VERIFIER_LOG=log).stderr.decode().endswith(told))
 
     def test_dis_of_an_object_has_its_source(self) -> None:
         self.example("refused.o")

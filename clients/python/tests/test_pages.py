@@ -28,6 +28,8 @@ class Pages(HostTest):
         """What a command writes, on both outputs, in the scratch folder."""
         path = f"{self.scratch}/bin:{os.environ['PATH']}"
         environment = {**os.environ, "PATH": path, "PYTHONPATH": str(PACKAGE), "BPFHOST": f"{self.scratch}/bin/bpfhost", "COLUMNS": "80"}
+        # The pages show verdicts without the log, which has lines of its own where there is a program verifier_log.
+        environment["VERIFIER_LOG"] = ""
         call = ["bash", "-c", command]
         ended = subprocess.run(call, stdout=subprocess.PIPE, stderr=subprocess.STDOUT, text=True, cwd=self.scratch, env=environment)
         return ended.stdout

@@ -2,12 +2,14 @@
 
 from __future__ import annotations
 
+import contextlib
 import os
 import unittest
+from pathlib import Path
 from unittest import mock
 
 from bpfhost import HostError, InputError, MapShape, MapType, assemble, disassemble, find_program, hex_lines, serve, verify
-from bpfhost.program import slots_of, verifier_log
+from bpfhost.program import find_verifier_log, log_or_fault, slots_of, verifier_log
 from tests.common import ONE, PROGRAM, HostTest, TimedTest
 
 
@@ -76,7 +78,69 @@ class Subcommands(HostTest):
         self.assertEqual(verify(PROGRAM, b"\xff" * 8, {}).refused, (0, 101))
 
 
+def without_log() -> contextlib.AbstractContextManager[object]:
+    """An environment in which nothing names a program `verifier_log`, and no build has left one."""
+    stack = contextlib.ExitStack()
+    stack.enter_context(mock.patch.dict(os.environ, {"PATH": ""}))
+    stack.enter_context(mock.patch("bpfhost.program._BUILT_LOG", Path("/nowhere/verifier_log")))
+    os.environ.pop("VERIFIER_LOG", None)
+    return stack
+
+
+class FindingTheLog(TimedTest):
+    def setUp(self) -> None:
+        super().setUp()
+        self.enterContext(without_log())
+
+    def made(self, name: str) -> str:
+        """A program of this name in the scratch folder."""
+        path = self.scratch / name
+        path.parent.mkdir(parents=True, exist_ok=True)
+        path.write_text("#!/bin/sh\n")
+        path.chmod(0o755)
+        return str(path)
+
+    def test_there_may_be_none(self) -> None:
+        self.assertIsNone(find_verifier_log(self.scratch / "bpfhost"))
+        self.assertIsNone(verifier_log(self.scratch / "bpfhost", ONE, {}))
+        (self.scratch / "verifier_log").mkdir()
+        self.assertIsNone(find_verifier_log(self.scratch / "bpfhost"))
+
+    def test_the_one_beside_bpfhost_goes_before_that_of_path(self) -> None:
+        os.environ["PATH"] = os.path.dirname(self.made("bin/verifier_log"))
+        self.assertEqual(find_verifier_log(self.made("own/bpfhost")), str(self.scratch / "bin/verifier_log"))
+        beside = self.made("own/verifier_log")
+        self.assertEqual(find_verifier_log(self.scratch / "own/bpfhost"), beside)
+
+    def test_bpfhost_may_be_of_path_itself(self) -> None:
+        os.environ["PATH"] = os.path.dirname(self.made("bin/bpfhost"))
+        beside = self.made("bin/verifier_log")
+        self.assertEqual(find_verifier_log("bpfhost"), beside)
+
+    def test_that_of_the_same_build(self) -> None:
+        program, log = self.made("crates/bpfhost/out/bpfhost"), self.made("crates/verifier_log/out/verifier_log")
+        self.assertEqual(find_verifier_log(program), log)
+
+    def test_that_of_this_clone_goes_last(self) -> None:
+        built = self.made("built/verifier_log")
+        with mock.patch("bpfhost.program._BUILT_LOG", Path(built)):
+            self.assertEqual(find_verifier_log("/elsewhere/bpfhost"), built)
+            os.environ["PATH"] = os.path.dirname(self.made("bin/verifier_log"))
+            self.assertEqual(find_verifier_log("/elsewhere/bpfhost"), str(self.scratch / "bin/verifier_log"))
+
+    def test_the_variable(self) -> None:
+        program = self.made("bpfhost")
+        self.made("verifier_log")
+        for named, found in (("/named/log", "/named/log"), ("", None)):
+            os.environ["VERIFIER_LOG"] = named
+            self.assertEqual(find_verifier_log(program), found)
+
+
 class Log(TimedTest):
+    def setUp(self) -> None:
+        super().setUp()
+        self.enterContext(without_log())
+
     def log_of(self, script: str) -> str | None:
         """The log of a program `verifier_log` that stands beside another one."""
         os.rename(self.pretender(script), self.scratch / "verifier_log")
@@ -89,8 +153,38 @@ class Log(TimedTest):
         self.assertEqual(self.log_of("print('0: r0 = 1'); sys.exit(1)"), "0: r0 = 1\n")
 
     def test_another_status_is_told(self) -> None:
-        self.assertRaisesRegex(HostError, "verifier_log ended with status 4: out of memory", self.log_of, "sys.exit(print('out of memory', file=sys.stderr) or 4)")
+        for status, fault in ((2, "map word 1 is wrong"), (3, "read fault"), (4, "out of memory")):
+            script = f"print({fault!r}, file=sys.stderr); sys.exit({status})"
+            told = f"verifier_log ended with status {status}: {fault}"
+            self.assertRaisesRegex(HostError, told, self.log_of, script)
+            self.assertEqual(log_or_fault(self.scratch / "bpfhost", ONE, {}), f"there is no log: {told}\n")
 
-    def test_there_may_be_none(self) -> None:
-        with mock.patch.dict(os.environ, {"PATH": ""}):
-            self.assertIsNone(verifier_log(self.scratch / "bpfhost", ONE, {}))
+    def test_one_that_does_not_start(self) -> None:
+        os.environ["VERIFIER_LOG"] = "/nowhere/log"
+        told = "there is no log: /nowhere/log does not start: No such file or directory\n"
+        self.assertEqual(log_or_fault("bpfhost", ONE, {}), told)
+
+
+@unittest.skipUnless(PROGRAM and find_verifier_log(PROGRAM), "there is no program verifier_log")
+class TrueLog(HostTest):
+    """The program itself: its log has the program's text, and ends with the verdict."""
+
+    def test_an_accepted_program(self) -> None:
+        log = verifier_log(PROGRAM, ONE, {})
+        assert log is not None
+        self.assertEqual(log.splitlines()[-1], "accepted")
+        for text in disassemble(PROGRAM, ONE).splitlines():
+            self.assertIn(text, log)
+
+    def test_a_refused_program(self) -> None:
+        slots = assemble(PROGRAM, "r1 = map_fd 3 ll\nr0 = 0\nexit\n")
+        one = MapShape(MapType.ARRAY, 4, 8, 1)
+        self.assertTrue((verifier_log(PROGRAM, slots, {3: one}) or "").endswith("accepted\n"))
+        log = verifier_log(PROGRAM, slots, {4: one}) or ""
+        self.assertEqual(verify(PROGRAM, slots, {4: one}).refused, (0, 7))
+        self.assertRegex(log, r"slot 0\b.*\b7\b")
+        self.assertNotIn("accepted", log)
+
+    def test_maps_that_are_wrong(self) -> None:
+        wrong = {3: MapShape(MapType.ARRAY, 5, 8, 1)}
+        self.assertRaisesRegex(HostError, "verifier_log ended with status 2", verifier_log, PROGRAM, ONE, wrong)

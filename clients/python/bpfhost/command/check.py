@@ -5,7 +5,7 @@ from __future__ import annotations
 import argparse
 
 from bpfhost.command.objects import first_descriptors, read_object
-from bpfhost.program import find_program, verifier_log, verify
+from bpfhost.program import find_program, log_or_fault, verify
 
 
 def run(said: argparse.Namespace) -> int:
@@ -23,6 +23,6 @@ def run(said: argparse.Namespace) -> int:
         refused = verify(program, slots, maps).refused
         verdict = f"refused: {refused_at(object_file, each, *refused)}" if refused else "accepted"
         print(f"{each.name} in section {each.section} is {verdict}")
-        print(verifier_log(program, slots, maps) or "", end="")
+        print(log_or_fault(program, slots, maps) or "", end="")
         status = 1 if refused else status
     return status

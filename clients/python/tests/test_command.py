@@ -21,8 +21,8 @@ from unittest import mock
 
 from bpfhost import hex_lines
 from bpfhost.command import main
+from tests.capture_bytes import RAW_IP, RECORDS, pcap, pcapng
 from tests.common import LENGTH, ONE, PROGRAM, HostTest
-from tests.test_captures import RAW_IP, RECORDS, pcap, pcapng
 
 PACKAGE = Path(__file__).resolve().parents[1]
 EXAMPLE = PACKAGE.parents[1] / "examples/capture"

@@ -7,8 +7,9 @@ import unittest
 from bpfhost import Host, MapType, TestRuns, assemble
 from bpfhost.captures import open_capture
 from bpfhost.captures.piece import Stamp
+from tests.capture_bytes import RAW_IP, pcap, pcapng
 from tests.common import LENGTH, PROGRAM, HostTest
-from tests.test_captures import HAS_DPKT, RAW_IP, pcap, pcapng
+from tests.test_captures import HAS_DPKT
 
 if not HAS_DPKT:
     raise unittest.SkipTest("python3-dpkt is missing")

@@ -15,23 +15,20 @@ import contextlib
 import io
 import os
 import random
-import signal
 import sys
 import tempfile
 from collections import Counter
-from collections.abc import Iterator
 from dataclasses import dataclass
 from pathlib import Path
 
 from bpfhost.command import main as command
 from bpfhost.objects import ObjectError, ObjectFile, load_object
 from bpfhost.objects.elf import read_elf
+from tests.damaging import damaged, keep, limit
 from tests.objects.btf_builder import BtfBuilder
 from tests.objects.common import SOURCES, clang, compile_object
 from tests.objects.elf_builder import OBJECT, SECTION, ElfBuilder
 
-# An object that takes longer hangs.
-SECONDS = 20
 _READ = (".symtab", ".strtab", ".BTF", ".BTF.ext", ".maps", "maps", ".data", ".rodata", ".bss", "socket")
 
 
@@ -81,38 +78,6 @@ def originals(scratch: Path) -> list[Original]:
     return found
 
 
-def damaged(original: Original, chance: random.Random) -> bytes:
-    """The object with some damage."""
-    content = bytearray(original.content)
-    for _ in range(chance.choice((1, 1, 1, 2, 3, 8))):
-        if not content:
-            break
-        place = chance.choice(original.ranges)
-        at = min(chance.choice(place), len(content) - 1)
-        _damage(content, at, chance)
-    return bytes(content)
-
-
-def _damage(content: bytearray, at: int, chance: random.Random) -> None:
-    """Does one thing to the bytes from a place on."""
-    size = chance.choice((1, 2, 4, 8))
-    match chance.randrange(8):
-        case 0 | 1 | 2:
-            content[at] ^= 1 << chance.randrange(8)
-        case 3:
-            content[at : at + size] = chance.randbytes(size)[: len(content) - at]
-        case 4:
-            content[at : at + size] = chance.choice((b"\0", b"\xff", b"\x7f", b"\x80")) * min(size, len(content) - at)
-        case 5:
-            # Small numbers lead into other records more often than wild ones.
-            content[at] = chance.randrange(32)
-        case 6:
-            other = chance.randrange(len(content))
-            content[at : at + size] = content[other : other + size]
-        case _:
-            del content[at if chance.random() < 0.5 else at + 1 + chance.randrange(len(content) - at) :]
-
-
 def try_all(found: ObjectFile) -> None:
     """Tries all that a loaded object can do. An ObjectError is an answer; another exception is none."""
     descriptors = list(range(3, 3 + len(found.maps)))
@@ -128,27 +93,6 @@ def try_all(found: ObjectFile) -> None:
                     found.types.show(type_id, data)
                     found.types.plain(type_id, data)
                     found.types.name(type_id)
-
-
-class Hangs(BaseException):
-    """What is no Exception, so that nothing that catches those takes it for an answer."""
-
-
-def _hangs(_number: int, _frame: object) -> None:
-    raise Hangs(f"it takes longer than {SECONDS} seconds")
-
-
-@contextlib.contextmanager
-def limit() -> Iterator[None]:
-    """Ends what takes too long."""
-    before = signal.signal(signal.SIGALRM, _hangs)
-    left = signal.alarm(SECONDS)
-    try:
-        yield
-    finally:
-        signal.alarm(0)
-        signal.signal(signal.SIGALRM, before)
-        signal.alarm(left)
 
 
 def outcome_of(path: Path) -> str:
@@ -185,14 +129,13 @@ def run(count: int, seed: int, checks: int, program: str) -> Counter[str]:
             original = chance.choice(good)
             path = scratch / "damaged.o"
             path.unlink(missing_ok=True)
-            path.write_bytes(damaged(original, chance))
+            path.write_bytes(damaged(original.content, original.ranges, chance))
             try:
                 counts[outcome_of(path)] += 1
                 if number < checks:
                     counts[outcome_of_check(path, program)] += 1
             except BaseException as error:
-                kept = Path(tempfile.gettempdir()) / f"damaged-{original.name}-{seed}-{number}.o"
-                kept.write_bytes(path.read_bytes())
+                kept = keep(path, f"damaged-{original.name}-{seed}-{number}.o")
                 raise AssertionError(f"object {number} of seed {seed}, of {original.name}, kept as {kept}: {error!r}") from error
     return counts
 

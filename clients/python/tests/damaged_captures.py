@@ -1,0 +1,151 @@
+"""Damages captures and reads them: each ends in packets, or in packets and a sentence, within seconds.
+
+usage: python3 -m tests.damaged_captures [--count N] [--seed N] [--runs N]   (in clients/python)
+
+It takes captures of both formats and both byte orders, and one with all kinds of blocks, sections of both orders and several
+interfaces. Each is damaged as objects are (`tests.damaging`) and read in pieces of several sizes: all tell the same packets, with the
+same times, and the same fault, and so does one that is read from a pipe, where nothing is read twice. `--runs` gives that many to
+the command `run` too, which asks the program of the variable BPFHOST. A capture that is not treated so is kept, and named.
+"""
+
+from __future__ import annotations
+
+import argparse
+import contextlib
+import io
+import os
+import random
+import sys
+import tempfile
+import threading
+from collections import Counter
+from pathlib import Path
+
+from bpfhost import CaptureError
+from bpfhost.captures import open_capture
+from bpfhost.captures.piece import Stamp
+from bpfhost.command import main as command
+from tests.capture_bytes import NANO, RAW_IP, block, enhanced, interface, old, pcap, pcapng, section, simple
+from tests.damaging import damaged, keep, limit
+
+OBJECT = Path(__file__).resolve().parents[3] / "examples/capture/counter.o"
+# Lengths about those of an Ethernet header, of a word, and of what fills a block up.
+_LENGTHS = (0, 1, 5, 13, 14, 15, 16, 60, 61, 62, 63, 200)
+_PIECES = (1, 2, 3, 1024)
+
+Told = tuple[list[tuple[bytes, int, Stamp]], str]
+
+
+def originals(chance: random.Random) -> dict[str, bytes]:
+    """The captures that are damaged, by names."""
+    records = [(chance.randbytes(length), Stamp(length, length * 1000, 300)) for length in _LENGTHS]
+    return {
+        "pcap": pcap(records),
+        "pcap-of-nanoseconds": pcap(records, "<", NANO),
+        "pcap-big-endian": pcap(records, ">"),
+        "pcapng": pcapng(records),
+        "pcapng-big-endian": pcapng(records, ">"),
+        "pcapng-of-all-kinds": _all_kinds(chance) + pcapng(records, ">") + pcapng(records, "<"),
+    }
+
+
+def _all_kinds(chance: random.Random) -> bytes:
+    """A section with three interfaces of two link types, and all kinds of blocks, some of them with options."""
+    comment = b"\1\0\5\0hello\0\0\0\0\0\0\0"
+    blocks = [section("<"), interface("<"), interface("<", RAW_IP), interface("<", options=comment)]
+    for number, length in enumerate(_LENGTHS):
+        packet = chance.randbytes(length)
+        blocks.append(enhanced("<", packet, number, 300, of=(0, 0, 2, 1, 0, 2)[number % 6]))
+        blocks.append(enhanced("<", packet + bytes(-length % 4) + comment, number, 300, kept=length))
+    blocks[8:8] = [simple("<", b"simple..", 9), old("<", b"old", 5_000_000, 4)]
+    blocks[16:16] = [block(5, bytes(8), "<"), block(0x0BAD, b"", "<")]
+    return b"".join(blocks)
+
+
+def told_of(path: Path | str, most: int) -> Told:
+    """The packets of a capture with their link types and stamps, read in pieces of so many, and the fault behind them."""
+    packets: list[tuple[bytes, int, Stamp]] = []
+    try:
+        with open_capture(path) as capture:
+            for piece in capture.pieces(most):
+                packets += [(piece[at], piece.link_type, piece.stamp(at)) for at in range(len(piece))]
+    except CaptureError as error:
+        sentence = str(error)
+        assert sentence.startswith(f"{path}: ") and len(sentence.splitlines()) == 1, sentence
+        return packets, sentence.removeprefix(f"{path}: ")
+    return packets, ""
+
+
+def told_through_pipe(content: bytes, most: int) -> Told:
+    """The same of a capture that comes through a pipe."""
+    read, write = os.pipe()
+
+    def feed() -> None:
+        with contextlib.suppress(BrokenPipeError), open(write, "wb", buffering=0) as file:
+            file.write(content)
+
+    feeder = threading.Thread(target=feed)
+    feeder.start()
+    try:
+        return told_of(f"/dev/fd/{read}", most)
+    finally:
+        os.close(read)
+        feeder.join()
+
+
+def outcome_of(path: Path) -> str:
+    """What comes of reading a capture: `read` to its end, or `refused`, at once or behind some packet."""
+    with limit():
+        told = [told_of(path, most) for most in _PIECES]
+        told.append(told_through_pipe(path.read_bytes(), _PIECES[-1]))
+    assert all(each == told[0] for each in told), [(len(packets), fault) for packets, fault in told]
+    return "refused" if told[0][1] else "read"
+
+
+def outcome_of_run(path: Path, program: str) -> str:
+    """What comes of the command `run`, with its status. Its errors are one sentence, and one for each link type."""
+    written, errors = io.StringIO(), io.StringIO()
+    with limit(), contextlib.redirect_stdout(written), contextlib.redirect_stderr(errors):
+        status = command(["run", "--bpfhost", program, "--json", str(OBJECT), str(path)])
+    lines = errors.getvalue().splitlines()
+    faults = [line for line in lines if "are passed to the filter as they are" not in line]
+    assert status in (0, 1) and len(faults) == status, (status, lines)
+    assert all(line.startswith("bpfhost: ") for line in lines), lines
+    return f"run with status {status}"
+
+
+def run(count: int, seed: int, runs: int, program: str) -> Counter[str]:
+    """Damages so many captures, gives so many of them to `run`, and counts what came of them."""
+    chance = random.Random(seed)
+    counts: Counter[str] = Counter()
+    good = originals(chance)
+    with tempfile.TemporaryDirectory() as folder:
+        path = Path(folder) / "damaged"
+        for number in range(count):
+            name = chance.choice(list(good))
+            path.unlink(missing_ok=True)
+            path.write_bytes(damaged(good[name], (range(100), range(len(good[name]))), chance))
+            try:
+                counts[outcome_of(path)] += 1
+                if number < runs:
+                    counts[outcome_of_run(path, program)] += 1
+            except BaseException as error:
+                kept = keep(path, f"damaged-{name}-{seed}-{number}")
+                raise AssertionError(f"capture {number} of seed {seed}, of {name}, kept as {kept}: {error!r}") from error
+    return counts
+
+
+def main() -> int:
+    """The command."""
+    parser = argparse.ArgumentParser(prog="damaged_captures", description="Damages captures and reads them.")
+    parser.add_argument("--count", type=int, default=5000, help="so many captures")
+    parser.add_argument("--seed", type=int, default=1, help="of the random numbers")
+    parser.add_argument("--runs", type=int, default=0, help="so many of them for the command run")
+    said = parser.parse_args()
+    counts = run(said.count, said.seed, said.runs, os.environ.get("BPFHOST", ""))
+    print(", ".join(f"{count} {what}" for what, count in sorted(counts.items())))
+    return 0
+
+
+if __name__ == "__main__":
+    sys.exit(main())

@@ -1,6 +1,6 @@
 """Test runs of a program on many packets: their frames in one piece, and the results in their replies.
 
-No object is made for a packet, so that a run costs its client little beside what the host does.
+No object of this package is made for a packet, so that a run costs its client little beside what the host does.
 """
 
 from __future__ import annotations

@@ -7,6 +7,7 @@ import importlib.util
 import io
 import json
 import os
+import pty
 import re
 import shutil
 import signal
@@ -203,6 +204,14 @@ class Frames(CommandTest):
         self.refuses(1, "standard input:1: a slot is", "load", "0", given=b"abc")
         self.refuses(1, "the tenant is 65536", "test-run", "65536", "3")
 
+    def test_there_is_no_room(self) -> None:
+        call = f"{sys.executable} -m bpfhost replies > /dev/full"
+        environment = {**os.environ, "PYTHONPATH": str(PACKAGE)}
+        replies = bytes.fromhex("08000000 0000 0500 03000000")
+        ended = subprocess.run(["bash", "-c", call], input=replies, capture_output=True, check=False, env=environment)
+        told = b"bpfhost: standard input or output: No space left on device\n"
+        self.assertEqual((ended.stderr, ended.returncode), (told, 1))
+
     def test_nobody_reads(self) -> None:
         replies = bytes.fromhex("08000000 0000 0500 03000000") * 100_000
         call = f"{sys.executable} -m bpfhost replies | head -n 1"
@@ -300,6 +309,42 @@ class Run(CommandTest):
         os.symlink("sample.pcap", self.scratch / "the_same")
         self.refuses(1, "can't be written over the capture", "run", "counter.o", "sample.pcap", "--accepted", "the_same")
         self.assertEqual((self.scratch / "sample.pcap").read_bytes(), before)
+
+    def test_an_object_is_not_written_over(self) -> None:
+        self.refuses(1, "can't be written over the object", "run", "counter.o", "sample.pcap", "--accepted", "counter.o")
+        self.assertEqual((self.scratch / "counter.o").read_bytes(), (EXAMPLE / "counter.o").read_bytes())
+
+    def test_progress_is_shown_on_a_terminal_alone(self) -> None:
+        words = ("run", "counter.o", "sample.pcap", "--json")
+        self.assertEqual(self.process(*words).stderr, b"")
+        environment = {**os.environ, "PYTHONPATH": str(PACKAGE), "BPFHOST": PROGRAM, "TERM": "xterm", "COLUMNS": "80"}
+        ours, theirs = pty.openpty()
+        try:
+            call = [sys.executable, "-m", "bpfhost", *words]
+            ended = subprocess.run(call, stdout=subprocess.PIPE, stderr=theirs, check=True, cwd=self.scratch, env=environment)
+            shown = os.read(ours, 65_536).decode()
+        finally:
+            os.close(ours)
+            os.close(theirs)
+        self.assertEqual(json.loads(ended.stdout)["packets"], 235)
+        # A bar, and how much of the file is read: its size is 33,302 bytes.
+        self.assertRegex(shown, r"\u2501+.*33\.3/33\.3 kB")
+
+    def test_a_capture_of_standard_input(self) -> None:
+        ended = self.process("run", "counter.o", "-", "--json", given=pcap(RECORDS[:1]))
+        self.assertEqual((json.loads(ended.stdout)["results"], ended.stderr, ended.returncode), ({"5": 1}, b"", 0))
+
+    def test_a_capture_that_goes_on(self) -> None:
+        """Whoever wants two packets gets their results, though the third one never comes."""
+        os.mkfifo(self.scratch / "pipe")
+        call = [sys.executable, "-m", "bpfhost", "run", "counter.o", "pipe", "--json", "--limit", "2"]
+        environment = {**os.environ, "PYTHONPATH": str(PACKAGE), "BPFHOST": PROGRAM}
+        with subprocess.Popen(call, stdout=subprocess.PIPE, cwd=self.scratch, env=environment) as process:
+            with open(self.scratch / "pipe", "wb") as pipe:
+                pipe.write(pcapng(RECORDS) + b"\0")
+                pipe.flush()
+                assert process.stdout is not None
+                self.assertEqual(json.load(process.stdout)["packets"], 2)
 
     def test_sections(self) -> None:
         for named in ("socket", "keep_first_bytes"):

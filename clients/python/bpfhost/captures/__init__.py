@@ -9,7 +9,7 @@ from __future__ import annotations
 import os
 from collections.abc import Iterator
 from contextlib import contextmanager
-from typing import BinaryIO
+from io import BufferedReader
 
 from bpfhost.captures.piece import Capture, Piece
 from bpfhost.errors import CaptureError, MissingPackage
@@ -53,7 +53,7 @@ def open_capture(path: str | os.PathLike[str]) -> Iterator[Capture]:
         yield _begun(name, file)
 
 
-def _begun(name: str, file: BinaryIO) -> Capture:
+def _begun(name: str, file: BufferedReader) -> Capture:
     try:
         from bpfhost.captures import pcap, pcapng
     except ModuleNotFoundError as error:

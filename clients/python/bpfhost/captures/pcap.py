@@ -5,7 +5,7 @@ from __future__ import annotations
 import contextlib
 import struct
 from dataclasses import dataclass, field
-from typing import BinaryIO
+from io import BufferedReader
 
 from dpkt import pcap
 
@@ -38,7 +38,7 @@ class _PcapPiece(Piece):
 class PcapCapture(Capture):
     """A capture in the format pcap, in either byte order, with microseconds or nanoseconds."""
 
-    def __init__(self, name: str, file: BinaryIO, magic: bytes) -> None:
+    def __init__(self, name: str, file: BufferedReader, magic: bytes) -> None:
         """Reads the header, whose first bytes are `magic`."""
         super().__init__(name, file, b"")
         number = int.from_bytes(magic, "big")

@@ -5,7 +5,7 @@ from __future__ import annotations
 import contextlib
 import struct
 from dataclasses import dataclass, field
-from typing import BinaryIO
+from io import BufferedReader
 
 import dpkt
 from dpkt import pcapng
@@ -59,7 +59,7 @@ class PcapngCapture(Capture):
 
     has_nanoseconds = True
 
-    def __init__(self, name: str, file: BinaryIO, magic: bytes) -> None:
+    def __init__(self, name: str, file: BufferedReader, magic: bytes) -> None:
         """Reads nothing; `magic` is what was read of the file."""
         super().__init__(name, file, magic)
         self._interfaces: tuple[_Interface, ...] = ()

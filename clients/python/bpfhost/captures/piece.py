@@ -6,9 +6,9 @@ import os
 import stat
 from abc import ABC, abstractmethod
 from array import array
-from collections.abc import Generator, Iterator
+from collections.abc import Callable, Generator, Iterator
 from dataclasses import dataclass
-from typing import BinaryIO
+from io import BufferedReader
 
 from bpfhost.errors import CaptureError
 from bpfhost.numbers import LONGEST_PACKET
@@ -54,7 +54,7 @@ class Capture(ABC):
     # Whether times have more digits than microseconds have.
     has_nanoseconds = False
 
-    def __init__(self, name: str, file: BinaryIO, begun: bytes) -> None:
+    def __init__(self, name: str, file: BufferedReader, begun: bytes) -> None:
         """Reads nothing; `begun` is what was read of the file."""
         self.name = name
         self._file = file
@@ -90,11 +90,12 @@ class Capture(ABC):
     def _with_more(self, rest: bytes) -> bytes:
         """The bytes that were read last, and what follows; nothing follows at the end of the file.
 
-        They are read once more where the file lets it, which is cheaper than to join them with so many bytes more.
+        They are read once more where the file lets it, which is cheaper than to join them with so many bytes more. From a pipe comes
+        what is there, so that packets of a capture that goes on are not waited for.
         """
         more = max(_CHUNK, 2 * len(rest))
         if not self._file.seekable():
-            return rest + self._read(more)
+            return rest + (self._read(more) if len(rest) > _CHUNK else self._read(more, self._file.read1))
         try:
             self._file.seek(-len(rest), os.SEEK_CUR)
         except OSError as error:
@@ -111,9 +112,9 @@ class Capture(ABC):
         """The error that tells the file and a fault."""
         return CaptureError(f"{self.name}: {fault}")
 
-    def _read(self, size: int) -> bytes:
+    def _read(self, size: int, by: Callable[[int], bytes] | None = None) -> bytes:
         try:
-            read = self._file.read(size)
+            read = (by or self._file.read)(size)
         except OSError as error:
             raise self.error(error.strerror or "it can't be read") from error
         self.bytes_read += len(read)

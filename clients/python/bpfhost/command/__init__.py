@@ -40,7 +40,8 @@ def main(words: Sequence[str] | None = None) -> int:
     except (BpfhostError, ValueError) as error:
         return _told(str(error), REFUSED)
     except OSError as error:
-        return _told(f"{error.filename}: {error.strerror}" if error.filename else str(error), REFUSED)
+        # What has no name is one of the standard streams.
+        return _told(f"{error.filename or 'standard input or output'}: {error.strerror or error}", REFUSED)
     except KeyboardInterrupt:
         return _told("interrupted", INTERRUPTED)
     return status

@@ -53,7 +53,7 @@ def _add_run(words: argparse._SubParsersAction[_Parser]) -> None:
     parser = words.add_parser("run", help="run a filter on every packet of a capture")
     parser.set_defaults(run=run.run)
     parser.add_argument("object", metavar="OBJECT", help="an ELF object of machine BPF, as clang -target bpf -g writes it")
-    parser.add_argument("capture", metavar="CAPTURE", help="a capture, pcap or pcapng")
+    parser.add_argument("capture", metavar="CAPTURE", help="a capture, pcap or pcapng; - is standard input")
     parser.add_argument("--section", metavar="S", help="the section of the filter, or its function's name")
     parser.add_argument(
         "--tenants", metavar="N", type=_at_least(1, MOST_TENANTS), default=1, help="so many tenants run the filter, each on every packet"

@@ -16,6 +16,8 @@ from bpfhost.host import Host
 from bpfhost.packets import ETHERNET
 from bpfhost.program import find_program
 
+_STANDARD_INPUT = "/dev/stdin"
+
 if TYPE_CHECKING:
     from bpfhost.captures import Capture, Piece
     from bpfhost.filtering import Outcome
@@ -32,7 +34,8 @@ def run(said: argparse.Namespace) -> int:
     from bpfhost.loading import choose_program, load_program
 
     program = choose_program(object_file, said.section)
-    with open_capture(said.capture) as capture, Host(find_program(said.bpfhost), said.tenants) as host:
+    _refuse_loss(said)
+    with open_capture(_STANDARD_INPUT if said.capture == "-" else said.capture) as capture, Host(find_program(said.bpfhost), said.tenants) as host:
         loaded = [load_program(host.tenant(number), object_file, program) for number in range(said.tenants)]
         with _accepting(said, capture) as accept, _progress(capture) as advanced:
             outcome = Filter([each.runs() for each in loaded]).run(capture, said.limit, accept, advanced)
@@ -45,6 +48,13 @@ def run(said: argparse.Namespace) -> int:
     return _noted(said.capture, outcome)
 
 
+def _refuse_loss(said: argparse.Namespace) -> None:
+    """An InputError where the packets that are kept would be written over what is read."""
+    for name, what in ((said.object, "object that is run"), (said.capture, "capture that they are read from")):
+        if said.accepted is not None and os.path.exists(said.accepted) and os.path.exists(name) and os.path.samefile(said.accepted, name):
+            raise InputError(f"{said.accepted}: the packets that are kept can't be written over the {what}")
+
+
 @contextlib.contextmanager
 def _accepting(said: argparse.Namespace, capture: Capture) -> Iterator[Accept]:
     """What is done with packets that are kept: they are written to a file, if one is named."""
@@ -54,8 +64,6 @@ def _accepting(said: argparse.Namespace, capture: Capture) -> Iterator[Accept]:
     if said.accepted is None:
         yield accept_none
         return
-    if os.path.exists(said.accepted) and os.path.samefile(said.accepted, said.capture):
-        raise InputError(f"{said.accepted}: the packets that are kept can't be written over the capture that they are read from")
     with CaptureWriter(said.accepted, capture.has_nanoseconds) as writer:
         yield accept_to(writer)
 

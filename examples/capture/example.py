@@ -14,6 +14,7 @@ import subprocess
 import sys
 import tempfile
 from pathlib import Path
+from typing import Any
 
 HERE = Path(__file__).resolve().parent
 PACKAGE = HERE.parents[1] / "clients/python"
@@ -100,7 +101,7 @@ def compare_flows(scratch: Path) -> None:
         sys.exit(f"capture: there are {len(entries)} busiest flows, and not ten")
 
 
-def rule_of(flow: dict[str, object]) -> str:
+def rule_of(flow: dict[str, Any]) -> str:
     """A flow in the words of pcap-filter(7)."""
     source, destination = (".".join(map(str, flow[side])) for side in ("source", "destination"))
     protocol = str(flow["protocol"]).lower()

@@ -10,6 +10,7 @@ from __future__ import annotations
 import random
 import sys
 from collections.abc import Iterator
+from typing import SupportsBytes
 
 import dpkt
 from dpkt.arp import ARP
@@ -42,7 +43,7 @@ def ipv4(inner: object, protocol: int, host: int = 1, **fields: int) -> bytes:
     return ethernet(ETH_TYPE_IP, packet)
 
 
-def ipv6(inner: object, next_header: int) -> bytes:
+def ipv6(inner: SupportsBytes, next_header: int) -> bytes:
     """A frame with an IPv6 packet from 2001:db8::1 to 2001:db8::35."""
     prefix = bytes.fromhex("20010db8") + bytes(11)
     packet = IP6(src=prefix + b"\x01", dst=prefix + b"\x35", nxt=next_header, data=inner)

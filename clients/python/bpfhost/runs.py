@@ -45,7 +45,8 @@ def _types(packets: Packets) -> Sequence[int | None]:
         return [None] * len(packets)
     if packets.types is not None and min(packets.lengths, default=0) >= _ETHERNET_HEAD:
         return packets.types
-    return [int.from_bytes(packet[12:14], "little") if len(packet) >= _ETHERNET_HEAD else None for packet in packets]
+    data, places = packets.data, zip(packets.starts, packets.lengths)
+    return [int.from_bytes(data[start + 12 : start + 14], "little") if length >= _ETHERNET_HEAD else None for start, length in places]
 
 
 class _Heads:

@@ -1,0 +1,26 @@
+"""The bench, with few packets: it runs, and the filter keeps every byte of both captures, else it would end with a fault."""
+
+from __future__ import annotations
+
+import subprocess
+import sys
+from pathlib import Path
+
+from tests.common import PROGRAM, HostTest
+from tests.test_captures import needs_dpkt
+
+BENCH = Path(__file__).resolve().parents[1] / "bench/packets.py"
+
+
+@needs_dpkt
+class Bench(HostTest):
+    def test_both_formats(self) -> None:
+        call = [sys.executable, str(BENCH), PROGRAM, "--packets", "2000", "--rounds", "2"]
+        ended = subprocess.run(call, capture_output=True, check=False, text=True)
+        self.assertEqual((ended.stderr, ended.returncode), ("", 0))
+        lines = ended.stdout.splitlines()
+        self.assertEqual(len(lines), 6)
+        for line, name in zip(lines, ("pcap", "pcapng") * 2):
+            self.assertRegex(line, rf"\A{name}, 2,000 packets: client \d+\.\d\d us a packet, host \d+\.\d\d, ratio \d+\.\d\d\Z")
+        for line, name in zip(lines[4:], ("pcap", "pcapng")):
+            self.assertRegex(line, rf"\A{name}: the client costs \d+\.\d\d us a packet at least, and is to cost less than 3\Z")

@@ -131,10 +131,13 @@ def find_verifier_log(program: Program) -> str | None:
     if named is not None:
         return named or None
     folder = Path(shutil.which(program) or program).absolute().parent
-    for of_build in (folder / "verifier_log", folder.parents[1] / "verifier_log/out/verifier_log" if folder.name == "out" else None):
-        if of_build and _is_program(of_build):
-            return str(of_build)
-    return shutil.which("verifier_log") or (str(_BUILT_LOG) if _is_program(_BUILT_LOG) else None)
+    beside = [folder / "verifier_log"]
+    if folder.name == "out":
+        # A build leaves each program in the folder of its crate.
+        beside.append(folder.parent.parent / "verifier_log/out/verifier_log")
+    of_path = shutil.which("verifier_log")
+    found = next((path for path in (*beside, *([Path(of_path)] if of_path else []), _BUILT_LOG) if _is_program(path)), None)
+    return str(found) if found else None
 
 
 def _is_program(path: Path) -> bool:

@@ -4,11 +4,11 @@ from __future__ import annotations
 
 import unittest
 
-from bpfhost import Host, MapType, TestRuns, assemble
+from bpfhost import Host, MapType, Packets, TestRuns, assemble, frames
 from bpfhost.captures import open_capture
 from bpfhost.captures.piece import Stamp
 from tests.capture_bytes import RAW_IP, pcap, pcapng
-from tests.common import LENGTH, PROGRAM, HostTest
+from tests.common import LENGTH, PROGRAM, HostTest, TimedTest
 from tests.test_captures import HAS_DPKT
 
 if not HAS_DPKT:
@@ -22,6 +22,33 @@ FOUR_BYTES = "r0 = *(u32 *)(r1 + 0)\nif r0 > 2 goto +2\nr0 = 0\nexit\nif r0 < 4 
 # Counts its runs in the one value of the map of descriptor 3, and answers the count.
 COUNT = "r1 = map_value 3 + 0 ll\nr0 = *(u64 *)(r1 + 0)\nr0 += 1\n*(u64 *)(r1 + 0) = r0\nexit\n"
 RECORDS = [(bytes(length), Stamp(length, 1000 * length, length + 1)) for length in (0, 2, 3, 4, 5, 70)] * 300
+
+
+
+class FramesOfCaptures(TimedTest):
+    """Captures tell the types of packets, and the frames are those of packets that come without."""
+
+    def test_types_in_both_formats_and_byte_orders(self) -> None:
+        heads = [bytes.fromhex(word) for word in ("0800", "86dd", "0806", "8100", "05ff", "0600", "0000", "ffff")]
+        packets = [bytes(12) + head + bytes(60) for head in heads] * 3
+        short = [bytes(range(100, 100 + length)) for length in (0, 1, 12, 13, 14, 15, 60)]
+        with Host(self.pretender("read()")) as host:
+            runs = TestRuns(host, 2, 3)
+            for listed in (packets, short, packets + short):
+                records = [(packet, Stamp(0, 0, 100)) for packet in listed]
+                for content in (pcap(records), pcap(records, ">"), pcapng(records), pcapng(records, ">")):
+                    (self.scratch / "capture").write_bytes(content)
+                    with open_capture(self.scratch / "capture") as capture:
+                        told = b"".join(map(runs.frames, capture.pieces()))
+                    self.assertEqual(told, runs.frames(Packets.of(listed)))
+
+    def test_other_link_types_have_no_type(self) -> None:
+        listed = [bytes(12) + b"\x08\x00" + bytes(60)] * 3
+        (self.scratch / "capture").write_bytes(pcap([(packet, Stamp(0, 0, 100)) for packet in listed], link_type=RAW_IP))
+        with Host(self.pretender("read()")) as host, open_capture(self.scratch / "capture") as capture:
+            runs = TestRuns(host, 0, 3)
+            told = b"".join(map(runs.frames, capture.pieces()))
+        self.assertEqual(told, b"".join(frames.prog_test_run(0, 3, packet) for packet in listed))
 
 
 class Filtering(HostTest):

@@ -16,14 +16,14 @@ from bpfhost.host import Host
 from bpfhost.packets import ETHERNET
 from bpfhost.program import find_program
 
-_STANDARD_INPUT = "/dev/stdin"
-
 if TYPE_CHECKING:
     from bpfhost.captures import Capture, Piece
     from bpfhost.filtering import Outcome
 
     Accept = Callable[[Piece, tuple[int, ...]], None]
     Advanced = Callable[[Capture], None]
+
+_STANDARD_INPUT = "/dev/stdin"
 
 
 def run(said: argparse.Namespace) -> int:

@@ -114,8 +114,12 @@ class Pcapng(CaptureTest):
 
     def test_all_kinds_of_packets(self) -> None:
         unknown = block(5, bytes(8), "<") + block(0x0BAD, b"", "<")
+        # The body of an enhanced packet block, in a block of another kind.
+        unknown += block(0x0BAD, enhanced("<", b"none", 0, 4)[8:-4], "<")
         content = section("<") + interface("<", longest=6) + unknown + simple("<", b"simple..", 9) + old("<", b"old", 5_000_000, 4) + unknown
-        self.assertEqual(self.read(content), [(b"simple", Stamp(0, 0, 9)), (b"old", Stamp(5, 0, 4))])
+        packets = [(b"simple", Stamp(0, 0, 9)), (b"old", Stamp(5, 0, 4))]
+        self.assertEqual(self.read(content), packets)
+        self.assertEqual(self.read(content + enhanced("<", b"more", 0, 4) * 3 + unknown), packets + [(b"more", Stamp(0, 0, 4))] * 3)
 
     def test_resolutions_and_offsets(self) -> None:
         # if_tsresol (9) of 10^-9 and of 2^-10; if_tsoffset (14) of 100 seconds.
@@ -153,6 +157,8 @@ class Pcapng(CaptureTest):
             begun + struct.pack("<II", 6, 8) + bytes(8): "it has a block of 8 bytes before packet 1",
             begun + struct.pack("<II", 6, 0x7FFFFFF0) + bytes(8): "it has a block of 2,147,483,632 bytes before packet 1",
             begun + enhanced("<", b"abcd", 0, 4, kept=5): "the block of packet 1 has not what it says",
+            begun + enhanced("<", bytes(65_537), 0, 65_537): "packet 1 has 65,537 bytes, and that of a test run has 65,536 at most",
+            begun + struct.pack("<7I", 6, 37, 0, 0, 0, 4, 4) + b"abcde" + struct.pack("<I", 37): "it has a block of 37 bytes before packet 1",
             begun + enhanced("<", b"abcd", 0, 4, kept=65_537): "packet 1 has 65,537 bytes, and that of a test run has 65,536 at most",
             begun + enhanced("<", b"abcd", 0, 4, of=1): "the block of packet 1 has not what it says",
             section("<") + packet: "the block of packet 1 has not what it says",
@@ -164,7 +170,9 @@ class Pcapng(CaptureTest):
             section("<") + interface("<", options=struct.pack("<HH", 9, 0)): "it has an interface whose block is wrong",
         }
         for content, fault in wrong.items():
-            self.assertEqual(self.read_to_fault(content)[1], f"capture: {fault}")
+            # A wrong block is read in another way where it is the last one.
+            for rest in (b"", packet, packet * 5):
+                self.assertEqual(self.read_to_fault(content + rest), ([b"abcd"] * content.startswith(begun + packet), f"capture: {fault}"))
 
 
 class Wrong(CaptureTest):

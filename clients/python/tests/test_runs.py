@@ -54,6 +54,13 @@ class Frames(TimedTest):
                 list(host.tenant().prog_test_runs(3, [Packets.of([b""])]))
 
 
+    def test_a_refusal_that_is_as_long_as_a_result(self) -> None:
+        program = self.pretender("read(52); os.write(1, bytes.fromhex('0c000000 0000 0a00 eaffffff 05000000')); read()")
+        with self.assertRaises(Refused) as refused, Host(program) as host:
+            list(host.tenant().prog_test_runs(3, [Packets.of([b""])]))
+        self.assertTrue(refused.exception.has(Errno.EINVAL))
+
+
 class Runs(HostTest):
     def test_results_in_order(self) -> None:
         packets = [bytes(length % 1500) for length in range(20_000)]

@@ -11,7 +11,7 @@ import unittest
 from pathlib import Path
 
 PROGRAM = os.environ.get("BPFHOST", "")
-SECONDS = 60
+SECONDS = 180
 
 # r0 = 1; exit: the program of the repository's README.
 ONE = bytes.fromhex("b700000001000000 9500000000000000")

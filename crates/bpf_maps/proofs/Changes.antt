@@ -49,7 +49,7 @@ module _ (a : Inside) (t : LiveMaps) (at key : ℕ) (old new : Entry) (refused :
   areas_stay = one_changed t (as_live_maps (with_entry a at new refused)) key (live_of old) (live_of new) live_old live_new c.shape c.start c.stride others_stay
 
   pub whole_stays : IsWellFormedMaps (with_entry a at new refused)
-  whole_stays = whole_replaced a (with_entry a at new refused) at c.whole (set_others a.slots.slots at old new c.here) refl old new c.here there c.start c.stride c.shape c.held c.sound refl
+  whole_stays = whole_replaced a (with_entry a at new refused) at c.whole (set_others a.slots.slots at old new c.here) refl old new c.here there c.start c.stride c.shape c.held c.sound refl refl
 
   pub laid_stays : IsLaid (as_live_maps (with_entry a at new refused))
   laid_stays = laid (with_entry a at new refused) whole_stays
@@ -57,7 +57,7 @@ module _ (a : Inside) (t : LiveMaps) (at key : ℕ) (old new : Entry) (refused :
   pub room_stays : SameRoom t (as_live_maps (with_entry a at new refused))
   room_stays = record {
     maps =
-        same_count a (with_entry a at new refused) at c.whole (set_others a.slots.slots at old new c.here) refl old new c.here there c.start c.stride c.shape c.held c.sound refl
+        same_count a (with_entry a at new refused) at c.whole (set_others a.slots.slots at old new c.here) refl old new c.here there c.start c.stride c.shape c.held c.sound refl refl
         ∙ ap count c.view;
     bytes = sym whole_stays.sum ∙ c.whole.sum ∙ ap areas c.view;
   }

@@ -1,5 +1,6 @@
 -- A map that is new.
 use Rattle.std.proofs.Common.{◌≡◌, ◌≢◌, ℕ, ◌+◌, ◌*◌, ◌/◌, ◌<◌, ◌≤◌, ◌⊎◌, ◌||◌, Bool, true, false, if◌then◌else◌, nat_le, nat_lt, List, ◌++◌, length, take, drop, replicate, Option, Some, None, Result, Ok, Err, IsSome, is_some, refl, sym, ap, subst, ◌∙◌, arith, get_or, count_by, ⊎_elim, inl, inr, true≢false}
+use Rattle.std.specs.Prelude.{slice_set}
 use Rattle.std.proofs.lemmas.Bool.{lt-leb, le-leb, lt-ltb, le-ltb}
 use Rattle.std.proofs.lemmas.List.{length-replicate}
 use Rattle.tagged_model.specs.declared.shape.MapShape.{MapShape}
@@ -13,7 +14,9 @@ use Rattle.bpf_maps.specs.declared.maps.Maps.TheInside.{Inside}
 use Rattle.bpf_maps.specs.Places.{PlaceTable, IsSound, new_places}
 use Rattle.bpf_maps.specs.Any.{places_of}
 use Rattle.bpf_maps.specs.Live.{LiveMap, LiveMaps, live_at, live_or, offset, value_in, start_at, count, areas, HasOneMore, create_fault, Creates, IsCreated, IsLaid, SameValues}
-use Rattle.bpf_maps.specs.InMaps.{live_of, as_live_maps, IsWellFormedMaps}
+use Rattle.bpf_maps.specs.InMaps.{live_of, as_live_maps, layout_of, AreLaidOut, IsWellFormedMaps}
+use Rattle.bpf_maps.specs.declared.map_layout.MapLayout.{MapLayout}
+use Rattle.bpf_maps.proofs.LaidOut.{added_out}
 use Rattle.bpf_maps.proofs.Slots.{some_entry, live_by, none_by, others_by, same_or_other}
 use Rattle.bpf_maps.proofs.Totals.{count_entries}
 use Rattle.bpf_maps.proofs.InAreas.{value_ends}
@@ -60,7 +63,7 @@ pub record IsRoom (a : Inside) (t : LiveMaps) (shape : MapShape) (size : ℕ) : 
   pub room : a.bytes + size ≤ LARGEST_SUM
 
 -- the entry is in a slot
-pub record IsAdded (a : Inside) (shape : MapShape) (slots : Slab Entry) (k : ℕ) (e : Entry) : Type 0 where
+pub record IsAdded (a : Inside) (shape : MapShape) (slots : Slab Entry) (layouts : List MapLayout) (k : ℕ) (e : Entry) : Type 0 where
   pub was : get_or a.slots.slots k None ≡ None
   pub there : get_or slots.slots k None ≡ Some e
   pub others : (j : ℕ) → j ≢ k → get_or slots.slots j None ≡ get_or a.slots.slots j None
@@ -70,10 +73,11 @@ pub record IsAdded (a : Inside) (shape : MapShape) (slots : Slab Entry) (k : ℕ
   pub start : e.start ≡ FRONT + a.bytes
   pub stride : e.stride ≡ (shape.value_size + 7) / 8 * 8
   pub holds : e.holds ≡ 1
+  pub layout : layouts ≡ slice_set a.layouts k (layout_of e)
 
 -- the fields with it
-abbrev pub with_new : Inside → ℕ → Slab Entry → Inside
-with_new a size slots = record a { slots = slots; bytes = a.bytes + size }
+abbrev pub with_new : Inside → ℕ → Slab Entry → List MapLayout → Inside
+with_new a size slots layouts = record a { slots = slots; layouts = layouts; bytes = a.bytes + size }
 
 module _ (a : Inside) (t : LiveMaps) (shape : MapShape) (size : ℕ) (r : IsRoom a t shape size) where
   view : as_live_maps a ≡ t
@@ -94,19 +98,19 @@ module _ (a : Inside) (t : LiveMaps) (shape : MapShape) (size : ℕ) (r : IsRoom
       subst (λ (o : Option MapFault). Creates o t shape (Err Memory) (as_live_maps (record a { refused = true }))) (sym no_fault_here)
       (ap (λ (u : LiveMaps). let v : LiveMaps = record { slots = u.slots; refused = true } in v) view)
 
-  module _ (slots : Slab Entry) (k : ℕ) (e : Entry) (d : IsAdded a shape slots k e) where
+  module _ (slots : Slab Entry) (layouts : List MapLayout) (k : ℕ) (e : Entry) (d : IsAdded a shape slots layouts k e) where
     stride : e.stride ≡ (shape.value_size + 7) / 8 * 8
     stride = d.stride
 
-    live_new : live_at (as_live_maps (with_new a size slots)) k ≡ Some (live_of e)
+    live_new : live_at (as_live_maps (with_new a size slots layouts)) k ≡ Some (live_of e)
     live_new = live_by slots.slots slots.slots k e d.there
 
-    others_stay : (j : ℕ) → j ≢ k → live_at (as_live_maps (with_new a size slots)) j ≡ live_at t j
+    others_stay : (j : ℕ) → j ≢ k → live_at (as_live_maps (with_new a size slots layouts)) j ≡ live_at t j
     others_stay j ne = others_by a.slots.slots slots.slots k d.others j ne ∙ ap (λ (u : LiveMaps). live_at u j) view
 
-    pub creates_one : Creates (create_fault t shape) t shape (Ok k) (as_live_maps (with_new a size slots))
+    pub creates_one : Creates (create_fault t shape) t shape (Ok k) (as_live_maps (with_new a size slots layouts))
     creates_one =
-        subst (λ (o : Option MapFault). Creates o t shape (Ok k) (as_live_maps (with_new a size slots))) (sym no_fault_here)
+        subst (λ (o : Option MapFault). Creates o t shape (Ok k) (as_live_maps (with_new a size slots layouts))) (sym no_fault_here)
         (record {
           was = ap (λ (u : LiveMaps). live_at u k) (sym view) ∙ none_by a.slots.slots a.slots.slots k d.was;
           live = ap is_some live_new;
@@ -125,23 +129,24 @@ module _ (a : Inside) (t : LiveMaps) (shape : MapShape) (size : ℕ) (r : IsRoom
     round : e.stride ≡ ((places_of e.map).shape.value_size + 7) / 8 * 8
     round = stride ∙ ap (λ (v : ℕ). (v + 7) / 8 * 8) (sym value_of)
 
-    pub whole_one : IsWellFormedMaps (with_new a size slots)
+    pub whole_one : IsWellFormedMaps (with_new a size slots layouts)
     whole_one =
         let x : area (places_of e.map).shape.value_size (places_of e.map).shape.max_entries ≡ area shape.value_size shape.max_entries = ap (λ (q : PlaceTable). area q.shape.value_size q.shape.max_entries) d.places in
         let l = d.below in
         let c = d.capacity in
-        whole_added a (with_new a size slots) k h d.others d.capacity e d.was d.there (omega arith) d.start round (let o = d.holds in omega arith) (subst IsSound (sym d.places) (sound_new shape)) (let s = r.size_is in omega arith) r.room few
+        whole_added a (with_new a size slots layouts) k h d.others d.capacity e d.was d.there (omega arith) d.start round (let o = d.holds in omega arith) (subst IsSound (sym d.places) (sound_new shape)) (let s = r.size_is in omega arith) r.room
+        (subst (λ (ls : List MapLayout). AreLaidOut slots ls) (sym d.layout) (added_out a.slots slots a.layouts k h.laid_out d.others d.capacity e d.there d.below)) few
 
-    pub laid_one : IsLaid (as_live_maps (with_new a size slots))
-    laid_one = laid (with_new a size slots) whole_one
+    pub laid_one : IsLaid (as_live_maps (with_new a size slots layouts))
+    laid_one = laid (with_new a size slots layouts) whole_one
 
     -- it stands behind the others
-    pub last_one : start_at (as_live_maps (with_new a size slots)) k ≡ FRONT + areas t
+    pub last_one : start_at (as_live_maps (with_new a size slots layouts)) k ≡ FRONT + areas t
     last_one = told_of (λ l. l.start) _ _ live_new ∙ d.start ∙ ap (λ (n : ℕ). FRONT + n) (h.sum ∙ ap areas view)
 
-    pub more_one : HasOneMore t (as_live_maps (with_new a size slots)) shape
+    pub more_one : HasOneMore t (as_live_maps (with_new a size slots layouts)) shape
     more_one =
-        let one = count_added a (with_new a size slots) k h d.others d.capacity e d.was d.there in
+        let one = count_added a (with_new a size slots layouts) k h d.others d.capacity e d.was d.there in
         let seen_maps = ap count view in
         let bytes = whole_one.sum in
         let sum = h.sum in
@@ -158,7 +163,7 @@ module _ (a : Inside) (t : LiveMaps) (shape : MapShape) (size : ℕ) (r : IsRoom
       pub front_kept : take FRONT later ≡ take FRONT bytes
       front_kept = ap (take FRONT) written ∙ front_same bytes (replicate size 0) (FRONT + a.bytes) size (length-replicate size 0) enough FRONT (omega arith)
 
-      pub cleared_one : (p : ℕ) → p < shape.max_entries → value_in later (as_live_maps (with_new a size slots)) k p ≡ replicate shape.value_size 0
+      pub cleared_one : (p : ℕ) → p < shape.max_entries → value_in later (as_live_maps (with_new a size slots layouts)) k p ≡ replicate shape.value_size 0
       cleared_one p l =
           let o : offset (live_of e) p ≡ FRONT + a.bytes + p * e.stride = offset_of e p ∙ ap (λ (n : ℕ). n + p * e.stride) d.start in
           ap (λ (x : Option LiveMap). take (live_or x).places.shape.value_size (drop (offset (live_or x) p) later)) live_new
@@ -177,7 +182,7 @@ module _ (a : Inside) (t : LiveMaps) (shape : MapShape) (size : ℕ) (r : IsRoom
           ap (λ (b : List ℕ). take s.value_size (drop (offset (live_of f) p) b)) written
           ∙ before_same bytes (replicate size 0) (FRONT + a.bytes) size (length-replicate size 0) enough (offset (live_of f) p) s.value_size (omega arith)
 
-      pub values_kept : SameValues t bytes (as_live_maps (with_new a size slots)) later
+      pub values_kept : SameValues t bytes (as_live_maps (with_new a size slots layouts)) later
       values_kept j p old_live new_live l =
           same_or_other j k
           (λ (s : j ≡ k). absurd (true≢false (sym old_live ∙ ap is_some (ap (live_at t) s ∙ ap (λ (u : LiveMaps). live_at u k) (sym view) ∙ none_by a.slots.slots a.slots.slots k d.was))))

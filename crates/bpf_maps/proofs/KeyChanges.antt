@@ -1,11 +1,11 @@
 -- A call that changes the keys of one map and nothing else.
-use Rattle.std.proofs.Common.{◌≡◌, ℕ, Bool, Some, None, refl, sym, ap, subst, ◌∙◌, get_or, is_some}
+use Rattle.std.proofs.Common.{◌≡◌, ℕ, Bool, Some, None, IsSome, refl, sym, ap, subst, ◌∙◌, get_or, is_some}
 use Rattle.bpf_maps.specs.declared.any_map.AnyMap.{AnyMap}
 use Rattle.bpf_maps.specs.declared.maps.Entry.{Entry}
 use Rattle.bpf_maps.specs.declared.maps.Maps.TheInside.{Inside}
 use Rattle.bpf_maps.specs.Places.{IsSound}
 use Rattle.bpf_maps.specs.Any.{places_of}
-use Rattle.bpf_maps.specs.Live.{LiveMap, LiveMaps, live_at, live_or, places_at, OnlyKeysChange}
+use Rattle.bpf_maps.specs.Live.{LiveMap, LiveMaps, live_at, live_or, places_at, IsLaid, OnlyKeysChange}
 use Rattle.bpf_maps.specs.InMaps.{live_of, as_live_maps, IsWellFormedMaps}
 use Rattle.bpf_maps.proofs.Changes.{with_entry, IsChange, live_old, live_new, others_stay, areas_stay, whole_stays, laid_stays, room_stays, told_of}
 
@@ -68,3 +68,16 @@ module _ (a : Inside) (t : LiveMaps) (at key : ℕ) (old : Entry) (map : AnyMap)
     room = room_stays a t at key old (with_map old map) refused change;
     laid = laid_stays a t at key old (with_map old map) refused change;
   }
+
+-- nothing changes
+pub no_keys : (t : LiveMaps) (key : ℕ) → IsSome (live_at t key) → IsSound (places_at t key) → IsLaid t → OnlyKeysChange key t t
+no_keys t key live sound laid = record {
+  live = live;
+  holds = refl;
+  shape = refl;
+  sound = sound;
+  others = λ other ne. refl;
+  areas = λ k l at. (l, at, refl, refl, refl);
+  room = record { maps = refl; bytes = refl };
+  laid = laid;
+}

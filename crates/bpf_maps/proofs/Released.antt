@@ -10,7 +10,8 @@ use Rattle.bpf_maps.specs.declared.maps.Maps.TheInside.{Inside}
 use Rattle.bpf_maps.specs.Any.{places_of}
 use Rattle.bpf_maps.specs.Live.{LiveMap, LiveMaps, live_at, live_or, shape_at, offset, count, areas, HasOneMore, without_area, held_at, one_less, area_of, IsLaid, SameValues, map_without, ClosesUp}
 use Rattle.bpf_maps.specs.Sum.{weight}
-use Rattle.bpf_maps.specs.InMaps.{live_of, live_maps_of, as_live_maps, closed_up, IsWellFormedMaps}
+use Rattle.bpf_maps.specs.InMaps.{live_of, live_maps_of, as_live_maps, closed_up, AreLaidOut, IsWellFormedMaps}
+use Rattle.bpf_maps.specs.declared.map_layout.MapLayout.{MapLayout}
 use Rattle.bpf_maps.proofs.Slots.{at_lives, some_entry, live_by, none_by, same_some, same_or_other, set_here, set_others}
 use Rattle.bpf_maps.proofs.Totals.{weight_most}
 use Rattle.bpf_maps.proofs.Changes.{live_here, none_held, told_of}
@@ -27,16 +28,17 @@ pub record IsTaken (a : Inside) (t : LiveMaps) (at key : ℕ) (old gone : Entry)
   pub value : get_or (set a.slots.slots at (Some old)) at None ≡ Some gone
 
 -- the slots without it, and those after they have closed up
-pub record IsClosed (a : Inside) (at end size : ℕ) (old : Entry) (left slots : Slab Entry) : Type 0 where
+pub record IsClosed (a : Inside) (at end size : ℕ) (old : Entry) (left slots : Slab Entry) (layouts : List MapLayout) : Type 0 where
   pub gap : get_or left.slots at None ≡ None
   pub others : (j : ℕ) → j ≢ at → get_or left.slots j None ≡ get_or (set a.slots.slots at (Some old)) j None
   pub capacity_left : left.capacity ≡ a.slots.capacity
   pub each : (j : ℕ) → get_or slots.slots j None ≡ option_map (closed_up end size) (get_or left.slots j None)
   pub capacity : slots.capacity ≡ left.capacity
+  pub layouts_are : AreLaidOut slots layouts
 
 -- the fields without it
-abbrev pub without_entry : Inside → ℕ → Slab Entry → Inside
-without_entry a size slots = record a { slots = slots; bytes = a.bytes - size }
+abbrev pub without_entry : Inside → ℕ → Slab Entry → List MapLayout → Inside
+without_entry a size slots layouts = record a { slots = slots; layouts = layouts; bytes = a.bytes - size }
 
 -- a map without its area is the same where it stands elsewhere
 held_still : (gone : LiveMap) (o : Option LiveMap) → option_map without_area (option_map (map_without gone) o) ≡ option_map without_area o
@@ -84,9 +86,9 @@ module _ (a : Inside) (t : LiveMaps) (at key : ℕ) (old gone : Entry) (c : IsTa
         let x = ap (weight area_of) (live_by a.slots.slots a.slots.slots at gone was) in
         omega arith
 
-    module _ (left slots : Slab Entry) (d : IsClosed a at (gone.start + size) size old left slots) where
+    module _ (left slots : Slab Entry) (layouts : List MapLayout) (d : IsClosed a at (gone.start + size) size old left slots layouts) where
       abbrev new : Inside
-      new = without_entry a size slots
+      new = without_entry a size slots layouts
 
       closed : (j : ℕ) → j ≢ at → get_or slots.slots j None ≡ option_map (closed_up (gone.start + area_of (live_of gone)) (area_of (live_of gone))) (get_or a.slots.slots j None)
       closed j ne =
@@ -104,7 +106,7 @@ module _ (a : Inside) (t : LiveMaps) (at key : ℕ) (old gone : Entry) (c : IsTa
       bytes_now = let m = size_most in omega arith
 
       pub whole_gone : IsWellFormedMaps new
-      whole_gone = whole_removed a new at c.whole gone was empty closed capacity bytes_now
+      whole_gone = whole_removed a new at c.whole gone was empty closed capacity bytes_now d.layouts_are
 
       pub laid_gone : IsLaid (as_live_maps new)
       laid_gone = laid new whole_gone

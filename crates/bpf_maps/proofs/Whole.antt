@@ -1,5 +1,5 @@
 -- The maps stay whole: their areas stand behind one another, and what is counted is right.
-use Rattle.std.proofs.Common.{◌≡◌, ◌≢◌, ℕ, ◌+◌, ◌*◌, ◌/◌, ◌%◌, ◌<◌, ◌≤◌, ◌⊎◌, Bool, Option, Some, None, IsSome, option_map, refl, sym, ap, subst, ◌∙◌, arith, get_or, ⊎_elim, inl, inr}
+use Rattle.std.proofs.Common.{◌≡◌, ◌≢◌, ℕ, ◌+◌, ◌*◌, ◌/◌, ◌%◌, ◌<◌, ◌≤◌, ◌⊎◌, Bool, List, Option, Some, None, IsSome, option_map, refl, sym, ap, subst, ◌∙◌, arith, get_or, ⊎_elim, inl, inr}
 use Rattle.std.proofs.lemmas.Option.{none-some, same_Some}
 use Rattle.tagged_model.specs.declared.shape.MapShape.{MapShape}
 use Rattle.tagged_model.specs.Shape.{area}
@@ -10,8 +10,10 @@ use Rattle.bpf_maps.specs.Any.{places_of}
 use Rattle.bpf_maps.specs.Places.{IsSound}
 use Rattle.bpf_maps.specs.Live.{LiveMap, live_at, live_or, places_at, offset, LiesInPart, IsLaid, IsPacked, area_of, areas, StandsBefore, start_without, map_without}
 use Rattle.bpf_maps.specs.Sum.{weight, total}
-use Rattle.bpf_maps.specs.InMaps.{live_of, live_maps_of, as_live_maps, closed_up, IsInItsArea, IsWellFormedMaps}
+use Rattle.bpf_maps.specs.InMaps.{live_of, live_maps_of, as_live_maps, closed_up, IsInItsArea, AreLaidOut, IsWellFormedMaps}
 use Rattle.bpf_maps.proofs.Slots.{at_lives, entry_of, some_entry, live_by, none_by, others_by, same_or_other, same_some}
+use Rattle.bpf_maps.specs.declared.map_layout.MapLayout.{MapLayout}
+use Rattle.bpf_maps.proofs.LaidOut.{replaced_out}
 use Rattle.bpf_maps.proofs.Totals.{total_but_one}
 use Rattle.bpf_maps.proofs.InAreas.{area_aligned, value_ends, place_inside, apart_places, before_or_behind, apart_still}
 
@@ -102,7 +104,7 @@ sound_at a h k live =
 
 -- no field but `refused` is changed
 pub whole_refused : (a : Inside) (refused : Bool) → IsWellFormedMaps a → IsWellFormedMaps (record a { refused = refused })
-whole_refused a refused h = record { placed = h.placed; apart = h.apart; below = h.below; most = h.most; room = h.room; sum = h.sum; few = h.few; aligned = h.aligned }
+whole_refused a refused h = record { placed = h.placed; apart = h.apart; below = h.below; most = h.most; room = h.room; sum = h.sum; few = h.few; aligned = h.aligned; laid_out = h.laid_out }
 
 -- ---- one slot is changed
 
@@ -114,7 +116,7 @@ module _ (a b : Inside) (k : ℕ) (h : IsWellFormedMaps a) (others : (j : ℕ) �
   changed f = total_but_one f k (live_maps_of a.slots.slots) (live_maps_of b.slots.slots) (λ j ne. ap (weight f) (others_by a.slots.slots b.slots.slots k others j ne))
 
   -- a map that keeps its area
-  module _ (e f : Entry) (at : entry_at a k e) (bt : entry_at b k f) (start : f.start ≡ e.start) (stride : f.stride ≡ e.stride) (shape : (places_of f.map).shape ≡ (places_of e.map).shape) (held : 1 ≤ f.holds) (sound : IsSound (places_of f.map)) (bytes : b.bytes ≡ a.bytes) where
+  module _ (e f : Entry) (at : entry_at a k e) (bt : entry_at b k f) (start : f.start ≡ e.start) (stride : f.stride ≡ e.stride) (shape : (places_of f.map).shape ≡ (places_of e.map).shape) (held : 1 ≤ f.holds) (sound : IsSound (places_of f.map)) (bytes : b.bytes ≡ a.bytes) (layouts : b.layouts ≡ a.layouts) where
     same_area : area_of (live_of f) ≡ area_of (live_of e)
     same_area = ap (λ (s : MapShape). area s.value_size s.max_entries) shape
 
@@ -178,6 +180,9 @@ module _ (a b : Inside) (k : ℕ) (h : IsWellFormedMaps a) (others : (j : ℕ) �
       sum = bytes ∙ h.sum ∙ sym (same_total area_of same_area);
       few = let f = h.few in omega arith;
       aligned = ap (λ (n : ℕ). n % 8) bytes ∙ h.aligned;
+      laid_out =
+          subst (λ (ls : List MapLayout). AreLaidOut b.slots ls) (sym layouts)
+          (replaced_out a.slots b.slots a.layouts k h.laid_out others room f bt e at start stride shape);
     }
 
   -- a map that is new
@@ -193,7 +198,7 @@ module _ (a b : Inside) (k : ℕ) (h : IsWellFormedMaps a) (others : (j : ℕ) �
     count_added = more_total (λ l. 1)
 
   -- its area stands behind the others
-  module _ (e : Entry) (at : get_or a.slots.slots k None ≡ None) (bt : entry_at b k e) (below : k < a.slots.capacity) (start : e.start ≡ FRONT + a.bytes) (stride : e.stride ≡ ((places_of e.map).shape.value_size + 7) / 8 * 8) (held : 1 ≤ e.holds) (sound : IsSound (places_of e.map)) (bytes : b.bytes ≡ a.bytes + area_of (live_of e)) (few : b.bytes ≤ LARGEST_SUM) where
+  module _ (e : Entry) (at : get_or a.slots.slots k None ≡ None) (bt : entry_at b k e) (below : k < a.slots.capacity) (start : e.start ≡ FRONT + a.bytes) (stride : e.stride ≡ ((places_of e.map).shape.value_size + 7) / 8 * 8) (held : 1 ≤ e.holds) (sound : IsSound (places_of e.map)) (bytes : b.bytes ≡ a.bytes + area_of (live_of e)) (few : b.bytes ≤ LARGEST_SUM) (layouts : AreLaidOut b.slots b.layouts) where
     aligned_now : (a.bytes + area_of (live_of e)) % 8 ≡ 0
     aligned_now = let al = h.aligned in let r = area_aligned (places_of e.map).shape.value_size (places_of e.map).shape.max_entries in omega arith
 
@@ -235,6 +240,7 @@ module _ (a b : Inside) (k : ℕ) (h : IsWellFormedMaps a) (others : (j : ℕ) �
       sum = let s = h.sum in let m = more_total e at bt area_of in omega arith;
       few = few;
       aligned = ap (λ (n : ℕ). n % 8) bytes ∙ aligned_now;
+      laid_out = layouts;
     }
 
 -- ---- a map goes, and those behind it close up
@@ -306,8 +312,8 @@ module _ (a b : Inside) (k : ℕ) (h : IsWellFormedMaps a) (e : Entry) (at : ent
       (subst (λ (y : Entry). AreApart (live_of (closed_up end size f.0)) (live_of y)) m.2
       (apart_still e.start size f.0.start (area_of (live_of f.0)) m.0.start (area_of (live_of m.0)) (beside i f.0 (other i g gt) f.1) (beside j m.0 (other j l lt) m.1) (h.apart i j f.0 m.0 f.1 m.1 ne)))
 
-  pub whole_removed : IsWellFormedMaps b
-  whole_removed = record {
+  pub whole_removed : AreLaidOut b.slots b.layouts → IsWellFormedMaps b
+  whole_removed layouts = record {
     placed = placed_removed;
     apart = apart_removed;
     below = λ j g gt. let f = was j g gt in let l = h.below j f.0 f.1 in omega arith;
@@ -316,4 +322,5 @@ module _ (a b : Inside) (k : ℕ) (h : IsWellFormedMaps a) (e : Entry) (at : ent
     sum = let s = h.sum in let m = less_total area_of (λ f. refl) in omega arith;
     few = let f = h.few in omega arith;
     aligned = let al = h.aligned in let r = area_aligned (places_of e.map).shape.value_size (places_of e.map).shape.max_entries in omega arith;
+    laid_out = layouts;
   }

@@ -1,6 +1,7 @@
 //! The two kinds of map as one.
 
 ghost use Rattle.std.specs.Prelude.{◌≡◌, ◌<◌, ◌⊎◌, length, [], option_map, IfOk, IfSome};
+ghost use Rattle.tagged_model.specs.declared.shape.MapKind.TheVariants.{Array};
 ghost use Rattle.tagged_model.specs.Table.{look_up, verdict, removal, next_of};
 ghost use Rattle.bpf_maps.specs.Places.{PlaceTable, table_of, IsSound, Claims, Removes, new_places, after_run};
 ghost use Rattle.bpf_maps.specs.Given.{given_bytes};
@@ -28,6 +29,18 @@ impl AnyMap {
         match shape.kind {
             MapKind::Array => Ok(AnyMap::Array(ArrayMap::new(shape))),
             MapKind::Hash => Ok(AnyMap::Hash(HashMapIx::new(alloc, shape)?)),
+        }
+    }
+
+    /// A law: an array has its indices and nothing else. It does nothing when it runs.
+    #[inline(always)]
+    pub(crate) fn array_has_its_indices(&self)
+        ensures { (places_of self.now).shape.kind ≡ Array
+            → places_of self.now ≡ new_places (places_of self.now).shape }
+    {
+        match self {
+            AnyMap::Array(map) => map.is_array(),
+            AnyMap::Hash(map) => map.is_hash_map(),
         }
     }
 

@@ -1,9 +1,10 @@
 //! An array map.
 
-ghost use Rattle.std.specs.Prelude.{◌≡◌, ◌<◌, ◌⊎◌, [], IfSome, Some, None, nat_lt, if◌then◌else◌, length, option_map};
+ghost use Rattle.std.specs.Prelude.{◌≡◌, ◌<◌, ◌⊎◌, false, [], IfOk, IfSome, Some, None, nat_lt, if◌then◌else◌, length, option_map};
 ghost use Rattle.tagged_model.specs.declared.shape.MapKind.TheVariants.{Array};
-ghost use Rattle.tagged_model.specs.Table.{look_up, next_of, index_key};
-ghost use Rattle.bpf_maps.specs.Places.{PlaceTable, table_of, IsSound, new_places};
+ghost use Rattle.tagged_model.specs.Table.{look_up, verdict, next_of, index_key};
+ghost use Rattle.bpf_maps.specs.Places.{PlaceTable, table_of, IsSound, Claims, new_places};
+ghost use Rattle.bpf_maps.specs.Live.{is_memory};
 ghost use Rattle.bpf_maps.specs.Given.{given_bytes};
 
 use crate::given_key::{GivenKey, ShortKey};
@@ -34,6 +35,7 @@ impl Model for ArrayMap {
 
 impl ArrayMap {
     /// An array of this shape.
+    #[inline(always)]
     pub fn new(shape: MapShape) -> ArrayMap
         requires { shape.kind ≡ Array }
         ensures { result ≡ new_places shape }
@@ -50,7 +52,7 @@ impl ArrayMap {
 
     /// A law: it has its indices and nothing else, and their keys have four bytes. It does nothing when it runs.
     #[inline(always)]
-    fn is_array(&self)
+    pub(crate) fn is_array(&self)
         ensures kind { self.now.shape.kind ≡ Array }
         ensures whole { self.now ≡ new_places self.now.shape }
         ensures key_size { self.now.shape.key_size ≡ 4 }
@@ -73,6 +75,35 @@ impl ArrayMap {
             Some(index)
         } else {
             None
+        }
+    }
+
+    /// The place of a key that is updated with these flags.
+    ///
+    /// # Errors
+    ///
+    /// Those of an update with these flags.
+    #[inline(always)]
+    pub(crate) fn place_for(&self, key: &[u8], flags: u64) -> Result<u32, MapFault>
+        requires size { length key.now ≡ self.now.shape.key_size }
+        ensures claimed { Claims (verdict (table_of self.now) key.now flags) key.now self.now result
+            self.now }
+        ensures within { IfOk result (λ place. place < self.now.shape.max_entries) }
+        ensures no_memory { is_memory result ≡ false }
+    {
+        self.is_array();
+        if flags > EXIST {
+            return Err(MapFault::Invalid);
+        }
+        match self.place_of(key) {
+            Some(place) => {
+                if flags == NOEXIST {
+                    Err(MapFault::Exists)
+                } else {
+                    Ok(place)
+                }
+            }
+            None => Err(MapFault::TooBig),
         }
     }
 
@@ -105,19 +136,7 @@ impl ValueMap for ArrayMap {
     #[inline(always)]
     fn claim(&mut self, key: &[u8], flags: u64) -> Result<u32, MapFault> {
         self.is_array();
-        if flags > EXIST {
-            return Err(MapFault::Invalid);
-        }
-        match self.place_of(key) {
-            Some(place) => {
-                if flags == NOEXIST {
-                    Err(MapFault::Exists)
-                } else {
-                    Ok(place)
-                }
-            }
-            None => Err(MapFault::TooBig),
-        }
+        self.place_for(key, flags)
     }
 
     fn remove(&mut self, _key: &[u8]) -> Result<(), MapFault> {

@@ -60,7 +60,7 @@ impl HashMapIx {
 
     /// A law: no two keys have the same place. It does nothing when it runs.
     #[inline(always)]
-    fn is_hash_map(&self)
+    pub(crate) fn is_hash_map(&self)
         ensures kind { self.now.shape.kind ≡ Hash }
         ensures sound { IsSound self.now }
     {

@@ -13,6 +13,7 @@ mod hash_map;
 mod key_index;
 mod laws;
 mod long_key;
+mod map_layout;
 mod maps;
 mod part;
 mod value_map;

@@ -4,20 +4,22 @@ ghost use Rattle.std.specs.Prelude.{◌≡◌, ◌≢◌, ℕ, ◌+◌, ◌-◌,
 ghost use Rattle.tagged_model.specs.declared.shape.MapKind.TheVariants.{Array};
 ghost use Rattle.tagged_model.specs.Table.{look_up, verdict, removal, next_of, new_table};
 ghost use Rattle.bpf_maps.specs.declared.part.TheConstants.{PART, FRONT, MAPS, LARGEST_SUM};
-ghost use Rattle.bpf_maps.specs.Places.{table_of, IsSound, Claims, Removes, GivesKey, after_run};
+ghost use Rattle.bpf_maps.specs.Places.{table_of, IsSound, Claims, Removes, GivesKey, after_run, new_places};
 ghost use Rattle.bpf_maps.specs.Given.{given_bytes};
 ghost use Rattle.bpf_maps.specs.Live.{live_at, places_at, shape_at, holds_at, held_at, offset_at, value_in, map_in, LiesInPart, IsLaid, IsPacked, ClosesUp, start_at, AreSound, SameAreas, SameValues, KeepsMap, KeepsMaps, KeepsOthers, count, areas, SameRoom, OnlyKeysChange, HasOneMore, create_fault, Creates, one_more, one_less, is_memory};
-ghost use Rattle.bpf_maps.specs.InMaps.{closed_up};
+ghost use Rattle.bpf_maps.specs.InMaps.{closed_up, layout_of, layout_at, AreLaidOut};
 ghost use Rattle.slab.specs.Slab.{ContainsKey, get};
 
 use crate::any_map::AnyMap;
+use crate::array_map::ArrayMap;
 use crate::given_key::GivenKey;
+use crate::map_layout::{Layouts, MapLayout};
 use crate::part::{FRONT, KEY_ROOM, LARGEST_SUM, MAPS, PART, clear};
 use crate::value_map::ValueMap;
 use slab::Slab;
 use std::alloc::{AllocError, Global};
 use std::marker::Model;
-use tagged_model::{MapFault, MapShape};
+use tagged_model::{MapFault, MapKind, MapShape};
 
 // A map goes when so many hold it and one releases it.
 const LAST: u32 = 1;
@@ -41,6 +43,8 @@ impl Model for MapKey {
 pub struct Maps {
     alloc: Global,
     slots: Slab<Entry>,
+    // The layout of the map under each key: what a call asks for stands side by side, and apart from the keys.
+    layouts: Layouts,
     // The bytes that the areas of all maps take. They stand one behind the other after the front, in order of creation.
     bytes: usize,
     refused: bool,
@@ -76,9 +80,12 @@ impl Maps {
         ensures bytes { IfOk result (λ maps. areas maps ≡ 0) }
         ensures refused { IfOk result (λ maps. maps.refused ≡ false) }
     {
+        let slots = Slab::with_capacity(alloc, MAPS)?;
+        let layouts = Layouts::new(alloc, slots.capacity())?;
         Ok(Maps {
             alloc,
-            slots: Slab::with_capacity(alloc, MAPS)?,
+            slots,
+            layouts,
             bytes: 0,
             refused: false,
         })
@@ -96,6 +103,27 @@ impl Maps {
         ensures bytes { areas self.now ≤ LARGEST_SUM }
     {
         let _ = &self.slots;
+    }
+
+    /// A law: an array has its indices and nothing else. It does nothing when it runs.
+    #[inline(always)]
+    fn arrays_have_their_indices(&self, map: MapKey)
+        requires { IsSome (live_at self.now map) }
+        ensures { (shape_at self.now map).kind ≡ Array
+            → places_at self.now map ≡ new_places (shape_at self.now map) }
+    {
+        if let Some(entry) = self.slots.get(map.number) {
+            entry.map.array_has_its_indices();
+        }
+    }
+
+    /// The layout of a map.
+    #[inline(always)]
+    fn layout(&self, map: MapKey) -> &MapLayout
+        requires { IsSome (live_at self.now map) }
+        ensures { result.now ≡ layout_at self.now map }
+    {
+        self.layouts.get(map.number)
     }
 
     /// Makes a map, which one holds, with an area of its own in the tenant's part, `PART` bytes: it stands behind those of the
@@ -134,12 +162,15 @@ impl Maps {
         };
         let start = FRONT + self.bytes;
         clear(part, start, size);
-        let key = self.slots.insert_reserved(Entry {
+        let entry = Entry {
             map,
             start,
             stride: shape.value_size.next_multiple_of(8) as usize,
             holds: 1,
-        });
+        };
+        let layout = entry.layout();
+        let key = self.slots.insert_reserved(entry);
+        self.layouts.put(key, layout);
         self.bytes += size;
         Ok(MapKey { number: key })
     }
@@ -198,7 +229,7 @@ impl Maps {
         let size = gone.map.shape().area() as usize;
         let end = gone.start + size;
         part.copy_within(end..FRONT + self.bytes, gone.start);
-        close_gap(&mut self.slots, end, size);
+        close_gap(&mut self.slots, &mut self.layouts, end, size);
         self.bytes -= size;
     }
 
@@ -219,12 +250,12 @@ impl Maps {
     }
 
     /// The shape of a map.
+    #[inline(always)]
     pub fn shape(&self, map: MapKey) -> MapShape
         requires { IsSome (live_at self.now map) }
         ensures { result ≡ shape_at self.now map }
     {
-        let entry = &self.slots[map.number];
-        entry.map.shape()
+        self.layout(map).shape
     }
 
     /// Where the value at a place of a map begins in the tenant's part. The values of all maps lie in the part, behind the
@@ -237,8 +268,9 @@ impl Maps {
         ensures inside { LiesInPart result (shape_at self.now map).value_size }
         ensures laid { IsLaid self.now }
     {
-        let entry = &self.slots[map.number];
-        entry.start + place as usize * entry.stride
+        self.maps_are_laid();
+        let layout = self.layout(map);
+        layout.start + place as usize * layout.stride
     }
 
     /// The place of a key.
@@ -250,8 +282,15 @@ impl Maps {
         ensures within { IfSome result (λ place. place < (shape_at self.now map).max_entries) }
         ensures sound { IsSound (places_at self.now map) }
     {
-        let entry = &self.slots[map.number];
-        entry.map.find(key)
+        self.arrays_have_their_indices(map);
+        let shape = self.shape(map);
+        match shape.kind {
+            MapKind::Array => ArrayMap::new(shape).find(key),
+            MapKind::Hash => {
+                let entry = &self.slots[map.number];
+                entry.map.find(key)
+            }
+        }
     }
 
     /// A place for a key, where the caller then writes its value. A present key keeps its place. A new key goes last, and its
@@ -270,12 +309,20 @@ impl Maps {
         ensures rest { OnlyKeysChange map self.old self.new }
         ensures refused { self.new.refused ≡ (self.old.refused || is_memory result) }
     {
-        let entry = &mut self.slots[map.number];
-        let answer = entry.map.claim(key, flags);
-        if matches!(answer, Err(MapFault::Memory)) {
-            self.refused = true;
+        self.maps_are_laid();
+        self.arrays_have_their_indices(map);
+        let shape = self.shape(map);
+        match shape.kind {
+            MapKind::Array => ArrayMap::new(shape).place_for(key, flags),
+            MapKind::Hash => {
+                let entry = &mut self.slots[map.number];
+                let answer = entry.map.claim(key, flags);
+                if matches!(answer, Err(MapFault::Memory)) {
+                    self.refused = true;
+                }
+                answer
+            }
         }
-        answer
     }
 
     /// Takes a key out. Its place is kept apart until the run ends, and is given to no key.
@@ -341,6 +388,17 @@ impl Maps {
 }
 
 impl Entry {
+    /// The layout of its map.
+    fn layout(&self) -> MapLayout
+        ensures { result ≡ layout_of self.now }
+    {
+        MapLayout {
+            shape: self.map.shape(),
+            start: self.start,
+            stride: self.stride,
+        }
+    }
+
     /// Its area begins lower by `size` where it begins at `end` or behind.
     fn close_up(&mut self, end: usize, size: usize)
         requires { size ≤ end }
@@ -353,15 +411,18 @@ impl Entry {
 }
 
 /// Each area from `end` on begins lower by `size`: the one that ended there, and had so many bytes, is gone.
-fn close_gap(slots: &mut Slab<Entry>, end: usize, size: usize)
+fn close_gap(slots: &mut Slab<Entry>, layouts: &mut Layouts, end: usize, size: usize)
     requires size { size ≤ end }
     requires keys { (k : ℕ) → ContainsKey slots.old k → k < slots.old.capacity }
+    requires long { length layouts.old ≡ slots.old.capacity }
     ensures each { (k : ℕ) → get slots.new k ≡ option_map (closed_up end size) (get slots.old k) }
     ensures capacity { slots.new.capacity ≡ slots.old.capacity }
+    ensures layouts { AreLaidOut slots.new layouts.new }
 {
     for key in 0..slots.capacity() {
         if let Some(entry) = slots.get_mut(key) {
             entry.close_up(end, size);
+            layouts.put(key, entry.layout());
         }
     }
 }

@@ -1,8 +1,12 @@
 use Rattle.std.proofs.Common.{◌<◌, IfOk, subst, true}
 use Rattle.bpf_maps.specs.Places.{PlaceTable}
-use Rattle.bpf_maps.proofs.KeyChanges.{IsKeyChange, places_before, places_after, keys_whole, only_keys}
+use Rattle.bpf_maps.proofs.KeyChanges.{IsKeyChange, places_before, places_after, keys_whole, only_keys, no_keys}
 use Rattle.bpf_maps.proofs.Along.{claims_shape, claims_along}
 use Rattle.bpf_maps.proofs.maps.Maps.claim.Goals as goal
+
+-- an array keeps its indices
+pub returns-in-Array-clause-rest : goal.returns-in-Array-clause-rest
+returns-in-Array-clause-rest c = no_keys c.args.self.now c.args.map c.requires.live (c.maps_are_laid.ensures.sound c.args.map c.requires.live) c.maps_are_laid.ensures.laid
 
 -- memory was refused
 module _ (c : goal.After-self-then-matches-1) where

@@ -1,8 +1,9 @@
-use Rattle.std.proofs.Common.{◌≡◌, ◌+◌, ◌*◌, ◌/◌, ◌<◌, ◌≤◌, ◌⊎◌, true, refl, is_some, count_by, subst, arith, replicate, inl, inr}
+use Rattle.std.proofs.Common.{◌≡◌, ◌+◌, ◌*◌, ◌/◌, ◌<◌, ◌≤◌, ◌⊎◌, true, refl, ap, is_some, count_by, subst, ◌∙◌, arith, replicate, inl, inr}
 use Rattle.bpf_maps.specs.declared.part.TheConstants.{FRONT, LARGEST_SUM, MAPS}
 use Rattle.bpf_maps.specs.Live.{LiveMaps, IsLaid, AreSound, create_fault}
 use Rattle.bpf_maps.specs.InMaps.{as_live_maps}
 use Rattle.bpf_maps.specs.declared.maps.Entry.{Entry}
+use Rattle.std.specs.Prelude.{slice_set}
 use Rattle.bpf_maps.proofs.Created.{IsRoom, IsAdded, with_new, creates_full, creates_none, creates_one, whole_one, laid_one, more_one, front_kept, cleared_one, values_kept, created, live_stays}
 use Rattle.bpf_maps.proofs.Values.{new_map_in}
 use Rattle.bpf_maps.proofs.Stays.{keeps_live}
@@ -62,7 +63,7 @@ module _ (c : goal.After-self-2-1) where
       let m = c.next_multiple_of.ensures.multiple in
       omega arith
 
-  added : IsAdded c.self.inside c.args.shape c.insert_reserved-key.new.self c.insert_reserved-key.result entry
+  added : IsAdded c.self.inside c.args.shape c.insert_reserved-key.new.self c.put.new.self c.insert_reserved-key.result entry
   added = record {
     was = c.insert_reserved-key.ensures.was_vacant;
     there = c.insert_reserved-key.ensures.updates.changed;
@@ -73,41 +74,42 @@ module _ (c : goal.After-self-2-1) where
     start = refl;
     stride = stride;
     holds = refl;
+    layout = c.put.ensures ∙ ap (slice_set c.self.inside.layouts c.insert_reserved-key.result) c.layout-layout.ensures;
   }
 
 pub invariant_of-self-2 : goal.invariant_of-self-2
-invariant_of-self-2 c = whole_one c.self.inside c.args.self.now c.args.shape c.area-size.result (room c) c.insert_reserved-key.new.self c.insert_reserved-key.result (entry c) (added c)
+invariant_of-self-2 c = whole_one c.self.inside c.args.self.now c.args.shape c.area-size.result (room c) c.insert_reserved-key.new.self c.put.new.self c.insert_reserved-key.result (entry c) (added c)
 
 pub returns-clause-created : goal.returns-clause-created
-returns-clause-created c = creates_one c.self.inside c.args.self.now c.args.shape c.area-size.result (room c) c.insert_reserved-key.new.self c.insert_reserved-key.result (entry c) (added c)
+returns-clause-created c = creates_one c.self.inside c.args.self.now c.args.shape c.area-size.result (room c) c.insert_reserved-key.new.self c.put.new.self c.insert_reserved-key.result (entry c) (added c)
 
 pub returns-clause-older : goal.returns-clause-older
 returns-clause-older c = λ map live. live_stays c.args.self.now _ c.args.shape map live (create_fault c.args.self.now c.args.shape) _ (returns-clause-created c)
 
 pub returns-clause-laid : goal.returns-clause-laid
-returns-clause-laid c = laid_one c.self.inside c.args.self.now c.args.shape c.area-size.result (room c) c.insert_reserved-key.new.self c.insert_reserved-key.result (entry c) (added c)
+returns-clause-laid c = laid_one c.self.inside c.args.self.now c.args.shape c.area-size.result (room c) c.insert_reserved-key.new.self c.put.new.self c.insert_reserved-key.result (entry c) (added c)
 
 pub returns-clause-cleared : goal.returns-clause-cleared
 returns-clause-cleared c =
-    λ array p l. cleared_one c.self.inside c.args.self.now c.args.shape c.area-size.result (room c) c.insert_reserved-key.new.self c.insert_reserved-key.result (entry c) (added c) c.args.part.now c.clear.new.part c.requires c.clear.ensures p l
+    λ array p l. cleared_one c.self.inside c.args.self.now c.args.shape c.area-size.result (room c) c.insert_reserved-key.new.self c.put.new.self c.insert_reserved-key.result (entry c) (added c) c.args.part.now c.clear.new.part c.requires c.clear.ensures p l
 
 pub returns-clause-values : goal.returns-clause-values
-returns-clause-values c = values_kept c.self.inside c.args.self.now c.args.shape c.area-size.result (room c) c.insert_reserved-key.new.self c.insert_reserved-key.result (entry c) (added c) c.args.part.now c.clear.new.part c.requires c.clear.ensures
+returns-clause-values c = values_kept c.self.inside c.args.self.now c.args.shape c.area-size.result (room c) c.insert_reserved-key.new.self c.put.new.self c.insert_reserved-key.result (entry c) (added c) c.args.part.now c.clear.new.part c.requires c.clear.ensures
 
 pub returns-clause-front : goal.returns-clause-front
-returns-clause-front c = front_kept c.self.inside c.args.self.now c.args.shape c.area-size.result (room c) c.insert_reserved-key.new.self c.insert_reserved-key.result (entry c) (added c) c.args.part.now c.clear.new.part c.requires c.clear.ensures
+returns-clause-front c = front_kept c.self.inside c.args.self.now c.args.shape c.area-size.result (room c) c.insert_reserved-key.new.self c.put.new.self c.insert_reserved-key.result (entry c) (added c) c.args.part.now c.clear.new.part c.requires c.clear.ensures
 
 pub returns-clause-fresh : goal.returns-clause-fresh
 returns-clause-fresh c =
-    let new : LiveMaps = as_live_maps (with_new c.self.inside c.area-size.result c.insert_reserved-key.new.self) in
+    let new : LiveMaps = as_live_maps (with_new c.self.inside c.area-size.result c.insert_reserved-key.new.self c.put.new.self) in
     let made = created (create_fault c.args.self.now c.args.shape) c.args.self.now new c.args.shape c.insert_reserved-key.result (returns-clause-created c) in
     new_map_in c.clear.new.part new c.insert_reserved-key.result c.args.shape (replicate c.args.shape.value_size 0) made.places (returns-clause-cleared c)
 
 pub returns-clause-maps : goal.returns-clause-maps
 returns-clause-maps c =
     λ k live.
-    keeps_live c.args.self.now (as_live_maps (with_new c.self.inside c.area-size.result c.insert_reserved-key.new.self)) c.args.part.now c.clear.new.part k (returns-clause-values c)
+    keeps_live c.args.self.now (as_live_maps (with_new c.self.inside c.area-size.result c.insert_reserved-key.new.self c.put.new.self)) c.args.part.now c.clear.new.part k (returns-clause-values c)
     (subst AreSound c.self.view_is (sound_at c.self.inside c.self.invariant) k) (returns-clause-older c k live) live
 
 pub returns-clause-more : goal.returns-clause-more
-returns-clause-more c = more_one c.self.inside c.args.self.now c.args.shape c.area-size.result (room c) c.insert_reserved-key.new.self c.insert_reserved-key.result (entry c) (added c)
+returns-clause-more c = more_one c.self.inside c.args.self.now c.args.shape c.area-size.result (room c) c.insert_reserved-key.new.self c.put.new.self c.insert_reserved-key.result (entry c) (added c)

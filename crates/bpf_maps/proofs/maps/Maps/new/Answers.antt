@@ -12,22 +12,23 @@ empty xs k e h at = none-some e (sym (ap (λ (l : List (Option Entry)). get_or l
 pub invariant_of-result : goal.invariant_of-result
 unfolding total
 invariant_of-result c =
-    let h = c.in_ok-with_capacity.ensures.empty in
+    let h = c.in_ok-slots.ensures.empty in
     record {
       placed = λ k e at. absurd (empty _ k e h at);
       apart = λ k j e f at bt ne. absurd (empty _ k e h at);
       below = λ k e at. absurd (empty _ k e h at);
       most = let n = ap (λ (xs : List (Option Entry)). total (λ l. 1) (live_maps_of xs)) h in omega arith;
-      room = c.in_ok-with_capacity.ensures.capacity;
+      room = c.in_ok-slots.ensures.capacity;
       sum = ap (λ (xs : List (Option Entry)). total area_of (live_maps_of xs)) (sym h);
       few = omega arith;
       aligned = refl;
+      laid_out = record { long = omega (arith, c.in_ok-layouts.ensures); each = λ k e other at. absurd (empty _ k e h at) };
     }
 
 pub returns-clause-maps : goal.returns-clause-maps
 unfolding total
-returns-clause-maps c = ap (λ (xs : List (Option Entry)). total (λ l. 1) (live_maps_of xs)) c.in_ok-with_capacity.ensures.empty
+returns-clause-maps c = ap (λ (xs : List (Option Entry)). total (λ l. 1) (live_maps_of xs)) c.in_ok-slots.ensures.empty
 
 pub returns-clause-bytes : goal.returns-clause-bytes
 unfolding total
-returns-clause-bytes c = ap (λ (xs : List (Option Entry)). total area_of (live_maps_of xs)) c.in_ok-with_capacity.ensures.empty
+returns-clause-bytes c = ap (λ (xs : List (Option Entry)). total area_of (live_maps_of xs)) c.in_ok-slots.ensures.empty

@@ -124,17 +124,18 @@ module _ (c : goal.Joined-gone) where
   size : c.area-size.result ≡ area_of (live_of last)
   size = c.area-size.ensures.value ∙ ap (λ (s : MapShape). area s.value_size s.max_entries) c.shape.ensures
 
-  closed : IsClosed c.self.inside c.map.inside.number (last.start + c.area-size.result) c.area-size.result c.index_mut-entry.result.now c.remove-gone.new.self c.close_gap.new.slots
+  closed : IsClosed c.self.inside c.map.inside.number (last.start + c.area-size.result) c.area-size.result c.index_mut-entry.result.now c.remove-gone.new.self c.close_gap.new.slots c.close_gap.new.layouts
   closed = record {
     gap = c.remove-gone.ensures.updates.changed;
     others = c.remove-gone.ensures.updates.others;
     capacity_left = c.remove-gone.ensures.capacity;
     each = c.close_gap.ensures.each;
     capacity = c.close_gap.ensures.capacity;
+    layouts_are = c.close_gap.ensures.layouts;
   }
 
   abbrev left : LiveMaps
-  left = as_live_maps (without_entry c.self.inside c.area-size.result c.close_gap.new.slots)
+  left = as_live_maps (without_entry c.self.inside c.area-size.result c.close_gap.new.slots c.close_gap.new.layouts)
 
   abbrev behind : ℕ
   behind = FRONT + c.self.inside.bytes - (last.start + c.area-size.result)
@@ -151,10 +152,10 @@ module _ (c : goal.Joined-gone) where
   no_more more = not_more c.args.self.now c.args.map (live_of c.index_mut-entry.result.now) here c.if-entry-gt-LAST.false more
 
 pub invariant_of-self-2 : goal.invariant_of-self-2
-invariant_of-self-2 c = whole_gone c.self.inside c.args.self.now c.map.inside.number c.args.map c.index_mut-entry.result.now c.remove-gone.result (gone c) c.area-size.result (size c) c.remove-gone.new.self c.close_gap.new.slots (closed c)
+invariant_of-self-2 c = whole_gone c.self.inside c.args.self.now c.map.inside.number c.args.map c.index_mut-entry.result.now c.remove-gone.result (gone c) c.area-size.result (size c) c.remove-gone.new.self c.close_gap.new.slots c.close_gap.new.layouts (closed c)
 
 pub returns-clause-less : goal.returns-clause-less
-returns-clause-less c = less_gone c.self.inside c.args.self.now c.map.inside.number c.args.map c.index_mut-entry.result.now c.remove-gone.result (gone c) c.area-size.result (size c) c.remove-gone.new.self c.close_gap.new.slots (closed c) c.if-entry-gt-LAST.false
+returns-clause-less c = less_gone c.self.inside c.args.self.now c.map.inside.number c.args.map c.index_mut-entry.result.now c.remove-gone.result (gone c) c.area-size.result (size c) c.remove-gone.new.self c.close_gap.new.slots c.close_gap.new.layouts (closed c) c.if-entry-gt-LAST.false
 
 pub returns-clause-stays : goal.returns-clause-stays
 returns-clause-stays c = λ more. absurd (no_more c more)
@@ -163,23 +164,23 @@ pub returns-clause-shape : goal.returns-clause-shape
 returns-clause-shape c = λ more. absurd (no_more c more)
 
 pub returns-clause-gone : goal.returns-clause-gone
-returns-clause-gone c = λ last. none_now c.self.inside c.args.self.now c.map.inside.number c.args.map c.index_mut-entry.result.now c.remove-gone.result (gone c) c.area-size.result (size c) c.remove-gone.new.self c.close_gap.new.slots (closed c)
+returns-clause-gone c = λ last. none_now c.self.inside c.args.self.now c.map.inside.number c.args.map c.index_mut-entry.result.now c.remove-gone.result (gone c) c.area-size.result (size c) c.remove-gone.new.self c.close_gap.new.slots c.close_gap.new.layouts (closed c)
 
 pub returns-clause-others : goal.returns-clause-others
-returns-clause-others c = others_gone c.self.inside c.args.self.now c.map.inside.number c.args.map c.index_mut-entry.result.now c.remove-gone.result (gone c) c.area-size.result (size c) c.remove-gone.new.self c.close_gap.new.slots (closed c)
+returns-clause-others c = others_gone c.self.inside c.args.self.now c.map.inside.number c.args.map c.index_mut-entry.result.now c.remove-gone.result (gone c) c.area-size.result (size c) c.remove-gone.new.self c.close_gap.new.slots c.close_gap.new.layouts (closed c)
 
 pub returns-clause-moved : goal.returns-clause-moved
-returns-clause-moved c = λ last. closes_up c.self.inside c.args.self.now c.map.inside.number c.args.map c.index_mut-entry.result.now c.remove-gone.result (gone c) c.area-size.result (size c) c.remove-gone.new.self c.close_gap.new.slots (closed c)
+returns-clause-moved c = λ last. closes_up c.self.inside c.args.self.now c.map.inside.number c.args.map c.index_mut-entry.result.now c.remove-gone.result (gone c) c.area-size.result (size c) c.remove-gone.new.self c.close_gap.new.slots c.close_gap.new.layouts (closed c)
 
 pub returns-clause-areas : goal.returns-clause-areas
 returns-clause-areas c = λ more. absurd (no_more c more)
 
 pub returns-clause-laid : goal.returns-clause-laid
-returns-clause-laid c = laid_gone c.self.inside c.args.self.now c.map.inside.number c.args.map c.index_mut-entry.result.now c.remove-gone.result (gone c) c.area-size.result (size c) c.remove-gone.new.self c.close_gap.new.slots (closed c)
+returns-clause-laid c = laid_gone c.self.inside c.args.self.now c.map.inside.number c.args.map c.index_mut-entry.result.now c.remove-gone.result (gone c) c.area-size.result (size c) c.remove-gone.new.self c.close_gap.new.slots c.close_gap.new.layouts (closed c)
 
 pub returns-clause-values : goal.returns-clause-values
 returns-clause-values c =
-    values_gone c.self.inside c.args.self.now c.map.inside.number c.args.map c.index_mut-entry.result.now c.remove-gone.result (gone c) c.area-size.result (size c) c.remove-gone.new.self c.close_gap.new.slots (closed c)
+    values_gone c.self.inside c.args.self.now c.map.inside.number c.args.map c.index_mut-entry.result.now c.remove-gone.result (gone c) c.area-size.result (size c) c.remove-gone.new.self c.close_gap.new.slots c.close_gap.new.layouts (closed c)
     c.args.part.now c.copy_within.new.self c.requires.length (moved c)
 
 pub returns-clause-maps : goal.returns-clause-maps
@@ -195,9 +196,9 @@ pub returns-clause-room : goal.returns-clause-room
 returns-clause-room c = λ more. absurd (no_more c more)
 
 pub returns-clause-freed : goal.returns-clause-freed
-returns-clause-freed c = λ last. freed_gone c.self.inside c.args.self.now c.map.inside.number c.args.map c.index_mut-entry.result.now c.remove-gone.result (gone c) c.area-size.result (size c) c.remove-gone.new.self c.close_gap.new.slots (closed c)
+returns-clause-freed c = λ last. freed_gone c.self.inside c.args.self.now c.map.inside.number c.args.map c.index_mut-entry.result.now c.remove-gone.result (gone c) c.area-size.result (size c) c.remove-gone.new.self c.close_gap.new.slots c.close_gap.new.layouts (closed c)
 
 pub returns-clause-front : goal.returns-clause-front
 returns-clause-front c =
-    front_gone c.self.inside c.args.self.now c.map.inside.number c.args.map c.index_mut-entry.result.now c.remove-gone.result (gone c) c.area-size.result (size c) c.remove-gone.new.self c.close_gap.new.slots (closed c)
+    front_gone c.self.inside c.args.self.now c.map.inside.number c.args.map c.index_mut-entry.result.now c.remove-gone.result (gone c) c.area-size.result (size c) c.remove-gone.new.self c.close_gap.new.slots c.close_gap.new.layouts (closed c)
     c.args.part.now c.copy_within.new.self c.requires.length (moved c)

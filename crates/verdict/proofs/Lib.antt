@@ -1,5 +1,6 @@
 pub mod EntryLists
 pub mod Inflow
+pub mod Telling
 pub mod OneVerdict
 pub mod Reached
 pub mod Rules

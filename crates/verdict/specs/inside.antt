@@ -3,3 +3,4 @@ pub mod Edges
 pub mod Descriptors
 pub mod Jumps
 pub mod Arriving
+pub mod Telling

@@ -6,7 +6,7 @@ ghost use Rattle.insn_codec.specs.Flow.{jump_offset, jumps_to, falls, jumps, jum
 use insn_codec::{Insn, MAX_SLOTS};
 
 /// Whether it may go on with the next one.
-pub(crate) fn falls(insn: &Insn) -> bool
+pub fn falls(insn: &Insn) -> bool
     ensures { result ≡ falls insn.now }
 {
     !matches!(insn, Insn::Ja { .. } | Insn::Jal { .. } | Insn::Exit)
@@ -20,7 +20,7 @@ pub(crate) fn jumps(insn: &Insn) -> bool
 }
 
 /// How far it jumps, in slots from the next one; 0 where it does not jump.
-fn jump_offset(insn: &Insn) -> i32
+pub fn jump_offset(insn: &Insn) -> i32
     ensures { result ≡ jump_offset insn.now }
 {
     match *insn {
@@ -40,7 +40,7 @@ fn jumps_to(insn: &Insn, slot: usize) -> Option<usize>
 }
 
 /// The slot that an instruction jumps to: none where it does not jump, or below slot 0.
-pub(crate) fn jump_target(insn: &Insn, slot: usize) -> Option<usize>
+pub fn jump_target(insn: &Insn, slot: usize) -> Option<usize>
     requires { slot ≤ MAX_SLOTS }
     ensures { result ≡ jump_target insn.now slot }
 {

@@ -2,16 +2,20 @@
 
 ghost use Rattle.std.specs.Prelude.{◌≡◌, ◌⊎◌, ◌<◌, ℕ, length, IsSome, IfSome, IfErr, OnOk};
 ghost use Rattle.tagged_model.specs.Named.{shapes_named};
-ghost use Rattle.verdict.specs.inside.Edges.{falling_from, jumping_from, MayRun, IsFaultFrom};
+ghost use Rattle.verdict.specs.inside.Edges.{falling_from, jumping_from, MayRun};
 ghost use Rattle.verdict.specs.inside.Arriving.{Brings, arriving_at, on_falling_edge, on_jumping_edge};
 ghost use Rattle.verdict.specs.inside.Jumps.{JumpsLand};
+ghost use Rattle.verdict.specs.inside.Telling.{IsFaultTold, IsFirstTold, StopsTelling};
 ghost use Rattle.insn_codec.specs.Flow.{jump_target};
-ghost use Rattle.verdict.specs.Verdict.{IsFirstFault, HasNoFault, safety_fault, memory_fault};
+ghost use Rattle.insn_codec.specs.Program.{slot_count};
+ghost use Rattle.verdict.specs.Told.{known_at, with_more, IsToldBelow};
+ghost use Rattle.verdict.specs.Verdict.{HasNoFault, safety_fault};
 
 use crate::edge_facts::EdgeFacts;
 use crate::edges::jump_target;
 use crate::entries::Entries;
 use crate::fault::VerifyFault;
+use crate::watcher::Watcher;
 use insn_codec::{Insn, MAX_SLOTS, Program};
 use reg_kinds::{Facts, joins_associate, joins_commute};
 use std::alloc::{AllocError, Global};
@@ -59,9 +63,15 @@ impl Pass {
         Ok(())
     }
 
-    /// Goes on past the instruction at a slot, if it may be run with what is known there. Where nothing is known, no run
-    /// comes there.
-    fn step(&mut self, named: &[Named], insn: &Insn, slot: usize) -> Result<(), VerifyFault>
+    /// Goes on past the instruction at a slot, if it may be run with what is known there, which the watcher is told. Where
+    /// nothing is known, no run comes there.
+    fn step<W: Watcher>(
+        &mut self,
+        named: &[Named],
+        insn: &Insn,
+        slot: usize,
+        watcher: &mut W,
+    ) -> Result<(), VerifyFault>
         requires room { slot < MAX_SLOTS }
         requires within { slot < length self.old.entries }
         requires lands { IfSome (jump_target insn.now slot) (λ to. to < length self.old.entries) }
@@ -73,11 +83,16 @@ impl Pass {
             (jumping_from (shapes_named named.now) slot insn.now (arriving_at slot self.old))
             self.old.entries self.new.entries i) }
         ensures long { OnOk result (length self.new.entries ≡ length self.old.entries) }
-        ensures refused { IfErr result (λ e. (e ≡ memory_fault)
-            ⊎ IsFaultFrom (shapes_named named.now) slot insn.now (arriving_at slot self.old) e) }
+        ensures told { OnOk result (W.told watcher.new
+            ≡ with_more (W.told watcher.old) (known_at slot (arriving_at slot self.old))) }
+        ensures refused { IfErr result (λ e. StopsTelling (W.told watcher.old) (W.told watcher.new)
+            slot (arriving_at slot self.old) e
+            ⊎ IsFaultTold (shapes_named named.now) slot insn.now (arriving_at slot self.old)
+            (W.told watcher.old) (W.told watcher.new) e) }
     {
         self.entries.join_at(slot, &mut self.falling);
         if self.falling.is_known {
+            watcher.before(slot, &self.falling.facts)?;
             match apply(&mut self.falling.facts, &mut self.taken, named, slot, insn) {
                 Ok(flow) => self.leave(flow, insn, slot)?,
                 Err(reason) => return Err(VerifyFault { slot, reason }),
@@ -88,16 +103,19 @@ impl Pass {
 }
 
 /// Looks for the first instruction that may not be run with what is known before it: one pass over the slots, with what is
-/// known by the falling edge in hand, and what jumps bring kept for the slots ahead.
-pub(crate) fn check_safety(
+/// known by the falling edge in hand, and what jumps bring kept for the slots ahead. The watcher is told what is known.
+pub(crate) fn check_safety<W: Watcher>(
     alloc: Global,
     program: &Program,
     named: &[Named],
+    watcher: &mut W,
 ) -> Result<(), VerifyFault>
     requires { JumpsLand program.now }
     ensures sound { OnOk result (HasNoFault (safety_fault (shapes_named named.now) program.now)) }
-    ensures refused { IfErr result (λ e. (e ≡ memory_fault)
-        ⊎ IsFirstFault (safety_fault (shapes_named named.now) program.now) e.slot e.reason) }
+    ensures told { OnOk result (IsToldBelow (slot_count program.now) (shapes_named named.now)
+        program.now (W.told watcher.old) (W.told watcher.new)) }
+    ensures refused { IfErr result (λ e. IsFirstTold (shapes_named named.now) program.now
+        (W.told watcher.old) (W.told watcher.new) e) }
 {
     joins_commute();
     joins_associate();
@@ -112,7 +130,7 @@ pub(crate) fn check_safety(
     };
     for slot in 0..slots {
         if let Some(insn) = program.get(slot) {
-            pass.step(named, insn, slot)?;
+            pass.step(named, insn, slot, watcher)?;
         }
     }
     Ok(())

@@ -7,5 +7,5 @@ mod verified;
 pub use laws::{accepted_programs_never_fault, step_is_sound, steps_go_on};
 pub use reg_kinds::Reason;
 pub use tagged_model::Named;
-pub use verdict::VerifyFault;
-pub use verified::{Verified, verify};
+pub use verdict::{Unwatched, VerifyFault, Watcher};
+pub use verified::{Verified, verify, verify_watched};

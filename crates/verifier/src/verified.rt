@@ -1,8 +1,9 @@
 //! Programs that were accepted.
 
-ghost use Rattle.std.specs.Prelude.{◌≡◌, ◌≢◌, ◌⊎◌, ℕ, Bool, List, IfErr, IfOk};
+ghost use Rattle.std.specs.Prelude.{◌≡◌, ◌≢◌, ◌⊎◌, ℕ, Bool, List, IfErr, IfOk, OnOk};
 ghost use Rattle.tagged_model.specs.declared.value.Outcome.TheVariants.{Fault};
 ghost use Rattle.tagged_model.specs.Step.{MapsByDescriptor, result_with};
+ghost use Rattle.verdict.specs.Told.{IsToldRefused, IsToldWhole};
 ghost use Rattle.verdict.specs.Verdict.{IsAccepted, IsRefused, memory_fault};
 ghost use Rattle.verdict.specs.Maps.{maps_of, entries_of};
 ghost use Rattle.verifier.specs.Sound.{AreRunInputs};
@@ -13,7 +14,7 @@ use insn_codec::Program;
 use std::alloc::Global;
 use std::marker::Model;
 use tagged_model::Named;
-use verdict::{LoadedMaps, VerifyFault, judge};
+use verdict::{LoadedMaps, Unwatched, VerifyFault, Watcher, judge_watched};
 
 /// A program that was accepted: no run of it faults.
 ///
@@ -76,6 +77,7 @@ impl Verified {
 ///
 /// Those of `verdict::judge`; `Memory` at slot 0 also where there was no memory for the program's copy
 /// or for the lists of its maps.
+#[inline]
 pub fn verify(alloc: Global, program: &Program, named: &[Named]) -> Result<Verified, VerifyFault>
     ensures accepted { IfOk result (λ verified. (verified.code ≡ program.now)
         × (verified.entries ≡ entries_of (maps_of program.now) named.now)
@@ -83,7 +85,33 @@ pub fn verify(alloc: Global, program: &Program, named: &[Named]) -> Result<Verif
     ensures refused { IfErr result (λ e. (e ≡ memory_fault)
         ⊎ IsRefused program.now named.now e.slot e.reason) }
 {
-    let loaded = judge(alloc, program, named)?;
+    verify_watched(alloc, program, named, &mut Unwatched)
+}
+
+/// `verify`, and a watcher is told what is known before each instruction that a run may come to: each slot once and in order,
+/// with the facts before it. Where the program is refused for its safety that ends with the slot of the fault, and at a fault of
+/// its shape nothing is told.
+///
+/// # Errors
+///
+/// Those of `verify`; `Memory` at slot 0 also where the watcher got no memory. Then it was told so up to some slot.
+pub fn verify_watched<W: Watcher>(
+    alloc: Global,
+    program: &Program,
+    named: &[Named],
+    watcher: &mut W,
+) -> Result<Verified, VerifyFault>
+    ensures accepted { IfOk result (λ verified. (verified.code ≡ program.now)
+        × (verified.entries ≡ entries_of (maps_of program.now) named.now)
+        × IsAccepted program.now named.now) }
+    ensures refused { IfErr result (λ e. (e ≡ memory_fault)
+        ⊎ IsRefused program.now named.now e.slot e.reason) }
+    ensures told { OnOk result
+        (IsToldWhole program.now named.now (W.told watcher.old) (W.told watcher.new)) }
+    ensures told_refused { IfErr result
+        (IsToldRefused program.now named.now (W.told watcher.old) (W.told watcher.new)) }
+{
+    let loaded = judge_watched(alloc, program, named, watcher)?;
     let program = program.clone()?;
     Ok(Verified { program, loaded })
 }

@@ -226,9 +226,13 @@ fn write_map_value(text: &mut String, dst: Reg, fd: i32, off: u32) -> Result<(),
     write!(text, " + {off} ll")
 }
 
-/// Writes an instruction.
+/// Writes an instruction's line behind a text, without the line feed.
+///
+/// # Errors
+///
+/// `AllocError`: there is no memory for it. Some of it may stand there then.
 #[tactic(auto, unfolding(text_line::specs::Written::printed_insn))]
-fn write_insn(text: &mut String, insn: &Insn) -> Result<(), AllocError>
+pub fn write_insn(text: &mut String, insn: &Insn) -> Result<(), AllocError>
     ensures { OnOk result (string_bytes text.new ≡ string_bytes text.old ++ printed_insn insn.now) }
 {
     match *insn {

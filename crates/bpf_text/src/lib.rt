@@ -10,7 +10,7 @@ mod laws;
 mod lines;
 
 pub use assembler::assemble;
-pub use disassembler::disassemble;
+pub use disassembler::{disassemble, write_insn};
 pub use fault::{TextFault, TextFaultKind};
 pub use hexadecimal::{from_hex_lines, hex_lines};
 pub use laws::{

@@ -6,7 +6,7 @@ use Rattle.bpf_text.specs.declared.fault.TextFault.{TextFault}
 use Rattle.insn_codec.specs.Program.{IsMemoryFault, IsProgramFault}
 use Rattle.insn_codec.specs.declared.fault.CodecFault.{CodecFault}
 use Rattle.host.specs.program.Failure.{codec_failure}
-use Rattle.host.specs.inside.program.Statuses.{text_failure}
+use Rattle.host.specs.program.Statuses.{text_failure}
 use Rattle.host.specs.inside.program.Rewriting.{IsNoProgramText}
 use Rattle.host.specs.declared.program.failure.Failure.{Failure}
 use Rattle.host.specs.declared.program.failure.Failure.TheVariants.{Memory}

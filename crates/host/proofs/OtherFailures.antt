@@ -5,7 +5,7 @@ use Rattle.bpf_text.specs.declared.fault.TextFaultKind.TheVariants as text
 use Rattle.insn_codec.specs.declared.fault.FaultKind.{FaultKind}
 use Rattle.insn_codec.specs.declared.fault.FaultKind.TheVariants as codec
 use Rattle.host.specs.program.Failure.{failure_at}
-use Rattle.host.specs.inside.program.Statuses.{exit_status, failure_on}
+use Rattle.host.specs.program.Statuses.{exit_status, failure_on}
 use Rattle.host.specs.inside.program.Rewriting.{IsInputRefused, HasNoInput, Streams, StopsRewriting}
 use Rattle.host.specs.declared.program.failure.Failure.{Failure}
 use Rattle.host.specs.declared.program.failure.Failure.TheVariants.{WrongArguments, MapArgument, Truncated, TooManyFrames, TooLong, Line, Slot, Read, Write, Memory}

@@ -4,7 +4,7 @@ use Rattle.bpf_text.specs.Assembly.{IsAssembled, IsOwnFault}
 use Rattle.bpf_text.specs.Fault.{memory_fault}
 use Rattle.bpf_text.specs.declared.fault.TextFault.{TextFault}
 use Rattle.insn_codec.specs.declared.insn.Insn.{Insn}
-use Rattle.host.specs.inside.program.Statuses.{text_failure}
+use Rattle.host.specs.program.Statuses.{text_failure}
 use Rattle.host.specs.inside.program.Rewriting.{IsAssembly, IsNoText, IsTextRefused}
 use Rattle.host.specs.declared.program.failure.Failure.{Failure}
 use Rattle.host.specs.declared.program.failure.Failure.TheVariants.{Memory}

@@ -4,4 +4,5 @@ pub mod Texts
 pub mod Judging
 pub mod Shapes
 pub mod Failure
+pub mod Statuses
 pub mod Decimal

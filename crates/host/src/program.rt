@@ -2,7 +2,8 @@
 
 pub(crate) mod arguments;
 mod decimal;
-mod failure;
+pub(crate) mod failure;
+pub(crate) mod inputs;
 mod judging;
 pub(crate) mod shapes;
 mod texts;

@@ -1,6 +1,5 @@
 -- The command line: its arguments, its texts, its verdicts, its failures. This project's own.
 pub mod Outcomes
-pub mod Statuses
 pub mod Judgements
 pub mod MapFields
 pub mod Rewriting

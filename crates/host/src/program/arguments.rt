@@ -5,7 +5,7 @@ ghost use Rattle.std.specs.declared.io.ErrorKind.TheVariants.{OutOfMemory};
 ghost use Rattle.std.specs.IoError.{error_kind};
 ghost use Rattle.clap.specs.Words.{FailsBy, app_of, found_of, rows_of, subcommand_rows_of};
 ghost use Rattle.clap.specs.Walk.{texts};
-ghost use Rattle.host.specs.inside.program.Statuses.{exit_status};
+ghost use Rattle.host.specs.program.Statuses.{exit_status};
 ghost use Rattle.host.specs.program.Shapes.{AreMapArguments};
 ghost use Rattle.host.specs.inside.program.MapFields.{IsWrongMapArgument};
 ghost use Rattle.host.specs.program.Judging.{AcceptsIfKnown};

@@ -12,7 +12,7 @@ use thiserror::Error;
 
 /// Why a run ends with another status than 0. Its text is the fault line.
 #[derive(Debug, Drop, Error)]
-pub(crate) enum Failure {
+pub enum Failure {
     #[error("wrong words")]
     WrongArguments,
     #[error("map word {0} is wrong")]
@@ -40,10 +40,10 @@ impl Failure {
     ghost use Rattle.std.specs.declared.io.ErrorKind.TheVariants.{OutOfMemory};
     ghost use Rattle.std.specs.IoError.{error_kind};
     ghost use Rattle.host.specs.declared.program.failure.Failure.TheVariants.{WrongArguments, Memory};
-    ghost use Rattle.host.specs.inside.program.Statuses.{exit_status};
+    ghost use Rattle.host.specs.program.Statuses.{exit_status};
 
     /// Why the arguments could not be read: there was no memory for them, or one is not UTF-8.
-    pub(crate) fn of_unread_arguments(error: &io::Error) -> Failure
+    pub fn of_unread_arguments(error: &io::Error) -> Failure
         ensures memory { error_kind error.now ≡ OutOfMemory → result ≡ Memory }
         ensures wrong { error_kind error.now ≢ OutOfMemory → result ≡ WrongArguments }
     {
@@ -55,7 +55,7 @@ impl Failure {
     }
 
     /// The status that the program ends with.
-    pub(crate) fn status(&self) -> u8
+    pub fn status(&self) -> u8
         ensures { result ≡ exit_status self.now }
     {
         match self {
@@ -90,7 +90,7 @@ impl<T: Drop> From<AllocFailed<T>> for Failure {
 
 impl From<clap::Error> for Failure {
     ghost use Rattle.clap.specs.Words.{kind_of};
-    ghost use Rattle.host.specs.inside.program.Statuses.{arguments_failure};
+    ghost use Rattle.host.specs.program.Statuses.{arguments_failure};
 
     ghost from_gives = { λ error failure. failure ≡ arguments_failure (kind_of error) };
 
@@ -103,7 +103,7 @@ impl From<clap::Error> for Failure {
 }
 
 impl From<ServeFault> for Failure {
-    ghost use Rattle.host.specs.inside.program.Statuses.{stream_failure};
+    ghost use Rattle.host.specs.program.Statuses.{stream_failure};
 
     ghost from_gives = { λ fault failure. failure ≡ stream_failure fault };
 
@@ -119,7 +119,7 @@ impl From<ServeFault> for Failure {
 }
 
 impl From<TextFault> for Failure {
-    ghost use Rattle.host.specs.inside.program.Statuses.{text_failure};
+    ghost use Rattle.host.specs.program.Statuses.{text_failure};
 
     ghost from_gives = { λ fault failure. failure ≡ text_failure fault };
 

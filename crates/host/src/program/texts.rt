@@ -29,7 +29,7 @@ pub(crate) enum TextTask {
 }
 
 /// The text that the bytes are.
-fn text_in(bytes: &[u8]) -> Result<&str, Failure>
+pub(crate) fn text_in(bytes: &[u8]) -> Result<&str, Failure>
     ensures { MatchResult result (λ text. (text.now ≡ bytes.now) × IsUtf8 bytes.now)
         (IsNoText bytes.now) }
 {

@@ -7,7 +7,7 @@ use Rattle.bpf_text.specs.Printed.{printed}
 use Rattle.bpf_text.specs.declared.fault.TextFault.{TextFault}
 use Rattle.insn_codec.specs.Program.{program_bytes}
 use Rattle.insn_codec.specs.declared.insn.Insn.{Insn}
-use Rattle.host.specs.inside.program.Statuses.{text_failure}
+use Rattle.host.specs.program.Statuses.{text_failure}
 use Rattle.host.specs.declared.program.texts.TheConstants.{LONGEST_INPUT}
 use Rattle.host.specs.declared.program.failure.Failure.{Failure}
 use Rattle.host.specs.declared.program.failure.Failure.TheVariants.{WrongArguments, MapArgument, Truncated, TooManyFrames, TooLong, Line, Slot, Read, Write, Memory}

@@ -1,6 +1,6 @@
 use Rattle.std.proofs.Common.{◌≡◌, ◌⊎◌, ◌∙◌, subst, sym, rules, IsUtf8}
 use Rattle.host.specs.program.Failure.{codec_failure}
-use Rattle.host.specs.inside.program.Statuses.{text_failure}
+use Rattle.host.specs.program.Statuses.{text_failure}
 use Rattle.host.specs.inside.program.Rewriting.{IsNoProgramText}
 use Rattle.host.specs.declared.program.failure.Failure.TheVariants.{Memory}
 use Rattle.host.proofs.HexRefusals.{lines_refused, slots_refused, program_not_refused}

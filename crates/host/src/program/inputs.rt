@@ -1,0 +1,64 @@
+//! What another program reads as the subcommands do: an input, the arguments that name maps, a program.
+
+ghost use Rattle.std.specs.Prelude.{◌≡◌, IfOk, IsUtf8};
+ghost use Rattle.bpf_text.specs.Assembly.{IsAssembled};
+ghost use Rattle.clap.specs.Walk.{texts};
+ghost use Rattle.host.specs.program.Shapes.{AreMapArguments};
+ghost use Rattle.host.specs.program.Texts.{IsProgramText};
+
+use crate::program::failure::Failure;
+use crate::program::shapes::named_maps;
+use crate::program::texts::{program_on, read_input, text_in};
+use crate::stream::Counted;
+use bpf_text::assemble;
+use insn_codec::Program;
+use std::alloc::Global;
+use std::io::Read;
+use tagged_model::Named;
+
+/// Reads an input to its end, as `asm`, `dis` and `verify` do.
+///
+/// # Errors
+///
+/// `TooLong` where it has more than 1,048,576 bytes, `Read` where a call failed, and `Memory`.
+pub fn whole_input<I: Read + Drop>(alloc: Global, input: I) -> Result<Vec<u8>, Failure> {
+    let mut reader = Counted::new(input);
+    read_input(alloc, &mut reader)
+}
+
+/// The maps that arguments name, as those of `verify` do.
+///
+/// # Errors
+///
+/// `MapArgument` with the number, from 1, of the first argument that names no map, or the descriptor of an argument before it;
+/// and `Memory`.
+pub fn maps_named(alloc: Global, arguments: &[&str]) -> Result<Vec<Named>, Failure>
+    ensures { IfOk result (λ maps. AreMapArguments (texts arguments.now) maps.items) }
+{
+    named_maps(alloc, arguments)
+}
+
+/// The program whose slots stand on the lines of an input as hex digits.
+///
+/// # Errors
+///
+/// `Line` where the input is not UTF-8, a line has a fault or none has a slot, `Slot` where the slots are no program, and
+/// `Memory`.
+pub fn hex_program(alloc: Global, input: &[u8]) -> Result<Program, Failure>
+    ensures { IfOk result (λ program. IsProgramText input.now program) }
+{
+    program_on(alloc, input)
+}
+
+/// The program whose text is an input.
+///
+/// # Errors
+///
+/// `Line` where the input is not UTF-8, a line has a fault or there is no instruction, and `Memory`.
+pub fn text_program(alloc: Global, input: &[u8]) -> Result<Program, Failure>
+    ensures utf8 { IfOk result (λ _. IsUtf8 input.now) }
+    ensures program { IfOk result (λ program. IsAssembled input.now program) }
+{
+    let program = assemble(alloc, text_in(input)?)?;
+    Ok(program)
+}

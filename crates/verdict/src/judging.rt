@@ -29,7 +29,6 @@ pub struct LoadedMaps {
 ///
 /// The first fault of the program's shape, and where there is none the first instruction that may not be run with what is
 /// known before it, each with its slot and its first reason. `Memory` at slot 0 where there was no memory for the verdict.
-#[inline]
 pub fn judge(alloc: Global, program: &Program, named: &[Named]) -> Result<LoadedMaps, VerifyFault>
     ensures accepted { OnOk result (IsAccepted program.now named.now) }
     ensures maps { IfOk result (λ loaded. loaded.maps.items ≡ maps_of program.now) }

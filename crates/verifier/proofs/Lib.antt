@@ -1,3 +1,4 @@
+pub mod KeptPrograms
 pub mod Edges
 pub mod Leads
 pub mod Words

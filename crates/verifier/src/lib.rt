@@ -1,6 +1,7 @@
 //! Programs that are accepted, and why no run of them faults.
 #![tactic(auto)]
 
+mod known_answers;
 mod laws;
 mod verified;
 

@@ -14,7 +14,7 @@ use insn_codec::Program;
 use std::alloc::Global;
 use std::marker::Model;
 use tagged_model::Named;
-use verdict::{LoadedMaps, Unwatched, VerifyFault, Watcher, judge_watched};
+use verdict::{LoadedMaps, VerifyFault, Watcher, judge, judge_watched};
 
 /// A program that was accepted: no run of it faults.
 ///
@@ -77,7 +77,6 @@ impl Verified {
 ///
 /// Those of `verdict::judge`; `Memory` at slot 0 also where there was no memory for the program's copy
 /// or for the lists of its maps.
-#[inline]
 pub fn verify(alloc: Global, program: &Program, named: &[Named]) -> Result<Verified, VerifyFault>
     ensures accepted { IfOk result (λ verified. (verified.code ≡ program.now)
         × (verified.entries ≡ entries_of (maps_of program.now) named.now)
@@ -85,7 +84,9 @@ pub fn verify(alloc: Global, program: &Program, named: &[Named]) -> Result<Verif
     ensures refused { IfErr result (λ e. (e ≡ memory_fault)
         ⊎ IsRefused program.now named.now e.slot e.reason) }
 {
-    verify_watched(alloc, program, named, &mut Unwatched)
+    let loaded = judge(alloc, program, named)?;
+    let program = program.clone()?;
+    Ok(Verified { program, loaded })
 }
 
 /// `verify`, and a watcher is told what is known before each instruction that a run may come to: each slot once and in order,
@@ -112,6 +113,9 @@ pub fn verify_watched<W: Watcher>(
         (IsToldRefused program.now named.now (W.told watcher.old) (W.told watcher.new)) }
 {
     let loaded = judge_watched(alloc, program, named, watcher)?;
-    let program = program.clone()?;
-    Ok(Verified { program, loaded })
+    let copy = program.clone()?;
+    Ok(Verified {
+        program: copy,
+        loaded,
+    })
 }

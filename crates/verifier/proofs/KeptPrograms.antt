@@ -1,0 +1,19 @@
+-- What is kept of a program that was accepted.
+use Rattle.std.proofs.Common.{◌≡◌, ℕ, List, subst, sym, ap, ◌∙◌}
+use Rattle.insn_codec.specs.declared.insn.Insn.{Insn}
+use Rattle.tagged_model.specs.declared.shape.Named.{Named}
+use Rattle.verdict.specs.Maps.{maps_of, entries_of}
+use Rattle.verdict.specs.Verdict.{IsAccepted}
+use Rattle.verifier.specs.Verified.{IsVerified}
+
+-- a copy of it, with its maps
+pub copy_is_whole : (code copy : List Insn) (named entries : List Named) (maps : List ℕ) → copy ≡ code → IsAccepted code named → entries ≡ entries_of (maps_of code) named → maps ≡ maps_of code
+    → IsVerified (record { code = copy; entries = entries }) × (maps ≡ maps_of copy)
+copy_is_whole code copy named entries maps was accepted shaped listed = (
+  record {
+    named = named;
+    accepted = subst (λ (is : List Insn). IsAccepted is named) (sym was) accepted;
+    shaped = shaped ∙ ap (λ (is : List Insn). entries_of (maps_of is) named) (sym was);
+  },
+  listed ∙ ap maps_of (sym was),
+)

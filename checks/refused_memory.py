@@ -1,5 +1,6 @@
 #!/usr/bin/env python3
-"""Refuses memory to a built bpfhost, one call at a time, and compares what it answers. usage: refused_memory.py BPFHOST LIBRARY
+"""Refuses memory to a built bpfhost, one call at a time, and compares what it answers, and to a built verifier_log where one is named.
+usage: refused_memory.py BPFHOST LIBRARY [VERIFIER_LOG]
 
 The first call for memory is refused, in another run the second, and so on until a run makes fewer calls. A refusal has to be
 told, once, as want of memory, and nothing else may differ: what was refused and is asked again is answered as if nothing had
@@ -48,6 +49,16 @@ r0 += 1
 *(u64 *)(r1 + 0) = r0
 exit
 """
+
+# Its result is missing where the jump is taken.
+MISSES_RESULT = """
+r2 = *(u32 *)(r1 + 0)
+if r2 == 0 goto +1
+r0 = 1
+exit
+"""
+
+MAP_ARGUMENT = "3:array:4:8:1"
 
 
 class Differs(Exception):
@@ -193,22 +204,32 @@ def ends(bpfhost, words, given):
     return ended.returncode, ended.stdout, ended.stderr
 
 
-def check_words(bpfhost, refusals, words, given, wanted, unseen=0):
+def check_words(program, refusals, name, words, given, wanted, unseen=0):
     """One run of the program for each call for memory: refused, it writes one line to its standard error, and ends with 4."""
     told = 0
     for call in refusals.runs():
-        ended = ends(bpfhost, words, given)
+        ended = ends(program, words, given)
         if refusals.refused() and ended == (WANT_OF_MEMORY, b"", b"out of memory\n"):
             told += 1
         elif ended != wanted:
-            raise Differs(f"{words[0]}, call {call}: {ended}")
+            raise Differs(f"{name}, call {call}: {ended}")
     if not told or told != call - 1 - unseen:
-        raise Differs(f"{words[0]}, {call - 1} calls refused: {told} told")
-    print(f"{words[0]}: {told} refusals")
+        raise Differs(f"{name}, {call - 1} calls refused: {told} told")
+    print(f"{name}: {told} refusals")
+
+
+def logs(lines):
+    """Runs of verifier_log: on a program that is accepted, and on one in which a register is missing on one way, for which
+    the pass over the program is made once more. With their statuses, and how many refusals make no difference."""
+    return [
+        ("log", [MAP_ARGUMENT], lines, 0, JUMPS),
+        ("log --dot", ["--dot", MAP_ARGUMENT], lines, 0, JUMPS),
+        ("log of a refused program", [], MISSES_RESULT.encode(), 1, 2 * JUMPS),
+    ]
 
 
 def main():
-    bpfhost, library = sys.argv[1:]
+    bpfhost, library, *verifier_log = sys.argv[1:]
     puts, reads, counts = (assemble(bpfhost, text) for text in (PUTS_KEY, READS_INDEX, COUNTS))
     steps = in_turn(of_first_tenant(puts), of_second_tenant(reads, counts))
     with Host(bpfhost, TENANTS) as host:
@@ -216,19 +237,21 @@ def main():
     if any(reply.status < 0 for reply in wanted):
         raise Differs("a reply is an error where memory is ample")
     lines = hex_lines(reads).encode()
-    texts = [
-        (["asm"], READS_INDEX.encode(), 0),
-        (["dis"], lines, 0),
-        (["verify", "3:array:4:8:1"], lines, JUMPS),
+    runs = [
+        (bpfhost, "asm", ["asm"], READS_INDEX.encode(), 0, 0),
+        (bpfhost, "dis", ["dis"], lines, 0, 0),
+        (bpfhost, "verify", ["verify", MAP_ARGUMENT], lines, 0, JUMPS),
+        *((program, *run) for program in verifier_log for run in logs(lines)),
     ]
-    answers = [ends(bpfhost, words, given) for words, given, _ in texts]
-    if any(status for status, _, _ in answers):
-        raise Differs("asm, dis or verify fails where memory is ample")
+    answers = [ends(program, words, given) for program, _, words, given, _, _ in runs]
+    for (_, name, _, _, status, _), answer in zip(runs, answers):
+        if answer[0] != status:
+            raise Differs(f"{name} fails where memory is ample")
     with tempfile.TemporaryDirectory() as folder:
         refusals = Refusals(library, folder)
         check_frames(bpfhost, refusals, steps, wanted)
-        for (words, given, unseen), answer in zip(texts, answers):
-            check_words(bpfhost, refusals, words, given, answer, unseen)
+        for (program, name, words, given, _, unseen), answer in zip(runs, answers):
+            check_words(program, refusals, name, words, given, answer, unseen)
 
 
 if __name__ == "__main__":

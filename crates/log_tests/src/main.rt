@@ -1,0 +1,41 @@
+//! Plays worked cases of the verifier's log: writes the log of each program of standard input behind its line.
+//!
+//! | Line | What is written behind it |
+//! |---|---|
+//! | `log TEXT` | the log of a program's text, where `;` ends a line and `COUNT times LINE` is so many lines |
+//! | `all TEXT` | the same, with all that is known before each instruction |
+//! | `dot TEXT` | its control flow, for Graphviz |
+//! | `run ARGUMENTS <TEXT` | what the program `verifier_log` writes of the lines of this input, and its status |
+//! | `bytes ARGUMENTS <HEX` | the same of these bytes |
+//! | `map FD:KIND:KEY:VALUE:MAX` | nothing: from here on this descriptor names a map, of two with one number the first |
+//! | `program FD` | nothing: from here on this descriptor names a program |
+//! | `new` | nothing: from here on no descriptor is open |
+//!
+//! A line that is empty or begins with `#` is written as it stands.
+#![tactic(auto)]
+
+mod answers;
+mod error;
+
+use answers::answer_to;
+use case_lines::is_remark;
+use std::io;
+
+fn main(rt: HostRuntime) -> io::Result<()> {
+    let alloc = rt.alloc();
+    let mut named = Vec::new(alloc);
+    for line in rt.lines(alloc) {
+        let line = line?;
+        let line = line.as_str();
+        println!(rt; "{line}")?;
+        if is_remark(line) {
+            continue;
+        }
+        let answer = match answer_to(alloc, &mut named, line) {
+            Ok(answer) => answer,
+            Err(error) => error.to_string(alloc)?,
+        };
+        print!(rt; "{answer}")?;
+    }
+    Ok(())
+}

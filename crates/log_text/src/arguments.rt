@@ -1,0 +1,104 @@
+//! The program's arguments.
+
+use crate::log::LogStyle;
+use clap::{Arg, ArgAction, ArgMatches, Command};
+use std::alloc::{AllocError, Global};
+
+/// In which form the input has a program.
+#[derive(Clone, Copy, Debug, PartialEq, Eq)]
+pub(crate) enum ProgramForm {
+    /// A slot on each line, as hex digits.
+    Hex,
+    /// The text of its instructions.
+    Text,
+}
+
+/// An option that is given or not.
+fn flag<'a>(alloc: Global, name: &'a str, help: &'a str) -> Arg<'a> {
+    Arg::new(alloc, name)
+        .long(name)
+        .help(help)
+        .action(ArgAction::SetTrue)
+}
+
+/// What clap makes of the arguments.
+pub(crate) fn parse_arguments<'a>(
+    alloc: Global,
+    arguments: &'a [&'a str],
+) -> Result<ArgMatches<'a>, clap::Error> {
+    let maps = Arg::new(alloc, "map")
+        .value_name("MAP")
+        .help("What a descriptor names, as FD:KIND:KEY:VALUE:MAX: 3:array:4:8:1, or 4:hash:4:16:64")
+        .action(ArgAction::Append);
+    let hex = flag(alloc, "hex", "Read hex lines, whatever the first line is").conflicts_with(
+        "text",
+    )?;
+    let program = Command::new(alloc, "verifier_log")
+        .about(
+            "Reads a program, hex lines or text, and writes what the verifier knows before each instruction, and the verdict",
+        )
+        .version("0.1.0")
+        .no_binary_name(true)
+        .arg(flag(
+            alloc,
+            "all",
+            "Write all that is known, and not what is new alone",
+        ))?
+        .arg(flag(
+            alloc,
+            "dot",
+            "Write the control flow as a graph, for Graphviz",
+        )
+        .conflicts_with("all")?)?
+        .arg(hex)?
+        .arg(flag(
+            alloc,
+            "text",
+            "Read the text of a program, whatever the first line is",
+        ))?
+        .arg(maps)?;
+    program.try_get_matches_from(arguments)
+}
+
+/// What the log shows.
+pub(crate) fn style_of(matches: &ArgMatches<'_>) -> LogStyle {
+    if matches.get_flag("dot") {
+        LogStyle::Graph
+    } else if matches.get_flag("all") {
+        LogStyle::Whole
+    } else {
+        LogStyle::New
+    }
+}
+
+/// Whether a line has hex digits alone, and some.
+fn is_hex(line: &str) -> bool {
+    !line.is_empty() && line.bytes().all(|byte| byte.is_ascii_hexdigit())
+}
+
+/// Whether the first line of an input that is not blank has hex digits alone. Where there is none, so it is.
+fn begins_with_hex(input: &[u8]) -> bool {
+    let Ok(text) = str::from_utf8(input) else {
+        return true;
+    };
+    for line in text.lines() {
+        let line = line.trim();
+        if !line.is_empty() {
+            return is_hex(line);
+        }
+    }
+    true
+}
+
+/// The form in which an input has a program: the one that is asked for, or the one of its first line.
+pub(crate) fn form_of(matches: &ArgMatches<'_>, input: &[u8]) -> ProgramForm {
+    if matches.get_flag("hex") {
+        ProgramForm::Hex
+    } else if matches.get_flag("text") {
+        ProgramForm::Text
+    } else if begins_with_hex(input) {
+        ProgramForm::Hex
+    } else {
+        ProgramForm::Text
+    }
+}

@@ -1,0 +1,74 @@
+//! Where control goes: the jumps of a program, by where they lead.
+
+use crate::recorder::Step;
+use insn_codec::{Insn, MAX_SLOTS, Program};
+use std::alloc::{AllocError, Global};
+use verdict::jump_target;
+
+/// The edge of a jump. Edges are in order by where they lead.
+#[derive(Clone, Copy, Debug, PartialEq, Eq, PartialOrd, Ord)]
+pub(crate) struct JumpEdge {
+    pub to: usize,
+    pub from: usize,
+}
+
+/// Where the instruction at a slot jumps to, if it does.
+pub(crate) fn target_at(program: &Program, slot: usize) -> Option<usize> {
+    let insn = program.get(slot)?;
+    if slot > MAX_SLOTS {
+        return None;
+    }
+    jump_target(insn, slot)
+}
+
+/// The jumps that a run may take, as far as is known.
+pub(crate) fn live_jumps(
+    alloc: Global,
+    program: &Program,
+    steps: &[Step],
+) -> Result<Vec<JumpEdge>, AllocError> {
+    let mut jumps = Vec::new(alloc);
+    for step in steps {
+        if step.jumping.is_some()
+            && let Some(to) = target_at(program, step.slot)
+        {
+            let from = step.slot;
+            jumps.push(JumpEdge { to, from })?;
+        }
+    }
+    jumps.sort()?;
+    Ok(jumps)
+}
+
+/// Whether what stands behind an instruction begins a block of its own.
+fn ends_block(insn: &Insn) -> bool {
+    matches!(
+        insn,
+        Insn::Ja { .. } | Insn::Jal { .. } | Insn::Jump { .. } | Insn::Exit
+    )
+}
+
+/// Marks a slot, if it is one of these.
+fn mark(flags: &mut [bool], slot: usize) {
+    if let Some(flag) = flags.get_mut(slot) {
+        *flag = true;
+    }
+}
+
+/// For each slot whether a basic block begins there: at the first one, where a jump leads, and behind a jump or an exit.
+pub(crate) fn block_starts(alloc: Global, program: &Program) -> Result<Vec<bool>, AllocError> {
+    let slots = program.slots();
+    let mut starts = vec![in alloc; false; slots]?;
+    mark(&mut starts, 0);
+    for slot in 0..slots {
+        if let Some(insn) = program.get(slot) {
+            if let Some(to) = target_at(program, slot) {
+                mark(&mut starts, to);
+            }
+            if ends_block(insn) {
+                mark(&mut starts, slot.saturating_add(insn.slots()));
+            }
+        }
+    }
+    Ok(starts)
+}

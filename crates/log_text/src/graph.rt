@@ -1,0 +1,224 @@
+//! The control flow as a graph, in the language of Graphviz.
+
+use crate::control::{block_starts, target_at};
+use crate::lines::Story;
+use crate::needs::{Refusal, write_refusal};
+use crate::recorder::Step;
+use bpf_text::write_insn;
+use insn_codec::Insn;
+use std::alloc::{AllocError, Global};
+use std::fmt::Write;
+use verdict::falls;
+
+/// How an edge is drawn that no run takes, and a block that none comes to.
+const UNREACHED: &str = "style=dashed, color=gray50, fontcolor=gray50";
+
+/// What is known of an edge.
+#[derive(Clone, Copy)]
+enum Edge<'a> {
+    /// Nothing: the pass was not made.
+    Untold,
+    /// A run may take it, and this is new on it.
+    Taken(&'a str),
+    /// No run takes it.
+    Dead,
+}
+
+/// What the pass told of an edge.
+fn edge_of<'a>(story: &Story<'_>, told: Option<&'a String>) -> Edge<'a> {
+    match told {
+        Some(text) => Edge::Taken(text.as_str()),
+        None if story.is_told => Edge::Dead,
+        None => Edge::Untold,
+    }
+}
+
+/// A block, and what is written of it so far.
+#[derive(Drop)]
+struct Block {
+    /// Its first slot.
+    first: usize,
+    /// Whether a run may come to it.
+    is_reached: bool,
+    /// Whether its last instruction is refused.
+    is_refused: bool,
+}
+
+/// Writes an edge.
+fn write_edge(
+    text: &mut String,
+    from: usize,
+    to: usize,
+    name: &str,
+    edge: Edge<'_>,
+) -> Result<(), AllocError> {
+    write!(text, "    block_{from} -> block_{to}")?;
+    match edge {
+        Edge::Dead => write!(text, " [{UNREACHED}]")?,
+        Edge::Taken(told) if !told.is_empty() => {
+            write!(text, " [label=\"{name}:\\n{told}\"]")?;
+        }
+        _ if name.is_empty() => {}
+        _ => write!(text, " [label=\"{name}\"]")?,
+    }
+    text.push_str(";\n")
+}
+
+/// Writes the edges out of a block, by its last instruction.
+fn write_edges(
+    text: &mut String,
+    story: &Story<'_>,
+    first: usize,
+    slot: usize,
+    insn: &Insn,
+    step: Option<&Step>,
+) -> Result<(), AllocError> {
+    let program = story.program;
+    let (not_taken, taken) = match insn {
+        Insn::Jump { .. } => ("not taken", "taken"),
+        _ => ("", ""),
+    };
+    let next = slot.saturating_add(insn.slots());
+    if falls(insn) && program.is_first(next) {
+        let told = step.and_then(|step| step.falling.as_ref());
+        write_edge(text, first, next, not_taken, edge_of(story, told))?;
+    }
+    match target_at(program, slot) {
+        Some(to) if program.is_first(to) => {
+            let told = step.and_then(|step| step.jumping.as_ref());
+            write_edge(text, first, to, taken, edge_of(story, told))
+        }
+        _ => Ok(()),
+    }
+}
+
+/// Writes the lines of a text into a label, each from its left end.
+fn write_label(text: &mut String, lines: &str) -> Result<(), AllocError> {
+    for line in lines.lines() {
+        write!(text, "{line}\\l")?;
+    }
+    Ok(())
+}
+
+/// The graph that is written.
+#[derive(Drop)]
+struct Graph<'a> {
+    alloc: Global,
+    story: &'a Story<'a>,
+    refusal: Option<&'a Refusal<'a>>,
+    /// For each slot whether a block begins there.
+    starts: Vec<bool>,
+    /// Which step is the next one.
+    next: usize,
+    block: Block,
+}
+
+impl<'a> Graph<'a> {
+    /// Whether a block begins at a slot. Behind the last one, one would.
+    fn is_start(&self, slot: usize) -> bool {
+        self.starts.get(slot).copied().unwrap_or(true)
+    }
+
+    /// What was told of the instruction at a slot, and the next step is the one behind it.
+    fn step_at(&mut self, slot: usize) -> Option<&'a Step> {
+        let step = self.story.steps.get(self.next)?;
+        if step.slot != slot {
+            return None;
+        }
+        self.next = self.next.saturating_add(1);
+        Some(step)
+    }
+
+    /// Writes the beginning of a block.
+    fn begin(
+        &mut self,
+        text: &mut String,
+        slot: usize,
+        is_reached: bool,
+    ) -> Result<(), AllocError> {
+        self.block = Block {
+            first: slot,
+            is_reached,
+            is_refused: false,
+        };
+        write!(text, "    block_{slot} [label=\"")
+    }
+
+    /// Writes the verdict into the label, if this is the instruction that is refused.
+    fn write_fault(&mut self, text: &mut String, slot: usize) -> Result<(), AllocError> {
+        match self.refusal {
+            Some(refusal) if refusal.fault.slot == slot => {
+                let mut lines = String::new(self.alloc);
+                write_refusal(&mut lines, refusal, ":\n")?;
+                self.block.is_refused = true;
+                write_label(text, lines.as_str())
+            }
+            _ => Ok(()),
+        }
+    }
+
+    /// Writes the end of a block.
+    fn end(&self, text: &mut String) -> Result<(), AllocError> {
+        text.push_str("\"")?;
+        if self.block.is_refused {
+            text.push_str(", color=red, penwidth=2")?;
+        } else if self.story.is_told && !self.block.is_reached {
+            write!(text, ", {UNREACHED}")?;
+        }
+        text.push_str("];\n")
+    }
+
+    /// Writes the instruction at a slot, and what begins and ends there.
+    fn write_slot(
+        &mut self,
+        text: &mut String,
+        slot: usize,
+        insn: &Insn,
+    ) -> Result<(), AllocError> {
+        let step = self.step_at(slot);
+        if self.is_start(slot) {
+            self.begin(text, slot, step.is_some())?;
+        }
+        write!(text, "{slot}: ")?;
+        write_insn(text, insn)?;
+        text.push_str("\\l")?;
+        self.write_fault(text, slot)?;
+        if self.is_start(slot.saturating_add(insn.slots())) {
+            self.end(text)?;
+            let step = step.filter(|_| !self.block.is_refused);
+            write_edges(text, self.story, self.block.first, slot, insn, step)?;
+        }
+        Ok(())
+    }
+}
+
+/// Writes the graph of a program: its basic blocks with their instructions, and the edges between them with what is new there.
+/// Dashed are those that no run comes to, as far as the pass went; the block with the instruction that is refused is red.
+pub(crate) fn write_graph(
+    text: &mut String,
+    alloc: Global,
+    story: &Story<'_>,
+    refusal: Option<&Refusal<'_>>,
+) -> Result<(), AllocError> {
+    let mut graph = Graph {
+        alloc,
+        story,
+        refusal,
+        starts: block_starts(alloc, story.program)?,
+        next: 0,
+        block: Block {
+            first: 0,
+            is_reached: false,
+            is_refused: false,
+        },
+    };
+    text.push_str("digraph program {\n")?;
+    text.push_str("    node [shape=box, fontname=\"monospace\"];\n")?;
+    text.push_str("    edge [fontname=\"monospace\"];\n")?;
+    for slot in 0..story.program.slots() {
+        if let Some(insn) = story.program.get(slot) {
+            graph.write_slot(text, slot, insn)?;
+        }
+    }
+    text.push_str("}\n")
+}

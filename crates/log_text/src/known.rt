@@ -1,0 +1,218 @@
+//! How facts are written: what is known of registers and of the stack, as far as it differs from what was known before.
+
+ghost use Rattle.std.specs.Prelude.{◌<◌};
+
+use crate::kinds::write_kind;
+use reg_kinds::{Facts, Kind, REGISTERS, STACK_SLOTS, Slot};
+use std::alloc::AllocError;
+use std::fmt::Write;
+
+/// Facts that say nothing.
+pub(crate) fn nothing_known() -> Facts {
+    Facts {
+        registers: [Kind::Unreadable; REGISTERS],
+        slots: [Slot::Bytes(0); STACK_SLOTS],
+    }
+}
+
+/// Parts a note from what stands before it since a place in the text.
+pub(crate) fn part(text: &mut String, start: usize) -> Result<(), AllocError> {
+    if text.len() > start {
+        text.push_str("; ")
+    } else {
+        Ok(())
+    }
+}
+
+/// Writes the registers of which something else is known.
+fn write_registers(
+    text: &mut String,
+    start: usize,
+    old: &Facts,
+    new: &Facts,
+) -> Result<(), AllocError> {
+    for number in 0..REGISTERS {
+        let kind = new.kind(number);
+        if kind != Kind::Unreadable && kind != old.kind(number) {
+            part(text, start)?;
+            write!(text, "r{number} = ")?;
+            write_kind(text, kind)?;
+        }
+    }
+    Ok(())
+}
+
+/// Writes the registers of which nothing is known any more.
+fn write_lost_registers(
+    text: &mut String,
+    start: usize,
+    old: &Facts,
+    new: &Facts,
+) -> Result<(), AllocError> {
+    let mut are_more = false;
+    for number in 0..REGISTERS {
+        if new.kind(number) == Kind::Unreadable && old.kind(number) != Kind::Unreadable {
+            if are_more {
+                text.push_str(", ")?;
+            } else {
+                part(text, start)?;
+            }
+            write!(text, "r{number}")?;
+            are_more = true;
+        }
+    }
+    if are_more {
+        text.push_str(" lost")
+    } else {
+        Ok(())
+    }
+}
+
+/// The bytes of a slot that are written now and were not before, as a mask.
+fn written(old: Slot, new: Slot) -> u8 {
+    match (old, new) {
+        (Slot::Bytes(before), Slot::Bytes(after)) => after & !before,
+        (Slot::Spill(_), Slot::Bytes(after)) => after,
+        (_, Slot::Spill(_)) => 0,
+    }
+}
+
+/// The bytes of a slot that may not be read any more, as a mask.
+fn lost(old: Slot, new: Slot) -> u8 {
+    match (old, new) {
+        (Slot::Bytes(before), Slot::Bytes(after)) => before & !after,
+        (Slot::Spill(_), Slot::Bytes(after)) => !after,
+        (_, Slot::Spill(_)) => 0,
+    }
+}
+
+/// The offset of a slot's lowest byte from the stack's upper end.
+fn lowest_byte(index: usize) -> i64
+    requires { index < STACK_SLOTS }
+{
+    8 * index as i64 - 8 * STACK_SLOTS as i64
+}
+
+/// Bytes of the stack in a row, which are not written yet.
+#[derive(Drop)]
+struct Row {
+    /// The place in the text where notes begin.
+    start: usize,
+    /// The first byte.
+    first: i64,
+    /// The byte behind the last: there are none if it is the first.
+    end: i64,
+}
+
+impl Row {
+    /// Writes the bytes, and what became of them.
+    fn write(&self, text: &mut String, what: &str) -> Result<(), AllocError> {
+        if self.first == self.end {
+            return Ok(());
+        }
+        let (first, last) = (self.first, self.end.saturating_sub(1));
+        part(text, self.start)?;
+        if first == last {
+            write!(text, "stack {first} {what}")
+        } else {
+            write!(text, "stack {first} to {last} {what}")
+        }
+    }
+
+    /// Takes one more byte. Where it does not follow the others, they are written.
+    fn take(&mut self, text: &mut String, what: &str, byte: i64) -> Result<(), AllocError> {
+        if byte != self.end {
+            self.write(text, what)?;
+            self.first = byte;
+        }
+        self.end = byte.saturating_add(1);
+        Ok(())
+    }
+
+    /// Takes the bytes of a slot that a mask has.
+    fn take_slot(
+        &mut self,
+        text: &mut String,
+        what: &str,
+        index: usize,
+        mask: u8,
+    ) -> Result<(), AllocError>
+        requires { index < STACK_SLOTS }
+    {
+        let lowest = lowest_byte(index);
+        for bit in 0..8_u8 {
+            if mask & (1 << bit) != 0 {
+                self.take(text, what, lowest.saturating_add(i64::from(bit)))?;
+            }
+        }
+        Ok(())
+    }
+}
+
+/// Writes the stack's bytes that may be read now, or that may not be read any more.
+fn write_stack_bytes(
+    text: &mut String,
+    start: usize,
+    old: &Facts,
+    new: &Facts,
+    are_lost: bool,
+) -> Result<(), AllocError> {
+    let what = if are_lost { "lost" } else { "written" };
+    let mut row = Row {
+        start,
+        first: 0,
+        end: 0,
+    };
+    for index in 0..STACK_SLOTS {
+        let (before, after) = (old.slot(index), new.slot(index));
+        let mask = if are_lost {
+            lost(before, after)
+        } else {
+            written(before, after)
+        };
+        if mask != 0 {
+            row.take_slot(text, what, index, mask)?;
+        }
+    }
+    row.write(text, what)
+}
+
+/// Writes the values that lie whole in the stack, where that is new.
+fn write_spills(
+    text: &mut String,
+    start: usize,
+    old: &Facts,
+    new: &Facts,
+) -> Result<(), AllocError> {
+    for index in 0..STACK_SLOTS {
+        let slot = new.slot(index);
+        if let Slot::Spill(kind) = slot
+            && slot != old.slot(index)
+        {
+            let first = lowest_byte(index);
+            let last = first.saturating_add(7);
+            part(text, start)?;
+            write!(text, "stack {first} to {last} = ")?;
+            write_kind(text, kind)?;
+        }
+    }
+    Ok(())
+}
+
+/// Writes what is known and was not, and what was known and is not any more, behind the notes that begin at a place in the
+/// text.
+pub(crate) fn write_known(
+    text: &mut String,
+    start: usize,
+    old: &Facts,
+    new: &Facts,
+) -> Result<(), AllocError> {
+    write_registers(text, start, old, new)?;
+    write_lost_registers(text, start, old, new)?;
+    if old.slots == new.slots {
+        return Ok(());
+    }
+    write_spills(text, start, old, new)?;
+    write_stack_bytes(text, start, old, new, false)?;
+    write_stack_bytes(text, start, old, new, true)
+}

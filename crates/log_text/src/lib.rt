@@ -1,0 +1,18 @@
+//! What the verifier knows, as text: a log of a program, line by line, and its control flow as a graph.
+#![tactic(auto)]
+
+mod arguments;
+mod control;
+mod graph;
+mod kinds;
+mod known;
+mod lines;
+mod log;
+mod needs;
+mod reasons;
+mod recorder;
+mod running;
+mod ways;
+
+pub use log::{Log, LogStyle, log_of};
+pub use running::run_log_words;

@@ -1,0 +1,346 @@
+//! Accesses of the stack, of the context and of maps' values.
+
+use crate::kinds::{write_bytes, write_kind};
+use crate::needs::Refusal;
+use crate::needs::arithmetic::write_maybe_null;
+use crate::needs::registers::{kind_of, register_of, write_register};
+use crate::ways::{Wanted, is_written, write_way};
+use insn_codec::Insn;
+use reg_kinds::{Facts, Kind, Reason, STACK_SLOTS, Slot, ValuePointer};
+use std::alloc::AllocError;
+use std::fmt::Write;
+use tagged_model::{Named, access_size, shape_of};
+
+/// What an access does.
+#[derive(Clone, Copy, Debug, PartialEq, Eq)]
+enum Deed {
+    Load,
+    /// A load that extends the sign.
+    SignedLoad,
+    Store,
+    Change,
+}
+
+impl Deed {
+    /// It in words.
+    fn verb(self) -> &'static str {
+        match self {
+            Deed::Load | Deed::SignedLoad => "reads",
+            Deed::Store => "writes",
+            Deed::Change => "changes",
+        }
+    }
+}
+
+/// An access of memory, as an instruction makes it.
+#[derive(Clone, Copy)]
+struct Access {
+    /// The register that has the address, and how far behind it the bytes begin.
+    base: u8,
+    offset: i64,
+    bytes: i64,
+    /// The register that a store or an atomic operation is given, if it is one.
+    given: Option<u8>,
+    deed: Deed,
+}
+
+/// The access that an instruction makes.
+fn access_of(insn: &Insn) -> Option<Access> {
+    match *insn {
+        Insn::Load(ref load) => Some(Access {
+            base: load.src.number(),
+            offset: i64::from(load.off),
+            bytes: i64::from(access_size(load.size).bytes()),
+            given: None,
+            deed: if load.signed {
+                Deed::SignedLoad
+            } else {
+                Deed::Load
+            },
+        }),
+        Insn::Store {
+            size,
+            dst,
+            src,
+            off,
+        } => Some(Access {
+            base: dst.number(),
+            offset: i64::from(off),
+            bytes: i64::from(access_size(size).bytes()),
+            given: register_of(src),
+            deed: Deed::Store,
+        }),
+        Insn::Atomic {
+            size,
+            dst,
+            src,
+            off,
+            ..
+        } => Some(Access {
+            base: dst.number(),
+            offset: i64::from(off),
+            bytes: i64::from(access_size(size.access()).bytes()),
+            given: Some(src.number()),
+            deed: Deed::Change,
+        }),
+        _ => None,
+    }
+}
+
+/// The first and the last byte that an access may touch, from where its pointer's object begins, or from the stack's upper end.
+fn touched(access: Access, kind: Kind) -> (i64, i64) {
+    let (low, high) = match kind {
+        Kind::Stack(offset) => (offset, offset),
+        Kind::Value(pointer) => (pointer.lo, pointer.hi),
+        _ => (0, 0),
+    };
+    let first = i64::from(low).saturating_add(access.offset);
+    let last = i64::from(high)
+        .saturating_add(access.offset)
+        .saturating_add(access.bytes)
+        .saturating_sub(1);
+    (first, last)
+}
+
+/// Writes bytes of the stack that lie outside of it.
+pub(crate) fn write_outside_stack(
+    text: &mut String,
+    verb: &str,
+    first: i64,
+    last: i64,
+) -> Result<(), AllocError> {
+    write!(text, "it {verb} ")?;
+    write_bytes(text, first, last)?;
+    text.push_str(" of the stack, whose bytes are -512 to -1")
+}
+
+/// The first and the last of some bytes of the stack that may not be written.
+fn unwritten(facts: &Facts, first: i64, last: i64) -> (i64, i64) {
+    let mut lowest = None;
+    let mut highest = last;
+    for byte in first..=last {
+        if !is_written(facts, byte) {
+            highest = byte;
+            if lowest.is_none() {
+                lowest = Some(byte);
+            }
+        }
+    }
+    (lowest.unwrap_or(first), highest)
+}
+
+/// Writes bytes of the stack that may not be written, and why.
+pub(crate) fn write_unwritten(
+    text: &mut String,
+    refusal: &Refusal<'_>,
+    first: i64,
+    last: i64,
+) -> Result<(), AllocError> {
+    let (first, last) = unwritten(refusal.facts, first, last);
+    write_bytes(text, first, last)?;
+    text.push_str(" of the stack ")?;
+    write_way(text, refusal, Wanted::Stack { first, last })
+}
+
+/// The first spilled value of which some bytes of the stack are a part, with its lowest byte.
+fn spill_among(facts: &Facts, first: i64, last: i64) -> Option<(i64, Kind)> {
+    for index in 0..STACK_SLOTS {
+        let lowest = 8 * index as i64 - 8 * STACK_SLOTS as i64;
+        if let Slot::Spill(kind) = facts.slot(index)
+            && lowest <= last
+            && first <= lowest + 7
+        {
+            return Some((lowest, kind));
+        }
+    }
+    None
+}
+
+/// Writes which spilled value bytes of the stack are a part of.
+pub(crate) fn write_part_of_spill(
+    text: &mut String,
+    facts: &Facts,
+    verb: &str,
+    first: i64,
+    last: i64,
+) -> Result<(), AllocError> {
+    write!(text, "it {verb} ")?;
+    write_bytes(text, first, last)?;
+    text.push_str(" of the stack")?;
+    match spill_among(facts, first, last) {
+        Some((lowest, kind)) => {
+            let highest = lowest.saturating_add(7);
+            write!(
+                text,
+                ", and bytes {lowest} to {highest} are a spilled pointer ("
+            )?;
+            write_kind(text, kind)?;
+            text.push_str("), which a load of these 8 bytes alone reads")
+        }
+        None => Ok(()),
+    }
+}
+
+/// Writes that a pointer is stored by less than eight bytes.
+fn write_part_stored(
+    text: &mut String,
+    facts: &Facts,
+    register: u8,
+    bytes: i64,
+) -> Result<(), AllocError> {
+    write_register(text, facts, register)?;
+    write!(text, ", and is stored by 8 bytes, not by {bytes}")
+}
+
+/// Writes bytes of a map's value that lie outside of it.
+pub(crate) fn write_outside_value(
+    text: &mut String,
+    named: &[Named],
+    verb: &str,
+    map: u32,
+    first: i64,
+    last: i64,
+) -> Result<(), AllocError> {
+    write!(text, "it {verb} ")?;
+    write_bytes(text, first, last)?;
+    let size = shape_of(named, map).map_or(0, |shape| shape.value_size);
+    write!(text, " of a value of {size} bytes (map {map})")
+}
+
+/// Writes what an access to the context does that is no load of one of its words.
+fn write_context(text: &mut String, access: Access) -> Result<(), AllocError> {
+    let (verb, bytes, offset) = (access.deed.verb(), access.bytes, access.offset);
+    let sign = match access.deed {
+        Deed::Load => "",
+        Deed::SignedLoad => " with their sign",
+        _ => return write!(text, "it {verb} the context, which may be read only"),
+    };
+    let many = if bytes == 1 { "byte" } else { "bytes" };
+    write!(
+        text,
+        "it {verb} {bytes} {many}{sign} at offset {offset} of the context, "
+    )?;
+    text.push_str("where words of 4 bytes are read at 0, 4, .. 40")
+}
+
+/// Writes what is known of the register that is given, which has to be a number.
+fn write_given(
+    text: &mut String,
+    facts: &Facts,
+    given: Option<u8>,
+    needed: &str,
+) -> Result<(), AllocError> {
+    match given {
+        Some(register) => {
+            write_register(text, facts, register)?;
+            text.push_str(needed)
+        }
+        None => Ok(()),
+    }
+}
+
+/// Writes at what place in a value an atomic operation is.
+fn write_unaligned_atomic(
+    text: &mut String,
+    access: Access,
+    pointer: ValuePointer,
+) -> Result<(), AllocError> {
+    let (map, bytes) = (pointer.map, access.bytes);
+    let low = i64::from(pointer.lo).saturating_add(access.offset);
+    let high = i64::from(pointer.hi).saturating_add(access.offset);
+    write!(text, "it changes {bytes} bytes at offset {low}")?;
+    if low == high {
+        write!(text, " of a value (map {map}), no multiple of {bytes}")
+    } else {
+        write!(
+            text,
+            " to {high} of a value (map {map}), and one offset has to be known"
+        )
+    }
+}
+
+/// Writes what is known of an access of the stack, against what it needs.
+fn write_stack_need(
+    text: &mut String,
+    refusal: &Refusal<'_>,
+    access: Access,
+    first: i64,
+    last: i64,
+) -> Result<(), AllocError> {
+    let (verb, bytes) = (access.deed.verb(), access.bytes);
+    match (refusal.fault.reason, access.given) {
+        (Reason::OutsideStack, _) => write_outside_stack(text, verb, first, last),
+        (Reason::UnalignedStack, _) => {
+            write!(
+                text,
+                "it {verb} {bytes} bytes at {first} of the stack, no multiple of {bytes}"
+            )
+        }
+        (Reason::UnwrittenStack, _) => write_unwritten(text, refusal, first, last),
+        (_, Some(register)) if access.deed == Deed::Store => {
+            write_part_stored(text, refusal.facts, register, bytes)
+        }
+        _ => write_part_of_spill(text, refusal.facts, verb, first, last),
+    }
+}
+
+/// Writes what is known of an access, against what it needs.
+fn write_access_need(
+    text: &mut String,
+    refusal: &Refusal<'_>,
+    access: Access,
+) -> Result<(), AllocError> {
+    let facts = refusal.facts;
+    let kind = kind_of(facts, access.base);
+    let (first, last) = touched(access, kind);
+    match (refusal.fault.reason, kind) {
+        (Reason::MaybeNull, _) => write_maybe_null(text, access.base),
+        (Reason::ContextAccess, _) => write_context(text, access),
+        (Reason::PointerStored, _) => {
+            write_given(
+                text,
+                facts,
+                access.given,
+                ", and numbers alone are stored in a value",
+            )
+        }
+        (Reason::PointerArithmetic, _) => {
+            write_given(
+                text,
+                facts,
+                access.given,
+                ", and an atomic operation takes a number",
+            )
+        }
+        (Reason::UnalignedAtomic, Kind::Value(pointer)) => {
+            write_unaligned_atomic(text, access, pointer)
+        }
+        (Reason::OutsideValue, Kind::Value(pointer)) => {
+            write_outside_value(
+                text,
+                refusal.named,
+                access.deed.verb(),
+                pointer.map,
+                first,
+                last,
+            )
+        }
+        (Reason::NotPointer, _) => {
+            write_register(text, facts, access.base)?;
+            text.push_str(", and a pointer to the stack, to the context or into a value is needed")
+        }
+        _ => write_stack_need(text, refusal, access, first, last),
+    }
+}
+
+/// Writes what is known of the access that an instruction makes, against what it needs.
+pub(crate) fn write_need(
+    text: &mut String,
+    refusal: &Refusal<'_>,
+    insn: &Insn,
+) -> Result<(), AllocError> {
+    match access_of(insn) {
+        Some(access) => write_access_need(text, refusal, access),
+        None => Ok(()),
+    }
+}

@@ -1,0 +1,202 @@
+//! Arguments of helpers.
+
+use crate::kinds::write_range;
+use crate::needs::Refusal;
+use crate::needs::access::{
+    write_outside_stack, write_outside_value, write_part_of_spill, write_unwritten,
+};
+use crate::needs::arithmetic::write_maybe_null;
+use crate::needs::registers::{kind_of, write_register};
+use reg_kinds::{Facts, Kind, Reason, read_many};
+use std::alloc::AllocError;
+use std::fmt::Write;
+use tagged_model::{Helper, Named, known_helper, shape_of};
+
+/// A length that is handed to a helper lies below this: 2^29 bytes.
+const LENGTHS_END: u64 = 0x2000_0000;
+
+/// What an argument is for.
+#[derive(Clone, Copy, Debug, PartialEq, Eq)]
+enum Role {
+    Map,
+    Context,
+    Number,
+    Length,
+    /// Bytes that are read: a key, or a value.
+    Key,
+    Value,
+    /// Bytes that are written, as many as the length says.
+    Room,
+}
+
+/// An argument: its register, and what it is for.
+#[derive(Clone, Copy, Debug, PartialEq, Eq)]
+struct Argument {
+    register: u8,
+    role: Role,
+}
+
+/// The argument that a helper looks at so many others after the first, in its order.
+fn argument_at(helper: Helper, place: u8) -> Option<Argument> {
+    let (register, role) = match (helper, place) {
+        (Helper::LoadBytes, 0) => (1, Role::Context),
+        (Helper::LoadBytes, 1) => (2, Role::Number),
+        (Helper::LoadBytes, 2) => (4, Role::Length),
+        (Helper::LoadBytes, 3) => (3, Role::Room),
+        (_, 0) => (1, Role::Map),
+        (_, 1) => (2, Role::Key),
+        (Helper::Update, 2) => (3, Role::Value),
+        (Helper::Update, 3) => (4, Role::Number),
+        _ => return None,
+    };
+    Some(Argument { register, role })
+}
+
+/// How many bytes an argument points to: a key's or a value's by the map in register 1, and room for the length in register 4.
+fn count_of(named: &[Named], facts: &Facts, role: Role) -> u32 {
+    let (map, length) = (kind_of(facts, 1), kind_of(facts, 4));
+    match (role, map, length) {
+        (Role::Key, Kind::MapRef(fd), _) => shape_of(named, fd).map_or(0, |shape| shape.key_size),
+        (Role::Value, Kind::MapRef(fd), _) => {
+            shape_of(named, fd).map_or(0, |shape| shape.value_size)
+        }
+        (Role::Room, _, Kind::Scalar(range)) => u32::try_from(range.hi).unwrap_or(0),
+        _ => 0,
+    }
+}
+
+/// The first and the last byte that an argument points to.
+fn touched(kind: Kind, count: u32) -> (i64, i64) {
+    let (low, high) = match kind {
+        Kind::Stack(offset) => (offset, offset),
+        Kind::Value(pointer) => (pointer.lo, pointer.hi),
+        _ => (0, 0),
+    };
+    let last = i64::from(high)
+        .saturating_add(i64::from(count))
+        .saturating_sub(1);
+    (i64::from(low), last)
+}
+
+/// Whether bytes do not all lie in the stack.
+fn is_outside_stack(first: i64, last: i64) -> bool {
+    first < -512 || last > -1
+}
+
+/// Why bytes that an argument points to may not be read, or written.
+fn bytes_reason(named: &[Named], facts: &Facts, role: Role, kind: Kind) -> Option<Reason> {
+    let count = count_of(named, facts, role);
+    let (first, last) = touched(kind, count);
+    match kind {
+        Kind::Stack(_) if role == Role::Room && is_outside_stack(first, last) => {
+            Some(Reason::OutsideStack)
+        }
+        Kind::Stack(_) if role == Role::Room => None,
+        Kind::Stack(offset) => read_many(facts, offset, count).err(),
+        Kind::Value(pointer) => {
+            let size = shape_of(named, pointer.map).map_or(0, |shape| shape.value_size);
+            if first < 0 || last >= i64::from(size) {
+                Some(Reason::OutsideValue)
+            } else {
+                None
+            }
+        }
+        Kind::MaybeValue { .. } => Some(Reason::MaybeNull),
+        _ => Some(Reason::HelperArgument),
+    }
+}
+
+/// Why an argument is refused, if it is.
+fn argument_reason(named: &[Named], facts: &Facts, argument: Argument) -> Option<Reason> {
+    let kind = kind_of(facts, argument.register);
+    match (argument.role, kind) {
+        (Role::Map, Kind::MapRef(_)) => None,
+        (Role::Context, Kind::Ctx) => None,
+        (Role::Number, Kind::Scalar(_)) => None,
+        (Role::Length, Kind::Scalar(range)) if range.lo == 0 || range.hi >= LENGTHS_END => {
+            Some(Reason::LengthUnbounded)
+        }
+        (Role::Length, Kind::Scalar(_)) => None,
+        (Role::Map | Role::Context | Role::Number | Role::Length, _) => {
+            Some(Reason::HelperArgument)
+        }
+        (role, kind) => bytes_reason(named, facts, role, kind),
+    }
+}
+
+/// The argument that is refused: the first one.
+fn refused_argument(refusal: &Refusal<'_>, helper: Helper) -> Option<Argument> {
+    for place in 0..4 {
+        if let Some(argument) = argument_at(helper, place)
+            && argument_reason(refusal.named, refusal.facts, argument).is_some()
+        {
+            return Some(argument);
+        }
+    }
+    None
+}
+
+/// What an argument has to be.
+fn needed(role: Role) -> &'static str {
+    match role {
+        Role::Map => ", and a map is needed",
+        Role::Context => ", and the context is needed",
+        Role::Number | Role::Length => ", and a number is needed",
+        Role::Key => ", and a pointer to a key in the stack or in a value is needed",
+        Role::Value => ", and a pointer to a value in the stack or in a value is needed",
+        Role::Room => ", and a pointer to room in the stack or in a value is needed",
+    }
+}
+
+/// Writes what is known of the length, against what it has to be.
+fn write_length(text: &mut String, kind: Kind) -> Result<(), AllocError> {
+    let Kind::Scalar(range) = kind else {
+        return Ok(());
+    };
+    let greatest = LENGTHS_END - 1;
+    text.push_str("r4 is ")?;
+    write_range(text, range)?;
+    write!(text, ", and a length is from 1 to {greatest}")
+}
+
+/// Writes what is known of an argument, against what it has to be.
+fn write_argument(
+    text: &mut String,
+    refusal: &Refusal<'_>,
+    argument: Argument,
+) -> Result<(), AllocError> {
+    let (register, role, facts) = (argument.register, argument.role, refusal.facts);
+    let kind = kind_of(facts, register);
+    let (first, last) = touched(kind, count_of(refusal.named, facts, role));
+    let verb = if role == Role::Room {
+        "writes"
+    } else {
+        "reads"
+    };
+    match (refusal.fault.reason, kind) {
+        (Reason::LengthUnbounded, _) => write_length(text, kind),
+        (Reason::MaybeNull, _) => write_maybe_null(text, register),
+        (Reason::OutsideStack, _) => write_outside_stack(text, verb, first, last),
+        (Reason::UnwrittenStack, _) => write_unwritten(text, refusal, first, last),
+        (Reason::PartOfSpill, _) => write_part_of_spill(text, facts, verb, first, last),
+        (Reason::OutsideValue, Kind::Value(pointer)) => {
+            write_outside_value(text, refusal.named, verb, pointer.map, first, last)
+        }
+        _ => {
+            write_register(text, facts, register)?;
+            text.push_str(needed(role))
+        }
+    }
+}
+
+/// Writes what is known of the arguments of a helper, against what they have to be.
+pub(crate) fn write_need(
+    text: &mut String,
+    refusal: &Refusal<'_>,
+    id: i32,
+) -> Result<(), AllocError> {
+    match known_helper(id).and_then(|helper| refused_argument(refusal, helper)) {
+        Some(argument) => write_argument(text, refusal, argument),
+        None => Ok(()),
+    }
+}

@@ -1,0 +1,124 @@
+//! Registers that may not be read, results and comparisons.
+
+use crate::kinds::write_kind;
+use crate::needs::Refusal;
+use crate::ways::{Wanted, write_way};
+use insn_codec::{AluOp, Insn, Operand, Reg};
+use reg_kinds::{Facts, Kind, REGISTERS};
+use std::alloc::AllocError;
+use std::fmt::Write;
+use tagged_model::{Helper, known_helper};
+
+/// The kind of a register, by its number.
+pub(crate) fn kind_of(facts: &Facts, register: u8) -> Kind {
+    let number = usize::from(register);
+    if number < REGISTERS {
+        facts.kind(number)
+    } else {
+        Kind::Unreadable
+    }
+}
+
+/// Writes a register, and what is known of it.
+pub(crate) fn write_register(
+    text: &mut String,
+    facts: &Facts,
+    register: u8,
+) -> Result<(), AllocError> {
+    write!(text, "r{register} is ")?;
+    write_kind(text, kind_of(facts, register))
+}
+
+/// The register of an operand, if it is one.
+pub(crate) fn register_of(src: Operand) -> Option<u8> {
+    match src {
+        Operand::Reg(reg) => Some(reg.number()),
+        Operand::Imm(_) => None,
+    }
+}
+
+/// How many arguments a helper has, in registers 1 and so on.
+fn argument_count(id: i32) -> u8 {
+    match known_helper(id) {
+        Some(Helper::LookUp | Helper::Delete) => 2,
+        Some(Helper::Update | Helper::LoadBytes) => 4,
+        None => 0,
+    }
+}
+
+/// The first of some registers that may not be read.
+fn unreadable_of(facts: &Facts, first: Option<u8>, second: Option<u8>) -> Option<u8> {
+    match first {
+        Some(register) if kind_of(facts, register) == Kind::Unreadable => first,
+        _ => second,
+    }
+}
+
+/// The first argument of a helper that may not be read.
+fn unreadable_argument(facts: &Facts, id: i32) -> Option<u8> {
+    for register in 1..=argument_count(id) {
+        if kind_of(facts, register) == Kind::Unreadable {
+            return Some(register);
+        }
+    }
+    None
+}
+
+/// The register that an instruction reads and may not.
+fn unreadable_in(facts: &Facts, insn: &Insn) -> Option<u8> {
+    match *insn {
+        Insn::Alu {
+            op: AluOp::Mov,
+            src,
+            ..
+        } => register_of(src),
+        Insn::Alu { dst, src, .. } | Insn::Jump { dst, src, .. } | Insn::Store { dst, src, .. } => {
+            unreadable_of(facts, Some(dst.number()), register_of(src))
+        }
+        Insn::Movsx(ref moved) => Some(moved.src.number()),
+        Insn::Neg { dst, .. } | Insn::End { dst, .. } => Some(dst.number()),
+        Insn::Atomic { dst, src, .. } => {
+            unreadable_of(facts, Some(dst.number()), Some(src.number()))
+        }
+        Insn::Load(ref load) => Some(load.src.number()),
+        Insn::Call { id } => unreadable_argument(facts, id),
+        Insn::Exit => Some(0),
+        _ => None,
+    }
+}
+
+/// Writes which register is read that may hold anything, and why nothing is known of it.
+pub(crate) fn write_unreadable(
+    text: &mut String,
+    refusal: &Refusal<'_>,
+    insn: &Insn,
+) -> Result<(), AllocError> {
+    match unreadable_in(refusal.facts, insn) {
+        Some(register) => {
+            write!(text, "r{register} ")?;
+            write_way(text, refusal, Wanted::Register(register))
+        }
+        None => Ok(()),
+    }
+}
+
+/// Writes what stands in register 0 at the exit.
+pub(crate) fn write_result(text: &mut String, refusal: &Refusal<'_>) -> Result<(), AllocError> {
+    write_register(text, refusal.facts, 0)?;
+    text.push_str(", and a number is needed")
+}
+
+/// Writes what is compared.
+pub(crate) fn write_comparison(
+    text: &mut String,
+    refusal: &Refusal<'_>,
+    dst: Reg,
+    src: Operand,
+) -> Result<(), AllocError> {
+    write_register(text, refusal.facts, dst.number())?;
+    if let Some(register) = register_of(src) {
+        text.push_str(" and ")?;
+        write_register(text, refusal.facts, register)?;
+    }
+    text.push_str(", and a pointer is compared by == or != with the constant 0 alone, by 64 bits")
+}

@@ -1,0 +1,109 @@
+//! Faults of a program's shape.
+
+use crate::needs::Refusal;
+use insn_codec::Insn;
+use reg_kinds::Reason;
+use std::alloc::AllocError;
+use std::fmt::Write;
+use tagged_model::{MapKind, Named, shape_of};
+use verdict::{descriptor, jump_offset};
+
+/// The slot that an instruction jumps to, which may be none of the program.
+fn far_target(insn: &Insn, slot: usize) -> i64 {
+    let from = i64::try_from(slot).unwrap_or(i64::MAX);
+    from.saturating_add(1)
+        .saturating_add(i64::from(jump_offset(insn)))
+}
+
+/// Writes where a jump leads that no instruction of the program begins.
+fn write_outside(text: &mut String, refusal: &Refusal<'_>, insn: &Insn) -> Result<(), AllocError> {
+    let (target, slots) = (
+        far_target(insn, refusal.fault.slot),
+        refusal.program.slots(),
+    );
+    if target < 0 || target >= slots as i64 {
+        let last = slots - 1;
+        write!(
+            text,
+            "it leads to slot {target}, and the slots are 0 to {last}"
+        )
+    } else {
+        write!(text, "it leads to slot {target}, a second half")
+    }
+}
+
+/// Writes where a jump leads that does not go forward.
+fn write_backward(text: &mut String, refusal: &Refusal<'_>, insn: &Insn) -> Result<(), AllocError> {
+    let target = far_target(insn, refusal.fault.slot);
+    write!(text, "it leads to slot {target}, and jumps go forward only")
+}
+
+/// The map that an instruction names.
+fn fd_of(insn: &Insn) -> u32 {
+    descriptor(insn).unwrap_or(0)
+}
+
+/// Writes why a value can't be loaded directly.
+fn write_no_value(text: &mut String, named: &[Named], insn: &Insn) -> Result<(), AllocError> {
+    let fd = fd_of(insn);
+    let (Some(shape), Insn::MapValue { off, .. }) = (shape_of(named, fd), *insn) else {
+        return write!(text, "descriptor {fd} names no map");
+    };
+    let (size, entries) = (shape.value_size, shape.max_entries);
+    if shape.kind == MapKind::Hash {
+        write!(
+            text,
+            "map {fd} is a hash map, and an array of one element is needed"
+        )
+    } else if entries != 1 {
+        write!(
+            text,
+            "map {fd} is an array of {entries} elements, and one is needed"
+        )
+    } else {
+        write!(
+            text,
+            "offset {off} is not in a value of {size} bytes (map {fd})"
+        )
+    }
+}
+
+/// Writes what is wrong with an instruction, whatever the registers hold.
+pub(crate) fn write_need(
+    text: &mut String,
+    refusal: &Refusal<'_>,
+    insn: &Insn,
+) -> Result<(), AllocError> {
+    let slot = refusal.fault.slot;
+    match refusal.fault.reason {
+        Reason::JumpOutside => write_outside(text, refusal, insn),
+        Reason::JumpBackward => write_backward(text, refusal, insn),
+        Reason::FallsOff => {
+            let next = refusal.program.slots();
+            write!(
+                text,
+                "there is no slot {next}: an exit is needed, or a jump"
+            )
+        }
+        Reason::Unreachable => write!(text, "none leads from slot 0 to slot {slot}"),
+        Reason::UnknownHelper => match *insn {
+            Insn::Call { id } => {
+                write!(
+                    text,
+                    "there is no helper {id}, and those are 1, 2, 3 and 26"
+                )
+            }
+            _ => Ok(()),
+        },
+        Reason::FramePointerWritten => text.push_str("r10 may be read only"),
+        Reason::DescriptorNotOpen => {
+            let fd = fd_of(insn);
+            write!(text, "descriptor {fd} names nothing, and a map is needed")
+        }
+        Reason::DescriptorNotMap => {
+            let fd = fd_of(insn);
+            write!(text, "descriptor {fd} names a program, and a map is needed")
+        }
+        _ => write_no_value(text, refusal.named, insn),
+    }
+}

@@ -1,0 +1,143 @@
+//! What the pass tells, kept as text.
+
+use crate::known::{nothing_known, write_known};
+use insn_codec::{Insn, Program};
+use reg_kinds::Facts;
+use std::alloc::{AllocError, Global};
+use tagged_model::Named;
+use transfer::{Flow, apply};
+use verifier::Watcher;
+
+/// An instruction that a run may come to.
+#[derive(Debug, Drop)]
+pub(crate) struct Step {
+    pub slot: usize,
+    /// What is known before it.
+    pub known: String,
+    /// What is new on the edge to the next instruction, where a run may take it.
+    pub falling: Option<String>,
+    /// What is new on the edge of its jump, where a run may take it.
+    pub jumping: Option<String>,
+}
+
+/// Keeps a note of each instruction that the pass comes to, in order.
+#[derive(Drop)]
+pub(crate) struct Recorder<'a> {
+    alloc: Global,
+    program: &'a Program,
+    named: &'a [Named],
+    /// Whether all that is known is noted, and not what is new alone.
+    is_whole: bool,
+    steps: Vec<Step>,
+    /// The facts from which those before an instruction are told apart: those before the last one, or none.
+    shown: Facts,
+    /// The facts before the last instruction.
+    last: Facts,
+    /// Room for the facts on its edges.
+    falling: Facts,
+    jumping: Facts,
+}
+
+impl<'a> Recorder<'a> {
+    /// Nothing is told yet of a program.
+    pub(crate) fn new(
+        alloc: Global,
+        program: &'a Program,
+        named: &'a [Named],
+        is_whole: bool,
+    ) -> Recorder<'a> {
+        Recorder {
+            alloc,
+            program,
+            named,
+            is_whole,
+            steps: Vec::new(alloc),
+            shown: nothing_known(),
+            last: nothing_known(),
+            falling: nothing_known(),
+            jumping: nothing_known(),
+        }
+    }
+
+    /// The facts before the last instruction that was told.
+    pub(crate) fn last(&self) -> &Facts {
+        &self.last
+    }
+
+    /// The notes.
+    pub(crate) fn into_steps(self) -> Vec<Step> {
+        let Recorder {
+            alloc: _,
+            program: _,
+            named: _,
+            is_whole: _,
+            steps,
+            shown: _,
+            last: _,
+            falling: _,
+            jumping: _,
+        } = self;
+        steps
+    }
+
+    /// What is new in the facts on an edge.
+    fn edge(&self, old: &Facts, new: &Facts) -> Result<String, AllocError> {
+        let mut text = String::new(self.alloc);
+        write_known(&mut text, 0, old, new)?;
+        Ok(text)
+    }
+
+    /// Notes the edges of a comparison.
+    fn branch(&mut self, step: &mut Step, insn: &Insn, facts: &Facts) -> Result<(), AllocError> {
+        self.falling = *facts;
+        let flow = apply(
+            &mut self.falling,
+            &mut self.jumping,
+            self.named,
+            step.slot,
+            insn,
+        );
+        if let Ok(Flow::Branches { falls, jumps }) = flow {
+            if falls {
+                step.falling = Some(self.edge(facts, &self.falling)?);
+            }
+            if jumps {
+                step.jumping = Some(self.edge(facts, &self.jumping)?);
+            }
+        }
+        Ok(())
+    }
+
+    /// Notes the edges of an instruction.
+    fn leave(&mut self, step: &mut Step, insn: &Insn, facts: &Facts) -> Result<(), AllocError> {
+        match insn {
+            Insn::Exit => {}
+            Insn::Ja { .. } | Insn::Jal { .. } => step.jumping = Some(String::new(self.alloc)),
+            Insn::Jump { .. } => self.branch(step, insn, facts)?,
+            _ => step.falling = Some(String::new(self.alloc)),
+        }
+        Ok(())
+    }
+}
+
+impl Watcher for Recorder<'_> {
+    fn before(&mut self, slot: usize, facts: &Facts) -> Result<(), AllocError> {
+        let mut known = String::new(self.alloc);
+        write_known(&mut known, 0, &self.shown, facts)?;
+        let mut step = Step {
+            slot,
+            known,
+            falling: None,
+            jumping: None,
+        };
+        if let Some(insn) = self.program.get(slot) {
+            self.leave(&mut step, insn, facts)?;
+        }
+        if !self.is_whole {
+            self.shown = *facts;
+        }
+        self.last = *facts;
+        self.steps.push(step)?;
+        Ok(())
+    }
+}

@@ -1,0 +1,117 @@
+//! The program: a program on its input, and the log on its output.
+
+use crate::arguments::{ProgramForm, form_of, parse_arguments, style_of};
+use crate::log::{Log, log_of};
+use clap::ArgMatches;
+use host::{Failure, hex_program, maps_named, text_program, whole_input};
+use insn_codec::Program;
+use std::alloc::{AllocError, Global};
+use std::io::{Read, Write};
+use tagged_model::Named;
+
+/// What the program writes, and the status that it ends with.
+#[derive(Drop)]
+struct Answer {
+    text: String,
+    status: u8,
+}
+
+/// The maps that the arguments name.
+fn maps_given(alloc: Global, matches: &ArgMatches<'_>) -> Result<Vec<Named>, Failure> {
+    match matches.get_strs("map") {
+        Some(arguments) => maps_named(alloc, arguments),
+        None => Ok(Vec::new(alloc)),
+    }
+}
+
+/// The program on an input.
+fn program_in(alloc: Global, matches: &ArgMatches<'_>, input: &[u8]) -> Result<Program, Failure> {
+    match form_of(matches, input) {
+        ProgramForm::Hex => hex_program(alloc, input),
+        ProgramForm::Text => text_program(alloc, input),
+    }
+}
+
+/// The answer to an input whose slots are no program: the line that `verify` writes.
+fn no_program(alloc: Global, slot: usize, kind: u16) -> Result<Answer, Failure> {
+    let reason = 100 + u32::from(kind);
+    Ok(Answer {
+        text: format!(in alloc; "refused: slot {slot} reason {reason}\n")?,
+        status: 1,
+    })
+}
+
+/// The log of the program on an input.
+fn log_answer<I: Read + Drop>(
+    alloc: Global,
+    matches: &ArgMatches<'_>,
+    input: I,
+) -> Result<Answer, Failure> {
+    let maps = maps_given(alloc, matches)?;
+    let input = whole_input(alloc, input)?;
+    match program_in(alloc, matches, &input) {
+        Ok(program) => {
+            let Log { text, is_accepted } = log_of(alloc, &program, &maps, style_of(matches))?;
+            let status = if is_accepted { 0 } else { 1 };
+            Ok(Answer { text, status })
+        }
+        Err(Failure::Slot { slot, kind }) => no_program(alloc, slot, kind),
+        Err(failure) => Err(failure),
+    }
+}
+
+/// What the arguments ask for: the log, or help, or the version.
+fn answer_of<I: Read + Drop>(
+    alloc: Global,
+    arguments: &[&str],
+    input: I,
+) -> Result<Answer, Failure> {
+    match parse_arguments(alloc, arguments) {
+        Ok(matches) => log_answer(alloc, &matches, input),
+        Err(error) if error.use_stderr() => Err(Failure::from(error)),
+        Err(error) => Ok(Answer {
+            text: error.to_string(alloc)?,
+            status: 0,
+        }),
+    }
+}
+
+/// Writes a text, and sends it on.
+fn write_out<O: Write>(output: &mut O, text: &str) -> Result<(), Failure> {
+    if output.write_all(text.as_bytes()).is_err() || output.flush().is_err() {
+        return Err(Failure::Write);
+    }
+    Ok(())
+}
+
+/// Answers the arguments, and says the status.
+fn run<I: Read + Drop, O: Write + Drop>(
+    alloc: Global,
+    arguments: &[&str],
+    input: I,
+    mut output: O,
+) -> Result<u8, Failure> {
+    let Answer { text, status } = answer_of(alloc, arguments, input)?;
+    write_out(&mut output, text.as_str())?;
+    Ok(status)
+}
+
+/// Runs the program on its arguments, which are those after its name, and says the status that it ends with: 0 where the
+/// program on the input is accepted, 1 where it or the input is refused, 2 at wrong arguments, 3 where input or output failed,
+/// 4 at want of memory. A fault is one line on `faults`, that of `bpfhost verify`; where that line can't be written the status
+/// stays. The log is written when it is whole.
+pub fn run_log_words<I: Read + Drop, O: Write + Drop, F: Write + Drop>(
+    alloc: Global,
+    arguments: &[&str],
+    input: I,
+    output: O,
+    mut faults: F,
+) -> u8 {
+    match run(alloc, arguments, input, output) {
+        Ok(status) => status,
+        Err(failure) => {
+            let _ = writeln!(faults, "{failure}");
+            failure.status()
+        }
+    }
+}

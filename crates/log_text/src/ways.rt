@@ -1,0 +1,235 @@
+//! On which way to an instruction something is missing that it needs.
+
+use crate::needs::Refusal;
+use crate::needs::registers::kind_of;
+use insn_codec::{Insn, MAX_SLOTS, Program};
+use reg_kinds::{Facts, Kind, Reason, STACK_SLOTS, Slot};
+use std::alloc::{AllocError, Global};
+use std::fmt::Write;
+use tagged_model::Named;
+use transfer::{Flow, apply};
+use verdict::jump_target;
+use verifier::{VerifyFault, Watcher, verify_watched};
+
+/// What an instruction needs: a value that may be read.
+#[derive(Clone, Copy, Debug, PartialEq, Eq)]
+pub(crate) enum Wanted {
+    /// In the register of this number.
+    Register(u8),
+    /// In these bytes of the stack, both included, from its upper end.
+    Stack { first: i64, last: i64 },
+}
+
+/// Whether a byte of the stack is written, by its offset from the upper end.
+pub(crate) fn is_written(facts: &Facts, byte: i64) -> bool {
+    let Ok(place) = usize::try_from(byte.saturating_add(8 * STACK_SLOTS as i64)) else {
+        return false;
+    };
+    if place >= 8 * STACK_SLOTS {
+        return false;
+    }
+    match facts.slot(place / 8) {
+        Slot::Bytes(mask) => mask & (1 << (place % 8)) != 0,
+        Slot::Spill(_) => true,
+    }
+}
+
+impl Wanted {
+    /// Whether it is there.
+    fn is_in(self, facts: &Facts) -> bool {
+        match self {
+            Wanted::Register(register) => kind_of(facts, register) != Kind::Unreadable,
+            Wanted::Stack { first, last } => {
+                for byte in first..=last {
+                    if !is_written(facts, byte) {
+                        return false;
+                    }
+                }
+                true
+            }
+        }
+    }
+}
+
+/// Why something is missing before an instruction.
+#[derive(Clone, Copy, Debug, PartialEq, Eq)]
+enum Cause {
+    /// It never was there.
+    Never,
+    /// It is missing on the edge from this slot, and is there on another.
+    Way(usize),
+    /// The instruction at this slot takes it.
+    Taken(usize),
+    /// It is there on each edge to this slot, and is not the same on all.
+    Joined(usize),
+}
+
+/// What comes to a slot.
+#[derive(Clone, Copy, Debug)]
+struct Arrival {
+    /// Whether it is there on an edge.
+    is_there: bool,
+    /// The first edge on which it is missing, by its source, and why.
+    lack: Option<(usize, Cause)>,
+}
+
+/// Follows what an instruction needs through a program.
+#[derive(Drop)]
+struct Finder<'a> {
+    program: &'a Program,
+    named: &'a [Named],
+    wanted: Wanted,
+    arrivals: Vec<Arrival>,
+    /// Why it is missing before the last instruction.
+    cause: Option<Cause>,
+}
+
+impl Finder<'_> {
+    /// Why it is missing before an instruction, if it is.
+    fn cause_at(&self, slot: usize, facts: &Facts) -> Option<Cause> {
+        if self.wanted.is_in(facts) {
+            return None;
+        }
+        match self.arrivals.get(slot) {
+            Some(
+                Arrival {
+                    is_there: true,
+                    lack: Some((from, _)),
+                },
+            ) => Some(Cause::Way(*from)),
+            Some(
+                Arrival {
+                    is_there: false,
+                    lack: Some((_, cause)),
+                },
+            ) => Some(*cause),
+            _ => Some(Cause::Joined(slot)),
+        }
+    }
+
+    /// Notes what is on an edge.
+    fn arrive(&mut self, from: usize, to: usize, facts: &Facts) {
+        let is_there = self.wanted.is_in(facts);
+        let cause = self.cause.unwrap_or(Cause::Taken(from));
+        if let Some(arrival) = self.arrivals.get_mut(to) {
+            if is_there {
+                arrival.is_there = true;
+            } else if arrival.lack.is_none() {
+                arrival.lack = Some((from, cause));
+            }
+        }
+    }
+
+    /// Notes what is on the edges out of an instruction.
+    fn leave(&mut self, slot: usize, insn: &Insn, facts: &Facts) {
+        let (mut falling, mut taken) = (*facts, *facts);
+        let Ok(flow) = apply(&mut falling, &mut taken, self.named, slot, insn) else {
+            return;
+        };
+        let (falls, jumping) = match flow {
+            Flow::Ends => (false, None),
+            Flow::Falls => (true, None),
+            Flow::Jumps => (false, Some(falling)),
+            Flow::Branches { falls, jumps: true } => (falls, Some(taken)),
+            Flow::Branches {
+                falls,
+                jumps: false,
+            } => (falls, None),
+        };
+        if falls {
+            self.arrive(slot, slot.saturating_add(insn.slots()), &falling);
+        }
+        if slot <= MAX_SLOTS
+            && let (Some(facts), Some(to)) = (jumping, jump_target(insn, slot))
+        {
+            self.arrive(slot, to, &facts);
+        }
+    }
+}
+
+impl Watcher for Finder<'_> {
+    fn before(&mut self, slot: usize, facts: &Facts) -> Result<(), AllocError> {
+        self.cause = self.cause_at(slot, facts);
+        if let Some(insn) = self.program.get(slot) {
+            self.leave(slot, insn, facts);
+        }
+        Ok(())
+    }
+}
+
+/// What comes to each slot, when nothing is known but the facts at the start.
+fn first_arrivals(alloc: Global, slots: usize) -> Result<Vec<Arrival>, AllocError> {
+    let nothing = Arrival {
+        is_there: false,
+        lack: None,
+    };
+    let mut arrivals = vec![in alloc; nothing; slots]?;
+    if let Some(arrival) = arrivals.get_mut(0) {
+        arrival.lack = Some((0, Cause::Never));
+    }
+    Ok(arrivals)
+}
+
+/// Why something is missing before the instruction that is refused.
+fn cause_of(refusal: &Refusal<'_>, wanted: Wanted) -> Result<Option<Cause>, AllocError> {
+    let (alloc, program, named) = (refusal.alloc, refusal.program, refusal.named);
+    let mut finder = Finder {
+        program,
+        named,
+        wanted,
+        arrivals: first_arrivals(alloc, program.slots())?,
+        cause: None,
+    };
+    match verify_watched(alloc, program, named, &mut finder) {
+        Err(
+            VerifyFault {
+                slot: _,
+                reason: Reason::Memory,
+            },
+        ) => Err(AllocError),
+        _ => Ok(finder.cause),
+    }
+}
+
+/// Writes why a register may not be read.
+fn write_register_cause(text: &mut String, cause: Cause) -> Result<(), AllocError> {
+    match cause {
+        Cause::Never => text.push_str("was never written"),
+        Cause::Way(slot) => write!(text, "may not be written yet on the way from slot {slot}"),
+        Cause::Taken(slot) => write!(text, "is lost at slot {slot}"),
+        Cause::Joined(slot) => {
+            write!(
+                text,
+                "holds values of different kinds on the ways to slot {slot}"
+            )
+        }
+    }
+}
+
+/// Writes why bytes of the stack may not be read.
+fn write_stack_cause(text: &mut String, cause: Cause) -> Result<(), AllocError> {
+    match cause {
+        Cause::Never => text.push_str("were never written"),
+        Cause::Way(slot) => write!(text, "may not be written yet on the way from slot {slot}"),
+        Cause::Taken(slot) => write!(text, "are lost at slot {slot}"),
+        Cause::Joined(slot) => {
+            write!(
+                text,
+                "hold values of different kinds on the ways to slot {slot}"
+            )
+        }
+    }
+}
+
+/// Writes why something is missing before the instruction that is refused.
+pub(crate) fn write_way(
+    text: &mut String,
+    refusal: &Refusal<'_>,
+    wanted: Wanted,
+) -> Result<(), AllocError> {
+    let cause = cause_of(refusal, wanted)?.unwrap_or(Cause::Never);
+    match wanted {
+        Wanted::Register(_) => write_register_cause(text, cause),
+        Wanted::Stack { .. } => write_stack_cause(text, cause),
+    }
+}

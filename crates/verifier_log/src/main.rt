@@ -1,0 +1,26 @@
+//! verifier_log: what the verifier knows before each instruction of a program, and why a program is refused. See the README.
+#![tactic(auto)]
+
+use host::refuse_unread_words;
+use log_text::run_log_words;
+use std::process::ExitCode;
+use std::{env, io};
+
+/// Runs the program on its arguments. An error is one of reading them.
+fn run(rt: &HostRuntime) -> io::Result<u8> {
+    let alloc = rt.alloc();
+    let given: Vec<String> = env::args(rt)?.skip(1).collect(alloc)?;
+    let arguments: Vec<&str> = given
+        .iter()
+        .map(|argument| argument.as_str())
+        .collect(alloc)?;
+    Ok(run_log_words(alloc, &arguments, rt.stdin(), rt.stdout(), rt.stderr()))
+}
+
+fn main(rt: HostRuntime) -> ExitCode {
+    let status = match run(&rt) {
+        Ok(status) => status,
+        Err(error) => refuse_unread_words(&error, rt.stderr()),
+    };
+    ExitCode::from(status)
+}

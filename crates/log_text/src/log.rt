@@ -4,6 +4,7 @@ use crate::control::live_jumps;
 use crate::graph::write_graph;
 use crate::lines::{Story, write_lines};
 use crate::needs::{Refusal, write_refusal};
+use crate::reasons::is_of_shape;
 use crate::recorder::Recorder;
 use insn_codec::Program;
 use reg_kinds::Reason;
@@ -49,6 +50,22 @@ fn write_verdict(text: &mut String, refusal: Option<&Refusal<'_>>) -> Result<(),
     }
 }
 
+/// Writes the log in a style: the graph, or lines up to the instruction that is refused, and the verdict.
+fn write_log(
+    text: &mut String,
+    alloc: Global,
+    style: LogStyle,
+    story: &Story<'_>,
+    refusal: Option<&Refusal<'_>>,
+) -> Result<(), AllocError> {
+    if style == LogStyle::Graph {
+        return write_graph(text, alloc, story, refusal);
+    }
+    let last = refusal.map_or(story.program.slots(), |refusal| refusal.fault.slot);
+    write_lines(text, story, last)?;
+    write_verdict(text, refusal)
+}
+
 /// The log of a program, where descriptors name these maps.
 ///
 /// # Errors
@@ -76,17 +93,10 @@ pub fn log_of(
         program,
         steps: &steps,
         jumps: &jumps,
-        is_told: fault.is_none_or(|fault| fault.reason.number() >= 20),
+        is_told: fault.is_none_or(|fault| !is_of_shape(fault.reason)),
     };
     let mut text = String::new(alloc);
-    match style {
-        LogStyle::Graph => write_graph(&mut text, alloc, &story, refusal.as_ref())?,
-        _ => {
-            let last = fault.map_or(program.slots(), |fault| fault.slot);
-            write_lines(&mut text, &story, last)?;
-            write_verdict(&mut text, refusal.as_ref())?;
-        }
-    }
+    write_log(&mut text, alloc, style, &story, refusal.as_ref())?;
     Ok(Log {
         text,
         is_accepted: fault.is_none(),

@@ -6,7 +6,7 @@ pub(crate) mod calls;
 pub(crate) mod registers;
 pub(crate) mod shape;
 
-use crate::reasons::reason_words;
+use crate::reasons::{is_of_shape, reason_words};
 use insn_codec::{Insn, Program};
 use reg_kinds::{Facts, Reason};
 use std::alloc::{AllocError, Global};
@@ -26,7 +26,7 @@ pub(crate) struct Refusal<'a> {
 
 /// Writes what was known of an access, a call or another instruction, against what it needs.
 fn write_need(text: &mut String, refusal: &Refusal<'_>, insn: &Insn) -> Result<(), AllocError> {
-    if refusal.fault.reason.number() < 20 {
+    if is_of_shape(refusal.fault.reason) {
         return shape::write_need(text, refusal, insn);
     }
     if refusal.fault.reason == Reason::UnreadableRegister {

@@ -1,6 +1,11 @@
-//! The words of each reason.
+//! Reasons: their words, and which of them are of shape.
 
 use reg_kinds::Reason;
+
+/// Whether a reason is one of a program's shape, and not of its safety.
+pub(crate) fn is_of_shape(reason: Reason) -> bool {
+    reason.number() < 20
+}
 
 /// What a reason says, as the verifier's table of reasons has it.
 pub(crate) fn reason_words(reason: Reason) -> &'static str {

@@ -1,6 +1,6 @@
 -- What a watcher of the pass is told: each slot where an instruction begins and something is known, with the facts before it, in
 -- order. This project's own.
-use Rattle.std.specs.Prelude.{◌≡◌, ◌⊎◌, ℕ, zero, suc, ◌+◌, List, [], ◌∷◌, ◌++◌, Option, option_map, option_to_list}
+use Rattle.std.specs.Prelude.{◌≡◌, ◌⊎◌, ℕ, zero, suc, ◌+◌, List, [], ◌++◌, Option, option_map, option_to_list}
 use Rattle.insn_codec.specs.declared.insn.Insn.{Insn}
 use Rattle.insn_codec.specs.Program.{begins_at, slot_count}
 use Rattle.reg_kinds.specs.declared.facts.Facts.{Facts}

@@ -1,4 +1,4 @@
-use Rattle.std.proofs.Common.{List, Option, ℕ, refl, subst, ap, ◌∙◌}
+use Rattle.std.proofs.Common.{List, ℕ, refl, subst, ap, ◌∙◌}
 use Rattle.std.proofs.lemmas.Result.{err_from_is_err_and}
 use Rattle.insn_codec.specs.Program.{slot_count}
 use Rattle.tagged_model.specs.Named.{shapes_named}

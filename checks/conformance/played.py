@@ -1,0 +1,113 @@
+"""The frames of the worked cases: each case is a list of frames that a new host is given."""
+
+from __future__ import annotations
+
+import re
+from collections.abc import Callable, Iterator
+from dataclasses import dataclass
+
+from bpfhost import frames
+from bpfhost.program import assemble
+from conformance.cases import CRATES
+
+FIRST, LAST = 3, 66  # the descriptors that a map of `verify` may have
+COMMANDS: dict[str, Callable[[int, int, bytes], bytes]] = {"lookup": frames.map_lookup_elem, "delete": frames.map_delete_elem, "next": frames.map_get_next_key}
+
+
+@dataclass(frozen=True)
+class Case:
+    """Frames for a host of so many tenants, each with the length in front; `name` is the heading above them."""
+
+    name: str
+    tenants: int
+    frames: list[bytes]
+
+
+@dataclass(frozen=True)
+class Verdict:
+    """A program's slots, and what the descriptors that it names are: kind, key, value, entries."""
+
+    name: str
+    slots: bytes
+    maps: dict[int, tuple[str, int, int, int]]
+
+
+def bytes_of(digits: str) -> bytes:
+    """The bytes of groups of hex digits, of which `*N` makes copies."""
+    groups = [group.partition("*") for group in digits.split()]
+    return b"".join(bytes.fromhex(digit) * int(copies or 1) for digit, _, copies in groups)
+
+
+def program_text(line: str) -> str:
+    """A program's text that stands on one line; `N times LINE` is a line so often."""
+    found = []
+    for each in line.split(";"):
+        repeated = re.fullmatch(r" *(\d+) times (.*)", each)
+        found += [repeated[2]] * int(repeated[1]) if repeated else [each]
+    return "\n".join(found) + "\n"
+
+
+def frame_of(program: str, word: str, rest: str) -> bytes | None:
+    """The frame that a line asks for; none of a line that asks for something else."""
+    if word == "frame":
+        body = bytes_of(rest)
+        return len(body).to_bytes(4, "little") + body
+    if word not in ("create", "update", "load", "slots", "run", "close", *COMMANDS):
+        return None
+    tenant, _, rest = rest.partition(" ")
+    number, _, more = rest.partition(" ")
+    owner = int(tenant)
+    if word == "create":
+        body = b"".join(int(each).to_bytes(4, "little") for each in rest.split())
+        return frames.frame(owner, 0, body)
+    if word == "update":
+        flags, _, digits = more.partition(" ")
+        return frames.map_update_elem(owner, int(number), bytes_of(digits), b"", int(flags))
+    if word == "load":
+        return frames.prog_load(owner, assemble(program, program_text(rest)))
+    if word == "slots":
+        return frames.prog_load(owner, bytes_of(rest))
+    if word == "run":
+        return frames.prog_test_run(owner, int(number), bytes_of(more))
+    if word == "close":
+        return frames.close(owner, int(number))
+    return COMMANDS[word](owner, int(number), bytes_of(more))
+
+
+def cases(program: str) -> Iterator[Case]:
+    """The cases of `frame_tests` that are one frame after another; those that set words of the context are left out."""
+    name, current, is_plain = "", Case("", 1, []), True
+    for line in [*(CRATES / "frame_tests/stdin").read_text().splitlines(), "new 1"]:
+        word, _, rest = line.partition(" ")
+        if line.startswith("# ") and not current.frames:
+            name = line[2:]
+        if word == "new":
+            if current.frames and is_plain:
+                yield current
+            current, is_plain = Case(name, int(rest), []), True
+        elif word == "words":
+            is_plain = False
+        elif frame := frame_of(program, word, rest):
+            current.frames.append(frame)
+        elif line.startswith("# "):
+            name = line[2:]
+
+
+def verdicts(program: str) -> Iterator[Verdict]:
+    """The programs of `verifier_tests`, with the maps that their descriptors name, where they are descriptors of `bpfhost verify`."""
+    name, maps = "", dict[int, tuple[str, int, int, int]]()
+    programs = set[int]()
+    for line in (CRATES / "verifier_tests/stdin").read_text().splitlines():
+        word, _, rest = line.partition(" ")
+        if line.startswith("# ") or line.startswith("## "):
+            name = line.lstrip("# ")
+        elif word == "new":
+            maps, programs = {}, set()
+        elif word == "map":
+            fd, kind, *sizes = rest.split()
+            if int(fd) not in programs:
+                maps.setdefault(int(fd), (kind, int(sizes[0]), int(sizes[1]), int(sizes[2])))
+        elif word == "program":
+            programs.add(int(rest))
+        elif word == "verify" and not programs and all(FIRST <= fd <= LAST for fd in maps):
+            yield Verdict(name, assemble(program, program_text(rest)), dict(maps))

@@ -1,0 +1,32 @@
+"""The rules by which the host and Linux may answer differently: the first whose pattern is found in what is told of a difference."""
+
+from __future__ import annotations
+
+import re
+
+RULES = [(re.compile(pattern), rule) for pattern, rule in (
+    ("length of a key or a value", "bpf(2) has no length of a key and a value: a frame with another one is refused here alone"),
+    ("order of keys|^MAP_GET_NEXT_KEY: refused by", "keys of a hash map have an order here, and none in the kernel, where it differs from run to run"),
+    ("words of the context", "words of the context: the frame's here, the kernel's own there"),
+    ("^PROG_TEST_RUN: refused by the kernel alone: EINVAL", "limits: the kernel's test run takes no packet of 65,536 bytes"),
+    ("^PROG_TEST_RUN: another value .*deletes", "a value that a run deletes keeps its place to the run's end here; in the kernel a new key may get it"),
+    ("^(MAP_CREATE|PROG_LOAD): refused by the host alone \\(E", "limits of a tenant, as its descriptors and its bytes"),
+    ("refused by both", "the error number of what both refuse"),
+    ("reason 102", "atomic operations with FETCH, which are left out here"),
+    ("reason 31", "the context: the kernel has more words and sizes"),
+    ("reason 23", "arithmetic on the pointer to the context"),
+    ("reason 4:", "jumps forward only"),
+    ("reason 36", "an atomic operation in a value needs one known offset"),
+    ("reason 27", "atomic operations on bytes of the stack that are not written"),
+    ("reason (30|33)", "null tests: the kernel knows that a constant index of an array is there"),
+    ("reason 20.*(map|look-up|meet)", "joins: the kernel follows each path by itself"),
+    ("reason 20", "ranges: the kernel knows signed ranges, single bits, and registers that are the same"),
+    ("subtraction from stack|comparison prohibited|corrupt spilled|prohibited for !root", "pointers: the kernel asks more where they may not leak"),
+    ("math between fp pointer", "pointers: how far they may be moved"),
+    ("invalid shift|div by zero", "a constant shift by the width or more, a constant division by zero: the kernel refuses what RFC 9669 gives a result"),
+    ("invalid read from stack", "a helper whose length is a range: the kernel wants the bytes written before"),
+)]
+
+
+def rule_of(difference: str) -> str | None:
+    return next((rule for pattern, rule in RULES if pattern.search(difference)), None)

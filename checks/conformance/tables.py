@@ -1,0 +1,60 @@
+"""The tables of docs/CONFORMANCE.md that the sources alone give."""
+
+from __future__ import annotations
+
+from collections import Counter
+
+from conformance.cases import SHOWS, counts, lines, slots_of, vectors
+from conformance.instructions import INSTRUCTIONS, Instruction, Key, key_of
+
+GROUPS = {"base": "base32, base64", "divmul32": "divmul32", "divmul64": "divmul64", "atomic32": "atomic32", "atomic64": "atomic64", "packet": "packet"}
+
+
+def cell(each: Instruction) -> str:
+    """The instruction as a table's cell."""
+    return each.text.replace("|", "\\|")
+
+
+def groups() -> str:
+    """How much of each group is here, and how many of its instructions stand in a case of each kind."""
+    rows = [f"| Group | Instructions | Here | {' | '.join(SHOWS)} |", "|---|---|---|" + "---|" * len(SHOWS)]
+    for group, name in GROUPS.items():
+        of_group = [each for each in INSTRUCTIONS if each.group == group]
+        here = [each for each in of_group if each.is_here]
+        shown = [str(sum(1 for each in here if found[each.key])) for found in counts().values()]
+        rows.append(f"| {name} | {len(of_group)} | {len(here)} | {' | '.join(shown if here else [''] * len(shown))} |")
+    return "\n".join(rows) + "\n"
+
+
+def by_opcode() -> str:
+    rows = [f"| Opcode | Instruction | Group | {' | '.join(SHOWS)} |", "|---|---|---|" + "---|" * len(SHOWS)]
+    for each in sorted((each for each in INSTRUCTIONS if each.is_here), key=lambda each: each.key):
+        shown = [str(found[each.key]) for found in counts().values()]
+        rows.append(f"| {each.key} | `{cell(each)}` | {GROUPS[each.group]} | {' | '.join(shown)} |")
+    return "\n".join(rows) + "\n"
+
+
+def refused() -> Counter[Key]:
+    """The instructions of the RFC that are left out here, and in how many cases of the codec they stand."""
+    found: Counter[Key] = Counter()
+    for rest in lines("text_tests", "codec"):
+        if slots := slots_of(rest):
+            found[key_of(slots[0])] += 1
+    return found
+
+
+def left_out() -> str:
+    rows = ["| Opcode | Instruction | Group | Cases of the codec that refuse it |", "|---|---|---|---|"]
+    found = refused()
+    rows += [f"| {each.key} | {cell(each)} | {GROUPS[each.group]} | {found[each.key]} |" for each in INSTRUCTIONS if not each.is_here]
+    return "\n".join(rows) + "\n"
+
+
+def known_answers() -> str:
+    found = vectors()
+    rows = ["| Operator or comparison | 64 bits | 32 bits |", "|---|---|---|"]
+    rows += [f"| `{name}` | {found[name, '64'] or ''} | {found[name, '32'] or ''} |" for name in sorted({name for name, _ in found})]
+    return "\n".join(rows) + "\n"
+
+
+COUNTED = {"groups": groups, "opcodes": by_opcode, "left out": left_out, "known answers": known_answers}

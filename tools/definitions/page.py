@@ -1,0 +1,156 @@
+"""The pages that show the definitions: docs/DEFINITIONS.md, and the quotations and figures of docs/TRUST.md.
+
+Names, files and lines are made; what is written by hand stays: headings, the last column, the order of rows, and all that stands
+between tables.
+"""
+
+from __future__ import annotations
+
+import re
+from dataclasses import dataclass, field
+
+from definitions.sources import CRATES, DEFINES, TOP, Name, Place, file_of
+from definitions.tiers import Tier, lines_of, of_kit, of_verifier, read_for_no_fault
+
+DEFINITIONS, TRUST = TOP / "docs/DEFINITIONS.md", TOP / "docs/TRUST.md"
+ROW = re.compile(r"\| *(?:\[`([\w/]+\.\w+)`\]\(.*?\))? *\| *\d* *\| (`.*?`) \| (.*) \|")
+TABLE_HEAD = ["| File | Lines | Definitions | In the field's words |", "|---|---|---|---|"]
+QUOTED = re.compile(r"(<!-- quoted: ([\w/.]+) (\w+) -->\n```\w*\n)(.*?)(^```$)", re.M | re.S)
+STOPS = re.compile(r"(<!-- stops -->\n)(.*?)(^<!-- end -->$)", re.M | re.S)
+COUNTED = re.compile(r"(<!-- counted -->\n)(.*?)(^<!-- end -->$)", re.M | re.S)
+OF_VERIFIER = re.compile(r"(<!-- of the verifier -->\n)(.*?)(^<!-- end -->$)", re.M | re.S)
+OF_KIT = re.compile(r"(<!-- of the kit -->\n)(.*?)(^<!-- end -->$)", re.M | re.S)
+
+
+@dataclass
+class Row:
+    """A row of a table: some names of a file, and what they are in the field's words."""
+
+    place: Place
+    names: list[str]
+    words: str
+
+
+@dataclass
+class Section:
+    """A part of a page: lines of text, and behind them a table, if it has one."""
+
+    text: list[str] = field(default_factory=list)
+    rows: list[Row] = field(default_factory=list)
+
+
+def sections_of(lines: list[str]) -> list[Section]:
+    found, place = [Section()], None
+    for line in lines:
+        row = ROW.fullmatch(line)
+        if row:
+            place = Place(*row[1].split("/", 1)) if row[1] else place
+            if place is None:
+                raise ValueError(f"the row names no file: {line}")
+            found[-1].rows.append(Row(place, re.findall(r"`(\w+)`", row[2]), row[3]))
+        elif line not in TABLE_HEAD:
+            if found[-1].rows and line:
+                found.append(Section())
+            found[-1].text.append(line)
+    return found
+
+
+def head_comment(place: Place) -> str:
+    """The first sentence of a file's head."""
+    head = re.match(r"(?:--.*\n|//!.*\n)*", place.file.read_text())
+    words = re.sub(r"\n?(?:--|//!) ?", " ", head[0] if head else "").strip()
+    return words.partition(". ")[0].rstrip(".") or "TO BE WRITTEN"
+
+
+def fill(sections: list[Section], tier: Tier) -> None:
+    """Gives each row the names of its file that the tier has; a new name goes behind the one before it in its file."""
+    rows = [row for section in sections for row in section.rows]
+    for place in tier.files:
+        in_source = [word for word in file_of(place).texts if Name(place, word) in tier.names]
+        own = [row for row in rows if row.place == place]
+        if not own:
+            own = [Row(place, [], head_comment(place))]
+            sections[-1].rows += own
+        for row in own:
+            row.names = [word for word in row.names if word in in_source]
+        last = own[0]
+        for word in in_source:
+            holder = next((row for row in own if word in row.names), None)
+            if holder is None:
+                last.names.append(word)
+            last = holder or last
+    for section in sections:
+        section.rows = [row for row in section.rows if row.place in tier.files and row.names]
+
+
+def shown(section: Section) -> list[str]:
+    text, before = [*section.text], None
+    while section.rows and text and not text[-1]:
+        text.pop()
+    if not section.rows:
+        return text
+    text += ["", *TABLE_HEAD]
+    for row in section.rows:
+        file = f"[`{row.place}`](../crates/{row.place})" if row.place != before else ""
+        count = lines_of(frozenset(Name(row.place, word) for word in row.names))
+        text.append(f"| {file} | {count} | {', '.join(f'`{word}`' for word in row.names)} | {row.words} |")
+        before = row.place
+    return [*text, ""]
+
+
+def definitions_page(found: list[Tier], page: str) -> str:
+    """docs/DEFINITIONS.md with its tables filled: below each heading of a tier, those of the tier."""
+    parts = re.split(r"^(?=## )", page, flags=re.M)
+    made = []
+    for part in parts:
+        tier = next((tier for tier in found if part.startswith(f"## {tier.title}\n")), None)
+        if tier:
+            sections = sections_of(part.rstrip("\n").split("\n"))
+            fill(sections, tier)
+            part = "\n".join(line for section in sections for line in shown(section)).rstrip("\n") + "\n\n"
+            stops = ", ".join(f"`{stop.word}`" for stop in sorted(tier.stops, key=lambda stop: stop.word))
+            part = STOPS.sub(lambda match: f"{match[1]}{stops}\n{match[3]}", part)
+        made.append(part)
+    missing = [tier.title for tier in found if not any(part.startswith(f"## {tier.title}\n") for part in parts)]
+    if missing:
+        raise ValueError(f"docs/DEFINITIONS.md has no heading {missing[0]!r}")
+    return OF_KIT.sub(lambda match: match[1] + kit_table() + match[3], "".join(made).rstrip("\n") + "\n")
+
+
+def kit_table() -> str:
+    rows = [f"| {file} | {', '.join(f'`{word}`' for word in sorted(words))} |" for file, words in sorted(of_kit().items())]
+    return "\n".join(["| File of the kit | Names |", "|---|---|", *rows]).replace("||", "\\|\\|") + "\n"
+
+
+def quotation(path: str, word: str) -> str:
+    """A definition, or a function with its contract, as it stands in its file."""
+    lines = (CRATES / path).read_text().splitlines()
+    begins = re.compile(rf" *(?:pub )?(?:fn|trait|struct) {word}\b" if path.endswith(".rt") else "")
+    at = next((at for at, line in enumerate(lines) if path.endswith(".rt") and begins.match(line)
+               or (found := DEFINES.match(line)) and found[1] == word), None)
+    if at is None:
+        raise ValueError(f"docs/TRUST.md quotes {word}, which crates/{path} does not have")
+    end = next((end for end in range(at, len(lines)) if lines[end].strip() in ("", "{")), len(lines))
+    return "\n".join(lines[at:end]) + "\n"
+
+
+def counts(found: list[Tier]) -> str:
+    """The table of the tiers, and what is read for "no test run faults"."""
+    rows = ["| To believe | Read | Files | Definitions | Lines |", "|---|---|---|---|---|"]
+    for tier in found:
+        anchor = tier.title.lower().replace(" ", "-")
+        link = f"[{tier.title}](DEFINITIONS.md#{anchor})"
+        rows.append(f"| {tier.title.removeprefix('For ')} | {link} | {len(tier.files)} | {len(tier.names)} | {tier.lines} |")
+    names = read_for_no_fault()
+    files = len({name.place for name in names})
+    rows.append(f"| that no test run faults | of the first two, what is named below | {files} | {len(names)} | {lines_of(names)} |")
+    return "\n".join(rows) + "\n"
+
+
+def trust_page(found: list[Tier], page: str) -> str:
+    """docs/TRUST.md with its quotations and its figures."""
+    page = QUOTED.sub(lambda match: match[1] + quotation(match[2], match[3]) + match[5], page)
+    page = COUNTED.sub(lambda match: match[1] + counts(found) + match[3], page)
+    rows = [f"| `{crate}` | {', '.join(f'`{word}`' for word in words)} |" for crate, words in of_verifier(found[1]).items()]
+    table = "\n".join(["| Crate | Definitions in the second tier |", "|---|---|", *rows]) + "\n"
+    return OF_VERIFIER.sub(lambda match: match[1] + table + match[3], page)

@@ -8,7 +8,7 @@ from collections.abc import Iterator
 from functools import cache
 from pathlib import Path
 
-from conformance.instructions import BY_KEY, INSTRUCTIONS, Key, key_of, key_of_text
+from conformance.instructions import BY_KEY, Key, key_of, key_of_text
 
 TOP = Path(__file__).resolve().parents[2]
 CRATES = TOP / "crates"
@@ -19,8 +19,6 @@ SHOWS = {
     "Verdict": ("verifier_tests", ("verify", "start", "maps")),
     "Run": ("frame_tests", ("load", "slots")),
 }
-OPERATORS = {"Add", "Sub", "Mul", "Div", "SignedDiv", "Or", "And", "ShiftLeft", "ShiftRight", "Mod", "SignedMod", "Xor", "Mov",
-             "SignedShiftRight", "Neg", "SignExtend"}
 
 
 def lines(crate: str, *words: str) -> Iterator[str]:
@@ -77,11 +75,4 @@ def vectors() -> Counter[tuple[str, str]]:
     found = Counter((name, width) for width, name in re.findall(r": operate (64|32) (\w+) ", text))
     found.update((name, width) for width, name in re.findall(r": compares (64|32) (\w+) ", text))
     found.update((f"byte order, {kind.lower()}", "64") for kind in re.findall(r": byte_order \(?(\w+)", text))
-    found.update((name, width) for width, name in re.findall(r": (?:¬ )?IsTrue \(compares (64|32) (\w+)", text))
     return found
-
-
-def faults() -> list[str]:
-    """What is wrong with the cases: an instruction of the host that one kind of them does not have."""
-    return [f"no case of {what.lower()} has {each.text} ({each.key})"
-            for what, found in counts().items() for each in INSTRUCTIONS if each.is_here and not found[each.key]]

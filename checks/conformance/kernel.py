@@ -8,7 +8,6 @@ import re
 import struct
 import subprocess
 from collections import Counter
-from collections.abc import Iterator
 from dataclasses import dataclass, field
 
 from bpfhost.errors import HostError
@@ -17,7 +16,6 @@ from bpfhost.replies import Reply, read_replies
 from bpfhost.words import reason_words
 from conformance import bpf
 from conformance.bpf import Refused
-
 from conformance.played import Case, Verdict
 from conformance.rules import rule_of
 

@@ -6,6 +6,7 @@ import re
 import shutil
 import subprocess
 from dataclasses import dataclass, field
+from functools import cache
 
 from bpfhost.errors import BpfhostError
 from bpfhost.program import assemble, disassemble
@@ -69,6 +70,7 @@ def corpus() -> list[str]:
     return list(found)
 
 
+@cache
 def processor(path: str) -> str:
     """The newest processor that it knows; version 4 has what RFC 9669 has beyond version 3."""
     told = subprocess.run([path, "-triple", "bpfel", "-mcpu=help", "/dev/null"], capture_output=True, text=True, check=False)
@@ -100,6 +102,7 @@ def rules_of(path: str) -> list[tuple[str, re.Pattern[str]]]:
     return RULES if processor(path) == "v4" else [ONLY_FROM_4_ON, *RULES]
 
 
+@cache
 def assembled(program: str) -> list[tuple[str, bytes]]:
     """The lines of the corpus that our assembler takes, with their bytes."""
     found = []

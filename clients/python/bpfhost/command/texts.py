@@ -13,7 +13,7 @@ from bpfhost.program import assemble, disassemble, find_program, hex_lines, slot
 from bpfhost.words import TEXT_FAULTS, reason_words
 
 _ELF = b"\x7fELF"
-# The status of `asm` and `dis` where it is their input that is wrong (docs/INSTRUCTIONS.md).
+# The status of `asm` and `dis` where it is their input that is wrong (docs/CLI.md).
 _INPUT_REFUSED = 1
 
 

@@ -1,6 +1,6 @@
 -- A call by words does what the machine's call does.
 use Rattle.std.proofs.Common.{◌≡◌, ◌≢◌, ℕ, ◌+◌, ◌-◌, ◌*◌, ◌<◌, ◌≤◌, ◌==◌, ◌&&◌, eqb, leb, false, List, length, slice_get, Option, Some, None, Result, Ok, refl, sym, ap, subst, ◌∙◌, ⊎_elim, arith}
-use Rattle.std.specs.Prelude.{slice_index, slice_set}
+use Rattle.std.specs.Prelude.{slice_index, slice_set, ok_or}
 use Rattle.std.proofs.lemmas.Bool.{cond-false, ne_eqb, false≢true, and_parts, leb-true, eqb-true, eqb-false, cases_Bool}
 use Rattle.std.proofs.lemmas.Option.{same_Some, cond_some, slice_get-get_or, slice_get_within}
 use Rattle.words.specs.Bytes.{bytes_at}
@@ -99,7 +99,10 @@ module _ (l : Layout) (bind : List ℕ) (old : Memory) (t at : ℕ) (registers :
   other_key : (index key : ℕ) → index < length bind → ((i : ℕ) → i < length bind → slice_index bind i ≢ key) → key ≢ slice_index bind index
   other_key index key lt away same = away index lt (sym same)
 
-  module _ {F : Type 0} (returned : ReturnsStand) (below : LawsBelow) (answer : Result ℕ F) (o : Option ℕ) (answered : (w : ℕ) → o ≡ Some w → answer ≡ Ok w) where
+  module _ {F : Type 0} (returned : ReturnsStand) (below : LawsBelow) (answer : Result ℕ F) (o : Option ℕ) (fault : F) (is : answer ≡ ok_or o fault) where
+    answered : (w : ℕ) → o ≡ Some w → answer ≡ Ok w
+    answered w e = is ∙ ap (λ o. ok_or o fault) e
+
     pub look_up_followed : (u : RunState) → o ≡ flat_look_up memory t tenant bind (slice_index words 0) (slice_index words 1) → called false LookUp s ≡ Some u → ResultFollows l bind old t at registers tenant s LookUp answer memory tenant
     look_up_followed u told e =
         let f = look_ups_follow below.along l bind old t at registers memory tenant s u false room stands e in

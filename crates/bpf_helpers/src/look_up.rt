@@ -65,8 +65,7 @@ pub(crate) fn asked_place(
     Some(at)
 }
 
-/// The address of the value of a key, or 0: helper 1. The words name the map and the address of the key. Where they name none
-/// the answer is 0.
+/// The address of the value of a key, or 0: helper 1. The words name the map and the address of the key.
 #[inline(always)]
 pub(crate) fn look_up(
     map: u64,
@@ -76,24 +75,22 @@ pub(crate) fn look_up(
     arena: &Arena,
     maps: &Maps,
     trace: &mut Trace,
-) -> u64
+) -> Option<u64>
     requires tenant { tenant < arena.now.parts }
     requires part { arena.now.part ≡ PART }
     requires live { AreLive maps.now bind.now }
-    ensures value { IfSome (flat_look_up arena.now tenant maps.now bind.now map key)
-        (λ word. result ≡ word) }
+    ensures value { result ≡ flat_look_up arena.now tenant maps.now bind.now map key }
     ensures inside { AddsInside arena.now tenant trace.old.ranges trace.new.ranges }
     ensures steps { trace.new.steps ≡ trace.old.steps }
 {
     sizes_fit_in_parts();
     arena.memory_is_its_parts();
-    let Some(map) = bound(bind, map) else {
-        return 0;
-    };
+    let map = bound(bind, map)?;
     let size = maps.shape(map).key_size as usize;
-    let Some(at) = asked_place(arena, tenant, size, key, trace) else {
-        return 0;
-    };
+    let at = asked_place(arena, tenant, size, key, trace)?;
     let part = arena.part(tenant);
-    maps.address_of(map, &part[at..at + size], arena.address(tenant))
+    match maps.find(map, &part[at..at + size]) {
+        Some(place) => Some(arena.address(tenant) + maps.value_at(map, place) as u64),
+        None => Some(0),
+    }
 }

@@ -1,6 +1,6 @@
 //! Bytes that a helper writes into a tenant's part.
 
-ghost use Rattle.std.specs.Prelude.{◌≡◌, ◌+◌, ◌<◌, ◌≤◌, length, replicate, Some};
+ghost use Rattle.std.specs.Prelude.{◌≡◌, ◌+◌, ◌<◌, ◌≤◌, length, replicate, IfNone};
 ghost use Rattle.tagged_model.specs.Helpers.{negative, outside};
 ghost use Rattle.arena.specs.Memory.{part_start, with_bytes};
 ghost use Rattle.arena.specs.Ranges.{AddsInside};
@@ -47,7 +47,7 @@ pub(crate) fn write_zeros(arena: &mut Arena, tenant: usize, at: usize, count: us
 }
 
 /// Copies bytes of the packet to an address: helper 26. Where they leave the packet, zeros are written and an error is
-/// answered; the same is answered where no part of the tenant's is at the address, and nothing is written.
+/// answered. It answers nothing where no part of the tenant's is at the address.
 #[inline(always)]
 pub(crate) fn load_bytes(
     offset: u64,
@@ -57,27 +57,26 @@ pub(crate) fn load_bytes(
     arena: &mut Arena,
     packet: &[u8],
     trace: &mut Trace,
-) -> u64
+) -> Option<u64>
     requires tenant { tenant < arena.old.parts }
     requires part { arena.old.part ≡ PART }
-    ensures loaded { LoadsBy arena.old tenant packet.now offset to count (Some result) arena.new }
+    ensures loaded { LoadsBy arena.old tenant packet.now offset to count result arena.new }
+    ensures unchanged { IfNone result (arena.new ≡ arena.old) }
     ensures inside { AddsInside arena.old tenant trace.old.ranges trace.new.ranges }
     ensures steps { trace.new.steps ≡ trace.old.steps }
 {
     if count > PART as u64 {
-        return OUTSIDE;
+        return None;
     }
     let count = count as usize;
-    let Some(at) = asked_place(arena, tenant, count, to, trace) else {
-        return OUTSIDE;
-    };
+    let at = asked_place(arena, tenant, count, to, trace)?;
     let from = offset % OFFSETS;
     if from <= LAST_OFFSET && from as usize + count <= packet.len() {
         let from = from as usize;
         write_bytes(arena, tenant, at, &packet[from..from + count]);
-        0
+        Some(0)
     } else {
         write_zeros(arena, tenant, at, count);
-        OUTSIDE
+        Some(OUTSIDE)
     }
 }

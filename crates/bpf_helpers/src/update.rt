@@ -1,6 +1,6 @@
 //! An update of a map, on words and bytes.
 
-ghost use Rattle.std.specs.Prelude.{◌≡◌, ◌≢◌, ℕ, ◌+◌, ◌-◌, ◌^◌, ◌<◌, ◌≤◌, length, Some, IsSome};
+ghost use Rattle.std.specs.Prelude.{◌≡◌, ◌≢◌, ℕ, ◌+◌, ◌-◌, ◌^◌, ◌<◌, ◌≤◌, length, IfNone, IsSome};
 ghost use Rattle.arena.specs.Ranges.{AddsInside};
 ghost use Rattle.bpf_maps.specs.declared.part.TheConstants.{PART};
 ghost use Rattle.bpf_maps.specs.Live.{live_at, shape_at};
@@ -73,8 +73,8 @@ pub(crate) fn put(
     }
 }
 
-/// An update that is asked for by words, which name the map and the addresses of the key and the value: helper 2. Where they
-/// name none the answer is that of a wrong argument, and nothing changes.
+/// An update that is asked for by words, which name the map and the addresses of the key and the value: helper 2. It answers
+/// nothing where they name none.
 pub(crate) fn update(
     map: u64,
     key: u64,
@@ -85,25 +85,20 @@ pub(crate) fn update(
     arena: &mut Arena,
     maps: &mut Maps,
     trace: &mut Trace,
-) -> u64
+) -> Option<u64>
     requires tenant { tenant < arena.old.parts }
     requires part { arena.old.part ≡ PART }
     requires live { AreLive maps.old bind.now }
     ensures updated { UpdatesBy arena.old tenant maps.old bind.now map key value flags
-        (Some result) arena.new maps.new }
+        result arena.new maps.new }
+    ensures unchanged { IfNone result ((arena.new ≡ arena.old) × (maps.new ≡ maps.old)) }
     ensures inside { AddsInside arena.old tenant trace.old.ranges trace.new.ranges }
     ensures steps { trace.new.steps ≡ trace.old.steps }
 {
     sizes_fit_in_parts();
-    let Some(map) = bound(bind, map) else {
-        return refusal(MapFault::Invalid);
-    };
+    let map = bound(bind, map)?;
     let shape = maps.shape(map);
-    let Some(key) = asked_place(arena, tenant, shape.key_size as usize, key, trace) else {
-        return refusal(MapFault::Invalid);
-    };
-    let Some(value) = asked_place(arena, tenant, shape.value_size as usize, value, trace) else {
-        return refusal(MapFault::Invalid);
-    };
-    put(map, key, value, flags, tenant, arena, maps, trace)
+    let key = asked_place(arena, tenant, shape.key_size as usize, key, trace)?;
+    let value = asked_place(arena, tenant, shape.value_size as usize, value, trace)?;
+    Some(put(map, key, value, flags, tenant, arena, maps, trace))
 }

@@ -56,11 +56,6 @@ offset l p = l.start + p * l.stride
 abbrev pub offset_at : LiveMaps → ℕ → ℕ → ℕ
 offset_at t k p = offset (live_or (live_at t k)) p
 
--- the address of a value in a part that begins at an address, or null
-abbrev pub value_address : ℕ → LiveMaps → ℕ → Option ℕ → ℕ
-value_address part t k None = 0
-value_address part t k (Some p) = part + offset_at t k p
-
 -- the bytes of a part at a place of the map under a key
 abbrev pub value_in : List ℕ → LiveMaps → ℕ → ℕ → List ℕ
 value_in part t k p = take (shape_at t k).value_size (drop (offset_at t k p) part)

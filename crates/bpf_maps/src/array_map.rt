@@ -61,18 +61,6 @@ impl ArrayMap {
         let _ = &self.shape;
     }
 
-    /// The index that a key spells. The array has it if it is below `max_entries`.
-    #[inline(always)]
-    pub(crate) fn index_spelled(&self, key: &[u8]) -> u32
-        requires { length key.now ≡ self.now.shape.key_size }
-        ensures found { look_up (table_of self.now) key.now
-            ≡ (if nat_lt result self.now.shape.max_entries then Some result else None) }
-        ensures spelled { index_key result ≡ key.now }
-    {
-        self.is_array();
-        index_of(key)
-    }
-
     /// The index that a key spells, if the array has it.
     #[inline(always)]
     fn place_of(&self, key: &[u8]) -> Option<u32>

@@ -6,7 +6,7 @@ ghost use Rattle.tagged_model.specs.Table.{look_up, verdict, removal, next_of, n
 ghost use Rattle.bpf_maps.specs.declared.part.TheConstants.{PART, FRONT, MAPS, LARGEST_SUM};
 ghost use Rattle.bpf_maps.specs.Places.{table_of, IsSound, Claims, Removes, GivesKey, after_run, new_places};
 ghost use Rattle.bpf_maps.specs.Given.{given_bytes};
-ghost use Rattle.bpf_maps.specs.Live.{live_at, places_at, shape_at, holds_at, held_at, offset_at, value_in, map_in, value_address, LiesInPart, IsLaid, IsPacked, ClosesUp, start_at, AreSound, SameAreas, SameValues, KeepsMap, KeepsMaps, KeepsOthers, count, areas, SameRoom, OnlyKeysChange, HasOneMore, create_fault, Creates, one_more, one_less, is_memory};
+ghost use Rattle.bpf_maps.specs.Live.{live_at, places_at, shape_at, holds_at, held_at, offset_at, value_in, map_in, LiesInPart, IsLaid, IsPacked, ClosesUp, start_at, AreSound, SameAreas, SameValues, KeepsMap, KeepsMaps, KeepsOthers, count, areas, SameRoom, OnlyKeysChange, HasOneMore, create_fault, Creates, one_more, one_less, is_memory};
 ghost use Rattle.bpf_maps.specs.InMaps.{closed_up, layout_of, layout_at, AreLaidOut};
 ghost use Rattle.slab.specs.Slab.{ContainsKey, get};
 
@@ -290,33 +290,6 @@ impl Maps {
                 let entry = &self.slots[map.number];
                 entry.map.find(key)
             }
-        }
-    }
-
-    /// The address of the value of a key, in a part that begins at `part`, below 2^63: 0 where the map has no such key.
-    #[inline(always)]
-    pub fn address_of(&self, map: MapKey, key: &[u8], part: u64) -> u64
-        requires live { IsSome (live_at self.now map) }
-        requires size { length key.now ≡ (shape_at self.now map).key_size }
-        requires low { part < 2 ^ 63 }
-        ensures { result ≡ value_address part self.now map
-            (look_up (table_of (places_at self.now map)) key.now) }
-    {
-        self.arrays_have_their_indices(map);
-        let shape = self.shape(map);
-        match shape.kind {
-            MapKind::Array => {
-                let index = ArrayMap::new(shape).index_spelled(key);
-                if index < shape.max_entries {
-                    part + self.value_at(map, index) as u64
-                } else {
-                    0
-                }
-            }
-            MapKind::Hash => match self.find(map, key) {
-                Some(place) => part + self.value_at(map, place) as u64,
-                None => 0,
-            },
         }
     }
 

@@ -23,9 +23,6 @@ from bpfhost import Errno, Host, HostError, MapType, Update, assemble, frames, h
 PROGRAM = SECOND
 TENANTS = 2
 WANT_OF_MEMORY = 4
-# The verdict on a program with a jump keeps the room of the facts that the jump brought, for another jump, and gives it back
-# where it is refused the memory to keep it. Such a refusal makes no difference.
-JUMPS = 1
 
 # Puts 6 under key 1 of a hash map, and answers what the helper does.
 PUTS_KEY = f"""
@@ -180,7 +177,7 @@ class Refusals:
 
 def check_frames(bpfhost, refusals, steps, wanted):
     """Each frame's answer, whichever call for memory is refused."""
-    at_start = in_frames = unseen = 0
+    at_start = in_frames = 0
     for call in refusals.runs():
         try:
             told = play(bpfhost, steps, wanted)
@@ -190,11 +187,9 @@ def check_frames(bpfhost, refusals, steps, wanted):
             at_start += 1
         elif told == 1:
             in_frames += 1
-        elif told:
+        elif told or refusals.refused():
             raise Differs(f"serve, call {call} refused: {told} refusals told")
-        else:
-            unseen += refusals.refused()
-    if not at_start or in_frames != call - 1 - at_start - JUMPS or unseen != JUMPS:
+    if not at_start or in_frames != call - 1 - at_start:
         raise Differs(f"serve, {call - 1} calls refused: {at_start} told at the start, {in_frames} in frames")
     print(f"serve: {at_start} refusals before the first frame, {in_frames} in frames")
 
@@ -204,27 +199,27 @@ def ends(bpfhost, words, given):
     return ended.returncode, ended.stdout, ended.stderr
 
 
-def check_words(program, refusals, name, words, given, wanted, unseen=0):
+def check_words(program, refusals, name, words, given, wanted):
     """One run of the program for each call for memory: refused, it writes one line to its standard error, and ends with 4."""
     told = 0
     for call in refusals.runs():
         ended = ends(program, words, given)
         if refusals.refused() and ended == (WANT_OF_MEMORY, b"", b"out of memory\n"):
             told += 1
-        elif ended != wanted:
+        elif refusals.refused() or ended != wanted:
             raise Differs(f"{name}, call {call}: {ended}")
-    if not told or told != call - 1 - unseen:
+    if not told or told != call - 1:
         raise Differs(f"{name}, {call - 1} calls refused: {told} told")
     print(f"{name}: {told} refusals")
 
 
 def logs(lines):
     """Runs of verifier_log: on a program that is accepted, and on one in which a register is missing on one way, for which
-    the pass over the program is made once more. With their statuses, and how many refusals make no difference."""
+    the pass over the program is made once more. With their statuses."""
     return [
-        ("log", [MAP_ARGUMENT], lines, 0, JUMPS),
-        ("log --dot", ["--dot", MAP_ARGUMENT], lines, 0, JUMPS),
-        ("log of a refused program", [], MISSES_RESULT.encode(), 1, 2 * JUMPS),
+        ("log", [MAP_ARGUMENT], lines, 0),
+        ("log --dot", ["--dot", MAP_ARGUMENT], lines, 0),
+        ("log of a refused program", [], MISSES_RESULT.encode(), 1),
     ]
 
 
@@ -238,20 +233,20 @@ def main():
         raise Differs("a reply is an error where memory is ample")
     lines = hex_lines(reads).encode()
     runs = [
-        (bpfhost, "asm", ["asm"], READS_INDEX.encode(), 0, 0),
-        (bpfhost, "dis", ["dis"], lines, 0, 0),
-        (bpfhost, "verify", ["verify", MAP_ARGUMENT], lines, 0, JUMPS),
+        (bpfhost, "asm", ["asm"], READS_INDEX.encode(), 0),
+        (bpfhost, "dis", ["dis"], lines, 0),
+        (bpfhost, "verify", ["verify", MAP_ARGUMENT], lines, 0),
         *((program, *run) for program in verifier_log for run in logs(lines)),
     ]
-    answers = [ends(program, words, given) for program, _, words, given, _, _ in runs]
-    for (_, name, _, _, status, _), answer in zip(runs, answers):
+    answers = [ends(program, words, given) for program, _, words, given, _ in runs]
+    for (_, name, _, _, status), answer in zip(runs, answers):
         if answer[0] != status:
             raise Differs(f"{name} fails where memory is ample")
     with tempfile.TemporaryDirectory() as folder:
         refusals = Refusals(library, folder)
         check_frames(bpfhost, refusals, steps, wanted)
-        for (program, name, words, given, _, unseen), answer in zip(runs, answers):
-            check_words(program, refusals, name, words, given, answer, unseen)
+        for (program, name, words, given, _), answer in zip(runs, answers):
+            check_words(program, refusals, name, words, given, answer)
 
 
 if __name__ == "__main__":

@@ -25,7 +25,7 @@ TYPE = r"^pub(?:\(crate\))? (?:struct|enum|trait) {}\b"
 
 @dataclass(frozen=True, order=True)
 class Place:
-    """A file of a crate, as `specs/Served.antt` of `host`."""
+    """A file of a crate, as `specs/Served.antt` of `host_core`."""
 
     crate: str
     path: str

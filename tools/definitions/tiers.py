@@ -17,10 +17,10 @@ def name(place: str, word: str) -> Name:
 
 # `serve` with the law that makes its clause `alone` noninterference, what a host begins with, and what the program hands to it.
 ROOTS = [
-    name("host/src/server.rt", "serve"),
-    name("host/src/laws.rt", "same_frames_same_replies"),
-    name("host/src/host.rt", "new"),
-    name("host/src/stream.rt", "Counted"),
+    name("host_core/src/server.rt", "serve"),
+    name("host_core/src/laws.rt", "same_frames_same_replies"),
+    name("host_core/src/host.rt", "new"),
+    name("host_core/src/stream.rt", "Counted"),
 ]
 MACHINE, COMMAND, ERRNO = "tenant/specs/Machine.antt", "command_frames/specs/Command.antt", "tenant/specs/Errno.antt"
 STATE, VERDICT = "tenant/specs/State.antt", "verdict/specs/Verdict.antt"
@@ -90,7 +90,7 @@ def of_verifier(tier: Tier) -> dict[str, list[str]]:
 
 def read_for_no_fault() -> frozenset[Name]:
     """What a reader needs for "no test run faults": how a run is answered, what a program is run on, and what a fault is."""
-    roots = [name(MACHINE, "run_of"), name(MACHINE, "loaded_program"), name("host/specs/Served.antt", "NoneFaults")]
+    roots = [name(MACHINE, "run_of"), name(MACHINE, "loaded_program"), name("host_core/specs/Served.antt", "NoneFaults")]
     return frozenset(closure(roots, OF_THE_VERDICT))
 
 

@@ -11,17 +11,17 @@ from definitions.page import Row, Section, fill, quotation, sections_of, shown
 from definitions.sources import Name, Place, closure, file_of
 from definitions.tiers import ROOTS, Tier, idle_stops, name, tiers
 
-SERVED = Place("host", "specs/Served.antt")
+SERVED = Place("host_core", "specs/Served.antt")
 
 
 class Sources(unittest.TestCase):
     def test_traits_in_bounds(self) -> None:
-        cited = set(file_of(Place("host", "src/server.rt")).cited("serve"))
-        self.assertLessEqual({name("host/src/stream.rt", "Source"), name("host/src/stream.rt", "Sink")}, cited)
+        cited = set(file_of(Place("host_core", "src/server.rt")).cited("serve"))
+        self.assertLessEqual({name("host_core/src/stream.rt", "Source"), name("host_core/src/stream.rt", "Sink")}, cited)
 
     def test_what_a_trait_cites(self) -> None:
-        cited = set(file_of(Place("host", "src/stream.rt")).cited("Sink"))
-        self.assertEqual(cited, {name("host/specs/Stream.antt", word) for word in ("write_failures", "flush_failures")})
+        cited = set(file_of(Place("host_core", "src/stream.rt")).cited("Sink"))
+        self.assertEqual(cited, {name("host_core/specs/Stream.antt", word) for word in ("write_failures", "flush_failures")})
 
     def test_bound_names_are_not_cited(self) -> None:
         cited = {each.word for each in file_of(SERVED).cited("joined_replies")}
@@ -49,25 +49,25 @@ class Tiers(unittest.TestCase):
         self.assertIn(name("transfer/specs/Effects.antt", "effect"), third.names)
 
     def test_idle_stop(self) -> None:
-        tier = Tier("T", frozenset({name("host/specs/Served.antt", "IsUnrefused")}), frozenset({name("tenant/specs/State.antt", "live")}))
+        tier = Tier("T", frozenset({name("host_core/specs/Served.antt", "IsUnrefused")}), frozenset({name("tenant/specs/State.antt", "live")}))
         self.assertEqual(len(idle_stops([tier])), 1)
 
 
 class Tables(unittest.TestCase):
     def test_rows(self) -> None:
         names = frozenset(Name(SERVED, word) for word in ("IsUnrefused", "NoneFaults", "StreamState"))
-        rows = [Row(SERVED, ["NoneFaults", "Gone"], "kept words"), Row(Place("host", "specs/Gone.antt"), ["Lost"], "lost words")]
+        rows = [Row(SERVED, ["NoneFaults", "Gone"], "kept words"), Row(Place("host_core", "specs/Gone.antt"), ["Lost"], "lost words")]
         sections = [Section(["## T", ""], rows)]
         fill(sections, Tier("T", names, frozenset()))
         lines = shown(sections[0])
-        self.assertEqual(lines[-2], "| [`host/specs/Served.antt`](../crates/host/specs/Served.antt) | 11 | `NoneFaults`, `IsUnrefused`, `StreamState` | kept words |")
+        self.assertEqual(lines[-2], "| [`host_core/specs/Served.antt`](../crates/host_core/specs/Served.antt) | 11 | `NoneFaults`, `IsUnrefused`, `StreamState` | kept words |")
         self.assertEqual(sections_of(lines)[0].rows[0].words, "kept words")
 
     def test_quotations(self) -> None:
-        self.assertTrue(quotation("host/specs/Served.antt", "StopsAlone").endswith("ServesAlone old new count rest\n"))
-        self.assertTrue(quotation("host/src/server.rt", "serve").endswith("→ fault.frames ≡ limit) }\n"))
+        self.assertTrue(quotation("host_core/specs/Served.antt", "StopsAlone").endswith("ServesAlone old new count rest\n"))
+        self.assertTrue(quotation("host_core/src/server.rt", "serve").endswith("host.new reader.new writer.new) }\n"))
         with self.assertRaises(ValueError):
-            quotation("host/specs/Served.antt", "Gone")
+            quotation("host_core/specs/Served.antt", "Gone")
 
 
 if __name__ == "__main__":

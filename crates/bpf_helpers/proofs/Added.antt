@@ -7,7 +7,7 @@ use Rattle.words.specs.Bytes.{bytes_at}
 use Rattle.tagged_model.specs.declared.shape.MapShape.{MapShape}
 use Rattle.tagged_model.specs.Table.{Table, with_key, with_values, with_new}
 use Rattle.tagged_model.specs.State.{RunMap, set_at}
-use Rattle.tagged_model.specs.Admits.{KeysHaveObjects}
+use Rattle.tagged_model.specs.StateInvariant.{KeysHaveObjects}
 use Rattle.tagged_model.specs.Helpers.{with_object}
 use Rattle.tagged_model.specs.StateLaws.{owns_more, owns_with}
 use Rattle.arena.specs.Memory.{base}

@@ -16,9 +16,9 @@ use Rattle.bpf_maps.specs.Places.{PlaceTable, table_of, occurrences, with_kept, 
 use Rattle.bpf_maps.specs.Live.{LiveMaps, places_at, shape_at, offset_at, OnlyKeysChange}
 use Rattle.bpf_helpers.specs.inside.Below.{LawsBelow}
 use Rattle.bpf_helpers.specs.Layout.{Layout}
-use Rattle.bpf_helpers.specs.Stands.{HasObject, HasMap, MapsStandFor, StandsFor}
+use Rattle.bpf_helpers.specs.Stands.{HasObject, HasMap, MapsStandFor, Simulates}
 use Rattle.bpf_helpers.specs.inside.Flat.{removal_word, Deletes}
-use Rattle.bpf_helpers.specs.inside.Laws.{DeletesStand}
+use Rattle.bpf_helpers.specs.inside.Laws.{DeletesKeepSimulation}
 use Rattle.bpf_helpers.proofs.Outputs.{others_moved}
 use Rattle.bpf_helpers.proofs.Verdicts.{removal_found}
 use Rattle.bpf_helpers.proofs.Flags.{or_none}
@@ -61,19 +61,19 @@ module _ (below : LawsBelow) (l : Layout) (start : ℕ) (memory : List ℕ) (old
 -- ---- by the reply
 
 module _ (below : LawsBelow) (l : Layout) (bind : List ℕ) (old : Memory) (t at : ℕ) (registers : List ℕ) (memory : Memory) (tenant : LiveMaps) (s : RunState) (i m : ℕ) (map : RunMap) (key : List ℕ) (word : ℕ) (new : LiveMaps)
-    (stands : StandsFor l bind old t at registers memory tenant s) (named : slice_get l.maps i ≡ Some m) (is : s.maps m ≡ Some map) (d : Deletes tenant (slice_index bind i) key word new) where
+    (stands : Simulates l bind old t at registers memory tenant s) (named : slice_get l.maps i ≡ Some m) (is : s.maps m ≡ Some map) (d : Deletes tenant (slice_index bind i) key word new) where
   abbrev k : ℕ
   k = slice_index bind i
 
   Done : Result ℕ MapFault → Type 0
-  Done r = (word ≡ (taken_out map key r).answer) × StandsFor l bind old t at registers memory new (with_reply s m (taken_out map key r))
+  Done r = (word ≡ (taken_out map key r).answer) × Simulates l bind old t at registers memory new (with_reply s m (taken_out map key r))
 
   has : HasMap l (part_start old t) memory.bytes tenant k m map
   has =
       let g = stands.maps.each i m named in
       subst (HasMap l (part_start old t) memory.bytes tenant k m) (same_Some g.0 map (sym g.1 ∙ is)) g.2
 
-  with_maps : (u : RunMap) → MapsStandFor l bind (part_start old t) memory.bytes new (set_at s.maps m (Some u)) → StandsFor l bind old t at registers memory new (with_refusal (with_map s m u) false)
+  with_maps : (u : RunMap) → MapsStandFor l bind (part_start old t) memory.bytes new (set_at s.maps m (Some u)) → Simulates l bind old t at registers memory new (with_refusal (with_map s m u) false)
   with_maps u maps = record {
     slot = stands.slot;
     count = stands.count;
@@ -104,11 +104,11 @@ module _ (below : LawsBelow) (l : Layout) (bind : List ℕ) (old : Memory) (t at
             (map_without below l (part_start old t) memory.bytes tenant new k m map key (has.place number) has there c.1 d.rest)),
       )
 
-  pub delete_stands : (word ≡ (removed map key).answer) × StandsFor l bind old t at registers memory new (with_reply s m (removed map key))
+  pub delete_stands : (word ≡ (removed map key).answer) × Simulates l bind old t at registers memory new (with_reply s m (removed map key))
   unfolding Done
   delete_stands =
       let same : removal (table_of (places_at tenant k)) key ≡ result_map_both has.place (λ fault. fault) (removal map.table key) = ap (λ (x : Table ℕ). removal x key) has.table ∙ below.along.removal has.place map.table key in
       done (removal map.table key) refl (subst (λ r. Removes r key (places_at tenant k) d.answer (places_at new k)) same d.removed)
 
-pub deletes_stand : LawsBelow → DeletesStand
-deletes_stand below l bind old t at registers memory tenant s i m map key word new stands named is d = delete_stands below l bind old t at registers memory tenant s i m map key word new stands named is d
+pub deletes_keep_simulation : LawsBelow → DeletesKeepSimulation
+deletes_keep_simulation below l bind old t at registers memory tenant s i m map key word new stands named is d = delete_stands below l bind old t at registers memory tenant s i m map key word new stands named is d

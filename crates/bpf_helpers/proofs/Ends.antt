@@ -6,7 +6,7 @@ use Rattle.std.proofs.lemmas.Bool.{cond-true, ltb-true}
 use Rattle.words.specs.Bytes.{bytes_at}
 use Rattle.tagged_model.specs.Table.{Table, with_values}
 use Rattle.tagged_model.specs.Step.{numbered}
-use Rattle.tagged_model.specs.Admits.{KeysHaveObjects}
+use Rattle.tagged_model.specs.StateInvariant.{KeysHaveObjects}
 use Rattle.arena.specs.Memory.{base}
 use Rattle.bpf_maps.specs.Places.{PlaceTable, table_of, occurrences, IsSound}
 use Rattle.bpf_maps.specs.Live.{LiveMaps, places_at, offset_at}

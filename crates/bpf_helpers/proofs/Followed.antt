@@ -1,6 +1,6 @@
 -- A call by words does what the machine's call does.
-use Rattle.std.proofs.Common.{◌≡◌, ◌≢◌, ℕ, ◌+◌, ◌-◌, ◌*◌, ◌<◌, ◌≤◌, ◌==◌, ◌&&◌, eqb, leb, false, List, length, slice_get, Option, Some, None, Result, Ok, refl, sym, ap, subst, ◌∙◌, ⊎_elim, arith}
-use Rattle.std.specs.Prelude.{slice_index, slice_set, ok_or}
+use Rattle.std.proofs.Common.{◌≡◌, ◌≢◌, ℕ, ◌+◌, ◌-◌, ◌*◌, ◌<◌, ◌≤◌, ◌==◌, ◌&&◌, eqb, leb, false, List, length, slice_get, Option, Some, None, refl, sym, ap, subst, ◌∙◌, ⊎_elim, arith}
+use Rattle.std.specs.Prelude.{slice_index, slice_set, unwrap_or}
 use Rattle.std.proofs.lemmas.Bool.{cond-false, ne_eqb, false≢true, and_parts, leb-true, eqb-true, eqb-false, cases_Bool}
 use Rattle.std.proofs.lemmas.Option.{same_Some, cond_some, slice_get-get_or, slice_get_within}
 use Rattle.words.specs.Bytes.{bytes_at}
@@ -18,18 +18,20 @@ use Rattle.arena.specs.PartLaws.{part_within}
 use Rattle.bpf_helpers.specs.inside.Below.{LawsBelow}
 use Rattle.bpf_maps.specs.Live.{LiveMaps, LiveMap, live_or, shape_at, holds_at, OnlyKeysChange}
 use Rattle.bpf_maps.specs.LiveLaws.{same_areas}
-use Rattle.bpf_helpers.specs.Layout.{Layout}
-use Rattle.bpf_helpers.specs.Stands.{IsRoom, StandsFor}
-use Rattle.bpf_helpers.specs.inside.Flat.{bound_map, part_place, part_input, flat_look_up, Updates, UpdatesBy, DeletesBy, LoadsBy}
+use Rattle.bpf_helpers.specs.Layout.{Layout, IsWord}
+use Rattle.bpf_helpers.specs.Stands.{IsRoom, Simulates}
+use Rattle.bpf_helpers.specs.Named.{bound_map, part_place, part_input, place_named, NamedKey, key_named}
+use Rattle.bpf_helpers.specs.inside.Flat.{flat_look_up, Updates, UpdatesNamed, UpdatesBy, Deletes, DeletesNamed, DeletesBy, LoadsAt, LoadsBy}
 use Rattle.bpf_helpers.specs.Calls.{AreArguments, ResultFollows}
-use Rattle.bpf_helpers.specs.inside.Laws.{GivesWord, ReturnsStand}
+use Rattle.bpf_helpers.specs.inside.Laws.{GivesWord, ReturnsKeepSimulation}
 use Rattle.bpf_helpers.proofs.Many.{also_some}
 use Rattle.bpf_helpers.proofs.Inputs.{input_there}
+use Rattle.bpf_helpers.proofs.Words.{key_is, pair_is}
 use Rattle.bpf_helpers.proofs.LookUps.{is_given, look_ups_follow}
 use Rattle.bpf_helpers.proofs.Loads.{number_word, load_stands}
 use Rattle.bpf_helpers.proofs.Wider.{extends_itself}
-use Rattle.bpf_helpers.proofs.Updates.{updates_stand}
-use Rattle.bpf_helpers.proofs.Deletes.{deletes_stand}
+use Rattle.bpf_helpers.proofs.Updates.{updates_keep_simulation}
+use Rattle.bpf_helpers.proofs.Deletes.{deletes_keep_simulation}
 
 -- where only the keys of one map change, each map has the holds that it had
 same_holds : (old new : LiveMaps) (k : ℕ) → OnlyKeysChange k old new → (key : ℕ) → holds_at new key ≡ holds_at old key
@@ -51,7 +53,7 @@ input_long memory t n w bs fits e =
     let place : w - (base + start) ≡ a.0 = c.1 in
     ap length (sym (same_Some (bytes_at memory.bytes (part_start memory t + a.0) n) bs a.2)) ∙ length-bytes_at memory.bytes (part_start memory t + a.0) n (omega arith)
 
-module _ (l : Layout) (bind : List ℕ) (old : Memory) (t at : ℕ) (registers : List ℕ) (memory : Memory) (tenant : LiveMaps) (s : RunState) (room : IsRoom old t) (stands : StandsFor l bind old t at registers memory tenant s) (words : List ℕ) (args : AreArguments words registers) where
+module _ (l : Layout) (bind : List ℕ) (old : Memory) (t at : ℕ) (registers : List ℕ) (memory : Memory) (tenant : LiveMaps) (s : RunState) (room : IsRoom old t) (stands : Simulates l bind old t at registers memory tenant s) (words : List ℕ) (args : AreArguments words registers) where
   part_fits : part_start memory t + memory.part ≤ length memory.bytes
   part_fits =
       let within = part_within old t room.is_part in
@@ -96,21 +98,23 @@ module _ (l : Layout) (bind : List ℕ) (old : Memory) (t at : ℕ) (registers :
         input_long memory t n (slice_index registers (i + 1)) bs part_fits read,
       )
 
+  -- a key of the map in register 1, at the address in register 2
+  key_is_named : {g : GivenMap} (m : IsMap g) (key : List ℕ) → part_input memory t (shape_at tenant (slice_index bind m.index)).key_size (slice_index words 1) ≡ Some key
+      → key_named memory t tenant bind (slice_index words 0) (slice_index words 1) ≡ Some (record { map = slice_index bind m.index; key = key })
+  key_is_named m key e = key_is memory t tenant bind (slice_index words 0) (slice_index words 1) (slice_index bind m.index) m.bound key e
+
   other_key : (index key : ℕ) → index < length bind → ((i : ℕ) → i < length bind → slice_index bind i ≢ key) → key ≢ slice_index bind index
   other_key index key lt away same = away index lt (sym same)
 
-  module _ {F : Type 0} (returned : ReturnsStand) (below : LawsBelow) (answer : Result ℕ F) (o : Option ℕ) (fault : F) (is : answer ≡ ok_or o fault) where
-    answered : (w : ℕ) → o ≡ Some w → answer ≡ Ok w
-    answered w e = is ∙ ap (λ o. ok_or o fault) e
-
-    pub look_up_followed : (u : RunState) → o ≡ flat_look_up memory t tenant bind (slice_index words 0) (slice_index words 1) → called false LookUp s ≡ Some u → ResultFollows l bind old t at registers tenant s LookUp answer memory tenant
+  module _ (returned : ReturnsKeepSimulation) (below : LawsBelow) (word : ℕ) where
+    pub look_up_followed : (u : RunState) → word ≡ unwrap_or (flat_look_up memory t tenant bind (slice_index words 0) (slice_index words 1)) 0 → called false LookUp s ≡ Some u → ResultFollows l bind old t at registers tenant s LookUp word memory tenant
     look_up_followed u told e =
         let f = look_ups_follow below.along l bind old t at registers memory tenant s u false room stands e in
-        let same : o ≡ flat_look_up memory t tenant bind (slice_index registers 1) (slice_index registers 2) =
-        told ∙ ap (λ (w : ℕ). flat_look_up memory t tenant bind w (slice_index words 1)) (args 0 (omega arith)) ∙ ap (λ (w : ℕ). flat_look_up memory t tenant bind (slice_index registers 1) w) (args 1 (omega arith)) in
-        by f.0 f.1 o refl (subst (λ x. GivesWord l x (Some f.0)) (sym same) f.2)
+        let same : flat_look_up memory t tenant bind (slice_index words 0) (slice_index words 1) ≡ flat_look_up memory t tenant bind (slice_index registers 1) (slice_index registers 2) =
+        ap (λ (w : ℕ). flat_look_up memory t tenant bind w (slice_index words 1)) (args 0 (omega arith)) ∙ ap (λ (w : ℕ). flat_look_up memory t tenant bind (slice_index registers 1) w) (args 1 (omega arith)) in
+        by f.0 f.1 (flat_look_up memory t tenant bind (slice_index words 0) (slice_index words 1)) told (subst (λ x. GivesWord l x (Some f.0)) (sym same) f.2)
       where
-        by : (v : Tagged) → u ≡ returns s v → (x : Option ℕ) → o ≡ x → GivesWord l x (Some v) → ResultFollows l bind old t at registers tenant s LookUp answer memory tenant
+        by : (v : Tagged) → u ≡ returns s v → (x : Option ℕ) → word ≡ unwrap_or x 0 → GivesWord l x (Some v) → ResultFollows l bind old t at registers tenant s LookUp word memory tenant
         by v after None f g = absurd g
         by v after (Some w) f g = record {
           refused = false;
@@ -119,15 +123,13 @@ module _ (l : Layout) (bind : List ℕ) (old : Memory) (t at : ℕ) (registers :
           goes = e;
           layout = l;
           extends = extends_itself l;
-          word = w;
-          answered = answered w f;
-          stands = subst (λ (x : RunState). StandsFor l bind old t at (slice_set registers 0 w) memory tenant x) (sym after) (returned l bind old t at registers memory tenant s v w stands g);
+          stands = subst (λ (x : RunState). Simulates l bind old t at (slice_set registers 0 word) memory tenant x) (sym after) (returned l bind old t at registers memory tenant s v word stands (subst (IsWord l v) (sym f) g));
           others = λ key away. refl;
           areas = same_areas tenant;
           holds = λ key. refl;
         }
 
-    pub update_followed : (after : Memory) (new : LiveMaps) (u : RunState) → UpdatesBy memory t tenant bind (slice_index words 0) (slice_index words 1) (slice_index words 2) (slice_index words 3) o after new → called false Update s ≡ Some u → ResultFollows l bind old t at registers tenant s Update answer after new
+    pub update_followed : (after : Memory) (new : LiveMaps) (u : RunState) → UpdatesBy memory t tenant bind (slice_index words 0) (slice_index words 1) (slice_index words 2) (slice_index words 3) word after new → called false Update s ≡ Some u → ResultFollows l bind old t at registers tenant s Update word after new
     update_followed after new u told e =
         let a = also_some (map_argument s 1) (λ g. and_then (argument s 2 (λ p. input s p g.map.table.shape.key_size)) (λ key. and_then (argument s 3 (λ p. input s p g.map.table.shape.value_size)) (λ value. and_then (argument s 4 number_given) (λ flags. Some (replies s g.descriptor (updated false g.map key value flags)))))) u e in
         let g = a.0 in
@@ -136,14 +138,16 @@ module _ (l : Layout) (bind : List ℕ) (old : Memory) (t at : ℕ) (registers :
         let d = also_some (argument s 4 number_given) (λ flags. Some (replies s g.descriptor (updated false g.map b.0 c.0 flags))) u c.2 in
         update_by after new told g b.0 c.0 d.0 a.1 b.1 c.1 d.1 (map_there g a.1)
       where
-        update_by : (after : Memory) (new : LiveMaps) → UpdatesBy memory t tenant bind (slice_index words 0) (slice_index words 1) (slice_index words 2) (slice_index words 3) o after new → (g : GivenMap) (key value : List ℕ) (flags : ℕ) → map_argument s 1 ≡ Some g → argument s 2 (λ p. input s p g.map.table.shape.key_size) ≡ Some key → argument s 3 (λ p. input s p g.map.table.shape.value_size) ≡ Some value → argument s 4 number_given ≡ Some flags → IsMap g → ResultFollows l bind old t at registers tenant s Update answer after new
+        update_by : (after : Memory) (new : LiveMaps) → UpdatesBy memory t tenant bind (slice_index words 0) (slice_index words 1) (slice_index words 2) (slice_index words 3) word after new → (g : GivenMap) (key value : List ℕ) (flags : ℕ) → map_argument s 1 ≡ Some g → argument s 2 (λ p. input s p g.map.table.shape.key_size) ≡ Some key → argument s 3 (λ p. input s p g.map.table.shape.value_size) ≡ Some value → argument s 4 number_given ≡ Some flags → IsMap g → ResultFollows l bind old t at registers tenant s Update word after new
         update_by after new told g key value flags first second third fourth m =
             let k = slice_index bind m.index in
             let keys = bytes_there 1 g.map.table.shape.key_size (shape_at tenant k).key_size key (omega arith) (ap (λ (x : MapShape). x.key_size) m.shape) second in
             let values = bytes_there 2 g.map.table.shape.value_size (shape_at tenant k).value_size value (omega arith) (ap (λ (x : MapShape). x.value_size) m.shape) third in
-            let r = told k key value m.bound keys.0 values.0 in
+            let named : NamedKey = record { map = k; key = key } in
+            let pair = pair_is memory t tenant bind (slice_index words 0) (slice_index words 1) (slice_index words 2) named (key_is_named m key keys.0) value values.0 in
+            let r : Updates memory t tenant k key value (slice_index words 3) word after new = subst (λ o. UpdatesNamed memory t tenant o (slice_index words 3) word after new) pair told in
             let flags_are : slice_index words 3 ≡ flags = args 3 (omega arith) ∙ number_word l bind old t at registers memory tenant s room stands 4 flags (omega arith) fourth in
-            let st = updates_stand below l bind old t at registers memory tenant s m.index g.descriptor g.map key value flags r.0 after new room stands m.named m.there values.1 (subst (λ (f : ℕ). Updates memory t tenant k key value f r.0 after new) flags_are r.2) in
+            let st = updates_keep_simulation below l bind old t at registers memory tenant s m.index g.descriptor g.map key value flags word after new room stands m.named m.there values.1 (subst (λ (f : ℕ). Updates memory t tenant k key value f word after new) flags_are r) in
             let reply = updated st.refused g.map key value flags in
             record {
               refused = st.refused;
@@ -155,15 +159,13 @@ module _ (l : Layout) (bind : List ℕ) (old : Memory) (t at : ℕ) (registers :
                   ∙ ap (λ o. and_then o (λ flags. Some (replies s g.descriptor (updated st.refused g.map key value flags)))) fourth;
               layout = st.layout;
               extends = st.extends;
-              word = r.0;
-              answered = answered r.0 r.1;
-              stands = returned st.layout bind old t at registers after new (with_reply s g.descriptor reply) (Scalar reply.answer) r.0 st.stands st.answer;
-              others = λ x away. r.2.rest.others x (other_key m.index x m.within away);
-              areas = r.2.rest.areas;
-              holds = same_holds tenant new k r.2.rest;
+              stands = returned st.layout bind old t at registers after new (with_reply s g.descriptor reply) (Scalar reply.answer) word st.stands st.answer;
+              others = λ x away. r.rest.others x (other_key m.index x m.within away);
+              areas = r.rest.areas;
+              holds = same_holds tenant new k r.rest;
             }
 
-    pub delete_followed : (new : LiveMaps) (u : RunState) → DeletesBy memory t tenant bind (slice_index words 0) (slice_index words 1) o new → called false Delete s ≡ Some u → ResultFollows l bind old t at registers tenant s Delete answer memory new
+    pub delete_followed : (new : LiveMaps) (u : RunState) → DeletesBy memory t tenant bind (slice_index words 0) (slice_index words 1) word new → called false Delete s ≡ Some u → ResultFollows l bind old t at registers tenant s Delete word memory new
     delete_followed new u told e =
         let a = also_some (map_argument s 1) (λ g. and_then (argument s 2 (λ p. input s p g.map.table.shape.key_size)) (λ key. Some (replies s g.descriptor (removed g.map key)))) u e in
         let g = a.0 in
@@ -171,8 +173,8 @@ module _ (l : Layout) (bind : List ℕ) (old : Memory) (t at : ℕ) (registers :
         let m = map_there g a.1 in
         let k = slice_index bind m.index in
         let keys = bytes_there 1 g.map.table.shape.key_size (shape_at tenant k).key_size b.0 (omega arith) (ap (λ (x : MapShape). x.key_size) m.shape) b.1 in
-        let r = told k b.0 m.bound keys.0 in
-        let st = deletes_stand below l bind old t at registers memory tenant s m.index g.descriptor g.map b.0 r.0 new stands m.named m.there r.2 in
+        let r : Deletes tenant k b.0 word new = subst (λ o. DeletesNamed tenant o word new) (key_is_named m b.0 keys.0) told in
+        let st = deletes_keep_simulation below l bind old t at registers memory tenant s m.index g.descriptor g.map b.0 word new stands m.named m.there r in
         let reply = removed g.map b.0 in
         record {
           refused = false;
@@ -181,29 +183,28 @@ module _ (l : Layout) (bind : List ℕ) (old : Memory) (t at : ℕ) (registers :
           goes = e;
           layout = l;
           extends = extends_itself l;
-          word = r.0;
-          answered = answered r.0 r.1;
-          stands = subst (λ (x : RunState). StandsFor l bind old t at (slice_set registers 0 r.0) memory new x) (same_Some (replies s g.descriptor reply) u b.2)
-              (returned l bind old t at registers memory new (with_reply s g.descriptor reply) (Scalar reply.answer) r.0 st.1 st.0);
-          others = λ x away. r.2.rest.others x (other_key m.index x m.within away);
-          areas = r.2.rest.areas;
-          holds = same_holds tenant new k r.2.rest;
+          stands = subst (λ (x : RunState). Simulates l bind old t at (slice_set registers 0 word) memory new x) (same_Some (replies s g.descriptor reply) u b.2)
+              (returned l bind old t at registers memory new (with_reply s g.descriptor reply) (Scalar reply.answer) word st.1 st.0);
+          others = λ x away. r.rest.others x (other_key m.index x m.within away);
+          areas = r.rest.areas;
+          holds = same_holds tenant new k r.rest;
         }
 
-    pub load_followed : (packet : List ℕ) → s.packet ≡ packet → (after : Memory) (u : RunState) → LoadsBy memory t packet (slice_index words 1) (slice_index words 2) (slice_index words 3) o after → called false LoadBytes s ≡ Some u → ResultFollows l bind old t at registers tenant s LoadBytes answer after tenant
+    pub load_followed : (packet : List ℕ) → s.packet ≡ packet → (after : Memory) (u : RunState) → LoadsBy memory t packet (slice_index words 1) (slice_index words 2) (slice_index words 3) word after → called false LoadBytes s ≡ Some u → ResultFollows l bind old t at registers tenant s LoadBytes word after tenant
     load_followed packet same after u told e =
         let st = load_stands l bind old t at registers memory tenant s room stands below.writes false u e in
         let offset = args 1 (omega arith) in
         let to = args 2 (omega arith) in
         let count = args 3 (omega arith) in
-        let place_is : part_place (part_start memory t) memory.part (slice_index words 3) (slice_index words 2) ≡ Some st.place =
-        ap (λ (n : ℕ). part_place (part_start memory t) memory.part n (slice_index words 2)) count ∙ ap (λ (w : ℕ). part_place (part_start memory t) memory.part (slice_index registers 4) w) to ∙ st.place_is in
-        let r = told st.place place_is in
+        let place_is : place_named memory t (slice_index words 3) (slice_index words 2) ≡ Some st.place =
+        ap (λ (n : ℕ). place_named memory t n (slice_index words 2)) count ∙ ap (λ (w : ℕ). place_named memory t (slice_index registers 4) w) to ∙ st.place_is in
+        let r : (word ≡ packet_answer packet (slice_index words 1) (slice_index words 3)) × (after ≡ with_bytes memory (part_start memory t + st.place) (packet_bytes packet (slice_index words 1) (slice_index words 3))) =
+        subst (λ o. LoadsAt memory t packet (slice_index words 1) (slice_index words 3) o word after) place_is told in
         let bytes : packet_bytes packet (slice_index words 1) (slice_index words 3) ≡ packet_bytes s.packet (slice_index registers 2) (slice_index registers 4) =
         ap (λ (x : List ℕ). packet_bytes x (slice_index words 1) (slice_index words 3)) (sym same) ∙ ap (λ (x : ℕ). packet_bytes s.packet x (slice_index words 3)) offset ∙ ap (λ (x : ℕ). packet_bytes s.packet (slice_index registers 2) x) count in
         let gives : packet_answer packet (slice_index words 1) (slice_index words 3) ≡ packet_answer s.packet (slice_index registers 2) (slice_index registers 4) =
         ap (λ (x : List ℕ). packet_answer x (slice_index words 1) (slice_index words 3)) (sym same) ∙ ap (λ (x : ℕ). packet_answer s.packet x (slice_index words 3)) offset ∙ ap (λ (x : ℕ). packet_answer s.packet (slice_index registers 2) x) count in
-        let word = packet_answer s.packet (slice_index registers 2) (slice_index registers 4) in
+        let answer = packet_answer s.packet (slice_index registers 2) (slice_index registers 4) in
         let memory_is : after ≡ with_bytes memory (part_start memory t + st.place) (packet_bytes s.packet (slice_index registers 2) (slice_index registers 4)) = r.1 ∙ ap (λ (x : List ℕ). with_bytes memory (part_start memory t + st.place) x) bytes in
         record {
           refused = false;
@@ -212,11 +213,9 @@ module _ (l : Layout) (bind : List ℕ) (old : Memory) (t at : ℕ) (registers :
           goes = e;
           layout = l;
           extends = extends_itself l;
-          word = word;
-          answered = answered word (r.0 ∙ ap (λ (x : ℕ). Some x) gives);
-          stands = subst (λ (x : RunState). StandsFor l bind old t at (slice_set registers 0 word) after tenant x) (sym st.is)
-              (subst (λ (n : Memory). StandsFor l bind old t at (slice_set registers 0 word) n tenant (returns st.written (Scalar word))) (sym memory_is)
-              (returned l bind old t at registers (with_bytes memory (part_start memory t + st.place) (packet_bytes s.packet (slice_index registers 2) (slice_index registers 4))) tenant st.written (Scalar word) word st.stands refl));
+          stands = subst (λ (x : RunState). Simulates l bind old t at (slice_set registers 0 word) after tenant x) (sym st.is)
+              (subst (λ (n : Memory). Simulates l bind old t at (slice_set registers 0 word) n tenant (returns st.written (Scalar answer))) (sym memory_is)
+              (returned l bind old t at registers (with_bytes memory (part_start memory t + st.place) (packet_bytes s.packet (slice_index registers 2) (slice_index registers 4))) tenant st.written (Scalar answer) word st.stands (r.0 ∙ gives)));
           others = λ key away. refl;
           areas = same_areas tenant;
           holds = λ key. refl;

@@ -8,8 +8,8 @@ use Rattle.std.proofs.lemmas.Option.{none-some, same_Some, cond_some}
 use Rattle.std.proofs.lemmas.List.{length-take}
 use Rattle.words.specs.Bytes.{bytes_at}
 use Rattle.words.specs.ByteLaws.{bytes_within}
-use Rattle.reg_kinds.specs.Stack.{is_in_stack, place}
-use Rattle.reg_kinds.specs.StackLaws.{in_stack}
+use Rattle.words.specs.Stack.{is_in_stack, place}
+use Rattle.words.specs.StackLaws.{in_stack}
 use Rattle.tagged_model.specs.declared.value.Object.TheVariants as object
 use Rattle.tagged_model.specs.declared.value.Tagged.{Tagged}
 use Rattle.tagged_model.specs.declared.value.Tagged.TheVariants.{Pointer}
@@ -21,8 +21,8 @@ use Rattle.bpf_maps.specs.declared.part.TheConstants.{PART}
 use Rattle.bpf_maps.specs.Live.{LiveMaps, live_at, shape_at, offset_at}
 use Rattle.bpf_maps.specs.LiveLaws.{laid_inside}
 use Rattle.bpf_helpers.specs.Layout.{Layout, IsWord}
-use Rattle.bpf_helpers.specs.Stands.{IsRoom, HasObject, MapsStandFor, StandsFor}
-use Rattle.bpf_helpers.specs.inside.Flat.{part_place, part_input}
+use Rattle.bpf_helpers.specs.Stands.{IsRoom, HasObject, MapsStandFor, Simulates}
+use Rattle.bpf_helpers.specs.Named.{part_place, part_input}
 use Rattle.bpf_helpers.proofs.Many.{also_some, bytes_there}
 
 -- ---- parts
@@ -62,7 +62,7 @@ placed_object l start memory bind tenant maps m number has lt =
 
 -- ---- inputs
 
-module _ (l : Layout) (bind : List ℕ) (old : Memory) (t at : ℕ) (registers : List ℕ) (memory : Memory) (tenant : LiveMaps) (s : RunState) (room : IsRoom old t) (stands : StandsFor l bind old t at registers memory tenant s) where
+module _ (l : Layout) (bind : List ℕ) (old : Memory) (t at : ℕ) (registers : List ℕ) (memory : Memory) (tenant : LiveMaps) (s : RunState) (room : IsRoom old t) (stands : Simulates l bind old t at registers memory tenant s) where
   start : ℕ
   start = part_start old t
 

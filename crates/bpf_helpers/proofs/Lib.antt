@@ -1,7 +1,6 @@
 pub mod Many
 pub mod Inputs
 pub mod LookUps
-pub mod Flat
 pub mod Outputs
 pub mod Owned
 pub mod Verdicts

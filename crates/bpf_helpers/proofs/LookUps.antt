@@ -18,11 +18,13 @@ use Rattle.bpf_maps.specs.Places.{table_of}
 use Rattle.bpf_maps.specs.Live.{LiveMaps, places_at, shape_at}
 use Rattle.bpf_maps.specs.Laws.{CallsRefineValues}
 use Rattle.bpf_helpers.specs.Layout.{Layout, IsWord}
-use Rattle.bpf_helpers.specs.Stands.{IsRoom, HasMap, StandsFor}
-use Rattle.bpf_helpers.specs.inside.Flat.{bound_map, part_input, value_word, flat_look_up}
+use Rattle.bpf_helpers.specs.Stands.{IsRoom, HasMap, Simulates}
+use Rattle.bpf_helpers.specs.Named.{bound_map, part_input}
+use Rattle.bpf_helpers.specs.inside.Flat.{value_word, key_word, flat_look_up}
 use Rattle.bpf_helpers.specs.inside.Laws.{GivesWord, LookUpsFollow}
 use Rattle.bpf_helpers.proofs.Many.{also_some}
 use Rattle.bpf_helpers.proofs.Inputs.{input_there}
+use Rattle.bpf_helpers.proofs.Words.{key_is}
 
 -- ---- arguments
 
@@ -44,7 +46,7 @@ is_given s r g e =
     let same = same_Some (record { descriptor = a.0; map = c.0 }) g c.2 in
     subst (IsGiven s r) same (record { register = b.1 ∙ ap (λ (v : Tagged). Some v) (is_map b.0 a.0 b.2); there = c.1 })
 
-module _ (l : Layout) (bind : List ℕ) (old : Memory) (t at : ℕ) (registers : List ℕ) (memory : Memory) (tenant : LiveMaps) (s : RunState) (room : IsRoom old t) (stands : StandsFor l bind old t at registers memory tenant s) where
+module _ (l : Layout) (bind : List ℕ) (old : Memory) (t at : ℕ) (registers : List ℕ) (memory : Memory) (tenant : LiveMaps) (s : RunState) (room : IsRoom old t) (stands : Simulates l bind old t at registers memory tenant s) where
   -- the map that a word names, and what stands for it
   pub record IsBound (w m : ℕ) (map : RunMap) : Type 0 where
     pub key : ℕ
@@ -100,9 +102,7 @@ module _ (l : Layout) (bind : List ℕ) (old : Memory) (t at : ℕ) (registers :
       let size : (shape_at tenant bound.key).key_size ≡ g.map.table.shape.key_size = ap (λ (x : MapShape). x.key_size) (shape_same along g.descriptor bound.key g.map bound.has) in
       let read = input_there l bind old t at registers memory tenant s room stands c.0 (slice_index registers 2) g.map.table.shape.key_size b.0 (stands.values 2 c.0 (omega arith) c.1) c.2 in
       let flat : flat_look_up memory t tenant bind (slice_index registers 1) (slice_index registers 2) ≡ Some (value_word memory t tenant bound.key (look_up (table_of (places_at tenant bound.key)) b.0)) =
-      ap (λ o. and_then o (λ k. and_then (part_input memory t (shape_at tenant k).key_size (slice_index registers 2)) (λ bytes. Some (value_word memory t tenant k (look_up (table_of (places_at tenant k)) bytes))))) bound.bound
-      ∙ ap (λ (n : ℕ). and_then (part_input memory t n (slice_index registers 2)) (λ bytes. Some (value_word memory t tenant bound.key (look_up (table_of (places_at tenant bound.key)) bytes)))) size
-      ∙ ap (λ o. and_then o (λ bytes. Some (value_word memory t tenant bound.key (look_up (table_of (places_at tenant bound.key)) bytes)))) read in (
+      ap (option_map (key_word memory t tenant)) (key_is memory t tenant bind (slice_index registers 1) (slice_index registers 2) bound.key bound.bound b.0 (ap (λ (n : ℕ). part_input memory t n (slice_index registers 2)) size ∙ read)) in (
         looked_up g.descriptor (look_up g.map.table b.0),
         sym (same_Some _ u b.2),
         subst (λ (o : Option ℕ). GivesWord l o (Some (looked_up g.descriptor (look_up g.map.table b.0)))) (sym flat) (look_up_follows along g.descriptor bound.key g.map bound.has b.0),

@@ -4,9 +4,8 @@ use Rattle.std.proofs.lemmas.Bool.{cond_both, and_parts, and_cases, ltb-true, lt
 use Rattle.std.proofs.lemmas.Option.{none-some, same_Some, cond_some, get_or_from_slice_get}
 use Rattle.words.specs.Bytes.{number_of, written_at}
 use Rattle.words.specs.ByteLaws.{written_in, written_out, bytes_are, bytes_stay}
-use Rattle.reg_kinds.specs.Stack.{is_in_stack, place}
-use Rattle.reg_kinds.specs.Many.{touches}
-use Rattle.reg_kinds.specs.StackLaws.{in_stack}
+use Rattle.words.specs.Stack.{is_in_stack, place, touches}
+use Rattle.words.specs.StackLaws.{in_stack}
 use Rattle.tagged_model.specs.declared.value.Tagged.{Tagged}
 use Rattle.tagged_model.specs.Cells.{Cell, holds, bytes, and_then, byte_at, gathered, cell_over}
 use Rattle.tagged_model.specs.State.{RunState, with_cells, stack_byte}

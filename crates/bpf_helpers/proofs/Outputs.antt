@@ -8,8 +8,8 @@ use Rattle.std.proofs.lemmas.Option.{none-some, same_Some, cond_some, slice_get_
 use Rattle.std.proofs.lemmas.List.{length-take}
 use Rattle.words.specs.Bytes.{number_of, bytes_at, written_at}
 use Rattle.words.specs.ByteLaws.{written_out, length-written_at, bytes_stay, over_within}
-use Rattle.reg_kinds.specs.Stack.{is_in_stack, place}
-use Rattle.reg_kinds.specs.StackLaws.{in_stack}
+use Rattle.words.specs.Stack.{is_in_stack, place}
+use Rattle.words.specs.StackLaws.{in_stack}
 use Rattle.tagged_model.specs.declared.value.Object.TheVariants as object
 use Rattle.tagged_model.specs.declared.value.Tagged.{Tagged}
 use Rattle.tagged_model.specs.declared.value.Tagged.TheVariants.{Pointer}
@@ -20,9 +20,9 @@ use Rattle.arena.specs.Apart.{IsPart, WritesStayInside}
 use Rattle.bpf_maps.specs.declared.part.TheConstants.{PART}
 use Rattle.bpf_maps.specs.Live.{LiveMaps, LiveMap, live_at, live_or, shape_at, offset, offset_at, LiesInPart, IsLaid}
 use Rattle.bpf_helpers.specs.Layout.{Layout, IsWord, HasCell, HasStack, HasWords}
-use Rattle.bpf_helpers.specs.Stands.{stack_top, IsRoom, IsOnlyChanged, HasObject, HasMap, MapsStandFor, KeepsUnboundValues, StandsFor}
-use Rattle.bpf_helpers.specs.inside.Flat.{part_place}
-use Rattle.bpf_helpers.specs.inside.Laws.{OutputsStand}
+use Rattle.bpf_helpers.specs.Stands.{stack_top, IsRoom, IsOnlyChanged, HasObject, HasMap, MapsStandFor, KeepsUnboundValues, Simulates}
+use Rattle.bpf_helpers.specs.Named.{part_place}
+use Rattle.bpf_helpers.specs.inside.Laws.{OutputsKeepSimulation}
 use Rattle.bpf_helpers.proofs.Many.{also_some, bytes_over}
 use Rattle.bpf_maps.specs.LiveLaws.{laid_inside}
 use Rattle.bpf_helpers.proofs.Inputs.{part_place_is, start_same, memory_long}
@@ -218,7 +218,7 @@ others_moved bind start old memory tenant new i within others has key p away =
 
 -- ---- states
 
-module _ (writes : WritesStayInside) (l : Layout) (bind : List ℕ) (old : Memory) (t at : ℕ) (registers : List ℕ) (memory : Memory) (tenant : LiveMaps) (s : RunState) (room : IsRoom old t) (stands : StandsFor l bind old t at registers memory tenant s) where
+module _ (writes : WritesStayInside) (l : Layout) (bind : List ℕ) (old : Memory) (t at : ℕ) (registers : List ℕ) (memory : Memory) (tenant : LiveMaps) (s : RunState) (room : IsRoom old t) (stands : Simulates l bind old t at registers memory tenant s) where
   pub changed_after : (q : ℕ) (new : List ℕ) → q + length new ≤ PART → IsOnlyChanged old t (with_bytes memory (part_start old t + q) new)
   changed_after q new h =
       let large = room.room in
@@ -238,15 +238,15 @@ module _ (writes : WritesStayInside) (l : Layout) (bind : List ℕ) (old : Memor
 
   -- the place of what is written, and what stands then
   Written : ℕ → List ℕ → RunState → Type 0
-  Written w bs u = (q : ℕ) × (part_place (part_start memory t) memory.part (length bs) w ≡ Some q) × StandsFor l bind old t at registers (with_bytes memory (part_start memory t + q) bs) tenant u
+  Written w bs u = (q : ℕ) × (part_place (part_start memory t) memory.part (length bs) w ≡ Some q) × Simulates l bind old t at registers (with_bytes memory (part_start memory t + q) bs) tenant u
 
-  written : (w q : ℕ) (bs : List ℕ) (u : RunState) → w ≡ base + (part_start old t + q) → q + length bs ≤ PART → StandsFor l bind old t at registers (with_bytes memory (part_start old t + q) bs) tenant u → Written w bs u
+  written : (w q : ℕ) (bs : List ℕ) (u : RunState) → w ≡ base + (part_start old t + q) → q + length bs ≤ PART → Simulates l bind old t at registers (with_bytes memory (part_start old t + q) bs) tenant u → Written w bs u
   unfolding Written
   written w q bs u e fits after =
       let part = stands.changed.part in let large = room.room in (
         q,
         part_place_is (part_start memory t) memory.part (length bs) w q (e ∙ ap (λ (a : ℕ). base + (a + q)) (sym (start_same l bind old t at registers memory tenant s room stands))) (omega arith),
-        subst (λ (a : ℕ). StandsFor l bind old t at registers (with_bytes memory (a + q) bs) tenant u) (sym (start_same l bind old t at registers memory tenant s room stands)) after,
+        subst (λ (a : ℕ). Simulates l bind old t at registers (with_bytes memory (a + q) bs) tenant u) (sym (start_same l bind old t at registers memory tenant s room stands)) after,
       )
 
   stack_output : (x : ℤ) (w : ℕ) (bs : List ℕ) (u : RunState) → pos w ≡ pos l.front +ℤ x → stack_written s x bs ≡ Some u → Written w bs u
@@ -260,7 +260,7 @@ module _ (writes : WritesStayInside) (l : Layout) (bind : List ℕ) (old : Memor
       let long = memory_long l bind old t at registers memory tenant s room stands in
       let cells = bytes_over l memory.bytes start s u x bs stands.stack (omega arith) e in
       written w (place x) bs u (omega (arith, ints)) (omega arith)
-      (subst (λ (v : RunState). HasStack l (written_at memory.bytes (start + place x) bs) start v.cells → StandsFor l bind old t at registers (with_bytes memory (start + place x) bs) tenant v) c.1
+      (subst (λ (v : RunState). HasStack l (written_at memory.bytes (start + place x) bs) start v.cells → Simulates l bind old t at registers (with_bytes memory (start + place x) bs) tenant v) c.1
       (λ cells. record {
         slot = stands.slot;
         count = stands.count;
@@ -306,7 +306,7 @@ module _ (writes : WritesStayInside) (l : Layout) (bind : List ℕ) (old : Memor
       let now = with_map s m (with_value g.0 number (written_at (g.0.values number) y bs)) in
       let state : now ≡ u = ap (λ (v : List ℕ). with_map s m (with_value g.0 number v)) c.1 ∙ same_Some _ u b.2 in
       written w (off + y) bs u (omega (arith, ints)) (omega arith)
-      (subst (λ (v : RunState). StandsFor l bind old t at registers (with_bytes memory (start + (off + y)) bs) tenant v) state
+      (subst (λ (v : RunState). Simulates l bind old t at registers (with_bytes memory (start + (off + y)) bs) tenant v) state
       (record {
         slot = stands.slot;
         count = stands.count;
@@ -327,10 +327,10 @@ module _ (writes : WritesStayInside) (l : Layout) (bind : List ℕ) (old : Memor
   output_written p w bs u h e = absurd (none-some u e)
 
   pub object_overwritten : (m number : ℕ) (x : ℤ) (w : ℕ) (bs : List ℕ) (u : RunState) → pos w ≡ pos (l.object_at m number) +ℤ x → number < l.counts m → object_written s m number x bs ≡ Some u
-      → (q : ℕ) × (part_place (part_start memory t) memory.part (length bs) w ≡ Some q) × StandsFor l bind old t at registers (with_bytes memory (part_start memory t + q) bs) tenant u
+      → (q : ℕ) × (part_place (part_start memory t) memory.part (length bs) w ≡ Some q) × Simulates l bind old t at registers (with_bytes memory (part_start memory t + q) bs) tenant u
   unfolding Written
   object_overwritten m number x w bs u h placed e = object_output m number x w bs u h placed e
 
-pub outputs_stand : WritesStayInside → OutputsStand
+pub outputs_keep_simulation : WritesStayInside → OutputsKeepSimulation
 unfolding Written
-outputs_stand writes l bind old t at registers memory tenant s u p w bs room stands h e = output_written writes l bind old t at registers memory tenant s room stands p w bs u h e
+outputs_keep_simulation writes l bind old t at registers memory tenant s u p w bs room stands h e = output_written writes l bind old t at registers memory tenant s room stands p w bs u h e

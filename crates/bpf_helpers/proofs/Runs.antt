@@ -22,7 +22,7 @@ use Rattle.bpf_maps.specs.Places.{PlaceTable, after_run}
 use Rattle.bpf_maps.specs.Live.{LiveMaps, live_at, places_at, shape_at, offset_at, value_in, map_in, SameAreas}
 use Rattle.bpf_maps.specs.Laws.{AreasKeepPlaces}
 use Rattle.bpf_helpers.specs.Layout.{Layout, IsWord}
-use Rattle.bpf_helpers.specs.Stands.{stack_top, IsRoom, HasMap, StandsFor}
+use Rattle.bpf_helpers.specs.Stands.{stack_top, IsRoom, HasMap, Simulates}
 use Rattle.bpf_helpers.specs.Runs.{AreReady, HasContext, first_registers, RunBeginsWith, RunsBegin, RunsEnd, OthersStay}
 use Rattle.bpf_maps.specs.LiveLaws.{laid_inside}
 use Rattle.bpf_helpers.proofs.Ends.{maps_begin, maps_end}
@@ -191,7 +191,7 @@ runs_begin bind descriptors old t memory tenant maps words packet room context r
 
 -- ---- the end
 
-module _ (l : Layout) (bind : List ℕ) (old : Memory) (t at : ℕ) (registers : List ℕ) (memory : Memory) (tenant : LiveMaps) (s : RunState) (room : IsRoom old t) (stands : StandsFor l bind old t at registers memory tenant s) where
+module _ (l : Layout) (bind : List ℕ) (old : Memory) (t at : ℕ) (registers : List ℕ) (memory : Memory) (tenant : LiveMaps) (s : RunState) (room : IsRoom old t) (stands : Simulates l bind old t at registers memory tenant s) where
   map_ends : AreasKeepPlaces → (new : LiveMaps) (i m : ℕ) → slice_get l.maps i ≡ Some m → IsSome (live_at new (slice_index bind i)) → places_at new (slice_index bind i) ≡ after_run (places_at tenant (slice_index bind i)) → SameAreas tenant new
       → option_map last_map (s.maps m) ≡ Some (map_in (part_bytes memory t) new (slice_index bind i))
   map_ends keep new i m named live ended areas =

@@ -1,11 +1,11 @@
 -- What single loads give on words and bytes.
 use Rattle.std.proofs.Common.{◌≡◌, ℕ, ◌+◌, ◌*◌, ◌/◌, ◌%◌, ◌<◌, ◌≤◌, ◌^◌, ℤ, pos, ◌+ℤ◌, Bool, false, List, Option, Some, None, option_map, refl, sym, ap, subst, ◌∙◌, arith}
 use Rattle.std.proofs.lemmas.Option.{none-some, same_Some, slice_get_within, get_or_from_slice_get}
+use Rattle.words.specs.declared.stack.AccessSize.{AccessSize}
+use Rattle.words.specs.declared.stack.AccessSize.TheVariants.{Word}
 use Rattle.words.specs.Bytes.{number_of, bytes_at}
-use Rattle.reg_kinds.specs.declared.stack.AccessSize.{AccessSize}
-use Rattle.reg_kinds.specs.declared.stack.AccessSize.TheVariants.{Word}
-use Rattle.reg_kinds.specs.Stack.{bytes_of}
-use Rattle.reg_kinds.specs.StackLaws.{in_one_slot}
+use Rattle.words.specs.Stack.{bytes_of}
+use Rattle.words.specs.StackLaws.{in_one_slot}
 use Rattle.tagged_model.specs.declared.value.Object.TheVariants as object
 use Rattle.tagged_model.specs.declared.value.Tagged.{Tagged}
 use Rattle.tagged_model.specs.declared.value.Tagged.TheVariants.{Scalar, Pointer}
@@ -16,8 +16,8 @@ use Rattle.arena.specs.Ranges.{IsInside}
 use Rattle.arena.specs.PartLaws.{part_within}
 use Rattle.bpf_maps.specs.Live.{LiveMaps}
 use Rattle.bpf_helpers.specs.Layout.{Layout, IsWord}
-use Rattle.bpf_helpers.specs.Stands.{stack_top, IsRoom, StandsFor}
-use Rattle.bpf_helpers.specs.inside.Flat.{part_place}
+use Rattle.bpf_helpers.specs.Stands.{stack_top, IsRoom, Simulates}
+use Rattle.bpf_helpers.specs.Named.{part_place}
 use Rattle.bpf_helpers.specs.Accesses.{MayExtend, address_from, LoadsGiveWords}
 use Rattle.bpf_helpers.proofs.Many.{also_some}
 use Rattle.bpf_helpers.proofs.Inputs.{object_there}
@@ -28,7 +28,7 @@ mapped_some : {A B : Type 0} (f : A → B) (o : Option A) (y : B) → option_map
 mapped_some f None y e = absurd (none-some y e)
 mapped_some f (Some x) y e = (x, refl, same_Some (f x) y e)
 
-module _ (l : Layout) (bind : List ℕ) (old : Memory) (t at : ℕ) (registers : List ℕ) (memory : Memory) (tenant : LiveMaps) (s : RunState) (room : IsRoom old t) (stands : StandsFor l bind old t at registers memory tenant s) where
+module _ (l : Layout) (bind : List ℕ) (old : Memory) (t at : ℕ) (registers : List ℕ) (memory : Memory) (tenant : LiveMaps) (s : RunState) (room : IsRoom old t) (stands : Simulates l bind old t at registers memory tenant s) where
   -- where a word stands for what is loaded
   Loads : AccessSize → Bool → ℕ → Tagged → Type 0
   Loads size signed from v = (place : ℕ) × (place_of (size_of memory) (bytes_of size) from ≡ Some place) × IsInside old t (from, bytes_of size) × IsWord l v (widened size signed (number_of (bytes_at memory.bytes place (bytes_of size))))

@@ -2,11 +2,11 @@
 use Rattle.std.proofs.Common.{◌≡◌, ◌⊎◌, inl, inr, ℕ, ◌+◌, ◌*◌, ◌/◌, ◌%◌, ◌<◌, ◌≤◌, eqb, ℤ, pos, ◌+ℤ◌, List, length, Some, refl, sym, ap, subst, ⊎_elim, arith}
 use Rattle.std.proofs.lemmas.Bool.{cond_both, eqb-true, eqb-false, cases_lt}
 use Rattle.std.proofs.lemmas.Option.{none-some, same_Some}
+use Rattle.words.specs.declared.stack.AccessSize.{AccessSize}
 use Rattle.words.specs.Bytes.{low_bytes, written_at}
 use Rattle.words.specs.ByteLaws.{length-low_bytes}
-use Rattle.reg_kinds.specs.declared.stack.AccessSize.{AccessSize}
-use Rattle.reg_kinds.specs.Stack.{bytes_of}
-use Rattle.reg_kinds.specs.StackLaws.{in_one_slot}
+use Rattle.words.specs.Stack.{bytes_of}
+use Rattle.words.specs.StackLaws.{in_one_slot}
 use Rattle.tagged_model.specs.declared.value.Object.TheVariants as object
 use Rattle.tagged_model.specs.declared.value.Tagged.{Tagged}
 use Rattle.tagged_model.specs.declared.value.Tagged.TheVariants.{Scalar, Map, Pointer}
@@ -18,18 +18,18 @@ use Rattle.arena.specs.Ranges.{IsInside}
 use Rattle.arena.specs.PartLaws.{part_within}
 use Rattle.bpf_maps.specs.Live.{LiveMaps}
 use Rattle.bpf_helpers.specs.Layout.{Layout, IsWord, HasCell}
-use Rattle.bpf_helpers.specs.Stands.{stack_top, IsRoom, StandsFor}
-use Rattle.bpf_helpers.specs.Accesses.{address_from, PointerFits, StoresStand}
+use Rattle.bpf_helpers.specs.Stands.{stack_top, IsRoom, Simulates}
+use Rattle.bpf_helpers.specs.Accesses.{address_from, PointerFits, StoresKeepSimulation}
 use Rattle.bpf_helpers.proofs.Many.{also_some}
 use Rattle.bpf_helpers.proofs.Inputs.{memory_long}
 use Rattle.bpf_helpers.proofs.Outputs.{cell_kept, words_kept, maps_behind, others_behind, changed_after, object_overwritten}
 use Rattle.bpf_helpers.proofs.Cells.{cell_stored}
 use Rattle.bpf_helpers.proofs.Addresses.{in_front, part_place_told, is_at, in_stack, slot_of, slot_within, value_overwritten}
 
-module _ (writes : WritesStayInside) (l : Layout) (bind : List ℕ) (old : Memory) (t at : ℕ) (registers : List ℕ) (memory : Memory) (tenant : LiveMaps) (s : RunState) (room : IsRoom old t) (stands : StandsFor l bind old t at registers memory tenant s) where
+module _ (writes : WritesStayInside) (l : Layout) (bind : List ℕ) (old : Memory) (t at : ℕ) (registers : List ℕ) (memory : Memory) (tenant : LiveMaps) (s : RunState) (room : IsRoom old t) (stands : Simulates l bind old t at registers memory tenant s) where
   -- where bytes are stored, and what stands then
   Stores : ℕ → List ℕ → ℕ → RunState → Type 0
-  Stores n new from u = (place : ℕ) × (place_of (size_of memory) n from ≡ Some place) × IsInside old t (from, n) × StandsFor l bind old t at registers (with_bytes memory place new) tenant u
+  Stores n new from u = (place : ℕ) × (place_of (size_of memory) n from ≡ Some place) × IsInside old t (from, n) × Simulates l bind old t at registers (with_bytes memory place new) tenant u
 
   -- ---- the stack
 
@@ -73,7 +73,7 @@ module _ (writes : WritesStayInside) (l : Layout) (bind : List ℕ) (old : Memor
         start + q,
         c.0,
         c.1,
-        subst (λ (z : RunState). StandsFor l bind old t at registers (with_bytes memory (start + q) new) tenant z) (same_Some _ u b.2)
+        subst (λ (z : RunState). Simulates l bind old t at registers (with_bytes memory (start + q) new) tenant z) (same_Some _ u b.2)
             (record {
               slot = stands.slot;
               count = stands.count;
@@ -107,7 +107,7 @@ module _ (writes : WritesStayInside) (l : Layout) (bind : List ℕ) (old : Memor
         part_start old t + r.0,
         b.0,
         b.1,
-        subst (λ (p : ℕ). StandsFor l bind old t at registers (with_bytes memory (p + r.0) new) tenant u) start r.2,
+        subst (λ (p : ℕ). Simulates l bind old t at registers (with_bytes memory (p + r.0) new) tenant u) start r.2,
       )
 
   value_stored : (size : AccessSize) (m number : ℕ) (x off : ℤ) (w y : ℕ) (v : Tagged) (u : RunState) → pos w ≡ pos (l.object_at m number) +ℤ x → number < l.counts m → IsWord l v y → object_stored s size m number (x +ℤ off) v ≡ Some u → Stores (bytes_of size) (low_bytes (bytes_of size) y) (address_from w off) u
@@ -122,7 +122,7 @@ module _ (writes : WritesStayInside) (l : Layout) (bind : List ℕ) (old : Memor
   stored size (Pointer (object.Value m number) x) off w y v u h word small e = value_stored size m number x off w y v u h.0 h.2 word e
   stored size p off w y v u h word small e = absurd (none-some u e)
 
-pub stores_stand : WritesStayInside → StoresStand
+pub stores_keep_simulation : WritesStayInside → StoresKeepSimulation
 unfolding Stores
-stores_stand writes l bind old t at registers memory tenant s u size p v off w y room stands h word small e =
+stores_keep_simulation writes l bind old t at registers memory tenant s u size p v off w y room stands h word small e =
     stored writes l bind old t at registers memory tenant s room stands size p off w y v u h word small e

@@ -22,14 +22,15 @@ use Rattle.bpf_maps.specs.Places.{table_of, IsFree, with_place, Claims}
 use Rattle.bpf_maps.specs.Live.{LiveMaps, live_at, places_at, shape_at, offset_at, is_memory}
 use Rattle.bpf_helpers.specs.inside.Below.{LawsBelow}
 use Rattle.bpf_helpers.specs.Layout.{Layout, IsWord}
-use Rattle.bpf_helpers.specs.Stands.{stack_top, IsRoom, HasMap, MapsStandFor, StandsFor}
+use Rattle.bpf_helpers.specs.Stands.{stack_top, IsRoom, HasMap, MapsStandFor, Simulates}
 use Rattle.bpf_maps.specs.declared.part.TheConstants.{PART}
-use Rattle.bpf_helpers.specs.inside.Flat.{part_place, Updates, claim_word, with_claimed}
+use Rattle.bpf_helpers.specs.Named.{part_place}
+use Rattle.bpf_helpers.specs.inside.Flat.{Updates, claim_word, with_claimed}
 use Rattle.bpf_maps.specs.LiveLaws.{laid_inside}
 use Rattle.bpf_helpers.proofs.Inputs.{part_place_is, memory_long, start_same}
-use Rattle.bpf_helpers.proofs.Outputs.{changed_after, cell_kept, words_kept, laid_apart, others_moved, outputs_stand}
+use Rattle.bpf_helpers.proofs.Outputs.{changed_after, cell_kept, words_kept, laid_apart, others_moved, outputs_keep_simulation}
 use Rattle.bpf_helpers.specs.Calls.{Extends}
-use Rattle.bpf_helpers.specs.inside.Laws.{UpdateStands, UpdatesStand}
+use Rattle.bpf_helpers.specs.inside.Laws.{UpdateKeepsSimulation, UpdatesKeepSimulation}
 use Rattle.bpf_helpers.proofs.Verdicts.{present_found, never_memory}
 use Rattle.bpf_helpers.proofs.Flags.{or_once_more}
 use Rattle.bpf_helpers.proofs.Moved.{other_key, other_moved, maps_moved, maps_again}
@@ -40,7 +41,7 @@ written_whole : (old new : List ℕ) → length old ≡ length new → written_a
 written_whole old new e = ap (λ (x : List ℕ). new ++ x) (drop_all (0 + length new) old (omega arith)) ∙ append-nil new
 
 module _ (below : LawsBelow) (l : Layout) (bind : List ℕ) (old : Bytes) (t at : ℕ) (registers : List ℕ) (memory : Bytes) (tenant : LiveMaps) (s : RunState) (i m : ℕ) (map : RunMap) (key value : List ℕ) (flags word : ℕ) (after : Bytes) (new : LiveMaps)
-    (room : IsRoom old t) (stands : StandsFor l bind old t at registers memory tenant s) (named : slice_get l.maps i ≡ Some m) (is : s.maps m ≡ Some map) (size : length value ≡ map.table.shape.value_size) (u : Updates memory t tenant (slice_index bind i) key value flags word after new) where
+    (room : IsRoom old t) (stands : Simulates l bind old t at registers memory tenant s) (named : slice_get l.maps i ≡ Some m) (is : s.maps m ≡ Some map) (size : length value ≡ map.table.shape.value_size) (u : Updates memory t tenant (slice_index bind i) key value flags word after new) where
   abbrev k : ℕ
   k = slice_index bind i
 
@@ -54,7 +55,7 @@ module _ (below : LawsBelow) (l : Layout) (bind : List ℕ) (old : Bytes) (t at 
     layout : Layout
     more : Extends l layout
     answer : word ≡ (put refused map key value v).answer
-    standing : StandsFor layout bind old t at registers after new (with_reply s m (put refused map key value v))
+    standing : Simulates layout bind old t at registers after new (with_reply s m (put refused map key value v))
 
   has : HasMap l (part_start old t) memory.bytes tenant k m map
   has =
@@ -70,10 +71,10 @@ module _ (below : LawsBelow) (l : Layout) (bind : List ℕ) (old : Bytes) (t at 
       u.flag ∙ ap (λ a. tenant.refused || is_memory a) told ∙ ap (λ b. tenant.refused || b) memory_is ∙ ap (λ b. b || refused) stands.flag ∙ or_once_more l.refused s.refused refused
 
   -- nothing has changed but the flag
-  unchanged : (x : RunState) (refused : Bool) → x ≡ with_refusal (with_map s m map) refused → new.refused ≡ (l.refused || (s.refused || refused)) → places_at new k ≡ places_at tenant k → after ≡ memory → StandsFor l bind old t at registers after new x
+  unchanged : (x : RunState) (refused : Bool) → x ≡ with_refusal (with_map s m map) refused → new.refused ≡ (l.refused || (s.refused || refused)) → places_at new k ≡ places_at tenant k → after ≡ memory → Simulates l bind old t at registers after new x
   unchanged x refused e flag places same =
-      subst (λ (y : RunState). StandsFor l bind old t at registers after new y) (sym e)
-      (subst (λ (n : Bytes). StandsFor l bind old t at registers n new (with_refusal (with_map s m map) refused)) (sym same)
+      subst (λ (y : RunState). Simulates l bind old t at registers after new y) (sym e)
+      (subst (λ (n : Bytes). Simulates l bind old t at registers n new (with_refusal (with_map s m map) refused)) (sym same)
       (record {
         slot = stands.slot;
         count = stands.count;
@@ -100,7 +101,7 @@ module _ (below : LawsBelow) (l : Layout) (bind : List ℕ) (old : Bytes) (t at 
         (flag_after (Err fault) refused told memory_is) places (u.memory_is ∙ ap (with_claimed memory t tenant k value) told);
   }
 
-  moved : (x : RunState) (n : Bytes) (p : ℕ) → u.answer ≡ Ok p → x.refused ≡ s.refused → places_at new k ≡ places_at tenant k → StandsFor l bind old t at registers n tenant x → StandsFor l bind old t at registers n new (with_refusal x false)
+  moved : (x : RunState) (n : Bytes) (p : ℕ) → u.answer ≡ Ok p → x.refused ≡ s.refused → places_at new k ≡ places_at tenant k → Simulates l bind old t at registers n tenant x → Simulates l bind old t at registers n new (with_refusal x false)
   moved x n p told same places st = record {
     slot = st.slot;
     count = st.count;
@@ -144,7 +145,7 @@ module _ (below : LawsBelow) (l : Layout) (bind : List ℕ) (old : Bytes) (t at 
       let out : output s (Pointer (object.Value m number) (pos 0)) value ≡ Some (with_map s m (with_value map number value)) =
       ap (λ o. and_then o (λ t. and_then (value_written (t.values number) (pos 0) value) (λ x. Some (with_map s m (with_value t number x))))) is
       ∙ ap (λ o. and_then o (λ x. Some (with_map s m (with_value map number x)))) writes_value in
-      let r = outputs_stand below.writes l bind old t at registers memory tenant s (with_map s m (with_value map number value)) (Pointer (object.Value m number) (pos 0)) w value room stands word_is out in
+      let r = outputs_keep_simulation below.writes l bind old t at registers memory tenant s (with_map s m (with_value map number value)) (Pointer (object.Value m number) (pos 0)) w value room stands word_is out in
       let address = o.address in
       let begin = begins in
       let part = stands.changed.part in
@@ -158,9 +159,9 @@ module _ (below : LawsBelow) (l : Layout) (bind : List ℕ) (old : Bytes) (t at 
         layout = l;
         more = extends_itself l;
         answer = u.word_is ∙ ap claim_word told;
-        standing = subst (λ (n : Bytes). StandsFor l bind old t at registers n new (with_refusal (with_map s m (with_value map number value)) false)) (sym memory_is)
+        standing = subst (λ (n : Bytes). Simulates l bind old t at registers n new (with_refusal (with_map s m (with_value map number value)) false)) (sym memory_is)
             (moved (with_map s m (with_value map number value)) (with_bytes memory (part_start memory t + off) value) (has.place number) told refl places
-            (subst (λ (q : ℕ). StandsFor l bind old t at registers (with_bytes memory (part_start memory t + q) value) tenant (with_map s m (with_value map number value))) same r.2));
+            (subst (λ (q : ℕ). Simulates l bind old t at registers (with_bytes memory (part_start memory t + q) value) tenant (with_map s m (with_value map number value))) same r.2));
       }
 
   -- ---- a new key
@@ -250,7 +251,7 @@ module _ (below : LawsBelow) (l : Layout) (bind : List ℕ) (old : Bytes) (t at 
           layout = wider;
           more = more;
           answer = u.word_is ∙ ap claim_word told;
-          standing = subst (λ (n : Bytes). StandsFor wider bind old t at registers n new (with_refusal (with_map s m (with_object map key value)) false)) (sym memory_is) (record {
+          standing = subst (λ (n : Bytes). Simulates wider bind old t at registers n new (with_refusal (with_map s m (with_object map key value)) false)) (sym memory_is) (record {
             slot = stands.slot;
             count = stands.count;
             changed = changed_after below.writes l bind old t at registers memory tenant s room stands off value b;
@@ -282,12 +283,12 @@ module _ (below : LawsBelow) (l : Layout) (bind : List ℕ) (old : Bytes) (t at 
   done (Present number) e c = present_stands number c.0 c.1 (found_owned map.count key map.table.entries number has.owns (present_found map.table key flags number e))
   done New e c = new_done u.answer refl c
 
-  update_stands : UpdateStands l bind old t at registers s m map key value flags word after new
+  update_stands : UpdateKeepsSimulation l bind old t at registers s m map key value flags word after new
   update_stands =
       let same : verdict (table_of (places_at tenant k)) key flags ≡ verdict_with has.place (verdict map.table key flags) = ap (λ (x : Table ℕ). verdict x key flags) has.table ∙ below.along.verdict has.place map.table key flags in
       let d = done (verdict map.table key flags) refl (subst (λ v. Claims v key (places_at tenant k) u.answer (places_at new k)) same u.claimed) in
       record { refused = d.refused; only = d.only; layout = d.layout; extends = d.more; answer = d.answer; stands = d.standing }
 
-pub updates_stand : LawsBelow → UpdatesStand
-updates_stand below l bind old t at registers memory tenant s i m map key value flags word after new room stands named is size u =
+pub updates_keep_simulation : LawsBelow → UpdatesKeepSimulation
+updates_keep_simulation below l bind old t at registers memory tenant s i m map key value flags word after new room stands named is size u =
     update_stands below l bind old t at registers memory tenant s i m map key value flags word after new room stands named is size u

@@ -1,19 +1,62 @@
--- What words name, and what is read by them.
-use Rattle.std.proofs.Common.{◌≡◌, ℕ, ◌+◌, List, Option, Some, sym, ap, subst, ◌∙◌}
-use Rattle.std.proofs.lemmas.Option.{same_Some}
+-- What words name, by what the code has found of it.
+use Rattle.std.proofs.Common.{◌≡◌, ℕ, ◌+◌, ◌≤◌, List, slice_range, Option, Some, None, option_map, sym, ap, ◌∙◌}
 use Rattle.words.specs.Bytes.{bytes_at}
+use Rattle.words.specs.ByteLaws.{bytes_within, range_is_bytes}
 use Rattle.tagged_model.specs.Cells.{and_then}
-use Rattle.arena.specs.Memory.{Memory, part_start}
-use Rattle.bpf_helpers.specs.inside.Flat.{part_place, part_input}
+use Rattle.arena.specs.Memory.{Memory, part_start, part_bytes}
+use Rattle.bpf_maps.specs.Live.{LiveMaps, shape_at}
+use Rattle.bpf_helpers.specs.Named.{bound_map, place_named, part_input, key_input, value_input, NamedKey, NamedPair, key_at, pair_at, key_named, pair_named}
 
--- what holds of the one that is there holds of each that is
-pub by_some : (P : ℕ → Type 0) (m : ℕ) (o : Option ℕ) → Some m ≡ o → P m → (k : ℕ) → o ≡ Some k → P k
-by_some P m o e h k f = subst P (same_Some m k (e ∙ f)) h
+-- ---- bytes at an address
 
-module _ (memory : Memory) (t size n at address : ℕ) (same : n ≡ size) (place : Some at ≡ part_place (part_start memory t) memory.part n address) where
-  pub input_is : part_input memory t size address ≡ Some (bytes_at memory.bytes (part_start memory t + at) size)
-  input_is =
-      ap (λ o. and_then o (λ p. Some (bytes_at memory.bytes (part_start memory t + p) size))) (ap (λ (k : ℕ). part_place (part_start memory t) memory.part k address) (sym same) ∙ sym place)
+module _ (memory : Memory) (t size n address : ℕ) (same : n ≡ size) where
+  place_is : (o : Option ℕ) → o ≡ place_named memory t n address → place_named memory t size address ≡ o
+  place_is o e = ap (λ (k : ℕ). place_named memory t k address) (sym same) ∙ sym e
 
-  pub by_input : (P : List ℕ → Type 0) → P (bytes_at memory.bytes (part_start memory t + at) size) → (bs : List ℕ) → part_input memory t size address ≡ Some bs → P bs
-  by_input P h bs e = subst P (same_Some (bytes_at memory.bytes (part_start memory t + at) size) bs (sym input_is ∙ e)) h
+  pub input_is : (at : ℕ) → Some at ≡ place_named memory t n address → part_input memory t size address ≡ Some (bytes_at memory.bytes (part_start memory t + at) size)
+  input_is at e = ap (λ o. and_then o (λ p. Some (bytes_at memory.bytes (part_start memory t + p) size))) (place_is (Some at) e)
+
+  pub no_input : None ≡ place_named memory t n address → part_input memory t size address ≡ None
+  no_input e = ap (λ o. and_then o (λ p. Some (bytes_at memory.bytes (part_start memory t + p) size))) (place_is None e)
+
+-- a range of a part
+pub part_range : (memory : Memory) (t at n : ℕ) (part : List ℕ) → part ≡ part_bytes memory t → at + n ≤ memory.part → slice_range part at (at + n) ≡ bytes_at memory.bytes (part_start memory t + at) n
+part_range memory t at n part is fits =
+    range_is_bytes part at n ∙ ap (λ (x : List ℕ). bytes_at x at n) is ∙ bytes_within memory.bytes (part_start memory t) memory.part at n fits
+
+-- ---- a map with a key, and with a value
+
+module _ (memory : Memory) (t : ℕ) (tenant : LiveMaps) (bind : List ℕ) (map key : ℕ) where
+  pub no_map : bound_map bind map ≡ None → key_named memory t tenant bind map key ≡ None
+  no_map e = ap (λ o. and_then o (key_at memory t tenant key)) e
+
+  module _ (k : ℕ) (bound : bound_map bind map ≡ Some k) where
+    by_map : (o : Option (List ℕ)) → key_input memory t tenant k key ≡ o → key_named memory t tenant bind map key ≡ option_map (λ bs. let n : NamedKey = record { map = k; key = bs } in n) o
+    by_map o e = ap (λ o. and_then o (key_at memory t tenant key)) bound ∙ ap (option_map (λ bs. let n : NamedKey = record { map = k; key = bs } in n)) e
+
+    pub no_key : key_input memory t tenant k key ≡ None → key_named memory t tenant bind map key ≡ None
+    no_key e = by_map None e
+
+    pub key_is : (bs : List ℕ) → key_input memory t tenant k key ≡ Some bs → key_named memory t tenant bind map key ≡ Some (record { map = k; key = bs })
+    key_is bs e = by_map (Some bs) e
+
+    -- the bytes of the part are the key
+    pub key_there : (n at : ℕ) (part : List ℕ) → n ≡ (shape_at tenant k).key_size → Some at ≡ place_named memory t n key → part ≡ part_bytes memory t → at + n ≤ memory.part
+        → key_named memory t tenant bind map key ≡ Some (record { map = k; key = slice_range part at (at + n) })
+    key_there n at part size place is fits =
+        let there : bytes_at memory.bytes (part_start memory t + at) (shape_at tenant k).key_size ≡ slice_range part at (at + n) =
+        ap (λ (m : ℕ). bytes_at memory.bytes (part_start memory t + at) m) (sym size) ∙ sym (part_range memory t at n part is fits) in
+        key_is (slice_range part at (at + n)) (input_is memory t (shape_at tenant k).key_size n key size at place ∙ ap (λ (x : List ℕ). Some x) there)
+
+  pub no_pair : (value : ℕ) → key_named memory t tenant bind map key ≡ None → pair_named memory t tenant bind map key value ≡ None
+  no_pair value e = ap (λ o. and_then o (pair_at memory t tenant value)) e
+
+  module _ (value : ℕ) (n : NamedKey) (named : key_named memory t tenant bind map key ≡ Some n) where
+    by_key : (o : Option (List ℕ)) → value_input memory t tenant n.map value ≡ o → pair_named memory t tenant bind map key value ≡ option_map (λ vs. let p : NamedPair = record { map = n.map; key = n.key; value = vs } in p) o
+    by_key o e = ap (λ o. and_then o (pair_at memory t tenant value)) named ∙ ap (option_map (λ vs. let p : NamedPair = record { map = n.map; key = n.key; value = vs } in p)) e
+
+    pub no_value : value_input memory t tenant n.map value ≡ None → pair_named memory t tenant bind map key value ≡ None
+    no_value e = by_key None e
+
+    pub pair_is : (vs : List ℕ) → value_input memory t tenant n.map value ≡ Some vs → pair_named memory t tenant bind map key value ≡ Some (record { map = n.map; key = n.key; value = vs })
+    pair_is vs e = by_key (Some vs) e

@@ -1,5 +1,6 @@
 pub mod Layout
 pub mod Stands
+pub mod Named
 pub mod Calls
 pub mod Accesses
 pub mod Runs

@@ -1,21 +1,18 @@
 //! Laws of the words and bytes that stand for a state. Each is the contract of a function that does nothing.
 
-ghost use Rattle.bpf_helpers.specs.Accesses.{LoadsGiveWords, StoresStand, PointersAreLow};
+ghost use Rattle.bpf_helpers.specs.Accesses.{LoadsGiveWords, StoresKeepSimulation, PointersAreLow};
 ghost use Rattle.bpf_helpers.specs.Runs.{RunsBegin, RunsEnd, OthersStay};
 ghost use Rattle.bpf_helpers.specs.inside.Below.{LawsBelow};
-ghost use Rattle.bpf_helpers.specs.inside.Laws.{ReturnsStand};
-
-use arena::writes_stay_inside;
-use bpf_maps::{areas_keep_places, calls_refine_values, deletes_keep_places};
+ghost use Rattle.bpf_helpers.specs.inside.Laws.{ReturnsKeepSimulation};
 
 /// The laws of the memory and of maps that the laws of calls rest on.
-pub(crate) fn laws_below()
+pub(crate) fn call_premises()
     ensures { LawsBelow }
 {
-    writes_stay_inside();
-    calls_refine_values();
-    areas_keep_places();
-    deletes_keep_places();
+    arena::laws::writes_stay_inside();
+    tagged_model::laws::calls_refine_values();
+    bpf_maps::laws::areas_keep_places();
+    bpf_maps::laws::deletes_keep_places();
 }
 
 /// Where the machine loads a value, the bytes at the address of the load are a word that stands for it, and lie in the part.
@@ -25,10 +22,10 @@ pub fn loads_give_words()
 
 /// Where the machine stores a value, its word at the address of the store, which lies in the part, leaves words and bytes that
 /// stand for the state after it.
-pub fn stores_stand()
-    ensures { StoresStand }
+pub fn stores_keep_simulation()
+    ensures { StoresKeepSimulation }
 {
-    writes_stay_inside();
+    arena::laws::writes_stay_inside();
 }
 
 /// The address of an object is at least 2^32, and at most 2^28 more.
@@ -37,8 +34,8 @@ pub fn pointers_are_low()
 {}
 
 /// With what a call gives in register 0, the words stand for the state after the call.
-pub(crate) fn returns_stand()
-    ensures { ReturnsStand }
+pub(crate) fn returns_keep_simulation()
+    ensures { ReturnsKeepSimulation }
 {}
 
 /// Where a run begins, with its context in the part, words, bytes and live maps stand for the state in which the machine
@@ -51,7 +48,7 @@ pub fn runs_begin()
 pub fn runs_end()
     ensures { RunsEnd }
 {
-    areas_keep_places();
+    bpf_maps::laws::areas_keep_places();
 }
 
 /// The values of maps that a run does not name have the bytes that they had.

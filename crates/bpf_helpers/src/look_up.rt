@@ -1,15 +1,15 @@
 //! The look-up of a key, on words and bytes.
 
-ghost use Rattle.std.specs.Prelude.{◌≡◌, ℕ, ◌+◌, ◌-◌, ◌<◌, ◌≤◌, length, slice_index, IfSome, IsSome};
-ghost use Rattle.arena.specs.Memory.{part_start};
+ghost use Rattle.std.specs.Prelude.{◌≡◌, ℕ, ◌+◌, ◌-◌, ◌<◌, ◌≤◌, length, slice_index, unwrap_or, IfSome, IsSome};
 ghost use Rattle.arena.specs.Ranges.{IsInside, AddsInside};
 ghost use Rattle.bpf_maps.specs.declared.part.TheConstants.{PART};
 ghost use Rattle.bpf_maps.specs.Live.{live_at};
+ghost use Rattle.bpf_helpers.specs.Named.{bound_map, place_named};
 ghost use Rattle.bpf_helpers.specs.Calls.{AreLive};
-ghost use Rattle.bpf_helpers.specs.inside.Flat.{bound_map, part_place, flat_look_up};
+ghost use Rattle.bpf_helpers.specs.inside.Flat.{flat_look_up};
 
 use arena::{Arena, Trace};
-use bpf_maps::{MapKey, Maps, PART, sizes_fit_in_parts};
+use bpf_maps::{MapKey, Maps, PART, laws};
 
 /// The map that a word names.
 #[inline(always)]
@@ -31,7 +31,7 @@ pub(crate) fn place_in(arena: &Arena, tenant: usize, size: usize, address: u64) 
     requires tenant { tenant < arena.now.parts }
     requires part { arena.now.part ≡ PART }
     requires size { size ≤ PART }
-    ensures value { result ≡ part_place (part_start arena.now tenant) arena.now.part size address }
+    ensures value { result ≡ place_named arena.now tenant size address }
     ensures within { IfSome result (λ at. at + size ≤ arena.now.part) }
     ensures inside { IfSome result (λ at. IsInside arena.now tenant (address, size)) }
 {
@@ -55,7 +55,7 @@ pub(crate) fn asked_place(
     requires tenant { tenant < arena.now.parts }
     requires part { arena.now.part ≡ PART }
     requires size { size ≤ PART }
-    ensures value { result ≡ part_place (part_start arena.now tenant) arena.now.part size address }
+    ensures value { result ≡ place_named arena.now tenant size address }
     ensures within { IfSome result (λ at. at + size ≤ arena.now.part) }
     ensures inside { AddsInside arena.now tenant trace.old.ranges trace.new.ranges }
     ensures steps { trace.new.steps ≡ trace.old.steps }
@@ -65,7 +65,8 @@ pub(crate) fn asked_place(
     Some(at)
 }
 
-/// The address of the value of a key, or 0: helper 1. The words name the map and the address of the key.
+/// The address of the value of a key, or 0: helper 1. The words name the map and the address of the key. Where they name none
+/// the answer is 0.
 #[inline(always)]
 pub(crate) fn look_up(
     map: u64,
@@ -75,22 +76,24 @@ pub(crate) fn look_up(
     arena: &Arena,
     maps: &Maps,
     trace: &mut Trace,
-) -> Option<u64>
+) -> u64
     requires tenant { tenant < arena.now.parts }
     requires part { arena.now.part ≡ PART }
     requires live { AreLive maps.now bind.now }
-    ensures value { result ≡ flat_look_up arena.now tenant maps.now bind.now map key }
+    ensures value { result
+        ≡ unwrap_or (flat_look_up arena.now tenant maps.now bind.now map key) 0 }
     ensures inside { AddsInside arena.now tenant trace.old.ranges trace.new.ranges }
     ensures steps { trace.new.steps ≡ trace.old.steps }
 {
-    sizes_fit_in_parts();
+    laws::sizes_fit_in_parts();
     arena.memory_is_its_parts();
-    let map = bound(bind, map)?;
+    let Some(map) = bound(bind, map) else {
+        return 0;
+    };
     let size = maps.shape(map).key_size as usize;
-    let at = asked_place(arena, tenant, size, key, trace)?;
+    let Some(at) = asked_place(arena, tenant, size, key, trace) else {
+        return 0;
+    };
     let part = arena.part(tenant);
-    match maps.find(map, &part[at..at + size]) {
-        Some(place) => Some(arena.address(tenant) + maps.value_at(map, place) as u64),
-        None => Some(0),
-    }
+    maps.address_of(map, &part[at..at + size], arena.address(tenant))
 }

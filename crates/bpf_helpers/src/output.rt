@@ -1,6 +1,6 @@
 //! Bytes that a helper writes into a tenant's part.
 
-ghost use Rattle.std.specs.Prelude.{◌≡◌, ◌+◌, ◌<◌, ◌≤◌, length, replicate, IfNone};
+ghost use Rattle.std.specs.Prelude.{◌≡◌, ◌+◌, ◌<◌, ◌≤◌, length, replicate};
 ghost use Rattle.tagged_model.specs.Helpers.{negative, outside};
 ghost use Rattle.arena.specs.Memory.{part_start, with_bytes};
 ghost use Rattle.arena.specs.Ranges.{AddsInside};
@@ -8,7 +8,7 @@ ghost use Rattle.bpf_maps.specs.declared.part.TheConstants.{PART};
 ghost use Rattle.bpf_helpers.specs.inside.Flat.{LoadsBy};
 
 use crate::look_up::asked_place;
-use arena::{Arena, Trace, writes_are_in_parts};
+use arena::{Arena, Trace, laws};
 use bpf_maps::PART;
 
 // The offset in a packet is read in 32 bits, and may not be negative.
@@ -27,7 +27,7 @@ pub(crate) fn write_bytes(arena: &mut Arena, tenant: usize, at: usize, bytes: &[
     ensures { arena.new ≡ with_bytes arena.old (part_start arena.old tenant + at) bytes.now }
 {
     arena.memory_is_its_parts();
-    writes_are_in_parts();
+    laws::writes_are_in_parts();
     let part = arena.part_mut(tenant);
     part[at..at + bytes.len()].copy_from_slice(bytes);
 }
@@ -41,13 +41,13 @@ pub(crate) fn write_zeros(arena: &mut Arena, tenant: usize, at: usize, count: us
         ≡ with_bytes arena.old (part_start arena.old tenant + at) (replicate count 0) }
 {
     arena.memory_is_its_parts();
-    writes_are_in_parts();
+    laws::writes_are_in_parts();
     let part = arena.part_mut(tenant);
     part[at..at + count].fill(0);
 }
 
 /// Copies bytes of the packet to an address: helper 26. Where they leave the packet, zeros are written and an error is
-/// answered. It answers nothing where no part of the tenant's is at the address.
+/// answered; the same is answered where no part of the tenant's is at the address, and nothing is written.
 #[inline(always)]
 pub(crate) fn load_bytes(
     offset: u64,
@@ -57,26 +57,27 @@ pub(crate) fn load_bytes(
     arena: &mut Arena,
     packet: &[u8],
     trace: &mut Trace,
-) -> Option<u64>
+) -> u64
     requires tenant { tenant < arena.old.parts }
     requires part { arena.old.part ≡ PART }
     ensures loaded { LoadsBy arena.old tenant packet.now offset to count result arena.new }
-    ensures unchanged { IfNone result (arena.new ≡ arena.old) }
     ensures inside { AddsInside arena.old tenant trace.old.ranges trace.new.ranges }
     ensures steps { trace.new.steps ≡ trace.old.steps }
 {
     if count > PART as u64 {
-        return None;
+        return OUTSIDE;
     }
     let count = count as usize;
-    let at = asked_place(arena, tenant, count, to, trace)?;
+    let Some(at) = asked_place(arena, tenant, count, to, trace) else {
+        return OUTSIDE;
+    };
     let from = offset % OFFSETS;
     if from <= LAST_OFFSET && from as usize + count <= packet.len() {
         let from = from as usize;
         write_bytes(arena, tenant, at, &packet[from..from + count]);
-        Some(0)
+        0
     } else {
         write_zeros(arena, tenant, at, count);
-        Some(OUTSIDE)
+        OUTSIDE
     }
 }

@@ -1,6 +1,6 @@
 //! An update of a map, on words and bytes.
 
-ghost use Rattle.std.specs.Prelude.{◌≡◌, ◌≢◌, ℕ, ◌+◌, ◌-◌, ◌^◌, ◌<◌, ◌≤◌, length, IfNone, IsSome};
+ghost use Rattle.std.specs.Prelude.{◌≡◌, ◌≢◌, ℕ, ◌+◌, ◌-◌, ◌^◌, ◌<◌, ◌≤◌, length, IsSome};
 ghost use Rattle.arena.specs.Ranges.{AddsInside};
 ghost use Rattle.bpf_maps.specs.declared.part.TheConstants.{PART};
 ghost use Rattle.bpf_maps.specs.Live.{live_at, shape_at};
@@ -10,7 +10,7 @@ ghost use Rattle.bpf_helpers.specs.inside.Flat.{key_bytes, value_bytes, Updates,
 
 use crate::look_up::{asked_place, bound};
 use arena::{Arena, Trace};
-use bpf_maps::{MapKey, Maps, areas_keep_places, sizes_fit_in_parts};
+use bpf_maps::{MapKey, Maps, laws};
 use tagged_model::MapFault;
 
 /// The number of an error of bpf(2).
@@ -59,7 +59,7 @@ pub(crate) fn put(
     ensures steps { trace.new.steps ≡ trace.old.steps }
 {
     arena.memory_is_its_parts();
-    areas_keep_places();
+    laws::areas_keep_places();
     let shape = maps.shape(map);
     let part = arena.part(tenant);
     match maps.claim(map, &part[key..key + shape.key_size as usize], flags) {
@@ -73,8 +73,8 @@ pub(crate) fn put(
     }
 }
 
-/// An update that is asked for by words, which name the map and the addresses of the key and the value: helper 2. It answers
-/// nothing where they name none.
+/// An update that is asked for by words, which name the map and the addresses of the key and the value: helper 2. Where they
+/// name none the answer is that of a wrong argument, and nothing changes.
 pub(crate) fn update(
     map: u64,
     key: u64,
@@ -85,20 +85,25 @@ pub(crate) fn update(
     arena: &mut Arena,
     maps: &mut Maps,
     trace: &mut Trace,
-) -> Option<u64>
+) -> u64
     requires tenant { tenant < arena.old.parts }
     requires part { arena.old.part ≡ PART }
     requires live { AreLive maps.old bind.now }
     ensures updated { UpdatesBy arena.old tenant maps.old bind.now map key value flags
         result arena.new maps.new }
-    ensures unchanged { IfNone result ((arena.new ≡ arena.old) × (maps.new ≡ maps.old)) }
     ensures inside { AddsInside arena.old tenant trace.old.ranges trace.new.ranges }
     ensures steps { trace.new.steps ≡ trace.old.steps }
 {
-    sizes_fit_in_parts();
-    let map = bound(bind, map)?;
+    laws::sizes_fit_in_parts();
+    let Some(map) = bound(bind, map) else {
+        return refusal(MapFault::Invalid);
+    };
     let shape = maps.shape(map);
-    let key = asked_place(arena, tenant, shape.key_size as usize, key, trace)?;
-    let value = asked_place(arena, tenant, shape.value_size as usize, value, trace)?;
-    Some(put(map, key, value, flags, tenant, arena, maps, trace))
+    let Some(key) = asked_place(arena, tenant, shape.key_size as usize, key, trace) else {
+        return refusal(MapFault::Invalid);
+    };
+    let Some(value) = asked_place(arena, tenant, shape.value_size as usize, value, trace) else {
+        return refusal(MapFault::Invalid);
+    };
+    put(map, key, value, flags, tenant, arena, maps, trace)
 }

@@ -8,7 +8,7 @@ use Rattle.tagged_model.specs.declared.fault.MapFault.{MapFault}
 use Rattle.tagged_model.specs.declared.fault.MapFault.TheVariants.{NoEntry, TooBig, Memory, Exists, Invalid, NoSpace}
 use Rattle.tagged_model.specs.Shape.{area}
 use Rattle.slab.specs.Slab.{Slab}
-use Rattle.bpf_maps.specs.declared.part.TheConstants.{FRONT, LARGEST_SUM, MAPS, PART}
+use Rattle.bpf_maps.specs.declared.part.TheConstants.{STACK_AND_CONTEXT, LARGEST_SUM, MAPS, PART}
 use Rattle.bpf_maps.specs.declared.maps.Entry.{Entry}
 use Rattle.bpf_maps.specs.declared.maps.Maps.TheInside.{Inside}
 use Rattle.bpf_maps.specs.Places.{PlaceTable, IsSound, new_places}
@@ -70,7 +70,7 @@ pub record IsAdded (a : Inside) (shape : MapShape) (slots : Slab Entry) (layouts
   pub capacity : slots.capacity ≡ a.slots.capacity
   pub places : places_of e.map ≡ new_places shape
   pub below : k < slots.capacity
-  pub start : e.start ≡ FRONT + a.bytes
+  pub start : e.start ≡ STACK_AND_CONTEXT + a.bytes
   pub stride : e.stride ≡ (shape.value_size + 7) / 8 * 8
   pub holds : e.holds ≡ 1
   pub layout : layouts ≡ slice_set a.layouts k (layout_of e)
@@ -141,8 +141,8 @@ module _ (a : Inside) (t : LiveMaps) (shape : MapShape) (size : ℕ) (r : IsRoom
     laid_one = laid (with_new a size slots layouts) whole_one
 
     -- it stands behind the others
-    pub last_one : start_at (as_live_maps (with_new a size slots layouts)) k ≡ FRONT + areas t
-    last_one = told_of (λ l. l.start) _ _ live_new ∙ d.start ∙ ap (λ (n : ℕ). FRONT + n) (h.sum ∙ ap areas view)
+    pub last_one : start_at (as_live_maps (with_new a size slots layouts)) k ≡ STACK_AND_CONTEXT + areas t
+    last_one = told_of (λ l. l.start) _ _ live_new ∙ d.start ∙ ap (λ (n : ℕ). STACK_AND_CONTEXT + n) (h.sum ∙ ap areas view)
 
     pub more_one : HasOneMore t (as_live_maps (with_new a size slots layouts)) shape
     more_one =
@@ -156,21 +156,21 @@ module _ (a : Inside) (t : LiveMaps) (shape : MapShape) (size : ℕ) (r : IsRoom
 
     -- ---- the bytes
 
-    module _ (bytes later : List ℕ) (long : length bytes ≡ PART) (written : later ≡ take (FRONT + a.bytes) bytes ++ (replicate size 0 ++ drop (FRONT + a.bytes + size) bytes)) where
-      enough : FRONT + a.bytes + size ≤ length bytes
+    module _ (bytes later : List ℕ) (long : length bytes ≡ PART) (written : later ≡ take (STACK_AND_CONTEXT + a.bytes) bytes ++ (replicate size 0 ++ drop (STACK_AND_CONTEXT + a.bytes + size) bytes)) where
+      enough : STACK_AND_CONTEXT + a.bytes + size ≤ length bytes
       enough = let m = r.room in omega arith
 
-      pub front_kept : take FRONT later ≡ take FRONT bytes
-      front_kept = ap (take FRONT) written ∙ front_same bytes (replicate size 0) (FRONT + a.bytes) size (length-replicate size 0) enough FRONT (omega arith)
+      pub front_kept : take STACK_AND_CONTEXT later ≡ take STACK_AND_CONTEXT bytes
+      front_kept = ap (take STACK_AND_CONTEXT) written ∙ front_same bytes (replicate size 0) (STACK_AND_CONTEXT + a.bytes) size (length-replicate size 0) enough STACK_AND_CONTEXT (omega arith)
 
       pub cleared_one : (p : ℕ) → p < shape.max_entries → value_in later (as_live_maps (with_new a size slots layouts)) k p ≡ replicate shape.value_size 0
       cleared_one p l =
-          let o : offset (live_of e) p ≡ FRONT + a.bytes + p * e.stride = offset_of e p ∙ ap (λ (n : ℕ). n + p * e.stride) d.start in
+          let o : offset (live_of e) p ≡ STACK_AND_CONTEXT + a.bytes + p * e.stride = offset_of e p ∙ ap (λ (n : ℕ). n + p * e.stride) d.start in
           ap (λ (x : Option LiveMap). take (live_or x).places.shape.value_size (drop (offset (live_or x) p) later)) live_new
           ∙ ap (λ (v : ℕ). take v (drop (offset (live_of e) p) later)) value_of
           ∙ ap (λ (n : ℕ). take shape.value_size (drop n later)) o
-          ∙ ap (λ (b : List ℕ). take shape.value_size (drop (FRONT + a.bytes + p * e.stride) b)) written
-          ∙ zeros bytes (FRONT + a.bytes) size enough (p * e.stride) shape.value_size (let x = value_ends shape.value_size shape.max_entries e.stride stride p l in let z = r.size_is in omega arith)
+          ∙ ap (λ (b : List ℕ). take shape.value_size (drop (STACK_AND_CONTEXT + a.bytes + p * e.stride) b)) written
+          ∙ zeros bytes (STACK_AND_CONTEXT + a.bytes) size enough (p * e.stride) shape.value_size (let x = value_ends shape.value_size shape.max_entries e.stride stride p l in let z = r.size_is in omega arith)
 
       kept_at : (j p : ℕ) (f : Entry) → get_or a.slots.slots j None ≡ Some f → p < (places_of f.map).shape.max_entries → take (places_of f.map).shape.value_size (drop (offset (live_of f) p) later) ≡ take (places_of f.map).shape.value_size (drop (offset (live_of f) p) bytes)
       kept_at j p f at l =
@@ -180,7 +180,7 @@ module _ (a : Inside) (t : LiveMaps) (shape : MapShape) (size : ℕ) (r : IsRoom
           let x = value_ends s.value_size s.max_entries f.stride i.stride p l in
           let w = i.within in
           ap (λ (b : List ℕ). take s.value_size (drop (offset (live_of f) p) b)) written
-          ∙ before_same bytes (replicate size 0) (FRONT + a.bytes) size (length-replicate size 0) enough (offset (live_of f) p) s.value_size (omega arith)
+          ∙ before_same bytes (replicate size 0) (STACK_AND_CONTEXT + a.bytes) size (length-replicate size 0) enough (offset (live_of f) p) s.value_size (omega arith)
 
       pub values_kept : SameValues t bytes (as_live_maps (with_new a size slots layouts)) later
       values_kept j p old_live new_live l =

@@ -2,7 +2,7 @@
 use Rattle.std.proofs.Common.{◌≡◌, ◌≢◌, ℕ, ◌+◌, ◌-◌, ◌*◌, ◌/◌, ◌%◌, ◌<◌, ◌≤◌, ◌⊎◌, Bool, if◌then◌else◌, ap, ◌∙◌, arith, ⊎_elim, inl, inr}
 use Rattle.std.proofs.lemmas.Bool.{le-leb, lt-leb, cases_lt}
 use Rattle.tagged_model.specs.Shape.{area}
-use Rattle.bpf_maps.specs.declared.part.TheConstants.{FRONT, LARGEST_SUM}
+use Rattle.bpf_maps.specs.declared.part.TheConstants.{STACK_AND_CONTEXT, LARGEST_SUM}
 use Rattle.bpf_maps.specs.Live.{LiesInPart, start_without}
 
 times_less : (a b c : ℕ) → a ≤ b → a * c ≤ b * c
@@ -31,7 +31,7 @@ module _ (value max stride : ℕ) (round : stride ≡ (value + 7) / 8 * 8) where
       omega arith
 
   -- and so in the part
-  pub place_inside : (start bytes p : ℕ) → FRONT ≤ start → start % 8 ≡ 0 → start + area value max ≤ FRONT + bytes → bytes ≤ LARGEST_SUM → p < max → LiesInPart (start + p * stride) value
+  pub place_inside : (start bytes p : ℕ) → STACK_AND_CONTEXT ≤ start → start % 8 ≡ 0 → start + area value max ≤ STACK_AND_CONTEXT + bytes → bytes ≤ LARGEST_SUM → p < max → LiesInPart (start + p * stride) value
   place_inside start bytes p behind aligned within few l = record {
     behind = omega arith;
     within = let i = value_ends p l in omega arith;

@@ -6,7 +6,7 @@ use Rattle.std.proofs.lemmas.List.{take_all}
 use Rattle.tagged_model.specs.declared.fault.MapFault.{MapFault}
 use Rattle.tagged_model.specs.Table as map
 use Rattle.tagged_model.specs.MapLaws.{CallsRefineValues, MapVerdictsMatchLookUps}
-use Rattle.bpf_maps.specs.declared.part.TheConstants.{FRONT}
+use Rattle.bpf_maps.specs.declared.part.TheConstants.{STACK_AND_CONTEXT}
 use Rattle.bpf_maps.specs.Places.{PlaceTable, table_of, occurrences, IsFree, Claims, with_place, with_kept, after_run}
 use Rattle.bpf_maps.specs.Live.{LiveMap, LiveMaps, live_at, live_or, places_at, shape_at, offset_at, value_in, map_in, LiesInPart, IsLaid, SameAreas}
 use Rattle.bpf_maps.specs.InPart.{IsValueAt, with_value, ValueIsWritten, updated, RefinesValues}
@@ -79,7 +79,7 @@ module _ (part : List ℕ) (t : LiveMaps) (k p : ℕ) (bytes : List ℕ) (is : I
     others = λ other differ live.
         agreeing_tables (value_in later t other) (value_in part t other) (places_at t other)
         (λ q used. elsewhere other q live (used_in_entries (places_at t other) q (is.sound other live) used) (λ same. absurd (differ same)));
-    front = let behind = inside.behind in front_same part bytes start (length bytes) refl room FRONT behind;
+    front = let behind = inside.behind in front_same part bytes start (length bytes) refl room STACK_AND_CONTEXT behind;
     size = length_same part bytes start (length bytes) refl room ∙ is.whole;
   }
 

@@ -4,7 +4,7 @@ use Rattle.std.proofs.lemmas.List.{drop-take, drop-drop, length-drop}
 use Rattle.std.proofs.Math.Seq.{length-take-le, take-take}
 use Rattle.tagged_model.specs.declared.shape.MapShape.{MapShape}
 use Rattle.slab.specs.Slab.{Slab}
-use Rattle.bpf_maps.specs.declared.part.TheConstants.{FRONT, PART}
+use Rattle.bpf_maps.specs.declared.part.TheConstants.{STACK_AND_CONTEXT, PART}
 use Rattle.bpf_maps.specs.declared.maps.Entry.{Entry}
 use Rattle.bpf_maps.specs.declared.maps.Maps.TheInside.{Inside}
 use Rattle.bpf_maps.specs.Any.{places_of}
@@ -57,10 +57,10 @@ module _ (a : Inside) (t : LiveMaps) (at key : ℕ) (old gone : Entry) (c : IsTa
   was = subst (λ (e : Entry). get_or a.slots.slots at None ≡ Some e) is_gone c.here
 
   -- its area
-  pub gone_behind : FRONT ≤ gone.start
+  pub gone_behind : STACK_AND_CONTEXT ≤ gone.start
   gone_behind = (c.whole.placed at gone was).behind
 
-  pub gone_within : gone.start + area_of (live_of gone) ≤ FRONT + a.bytes
+  pub gone_within : gone.start + area_of (live_of gone) ≤ STACK_AND_CONTEXT + a.bytes
   gone_within = (c.whole.placed at gone was).within
 
   pub gone_keys : (left : Slab Entry) → get_or left.slots at None ≡ None → ((j : ℕ) → j ≢ at → get_or left.slots j None ≡ get_or (set a.slots.slots at (Some old)) j None) → left.capacity ≡ a.slots.capacity
@@ -152,14 +152,14 @@ module _ (a : Inside) (t : LiveMaps) (at key : ℕ) (old gone : Entry) (c : IsTa
       -- ---- the bytes
 
       module _ (bytes later : List ℕ) (long : length bytes ≡ PART)
-          (written : later ≡ take gone.start bytes ++ (take (FRONT + a.bytes - (gone.start + size)) (drop (gone.start + size) bytes) ++ drop (gone.start + (FRONT + a.bytes - (gone.start + size))) bytes)) where
+          (written : later ≡ take gone.start bytes ++ (take (STACK_AND_CONTEXT + a.bytes - (gone.start + size)) (drop (gone.start + size) bytes) ++ drop (gone.start + (STACK_AND_CONTEXT + a.bytes - (gone.start + size))) bytes)) where
         abbrev many : ℕ
-        many = FRONT + a.bytes - (gone.start + size)
+        many = STACK_AND_CONTEXT + a.bytes - (gone.start + size)
 
         abbrev moved : List ℕ
         moved = take many (drop (gone.start + size) bytes)
 
-        in_part : FRONT + a.bytes ≤ length bytes
+        in_part : STACK_AND_CONTEXT + a.bytes ≤ length bytes
         in_part = let f = c.whole.few in omega arith
 
         long_moved : length moved ≡ many
@@ -171,8 +171,8 @@ module _ (a : Inside) (t : LiveMaps) (at key : ℕ) (old gone : Entry) (c : IsTa
         pub length_gone : length later ≡ PART
         length_gone = ap length written ∙ length_same bytes moved gone.start many long_moved room ∙ long
 
-        pub front_gone : take FRONT later ≡ take FRONT bytes
-        front_gone = ap (take FRONT) written ∙ front_same bytes moved gone.start many long_moved room FRONT gone_behind
+        pub front_gone : take STACK_AND_CONTEXT later ≡ take STACK_AND_CONTEXT bytes
+        front_gone = ap (take STACK_AND_CONTEXT) written ∙ front_same bytes moved gone.start many long_moved room STACK_AND_CONTEXT gone_behind
 
         -- the bytes that move are those behind
         from_behind : (x n : ℕ) → x + n ≤ many → take n (drop x moved) ≡ take n (drop (gone.start + size + x) bytes)

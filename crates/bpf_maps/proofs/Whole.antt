@@ -3,7 +3,7 @@ use Rattle.std.proofs.Common.{◌≡◌, ◌≢◌, ℕ, ◌+◌, ◌*◌, ◌/�
 use Rattle.std.proofs.lemmas.Option.{none-some, same_Some}
 use Rattle.tagged_model.specs.declared.shape.MapShape.{MapShape}
 use Rattle.tagged_model.specs.Shape.{area}
-use Rattle.bpf_maps.specs.declared.part.TheConstants.{FRONT, LARGEST_SUM, MAPS}
+use Rattle.bpf_maps.specs.declared.part.TheConstants.{STACK_AND_CONTEXT, LARGEST_SUM, MAPS}
 use Rattle.bpf_maps.specs.declared.maps.Entry.{Entry}
 use Rattle.bpf_maps.specs.declared.maps.Maps.TheInside.{Inside}
 use Rattle.bpf_maps.specs.Any.{places_of}
@@ -85,8 +85,8 @@ module _ (a : Inside) (h : IsWellFormedMaps a) where
     inside = λ k l at.
         let e = entry_of a.slots.slots k l at in
         let i = h.placed k e.0 e.1 in
-        let within : e.0.start + area_of (live_of e.0) ≤ FRONT + areas (as_live_maps a) = let w = i.within in let s = h.sum in omega arith in
-        subst (λ (x : LiveMap). (FRONT ≤ x.start) × (x.start + area_of x ≤ FRONT + areas (as_live_maps a))) e.2 (i.behind, within);
+        let within : e.0.start + area_of (live_of e.0) ≤ STACK_AND_CONTEXT + areas (as_live_maps a) = let w = i.within in let s = h.sum in omega arith in
+        subst (λ (x : LiveMap). (STACK_AND_CONTEXT ≤ x.start) × (x.start + area_of x ≤ STACK_AND_CONTEXT + areas (as_live_maps a))) e.2 (i.behind, within);
     apart = λ k j l m at bt ne.
         let e = entry_of a.slots.slots k l at in
         let f = entry_of a.slots.slots j m bt in
@@ -198,7 +198,7 @@ module _ (a b : Inside) (k : ℕ) (h : IsWellFormedMaps a) (others : (j : ℕ) �
     count_added = more_total (λ l. 1)
 
   -- its area stands behind the others
-  module _ (e : Entry) (at : get_or a.slots.slots k None ≡ None) (bt : entry_at b k e) (below : k < a.slots.capacity) (start : e.start ≡ FRONT + a.bytes) (stride : e.stride ≡ ((places_of e.map).shape.value_size + 7) / 8 * 8) (held : 1 ≤ e.holds) (sound : IsSound (places_of e.map)) (bytes : b.bytes ≡ a.bytes + area_of (live_of e)) (few : b.bytes ≤ LARGEST_SUM) (layouts : AreLaidOut b.slots b.layouts) where
+  module _ (e : Entry) (at : get_or a.slots.slots k None ≡ None) (bt : entry_at b k e) (below : k < a.slots.capacity) (start : e.start ≡ STACK_AND_CONTEXT + a.bytes) (stride : e.stride ≡ ((places_of e.map).shape.value_size + 7) / 8 * 8) (held : 1 ≤ e.holds) (sound : IsSound (places_of e.map)) (bytes : b.bytes ≡ a.bytes + area_of (live_of e)) (few : b.bytes ≤ LARGEST_SUM) (layouts : AreLaidOut b.slots b.layouts) where
     aligned_now : (a.bytes + area_of (live_of e)) % 8 ≡ 0
     aligned_now = let al = h.aligned in let r = area_aligned (places_of e.map).shape.value_size (places_of e.map).shape.max_entries in omega arith
 

@@ -1,6 +1,6 @@
 -- How a tenant's live maps are kept. This project's own.
 use Rattle.std.specs.Prelude.{◌≡◌, ◌≢◌, ℕ, ◌+◌, ◌*◌, ◌/◌, ◌%◌, ◌<◌, ◌≤◌, ◌⊎◌, List, map, Option, Some, None, option_map, length, slice_index_or}
-use Rattle.bpf_maps.specs.declared.part.TheConstants.{FRONT, LARGEST_SUM, MAPS}
+use Rattle.bpf_maps.specs.declared.part.TheConstants.{STACK_AND_CONTEXT, LARGEST_SUM, MAPS}
 use Rattle.bpf_maps.specs.declared.maps.Entry.{Entry}
 use Rattle.bpf_maps.specs.declared.maps.Maps.TheInside.{Inside}
 use Rattle.bpf_maps.specs.declared.map_layout.MapLayout.{MapLayout}
@@ -38,8 +38,8 @@ closed_up end size e = record { map = e.map; start = start_without end size e.st
 -- a map's area lies among so many bytes behind the front, its values are at multiples of eight, one holds it, and no two of
 -- its keys have one place
 pub record IsInItsArea (bytes : ℕ) (e : Entry) : Type 0 where
-  pub behind : FRONT ≤ e.start
-  pub within : e.start + area_of (live_of e) ≤ FRONT + bytes
+  pub behind : STACK_AND_CONTEXT ≤ e.start
+  pub within : e.start + area_of (live_of e) ≤ STACK_AND_CONTEXT + bytes
   pub aligned : e.start % 8 ≡ 0
   pub stride : e.stride ≡ ((places_of e.map).shape.value_size + 7) / 8 * 8
   pub held : 1 ≤ e.holds

@@ -3,7 +3,7 @@
 use Rattle.std.specs.Prelude.{◌≡◌, ◌≢◌, ℕ, ◌<◌, List, length, take, Some, IsSome, Ok}
 use Rattle.words.specs.Bytes.{written_at}
 use Rattle.tagged_model.specs.Table as map
-use Rattle.bpf_maps.specs.declared.part.TheConstants.{FRONT, PART}
+use Rattle.bpf_maps.specs.declared.part.TheConstants.{STACK_AND_CONTEXT, PART}
 use Rattle.bpf_maps.specs.Places.{table_of, Claims, with_kept, after_run}
 use Rattle.bpf_maps.specs.Live.{LiveMaps, live_at, places_at, shape_at, offset_at, value_in, map_in, IsLaid, AreSound, SameAreas}
 
@@ -28,7 +28,7 @@ pub record ValueIsWritten (part : List ℕ) (t : LiveMaps) (k p : ℕ) (bytes : 
   pub elsewhere : (j q : ℕ) → IsSome (live_at t j) → q < (shape_at t j).max_entries → (j ≡ k → q ≢ p) → value_in (with_value part t k p bytes) t j q ≡ value_in part t j q
   pub key : (key : List ℕ) → map.look_up (table_of (places_at t k)) key ≡ Some p → map_in (with_value part t k p bytes) t k ≡ map.with_object (map_in part t k) key bytes
   pub others : (other : ℕ) → other ≢ k → IsSome (live_at t other) → map_in (with_value part t k p bytes) t other ≡ map_in part t other
-  pub front : take FRONT (with_value part t k p bytes) ≡ take FRONT part
+  pub front : take STACK_AND_CONTEXT (with_value part t k p bytes) ≡ take STACK_AND_CONTEXT part
   pub size : length (with_value part t k p bytes) ≡ PART
 
 abbrev pub ValuesAreWritten : Type 0

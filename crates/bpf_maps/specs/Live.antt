@@ -1,12 +1,12 @@
 -- A tenant's live maps, and where their values lie in the tenant's part. The limits and the layout are this project's
 -- own.
-use Rattle.std.specs.Prelude.{◌≡◌, ◌≢◌, ℕ, ◌+◌, ◌-◌, ◌*◌, ◌/◌, ◌%◌, ◌<◌, ◌≤◌, ◌⊎◌, Bool, true, false, ◌||◌, nat_le, nat_lt, if◌then◌else◌, List, take, drop, Option, Some, None, IsSome, option_map, Result, Ok, Err, slice_index_or, refl}
+use Rattle.std.specs.Prelude.{◌≡◌, ◌≢◌, ℕ, ◌+◌, ◌-◌, ◌*◌, ◌/◌, ◌%◌, ◌^◌, ◌<◌, ◌≤◌, ◌⊎◌, Bool, true, false, ◌||◌, nat_le, nat_lt, if◌then◌else◌, List, take, drop, Option, Some, None, IsSome, option_map, Result, Ok, Err, slice_index_or, refl}
 use Rattle.tagged_model.specs.declared.shape.MapKind.TheVariants.{Hash}
 use Rattle.tagged_model.specs.declared.shape.MapShape.{MapShape}
 use Rattle.tagged_model.specs.declared.fault.MapFault.{MapFault}
 use Rattle.tagged_model.specs.declared.fault.MapFault.TheVariants.{NoEntry, TooBig, Memory, Exists, Invalid, NoSpace}
 use Rattle.tagged_model.specs.Shape.{area}
-use Rattle.bpf_maps.specs.declared.part.TheConstants.{FRONT, LARGEST_SUM, MAPS, PART}
+use Rattle.bpf_maps.specs.declared.part.TheConstants.{STACK_AND_CONTEXT, LARGEST_SUM, MAPS, PART}
 use Rattle.tagged_model.specs.Table.{Table, with_values}
 use Rattle.bpf_maps.specs.Sum.{total}
 use Rattle.bpf_maps.specs.Places.{PlaceTable, table_of, new_places, IsSound}
@@ -56,6 +56,11 @@ offset l p = l.start + p * l.stride
 abbrev pub offset_at : LiveMaps → ℕ → ℕ → ℕ
 offset_at t k p = offset (live_or (live_at t k)) p
 
+-- the address in 64 bits of a value, in a part that begins at an address, or null
+abbrev pub value_address : ℕ → LiveMaps → ℕ → Option ℕ → ℕ
+value_address part t k None = 0
+value_address part t k (Some p) = (part + offset_at t k p) % 2 ^ 64
+
 -- the bytes of a part at a place of the map under a key
 abbrev pub value_in : List ℕ → LiveMaps → ℕ → ℕ → List ℕ
 value_in part t k p = take (shape_at t k).value_size (drop (offset_at t k p) part)
@@ -66,7 +71,7 @@ map_in part t k = with_values (value_in part t k) (table_of (places_at t k))
 
 -- so many bytes that begin there lie in a part behind the stack and the context, and begin at a multiple of eight
 pub record LiesInPart (at size : ℕ) : Type 0 where
-  pub behind : FRONT ≤ at
+  pub behind : STACK_AND_CONTEXT ≤ at
   pub within : at + size ≤ PART
   pub aligned : at % 8 ≡ 0
 
@@ -131,7 +136,7 @@ StandsBefore l m = l.start + area_of l ≤ m.start
 -- the areas of all live maps lie apart in as many bytes behind the front as they take together, so that there is no gap, and
 -- the values in each have no more between them than makes their size a multiple of eight
 pub record IsPacked (t : LiveMaps) : Type 0 where
-  pub inside : (k : ℕ) (l : LiveMap) → live_at t k ≡ Some l → (FRONT ≤ l.start) × (l.start + area_of l ≤ FRONT + areas t)
+  pub inside : (k : ℕ) (l : LiveMap) → live_at t k ≡ Some l → (STACK_AND_CONTEXT ≤ l.start) × (l.start + area_of l ≤ STACK_AND_CONTEXT + areas t)
   pub apart : (k j : ℕ) (l m : LiveMap) → live_at t k ≡ Some l → live_at t j ≡ Some m → k ≢ j → StandsBefore l m ⊎ StandsBefore m l
   pub stride : (k : ℕ) (l : LiveMap) → live_at t k ≡ Some l → l.stride ≡ (l.places.shape.value_size + 7) / 8 * 8
 

@@ -39,8 +39,8 @@ impl AnyMap {
             → places_of self.now ≡ new_places (places_of self.now).shape }
     {
         match self {
-            AnyMap::Array(map) => map.is_array(),
-            AnyMap::Hash(map) => map.is_hash_map(),
+            AnyMap::Array(map) => map.keys_are_its_indices(),
+            AnyMap::Hash(map) => map.places_are_distinct(),
         }
     }
 

@@ -52,13 +52,25 @@ impl ArrayMap {
 
     /// A law: it has its indices and nothing else, and their keys have four bytes. It does nothing when it runs.
     #[inline(always)]
-    pub(crate) fn is_array(&self)
+    pub(crate) fn keys_are_its_indices(&self)
         ensures kind { self.now.shape.kind ≡ Array }
         ensures whole { self.now ≡ new_places self.now.shape }
         ensures key_size { self.now.shape.key_size ≡ 4 }
         ensures sound { IsSound self.now }
     {
         let _ = &self.shape;
+    }
+
+    /// The index that a key spells. The array has it if it is below `max_entries`.
+    #[inline(always)]
+    pub(crate) fn index_spelled(&self, key: &[u8]) -> u32
+        requires { length key.now ≡ self.now.shape.key_size }
+        ensures found { look_up (table_of self.now) key.now
+            ≡ (if nat_lt result self.now.shape.max_entries then Some result else None) }
+        ensures spelled { index_key result ≡ key.now }
+    {
+        self.keys_are_its_indices();
+        index_of(key)
     }
 
     /// The index that a key spells, if the array has it.
@@ -69,7 +81,7 @@ impl ArrayMap {
         ensures within { IfSome result (λ index. index < self.now.shape.max_entries) }
         ensures spelled { IfSome result (λ index. index_key index ≡ key.now) }
     {
-        self.is_array();
+        self.keys_are_its_indices();
         let index = index_of(key);
         if index < self.shape.max_entries {
             Some(index)
@@ -91,7 +103,7 @@ impl ArrayMap {
         ensures within { IfOk result (λ place. place < self.now.shape.max_entries) }
         ensures no_memory { is_memory result ≡ false }
     {
-        self.is_array();
+        self.keys_are_its_indices();
         if flags > EXIST {
             return Err(MapFault::Invalid);
         }
@@ -113,7 +125,7 @@ impl ArrayMap {
         ensures next { next_of (table_of self.now) key.now
             ≡ (if nat_lt result self.now.shape.max_entries then Some (index_key result) else None) }
     {
-        self.is_array();
+        self.keys_are_its_indices();
         if key.is_empty() {
             return 0;
         }
@@ -129,23 +141,23 @@ impl ValueMap for ArrayMap {
 
     #[inline(always)]
     fn find(&self, key: &[u8]) -> Option<u32> {
-        self.is_array();
+        self.keys_are_its_indices();
         self.place_of(key)
     }
 
     #[inline(always)]
     fn claim(&mut self, key: &[u8], flags: u64) -> Result<u32, MapFault> {
-        self.is_array();
+        self.keys_are_its_indices();
         self.place_for(key, flags)
     }
 
     fn remove(&mut self, _key: &[u8]) -> Result<(), MapFault> {
-        self.is_array();
+        self.keys_are_its_indices();
         Err(MapFault::Invalid)
     }
 
     fn key_after(&self, key: &[u8]) -> Option<GivenKey<'_>> {
-        self.is_array();
+        self.keys_are_its_indices();
         let index = self.index_after(key);
         if index >= self.shape.max_entries {
             return None;
@@ -154,7 +166,7 @@ impl ValueMap for ArrayMap {
     }
 
     fn end_run(&mut self) {
-        self.is_array();
+        self.keys_are_its_indices();
     }
 }
 

@@ -60,7 +60,7 @@ impl HashMapIx {
 
     /// A law: no two keys have the same place. It does nothing when it runs.
     #[inline(always)]
-    pub(crate) fn is_hash_map(&self)
+    pub(crate) fn places_are_distinct(&self)
         ensures kind { self.now.shape.kind ≡ Hash }
         ensures sound { IsSound self.now }
     {
@@ -103,13 +103,13 @@ impl ValueMap for HashMapIx {
 
     #[inline(never)]
     fn find(&self, key: &[u8]) -> Option<u32> {
-        self.is_hash_map();
+        self.places_are_distinct();
         self.place_of(key)
     }
 
     #[inline(never)]
     fn claim(&mut self, key: &[u8], flags: u64) -> Result<u32, MapFault> {
-        self.is_hash_map();
+        self.places_are_distinct();
         if flags > EXIST {
             return Err(MapFault::Invalid);
         }

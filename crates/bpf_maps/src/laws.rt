@@ -4,8 +4,6 @@ ghost use Rattle.std.specs.Prelude.{ℕ, List};
 ghost use Rattle.bpf_maps.specs.Laws.{SizesFitInParts, CallsAreThoseOfAMap, WritesRefineValues, ValuesAgree, PlacesAreWithin, AreasKeepPlaces, DeletesKeepPlaces};
 ghost use Rattle.bpf_maps.specs.InPart.{ValuesAreWritten, LiveMapsRefineValues};
 
-use tagged_model::{calls_refine_values, map_verdicts_match_look_ups};
-
 /// A table of places changes as the definition of a map says: a new map, a new key, a delete, and the end of a run.
 pub fn calls_are_those_of_a_map()
     ensures { CallsAreThoseOfAMap }
@@ -48,6 +46,6 @@ pub fn values_are_written()
 pub fn live_maps_refine_values()
     ensures { LiveMapsRefineValues }
 {
-    calls_refine_values();
-    map_verdicts_match_look_ups();
+    tagged_model::laws::calls_refine_values();
+    tagged_model::laws::map_verdicts_match_look_ups();
 }

@@ -3,10 +3,10 @@
 ghost use Rattle.std.specs.Prelude.{◌≡◌, ◌≢◌, ℕ, ◌+◌, ◌-◌, ◌<◌, ◌≤◌, ◌^◌, ◌⊎◌, ◌||◌, true, false, if◌then◌else◌, [], length, take, replicate, option_map, Some, None, IfSome, IfNone, IfOk, OnErr, IsSome, slice_index_or};
 ghost use Rattle.tagged_model.specs.declared.shape.MapKind.TheVariants.{Array};
 ghost use Rattle.tagged_model.specs.Table.{look_up, verdict, removal, next_of, new_table};
-ghost use Rattle.bpf_maps.specs.declared.part.TheConstants.{PART, FRONT, MAPS, LARGEST_SUM};
+ghost use Rattle.bpf_maps.specs.declared.part.TheConstants.{PART, STACK_AND_CONTEXT, MAPS, LARGEST_SUM};
 ghost use Rattle.bpf_maps.specs.Places.{table_of, IsSound, Claims, Removes, GivesKey, after_run, new_places};
 ghost use Rattle.bpf_maps.specs.Given.{given_bytes};
-ghost use Rattle.bpf_maps.specs.Live.{live_at, places_at, shape_at, holds_at, held_at, offset_at, value_in, map_in, LiesInPart, IsLaid, IsPacked, ClosesUp, start_at, AreSound, SameAreas, SameValues, KeepsMap, KeepsMaps, KeepsOthers, count, areas, SameRoom, OnlyKeysChange, HasOneMore, create_fault, Creates, one_more, one_less, is_memory};
+ghost use Rattle.bpf_maps.specs.Live.{live_at, places_at, shape_at, holds_at, held_at, offset_at, value_in, map_in, value_address, LiesInPart, IsLaid, IsPacked, ClosesUp, start_at, AreSound, SameAreas, SameValues, KeepsMap, KeepsMaps, KeepsOthers, count, areas, SameRoom, OnlyKeysChange, HasOneMore, create_fault, Creates, one_more, one_less, is_memory};
 ghost use Rattle.bpf_maps.specs.InMaps.{closed_up, layout_of, layout_at, AreLaidOut};
 ghost use Rattle.slab.specs.Slab.{ContainsKey, get};
 
@@ -14,7 +14,7 @@ use crate::any_map::AnyMap;
 use crate::array_map::ArrayMap;
 use crate::given_key::GivenKey;
 use crate::map_layout::{Layouts, MapLayout};
-use crate::part::{FRONT, KEY_ROOM, LARGEST_SUM, MAPS, PART, clear};
+use crate::part::{KEY_ROOM, LARGEST_SUM, MAPS, PART, STACK_AND_CONTEXT, clear};
 use crate::value_map::ValueMap;
 use slab::Slab;
 use std::alloc::{AllocError, Global};
@@ -139,7 +139,7 @@ impl Maps {
         ensures created { Creates (create_fault self.old shape) self.old shape result self.new }
         ensures older { (map : ℕ) → IsSome (live_at self.old map) → live_at self.new map
             ≡ live_at self.old map }
-        ensures last { IfOk result (λ k. start_at self.new k ≡ FRONT + areas self.old) }
+        ensures last { IfOk result (λ k. start_at self.new k ≡ STACK_AND_CONTEXT + areas self.old) }
         ensures laid { IsLaid self.new }
         ensures cleared { IfOk result (λ k. shape.kind ≡ Array → (p : ℕ) → p < shape.max_entries
             → value_in part.new self.new k p ≡ replicate shape.value_size 0) }
@@ -148,7 +148,7 @@ impl Maps {
         ensures values { SameValues self.old part.old self.new part.new }
         ensures maps { KeepsMaps self.old part.old self.new part.new }
         ensures more { IfOk result (λ k. HasOneMore self.old self.new shape) }
-        ensures front { take FRONT part.new ≡ take FRONT part.old }
+        ensures front { take STACK_AND_CONTEXT part.new ≡ take STACK_AND_CONTEXT part.old }
         ensures length { length part.new ≡ PART }
         ensures unchanged { OnErr result (part.new ≡ part.old) }
     {
@@ -160,7 +160,7 @@ impl Maps {
             self.refused = true;
             return Err(MapFault::Memory);
         };
-        let start = FRONT + self.bytes;
+        let start = STACK_AND_CONTEXT + self.bytes;
         clear(part, start, size);
         let entry = Entry {
             map,
@@ -217,7 +217,7 @@ impl Maps {
         ensures room { 1 < holds_at self.old map → SameRoom self.old self.new }
         ensures freed { holds_at self.old map ≤ 1
             → HasOneMore self.new self.old (shape_at self.old map) }
-        ensures front { take FRONT part.new ≡ take FRONT part.old }
+        ensures front { take STACK_AND_CONTEXT part.new ≡ take STACK_AND_CONTEXT part.old }
         ensures length { length part.new ≡ PART }
     {
         let entry = &mut self.slots[map.number];
@@ -228,7 +228,7 @@ impl Maps {
         let gone = self.slots.remove(map.number);
         let size = gone.map.shape().area() as usize;
         let end = gone.start + size;
-        part.copy_within(end..FRONT + self.bytes, gone.start);
+        part.copy_within(end..STACK_AND_CONTEXT + self.bytes, gone.start);
         close_gap(&mut self.slots, &mut self.layouts, end, size);
         self.bytes -= size;
     }
@@ -290,6 +290,35 @@ impl Maps {
                 let entry = &self.slots[map.number];
                 entry.map.find(key)
             }
+        }
+    }
+
+    /// The address of the value of a key, modulo 2^64, in a part that begins at `part`: 0 where the map has no such key. The
+    /// value lies in the part.
+    #[inline(always)]
+    pub fn address_of(&self, map: MapKey, key: &[u8], part: u64) -> u64
+        requires live { IsSome (live_at self.now map) }
+        requires size { length key.now ≡ (shape_at self.now map).key_size }
+        ensures address { result ≡ value_address part self.now map
+            (look_up (table_of (places_at self.now map)) key.now) }
+        ensures inside { IfSome (look_up (table_of (places_at self.now map)) key.now) (λ place.
+            LiesInPart (offset_at self.now map place) (shape_at self.now map).value_size) }
+    {
+        self.arrays_have_their_indices(map);
+        let shape = self.shape(map);
+        match shape.kind {
+            MapKind::Array => {
+                let index = ArrayMap::new(shape).index_spelled(key);
+                if index < shape.max_entries {
+                    part.wrapping_add(self.value_at(map, index) as u64)
+                } else {
+                    0
+                }
+            }
+            MapKind::Hash => match self.find(map, key) {
+                Some(place) => part.wrapping_add(self.value_at(map, place) as u64),
+                None => 0,
+            },
         }
     }
 

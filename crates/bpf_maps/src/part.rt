@@ -2,14 +2,14 @@
 
 ghost use Rattle.std.specs.Prelude.{◌≡◌, ◌+◌, ◌≤◌, ◌++◌, length, take, drop, replicate};
 
-use reg_kinds::STACK_SIZE;
 use tagged_model::LONGEST_KEY;
+use words::STACK_SIZE;
 
 /// Room for the words of the context, which take 44 bytes.
 const CONTEXT_ROOM: usize = 64;
 
 /// The bytes before the areas: the stack and the context.
-pub const FRONT: usize = STACK_SIZE + CONTEXT_ROOM;
+pub const STACK_AND_CONTEXT: usize = STACK_SIZE + CONTEXT_ROOM;
 
 /// How many live maps a tenant may have.
 pub const MAPS: usize = 16;
@@ -18,7 +18,7 @@ pub const MAPS: usize = 16;
 pub const LARGEST_SUM: usize = 262_144;
 
 /// The bytes of a part.
-pub const PART: usize = FRONT + LARGEST_SUM;
+pub const PART: usize = STACK_AND_CONTEXT + LARGEST_SUM;
 
 /// The bytes of the longest key.
 pub const KEY_ROOM: usize = LONGEST_KEY as usize;

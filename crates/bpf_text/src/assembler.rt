@@ -16,7 +16,7 @@ ghost use Rattle.text_line.specs.Ranges.{resolved};
 ghost use Rattle.text_line.specs.Written.{written};
 
 use crate::fault::{TextFault, TextFaultKind};
-use crate::laws::{one_fault, one_program, program_has_no_fault};
+use crate::laws;
 use crate::lines::split_lines;
 use insn_codec::{Insn, MAX_SLOTS, Program};
 use std::alloc::{AllocError, Global};
@@ -261,8 +261,8 @@ pub fn assemble(alloc: Global, text: &str) -> Result<Program, TextFault>
     ensures faulty { (fault : AnyFault) → IsOwnFault text.now fault → IsErrAnd result
         (λ e. (e ≡ fault) ⊎ (e ≡ memory_fault)) }
 {
-    one_program();
-    program_has_no_fault();
-    one_fault();
+    laws::one_program();
+    laws::program_has_no_fault();
+    laws::one_fault();
     program_of(alloc, text)
 }

@@ -3,13 +3,13 @@
 ghost use Rattle.std.specs.Prelude.{◌≡◌, ◌++◌, [], true, false, IfOk, OnOk};
 ghost use Rattle.std.specs.String.{string_bytes};
 ghost use Rattle.text_line.specs.Names.{operator_name, condition_name, order_name, narrow_name, size_name, atomic_name, register_name};
-ghost use Rattle.text_line.specs.Form.{operand as operand_layout, constant as constant_layout};
+ghost use Rattle.text_line.specs.Form.{operand_layout, constant as constant_layout};
 ghost use Rattle.text_line.specs.Written.{number_of, source_of, laid_out, printed_insn};
 ghost use Rattle.bpf_text.specs.Assembly.{IsAssembled};
 ghost use Rattle.bpf_text.specs.Printed.{printed};
 ghost use Rattle.bpf_text.specs.inside.Signs.{signed_bytes};
 
-use crate::laws::printed_text_is_assembled;
+use crate::laws;
 use insn_codec::{
     AluOp, AtomicOp, AtomicSize, Bits, ByteOrder, Condition, Insn, Load, Movsx, Narrow, Operand,
     Program, Reg, Size,
@@ -343,7 +343,7 @@ pub fn disassemble(alloc: Global, program: &Program) -> Result<String, AllocErro
     ensures program { IfOk result (λ text. IsAssembled (string_bytes text) program.now) }
 {
     program.insns_in_order();
-    printed_text_is_assembled();
+    laws::printed_text_is_assembled();
     let mut text = String::new(alloc);
     for slot in 0..program.code().len() {
         if let Some(insn) = program.get(slot) {

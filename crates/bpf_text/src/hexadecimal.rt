@@ -10,7 +10,7 @@ ghost use Rattle.bpf_text.specs.declared.fault.TextFault.{TextFault as AnyFault}
 ghost use Rattle.bpf_text.specs.HexText.{hex_text, hex_line, hex_bytes, hex_fault, hex_fault_at, IsHexText, IsHexFault};
 
 use crate::fault::{TextFault, TextFaultKind};
-use crate::laws::hex_lines_are_read;
+use crate::laws;
 use crate::lines::split_lines;
 use hex::FromHex;
 use insn_codec::{MAX_SLOTS, Program, write_program};
@@ -28,7 +28,7 @@ pub fn hex_lines(alloc: Global, program: &Program) -> Result<String, AllocError>
     ensures slots { IfOk result (λ text. IsHexText (string_bytes text)
         (program_bytes program.now)) }
 {
-    hex_lines_are_read();
+    laws::hex_lines_are_read();
     let bytes = write_program(alloc, program)?;
     let mut text = String::new(alloc);
     let mut rest = bytes.as_slice();

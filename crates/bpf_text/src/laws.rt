@@ -6,36 +6,35 @@ ghost use Rattle.bpf_text.specs.HexText.{hex_text, IsHexText};
 ghost use Rattle.bpf_text.specs.Law.{OneProgram, ProgramHasNoFault, OneFault, PrintedIsAssembled, HexLinesAreRead};
 
 use insn_codec::MAX_SLOTS;
-use text_line::{one_instruction, one_reading, printed_is_read, written_in_range};
 
 /// A text is at most one program.
 pub fn one_program()
     ensures { OneProgram }
 {
-    one_reading();
-    one_instruction();
+    text_line::laws::one_reading();
+    text_line::laws::one_instruction();
 }
 
 /// A text that is a program has no fault of its own.
 pub fn program_has_no_fault()
     ensures { ProgramHasNoFault }
 {
-    one_reading();
+    text_line::laws::one_reading();
 }
 
 /// A text has at most one fault of its own.
 pub fn one_fault()
     ensures { OneFault }
 {
-    one_reading();
+    text_line::laws::one_reading();
 }
 
 /// The text that `disassemble` prints of a program is that program.
 pub fn printed_text_is_assembled()
     ensures { PrintedIsAssembled }
 {
-    printed_is_read();
-    written_in_range();
+    text_line::laws::printed_is_read();
+    text_line::laws::written_in_range();
 }
 
 /// The lines that `hex_lines` writes of a program are its slots.

@@ -2,9 +2,9 @@
 use denote.RawPtr.{Ptr}
 use Rattle.std.specs.Prelude.{◌≡◌, ℕ, ℤ, nat_lt, ◌||◌, if◌then◌else◌, is_none, List, [], vec_len, Option, Some, None}
 use Rattle.std.specs.Vec.{vec_ptr}
-use Rattle.host.specs.Frame.{longest_reply}
-use Rattle.host.specs.State.{TenantState}
-use Rattle.host.specs.declared.host.TheConstants.{MOST_TENANTS}
+use Rattle.host_core.specs.Frame.{longest_reply}
+use Rattle.host_core.specs.State.{TenantState}
+use Rattle.host_core.specs.declared.host.TheConstants.{MOST_TENANTS}
 use Rattle.bpfhost_c.specs.declared.codes.TheConstants.{DONE, NO_HOST, HAS_HOST, TENANTS, ROOM}
 use Rattle.bpfhost_c.specs.declared.session.Session.{Session}
 

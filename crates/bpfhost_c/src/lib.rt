@@ -7,16 +7,16 @@ mod raw_box;
 mod session;
 
 ghost use Rattle.std.specs.Prelude.{◌≡◌, ◌≢◌, ◌≤◌, ℕ, List, ◌++◌, length, drop, replicate, slice_get, true, false, None};
-ghost use Rattle.host.specs.Frame.{longest_reply};
-ghost use Rattle.host.specs.Handled.{Handles};
-ghost use Rattle.host.specs.Served.{IsUnrefused};
-ghost use Rattle.host.specs.State.{new_tenant};
+ghost use Rattle.host_core.specs.Frame.{longest_reply};
+ghost use Rattle.host_core.specs.Handled.{Handles};
+ghost use Rattle.host_core.specs.Served.{IsUnrefused};
+ghost use Rattle.host_core.specs.State.{new_tenant};
 ghost use Rattle.bpfhost_c.specs.Calls.{states, StandsAt, new_code, host_code, room_code};
 ghost use Rattle.bpfhost_c.specs.declared.codes.TheConstants.{DONE, MEMORY};
 
 use codes::{DONE, HAS_HOST, MEMORY, NO_HOST, ROOM, TENANTS};
 use handle::Handle;
-use host::{LONGEST_REPLY, MOST_TENANTS};
+use host_core::{LONGEST_REPLY, MOST_TENANTS};
 use session::Session;
 use std::alloc::Global;
 

@@ -1,12 +1,12 @@
 //! A host, and where its last reply stands.
 
 ghost use Rattle.std.specs.Prelude.{◌≡◌, ◌≤◌, length, replicate, vec_capacity, IfOk};
-ghost use Rattle.host.specs.Frame.{longest_reply};
-ghost use Rattle.host.specs.Handled.{Handles};
-ghost use Rattle.host.specs.State.{new_tenant};
-ghost use Rattle.host.specs.declared.host.TheConstants.{MOST_TENANTS};
+ghost use Rattle.host_core.specs.Frame.{longest_reply};
+ghost use Rattle.host_core.specs.Handled.{Handles};
+ghost use Rattle.host_core.specs.State.{new_tenant};
+ghost use Rattle.host_core.specs.declared.host.TheConstants.{MOST_TENANTS};
 
-use host::{Host, LONGEST_REPLY, MOST_TENANTS, ReplyBuf};
+use host_core::{Host, LONGEST_REPLY, MOST_TENANTS, ReplyBuf};
 use std::alloc::{AllocError, Global};
 use std::mem::replace;
 

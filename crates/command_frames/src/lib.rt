@@ -4,11 +4,10 @@
 mod body;
 mod command;
 mod frame;
-mod laws;
+pub mod laws;
 mod reply;
 
 pub use body::GIVEN_WORDS;
 pub use command::{BadFrame, Command, Head};
 pub use frame::{HEAD_LENGTH, LONGEST_FRAME, head, parse};
-pub use laws::{each_is_stream, one_reply_in_front, one_stream};
 pub use reply::{LONGEST_PAYLOAD, LONGEST_REPLY, ReplyBuf, write_number, write_reply};

@@ -85,9 +85,9 @@ impl HostPlayer {
 
     /// The reply to a frame.
     fn reply(&mut self, frame: &[u8]) -> Result<String, AllocError> {
-        let mut room = ReplyBuf::new(self.alloc)?;
-        self.host.handle(frame, &mut room);
-        hex_groups(self.alloc, room.bytes(), GROUP)
+        let mut reply = ReplyBuf::new(self.alloc)?;
+        self.host.handle(frame, &mut reply);
+        hex_groups(self.alloc, reply.bytes(), GROUP)
     }
 
     /// The reply to a command on a descriptor: a tenant, the descriptor, and the bytes that follow it.

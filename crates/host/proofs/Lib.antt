@@ -1,12 +1,4 @@
-pub mod Buffers
-pub mod Numbers
 pub mod Results
-pub mod Tenants
-pub mod Heads
-pub mod Faults
-pub mod Stands
-pub mod Serving
-pub mod ToldAlone
 mod Digits
 mod Rewriting
 mod OtherFailures

@@ -1,4 +1,2 @@
 -- What private contracts and proofs cite. No public contract names it.
-pub mod Reading
 pub mod program
-pub mod Frame

@@ -1,21 +1,13 @@
-//! The host: frames in, replies out.
+//! The command line of the host: its subcommands, their arguments and their texts. What frames are served by is passed on.
 #![tactic(auto)]
 
-mod callers;
-mod host;
-mod laws;
 mod program;
-mod reading;
-mod server;
-mod stream;
-mod writing;
 
-pub use command_frames::{LONGEST_REPLY, ReplyBuf};
-pub use host::{Host, MOST_TENANTS};
-pub use laws::{calls_are_told_alone, same_frames_same_replies, unrefused_are_told_alone};
+pub use host_core::{
+    Counted, Host, LONGEST_REPLY, MOST_FRAMES, MOST_TENANTS, ReplyBuf, ServeFault, ServeFaultKind,
+    Sink, Source, laws, serve,
+};
 pub use program::arguments::{refuse_unread_words, run_words};
 pub use program::failure::Failure;
 pub use program::inputs::{hex_program, maps_named, text_program, whole_input};
 pub use program::shapes::{BadShape, read_shape};
-pub use server::{MOST_FRAMES, ServeFault, ServeFaultKind, serve};
-pub use stream::{Counted, Sink, Source};

@@ -21,7 +21,7 @@ use Rattle.insn_codec.proofs.Fields.{IsFront-first, IsSlot-front, listed-first}
 use Rattle.insn_codec.proofs.ReadBack.{insn_at}
 use Rattle.insn_codec.proofs.FromSlot.{IsOf, first-insn_at, insn_at_up_to}
 use Rattle.insn_codec.proofs.KnownOpcodes.{known, unknown, opcode_of-slot, opcode-slot_of}
-use Rattle.insn_codec.proofs.Laws.{no_fault}
+use Rattle.insn_codec.proofs.PrefixFree.{no_fault}
 
 -- the slot that was read is the instruction's first one
 read_slot : (top : ℕ) (bytes : List ℕ) → 2 ≤ top → top ≤ 15 → (h : HasFirstSlot top bytes) → slot_of bytes ≡ first h.0

@@ -6,7 +6,8 @@ pub mod ReadBack
 pub mod FromSlot
 pub mod KnownOpcodes
 pub mod ByOpcode
-pub mod Laws
+pub mod Profiles
+pub mod PrefixFree
 pub mod OneMore
 pub mod FaultKinds
 pub mod FirstFault

@@ -1,8 +1,12 @@
--- Where an instruction leads: to the next one, or where it jumps (RFC 9669, section 4.3); and the register that it gives a
--- value.
+-- Where an instruction leads: to the next one, or where it jumps (RFC 9669, section 4.3); the register that it gives a value; and
+-- the map that it names. All are read from its row of the table.
 use Rattle.std.specs.Prelude.{ℕ, ℤ, pos, negsuc, Option, Some, None, ◌+◌, ◌+ℤ◌, length, Bool, true, false, if◌then◌else◌}
 use Rattle.insn_codec.specs.declared.insn.Insn.{Insn}
-use Rattle.insn_codec.specs.declared.insn.Insn.TheVariants.{Ja, Jal, Jump, Alu, Movsx, Neg, End, Exit, Load, Const, MapFd, MapValue}
+use Rattle.insn_codec.specs.declared.profile.Successors.{Successors}
+use Rattle.insn_codec.specs.declared.profile.Successors.TheVariants.{Next, Jump, NextOrJump, Nothing}
+use Rattle.insn_codec.specs.declared.profile.Reference.{Reference}
+use Rattle.insn_codec.specs.declared.profile.Reference.TheVariants as names
+use Rattle.insn_codec.specs.Profile.{profile}
 use Rattle.insn_codec.specs.Spelling.{slots}
 
 -- a whole number as a slot: none below 0
@@ -16,42 +20,58 @@ natural (negsuc n) = None
 abbrev pub falls_to : Insn → ℕ → ℕ
 falls_to i at = at + length (slots i)
 
+abbrev pub offset_by : Successors → ℤ
+offset_by Next = pos 0
+offset_by (Jump off) = off
+offset_by (NextOrJump off) = off
+offset_by Nothing = pos 0
+
 abbrev pub jump_offset : Insn → ℤ
-jump_offset (Ja off) = off
-jump_offset (Jal off) = off
-jump_offset (Jump wide cond dst src off) = off
-jump_offset _ = pos 0
+jump_offset i = offset_by (profile i).successors
 
 -- so far from the next slot: none where that is below slot 0
 abbrev pub jumps_to : Insn → ℕ → Option ℕ
 jumps_to i at = natural (pos (at + 1) +ℤ jump_offset i)
 
 -- it may go on with the next one
+abbrev pub falls_by : Successors → Bool
+falls_by Next = true
+falls_by (Jump off) = false
+falls_by (NextOrJump off) = true
+falls_by Nothing = false
+
 abbrev pub falls : Insn → Bool
-falls (Ja off) = false
-falls (Jal off) = false
-falls Exit = false
-falls i = true
+falls i = falls_by (profile i).successors
 
 -- it may jump
+abbrev pub jumps_by : Successors → Bool
+jumps_by Next = false
+jumps_by (Jump off) = true
+jumps_by (NextOrJump off) = true
+jumps_by Nothing = false
+
 abbrev pub jumps : Insn → Bool
-jumps (Ja off) = true
-jumps (Jal off) = true
-jumps (Jump wide cond dst src off) = true
-jumps i = false
+jumps i = jumps_by (profile i).successors
 
 -- the slot that it jumps to: none where it does not jump, or below slot 0
+abbrev pub target_by : Successors → ℕ → Option ℕ
+target_by next at = if jumps_by next then natural (pos (at + 1) +ℤ offset_by next) else None
+
 abbrev pub jump_target : Insn → ℕ → Option ℕ
-jump_target i at = if jumps i then jumps_to i at else None
+jump_target i at = target_by (profile i).successors at
+
+-- ---- what it writes and names
 
 -- the register that it gives a value
 abbrev pub written_register : Insn → Option ℕ
-written_register (Alu wide op dst src) = Some dst
-written_register (Movsx m) = Some m.dst
-written_register (Neg wide dst) = Some dst
-written_register (End how kept dst) = Some dst
-written_register (Load l) = Some l.dst
-written_register (Const dst value) = Some dst
-written_register (MapFd dst fd) = Some dst
-written_register (MapValue dst fd off) = Some dst
-written_register i = None
+written_register i = (profile i).written
+
+-- the descriptor of the map that it loads, or of which it loads a value
+abbrev pub descriptor_by : Reference → Option ℕ
+descriptor_by names.Nothing = None
+descriptor_by (names.Helper id) = None
+descriptor_by (names.Map fd) = Some fd
+descriptor_by (names.Value fd off) = Some fd
+
+abbrev pub descriptor : Insn → Option ℕ
+descriptor i = descriptor_by (profile i).reference

@@ -8,4 +8,5 @@ pub mod Program
 pub mod BeginLaws
 pub mod SpellingLaws
 pub mod inside
+pub mod Profile
 pub mod Flow

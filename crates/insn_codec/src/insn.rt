@@ -252,10 +252,7 @@ impl Insn {
     pub fn is_wide(&self) -> bool
         ensures { result ≡ is_wide self.now }
     {
-        matches!(
-            self,
-            Insn::Const { .. } | Insn::MapFd { .. } | Insn::MapValue { .. }
-        )
+        self.profile().slots == 2
     }
 
     /// In how many slots it is spelled: one, or two for a wide instruction.
@@ -264,7 +261,7 @@ impl Insn {
         ensures some { 1 ≤ result }
         ensures room { result ≤ 2 }
     {
-        if self.is_wide() { 2 } else { 1 }
+        self.profile().slots
     }
 
     /// A law: each value of the type has its numbers in the ranges of its fields. It does nothing when it runs.

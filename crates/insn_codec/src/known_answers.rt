@@ -101,13 +101,13 @@ fn places_of_a_program(alloc: Global) -> Result<(), CodecFault> {
 
 fn spelled_program(alloc: Global) -> Result<(), CodecFault> {
     let program = Program::new(alloc, &[wide(0x7_0000_0009), Insn::Exit])?;
-    let spelled = program.spelled();
-    prove!(spelled.len() == 3);
-    prove!(spelled[0].opcode == 0x18);
-    prove!(spelled[0].registers == 2);
-    prove!(spelled[0].imm == 9);
-    prove!(spelled[1].imm == 7);
-    prove!(spelled[2].opcode == 0x95);
+    let raw_slots = program.raw_slots();
+    prove!(raw_slots.len() == 3);
+    prove!(raw_slots[0].opcode == 0x18);
+    prove!(raw_slots[0].registers == 2);
+    prove!(raw_slots[0].imm == 9);
+    prove!(raw_slots[1].imm == 7);
+    prove!(raw_slots[2].opcode == 0x95);
     Ok(())
 }
 

@@ -9,11 +9,12 @@ mod fault;
 mod form;
 mod insn;
 mod known_answers;
+pub mod laws;
 mod opcode;
+mod profile;
 mod program;
 mod reading;
 mod slot;
-mod spelled;
 mod writing;
 
 pub use fault::{CodecFault, FaultKind};
@@ -21,13 +22,10 @@ pub use insn::{
     AluOp, AtomicOp, AtomicSize, Bits, ByteOrder, Condition, Insn, Load, Movsx, Narrow, Operand,
     Reg, Size,
 };
-pub use program::{Program, one_fault, one_program, read_program, write_program};
-pub use reading::{decode, one_spelling};
+pub use profile::{Profile, Reference, Successors};
+pub use program::{Program, read_program, write_program};
+pub use reading::decode;
 pub use slot::RawSlot;
-pub use spelled::{
-    accesses_by_opcode, arithmetic_by_opcode, atomics_by_opcode, fields_of_first, jumps_by_opcode,
-    moves_by_opcode, one_operand_by_opcode, slots_of_spelled, wide_by_opcode,
-};
 pub use writing::encode;
 
 /// How many slots a program may have at most, a limit of this project.

@@ -199,9 +199,3 @@ pub fn decode(bytes: &[u8]) -> Result<(Insn, usize), CodecFault>
         Err(kind) => Err(CodecFault { slot: 0, kind }),
     }
 }
-
-/// A law: no spelling begins another, whatever follows it. It does nothing when it runs.
-pub fn one_spelling()
-    ensures { (a b : AnyInsn) (x y : List ℕ) → IsInsn a → IsInsn b → spelling a ++ x ≡ spelling b
-        ++ y → a ≡ b }
-{}

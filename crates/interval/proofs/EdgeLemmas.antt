@@ -8,7 +8,7 @@ use Rattle.interval.specs.Ranges.{IsMember}
 use Rattle.interval.specs.Refine.{RangePair, swapped, where_equal, where_different, where_above, where_at_most, IsPairOn, EdgePairs, edges, unchanged, refined}
 use Rattle.words.specs.declared.operator.Comparison.{Comparison}
 use Rattle.words.specs.declared.operator.Comparison.TheVariants.{Equal, NotEqual, Above, AboveOrEqual, Below, BelowOrEqual, SignedAbove, SignedAboveOrEqual, SignedBelow, SignedBelowOrEqual, CommonBit}
-use Rattle.words.specs.Operate.{operand}
+use Rattle.words.specs.Operate.{operand_bits}
 use Rattle.words.specs.Compare.{holds, compares}
 use Rattle.interval.specs.Laws.{IsOfWords, IsPairOfWords}
 
@@ -53,7 +53,7 @@ edges_keep n SignedBelowOrEqual a b x y h k = stay n SignedBelowOrEqual a b x y 
 edges_keep n CommonBit a b x y h k = stay n CommonBit a b x y h k
 
 -- an operand that fits is seen whole
-seen_whole : (n x : ℕ) → x < 2 ^ n → operand n x ≡ x
+seen_whole : (n x : ℕ) → x < 2 ^ n → operand_bits n x ≡ x
 seen_whole n x h = cond_both (nat_lt n 64) (x % 2 ^ n) x (λ v. v ≡ x) (λ _. mod-eq_of_lt h) (λ _. refl)
 
 pub refined_keep : (n : ℕ) (comparison : Comparison) (a b : Range) (x y : ℕ) → IsMember x a → IsMember y b → (IsTrue (compares n comparison x y) → IsPairOn (refined n comparison a b).0 x y) × (IsFalse (compares n comparison x y) → IsPairOn (refined n comparison a b).1 x y)
@@ -62,8 +62,8 @@ refined_keep n comparison a b x y h k =
     (λ e. (IsTrue (compares n comparison x y) → IsPairOn e.0 x y) × (IsFalse (compares n comparison x y) → IsPairOn e.1 x y))
     (λ t.
     let parts = and_parts (nat_lt a.hi (2 ^ n)) (nat_lt b.hi (2 ^ n)) t in
-    let seen_x : operand n x ≡ x = seen_whole n x (omega (arith, ltb-true a.hi (2 ^ n) parts.0, h.to)) in
-    let seen_y : operand n y ≡ y = seen_whole n y (omega (arith, ltb-true b.hi (2 ^ n) parts.1, k.to)) in
+    let seen_x : operand_bits n x ≡ x = seen_whole n x (omega (arith, ltb-true a.hi (2 ^ n) parts.0, h.to)) in
+    let seen_y : operand_bits n y ≡ y = seen_whole n y (omega (arith, ltb-true b.hi (2 ^ n) parts.1, k.to)) in
     let same : holds n comparison x y ≡ compares n comparison x y = sym (ap₂ (holds n comparison) seen_x seen_y) in
     let keep = edges_keep n comparison a b x y h k in
     ((λ w. keep.0 (same ∙ w)), (λ w. keep.1 (same ∙ w))))

@@ -13,7 +13,7 @@ use Rattle.words.specs.declared.operator.OrderChange.TheVariants.{Little, Big, S
 use Rattle.words.specs.declared.operator.Operator.{Operator}
 use Rattle.words.specs.declared.operator.Operator.TheVariants.{Add, Sub, Mul, Div, SignedDiv, Or, And, ShiftLeft, ShiftRight, Mod, SignedMod, Xor, Mov, SignedShiftRight, Neg, SignExtend, End}
 use Rattle.words.specs.Words.{signed, unsigned, negate, signed_divide, signed_remainder, sign_extend}
-use Rattle.words.specs.Operate.{operand, combined, operate, byte_order, reversed_bytes, kept_bits, narrow_bits}
+use Rattle.words.specs.Operate.{operand_bits, combined, operate, byte_order, reversed_bytes, kept_bits, narrow_bits}
 use Rattle.interval.specs.Ranges.{IsMember, constant, is_constant, full}
 use Rattle.interval.specs.Table.{are_constants, general_range, result_range, range_modulo, operand_range, range_of}
 use Rattle.interval.proofs.Members.{in_full, in_constant, only_member, where_lt, where_constant}
@@ -109,26 +109,26 @@ result_sound n op a b x y w p q h k = in_result n op a b x y h k (general_range_
 
 -- what an operator on n bits sees of a member and of its range
 pub record Sees (n : ℕ) (r : Range) (x : ℕ) : Type 0 where
-  pub member : IsMember (operand n x) (operand_range n r)
+  pub member : IsMember (operand_bits n x) (operand_range n r)
   pub below : (operand_range n r).hi < 2 ^ n
 
 pub table_sound : (n : ℕ) (op : Operator) (a b : Range) (x y : ℕ) → 2 ^ n ≤ 2 ^ 64 → IsMember x a → IsMember y b → Sees n a x → Sees n b y → IsMember (operate n op x y) (range_of n op a b)
-table_sound n Add a b x y w h k s r = result_sound n Add (operand_range n a) (operand_range n b) (operand n x) (operand n y) w s.below r.below s.member r.member
-table_sound n Sub a b x y w h k s r = result_sound n Sub (operand_range n a) (operand_range n b) (operand n x) (operand n y) w s.below r.below s.member r.member
-table_sound n Mul a b x y w h k s r = result_sound n Mul (operand_range n a) (operand_range n b) (operand n x) (operand n y) w s.below r.below s.member r.member
-table_sound n Div a b x y w h k s r = result_sound n Div (operand_range n a) (operand_range n b) (operand n x) (operand n y) w s.below r.below s.member r.member
-table_sound n SignedDiv a b x y w h k s r = result_sound n SignedDiv (operand_range n a) (operand_range n b) (operand n x) (operand n y) w s.below r.below s.member r.member
-table_sound n Or a b x y w h k s r = result_sound n Or (operand_range n a) (operand_range n b) (operand n x) (operand n y) w s.below r.below s.member r.member
-table_sound n And a b x y w h k s r = result_sound n And (operand_range n a) (operand_range n b) (operand n x) (operand n y) w s.below r.below s.member r.member
-table_sound n ShiftLeft a b x y w h k s r = result_sound n ShiftLeft (operand_range n a) (operand_range n b) (operand n x) (operand n y) w s.below r.below s.member r.member
-table_sound n ShiftRight a b x y w h k s r = result_sound n ShiftRight (operand_range n a) (operand_range n b) (operand n x) (operand n y) w s.below r.below s.member r.member
-table_sound n Mod a b x y w h k s r = result_sound n Mod (operand_range n a) (operand_range n b) (operand n x) (operand n y) w s.below r.below s.member r.member
-table_sound n SignedMod a b x y w h k s r = result_sound n SignedMod (operand_range n a) (operand_range n b) (operand n x) (operand n y) w s.below r.below s.member r.member
-table_sound n Xor a b x y w h k s r = result_sound n Xor (operand_range n a) (operand_range n b) (operand n x) (operand n y) w s.below r.below s.member r.member
-table_sound n Mov a b x y w h k s r = result_sound n Mov (operand_range n a) (operand_range n b) (operand n x) (operand n y) w s.below r.below s.member r.member
-table_sound n SignedShiftRight a b x y w h k s r = result_sound n SignedShiftRight (operand_range n a) (operand_range n b) (operand n x) (operand n y) w s.below r.below s.member r.member
-table_sound n Neg a b x y w h k s r = result_sound n Neg (operand_range n a) (operand_range n b) (operand n x) (operand n y) w s.below r.below s.member r.member
-table_sound n (SignExtend from) a b x y w h k s r = result_sound n (SignExtend from) (operand_range n a) (operand_range n b) (operand n x) (operand n y) w s.below r.below s.member r.member
+table_sound n Add a b x y w h k s r = result_sound n Add (operand_range n a) (operand_range n b) (operand_bits n x) (operand_bits n y) w s.below r.below s.member r.member
+table_sound n Sub a b x y w h k s r = result_sound n Sub (operand_range n a) (operand_range n b) (operand_bits n x) (operand_bits n y) w s.below r.below s.member r.member
+table_sound n Mul a b x y w h k s r = result_sound n Mul (operand_range n a) (operand_range n b) (operand_bits n x) (operand_bits n y) w s.below r.below s.member r.member
+table_sound n Div a b x y w h k s r = result_sound n Div (operand_range n a) (operand_range n b) (operand_bits n x) (operand_bits n y) w s.below r.below s.member r.member
+table_sound n SignedDiv a b x y w h k s r = result_sound n SignedDiv (operand_range n a) (operand_range n b) (operand_bits n x) (operand_bits n y) w s.below r.below s.member r.member
+table_sound n Or a b x y w h k s r = result_sound n Or (operand_range n a) (operand_range n b) (operand_bits n x) (operand_bits n y) w s.below r.below s.member r.member
+table_sound n And a b x y w h k s r = result_sound n And (operand_range n a) (operand_range n b) (operand_bits n x) (operand_bits n y) w s.below r.below s.member r.member
+table_sound n ShiftLeft a b x y w h k s r = result_sound n ShiftLeft (operand_range n a) (operand_range n b) (operand_bits n x) (operand_bits n y) w s.below r.below s.member r.member
+table_sound n ShiftRight a b x y w h k s r = result_sound n ShiftRight (operand_range n a) (operand_range n b) (operand_bits n x) (operand_bits n y) w s.below r.below s.member r.member
+table_sound n Mod a b x y w h k s r = result_sound n Mod (operand_range n a) (operand_range n b) (operand_bits n x) (operand_bits n y) w s.below r.below s.member r.member
+table_sound n SignedMod a b x y w h k s r = result_sound n SignedMod (operand_range n a) (operand_range n b) (operand_bits n x) (operand_bits n y) w s.below r.below s.member r.member
+table_sound n Xor a b x y w h k s r = result_sound n Xor (operand_range n a) (operand_range n b) (operand_bits n x) (operand_bits n y) w s.below r.below s.member r.member
+table_sound n Mov a b x y w h k s r = result_sound n Mov (operand_range n a) (operand_range n b) (operand_bits n x) (operand_bits n y) w s.below r.below s.member r.member
+table_sound n SignedShiftRight a b x y w h k s r = result_sound n SignedShiftRight (operand_range n a) (operand_range n b) (operand_bits n x) (operand_bits n y) w s.below r.below s.member r.member
+table_sound n Neg a b x y w h k s r = result_sound n Neg (operand_range n a) (operand_range n b) (operand_bits n x) (operand_bits n y) w s.below r.below s.member r.member
+table_sound n (SignExtend from) a b x y w h k s r = result_sound n (SignExtend from) (operand_range n a) (operand_range n b) (operand_bits n x) (operand_bits n y) w s.below r.below s.member r.member
 table_sound n (End how kept) a b x y w h k s r =
     in_result n (End how kept) a b x y h k (in_full (kept_bits kept) _ (byte_order_below how kept x))
 

@@ -1,9 +1,8 @@
 //! Where control goes: the jumps of a program, by where they lead.
 
 use crate::recorder::Step;
-use insn_codec::{Insn, MAX_SLOTS, Program};
+use insn_codec::{Insn, MAX_SLOTS, Program, Successors};
 use std::alloc::{AllocError, Global};
-use verdict::jump_target;
 
 /// The edge of a jump. Edges are in order by where they lead.
 #[derive(Clone, Copy, Debug, PartialEq, Eq, PartialOrd, Ord)]
@@ -18,7 +17,7 @@ pub(crate) fn target_at(program: &Program, slot: usize) -> Option<usize> {
     if slot > MAX_SLOTS {
         return None;
     }
-    jump_target(insn, slot)
+    insn.profile().successors.target(slot)
 }
 
 /// The jumps that a run may take, as far as is known.
@@ -42,10 +41,7 @@ pub(crate) fn live_jumps(
 
 /// Whether what stands behind an instruction begins a block of its own.
 fn ends_block(insn: &Insn) -> bool {
-    matches!(
-        insn,
-        Insn::Ja { .. } | Insn::Jal { .. } | Insn::Jump { .. } | Insn::Exit
-    )
+    insn.profile().successors != Successors::Next
 }
 
 /// Marks a slot, if it is one of these.

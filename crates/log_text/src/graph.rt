@@ -5,10 +5,9 @@ use crate::lines::Story;
 use crate::needs::{Refusal, write_refusal};
 use crate::recorder::Step;
 use bpf_text::write_insn;
-use insn_codec::Insn;
+use insn_codec::{Insn, Successors};
 use std::alloc::{AllocError, Global};
 use std::fmt::Write;
-use verdict::falls;
 
 /// How an edge is drawn that no run takes, and a block that none comes to.
 const UNREACHED: &str = "style=dashed, color=gray50, fontcolor=gray50";
@@ -74,12 +73,13 @@ fn write_edges(
     step: Option<&Step>,
 ) -> Result<(), AllocError> {
     let program = story.program;
-    let (not_taken, taken) = match insn {
-        Insn::Jump { .. } => ("not taken", "taken"),
-        _ => ("", ""),
+    let successors = insn.profile().successors;
+    let (not_taken, taken) = match successors {
+        Successors::NextOrJump(_) => ("not taken", "taken"),
+        Successors::Next | Successors::Jump(_) | Successors::Nothing => ("", ""),
     };
     let next = slot.saturating_add(insn.slots());
-    if falls(insn) && program.is_first(next) {
+    if successors.falls() && program.is_first(next) {
         let told = step.and_then(|step| step.falling.as_ref());
         write_edge(text, first, next, not_taken, edge_of(story, told))?;
     }

@@ -3,9 +3,10 @@
 ghost use Rattle.std.specs.Prelude.{◌<◌};
 
 use crate::kinds::write_kind;
-use reg_kinds::{Facts, Kind, REGISTERS, STACK_SLOTS, Slot};
+use reg_kinds::{Facts, Kind, Slot};
 use std::alloc::AllocError;
 use std::fmt::Write;
+use words::{REGISTERS, STACK_SLOTS};
 
 /// Facts that say nothing.
 pub(crate) fn nothing_known() -> Facts {

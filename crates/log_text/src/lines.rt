@@ -3,7 +3,7 @@
 use crate::control::{JumpEdge, target_at};
 use crate::recorder::Step;
 use bpf_text::write_insn;
-use insn_codec::{Insn, Program};
+use insn_codec::{Insn, Program, Successors};
 use std::alloc::AllocError;
 use std::fmt::Write;
 
@@ -123,9 +123,9 @@ fn write_step(
     write_sources(text, line, story, place, step.slot)?;
     write_note(text, line, &step.known)?;
     place.falls_from = step.falling.as_ref().map(|_| step.slot);
-    match insn {
-        Insn::Jump { .. } => write_edges(text, line, story.program, step),
-        _ => Ok(()),
+    match insn.profile().successors {
+        Successors::NextOrJump(_) => write_edges(text, line, story.program, step),
+        Successors::Next | Successors::Jump(_) | Successors::Nothing => Ok(()),
     }
 }
 

@@ -1,7 +1,7 @@
 //! What the pass tells, kept as text.
 
 use crate::known::{nothing_known, write_known};
-use insn_codec::{Insn, Program};
+use insn_codec::{Insn, Program, Successors};
 use reg_kinds::Facts;
 use std::alloc::{AllocError, Global};
 use tagged_model::Named;
@@ -110,11 +110,11 @@ impl<'a> Recorder<'a> {
 
     /// Notes the edges of an instruction.
     fn leave(&mut self, step: &mut Step, insn: &Insn, facts: &Facts) -> Result<(), AllocError> {
-        match insn {
-            Insn::Exit => {}
-            Insn::Ja { .. } | Insn::Jal { .. } => step.jumping = Some(String::new(self.alloc)),
-            Insn::Jump { .. } => self.branch(step, insn, facts)?,
-            _ => step.falling = Some(String::new(self.alloc)),
+        match insn.profile().successors {
+            Successors::Next => step.falling = Some(String::new(self.alloc)),
+            Successors::Jump(_) => step.jumping = Some(String::new(self.alloc)),
+            Successors::NextOrJump(_) => self.branch(step, insn, facts)?,
+            Successors::Nothing => {}
         }
         Ok(())
     }

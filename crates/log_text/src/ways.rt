@@ -3,13 +3,13 @@
 use crate::needs::Refusal;
 use crate::needs::registers::kind_of;
 use insn_codec::{Insn, MAX_SLOTS, Program};
-use reg_kinds::{Facts, Kind, Reason, STACK_SLOTS, Slot};
+use reg_kinds::{Facts, Kind, Reason, Slot};
 use std::alloc::{AllocError, Global};
 use std::fmt::Write;
 use tagged_model::Named;
 use transfer::{Flow, apply};
-use verdict::jump_target;
 use verifier::{VerifyFault, Watcher, verify_watched};
+use words::STACK_SLOTS;
 
 /// What an instruction needs: a value that may be read.
 #[derive(Clone, Copy, Debug, PartialEq, Eq)]
@@ -140,7 +140,7 @@ impl Finder<'_> {
             self.arrive(slot, slot.saturating_add(insn.slots()), &falling);
         }
         if slot <= MAX_SLOTS
-            && let (Some(facts), Some(to)) = (jumping, jump_target(insn, slot))
+            && let (Some(facts), Some(to)) = (jumping, insn.profile().successors.target(slot))
         {
             self.arrive(slot, to, &facts);
         }

@@ -8,9 +8,9 @@ use Rattle.reg_kinds.specs.declared.facts.Facts.{Facts}
 use Rattle.reg_kinds.specs.declared.reason.Reason.{Reason}
 use Rattle.reg_kinds.specs.declared.reason.Reason.TheVariants.{OutsideStack, UnwrittenStack, PartOfSpill}
 use Rattle.reg_kinds.specs.Kinds.{slot_at}
-use Rattle.reg_kinds.specs.Stack.{is_in_stack, place}
-use Rattle.reg_kinds.specs.StackLaws.{ones_small}
-use Rattle.reg_kinds.specs.Many.{any_below, is_touched_spill, touches, lacks, bits_in, stack_input}
+use Rattle.words.specs.Stack.{is_in_stack, place, touches}
+use Rattle.reg_kinds.specs.BitLaws.{ones_small}
+use Rattle.reg_kinds.specs.Many.{any_below, is_touched_spill, lacks, bits_in, stack_input}
 
 -- ---- tests
 

@@ -1,11 +1,11 @@
 -- Known answers: joins, loads and stores of the stack, null tests, and the numbers of reasons.
 use Rattle.std.proofs.Common.{◌≡◌, ℕ, true, false, ℤ, pos, neg_ℤ, Option, Some, None, Result, Ok, Err, refl}
+use Rattle.words.specs.declared.stack.AccessSize.TheVariants.{Byte, Half, Word, Double}
 use Rattle.interval.specs.Ranges.{span, constant}
 use Rattle.reg_kinds.specs.declared.kind.Kind.{Kind}
 use Rattle.reg_kinds.specs.declared.kind.Kind.TheVariants.{Unreadable, Scalar, Stack, Ctx, Value, MaybeValue}
 use Rattle.reg_kinds.specs.declared.kind.Slot.TheVariants.{Bytes, Spill}
 use Rattle.reg_kinds.specs.declared.facts.Facts.{Facts}
-use Rattle.reg_kinds.specs.declared.stack.AccessSize.TheVariants.{Byte, Half, Word, Double}
 use Rattle.reg_kinds.specs.declared.reason.Reason.{Reason}
 use Rattle.reg_kinds.specs.declared.reason.Reason.TheVariants.{JumpOutside, NoDirectValue, UnreadableRegister, OutsideStack, UnalignedStack, UnwrittenStack, PartOfSpill, MaybeNull, UnalignedAtomic, Memory}
 use Rattle.reg_kinds.specs.Pointers.{value_span}

@@ -1,7 +1,8 @@
--- Kinds of values, and facts as tables of them. The stack's size and what a program begins with are the kernel's
--- (linux/filter.h; the kernel documentation of the verifier); kinds are this project's own.
-use Rattle.std.specs.Prelude.{ℕ, ◌/◌, pos, ◌==◌, if◌then◌else◌, Bool, true, false, List, map, slice_index_or, slice_set}
+-- Kinds of values, and facts as tables of them. What a program begins with is the kernel's (the kernel documentation of the
+-- verifier); kinds are this project's own.
+use Rattle.std.specs.Prelude.{ℕ, pos, ◌==◌, if◌then◌else◌, Bool, true, false, List, map, slice_index_or, slice_set}
 use Rattle.std.specs.List.{range_with_len}
+use Rattle.words.specs.Stack.{stack_slots}
 use Rattle.reg_kinds.specs.declared.kind.Kind.{Kind}
 use Rattle.reg_kinds.specs.declared.kind.Kind.TheVariants.{Unreadable, Scalar, Stack, Ctx}
 use Rattle.reg_kinds.specs.declared.kind.Slot.{Slot}
@@ -27,13 +28,6 @@ with_kind f r k = record { registers = slice_set f.registers r k; slots = f.slot
 
 abbrev pub with_slot : Facts → ℕ → Slot → Facts
 with_slot f i s = record { registers = f.registers; slots = slice_set f.slots i s }
-
--- the stack: its bytes (MAX_BPF_STACK of linux/filter.h), and its slots of eight
-abbrev pub stack_size : ℕ
-stack_size = 512
-
-abbrev pub stack_slots : ℕ
-stack_slots = stack_size / 8
 
 -- the list of f's values at the first n numbers
 unfoldable pub tabulate : {X : Type 0} → ℕ → (ℕ → X) → List X

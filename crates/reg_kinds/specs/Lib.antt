@@ -1,3 +1,4 @@
+pub mod BitLaws
 pub mod Join
 pub mod Kinds
 pub mod Laws
@@ -6,6 +7,5 @@ pub mod Pointers
 pub mod Reason
 pub mod Settle
 pub mod Stack
-pub mod StackLaws
 pub mod TableLaws
 pub mod inside

@@ -1,6 +1,7 @@
 -- Ranges of bytes of the stack that reach over many slots: what a helper reads, and what it writes. Places count from
 -- the lowest byte of the stack. The rules are this project's own.
-use Rattle.std.specs.Prelude.{ℕ, zero, suc, ◌+◌, ◌-◌, ◌*◌, ◌^◌, ◌==◌, ℤ, min, bit_and, nat_lt, nat_le, Bool, false, not, ◌&&◌, ◌||◌, if◌then◌else◌, Result, Ok, Err}
+use Rattle.std.specs.Prelude.{ℕ, zero, suc, ◌+◌, ◌-◌, ◌*◌, ◌^◌, ◌==◌, ℤ, min, bit_and, nat_le, Bool, false, not, ◌||◌, if◌then◌else◌, Result, Ok, Err}
+use Rattle.words.specs.Stack.{stack_slots, is_in_stack, place, touches}
 use Rattle.reg_kinds.specs.declared.kind.Kind.{Kind}
 use Rattle.reg_kinds.specs.declared.kind.Kind.TheVariants.{Unreadable}
 use Rattle.reg_kinds.specs.declared.kind.Slot.{Slot}
@@ -8,14 +9,10 @@ use Rattle.reg_kinds.specs.declared.kind.Slot.TheVariants.{Bytes, Spill}
 use Rattle.reg_kinds.specs.declared.facts.Facts.{Facts}
 use Rattle.reg_kinds.specs.declared.reason.Reason.{Reason}
 use Rattle.reg_kinds.specs.declared.reason.Reason.TheVariants.{OutsideStack, UnwrittenStack, PartOfSpill}
-use Rattle.reg_kinds.specs.Kinds.{kind_at, slot_at, stack_slots, with_registers, with_slots}
-use Rattle.reg_kinds.specs.Stack.{is_in_stack, place, bytes_over}
+use Rattle.reg_kinds.specs.Kinds.{kind_at, slot_at, with_registers, with_slots}
+use Rattle.reg_kinds.specs.Stack.{bytes_over}
 
--- n bytes from place p on touch slot i
-abbrev pub touches : ℕ → ℕ → ℕ → Bool
-touches p n i = nat_lt p (8 * i + 8) && nat_lt (8 * i) (p + n)
-
--- the bits of those that lie in slot i
+-- of n bytes from place p on, the bits of those that lie in slot i
 abbrev pub bits_in : ℕ → ℕ → ℕ → ℕ
 bits_in p n i = (2 ^ (min 8 (p + n - 8 * i) - (p - 8 * i)) - 1) * 2 ^ (p - 8 * i)
 

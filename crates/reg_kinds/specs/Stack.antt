@@ -1,40 +1,17 @@
--- Loads from the stack, and stores into it. Offsets count from its upper end, so those of its bytes are -512 to -1.
--- Sizes are those of RFC 9669, section 5; the rules are this project's own.
-use Rattle.std.specs.Prelude.{ℕ, ◌-◌, ◌*◌, ◌/◌, ◌%◌, ◌^◌, ◌==◌, ℤ, pos, negsuc, ◌+ℤ◌, int_le, unsigned_abs, bit_and, bit_or, Bool, true, false, not, ◌&&◌, if◌then◌else◌, Result, Ok, Err}
+-- Loads from the stack, and stores into it. Offsets count from its upper end. The rules are this project's own.
+use Rattle.std.specs.Prelude.{ℕ, ◌-◌, ◌*◌, ◌/◌, ◌%◌, ◌^◌, ◌==◌, ℤ, bit_and, bit_or, Bool, true, false, not, if◌then◌else◌, Result, Ok, Err}
+use Rattle.words.specs.declared.stack.AccessSize.{AccessSize}
+use Rattle.words.specs.Stack.{bytes_of, is_whole, is_in_stack, place, is_aligned}
 use Rattle.interval.specs.Ranges.{full}
 use Rattle.reg_kinds.specs.declared.kind.Kind.{Kind}
 use Rattle.reg_kinds.specs.declared.kind.Kind.TheVariants.{Unreadable, Scalar}
 use Rattle.reg_kinds.specs.declared.kind.Slot.{Slot}
 use Rattle.reg_kinds.specs.declared.kind.Slot.TheVariants.{Bytes, Spill}
 use Rattle.reg_kinds.specs.declared.facts.Facts.{Facts}
-use Rattle.reg_kinds.specs.declared.stack.AccessSize.{AccessSize}
-use Rattle.reg_kinds.specs.declared.stack.AccessSize.TheVariants.{Byte, Half, Word, Double}
 use Rattle.reg_kinds.specs.declared.reason.Reason.{Reason}
 use Rattle.reg_kinds.specs.declared.reason.Reason.TheVariants.{UnreadableRegister, OutsideStack, UnalignedStack, UnwrittenStack, PartOfSpill}
 use Rattle.reg_kinds.specs.Reason.{and_then_ok}
-use Rattle.reg_kinds.specs.Kinds.{is_pointer, slot_at, stack_size, with_slot}
-
-abbrev pub bytes_of : AccessSize → ℕ
-bytes_of Byte = 1
-bytes_of Half = 2
-bytes_of Word = 4
-bytes_of Double = 8
-
-abbrev pub is_whole : AccessSize → Bool
-is_whole Double = true
-is_whole _ = false
-
--- so many bytes from this offset on lie in the stack
-abbrev pub is_in_stack : ℤ → ℕ → Bool
-is_in_stack offset n = int_le (negsuc (stack_size - 1)) offset && int_le (offset +ℤ pos n) (pos 0)
-
--- how far an offset in the stack is above the lowest byte
-abbrev pub place : ℤ → ℕ
-place offset = unsigned_abs (offset +ℤ pos stack_size)
-
--- the stack has a multiple of each size, so an offset is one where its place is
-abbrev pub is_aligned : ℤ → ℕ → Bool
-is_aligned offset n = place offset % n == 0
+use Rattle.reg_kinds.specs.Kinds.{is_pointer, slot_at, with_slot}
 
 -- the bits of n bytes of a slot, the first of which is at this place
 abbrev pub byte_bits : ℕ → ℕ → ℕ

@@ -1,15 +1,7 @@
 //! What is known before an instruction.
 
 use crate::kind::{Kind, Slot};
-
-/// How many registers there are: 0 to 10.
-pub const REGISTERS: usize = 11;
-
-/// How many bytes the stack has (MAX_BPF_STACK of linux/filter.h).
-pub const STACK_SIZE: usize = 512;
-
-/// How many slots of eight bytes the stack has.
-pub const STACK_SLOTS: usize = STACK_SIZE / 8;
+use words::{REGISTERS, STACK_SLOTS};
 
 /// What is known of each register, and of each slot of the stack. Slot i is the eight bytes at 8 * i above the stack's
 /// lowest.
@@ -21,6 +13,7 @@ pub struct Facts {
 
 impl Facts {
     ghost use Rattle.std.specs.Prelude.{◌≡◌, ◌<◌};
+    ghost use Rattle.words.specs.declared.stack.TheConstants.{REGISTERS, STACK_SLOTS};
     ghost use Rattle.reg_kinds.specs.Kinds.{entry, kind_at, slot_at, with_kind, with_slot};
 
     /// At the start of a program: register 1 is the context, register 10 the upper end of the stack, and nothing else is

@@ -5,9 +5,10 @@ ghost use Rattle.reg_kinds.specs.Kinds.{kind_at, slot_at, with_registers, with_s
 ghost use Rattle.reg_kinds.specs.Pointers.{offsets_hull};
 ghost use Rattle.reg_kinds.specs.Join.{kind_join, spilled, slot_join, facts_join};
 
-use crate::facts::{Facts, REGISTERS, STACK_SLOTS};
+use crate::facts::Facts;
 use crate::kind::{Kind, Slot, ValuePointer};
 use interval::hull;
+use words::{REGISTERS, STACK_SLOTS};
 
 impl Kind {
     /// The kind of a value that is of one of two kinds: the hull of two ranges, or of two ranges of offsets into values of

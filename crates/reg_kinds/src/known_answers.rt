@@ -1,8 +1,9 @@
 //! Known answers, proved from the contracts alone.
 
-use crate::{AccessSize, Facts, Kind, Reason, Slot, join, read_stack, settle, write_stack};
+use crate::{Facts, Kind, Reason, Slot, join, read_stack, settle, write_stack};
 use interval::Range;
 use std::mem::size_of;
+use words::AccessSize;
 
 /// Facts are copied for jumps: they stay small.
 const _: () = prove!(size_of::<Facts>() <= 3072);

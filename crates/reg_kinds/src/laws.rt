@@ -2,15 +2,13 @@
 
 ghost use Rattle.reg_kinds.specs.Laws.{KindsCommute, KindsAssociate, SlotsCommute, SlotsAssociate, FactsCommute, FactsAssociate};
 
-use interval::hull_is_a_join;
-
 /// In whatever order two edges come, what holds where they meet is the same.
 pub fn joins_commute()
     ensures kinds { KindsCommute }
     ensures slots { SlotsCommute }
     ensures facts { FactsCommute }
 {
-    hull_is_a_join();
+    interval::laws::hull_is_a_join();
 }
 
 /// In whatever groups three edges come, what holds where they meet is the same.
@@ -19,5 +17,5 @@ pub fn joins_associate()
     ensures slots { SlotsAssociate }
     ensures facts { FactsAssociate }
 {
-    hull_is_a_join();
+    interval::laws::hull_is_a_join();
 }

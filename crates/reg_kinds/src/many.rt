@@ -1,15 +1,17 @@
 //! Ranges of bytes of the stack that reach over many slots, and what is known after a call.
 
 ghost use Rattle.std.specs.Prelude.{◌≡◌, ◌+◌, ◌-◌, ◌*◌, ◌^◌, ◌<◌, ◌≤◌, ◌==◌, nat_le, if◌then◌else◌, IfSome, MatchResult, Ok, Err, Some, None};
-ghost use Rattle.reg_kinds.specs.Kinds.{slot_at, stack_size, stack_slots, with_slots};
-ghost use Rattle.reg_kinds.specs.Stack.{is_in_stack, place, bytes_over};
-ghost use Rattle.reg_kinds.specs.Many.{touches, bits_in, any_below, is_touched_spill, lacks, stack_input, stack_filled, called_facts};
+ghost use Rattle.words.specs.Stack.{stack_size, stack_slots, is_in_stack, place, touches};
+ghost use Rattle.reg_kinds.specs.Kinds.{slot_at, with_slots};
+ghost use Rattle.reg_kinds.specs.Stack.{bytes_over};
+ghost use Rattle.reg_kinds.specs.Many.{bits_in, any_below, is_touched_spill, lacks, stack_input, stack_filled, called_facts};
 ghost use Rattle.reg_kinds.specs.declared.kind.Kind.TheVariants.{Unreadable};
 
-use crate::facts::{Facts, REGISTERS, STACK_SLOTS};
+use crate::facts::Facts;
 use crate::kind::{Kind, Slot};
 use crate::reason::Reason;
 use crate::stack::{LOWEST, bytes_over};
+use words::{REGISTERS, STACK_SLOTS};
 
 /// Whether so many bytes from a place on touch a slot.
 fn touches(place: usize, count: usize, index: usize) -> bool
@@ -173,7 +175,7 @@ fn called_kind(kind: Kind, result_kind: Kind, register: usize) -> Kind
 }
 
 /// What is known after a call that gives a value of a kind: register 0 has it, and registers 1 to 5 may not be read.
-pub fn call(facts: &mut Facts, given: Kind)
+pub fn facts_after_call(facts: &mut Facts, given: Kind)
     ensures { facts.new ≡ called_facts facts.old given }
 {
     for r in 0..REGISTERS {

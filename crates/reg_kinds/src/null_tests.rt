@@ -4,9 +4,10 @@ ghost use Rattle.std.specs.Prelude.{◌≡◌};
 ghost use Rattle.reg_kinds.specs.Kinds.{kind_at, slot_at, with_registers, with_slots};
 ghost use Rattle.reg_kinds.specs.Settle.{kind_settled, slot_settled, facts_settled};
 
-use crate::facts::{Facts, REGISTERS, STACK_SLOTS};
+use crate::facts::Facts;
 use crate::kind::{Kind, Slot, ValuePointer};
 use interval::Range;
+use words::{REGISTERS, STACK_SLOTS};
 
 /// Settles each copy of what a look-up gave, in registers and in the stack: where it is null, copies are the number 0, and
 /// eight written bytes; else they are pointers to the start of a value. `site` is the slot of the look-up.

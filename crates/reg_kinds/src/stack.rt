@@ -2,51 +2,17 @@
 
 ghost use Rattle.std.specs.Prelude.{◌≡◌, ◌<◌, ◌*◌, ◌%◌, MatchResult, IfOk};
 ghost use Rattle.interval.specs.Ranges.{full};
-ghost use Rattle.reg_kinds.specs.Kinds.{stack_slots};
-ghost use Rattle.reg_kinds.specs.Stack.{bytes_of, is_whole, byte_bits, touched, loaded, read_slot, stack_read, bytes_over, slot_written, stack_write};
+ghost use Rattle.words.specs.Stack.{stack_slots, bytes_of};
+ghost use Rattle.reg_kinds.specs.Stack.{byte_bits, touched, loaded, read_slot, stack_read, bytes_over, slot_written, stack_write};
 
-use crate::facts::{Facts, STACK_SIZE};
+use crate::facts::Facts;
 use crate::kind::{Kind, Slot};
 use crate::reason::Reason;
 use interval::Range;
+use words::{AccessSize, STACK_SIZE};
 
 /// The offset of the stack's lowest byte.
 pub(crate) const LOWEST: i32 = -(STACK_SIZE as i32);
-
-/// How many bytes a load or a store moves.
-#[derive(Clone, Copy, Debug, PartialEq, Eq)]
-pub enum AccessSize {
-    Byte,
-    Half,
-    Word,
-    Double,
-}
-
-impl AccessSize {
-    /// The number of bytes: 1, 2, 4 or 8.
-    pub fn bytes(self) -> u8
-        ensures { result ≡ bytes_of self }
-    {
-        match self {
-            AccessSize::Byte => 1,
-            AccessSize::Half => 2,
-            AccessSize::Word => 4,
-            AccessSize::Double => 8,
-        }
-    }
-
-    /// Whether it is a whole slot of eight bytes.
-    pub fn is_whole(self) -> bool
-        ensures { result ≡ is_whole self }
-    {
-        match self {
-            AccessSize::Double => true,
-            AccessSize::Byte => false,
-            AccessSize::Half => false,
-            AccessSize::Word => false,
-        }
-    }
-}
 
 /// The kind that a load from the stack gives, `signed` one that extends the sign. `offset` counts from the stack's upper
 /// end. The first of these that holds refuses it: it is not in the stack (`OutsideStack`), it is not aligned to its size

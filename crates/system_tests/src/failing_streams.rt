@@ -1,7 +1,7 @@
 //! Readers and writers that fail, and streams that end anywhere.
 
 ghost use Rattle.std.specs.Prelude.{◌≤◌};
-ghost use Rattle.host.specs.declared.server.TheConstants.{MOST_FRAMES};
+ghost use Rattle.host_core.specs.declared.server.TheConstants.{MOST_FRAMES};
 
 use host::{Counted, Host, ServeFault, ServeFaultKind, refuse_unread_words, run_words, serve};
 use std::alloc::Global;

@@ -15,7 +15,8 @@ use Rattle.tagged_model.specs.declared.value.Tagged.{Tagged}
 use Rattle.tagged_model.specs.Cells.{Cell}
 use Rattle.tagged_model.specs.State.{RunState, RunMap, set_at}
 use Rattle.tagged_model.specs.Helpers.{after_call}
-use Rattle.tagged_model.specs.Admits.{Witness, IsOfKind, IsLookup, HasKind, HoldsNull, HasSlot, AdmitsBy, objects_of, IsMapOf, IsKindBelow, IsSlotBelow, witness_at}
+use Rattle.tagged_model.specs.StateInvariant.{IsMapOf}
+use Rattle.tagged_model.specs.Admits.{Witness, IsOfKind, IsLookup, HasKind, HoldsNull, HasSlot, AdmitsBy, objects_of, IsKindBelow, IsSlotBelow, witness_at}
 use Rattle.tagged_model.specs.Laws.{MapChangeAdmits, CallAdmits, SiteAdmits}
 use Rattle.tagged_model.proofs.Unknown.{has_kind}
 use Rattle.tagged_model.proofs.Objects.{map_admits, map_proper}

@@ -1,5 +1,5 @@
 -- An array of one element has the value that a program may load without a call.
-use Rattle.std.proofs.Common.{◌≡◌, ℕ, ◌<◌, ◌==◌, ◌&&◌, nat_lt, Bool, true, false, cond, List, [], ◌∷◌, Some, refl, sym, ap, ◌∙◌}
+use Rattle.std.proofs.Common.{◌≡◌, ℕ, ◌<◌, ◌==◌, ◌&&◌, nat_lt, true, List, [], ◌∷◌, Some, refl, ap, ◌∙◌}
 use Rattle.std.specs.Map.{keys_of}
 use Rattle.std.proofs.lemmas.Bool.{and_parts, cond-true, eqb-true}
 use Rattle.tagged_model.specs.declared.shape.MapKind.{MapKind}
@@ -7,7 +7,7 @@ use Rattle.tagged_model.specs.declared.shape.MapKind.TheVariants.{Hash, Array}
 use Rattle.tagged_model.specs.declared.shape.MapShape.{MapShape}
 use Rattle.tagged_model.specs.Table.{is_key, found, index_key, indexed, is_array, has_direct_value, direct_object}
 use Rattle.tagged_model.specs.State.{RunMap}
-use Rattle.tagged_model.specs.Admits.{KeysHaveObjects, IsMapOf}
+use Rattle.tagged_model.specs.StateInvariant.{KeysHaveObjects, IsMapOf}
 
 array_only : (kind : MapKind) → is_array kind ≡ true → kind ≡ Array
 array_only Array e = refl

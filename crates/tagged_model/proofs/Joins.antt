@@ -19,7 +19,7 @@ use Rattle.tagged_model.specs.declared.value.Tagged.{Tagged}
 use Rattle.tagged_model.specs.Cells.{Cell}
 use Rattle.tagged_model.specs.State.{RunState}
 use Rattle.tagged_model.specs.Admits.{Witness, IsOfKind, IsValueOf, HasKind, HoldsWhole, HoldsNull, HasSlot, AdmitsBy}
-use Rattle.tagged_model.specs.StateLaws.{no_bytes}
+use Rattle.tagged_model.specs.AdmitsLaws.{no_bytes}
 use Rattle.tagged_model.proofs.Unknown.{has_kind, admitted_by}
 
 least_below : (x z u : ℤ) → x ≤ℤ u → int_min x z ≤ℤ u

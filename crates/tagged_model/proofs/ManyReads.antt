@@ -8,12 +8,13 @@ use Rattle.reg_kinds.specs.declared.facts.Facts.{Facts}
 use Rattle.reg_kinds.specs.declared.reason.Reason.{Reason}
 use Rattle.reg_kinds.specs.declared.reason.Reason.TheVariants.{OutsideStack, UnwrittenStack, PartOfSpill}
 use Rattle.reg_kinds.specs.Kinds.{slot_at}
-use Rattle.reg_kinds.specs.Stack.{is_in_stack, place}
-use Rattle.reg_kinds.specs.StackLaws.{in_stack}
-use Rattle.reg_kinds.specs.Many.{touches, bits_in, any_below, is_touched_spill, lacks, stack_input}
+use Rattle.words.specs.Stack.{is_in_stack, place, touches}
+use Rattle.words.specs.StackLaws.{in_stack}
+use Rattle.reg_kinds.specs.Many.{bits_in, any_below, is_touched_spill, lacks, stack_input}
 use Rattle.tagged_model.specs.Cells.{Cell, byte_at, gathered}
 use Rattle.tagged_model.specs.State.{RunState, stack_byte, stack_bytes}
-use Rattle.tagged_model.specs.Admits.{Witness, HasSlot, AdmitsBy, IsInRange, AreBytes}
+use Rattle.tagged_model.specs.StateInvariant.{IsInRange, AreBytes}
+use Rattle.tagged_model.specs.Admits.{Witness, HasSlot, AdmitsBy}
 use Rattle.tagged_model.proofs.CellBytes.{all_read}
 use Rattle.tagged_model.proofs.MaskBits.{bit_in, each_in_mask}
 use Rattle.tagged_model.proofs.Places.{refused}

@@ -8,14 +8,16 @@ use Rattle.reg_kinds.specs.declared.kind.Slot.TheVariants as slot
 use Rattle.reg_kinds.specs.declared.facts.Facts.{Facts}
 use Rattle.reg_kinds.specs.declared.reason.Reason.TheVariants.{OutsideStack}
 use Rattle.reg_kinds.specs.Kinds.{slot_at}
-use Rattle.reg_kinds.specs.Stack.{is_in_stack, place, bytes_over}
-use Rattle.reg_kinds.specs.Many.{touches, bits_in, filled, stack_filled}
+use Rattle.words.specs.Stack.{is_in_stack, place, touches}
+use Rattle.reg_kinds.specs.Stack.{bytes_over}
+use Rattle.reg_kinds.specs.Many.{bits_in, filled, stack_filled}
 use Rattle.reg_kinds.specs.TableLaws.{in_table}
 use Rattle.tagged_model.specs.Cells.{Cell, bytes, byte_at, cell_over}
 use Rattle.tagged_model.specs.State.{RunState, with_cells, stack_written}
-use Rattle.tagged_model.specs.Admits.{Witness, HasBytes, HasSlot, AdmitsBy, IsInRange}
-use Rattle.tagged_model.specs.Admits.{AreBytes as AreSmall}
-use Rattle.tagged_model.specs.StateLaws.{no_bytes}
+use Rattle.tagged_model.specs.StateInvariant.{IsInRange}
+use Rattle.tagged_model.specs.Admits.{Witness, HasBytes, HasSlot, AdmitsBy}
+use Rattle.tagged_model.specs.StateInvariant.{AreBytes as AreSmall}
+use Rattle.tagged_model.specs.AdmitsLaws.{no_bytes}
 use Rattle.tagged_model.proofs.CellBytes.{AreBytes}
 use Rattle.tagged_model.proofs.MaskBits.{only_in, of_either}
 use Rattle.tagged_model.proofs.Places.{chosen}

@@ -8,7 +8,7 @@ use Rattle.tagged_model.specs.declared.fault.MapFault.TheVariants.{Exists, Inval
 use Rattle.tagged_model.specs.Table.{Table, Verdict, Refused, Present, New, no_exist, exist, is_full, of_absent, of_found, look_up, verdict, removal_of, removal}
 use Rattle.tagged_model.specs.State.{RunMap, set_at, with_value}
 use Rattle.tagged_model.specs.Helpers.{with_object, put, updated, taken_out, removed}
-use Rattle.tagged_model.specs.Admits.{AreBytes, IsMapOf}
+use Rattle.tagged_model.specs.StateInvariant.{AreBytes, IsMapOf}
 use Rattle.tagged_model.specs.Laws.{KeepsShape}
 use Rattle.tagged_model.specs.StateLaws.{owns_more, owns_with, owns_without}
 use Rattle.tagged_model.proofs.Objects.{values_small}

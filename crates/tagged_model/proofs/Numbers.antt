@@ -1,11 +1,12 @@
 -- The numbers that loads give are words of the kind that is told.
 use Rattle.std.proofs.Common.{ℕ, ◌-◌, ◌*◌, ◌%◌, ◌^◌, ◌<◌, ◌≤◌, Bool, true, false, refl, arith}
+use Rattle.words.specs.declared.stack.AccessSize.{AccessSize}
+use Rattle.words.specs.declared.stack.AccessSize.TheVariants.{Byte, Half, Word, Double}
 use Rattle.words.specs.Words.{signed}
 use Rattle.words.specs.SignLaws.{unsigned_small}
+use Rattle.words.specs.Stack.{bytes_of}
 use Rattle.interval.specs.Ranges.{full}
-use Rattle.reg_kinds.specs.declared.stack.AccessSize.{AccessSize}
-use Rattle.reg_kinds.specs.declared.stack.AccessSize.TheVariants.{Byte, Half, Word, Double}
-use Rattle.reg_kinds.specs.Stack.{bytes_of, loaded}
+use Rattle.reg_kinds.specs.Stack.{loaded}
 use Rattle.tagged_model.specs.declared.value.Tagged.TheVariants.{Scalar}
 use Rattle.tagged_model.specs.Cells.{widened}
 use Rattle.tagged_model.specs.Admits.{Witness, IsOfKind, IsScalarOf}

@@ -10,7 +10,8 @@ use Rattle.reg_kinds.specs.declared.facts.Facts.{Facts}
 use Rattle.tagged_model.specs.declared.shape.MapShape.{MapShape}
 use Rattle.tagged_model.specs.Cells.{and_then}
 use Rattle.tagged_model.specs.State.{RunState, RunMap, set_at, value_bytes, value_written, with_value, with_map, object_bytes, object_written}
-use Rattle.tagged_model.specs.Admits.{Witness, AdmitsBy, objects_of, AreBytes, IsInRange, IsMapOf, HasMaps}
+use Rattle.tagged_model.specs.StateInvariant.{AreBytes, IsInRange, IsMapOf, HasMaps}
+use Rattle.tagged_model.specs.Admits.{Witness, AdmitsBy, objects_of}
 use Rattle.tagged_model.specs.Laws.{IsObject}
 
 -- ---- bytes of a value

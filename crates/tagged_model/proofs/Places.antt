@@ -3,10 +3,11 @@ use Rattle.std.proofs.Common.{◌≡◌, ℕ, ◌/◌, ◌%◌, ◌<◌, ◌&&�
 use Rattle.std.proofs.lemmas.Bool.{cond-true, and_from, eqb-true}
 use Rattle.reg_kinds.specs.declared.reason.Reason.{Reason}
 use Rattle.reg_kinds.specs.declared.reason.Reason.TheVariants.{OutsideStack, UnalignedStack}
-use Rattle.reg_kinds.specs.declared.stack.AccessSize.{AccessSize}
-use Rattle.reg_kinds.specs.declared.stack.AccessSize.TheVariants.{Byte, Half, Word, Double}
+use Rattle.words.specs.declared.stack.AccessSize.{AccessSize}
+use Rattle.words.specs.declared.stack.AccessSize.TheVariants.{Byte, Half, Word, Double}
+use Rattle.words.specs.Stack.{bytes_of, is_in_stack, place, is_aligned}
 use Rattle.reg_kinds.specs.Reason.{and_then_ok}
-use Rattle.reg_kinds.specs.Stack.{bytes_of, is_in_stack, is_aligned, place, byte_bits, touched}
+use Rattle.reg_kinds.specs.Stack.{byte_bits, touched}
 use Rattle.tagged_model.specs.State.{stack_place}
 
 -- ---- results

@@ -2,12 +2,12 @@
 use Rattle.std.proofs.Common.{◌≡◌, ℕ, zero, suc, ◌+◌, ◌/◌, ◌%◌, ℤ, pos, ◌+ℤ◌, Bool, true, false, ◌||◌, List, [], length, Option, Some, None, Result, Ok, Err, refl, sym, ap, ◌∙◌}
 use Rattle.std.proofs.Math.Bool.{or-false}
 use Rattle.std.proofs.lemmas.Bool.{or_parts, or_from, true≢false, cond_both}
+use Rattle.words.specs.declared.stack.AccessSize.{AccessSize}
 use Rattle.words.specs.Words.{unsigned}
+use Rattle.words.specs.Stack.{is_in_stack, place}
 use Rattle.insn_codec.specs.declared.insn.Insn.{Insn}
 use Rattle.insn_codec.specs.declared.insn.Insn.TheVariants.{Alu, Movsx, Neg, End, Ja, Jal, Jump, Call, Exit, Load, Store, Atomic, Const, MapFd, MapValue}
 use Rattle.insn_codec.specs.Program.{begins_at, slot_count}
-use Rattle.reg_kinds.specs.declared.stack.AccessSize.{AccessSize}
-use Rattle.reg_kinds.specs.Stack.{is_in_stack, place}
 use Rattle.tagged_model.specs.declared.fault.MapFault.{MapFault}
 use Rattle.tagged_model.specs.declared.helper.Helper.{Helper}
 use Rattle.tagged_model.specs.declared.helper.Helper.TheVariants.{LookUp, Update, Delete, LoadBytes}
@@ -22,9 +22,9 @@ use Rattle.tagged_model.specs.Table.{Verdict, Refused, Present, New, verdict, re
 use Rattle.tagged_model.specs.Cells.{and_then, write_cell, cell_over}
 use Rattle.tagged_model.specs.State.{RunState, RunMap, with_cells, with_register, stack_place, stack_store, stack_written, value_written, object_written, object_stored, load, store, input, output}
 use Rattle.tagged_model.specs.Helpers.{helper_of, MapReply, put, updated, taken_out, removed, packet_bytes, packet_answer, number_given, length_given, context_given, argument, map_argument, returns, replies, called}
-use Rattle.tagged_model.specs.Step.{Step, goes, ends, faults, or_fault, operand, jumped, branched, ended, advanced, assigned, changed, act, step, refused_at_first, refused_later, Ending, one_step_more, ending_after, run, start_of_run}
+use Rattle.tagged_model.specs.Step.{Step, goes, ends, faults, or_fault, operand_value, jumped, branched, ended, advanced, assigned, changed, act, step, refused_at_first, refused_later, Ending, one_step_more, ending_after, run, start_of_run}
 use Rattle.insn_codec.specs.Flow.{natural}
-use Rattle.tagged_model.specs.Laws.{RefusalsAreTold}
+use Rattle.tagged_model.specs.RunLaws.{RefusalsAreTold}
 use Rattle.tagged_model.proofs.WithoutMaps.{not_refused}
 
 -- what is told of a step from s to t: whether memory was refused at it, which needs a refusal, and is noted; where it was not,
@@ -171,17 +171,17 @@ module _ (refused : Bool) (s : RunState) where
   ended_tells v = refl
 
   act_tells : (i : Insn) → StepTells (act refused i s) (act false i s)
-  act_tells (Alu wide op dst src) = need_tells (first_operand op (s.registers dst)) _ _ (λ a. need_tells (operand s wide src) _ _ (λ b. assigned_tells 1 dst (arithmetic wide op a b)))
+  act_tells (Alu wide op dst src) = need_tells (first_operand op (s.registers dst)) _ _ (λ a. need_tells (operand_value s wide src) _ _ (λ b. assigned_tells 1 dst (arithmetic wide op a b)))
   act_tells (Movsx m) = need_tells (s.registers m.src) _ _ (λ b. assigned_tells 1 m.dst _)
   act_tells (Neg wide dst) = need_tells (s.registers dst) _ _ (λ a. assigned_tells 1 dst _)
   act_tells (End how bits dst) = need_tells (s.registers dst) _ _ (λ a. assigned_tells 1 dst _)
   act_tells (Ja off) = jumped_tells off
   act_tells (Jal off) = jumped_tells off
-  act_tells (Jump wide cond dst src off) = need_tells (s.registers dst) _ _ (λ a. need_tells (operand s wide src) _ _ (λ b. need_tells (compared wide cond src a b) _ _ (λ yes. branched_tells off yes)))
+  act_tells (Jump wide cond dst src off) = need_tells (s.registers dst) _ _ (λ a. need_tells (operand_value s wide src) _ _ (λ b. need_tells (compared wide cond src a b) _ _ (λ yes. branched_tells off yes)))
   act_tells (Call id) = need_tells (helper_of id) _ _ (λ h. next_tells (called refused h s) (called false h s) (called_tells h))
   act_tells Exit = need_tells (s.registers 0) _ _ ended_tells
   act_tells (Load l) = need_tells (s.registers l.src) _ _ (λ p. assigned_tells 1 l.dst _)
-  act_tells (Store size dst src off) = need_tells (s.registers dst) _ _ (λ p. need_tells (operand s true src) _ _ (λ v. next_kept (store s (size_of size) p off v) (store_keeps (size_of size) p off v)))
+  act_tells (Store size dst src off) = need_tells (s.registers dst) _ _ (λ p. need_tells (operand_value s true src) _ _ (λ v. next_kept (store s (size_of size) p off v) (store_keeps (size_of size) p off v)))
   act_tells (Atomic size op dst src off) = need_tells (s.registers dst) _ _ (λ p. need_tells (s.registers src) _ _ (λ v. next_kept (changed s size op p off v) (changed_keeps size op p off v)))
   act_tells (Const dst value) = kept _ _ refl refl
   act_tells (MapFd dst fd) = need_tells (s.maps (unsigned 32 fd)) _ _ (λ t. kept _ _ refl refl)

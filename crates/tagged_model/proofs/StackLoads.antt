@@ -2,23 +2,25 @@
 use Rattle.std.proofs.Common.{◌≡◌, ℕ, ◌+◌, ◌/◌, ◌%◌, ◌<◌, ◌==◌, ℤ, bit_and, Bool, true, false, Some, Ok, refl, sym, ap, subst, ◌∙◌, inl, inr, arith}
 use Rattle.std.proofs.lemmas.Bool.{eqb-true}
 use Rattle.std.proofs.lemmas.Option.{none-some}
+use Rattle.words.specs.declared.stack.AccessSize.{AccessSize}
+use Rattle.words.specs.declared.stack.AccessSize.TheVariants.{Double}
 use Rattle.words.specs.Bytes.{number_of}
+use Rattle.words.specs.Stack.{bytes_of, place}
+use Rattle.words.specs.StackLaws.{in_one_slot}
 use Rattle.reg_kinds.specs.declared.reason.Reason.TheVariants.{UnwrittenStack, PartOfSpill}
 use Rattle.reg_kinds.specs.declared.kind.Kind.{Kind}
 use Rattle.reg_kinds.specs.declared.kind.Kind.TheVariants as kind
 use Rattle.reg_kinds.specs.declared.kind.Slot.{Slot}
 use Rattle.reg_kinds.specs.declared.kind.Slot.TheVariants as slot
-use Rattle.reg_kinds.specs.declared.stack.AccessSize.{AccessSize}
-use Rattle.reg_kinds.specs.declared.stack.AccessSize.TheVariants.{Double}
 use Rattle.reg_kinds.specs.declared.facts.Facts.{Facts}
 use Rattle.reg_kinds.specs.Kinds.{slot_at}
-use Rattle.reg_kinds.specs.Stack.{bytes_of, byte_bits, place, loaded, read_slot, stack_read}
-use Rattle.reg_kinds.specs.StackLaws.{in_one_slot}
+use Rattle.reg_kinds.specs.Stack.{byte_bits, loaded, read_slot, stack_read}
 use Rattle.tagged_model.specs.declared.value.Tagged.{Tagged}
 use Rattle.tagged_model.specs.declared.value.Tagged.TheVariants.{Scalar}
 use Rattle.tagged_model.specs.Cells.{Cell, holds, bytes, and_then, byte_at, widened, number_from, read_cell}
 use Rattle.tagged_model.specs.State.{RunState, stack_load}
-use Rattle.tagged_model.specs.Admits.{Witness, IsOfKind, HoldsNull, HasBytes, HasSlot, AdmitsBy, IsInRange}
+use Rattle.tagged_model.specs.StateInvariant.{IsInRange}
+use Rattle.tagged_model.specs.Admits.{Witness, IsOfKind, HoldsNull, HasBytes, HasSlot, AdmitsBy}
 use Rattle.tagged_model.proofs.CellBytes.{AreBytes, AreRead, all_read, zeros_read}
 use Rattle.tagged_model.proofs.MaskBits.{in_mask}
 use Rattle.tagged_model.proofs.Numbers.{widened_is}

@@ -2,25 +2,27 @@
 use Rattle.std.proofs.Common.{◌≡◌, ℕ, ◌/◌, ◌%◌, ◌==◌, ℤ, true, if◌then◌else◌, Some, Ok, Err, refl, sym, ap, subst, ◌∙◌, ⊎_elim, inl, inr}
 use Rattle.std.proofs.lemmas.Bool.{cond_both, false≢true}
 use Rattle.std.proofs.lemmas.Option.{none-some}
+use Rattle.words.specs.declared.stack.AccessSize.{AccessSize}
+use Rattle.words.specs.declared.stack.AccessSize.TheVariants.{Double}
 use Rattle.words.specs.Bytes.{low_bytes}
+use Rattle.words.specs.Stack.{bytes_of, is_whole, place}
 use Rattle.reg_kinds.specs.declared.reason.Reason.TheVariants.{UnreadableRegister, PartOfSpill}
 use Rattle.reg_kinds.specs.declared.kind.Kind.{Kind}
 use Rattle.reg_kinds.specs.declared.kind.Kind.TheVariants as kind
 use Rattle.reg_kinds.specs.declared.kind.Slot.{Slot}
 use Rattle.reg_kinds.specs.declared.kind.Slot.TheVariants as slot
-use Rattle.reg_kinds.specs.declared.stack.AccessSize.{AccessSize}
-use Rattle.reg_kinds.specs.declared.stack.AccessSize.TheVariants.{Double}
 use Rattle.reg_kinds.specs.declared.facts.Facts.{Facts}
 use Rattle.reg_kinds.specs.Reason.{and_then_ok}
 use Rattle.reg_kinds.specs.Kinds.{is_pointer, slot_at, with_slot}
-use Rattle.reg_kinds.specs.Stack.{bytes_of, byte_bits, place, touched, is_whole, bytes_over, slot_written, facts_written, stack_write}
+use Rattle.reg_kinds.specs.Stack.{byte_bits, touched, bytes_over, slot_written, facts_written, stack_write}
 use Rattle.reg_kinds.specs.TableLaws.{in_written}
 use Rattle.tagged_model.specs.declared.value.Tagged.{Tagged}
 use Rattle.tagged_model.specs.declared.value.Tagged.TheVariants.{Scalar, Map, Pointer}
 use Rattle.tagged_model.specs.Cells.{Cell, holds, and_then, written_over, write_cell}
 use Rattle.tagged_model.specs.State.{RunState, with_cell, stack_store}
-use Rattle.tagged_model.specs.Admits.{Witness, IsOfKind, IsKeptWhole, HasSlot, AdmitsBy, IsInRange}
-use Rattle.tagged_model.specs.StateLaws.{no_bytes}
+use Rattle.tagged_model.specs.StateInvariant.{IsInRange}
+use Rattle.tagged_model.specs.Admits.{Witness, IsOfKind, IsKeptWhole, HasSlot, AdmitsBy}
+use Rattle.tagged_model.specs.AdmitsLaws.{no_bytes}
 use Rattle.tagged_model.proofs.CellBytes.{AreBytes}
 use Rattle.tagged_model.proofs.WrittenBytes.{over_small, touched_there, both_there, zeros}
 use Rattle.tagged_model.proofs.Places.{refused, same_ok, given_ok, at_place}

@@ -9,7 +9,7 @@ use Rattle.reg_kinds.specs.TableLaws.{in_table}
 use Rattle.tagged_model.specs.declared.value.Tagged.{Tagged}
 use Rattle.tagged_model.specs.State.{RunState}
 use Rattle.tagged_model.specs.Admits.{Witness, IsOfKind, HasKind, HasSlot, AdmitsBy, objects_of}
-use Rattle.tagged_model.specs.StateLaws.{no_bytes}
+use Rattle.tagged_model.specs.AdmitsLaws.{no_bytes}
 
 -- of a register that may not be read nothing is asked
 pub has_kind : (witness : Witness) (k : Kind) (o : Option Tagged) (v : Tagged) → o ≡ Some v → IsOfKind witness k v → HasKind witness k o

@@ -1,12 +1,12 @@
 -- A run without maps puts no key, so it is refused no memory.
 use Rattle.std.proofs.Common.{◌≡◌, ℕ, zero, suc, ◌+◌, ◌/◌, ◌%◌, ℤ, pos, ◌+ℤ◌, Bool, true, false, List, length, Option, Some, None, option_map, refl, sym, ap, subst, ◌∙◌}
 use Rattle.std.proofs.lemmas.Bool.{cond_both}
+use Rattle.words.specs.declared.stack.AccessSize.{AccessSize}
 use Rattle.words.specs.Words.{unsigned}
+use Rattle.words.specs.Stack.{is_in_stack, place}
 use Rattle.insn_codec.specs.declared.insn.Insn.{Insn}
 use Rattle.insn_codec.specs.declared.insn.Insn.TheVariants.{Alu, Movsx, Neg, End, Ja, Jal, Jump, Call, Exit, Load, Store, Atomic, Const, MapFd, MapValue}
 use Rattle.insn_codec.specs.Program.{begins_at, slot_count}
-use Rattle.reg_kinds.specs.declared.stack.AccessSize.{AccessSize}
-use Rattle.reg_kinds.specs.Stack.{is_in_stack, place}
 use Rattle.tagged_model.specs.declared.helper.Helper.{Helper}
 use Rattle.tagged_model.specs.declared.helper.Helper.TheVariants.{LookUp, Update, Delete, LoadBytes}
 use Rattle.tagged_model.specs.declared.value.Object.TheVariants as object
@@ -20,7 +20,7 @@ use Rattle.tagged_model.specs.Cells.{and_then, write_cell, cell_over}
 use Rattle.tagged_model.specs.Table.{direct_object}
 use Rattle.tagged_model.specs.State.{RunState, RunMap, with_cells, stack_place, stack_store, stack_written, value_written, with_map, with_value, object_written, object_stored, load, store, output}
 use Rattle.tagged_model.specs.Helpers.{helper_of, packet_bytes, packet_answer, number_given, length_given, context_given, map_given, argument, map_argument, returns, called}
-use Rattle.tagged_model.specs.Step.{Step, goes, ends, faults, or_fault, operand, jumped, branched, ended, advanced, assigned, changed, act, step, refused_at_first, refused_later, Ending, ending_after, run, MapsByDescriptor, first_map, start_of_run, was_refused}
+use Rattle.tagged_model.specs.Step.{Step, goes, ends, faults, or_fault, operand_value, jumped, branched, ended, advanced, assigned, changed, act, step, refused_at_first, refused_later, Ending, ending_after, run, MapsByDescriptor, first_map, start_of_run, was_refused}
 use Rattle.insn_codec.specs.Flow.{natural}
 
 -- a state without maps in which no memory was refused
@@ -129,17 +129,17 @@ module _ (s : RunState) (bare : IsBare s) where
   ended_bare v = tt
 
   act_bare : (refused : Bool) (i : Insn) → StaysBare (act refused i s)
-  act_bare refused (Alu wide op dst src) = need_bare (first_operand op (s.registers dst)) _ (λ a. need_bare (operand s wide src) _ (λ b. assigned_bare 1 dst (arithmetic wide op a b)))
+  act_bare refused (Alu wide op dst src) = need_bare (first_operand op (s.registers dst)) _ (λ a. need_bare (operand_value s wide src) _ (λ b. assigned_bare 1 dst (arithmetic wide op a b)))
   act_bare refused (Movsx m) = need_bare (s.registers m.src) _ (λ b. assigned_bare 1 m.dst _)
   act_bare refused (Neg wide dst) = need_bare (s.registers dst) _ (λ a. assigned_bare 1 dst _)
   act_bare refused (End how bits dst) = need_bare (s.registers dst) _ (λ a. assigned_bare 1 dst _)
   act_bare refused (Ja off) = jumped_bare off
   act_bare refused (Jal off) = jumped_bare off
-  act_bare refused (Jump wide cond dst src off) = need_bare (s.registers dst) _ (λ a. need_bare (operand s wide src) _ (λ b. need_bare (compared wide cond src a b) _ (λ yes. branched_bare off yes)))
+  act_bare refused (Jump wide cond dst src off) = need_bare (s.registers dst) _ (λ a. need_bare (operand_value s wide src) _ (λ b. need_bare (compared wide cond src a b) _ (λ yes. branched_bare off yes)))
   act_bare refused (Call id) = need_bare (helper_of id) _ (λ h. next_bare (called refused h s) (called_bare refused h))
   act_bare refused Exit = need_bare (s.registers 0) _ ended_bare
   act_bare refused (Load l) = need_bare (s.registers l.src) _ (λ p. assigned_bare 1 l.dst _)
-  act_bare refused (Store size dst src off) = need_bare (s.registers dst) _ (λ p. need_bare (operand s true src) _ (λ v. next_bare (store s (size_of size) p off v) (store_bare (size_of size) p off v)))
+  act_bare refused (Store size dst src off) = need_bare (s.registers dst) _ (λ p. need_bare (operand_value s true src) _ (λ v. next_bare (store s (size_of size) p off v) (store_bare (size_of size) p off v)))
   act_bare refused (Atomic size op dst src off) = need_bare (s.registers dst) _ (λ p. need_bare (s.registers src) _ (λ v. next_bare (changed s size op p off v) (changed_bare size op p off v)))
   act_bare refused (Const dst value) = as_before _ refl refl
   act_bare refused (MapFd dst fd) = need_bare (s.maps (unsigned 32 fd)) _ (λ t. as_before _ refl refl)

@@ -1,8 +1,6 @@
 -- What facts say of a state. This project's own.
-use Rattle.std.specs.Prelude.{◌≡◌, ◌⊎◌, ℕ, ◌<◌, ◌≤◌, ◌^◌, ℤ, pos, ◌≤ℤ◌, List, [], ◌∷◌, length, Option, Some, None}
-use Rattle.std.specs.List.{All}
+use Rattle.std.specs.Prelude.{◌≡◌, ◌⊎◌, ℕ, ◌<◌, ◌≤◌, ◌^◌, ℤ, pos, ◌≤ℤ◌, Option, Some, None}
 use Rattle.std.specs.Int.{bit_at}
-use Rattle.std.specs.Map.{keys_of}
 use Rattle.interval.specs.declared.range.Range.{Range}
 use Rattle.interval.specs.Ranges.{IsMember}
 use Rattle.reg_kinds.specs.declared.kind.ValuePointer.{ValuePointer}
@@ -16,10 +14,7 @@ use Rattle.tagged_model.specs.declared.value.Object.TheVariants as object
 use Rattle.tagged_model.specs.declared.value.Tagged.{Tagged}
 use Rattle.tagged_model.specs.declared.value.Tagged.TheVariants.{Scalar, Map, Pointer}
 use Rattle.tagged_model.specs.Cells.{Cell, holds, byte_at}
-use Rattle.tagged_model.specs.declared.shape.MapKind.TheVariants.{Array}
-use Rattle.tagged_model.specs.declared.shape.MapShape.{MapShape}
-use Rattle.tagged_model.specs.Table.{indexed}
-use Rattle.tagged_model.specs.State.{RunState, RunMap, context_words, set_at}
+use Rattle.tagged_model.specs.State.{RunState, RunMap, set_at}
 
 -- what is told beside the facts: of each site what the look-up there gave, so that all that carry it are one value; and of
 -- each map how many objects it has had, or fewer
@@ -96,17 +91,6 @@ pub record AdmitsBy (witness : Witness) (f : Facts) (s : RunState) : Type 0 wher
 abbrev pub Admits : Facts → RunState → Type 0
 Admits f s = (witness : Witness) × AdmitsBy witness f s
 
--- bytes are bytes, and the context has its words of 32 bits; each step keeps this
-abbrev pub AreBytes : List ℕ → Type 0
-AreBytes bs = All (λ b. b < 256) bs
-
-pub record IsInRange (s : RunState) : Type 0 where
-  pub bytes : (i j b : ℕ) → byte_at (s.cells i) j ≡ Some b → b < 256
-  pub words : All (λ w. w < 2 ^ 32) s.words
-  pub count : length s.words ≡ context_words
-  pub values : (m : ℕ) (t : RunMap) → s.maps m ≡ Some t → (number : ℕ) → AreBytes (t.values number)
-  pub packet : AreBytes s.packet
-
 -- ---- the sites of facts are slots below n
 
 abbrev pub IsKindBelow : ℕ → Kind → Type 0
@@ -124,21 +108,3 @@ pub record AreBelow (n : ℕ) (f : Facts) : Type 0 where
 -- what is told once a look-up at a site has given a value
 abbrev pub witness_at : Witness → RunState → ℕ → Tagged → Witness
 witness_at witness s site v = record { gave = set_at witness.gave site v; objects = λ m. objects_of (s.maps m) }
-
--- ---- the maps of a state
-
--- each key has one of so many objects
-abbrev pub KeysHaveObjects : ℕ → List (List ℕ × ℕ) → Type 0
-KeysHaveObjects count [] = Unit {0}
-KeysHaveObjects count (e ∷ es) = (e.1 < count) × KeysHaveObjects count es
-
--- a map of this shape: an array has all its indices, and each object, a deleted one too, has the size of a value
-pub record IsMapOf (shape : MapShape) (t : RunMap) : Type 0 where
-  pub shaped : t.table.shape ≡ shape
-  pub indices : shape.kind ≡ Array → keys_of t.table.entries ≡ keys_of (indexed (λ i. i) 0 shape.max_entries)
-  pub owns : KeysHaveObjects t.count t.table.entries
-  pub sized : (number : ℕ) → number < t.count → length (t.values number) ≡ shape.value_size
-
--- for each descriptor that has a shape there is a map of it; each step keeps this
-abbrev pub HasMaps : (ℕ → Option MapShape) → RunState → Type 0
-HasMaps shapes s = (m : ℕ) (shape : MapShape) → shapes m ≡ Some shape → (t : RunMap) × (s.maps m ≡ Some t) × IsMapOf shape t

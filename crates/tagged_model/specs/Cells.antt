@@ -1,12 +1,11 @@
 -- Eight bytes of the stack, and how they are read and written. Loads and stores are those of RFC 9669, sections 5.1
 -- and 5.2; that a pointer is kept whole is this project's own.
 use Rattle.std.specs.Prelude.{ℕ, zero, suc, ◌+◌, ◌-◌, ◌*◌, Bool, true, false, ◌&&◌, nat_lt, nat_le, if◌then◌else◌, List, [], ◌∷◌, length, slice_get, Option, Some, None, option_map}
+use Rattle.words.specs.declared.stack.AccessSize.{AccessSize}
+use Rattle.words.specs.declared.stack.AccessSize.TheVariants.{Double}
 use Rattle.words.specs.Words.{sign_extend}
 use Rattle.words.specs.Bytes.{number_of, low_bytes}
-use Rattle.reg_kinds.specs.declared.stack.AccessSize.{AccessSize}
-use Rattle.reg_kinds.specs.declared.stack.AccessSize.TheVariants.{Double}
-use Rattle.reg_kinds.specs.Stack.{bytes_of}
-use Rattle.reg_kinds.specs.Many.{touches}
+use Rattle.words.specs.Stack.{bytes_of, touches}
 use Rattle.tagged_model.specs.declared.value.Tagged.{Tagged}
 use Rattle.tagged_model.specs.declared.value.Tagged.TheVariants.{Scalar}
 

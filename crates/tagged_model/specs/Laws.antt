@@ -1,10 +1,11 @@
 -- What holds of the facts and of the states that they admit. This project's own.
-use Rattle.std.specs.Prelude.{None, ◌≡◌, ◌≢◌, ◌⊎◌, ℕ, ◌<◌, ◌≤◌, ℤ, pos, ◌+ℤ◌, ◌≤ℤ◌, Bool, true, false, List, [], length, Option, Some, Ok}
+use Rattle.std.specs.Prelude.{◌≡◌, ◌≢◌, ◌⊎◌, ℕ, ◌<◌, ◌≤◌, ℤ, pos, ◌+ℤ◌, ◌≤ℤ◌, Bool, true, false, List, length, Option, Some, Ok}
+use Rattle.words.specs.declared.stack.AccessSize.{AccessSize}
+use Rattle.words.specs.Stack.{bytes_of}
 use Rattle.reg_kinds.specs.declared.kind.Kind.{Kind}
 use Rattle.reg_kinds.specs.declared.facts.Facts.{Facts}
-use Rattle.reg_kinds.specs.declared.stack.AccessSize.{AccessSize}
 use Rattle.reg_kinds.specs.Join.{facts_join}
-use Rattle.reg_kinds.specs.Stack.{bytes_of, loaded, stack_read, stack_write}
+use Rattle.reg_kinds.specs.Stack.{loaded, stack_read, stack_write}
 use Rattle.reg_kinds.specs.Many.{stack_input, stack_filled, called_facts}
 use Rattle.reg_kinds.specs.Settle.{facts_settled}
 use Rattle.tagged_model.specs.declared.shape.MapShape.{MapShape}
@@ -12,12 +13,11 @@ use Rattle.tagged_model.specs.declared.value.Tagged.{Tagged}
 use Rattle.tagged_model.specs.declared.value.Tagged.TheVariants.{Scalar}
 use Rattle.tagged_model.specs.State.{RunState, RunMap, stack_load, stack_store, stack_bytes, stack_written, object_bytes, object_written, object_stored, with_map}
 use Rattle.tagged_model.specs.Cells.{number_from}
-use Rattle.insn_codec.specs.declared.insn.Insn.{Insn}
-use Rattle.tagged_model.specs.Step.{MapsByDescriptor, run_with, was_refused}
 use Rattle.tagged_model.specs.Table.{look_up, has_direct_value, direct_object}
 use Rattle.tagged_model.specs.Helpers as helpers
 use Rattle.tagged_model.specs.Helpers.{returns}
-use Rattle.tagged_model.specs.Admits.{Witness, IsOfKind, AdmitsBy, IsInRange, AreBytes, IsMapOf, HasMaps, AreBelow, witness_at}
+use Rattle.tagged_model.specs.StateInvariant.{IsInRange, AreBytes, IsMapOf, HasMaps}
+use Rattle.tagged_model.specs.Admits.{Witness, IsOfKind, AdmitsBy, AreBelow, witness_at}
 
 -- what either side admits, the join admits
 abbrev pub JoinAdmits : Type 0
@@ -119,13 +119,3 @@ SiteAdmits =
 pub record NullTestAdmits : Type 0 where
   pub null : (witness : Witness) (f : Facts) (s : RunState) (site : ℕ) → AdmitsBy witness f s → witness.gave site ≡ Scalar 0 → AdmitsBy witness (facts_settled site true f) s
   pub value : (witness : Witness) (f : Facts) (s : RunState) (site : ℕ) → AdmitsBy witness f s → witness.gave site ≢ Scalar 0 → AdmitsBy witness (facts_settled site false f) s
-
--- ---- runs in which memory may be refused
-
--- a run in which no new key was refused memory is the run without refusals, and in that one none is; a run without maps asks for
--- no memory
-pub record RefusalsAreTold : Type 0 where
-  pub clear : (refusals : List Bool) (code : List Insn) (maps : MapsByDescriptor) (words packet : List ℕ) → was_refused refusals code maps words packet ≡ false → run_with refusals code maps words packet ≡ run_with [] code maps words packet
-  pub none : (code : List Insn) (maps : MapsByDescriptor) (words packet : List ℕ) → was_refused [] code maps words packet ≡ false
-  pub without_maps : (refusals : List Bool) (code : List Insn) (maps : MapsByDescriptor) (words packet : List ℕ) → ((m : ℕ) → maps m ≡ None)
-      → was_refused refusals code maps words packet ≡ false

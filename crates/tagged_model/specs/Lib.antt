@@ -8,6 +8,9 @@ pub mod Cells
 pub mod State
 pub mod Helpers
 pub mod Step
+pub mod StateInvariant
+pub mod RunLaws
+pub mod StateLaws
 pub mod Admits
 pub mod Laws
-pub mod StateLaws
+pub mod AdmitsLaws

@@ -27,8 +27,8 @@ use Rattle.words.specs.declared.operator.ExtendedBits.{ExtendedBits}
 use Rattle.words.specs.declared.operator.ExtendedBits.TheVariants as word
 use Rattle.words.specs.declared.operator.OrderChange.{OrderChange}
 use Rattle.words.specs.declared.operator.OrderChange.TheVariants.{Little, Big, Swap}
-use Rattle.reg_kinds.specs.declared.stack.AccessSize.{AccessSize}
-use Rattle.reg_kinds.specs.declared.stack.AccessSize.TheVariants.{Byte, Half, Word, Double}
+use Rattle.words.specs.declared.stack.AccessSize.{AccessSize}
+use Rattle.words.specs.declared.stack.AccessSize.TheVariants.{Byte, Half, Word, Double}
 
 -- the bits of a class: 64, or the low 32
 abbrev pub width : Bool → ℕ

@@ -1,18 +1,16 @@
--- What holds of offsets that are near, of cells of which no byte is told, of the objects that the keys of a map have, and of the value
--- that is loaded directly: laws of the definitions of `Values`, `Admits` and `Table`, proved here for the proofs of the crates above. This project's own. No contract
+-- What holds of offsets that are near, of the objects that the keys of a map have, and of the value that is loaded directly: laws of
+-- the definitions of `Values`, `StateInvariant` and `Table`, proved here for the proofs of the crates above. This project's own. No contract
 -- cites them, so there is nothing in them to believe.
-use Rattle.std.proofs.Common.{◌≡◌, ℕ, ◌^◌, ◌<◌, ◌≤◌, ◌==◌, ◌&&◌, nat_lt, ℤ, pos, neg_ℤ, ◌≤ℤ◌, int_le, Bool, true, false, cond, List, [], ◌∷◌, Option, Some, None, refl, arith}
+use Rattle.std.proofs.Common.{◌≡◌, ℕ, ◌^◌, ◌<◌, ◌≤◌, ◌==◌, ◌&&◌, nat_lt, ℤ, pos, neg_ℤ, ◌≤ℤ◌, int_le, Bool, true, false, cond, List, [], ◌∷◌, Some, None, refl, arith}
 use Rattle.std.specs.Prelude.{nat_le}
 use Rattle.std.proofs.lemmas.Bool.{and_parts, eqb-true, ltb-true, leb-true, le-leb}
 use Rattle.std.proofs.lemmas.Int.{ints}
-use Rattle.std.proofs.lemmas.Nat.Bits.{bit_at-zero}
 use Rattle.std.proofs.lemmas.Option.{none-some, same_Some}
 use Rattle.tagged_model.specs.Values.{is_near}
-use Rattle.tagged_model.specs.Cells.{Cell}
 use Rattle.tagged_model.specs.declared.shape.MapShape.{MapShape}
 use Rattle.tagged_model.specs.Shape.{has_key, is_from_to, is_valid, fits, longest_value, most_entries}
 use Rattle.tagged_model.specs.Table.{Table, is_key, found, without, with_key, index_key, is_array, has_direct_value, direct_object}
-use Rattle.tagged_model.specs.Admits.{HasBytes, KeysHaveObjects}
+use Rattle.tagged_model.specs.StateInvariant.{KeysHaveObjects}
 
 -- ---- offsets
 
@@ -25,12 +23,6 @@ near_parts x e =
 -- an offset in a value is near
 pub near_from : (offset : ℕ) → offset < 4096 → is_near (pos offset) ≡ true
 near_from offset lt = le-leb offset (2 ^ 29) (omega arith)
-
--- ---- cells
-
--- where it is told of no byte that it is there, any cell will do
-pub no_bytes : (c : Cell) → HasBytes 0 c
-no_bytes c j h e = absurd (omega (arith, bit_at-zero j, e))
 
 -- ---- keys, each of which has one of so many objects
 

@@ -2,17 +2,15 @@
 
 ghost use Rattle.std.specs.Prelude.{ℕ, List};
 ghost use Rattle.tagged_model.specs.MapLaws.{CallsRefineValues, MapVerdictsMatchLookUps};
-ghost use Rattle.tagged_model.specs.Laws.{JoinAdmits, StackReadAdmits, StackWriteAdmits, StackInputAdmits, StackOutputAdmits, ObjectReadAdmits, ObjectWriteAdmits, ValueLoadAdmits, ValueStoreAdmits, MapCallsKeep, MapChangeAdmits, CallAdmits, SiteAdmits, NullTestAdmits, RefusalsAreTold};
-
-use interval::hull_is_a_join;
-use reg_kinds::joins_commute;
+ghost use Rattle.tagged_model.specs.RunLaws.{RefusalsAreTold};
+ghost use Rattle.tagged_model.specs.Laws.{JoinAdmits, StackReadAdmits, StackWriteAdmits, StackInputAdmits, StackOutputAdmits, ObjectReadAdmits, ObjectWriteAdmits, ValueLoadAdmits, ValueStoreAdmits, MapCallsKeep, MapChangeAdmits, CallAdmits, SiteAdmits, NullTestAdmits};
 
 /// Where two edges meet, the joined facts admit what the facts on either edge admit.
 pub fn join_admits()
     ensures { JoinAdmits }
 {
-    hull_is_a_join();
-    joins_commute();
+    interval::laws::hull_is_a_join();
+    reg_kinds::laws::joins_commute();
 }
 
 /// A load from the stack gives a value of the kind that the facts tell.

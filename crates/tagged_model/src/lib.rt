@@ -5,7 +5,7 @@
 
 mod fault;
 mod helper;
-mod laws;
+pub mod laws;
 mod named;
 mod operators;
 mod shape;
@@ -13,12 +13,6 @@ mod value;
 
 pub use fault::MapFault;
 pub use helper::{Helper, known_helper};
-pub use laws::{
-    call_admits, calls_refine_values, join_admits, map_calls_keep, map_change_admits,
-    map_verdicts_match_look_ups, null_test_admits, object_read_admits, object_write_admits,
-    refusals_are_told, site_admits, stack_input_admits, stack_output_admits, stack_read_admits,
-    stack_write_admits, value_load_admits, value_store_admits,
-};
 pub use named::{shape_of, target_of};
 pub use operators::{
     access_size, atomic_operator, byte_order, comparison, is_wide_atomic, kept_bits, narrow,

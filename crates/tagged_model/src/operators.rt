@@ -4,7 +4,7 @@ ghost use Rattle.std.specs.Prelude.{◌≡◌};
 ghost use Rattle.tagged_model.specs.Operators.{operator_of, comparison_of, narrow_of, order_of, kept_of, size_of, atomic_operator, is_wide_atomic};
 
 use insn_codec::{AluOp, AtomicOp, AtomicSize, Bits, ByteOrder, Condition, Narrow, Size};
-use words::{Comparison, Operator};
+use words::{AccessSize, Comparison, Operator};
 
 /// The operator on words.
 #[inline(always)]
@@ -111,13 +111,13 @@ pub fn kept_bits(bits: Bits) -> words::KeptBits
 
 /// The size of a load or a store.
 #[inline(always)]
-pub fn access_size(size: Size) -> reg_kinds::AccessSize
+pub fn access_size(size: Size) -> AccessSize
     ensures { result ≡ size_of size }
 {
     match size {
-        Size::Byte => reg_kinds::AccessSize::Byte,
-        Size::Half => reg_kinds::AccessSize::Half,
-        Size::Word => reg_kinds::AccessSize::Word,
-        Size::Double => reg_kinds::AccessSize::Double,
+        Size::Byte => AccessSize::Byte,
+        Size::Half => AccessSize::Half,
+        Size::Word => AccessSize::Word,
+        Size::Double => AccessSize::Double,
     }
 }

@@ -25,7 +25,7 @@ use Rattle.tenant.specs.declared.object.OpenObject.TheVariants as object
 use Rattle.command_frames.specs.Frame.{owner, command_number, reply_to}
 use Rattle.tenant.specs.Alone.{AnswersFrame, MayReply, IsFault}
 use Rattle.tenant.specs.Errno.{status_of}
-use Rattle.tenant.specs.Machine.{Answer, targets, ran, refuses, codec_errno, verdict_errno, created_as, created_under, created, room_for, kind_of, asked_shape, of_object, of_place, on_map, gives_if_found, element_put, element_taken_out, LoadJudgement, accepted, rejected, Judges, judged, LoadsUnder, outcome_answer, run_of, longest_packet, closed, Answers}
+use Rattle.tenant.specs.Machine.{Answer, targets, ran, refuses, codec_errno, verdict_errno, created_as, created_under, created, room_for, kind_of, asked_shape, of_object, of_place, on_map, gives_if_found, element_put, element_taken_out, LoadJudgement, accepted, rejected, Judges, answer_of_judgement, LoadsUnder, outcome_answer, run_of, longest_packet, closed, Answers}
 use Rattle.tenant.specs.State.{Map, TenantState, live}
 
 -- the lowest byte of a status
@@ -136,7 +136,7 @@ bare_taken : (s : TenantState) (place : ℕ) (t : Map) (key : List ℕ) (r : Res
 bare_taken s place t key (Err fault) e = refl
 bare_taken s place t key (Ok value) e = refl
 
-bare_judged : (s : TenantState) (fd : ℕ) (slots : List ℕ) (j : LoadJudgement) → Judges (targets s) slots j → IsBare (judged s fd j)
+bare_judged : (s : TenantState) (fd : ℕ) (slots : List ℕ) (j : LoadJudgement) → Judges (targets s) slots j → IsBare (answer_of_judgement s fd j)
 bare_judged s fd slots (accepted insns) h e = refl
 bare_judged s fd slots (rejected errno slot number) (inl (fault, is, same, at, number_is)) e = absurd (codec_other fault.kind (ap (λ (x : Errno). low (status_of x)) (sym same) ∙ e))
 bare_judged s fd slots (rejected errno slot number) (inr (insns, why, program, spelled, refused, same, number_is)) e = absurd (verdict_other why (ap (λ (x : Errno). low (status_of x)) (sym same) ∙ e))

@@ -12,7 +12,7 @@ use Rattle.tagged_model.specs.Shape.{area}
 use Rattle.tenant.specs.declared.object.OpenObject.{OpenObject}
 use Rattle.tenant.specs.declared.object.OpenObject.TheVariants as object
 use Rattle.tagged_model.specs.Step.{refused_at_first, Ending, run_with, left_with, was_refused, last_map}
-use Rattle.tagged_model.specs.Laws.{RefusalsAreTold}
+use Rattle.tagged_model.specs.RunLaws.{RefusalsAreTold}
 use Rattle.tagged_model.specs.Table.{verdict, removal, look_up, next_of}
 use Rattle.tenant.specs.declared.errno.Errno.{Errno}
 use Rattle.tenant.specs.declared.errno.Errno.TheVariants.{Invalid, TooBig}
@@ -20,7 +20,7 @@ use Rattle.tenant.specs.Loaded.{LoadedProgram}
 use Rattle.tenant.specs.State.{Map, TenantState, live}
 use Rattle.command_frames.specs.declared.command.BadFrame.{BadFrame}
 use Rattle.tenant.specs.Alone.{AnswersFrame, RepliesUnder, MayReply, IsToldAlone, AloneWithRefusals}
-use Rattle.tenant.specs.Machine.{Answer, of_object, of_place, on_map, element_put, created_at, created_as, created_under, created, room_for, kind_of, asked_shape, refuses, maps_left, maps_given, outcome_answer, ran, run_of, longest_packet, LoadsAs, LoadsUnder, Answers, LoadJudgement, accepted, rejected, judged, gives_if_found, element_taken_out, closed}
+use Rattle.tenant.specs.Machine.{Answer, of_object, of_place, on_map, element_put, created_at, created_as, created_under, created, room_for, kind_of, asked_shape, refuses, maps_left, maps_given, outcome_answer, ran, run_of, longest_packet, LoadsAs, LoadsUnder, Answers, LoadJudgement, accepted, rejected, answer_of_judgement, gives_if_found, element_taken_out, closed}
 
 -- an answer with these refusals, and the one without: where the flag is clear after the first, they are one, and it was clear
 abbrev pub Clear : TenantState → Answer → Answer → Type 0
@@ -154,7 +154,7 @@ kept_closed : (s : TenantState) (fd : ℕ) (o : Option OpenObject) → Clear s (
 kept_closed s fd None e = (refl, e)
 kept_closed s fd (Some o) e = (refl, e)
 
-kept_judged : (s : TenantState) (fd : ℕ) (j : LoadJudgement) → (judged s fd j).after.refused ≡ s.refused
+kept_judged : (s : TenantState) (fd : ℕ) (j : LoadJudgement) → (answer_of_judgement s fd j).after.refused ≡ s.refused
 kept_judged s fd (accepted insns) = refl
 kept_judged s fd (rejected errno slot number) = refl
 

@@ -20,7 +20,7 @@ use Rattle.tenant.specs.declared.object.OpenObject.{OpenObject}
 use Rattle.tenant.specs.declared.object.OpenObject.TheVariants as object
 use Rattle.tenant.specs.Errno.{status_of, map_errno}
 use Rattle.tenant.specs.inside.Frames.{Writes}
-use Rattle.tenant.specs.Machine.{Answer, targets, refuses, created_as, created_under, created, room_for, kind_of, asked_shape, shape_where, of_object, of_place, on_map, gives_if_found, element_put, element_taken_out, LoadJudgement, accepted, rejected, Judges, judged, LoadsUnder, closed, Answers}
+use Rattle.tenant.specs.Machine.{Answer, targets, refuses, created_as, created_under, created, room_for, kind_of, asked_shape, shape_where, of_object, of_place, on_map, gives_if_found, element_put, element_taken_out, LoadJudgement, accepted, rejected, Judges, answer_of_judgement, LoadsUnder, closed, Answers}
 use Rattle.tenant.specs.State.{Map, TenantState, live}
 use Rattle.tenant.proofs.Faults.{low, codec_other, verdict_other}
 use Rattle.tenant.proofs.Opened.{descriptor_free}
@@ -144,7 +144,7 @@ plain_taken : (s : TenantState) (place : ℕ) (t : Map) (key : List ℕ) (r : Re
 plain_taken s place t key (Err fault) = inr (inr (map_errno fault, map_other fault, refl))
 plain_taken s place t key (Ok value) = inl refl
 
-plain_judged : (s : TenantState) (fd : ℕ) (slots : List ℕ) (j : LoadJudgement) → table.lowest s.objects ≡ Some fd → Judges (targets s) slots j → IsPlain s (judged s fd j)
+plain_judged : (s : TenantState) (fd : ℕ) (slots : List ℕ) (j : LoadJudgement) → table.lowest s.objects ≡ Some fd → Judges (targets s) slots j → IsPlain s (answer_of_judgement s fd j)
 plain_judged s fd slots (accepted insns) free h = inr (inl (fd, free, refl))
 plain_judged s fd slots (rejected errno slot number) free (inl (fault, is, same, at, number_is)) =
     inr (inr (errno, subst (λ (x : Errno). IsOther (status_of x)) (sym same) (codec_other fault.kind), refl))

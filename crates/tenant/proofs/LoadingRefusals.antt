@@ -13,7 +13,7 @@ use Rattle.tagged_model.specs.Cells.{and_then}
 use Rattle.verdict.specs.declared.fault.VerifyFault.{VerifyFault}
 use Rattle.verdict.specs.Before.{facts_before}
 use Rattle.verdict.specs.Maps.{shapes_of}
-use Rattle.verdict.specs.Shape.{shape_fault, shape_of}
+use Rattle.verdict.specs.Shape.{structure_fault, shape_of}
 use Rattle.verdict.specs.Verdict.{IsRefused, memory_fault, safety_fault}
 use Rattle.tenant.specs.declared.errno.Errno.{Errno}
 use Rattle.tenant.specs.declared.errno.Errno.TheVariants.{Invalid}
@@ -35,7 +35,7 @@ safety_begins (Some i) known why f e = (i, refl)
 
 -- an instruction begins there
 refused_begins : (code : List Insn) (named : List Named) (slot : ℕ) (why : Reason) → IsRefused code named slot why → (i : Insn) × (begins_at code slot ≡ Some i)
-unfolding shape_fault safety_fault
+unfolding structure_fault safety_fault
 refused_begins code named slot why (inl shape) = shape_begins code named slot why (begins_at code slot) shape.here
 refused_begins code named slot why (inr safety) = safety_begins (begins_at code slot) (facts_before (shapes_of code named) code slot) why _ safety.1.here
 

@@ -16,7 +16,7 @@ use Rattle.tagged_model.specs.Step.{refused_at_first}
 use Rattle.verdict.specs.Verdict.{IsAccepted, IsRefused}
 use Rattle.tenant.specs.declared.errno.Errno.{Errno}
 use Rattle.tenant.specs.State.{TenantState}
-use Rattle.tenant.specs.Machine.{Answer, LoadJudgement, accepted, rejected, Judges, IsNoProgram, IsRefusedProgram, codec_errno, verdict_errno, judged, targets, LoadsAs, LoadsUnder, Answers}
+use Rattle.tenant.specs.Machine.{Answer, LoadJudgement, accepted, rejected, Judges, IsNoProgram, IsRefusedProgram, codec_errno, verdict_errno, answer_of_judgement, targets, LoadsAs, LoadsUnder, Answers}
 use Rattle.tenant.specs.Alone.{AnswersFrame, RepliesUnder, IsToldAlone}
 
 -- ---- a load
@@ -88,7 +88,7 @@ Judgements = (named : List Named) (slots : List ℕ) (j k : LoadJudgement) → J
 
 loads_as : Judgements → (refused : Bool) (s : TenantState) (fd : ℕ) (slots : List ℕ) (a b : Answer) → LoadsAs refused s fd slots a → LoadsAs refused s fd slots b → a ≡ b
 loads_as one true s fd slots a b x y = x ∙ sym y
-loads_as one false s fd slots a b (j, is, told) (k, is_too, told_too) = told ∙ ap (judged s fd) (one (targets s) slots j k is is_too) ∙ sym told_too
+loads_as one false s fd slots a b (j, is, told) (k, is_too, told_too) = told ∙ ap (answer_of_judgement s fd) (one (targets s) slots j k is is_too) ∙ sym told_too
 
 loads_under : Judgements → (refused : Bool) (s : TenantState) (o : Option ℕ) (slots : List ℕ) (a b : Answer) → LoadsUnder refused s o slots a → LoadsUnder refused s o slots b → a ≡ b
 loads_under one refused s None slots a b x y = x ∙ sym y

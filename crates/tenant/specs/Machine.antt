@@ -258,14 +258,14 @@ loaded_program s insns = record {
   maps = places_from s.objects (maps_of insns);
 }
 
-abbrev pub judged : TenantState → ℕ → LoadJudgement → Answer
-judged s fd (rejected errno slot number) = refuses_at errno slot number s
-judged s fd (accepted insns) = opens fd (record s { objects = table.with_open s.objects fd (object.Program (loaded_program s insns)) })
+abbrev pub answer_of_judgement : TenantState → ℕ → LoadJudgement → Answer
+answer_of_judgement s fd (rejected errno slot number) = refuses_at errno slot number s
+answer_of_judgement s fd (accepted insns) = opens fd (record s { objects = table.with_open s.objects fd (object.Program (loaded_program s insns)) })
 
 -- where memory is refused, that is the answer whatever the slots are
 abbrev pub LoadsAs : Bool → TenantState → ℕ → List ℕ → Answer → Type 0
 LoadsAs true s fd slots answer = answer ≡ refuses_for_memory s
-LoadsAs false s fd slots answer = (j : LoadJudgement) × Judges (targets s) slots j × (answer ≡ judged s fd j)
+LoadsAs false s fd slots answer = (j : LoadJudgement) × Judges (targets s) slots j × (answer ≡ answer_of_judgement s fd j)
 
 abbrev pub LoadsUnder : Bool → TenantState → Option ℕ → List ℕ → Answer → Type 0
 LoadsUnder refused s None slots answer = answer ≡ refuses TooManyOpen s

@@ -22,7 +22,7 @@ use crate::errno::Errno;
 use crate::loading::LoadReply;
 use crate::shape::asked_shape;
 use crate::tenant::{Tenant, write_refusal};
-use arena::{Arena, parts_are_apart};
+use arena::{Arena, laws};
 use bpf_maps::GivenKey;
 use command_frames::{
     BadFrame, Command, GIVEN_WORDS, Head, ReplyBuf, head, parse, write_number, write_reply,
@@ -42,56 +42,56 @@ fn frame_error(fault: BadFrame) -> Errno
 }
 
 /// The reply to a command that answers nothing but that it was done.
-fn write_done(head: Head, answer: Result<(), Errno>, room: &mut ReplyBuf)
-    ensures { (s : TenantState) → Writes head room.new (done_answer answer s) }
+fn write_done(head: Head, answer: Result<(), Errno>, reply: &mut ReplyBuf)
+    ensures { (s : TenantState) → Writes head reply.new (done_answer answer s) }
 {
     match answer {
-        Ok(()) => write_reply(head, 0, &[], room),
-        Err(errno) => write_refusal(head, errno, room),
+        Ok(()) => write_reply(head, 0, &[], reply),
+        Err(errno) => write_refusal(head, errno, reply),
     }
 }
 
 /// The reply to a command that makes a map: its descriptor is the status.
-fn write_opened(head: Head, answer: Result<u32, Errno>, room: &mut ReplyBuf)
+fn write_opened(head: Head, answer: Result<u32, Errno>, reply: &mut ReplyBuf)
     requires { IfOk answer (λ fd. fd ≤ last_descriptor) }
-    ensures { (s : TenantState) → Writes head room.new (opened_answer answer s) }
+    ensures { (s : TenantState) → Writes head reply.new (opened_answer answer s) }
 {
     match answer {
-        Ok(fd) => write_reply(head, fd as i32, &[], room),
-        Err(errno) => write_refusal(head, errno, room),
+        Ok(fd) => write_reply(head, fd as i32, &[], reply),
+        Err(errno) => write_refusal(head, errno, reply),
     }
 }
 
 /// The reply to a look-up: the value, which is lent, is the payload.
-fn write_lent(head: Head, answer: Result<&[u8], Errno>, room: &mut ReplyBuf)
+fn write_lent(head: Head, answer: Result<&[u8], Errno>, reply: &mut ReplyBuf)
     requires { IfOk answer (λ value. length value.now ≤ longest_payload) }
-    ensures { (s : TenantState) → Writes head room.new (lent_answer answer.entry s) }
+    ensures { (s : TenantState) → Writes head reply.new (lent_answer answer.entry s) }
 {
     match answer {
-        Ok(value) => write_reply(head, 0, value, room),
-        Err(errno) => write_refusal(head, errno, room),
+        Ok(value) => write_reply(head, 0, value, reply),
+        Err(errno) => write_refusal(head, errno, reply),
     }
 }
 
 /// The reply to a request for a key, which is the payload.
-fn write_key(head: Head, answer: Result<GivenKey<'_>, Errno>, room: &mut ReplyBuf)
+fn write_key(head: Head, answer: Result<GivenKey<'_>, Errno>, reply: &mut ReplyBuf)
     requires { IfOk answer (λ given. length (given_bytes given) ≤ longest_payload) }
-    ensures { (s : TenantState) → Writes head room.new (given_answer answer.entry s) }
+    ensures { (s : TenantState) → Writes head reply.new (given_answer answer.entry s) }
 {
     match answer {
-        Ok(key) => write_reply(head, 0, key.bytes(), room),
-        Err(errno) => write_refusal(head, errno, room),
+        Ok(key) => write_reply(head, 0, key.bytes(), reply),
+        Err(errno) => write_refusal(head, errno, reply),
     }
 }
 
 /// The reply to a load: the descriptor is the status. The slot and the reason of a refusal are the payload.
-fn write_load(head: Head, answer: LoadReply, room: &mut ReplyBuf)
+fn write_load(head: Head, answer: LoadReply, reply: &mut ReplyBuf)
     requires { OpensBelow answer }
-    ensures { (s : TenantState) → Writes head room.new (load_answer answer s) }
+    ensures { (s : TenantState) → Writes head reply.new (load_answer answer s) }
 {
     match answer {
-        LoadReply::Opened(fd) => write_reply(head, fd as i32, &[], room),
-        LoadReply::Refused(errno) => write_refusal(head, errno, room),
+        LoadReply::Opened(fd) => write_reply(head, fd as i32, &[], reply),
+        LoadReply::Refused(errno) => write_refusal(head, errno, reply),
         LoadReply::RefusedAt {
             errno,
             slot,
@@ -99,18 +99,18 @@ fn write_load(head: Head, answer: LoadReply, room: &mut ReplyBuf)
         } => {
             let [a, b, c, d] = slot.to_le_bytes();
             let [e, f] = reason.to_le_bytes();
-            write_reply(head, errno.status(), &[a, b, c, d, e, f], room);
+            write_reply(head, errno.status(), &[a, b, c, d, e, f], reply);
         }
     }
 }
 
 /// The reply to a test run: the value of the program is the payload.
-fn write_run(head: Head, answer: Result<u32, Errno>, room: &mut ReplyBuf)
-    ensures { (s : TenantState) → Writes head room.new (run_answer answer s) }
+fn write_run(head: Head, answer: Result<u32, Errno>, reply: &mut ReplyBuf)
+    ensures { (s : TenantState) → Writes head reply.new (run_answer answer s) }
 {
     match answer {
-        Ok(value) => write_number(head, value, room),
-        Err(errno) => write_refusal(head, errno, room),
+        Ok(value) => write_number(head, value, reply),
+        Err(errno) => write_refusal(head, errno, reply),
     }
 }
 
@@ -121,31 +121,31 @@ impl Tenant {
         head: Head,
         shape: Result<MapShape, Errno>,
         part: &mut [u8],
-        room: &mut ReplyBuf,
+        reply: &mut ReplyBuf,
     )
         requires { length part.old ≡ PART }
         ensures told { (kind key value max flags : ℕ)
             → shape ≡ asked_shape (kind_of kind) key value max flags
-            → AnswersCommand (map_create kind key value max flags) head room.new
+            → AnswersCommand (map_create kind key value max flags) head reply.new
             (state_in part.old self.old) (state_in part.new self.new) }
         ensures length { length part.new ≡ PART }
     {
         self.table_has_all_places();
         match shape {
-            Ok(shape) => write_opened(head, self.create(shape, part), room),
-            Err(errno) => write_refusal(head, errno, room),
+            Ok(shape) => write_opened(head, self.create(shape, part), reply),
+            Err(errno) => write_refusal(head, errno, reply),
         }
     }
 
     /// MAP_LOOKUP_ELEM. The value goes from the tenant's part into the reply, and is copied nowhere else.
-    fn reply_to_look_up(&self, head: Head, fd: u32, key: &[u8], part: &[u8], room: &mut ReplyBuf)
+    fn reply_to_look_up(&self, head: Head, fd: u32, key: &[u8], part: &[u8], reply: &mut ReplyBuf)
         requires { length part.now ≡ PART }
-        ensures { AnswersCommand (map_lookup fd key.now) head room.new
+        ensures { AnswersCommand (map_lookup fd key.now) head reply.new
             (state_in part.now self.now) (state_in part.now self.now) }
     {
         self.table_has_all_places();
         let answer = self.look_up(fd, key, part);
-        write_lent(head, answer, room);
+        write_lent(head, answer, reply);
     }
 
     /// MAP_UPDATE_ELEM.
@@ -156,36 +156,36 @@ impl Tenant {
         flags: u64,
         key_and_value: &[u8],
         part: &mut [u8],
-        room: &mut ReplyBuf,
+        reply: &mut ReplyBuf,
     )
         requires { length part.old ≡ PART }
-        ensures told { AnswersCommand (map_update fd flags key_and_value.now) head room.new
+        ensures told { AnswersCommand (map_update fd flags key_and_value.now) head reply.new
             (state_in part.old self.old) (state_in part.new self.new) }
         ensures length { length part.new ≡ PART }
     {
         self.table_has_all_places();
         let answer = self.update(fd, flags, key_and_value, part);
-        write_done(head, answer, room);
+        write_done(head, answer, reply);
     }
 
     /// MAP_DELETE_ELEM.
-    fn reply_to_delete(&mut self, head: Head, fd: u32, key: &[u8], room: &mut ReplyBuf)
-        ensures { (part : List ℕ) → AnswersCommand (map_delete fd key.now) head room.new
+    fn reply_to_delete(&mut self, head: Head, fd: u32, key: &[u8], reply: &mut ReplyBuf)
+        ensures { (part : List ℕ) → AnswersCommand (map_delete fd key.now) head reply.new
             (state_in part self.old) (state_in part self.new) }
     {
         self.table_has_all_places();
         let answer = self.delete(fd, key);
-        write_done(head, answer, room);
+        write_done(head, answer, reply);
     }
 
     /// MAP_GET_NEXT_KEY.
-    fn reply_to_next_key(&self, head: Head, fd: u32, key: &[u8], room: &mut ReplyBuf)
-        ensures { (part : List ℕ) → AnswersCommand (map_next_key fd key.now) head room.new
+    fn reply_to_next_key(&self, head: Head, fd: u32, key: &[u8], reply: &mut ReplyBuf)
+        ensures { (part : List ℕ) → AnswersCommand (map_next_key fd key.now) head reply.new
             (state_in part self.now) (state_in part self.now) }
     {
         self.table_has_all_places();
         let answer = self.next_key(fd, key);
-        write_key(head, answer, room);
+        write_key(head, answer, reply);
     }
 
     /// PROG_LOAD.
@@ -195,15 +195,15 @@ impl Tenant {
         head: Head,
         kind: u32,
         slots: &[u8],
-        room: &mut ReplyBuf,
+        reply: &mut ReplyBuf,
     )
         requires short { length slots.now < 2 ^ 32 }
-        ensures { (part : List ℕ) → AnswersCommand (prog_load kind slots.now) head room.new
+        ensures { (part : List ℕ) → AnswersCommand (prog_load kind slots.now) head reply.new
             (state_in part self.old) (state_in part self.new) }
     {
         self.table_has_all_places();
         let answer = self.load(alloc, kind, slots);
-        write_load(head, answer, room);
+        write_load(head, answer, reply);
     }
 
     /// PROG_TEST_RUN.
@@ -215,30 +215,30 @@ impl Tenant {
         packet: &[u8],
         tenant: usize,
         arena: &mut Arena,
-        room: &mut ReplyBuf,
+        reply: &mut ReplyBuf,
     )
         requires tenant { tenant < arena.old.parts }
         requires part { arena.old.part ≡ PART }
         requires short { length packet.now < 2 ^ 32 }
-        ensures told { AnswersCommand (prog_test_run fd words.now packet.now) head room.new
+        ensures told { AnswersCommand (prog_test_run fd words.now packet.now) head reply.new
             (state_in (part_bytes arena.old tenant) self.old)
             (state_in (part_bytes arena.new tenant) self.new) }
         ensures changes { ChangesPart tenant arena.old arena.new }
     {
         let answer = self.test_run(fd, words, packet, tenant, arena);
-        write_run(head, answer, room);
+        write_run(head, answer, reply);
     }
 
     /// CLOSE.
-    fn reply_to_close(&mut self, head: Head, fd: u32, part: &mut [u8], room: &mut ReplyBuf)
+    fn reply_to_close(&mut self, head: Head, fd: u32, part: &mut [u8], reply: &mut ReplyBuf)
         requires { length part.old ≡ PART }
-        ensures told { AnswersCommand (close fd) head room.new
+        ensures told { AnswersCommand (close fd) head reply.new
             (state_in part.old self.old) (state_in part.new self.new) }
         ensures length { length part.new ≡ PART }
     {
         self.table_has_all_places();
         let answer = self.close(fd, part);
-        write_done(head, answer, room);
+        write_done(head, answer, reply);
     }
 
     /// Answers the command that a frame of this tenant carries.
@@ -261,7 +261,7 @@ impl Tenant {
     {
         self.table_has_all_places();
         arena.memory_is_its_parts();
-        parts_are_apart();
+        laws::parts_are_apart();
         match command {
             Command::MapCreate {
                 kind,

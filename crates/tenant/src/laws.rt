@@ -2,18 +2,14 @@
 
 ghost use Rattle.tenant.specs.Laws.{OneJudgement, OneAnswer, OneReply, OneAlone, ClearFlagMeansNoRefusal, ClearFlagMeansAlone, FaultsHaveNoPayload};
 
-use insn_codec::{one_fault, one_program};
-use tagged_model::refusals_are_told;
-use verdict::{accepted_is_not_refused, one_refusal};
-
 /// Slots come to one program that is accepted, or to one fault.
 pub fn one_judgement()
     ensures { OneJudgement }
 {
-    one_program();
-    one_fault();
-    one_refusal();
-    accepted_is_not_refused();
+    insn_codec::laws::one_program();
+    insn_codec::laws::one_fault();
+    verdict::laws::one_refusal();
+    verdict::laws::accepted_is_not_refused();
 }
 
 /// A command has one answer, with the same refusals of memory.
@@ -41,14 +37,14 @@ pub fn one_alone()
 pub fn clear_flag_means_no_refusal()
     ensures { ClearFlagMeansNoRefusal }
 {
-    refusals_are_told();
+    tagged_model::laws::refusals_are_told();
 }
 
 /// A tenant whose flag is clear in the end is told what its machine tells it without refusals.
 pub fn clear_flag_means_alone()
     ensures { ClearFlagMeansAlone }
 {
-    refusals_are_told();
+    tagged_model::laws::refusals_are_told();
 }
 
 /// A reply with the status of a fault carries nothing else.

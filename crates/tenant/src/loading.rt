@@ -17,7 +17,7 @@ use insn_codec::{CodecFault, FaultKind, read_program};
 use reg_kinds::Reason;
 use std::alloc::{AllocError, Global};
 use tagged_model::Named;
-use verdict::{VerifyFault, loaded_maps_have_shapes, maps_are_listed};
+use verdict::{VerifyFault, laws};
 use verifier::{Verified, verify};
 
 /// The type of socket filters, the only one that is loaded (BPF_PROG_TYPE_SOCKET_FILTER).
@@ -128,7 +128,11 @@ fn of_verdict(fault: VerifyFault) -> LoadFault
 }
 
 /// The program that the slots spell, where it is accepted with these descriptors open.
-fn judged(alloc: Global, slots: &[u8], descriptors: &[Named]) -> Result<Verified, LoadFault>
+fn verdict_of_slots(
+    alloc: Global,
+    slots: &[u8],
+    descriptors: &[Named],
+) -> Result<Verified, LoadFault>
     requires { length slots.now < 2 ^ 32 }
     ensures judges { IfOk result (λ program.
         Judges descriptors.now slots.now (accepted program.code)) }
@@ -218,12 +222,12 @@ impl Tenant {
         ensures refused { IfErr result (λ fault. (part : List ℕ) →
             IsLoadFault (targets (state_in part self.now)) slots.now fault) }
     {
-        loaded_maps_have_shapes();
-        maps_are_listed();
+        laws::loaded_maps_have_shapes();
+        laws::maps_are_listed();
         let Ok(descriptors) = self.targets(alloc) else {
             return Err(LoadFault::Memory);
         };
-        let program = judged(alloc, slots, &descriptors)?;
+        let program = verdict_of_slots(alloc, slots, &descriptors)?;
         match places(alloc, &self.objects, program.maps()) {
             Ok(maps) => Ok(LoadedProgram::new(program, maps)),
             Err(_) => Err(LoadFault::Memory),

@@ -20,15 +20,12 @@ ghost use Rattle.tenant.specs.inside.Answers.{map_fault};
 
 use crate::errno::Errno;
 use crate::object::OpenObject;
-use bpf_maps::{
-    GivenKey, MAPS, MapKey, Maps, areas_keep_places, calls_are_those_of_a_map,
-    live_maps_refine_values, values_are_written,
-};
+use bpf_maps::{GivenKey, MAPS, MapKey, Maps};
 use command_frames::{Head, ReplyBuf, write_reply};
 use fd_table::{FIRST, FdTable, MOST};
 use std::alloc::{AllocError, Global};
 use std::marker::Model;
-use tagged_model::{MapShape, Named, Target, calls_refine_values, map_verdicts_match_look_ups};
+use tagged_model::{MapShape, Named, Target};
 
 /// What a tenant has open, and its live maps. The values of the maps lie in the tenant's part of the memory.
 #[derive(Drop)]
@@ -54,10 +51,10 @@ impl Model for Tenant {
 }
 
 /// The reply to a command that is refused.
-pub(crate) fn write_refusal(head: Head, errno: Errno, room: &mut ReplyBuf)
-    ensures { room.new ≡ reply_bytes head.tenant head.command (status_of errno) [] }
+pub(crate) fn write_refusal(head: Head, errno: Errno, reply: &mut ReplyBuf)
+    ensures { reply.new ≡ reply_bytes head.tenant head.command (status_of errno) [] }
 {
-    write_reply(head, errno.status(), &[], room);
+    write_reply(head, errno.status(), &[], reply);
 }
 
 /// Writes bytes into a part from a place on.
@@ -223,7 +220,7 @@ impl Tenant {
             ≡ element_looked_up (state_in part.now self.now) fd key.now }
         ensures bound { IfOk result (λ value. length value.now ≤ longest_payload) }
     {
-        calls_refine_values();
+        tagged_model::laws::calls_refine_values();
         let map = self.map_named(fd)?;
         let shape = self.maps.shape(map);
         if key.len() != shape.key_size as usize {
@@ -282,10 +279,10 @@ impl Tenant {
             ≡ element_updated refused (state_in part.old self.old) fd flags key_and_value.now) }
         ensures length { length part.new ≡ PART }
     {
-        calls_refine_values();
-        live_maps_refine_values();
-        values_are_written();
-        map_verdicts_match_look_ups();
+        tagged_model::laws::calls_refine_values();
+        bpf_maps::laws::live_maps_refine_values();
+        bpf_maps::laws::values_are_written();
+        tagged_model::laws::map_verdicts_match_look_ups();
         let map = self.map_named(fd)?;
         let shape = self.maps.shape(map);
         let key_size = shape.key_size as usize;
@@ -314,9 +311,9 @@ impl Tenant {
         ensures { (part : List ℕ) → done_answer result (state_in part self.new)
             ≡ element_deleted (state_in part self.old) fd key.now }
     {
-        calls_refine_values();
-        calls_are_those_of_a_map();
-        areas_keep_places();
+        tagged_model::laws::calls_refine_values();
+        bpf_maps::laws::calls_are_those_of_a_map();
+        bpf_maps::laws::areas_keep_places();
         let map = self.map_named(fd)?;
         if key.len() != self.maps.shape(map).key_size as usize {
             return Err(Errno::Invalid);
@@ -338,7 +335,7 @@ impl Tenant {
             ≡ given_next (state_in part self.now) fd key.now }
         ensures bound { IfOk result (λ given. length (given_bytes given) ≤ longest_key) }
     {
-        calls_refine_values();
+        tagged_model::laws::calls_refine_values();
         let map = self.map_named(fd)?;
         let size = self.maps.shape(map).key_size as usize;
         if !key.is_empty() && key.len() != size {

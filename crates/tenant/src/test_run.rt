@@ -18,7 +18,7 @@ use bpf_maps::{MAPS, MapKey};
 use command_frames::GIVEN_WORDS;
 use flat_machine::run;
 use tagged_model::{CONTEXT_WORDS, Outcome};
-use verdict::maps_are_listed;
+use verdict::laws;
 
 /// The bytes of the longest packet of a test run.
 const LONGEST_PACKET: usize = 65_536;
@@ -82,7 +82,7 @@ impl Tenant {
         ensures others { (other : ℕ) → other ≢ tenant
             → part_bytes arena.new other ≡ part_bytes arena.old other }
     {
-        maps_are_listed();
+        laws::maps_are_listed();
         let program = match self.objects.get(fd) {
             None => return Err(Errno::BadDescriptor),
             Some(OpenObject::Map(_)) => return Err(Errno::Invalid),

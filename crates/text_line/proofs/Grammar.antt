@@ -28,9 +28,9 @@ use Rattle.text_line.specs.declared.form.Form.TheVariants as form
 use Rattle.text_line.specs.declared.form.Address.{Address}
 use Rattle.text_line.specs.Token.{Token, name, number, symbol}
 use Rattle.text_line.specs.Names.{operator_name, condition_name, order_name, narrow_name, size_name, atomic_name, register_name, sign_name}
-use Rattle.text_line.specs.Form.{TokenLayout, layout, sign, word, space, tokens_of, reg, minus, to_label, constant, operand, destination, address, IsForm, IsSource, names_label}
+use Rattle.text_line.specs.Form.{TokenLayout, layout, sign, word, space, tokens_of, reg, minus, to_label, constant, operand_layout, destination, address, IsForm, IsSource, names_label}
 use Rattle.text_line.specs.Line.{Line, blank, label, code, spelled, IsWellFormed, NoLabel}
-use Rattle.text_line.specs.inside.Reading.{named, operators, conditions, orders, narrows, sizes, atomic_operators, registers, symbol_then, name_then, number_then, after_symbol, after_word, register_then, number_from, constant_then, signed_then, operand_then, destination_of, address_then, atomic_size_of, at_end, match_option, jump_of, load_of, store_of, atomic_of, movsx_of, neg_of, end_of, const_of, map_fd_of, map_value_of, wide_of, moved_of, is_move, alu_of, assignment_of, assigned_of, goto_of, gotol_of, call_of, form_of, label_of, line_of, bool_eq, ◌>>=◌}
+use Rattle.text_line.specs.inside.Reading.{named, operators, conditions, orders, narrows, sizes, atomic_operators, registers, leading_symbol, leading_name, leading_number, after_symbol, after_word, leading_register, number_from, leading_constant, leading_signed_number, leading_operand, parsed_destination, leading_address, atomic_size_of, at_end, match_option, parsed_jump, parsed_load, parsed_store, parsed_atomic, parsed_movsx, parsed_neg, parsed_end, parsed_constant_load, parsed_map_fd, parsed_map_value, parsed_wide_move, parsed_special_move, is_move, parsed_alu, parsed_assignment, parsed_assigned, parsed_goto, parsed_gotol, parsed_call, parsed_form, parsed_label, line_of, bool_eq, ◌>>=◌}
 
 -- ---- options
 
@@ -101,19 +101,19 @@ size_listed n s e = named_has (λ s. IsTrue (not (s.0 && is_double s.1))) sizes 
 
 -- ---- tokens
 
-pub symbol_is : (ts : List Token) (p : List ℕ × List Token) → symbol_then ts ≡ Some p → ts ≡ symbol p.0 ∷ p.1
+pub symbol_is : (ts : List Token) (p : List ℕ × List Token) → leading_symbol ts ≡ Some p → ts ≡ symbol p.0 ∷ p.1
 symbol_is [] p e = absurd (let no : Some p ≡ None = sym e in cc no)
 symbol_is (name n ∷ ts) p e = absurd (let no : Some p ≡ None = sym e in cc no)
 symbol_is (number v ∷ ts) p e = absurd (let no : Some p ≡ None = sym e in cc no)
 symbol_is (symbol t ∷ ts) p e = ap (λ (o : Option (List ℕ × List Token)). match_option o [] (λ p. symbol p.0 ∷ p.1)) e
 
-pub name_is : (ts : List Token) (p : List ℕ × List Token) → name_then ts ≡ Some p → ts ≡ name p.0 ∷ p.1
+pub name_is : (ts : List Token) (p : List ℕ × List Token) → leading_name ts ≡ Some p → ts ≡ name p.0 ∷ p.1
 name_is [] p e = absurd (let no : Some p ≡ None = sym e in cc no)
 name_is (symbol n ∷ ts) p e = absurd (let no : Some p ≡ None = sym e in cc no)
 name_is (number v ∷ ts) p e = absurd (let no : Some p ≡ None = sym e in cc no)
 name_is (name t ∷ ts) p e = ap (λ (o : Option (List ℕ × List Token)). match_option o [] (λ p. name p.0 ∷ p.1)) e
 
-pub number_is : (ts : List Token) (p : Option ℕ × List Token) → number_then ts ≡ Some p → ts ≡ number p.0 ∷ p.1
+pub number_is : (ts : List Token) (p : Option ℕ × List Token) → leading_number ts ≡ Some p → ts ≡ number p.0 ∷ p.1
 number_is [] p e = absurd (let no : Some p ≡ None = sym e in cc no)
 number_is (symbol n ∷ ts) p e = absurd (let no : Some p ≡ None = sym e in cc no)
 number_is (name v ∷ ts) p e = absurd (let no : Some p ≡ None = sym e in cc no)
@@ -122,14 +122,14 @@ number_is (number t ∷ ts) p e = ap (λ (o : Option (Option ℕ × List Token))
 pub after_symbol_is : (s : List ℕ) (ts rest : List Token) → after_symbol s ts ≡ Some rest → ts ≡ symbol s ∷ rest
 unfolding after_symbol
 after_symbol_is s ts rest e =
-    let p = bind_some (symbol_then ts) (λ p. cond (bytes_eq p.0 s) (Some p.1) None) rest e in
+    let p = bind_some (leading_symbol ts) (λ p. cond (bytes_eq p.0 s) (Some p.1) None) rest e in
     let q = if_some (bytes_eq p.0.0 s) p.0.1 rest p.2 in
     symbol_is ts p.0 p.1 ∙ ap (λ (t : List ℕ). symbol t ∷ p.0.1) (is_eq p.0.0 s q.0) ∙ ap (λ (r : List Token). symbol s ∷ r) q.1
 
 pub after_word_is : (s : List ℕ) (ts rest : List Token) → after_word s ts ≡ Some rest → ts ≡ name s ∷ rest
 unfolding after_word
 after_word_is s ts rest e =
-    let p = bind_some (name_then ts) (λ p. cond (bytes_eq p.0 s) (Some p.1) None) rest e in
+    let p = bind_some (leading_name ts) (λ p. cond (bytes_eq p.0 s) (Some p.1) None) rest e in
     let q = if_some (bytes_eq p.0.0 s) p.0.1 rest p.2 in
     name_is ts p.0 p.1 ∙ ap (λ (t : List ℕ). name t ∷ p.0.1) (is_eq p.0.0 s q.0) ∙ ap (λ (r : List Token). name s ∷ r) q.1
 
@@ -142,10 +142,10 @@ same_width true b e = sym e
 same_width false true e = e
 same_width false false e = refl
 
-pub register_then_is : (wide : Bool) (ts : List Token) (p : ℕ × List Token) → register_then wide ts ≡ Some p → (ts ≡ name (register_name wide p.0) ∷ p.1) × (p.0 ≤ 10)
-unfolding register_then
-register_then_is wide ts p e =
-    let n = bind_some (name_then ts) (λ n. option_and_then (λ r. cond (bool_eq r.0 wide) (Some (r.1, n.1)) None) (named registers n.0)) p e in
+pub leading_register_is : (wide : Bool) (ts : List Token) (p : ℕ × List Token) → leading_register wide ts ≡ Some p → (ts ≡ name (register_name wide p.0) ∷ p.1) × (p.0 ≤ 10)
+unfolding leading_register
+leading_register_is wide ts p e =
+    let n = bind_some (leading_name ts) (λ n. option_and_then (λ r. cond (bool_eq r.0 wide) (Some (r.1, n.1)) None) (named registers n.0)) p e in
     let r = bind_some (named registers n.0.0) (λ r. cond (bool_eq r.0 wide) (Some (r.1, n.0.1)) None) p n.2 in
     let q = if_some (bool_eq r.0.0 wide) (r.0.1, n.0.1) p r.2 in
     let number : r.0.1 ≡ p.0 = ap (λ (x : ℕ × List Token). x.0) q.1 in
@@ -159,18 +159,18 @@ register_then_is wide ts p e =
 -- ---- parts of a line
 
 -- the tokens are a part of a line and what follows it
-number_from_is : (negative : Bool) (ts : List Token) (p : Number × List Token) → number_from negative (number_then ts) ≡ Some p → (p.0.negative ≡ negative) × (ts ≡ number p.0.magnitude ∷ p.1)
+number_from_is : (negative : Bool) (ts : List Token) (p : Number × List Token) → number_from negative (leading_number ts) ≡ Some p → (p.0.negative ≡ negative) × (ts ≡ number p.0.magnitude ∷ p.1)
 number_from_is negative ts p e =
-    let v = map_some (number_then ts) (λ v. made_number negative v) p e in
+    let v = map_some (leading_number ts) (λ v. made_number negative v) p e in
     (sym (ap (λ (x : Number × List Token). x.0.negative) v.2), number_is ts v.0 v.1 ∙ ap (λ (x : Number × List Token). number x.0.magnitude ∷ x.1) v.2)
   where
     made_number : Bool → Option ℕ × List Token → Number × List Token
     made_number negative v = (record { negative = negative; magnitude = v.0 }, v.1)
 
-pub constant_then_is : (ts : List Token) (p : Number × List Token) (rest : TokenLayout) → tokens_of rest ≡ p.1 → constant_then ts ≡ Some p → ts ≡ tokens_of (constant p.0 rest)
-unfolding constant_then
-constant_then_is ts p rest after e =
-    elim (either (after_symbol (codes "-") ts) (number_from false (number_then ts)) (λ rest. number_from true (number_then rest)) p e) [
+pub leading_constant_is : (ts : List Token) (p : Number × List Token) (rest : TokenLayout) → tokens_of rest ≡ p.1 → leading_constant ts ≡ Some p → ts ≡ tokens_of (constant p.0 rest)
+unfolding leading_constant
+leading_constant_is ts p rest after e =
+    elim (either (after_symbol (codes "-") ts) (number_from false (leading_number ts)) (λ rest. number_from true (leading_number rest)) p e) [
       | inl q ↦
           let v = number_from_is false ts p q.1 in
           v.1 ∙ ap (λ (r : List Token). number p.0.magnitude ∷ r) (sym after) ∙ ap (λ (b : Bool). tokens_of (minus b (Some (number p.0.magnitude) ∷ rest))) (sym v.0)
@@ -180,12 +180,12 @@ constant_then_is ts p rest after e =
           ∙ ap (λ (r : List Token). symbol (codes "-") ∷ number p.0.magnitude ∷ r) (sym after) ∙ ap (λ (b : Bool). tokens_of (minus b (Some (number p.0.magnitude) ∷ rest))) (sym v.0)
     ]
 
-pub signed_then_is : (ts : List Token) (p : Number × List Token) → signed_then ts ≡ Some p → ts ≡ symbol (sign_name p.0.negative) ∷ number p.0.magnitude ∷ p.1
-unfolding signed_then
-signed_then_is ts p e =
-    elim (either (after_symbol (codes "+") ts) (option_and_then (λ rest. number_from true (number_then rest)) (after_symbol (codes "-") ts)) (λ rest. number_from false (number_then rest)) p e) [
+pub leading_signed_number_is : (ts : List Token) (p : Number × List Token) → leading_signed_number ts ≡ Some p → ts ≡ symbol (sign_name p.0.negative) ∷ number p.0.magnitude ∷ p.1
+unfolding leading_signed_number
+leading_signed_number_is ts p e =
+    elim (either (after_symbol (codes "+") ts) (option_and_then (λ rest. number_from true (leading_number rest)) (after_symbol (codes "-") ts)) (λ rest. number_from false (leading_number rest)) p e) [
       | inl q ↦
-          let r = bind_some (after_symbol (codes "-") ts) (λ rest. number_from true (number_then rest)) p q.1 in
+          let r = bind_some (after_symbol (codes "-") ts) (λ rest. number_from true (leading_number rest)) p q.1 in
           let v = number_from_is true r.0 p r.2 in
           after_symbol_is (codes "-") ts r.0 r.1 ∙ ap (λ (r : List Token). symbol (codes "-") ∷ r) v.1 ∙ ap (λ (b : Bool). symbol (sign_name b) ∷ number p.0.magnitude ∷ p.1) (sym v.0)
       | inr q ↦
@@ -199,38 +199,38 @@ made_source n = (source.Number n.0, n.1)
 made_register : ℕ × List Token → SourceOperand × List Token
 made_register r = (source.Reg r.0, r.1)
 
-pub operand_then_is : (wide : Bool) (ts : List Token) (p : SourceOperand × List Token) (rest : TokenLayout) → tokens_of rest ≡ p.1 → operand_then wide ts ≡ Some p → (ts ≡ tokens_of (operand wide p.0 rest)) × IsSource p.0
-unfolding operand_then made_source made_register
-operand_then_is wide ts p rest after e =
-    elim (either (register_then wide ts) (option_map made_source (constant_then ts)) (λ r. Some (made_register r)) p e) [
+pub leading_operand_is : (wide : Bool) (ts : List Token) (p : SourceOperand × List Token) (rest : TokenLayout) → tokens_of rest ≡ p.1 → leading_operand wide ts ≡ Some p → (ts ≡ tokens_of (operand_layout wide p.0 rest)) × IsSource p.0
+unfolding leading_operand made_source made_register
+leading_operand_is wide ts p rest after e =
+    elim (either (leading_register wide ts) (option_map made_source (leading_constant ts)) (λ r. Some (made_register r)) p e) [
       | inl q ↦
-          let n = map_some (constant_then ts) made_source p q.1 in
+          let n = map_some (leading_constant ts) made_source p q.1 in
           let back : p.1 ≡ n.0.1 = ap (λ (x : SourceOperand × List Token). x.1) (sym n.2) in (
-            constant_then_is ts n.0 rest (after ∙ back) n.1 ∙ ap (λ (x : SourceOperand × List Token). tokens_of (operand wide x.0 rest)) n.2,
+            leading_constant_is ts n.0 rest (after ∙ back) n.1 ∙ ap (λ (x : SourceOperand × List Token). tokens_of (operand_layout wide x.0 rest)) n.2,
             subst (λ (x : SourceOperand × List Token). IsSource x.0) n.2 tt,
           )
       | inr q ↦
-          let r = register_then_is wide ts q.0 q.1 in
+          let r = leading_register_is wide ts q.0 q.1 in
           let made : made_register q.0 ≡ p = ap (λ (o : Option (SourceOperand × List Token)). match_option o p (λ x. x)) q.2 in
           let back : p.1 ≡ q.0.1 = ap (λ (x : SourceOperand × List Token). x.1) (sym made) in (
-            r.0 ∙ ap (λ (l : List Token). name (register_name wide q.0.0) ∷ l) (sym (after ∙ back)) ∙ ap (λ (x : SourceOperand × List Token). tokens_of (operand wide x.0 rest)) made,
+            r.0 ∙ ap (λ (l : List Token). name (register_name wide q.0.0) ∷ l) (sym (after ∙ back)) ∙ ap (λ (x : SourceOperand × List Token). tokens_of (operand_layout wide x.0 rest)) made,
             subst (λ (x : SourceOperand × List Token). IsSource x.0) made r.1,
           )
     ]
 
-pub destination_is : (ts : List Token) (p : JumpTarget × List ℕ) → destination_of ts ≡ Some p → (ts ≡ tokens_of (destination p.0 p.1)) × NoLabel (to_label p.0) p.1
-unfolding destination_of
+pub destination_is : (ts : List Token) (p : JumpTarget × List ℕ) → parsed_destination ts ≡ Some p → (ts ≡ tokens_of (destination p.0 p.1)) × NoLabel (to_label p.0) p.1
+unfolding parsed_destination
 destination_is ts p e =
-    elim (either (signed_then ts) (option_and_then (λ n. at_end (target.Label, n.0) n.1) (name_then ts)) (λ n. at_end (target.Number n.0, []) n.1) p e) [
+    elim (either (leading_signed_number ts) (option_and_then (λ n. at_end (target.Label, n.0) n.1) (leading_name ts)) (λ n. at_end (target.Number n.0, []) n.1) p e) [
       | inl q ↦
-          let n = bind_some (name_then ts) (λ n. at_end (target.Label, n.0) n.1) p q.1 in
+          let n = bind_some (leading_name ts) (λ n. at_end (target.Label, n.0) n.1) p q.1 in
           let d = end_is (target.Label, n.0.0) p n.0.1 n.2 in (
             name_is ts n.0 n.1 ∙ ap (λ (l : List Token). name n.0.0 ∷ l) d.0 ∙ ap (λ (x : JumpTarget × List ℕ). tokens_of (destination x.0 x.1)) d.1,
             subst (λ (x : JumpTarget × List ℕ). NoLabel (to_label x.0) x.1) d.1 tt,
           )
       | inr q ↦
           let d = end_is (target.Number q.0.0, []) p q.0.1 q.2 in (
-            signed_then_is ts q.0 q.1 ∙ ap (λ (l : List Token). symbol (sign_name q.0.0.negative) ∷ number q.0.0.magnitude ∷ l) d.0 ∙ ap (λ (x : JumpTarget × List ℕ). tokens_of (destination x.0 x.1)) d.1,
+            leading_signed_number_is ts q.0 q.1 ∙ ap (λ (l : List Token). symbol (sign_name q.0.0.negative) ∷ number q.0.0.magnitude ∷ l) d.0 ∙ ap (λ (x : JumpTarget × List ℕ). tokens_of (destination x.0 x.1)) d.1,
             subst (λ (x : JumpTarget × List ℕ). NoLabel (to_label x.0) x.1) d.1 refl,
           )
     ]
@@ -243,10 +243,10 @@ abbrev address_9 : Bool × Size → ℕ → Number × List Token → Option (Add
 address_9 s base o = after_symbol (codes ")") o.1 >>= λ ts. Some (address_made s base o.0 ts)
 
 abbrev address_8 : Bool × Size → ℕ × List Token → Option (Address × List Token)
-address_8 s r = signed_then r.1 >>= λ o. address_9 s r.0 o
+address_8 s r = leading_signed_number r.1 >>= λ o. address_9 s r.0 o
 
 abbrev address_7 : Bool × Size → List Token → Option (Address × List Token)
-address_7 s ts = register_then true ts >>= λ r. address_8 s r
+address_7 s ts = leading_register true ts >>= λ r. address_8 s r
 
 abbrev address_6 : Bool × Size → List Token → Option (Address × List Token)
 address_6 s ts = after_symbol (codes "(") ts >>= λ ts. address_7 s ts
@@ -261,7 +261,7 @@ abbrev address_3 : List ℕ × List Token → Option (Address × List Token)
 address_3 n = named sizes n.0 >>= λ s. address_4 n s
 
 abbrev address_2 : List Token → Option (Address × List Token)
-address_2 ts = name_then ts >>= λ n. address_3 n
+address_2 ts = leading_name ts >>= λ n. address_3 n
 
 abbrev address_1 : List Token → Option (Address × List Token)
 address_1 ts = after_symbol (codes "(") ts >>= λ ts. address_2 ts
@@ -269,21 +269,21 @@ address_1 ts = after_symbol (codes "(") ts >>= λ ts. address_2 ts
 made_is : {A : Type 0} (x y : A) → Some x ≡ Some y → x ≡ y
 made_is x y e = ap (λ o. match_option o x (λ z. z)) e
 
-pub address_is : (ts : List Token) (p : Address × List Token) (rest : TokenLayout) → tokens_of rest ≡ p.1 → address_then ts ≡ Some p → (ts ≡ tokens_of (address (size_name p.0.signed p.0.size) p.0.base p.0.offset rest)) × (p.0.base ≤ 10) × IsTrue (not (p.0.signed && is_double p.0.size))
-unfolding address_then
+pub address_is : (ts : List Token) (p : Address × List Token) (rest : TokenLayout) → tokens_of rest ≡ p.1 → leading_address ts ≡ Some p → (ts ≡ tokens_of (address (size_name p.0.signed p.0.size) p.0.base p.0.offset rest)) × (p.0.base ≤ 10) × IsTrue (not (p.0.signed && is_double p.0.size))
+unfolding leading_address
 address_is ts p rest after e =
     let a = bind_some (after_symbol (codes "*") ts) address_1 p e in
     let b = bind_some (after_symbol (codes "(") a.0) address_2 p a.2 in
-    let n = bind_some (name_then b.0) address_3 p b.2 in
+    let n = bind_some (leading_name b.0) address_3 p b.2 in
     let s = bind_some (named sizes n.0.0) (address_4 n.0) p n.2 in
     let c = bind_some (after_symbol (codes "*") n.0.1) (address_5 s.0) p s.2 in
     let d = bind_some (after_symbol (codes ")") c.0) (address_6 s.0) p c.2 in
     let f = bind_some (after_symbol (codes "(") d.0) (address_7 s.0) p d.2 in
-    let r = bind_some (register_then true f.0) (address_8 s.0) p f.2 in
-    let o = bind_some (signed_then r.0.1) (address_9 s.0 r.0.0) p r.2 in
+    let r = bind_some (leading_register true f.0) (address_8 s.0) p f.2 in
+    let o = bind_some (leading_signed_number r.0.1) (address_9 s.0 r.0.0) p r.2 in
     let g = bind_some (after_symbol (codes ")") o.0.1) (λ ts. Some (address_made s.0 r.0.0 o.0.0 ts)) p o.2 in
     let made = made_is (address_made s.0 r.0.0 o.0.0 g.0) p g.2 in
-    let reg = register_then_is true f.0 r.0 r.1 in
+    let reg = leading_register_is true f.0 r.0 r.1 in
     let tail : g.0 ≡ tokens_of rest = ap (λ (x : Address × List Token). x.1) made ∙ sym after in (
       after_symbol_is (codes "*") ts a.0 a.1
           ∙ ap (λ (l : List Token). symbol (codes "*") ∷ l) (after_symbol_is (codes "(") a.0 b.0 b.1
@@ -293,7 +293,7 @@ address_is ts p rest after e =
           ∙ ap (λ (l : List Token). symbol (codes "*") ∷ l) (after_symbol_is (codes ")") c.0 d.0 d.1
           ∙ ap (λ (l : List Token). symbol (codes ")") ∷ l) (after_symbol_is (codes "(") d.0 f.0 f.1
           ∙ ap (λ (l : List Token). symbol (codes "(") ∷ l) (reg.0
-          ∙ ap (λ (l : List Token). name (register_name true r.0.0) ∷ l) (signed_then_is r.0.1 o.0 o.1
+          ∙ ap (λ (l : List Token). name (register_name true r.0.0) ∷ l) (leading_signed_number_is r.0.1 o.0 o.1
           ∙ ap (λ (l : List Token). symbol (sign_name o.0.0.negative) ∷ number o.0.0.magnitude ∷ l) (after_symbol_is (codes ")") o.0.1 g.0 g.1
           ∙ ap (λ (l : List Token). symbol (codes ")") ∷ l) tail))))))))
           ∙ ap (λ (x : Address × List Token). tokens_of (address (size_name x.0.signed x.0.size) x.0.base x.0.offset rest)) made,
@@ -311,7 +311,7 @@ constant_spaced n a b e =
       | false ↦ ap (λ (l : List Token). number n.magnitude ∷ l) e
     ]
 
-operand_spaced : (wide : Bool) (s : SourceOperand) (a b : TokenLayout) → tokens_of a ≡ tokens_of b → tokens_of (operand wide s a) ≡ tokens_of (operand wide s b)
+operand_spaced : (wide : Bool) (s : SourceOperand) (a b : TokenLayout) → tokens_of a ≡ tokens_of b → tokens_of (operand_layout wide s a) ≡ tokens_of (operand_layout wide s b)
 operand_spaced wide (source.Number n) a b e = constant_spaced n a b e
 operand_spaced wide (source.Reg r) a b e = ap (λ (l : List Token). name (register_name wide r) ∷ l) e
 
@@ -323,17 +323,17 @@ Spelled ts f = (ts ≡ tokens_of (layout f [])) × IsForm f
 abbrev After : List Token → List Token → Form → Type 0
 After front ts f = (front ++ ts ≡ tokens_of (layout f [])) × IsForm f
 
-pub call_is : (ts : List Token) (f : Form) → call_of ts ≡ Some f → After (name (codes "call") ∷ []) ts f
-unfolding call_of
+pub call_is : (ts : List Token) (f : Form) → parsed_call ts ≡ Some f → After (name (codes "call") ∷ []) ts f
+unfolding parsed_call
 call_is ts f e =
-    let n = bind_some (constant_then ts) (λ n. at_end (form.Call n.0) n.1) f e in
+    let n = bind_some (leading_constant ts) (λ n. at_end (form.Call n.0) n.1) f e in
     let d = end_is (form.Call n.0.0) f n.0.1 n.2 in
-    (ap (λ (l : List Token). name (codes "call") ∷ l) (constant_then_is ts n.0 [] (sym d.0) n.1) ∙ ap (λ (g : Form). tokens_of (layout g [])) d.1, subst IsForm d.1 tt)
+    (ap (λ (l : List Token). name (codes "call") ∷ l) (leading_constant_is ts n.0 [] (sym d.0) n.1) ∙ ap (λ (g : Form). tokens_of (layout g [])) d.1, subst IsForm d.1 tt)
 
-pub load_is : (dst : ℕ) (ts : List Token) (f : Form) → dst ≤ 10 → load_of dst ts ≡ Some f → After (name (register_name true dst) ∷ symbol (codes "=") ∷ []) ts f
-unfolding load_of
+pub load_is : (dst : ℕ) (ts : List Token) (f : Form) → dst ≤ 10 → parsed_load dst ts ≡ Some f → After (name (register_name true dst) ∷ symbol (codes "=") ∷ []) ts f
+unfolding parsed_load
 load_is dst ts f fits e =
-    let a = bind_some (address_then ts) (λ a. at_end (form.Load a.0.size a.0.signed dst a.0.base a.0.offset) a.1) f e in
+    let a = bind_some (leading_address ts) (λ a. at_end (form.Load a.0.size a.0.signed dst a.0.base a.0.offset) a.1) f e in
     let d = end_is (form.Load a.0.0.size a.0.0.signed dst a.0.0.base a.0.0.offset) f a.0.1 a.2 in
     let at = address_is ts a.0 [] (sym d.0) a.1 in
     (ap (λ (l : List Token). name (register_name true dst) ∷ symbol (codes "=") ∷ l) at.0 ∙ ap (λ (g : Form). tokens_of (layout g [])) d.1, subst IsForm d.1 (fits, at.1, at.2))
@@ -342,7 +342,7 @@ abbrev store_3 : Address → SourceOperand × List Token → Option Form
 store_3 a src = cond a.signed None (at_end (form.Store a.size a.base src.0 a.offset) src.1)
 
 abbrev store_2 : Address → List Token → Option Form
-store_2 a ts = operand_then true ts >>= λ src. store_3 a src
+store_2 a ts = leading_operand true ts >>= λ src. store_3 a src
 
 abbrev store_1 : Address × List Token → Option Form
 store_1 a = after_symbol (codes "=") a.1 >>= λ ts. store_2 a.0 ts
@@ -351,16 +351,16 @@ not_if : {A : Type 0} (b : Bool) (o : Option A) (x : A) → cond b None o ≡ So
 not_if true o x e = absurd (let no : Some x ≡ None = sym e in cc no)
 not_if false o x e = (refl, e)
 
-pub store_is : (ts : List Token) (f : Form) → store_of ts ≡ Some f → Spelled ts f
-unfolding store_of
+pub store_is : (ts : List Token) (f : Form) → parsed_store ts ≡ Some f → Spelled ts f
+unfolding parsed_store
 store_is ts f e =
-    let a = bind_some (address_then ts) store_1 f e in
+    let a = bind_some (leading_address ts) store_1 f e in
     let b = bind_some (after_symbol (codes "=") a.0.1) (store_2 a.0.0) f a.2 in
-    let s = bind_some (operand_then true b.0) (store_3 a.0.0) f b.2 in
+    let s = bind_some (leading_operand true b.0) (store_3 a.0.0) f b.2 in
     let u = not_if a.0.0.signed (at_end (form.Store a.0.0.size a.0.0.base s.0.0 a.0.0.offset) s.0.1) f s.2 in
     let d = end_is (form.Store a.0.0.size a.0.0.base s.0.0 a.0.0.offset) f s.0.1 u.1 in
-    let src = operand_then_is true b.0 s.0 [] (sym d.0) s.1 in
-    let rest : TokenLayout = sign (codes "=") ∷ operand true s.0.0 [] in
+    let src = leading_operand_is true b.0 s.0 [] (sym d.0) s.1 in
+    let rest : TokenLayout = sign (codes "=") ∷ operand_layout true s.0.0 [] in
     let behind : tokens_of rest ≡ a.0.1 = sym (after_symbol_is (codes "=") a.0.1 b.0 b.1 ∙ ap (λ (l : List Token). symbol (codes "=") ∷ l) src.0) in
     let at = address_is ts a.0 rest behind a.1 in (
       at.0 ∙ ap (λ (w : Bool). tokens_of (address (size_name w a.0.0.size) a.0.0.base a.0.0.offset rest)) u.0 ∙ ap (λ (g : Form). tokens_of (layout g [])) d.1,
@@ -378,27 +378,27 @@ abbrev atomic_4 : Address → AtomicSize → AtomicOp → ℕ × List Token → 
 atomic_4 a z op src = at_end (form.Atomic z op a.base src.0 a.offset) src.1
 
 abbrev atomic_3 : Address → AtomicSize → List Token → AtomicOp → Option Form
-atomic_3 a z ts op = register_then true ts >>= λ src. atomic_4 a z op src
+atomic_3 a z ts op = leading_register true ts >>= λ src. atomic_4 a z op src
 
 abbrev atomic_2 : Address → AtomicSize → List ℕ × List Token → Option Form
 atomic_2 a z s = named atomic_operators s.0 >>= λ op. atomic_3 a z s.1 op
 
 abbrev atomic_1 : Address × List Token → AtomicSize → Option Form
-atomic_1 a z = symbol_then a.1 >>= λ s. atomic_2 a.0 z s
+atomic_1 a z = leading_symbol a.1 >>= λ s. atomic_2 a.0 z s
 
 abbrev atomic_0 : Address × List Token → Option Form
 atomic_0 a = atomic_size_of a.0.signed a.0.size >>= λ z. atomic_1 a z
 
-pub atomic_is : (ts : List Token) (f : Form) → atomic_of ts ≡ Some f → After (name (codes "lock") ∷ []) ts f
-unfolding atomic_of
+pub atomic_is : (ts : List Token) (f : Form) → parsed_atomic ts ≡ Some f → After (name (codes "lock") ∷ []) ts f
+unfolding parsed_atomic
 atomic_is ts f e =
-    let a = bind_some (address_then ts) atomic_0 f e in
+    let a = bind_some (leading_address ts) atomic_0 f e in
     let z = bind_some (atomic_size_of a.0.0.signed a.0.0.size) (atomic_1 a.0) f a.2 in
-    let s = bind_some (symbol_then a.0.1) (atomic_2 a.0.0 z.0) f z.2 in
+    let s = bind_some (leading_symbol a.0.1) (atomic_2 a.0.0 z.0) f z.2 in
     let op = bind_some (named atomic_operators s.0.0) (atomic_3 a.0.0 z.0 s.0.1) f s.2 in
-    let src = bind_some (register_then true s.0.1) (atomic_4 a.0.0 z.0 op.0) f op.2 in
+    let src = bind_some (leading_register true s.0.1) (atomic_4 a.0.0 z.0 op.0) f op.2 in
     let d = end_is (form.Atomic z.0 op.0 a.0.0.base src.0.0 a.0.0.offset) f src.0.1 src.2 in
-    let register = register_then_is true s.0.1 src.0 src.1 in
+    let register = leading_register_is true s.0.1 src.0 src.1 in
     let rest : TokenLayout = sign (atomic_name op.0) ∷ reg true src.0.0 ∷ [] in
     let behind : tokens_of rest ≡ a.0.1 = sym (symbol_is a.0.1 s.0 s.1
     ∙ ap (λ (m : List ℕ). symbol m ∷ s.0.1) (atomic_operator_is s.0.0 op.0 op.1)
@@ -412,19 +412,19 @@ atomic_is ts f e =
     )
 
 abbrev jump_6 : Bool × ℕ → Condition → SourceOperand × List Token → List Token → Option (Form × List ℕ)
-jump_6 r c src ts = destination_of ts >>= λ to. Some (form.Jump r.0 c r.1 src.0 to.0, to.1)
+jump_6 r c src ts = parsed_destination ts >>= λ to. Some (form.Jump r.0 c r.1 src.0 to.0, to.1)
 
 abbrev jump_5 : Bool × ℕ → Condition → SourceOperand × List Token → Option (Form × List ℕ)
 jump_5 r c src = after_word (codes "goto") src.1 >>= λ ts. jump_6 r c src ts
 
 abbrev jump_4 : Bool × ℕ → List ℕ × List Token → Condition → Option (Form × List ℕ)
-jump_4 r s c = operand_then r.0 s.1 >>= λ src. jump_5 r c src
+jump_4 r s c = leading_operand r.0 s.1 >>= λ src. jump_5 r c src
 
 abbrev jump_3 : Bool × ℕ → List ℕ × List Token → Option (Form × List ℕ)
 jump_3 r s = named conditions s.0 >>= λ c. jump_4 r s c
 
 abbrev jump_2 : List ℕ × List Token → Bool × ℕ → Option (Form × List ℕ)
-jump_2 n r = symbol_then n.1 >>= λ s. jump_3 r s
+jump_2 n r = leading_symbol n.1 >>= λ s. jump_3 r s
 
 abbrev jump_1 : List ℕ × List Token → Option (Form × List ℕ)
 jump_1 n = named registers n.0 >>= λ r. jump_2 n r
@@ -436,22 +436,22 @@ AfterWord w ts f = (name w ∷ ts ≡ tokens_of (layout f.0 f.1)) × IsForm f.0 
 jump_made : Bool × ℕ → Condition → SourceOperand × List Token → JumpTarget × List ℕ → Form × List ℕ
 jump_made r c src to = (form.Jump r.0 c r.1 src.0 to.0, to.1)
 
-pub jump_is : (ts : List Token) (f : Form × List ℕ) → jump_of ts ≡ Some f → AfterWord (codes "if") ts f
-unfolding jump_of jump_made
+pub jump_is : (ts : List Token) (f : Form × List ℕ) → parsed_jump ts ≡ Some f → AfterWord (codes "if") ts f
+unfolding parsed_jump jump_made
 jump_is ts f e =
-    let n = bind_some (name_then ts) jump_1 f e in
+    let n = bind_some (leading_name ts) jump_1 f e in
     let r = bind_some (named registers n.0.0) (jump_2 n.0) f n.2 in
-    let s = bind_some (symbol_then n.0.1) (jump_3 r.0) f r.2 in
+    let s = bind_some (leading_symbol n.0.1) (jump_3 r.0) f r.2 in
     let c = bind_some (named conditions s.0.0) (jump_4 r.0 s.0) f s.2 in
-    let src = bind_some (operand_then r.0.0 s.0.1) (jump_5 r.0 c.0) f c.2 in
+    let src = bind_some (leading_operand r.0.0 s.0.1) (jump_5 r.0 c.0) f c.2 in
     let g = bind_some (after_word (codes "goto") src.0.1) (jump_6 r.0 c.0 src.0) f src.2 in
-    let to = bind_some (destination_of g.0) (λ to. Some (jump_made r.0 c.0 src.0 to)) f g.2 in
+    let to = bind_some (parsed_destination g.0) (λ to. Some (jump_made r.0 c.0 src.0 to)) f g.2 in
     let made = made_is (jump_made r.0 c.0 src.0 to.0) f to.2 in
     let d = destination_is g.0 to.0 to.1 in
     let rest : TokenLayout = word (codes "goto") ∷ destination to.0.0 to.0.1 in
     let behind : tokens_of rest ≡ src.0.1 = sym (after_word_is (codes "goto") src.0.1 g.0 g.1 ∙ ap (λ (l : List Token). name (codes "goto") ∷ l) d.0) in
-    let o = operand_then_is r.0.0 s.0.1 src.0 rest behind src.1 in
-    let spaced : tokens_of (operand r.0.0 src.0.0 rest) ≡ tokens_of (operand r.0.0 src.0.0 (space ∷ word (codes "goto") ∷ space ∷ destination to.0.0 to.0.1)) = operand_spaced r.0.0 src.0.0 rest (space ∷ word (codes "goto") ∷ space ∷ destination to.0.0 to.0.1) refl in (
+    let o = leading_operand_is r.0.0 s.0.1 src.0 rest behind src.1 in
+    let spaced : tokens_of (operand_layout r.0.0 src.0.0 rest) ≡ tokens_of (operand_layout r.0.0 src.0.0 (space ∷ word (codes "goto") ∷ space ∷ destination to.0.0 to.0.1)) = operand_spaced r.0.0 src.0.0 rest (space ∷ word (codes "goto") ∷ space ∷ destination to.0.0 to.0.1) refl in (
       ap (λ (l : List Token). name (codes "if") ∷ l) (name_is ts n.0 n.1
           ∙ ap (λ (m : List ℕ). name m ∷ n.0.1) (register_is n.0.0 r.0 r.1)
           ∙ ap (λ (l : List Token). name (register_name r.0.0 r.0.1) ∷ l) (symbol_is n.0.1 s.0 s.1
@@ -466,7 +466,7 @@ abbrev movsx_3 : Bool → ℕ → Narrow → ℕ × List Token → Option Form
 movsx_3 wide dst b src = cond (wide || is_short b) (at_end (form.Movsx wide b dst src.0) src.1) None
 
 abbrev movsx_2 : Bool → ℕ → Narrow → List Token → Option Form
-movsx_2 wide dst b ts = register_then wide ts >>= λ src. movsx_3 wide dst b src
+movsx_2 wide dst b ts = leading_register wide ts >>= λ src. movsx_3 wide dst b src
 
 abbrev movsx_1 : Bool → ℕ → List ℕ × List Token → Narrow → Option Form
 movsx_1 wide dst n b = after_symbol (codes ")") n.1 >>= λ ts. movsx_2 wide dst b ts
@@ -482,16 +482,16 @@ if_so false o x e = absurd (let no : Some x ≡ None = sym e in cc no)
 abbrev Assigned : Bool → ℕ → List Token → Form → Type 0
 Assigned wide dst ts f = After (name (register_name wide dst) ∷ symbol (codes "=") ∷ []) ts f
 
-pub movsx_is : (wide : Bool) (dst : ℕ) (ts : List Token) (f : Form) → dst ≤ 10 → movsx_of wide dst ts ≡ Some f → Assigned wide dst (symbol (codes "(") ∷ ts) f
-unfolding movsx_of
+pub movsx_is : (wide : Bool) (dst : ℕ) (ts : List Token) (f : Form) → dst ≤ 10 → parsed_movsx wide dst ts ≡ Some f → Assigned wide dst (symbol (codes "(") ∷ ts) f
+unfolding parsed_movsx
 movsx_is wide dst ts f fits e =
-    let n = bind_some (name_then ts) (movsx_0 wide dst) f e in
+    let n = bind_some (leading_name ts) (movsx_0 wide dst) f e in
     let b = bind_some (named narrows n.0.0) (movsx_1 wide dst n.0) f n.2 in
     let c = bind_some (after_symbol (codes ")") n.0.1) (movsx_2 wide dst b.0) f b.2 in
-    let s = bind_some (register_then wide c.0) (movsx_3 wide dst b.0) f c.2 in
+    let s = bind_some (leading_register wide c.0) (movsx_3 wide dst b.0) f c.2 in
     let u = if_so (wide || is_short b.0) (at_end (form.Movsx wide b.0 dst s.0.0) s.0.1) f s.2 in
     let d = end_is (form.Movsx wide b.0 dst s.0.0) f s.0.1 u.1 in
-    let src = register_then_is wide c.0 s.0 s.1 in (
+    let src = leading_register_is wide c.0 s.0 s.1 in (
       ap (λ (l : List Token). name (register_name wide dst) ∷ symbol (codes "=") ∷ symbol (codes "(") ∷ l) (name_is ts n.0 n.1
           ∙ ap (λ (m : List ℕ). name m ∷ n.0.1) (narrow_is n.0.0 b.0 b.1)
           ∙ ap (λ (l : List Token). name (narrow_name b.0) ∷ l) (after_symbol_is (codes ")") n.0.1 c.0 c.1
@@ -504,13 +504,13 @@ movsx_is wide dst ts f fits e =
 same_number : (a b : ℕ) → eqb a b ≡ true → a ≡ b
 same_number a b e = grind (arith, nat_tests)
 
-pub neg_is : (wide : Bool) (dst : ℕ) (ts : List Token) (f : Form) → dst ≤ 10 → neg_of wide dst ts ≡ Some f → Assigned wide dst (symbol (codes "-") ∷ ts) f
-unfolding neg_of
+pub neg_is : (wide : Bool) (dst : ℕ) (ts : List Token) (f : Form) → dst ≤ 10 → parsed_neg wide dst ts ≡ Some f → Assigned wide dst (symbol (codes "-") ∷ ts) f
+unfolding parsed_neg
 neg_is wide dst ts f fits e =
-    let r = bind_some (register_then wide ts) (λ r. cond (eqb r.0 dst) (at_end (form.Neg wide dst) r.1) None) f e in
+    let r = bind_some (leading_register wide ts) (λ r. cond (eqb r.0 dst) (at_end (form.Neg wide dst) r.1) None) f e in
     let u = if_so (eqb r.0.0 dst) (at_end (form.Neg wide dst) r.0.1) f r.2 in
     let d = end_is (form.Neg wide dst) f r.0.1 u.1 in
-    let reg = register_then_is wide ts r.0 r.1 in (
+    let reg = leading_register_is wide ts r.0 r.1 in (
       ap (λ (l : List Token). name (register_name wide dst) ∷ symbol (codes "=") ∷ symbol (codes "-") ∷ l) (reg.0
           ∙ ap (λ (k : ℕ). name (register_name wide k) ∷ r.0.1) (same_number r.0.0 dst u.0)
           ∙ ap (λ (l : List Token). name (register_name wide dst) ∷ l) d.0)
@@ -522,20 +522,20 @@ abbrev end_2 : ℕ → ByteOrder × Bits → ℕ × List Token → Option Form
 end_2 dst o r = cond (eqb r.0 dst) (at_end (form.End o.0 o.1 dst) r.1) None
 
 abbrev end_1 : ℕ → List ℕ × List Token → ByteOrder × Bits → Option Form
-end_1 dst n o = register_then true n.1 >>= λ r. end_2 dst o r
+end_1 dst n o = leading_register true n.1 >>= λ r. end_2 dst o r
 
 abbrev end_0 : ℕ → List ℕ × List Token → Option Form
 end_0 dst n = named orders n.0 >>= λ o. end_1 dst n o
 
-pub end_form_is : (dst : ℕ) (ts : List Token) (f : Form) → dst ≤ 10 → end_of dst ts ≡ Some f → Assigned true dst ts f
-unfolding end_of
+pub end_form_is : (dst : ℕ) (ts : List Token) (f : Form) → dst ≤ 10 → parsed_end dst ts ≡ Some f → Assigned true dst ts f
+unfolding parsed_end
 end_form_is dst ts f fits e =
-    let n = bind_some (name_then ts) (end_0 dst) f e in
+    let n = bind_some (leading_name ts) (end_0 dst) f e in
     let o = bind_some (named orders n.0.0) (end_1 dst n.0) f n.2 in
-    let r = bind_some (register_then true n.0.1) (end_2 dst o.0) f o.2 in
+    let r = bind_some (leading_register true n.0.1) (end_2 dst o.0) f o.2 in
     let u = if_so (eqb r.0.0 dst) (at_end (form.End o.0.0 o.0.1 dst) r.0.1) f r.2 in
     let d = end_is (form.End o.0.0 o.0.1 dst) f r.0.1 u.1 in
-    let reg = register_then_is true n.0.1 r.0 r.1 in (
+    let reg = leading_register_is true n.0.1 r.0 r.1 in (
       ap (λ (l : List Token). name (register_name true dst) ∷ symbol (codes "=") ∷ l) (name_is ts n.0 n.1
           ∙ ap (λ (m : List ℕ). name m ∷ n.0.1) (order_is n.0.0 o.0 o.1)
           ∙ ap (λ (l : List Token). name (order_name o.0.0 o.0.1) ∷ l) (reg.0
@@ -545,10 +545,10 @@ end_form_is dst ts f fits e =
       subst IsForm d.1 fits,
     )
 
-pub const_is : (dst : ℕ) (ts : List Token) (f : Form) → dst ≤ 10 → const_of dst ts ≡ Some f → Assigned true dst ts f
-unfolding const_of
+pub const_is : (dst : ℕ) (ts : List Token) (f : Form) → dst ≤ 10 → parsed_constant_load dst ts ≡ Some f → Assigned true dst ts f
+unfolding parsed_constant_load
 const_is dst ts f fits e =
-    let v = bind_some (number_then ts) (λ v. after_word (codes "ll") v.1 >>= λ ts. at_end (form.Const dst v.0) ts) f e in
+    let v = bind_some (leading_number ts) (λ v. after_word (codes "ll") v.1 >>= λ ts. at_end (form.Const dst v.0) ts) f e in
     let w = bind_some (after_word (codes "ll") v.0.1) (λ ts. at_end (form.Const dst v.0.0) ts) f v.2 in
     let d = end_is (form.Const dst v.0.0) f w.0 w.2 in (
       ap (λ (l : List Token). name (register_name true dst) ∷ symbol (codes "=") ∷ l) (number_is ts v.0 v.1
@@ -558,14 +558,14 @@ const_is dst ts f fits e =
       subst IsForm d.1 fits,
     )
 
-pub map_fd_is : (dst : ℕ) (ts : List Token) (f : Form) → dst ≤ 10 → map_fd_of dst ts ≡ Some f → Assigned true dst (name (codes "map_fd") ∷ ts) f
-unfolding map_fd_of
+pub map_fd_is : (dst : ℕ) (ts : List Token) (f : Form) → dst ≤ 10 → parsed_map_fd dst ts ≡ Some f → Assigned true dst (name (codes "map_fd") ∷ ts) f
+unfolding parsed_map_fd
 map_fd_is dst ts f fits e =
-    let n = bind_some (constant_then ts) (λ n. after_word (codes "ll") n.1 >>= λ ts. at_end (form.MapFd dst n.0) ts) f e in
+    let n = bind_some (leading_constant ts) (λ n. after_word (codes "ll") n.1 >>= λ ts. at_end (form.MapFd dst n.0) ts) f e in
     let w = bind_some (after_word (codes "ll") n.0.1) (λ ts. at_end (form.MapFd dst n.0.0) ts) f n.2 in
     let d = end_is (form.MapFd dst n.0.0) f w.0 w.2 in
     let behind : tokens_of (word (codes "ll") ∷ []) ≡ n.0.1 = sym (after_word_is (codes "ll") n.0.1 w.0 w.1 ∙ ap (λ (l : List Token). name (codes "ll") ∷ l) d.0) in (
-      ap (λ (l : List Token). name (register_name true dst) ∷ symbol (codes "=") ∷ name (codes "map_fd") ∷ l) (constant_then_is ts n.0 (word (codes "ll") ∷ []) behind n.1
+      ap (λ (l : List Token). name (register_name true dst) ∷ symbol (codes "=") ∷ name (codes "map_fd") ∷ l) (leading_constant_is ts n.0 (word (codes "ll") ∷ []) behind n.1
           ∙ constant_spaced n.0.0 (word (codes "ll") ∷ []) (space ∷ word (codes "ll") ∷ []) refl)
           ∙ ap (λ (g : Form). tokens_of (layout g [])) d.1,
       subst IsForm d.1 fits,
@@ -575,17 +575,17 @@ abbrev map_value_3 : ℕ → Number → Option ℕ × List Token → Option Form
 map_value_3 dst fd off = after_word (codes "ll") off.1 >>= λ ts. at_end (form.MapValue dst fd off.0) ts
 
 abbrev map_value_2 : ℕ → Number → List Token → Option Form
-map_value_2 dst fd ts = number_then ts >>= λ off. map_value_3 dst fd off
+map_value_2 dst fd ts = leading_number ts >>= λ off. map_value_3 dst fd off
 
 abbrev map_value_1 : ℕ → Number × List Token → Option Form
 map_value_1 dst n = after_symbol (codes "+") n.1 >>= λ ts. map_value_2 dst n.0 ts
 
-pub map_value_is : (dst : ℕ) (ts : List Token) (f : Form) → dst ≤ 10 → map_value_of dst ts ≡ Some f → Assigned true dst (name (codes "map_value") ∷ ts) f
-unfolding map_value_of
+pub map_value_is : (dst : ℕ) (ts : List Token) (f : Form) → dst ≤ 10 → parsed_map_value dst ts ≡ Some f → Assigned true dst (name (codes "map_value") ∷ ts) f
+unfolding parsed_map_value
 map_value_is dst ts f fits e =
-    let n = bind_some (constant_then ts) (map_value_1 dst) f e in
+    let n = bind_some (leading_constant ts) (map_value_1 dst) f e in
     let p = bind_some (after_symbol (codes "+") n.0.1) (map_value_2 dst n.0.0) f n.2 in
-    let v = bind_some (number_then p.0) (map_value_3 dst n.0.0) f p.2 in
+    let v = bind_some (leading_number p.0) (map_value_3 dst n.0.0) f p.2 in
     let w = bind_some (after_word (codes "ll") v.0.1) (λ ts. at_end (form.MapValue dst n.0.0 v.0.0) ts) f v.2 in
     let d = end_is (form.MapValue dst n.0.0 v.0.0) f w.0 w.2 in
     let rest : TokenLayout = sign (codes "+") ∷ Some (number v.0.0) ∷ word (codes "ll") ∷ [] in
@@ -593,31 +593,31 @@ map_value_is dst ts f fits e =
     ∙ ap (λ (l : List Token). symbol (codes "+") ∷ l) (number_is p.0 v.0 v.1
     ∙ ap (λ (l : List Token). number v.0.0 ∷ l) (after_word_is (codes "ll") v.0.1 w.0 w.1
     ∙ ap (λ (l : List Token). name (codes "ll") ∷ l) d.0))) in (
-      ap (λ (l : List Token). name (register_name true dst) ∷ symbol (codes "=") ∷ name (codes "map_value") ∷ l) (constant_then_is ts n.0 rest behind n.1
+      ap (λ (l : List Token). name (register_name true dst) ∷ symbol (codes "=") ∷ name (codes "map_value") ∷ l) (leading_constant_is ts n.0 rest behind n.1
           ∙ constant_spaced n.0.0 rest (space ∷ sign (codes "+") ∷ space ∷ Some (number v.0.0) ∷ space ∷ word (codes "ll") ∷ []) refl)
           ∙ ap (λ (g : Form). tokens_of (layout g [])) d.1,
       subst IsForm d.1 fits,
     )
 
 abbrev wide_1 : ℕ → List Token → Option Form
-wide_1 dst ts = match_option (end_of dst ts) (match_option (const_of dst ts) (load_of dst ts) (λ g. Some g)) (λ g. Some g)
+wide_1 dst ts = match_option (parsed_end dst ts) (match_option (parsed_constant_load dst ts) (parsed_load dst ts) (λ g. Some g)) (λ g. Some g)
 
-pub wide_is : (dst : ℕ) (ts : List Token) (f : Form) → dst ≤ 10 → wide_of dst ts ≡ Some f → Assigned true dst ts f
-unfolding wide_of
+pub wide_is : (dst : ℕ) (ts : List Token) (f : Form) → dst ≤ 10 → parsed_wide_move dst ts ≡ Some f → Assigned true dst ts f
+unfolding parsed_wide_move
 wide_is dst ts f fits e =
-    elim (either (after_word (codes "map_fd") ts) (match_option (after_word (codes "map_value") ts) (wide_1 dst ts) (λ rest. map_value_of dst rest)) (λ rest. map_fd_of dst rest) f e) [
+    elim (either (after_word (codes "map_fd") ts) (match_option (after_word (codes "map_value") ts) (wide_1 dst ts) (λ rest. parsed_map_value dst rest)) (λ rest. parsed_map_fd dst rest) f e) [
       | inr m ↦
           let w = after_word_is (codes "map_fd") ts m.0 m.1 in
           let g = map_fd_is dst m.0 f fits m.2 in
           (ap (λ (l : List Token). name (register_name true dst) ∷ symbol (codes "=") ∷ l) w ∙ g.0, g.1)
-      | inl p ↦ elim (either (after_word (codes "map_value") ts) (wide_1 dst ts) (λ rest. map_value_of dst rest) f p.1) [
+      | inl p ↦ elim (either (after_word (codes "map_value") ts) (wide_1 dst ts) (λ rest. parsed_map_value dst rest) f p.1) [
         | inr m ↦
             let w = after_word_is (codes "map_value") ts m.0 m.1 in
             let g = map_value_is dst m.0 f fits m.2 in
             (ap (λ (l : List Token). name (register_name true dst) ∷ symbol (codes "=") ∷ l) w ∙ g.0, g.1)
-        | inl q ↦ elim (either (end_of dst ts) (match_option (const_of dst ts) (load_of dst ts) (λ g. Some g)) (λ g. Some g) f q.1) [
+        | inl q ↦ elim (either (parsed_end dst ts) (match_option (parsed_constant_load dst ts) (parsed_load dst ts) (λ g. Some g)) (λ g. Some g) f q.1) [
           | inr m ↦ end_form_is dst ts f fits (m.1 ∙ m.2)
-          | inl r ↦ elim (either (const_of dst ts) (load_of dst ts) (λ g. Some g) f r.1) [
+          | inl r ↦ elim (either (parsed_constant_load dst ts) (parsed_load dst ts) (λ g. Some g) f r.1) [
             | inr m ↦ const_is dst ts f fits (m.1 ∙ m.2)
             | inl l ↦ load_is dst ts f fits l.1
           ]
@@ -628,32 +628,32 @@ wide_is dst ts f fits e =
 if_wide : (wide : Bool) (o : Option Form) (f : Form) → cond wide o None ≡ Some f → (wide ≡ true) × (o ≡ Some f)
 if_wide wide o f e = if_so wide o f e
 
-pub moved_is : (wide : Bool) (dst : ℕ) (ts : List Token) (f : Form) → dst ≤ 10 → moved_of wide dst ts ≡ Some f → Assigned wide dst ts f
-unfolding moved_of
+pub moved_is : (wide : Bool) (dst : ℕ) (ts : List Token) (f : Form) → dst ≤ 10 → parsed_special_move wide dst ts ≡ Some f → Assigned wide dst ts f
+unfolding parsed_special_move
 moved_is wide dst ts f fits e =
-    elim (either (after_symbol (codes "(") ts) (match_option (after_symbol (codes "-") ts) (cond wide (wide_of dst ts) None) (λ rest. neg_of wide dst rest)) (λ rest. movsx_of wide dst rest) f e) [
+    elim (either (after_symbol (codes "(") ts) (match_option (after_symbol (codes "-") ts) (cond wide (parsed_wide_move dst ts) None) (λ rest. parsed_neg wide dst rest)) (λ rest. parsed_movsx wide dst rest) f e) [
       | inr m ↦
           let w = after_symbol_is (codes "(") ts m.0 m.1 in
           let g = movsx_is wide dst m.0 f fits m.2 in
           (ap (λ (l : List Token). name (register_name wide dst) ∷ symbol (codes "=") ∷ l) w ∙ g.0, g.1)
-      | inl q ↦ elim (either (after_symbol (codes "-") ts) (cond wide (wide_of dst ts) None) (λ rest. neg_of wide dst rest) f q.1) [
+      | inl q ↦ elim (either (after_symbol (codes "-") ts) (cond wide (parsed_wide_move dst ts) None) (λ rest. parsed_neg wide dst rest) f q.1) [
         | inr m ↦
             let w = after_symbol_is (codes "-") ts m.0 m.1 in
             let g = neg_is wide dst m.0 f fits m.2 in
             (ap (λ (l : List Token). name (register_name wide dst) ∷ symbol (codes "=") ∷ l) w ∙ g.0, g.1)
         | inl r ↦
-            let w = if_wide wide (wide_of dst ts) f r.1 in
+            let w = if_wide wide (parsed_wide_move dst ts) f r.1 in
             let g = wide_is dst ts f fits w.1 in
             (ap (λ (b : Bool). name (register_name b dst) ∷ symbol (codes "=") ∷ ts) w.0 ∙ g.0, g.1)
       ]
     ]
 
-pub alu_is : (wide : Bool) (op : AluOp) (dst : ℕ) (ts : List Token) (f : Form) → dst ≤ 10 → alu_of wide op dst ts ≡ Some f → After (name (register_name wide dst) ∷ symbol (operator_name op) ∷ []) ts f
-unfolding alu_of
+pub alu_is : (wide : Bool) (op : AluOp) (dst : ℕ) (ts : List Token) (f : Form) → dst ≤ 10 → parsed_alu wide op dst ts ≡ Some f → After (name (register_name wide dst) ∷ symbol (operator_name op) ∷ []) ts f
+unfolding parsed_alu
 alu_is wide op dst ts f fits e =
-    let s = bind_some (operand_then wide ts) (λ src. at_end (form.Alu wide op dst src.0) src.1) f e in
+    let s = bind_some (leading_operand wide ts) (λ src. at_end (form.Alu wide op dst src.0) src.1) f e in
     let d = end_is (form.Alu wide op dst s.0.0) f s.0.1 s.2 in
-    let src = operand_then_is wide ts s.0 [] (sym d.0) s.1 in
+    let src = leading_operand_is wide ts s.0 [] (sym d.0) s.1 in
     (ap (λ (l : List Token). name (register_name wide dst) ∷ symbol (operator_name op) ∷ l) src.0 ∙ ap (λ (g : Form). tokens_of (layout g [])) d.1, subst IsForm d.1 (fits, src.1))
 
 move_name : (op : AluOp) → is_move op ≡ true → operator_name op ≡ codes "="
@@ -661,35 +661,35 @@ move_name Mov e = refl
 move_name _ e = absurd (false≢true e)
 
 abbrev assignment_2 : Bool → ℕ → List Token → AluOp → Option Form
-assignment_2 wide dst ts op = match_option (alu_of wide op dst ts) (cond (is_move op) (moved_of wide dst ts) None) (λ f. Some f)
+assignment_2 wide dst ts op = match_option (parsed_alu wide op dst ts) (cond (is_move op) (parsed_special_move wide dst ts) None) (λ f. Some f)
 
 abbrev assignment_1 : Bool → ℕ → List ℕ × List Token → Option Form
 assignment_1 wide dst s = named operators s.0 >>= λ op. assignment_2 wide dst s.1 op
 
-pub assignment_is : (wide : Bool) (dst : ℕ) (ts : List Token) (f : Form) → dst ≤ 10 → assignment_of wide dst ts ≡ Some f → After (name (register_name wide dst) ∷ []) ts f
-unfolding assignment_of
+pub assignment_is : (wide : Bool) (dst : ℕ) (ts : List Token) (f : Form) → dst ≤ 10 → parsed_assignment wide dst ts ≡ Some f → After (name (register_name wide dst) ∷ []) ts f
+unfolding parsed_assignment
 assignment_is wide dst ts f fits e =
-    let s = bind_some (symbol_then ts) (assignment_1 wide dst) f e in
+    let s = bind_some (leading_symbol ts) (assignment_1 wide dst) f e in
     let o = bind_some (named operators s.0.0) (assignment_2 wide dst s.0.1) f s.2 in
     let front = symbol_is ts s.0 s.1 ∙ ap (λ (m : List ℕ). symbol m ∷ s.0.1) (operator_is s.0.0 o.0 o.1) in
-    elim (either (alu_of wide o.0 dst s.0.1) (cond (is_move o.0) (moved_of wide dst s.0.1) None) (λ f. Some f) f o.2) [
+    elim (either (parsed_alu wide o.0 dst s.0.1) (cond (is_move o.0) (parsed_special_move wide dst s.0.1) None) (λ f. Some f) f o.2) [
       | inr m ↦
           let g = alu_is wide o.0 dst s.0.1 f fits (m.1 ∙ m.2) in
           (ap (λ (l : List Token). name (register_name wide dst) ∷ l) front ∙ g.0, g.1)
       | inl q ↦
-          let m = if_wide (is_move o.0) (moved_of wide dst s.0.1) f q.1 in
+          let m = if_wide (is_move o.0) (parsed_special_move wide dst s.0.1) f q.1 in
           let g = moved_is wide dst s.0.1 f fits m.1 in
           (ap (λ (l : List Token). name (register_name wide dst) ∷ l) (front ∙ ap (λ (n : List ℕ). symbol n ∷ s.0.1) (move_name o.0 m.0)) ∙ g.0, g.1)
     ]
 
 abbrev assigned_1 : List ℕ × List Token → Option Form
-assigned_1 n = named registers n.0 >>= λ r. assignment_of r.0 r.1 n.1
+assigned_1 n = named registers n.0 >>= λ r. parsed_assignment r.0 r.1 n.1
 
-pub assigned_is : (ts : List Token) (f : Form) → assigned_of ts ≡ Some f → Spelled ts f
-unfolding assigned_of
+pub assigned_is : (ts : List Token) (f : Form) → parsed_assigned ts ≡ Some f → Spelled ts f
+unfolding parsed_assigned
 assigned_is ts f e =
-    let n = bind_some (name_then ts) assigned_1 f e in
-    let r = bind_some (named registers n.0.0) (λ r. assignment_of r.0 r.1 n.0.1) f n.2 in
+    let n = bind_some (leading_name ts) assigned_1 f e in
+    let r = bind_some (named registers n.0.0) (λ r. parsed_assignment r.0 r.1 n.0.1) f n.2 in
     let g = assignment_is r.0.0 r.0.1 n.0.1 f (register_bound n.0.0 r.0 r.1) r.2 in
     (name_is ts n.0 n.1 ∙ ap (λ (m : List ℕ). name m ∷ n.0.1) (register_is n.0.0 r.0 r.1) ∙ g.0, g.1)
 
@@ -699,20 +699,20 @@ ja_made to = (form.Ja to.0, to.1)
 jal_made : JumpTarget × List ℕ → Form × List ℕ
 jal_made to = (form.Jal to.0, to.1)
 
-pub goto_is : (ts : List Token) (f : Form × List ℕ) → goto_of ts ≡ Some f → AfterWord (codes "goto") ts f
-unfolding goto_of ja_made
+pub goto_is : (ts : List Token) (f : Form × List ℕ) → parsed_goto ts ≡ Some f → AfterWord (codes "goto") ts f
+unfolding parsed_goto ja_made
 goto_is ts f e =
-    let to = map_some (destination_of ts) ja_made f e in
+    let to = map_some (parsed_destination ts) ja_made f e in
     let d = destination_is ts to.0 to.1 in (
       ap (λ (l : List Token). name (codes "goto") ∷ l) d.0 ∙ ap (λ (x : Form × List ℕ). tokens_of (layout x.0 x.1)) to.2,
       subst (λ (x : Form × List ℕ). IsForm x.0) to.2 tt,
       subst (λ (x : Form × List ℕ). NoLabel (names_label x.0) x.1) to.2 d.1,
     )
 
-pub gotol_is : (ts : List Token) (f : Form × List ℕ) → gotol_of ts ≡ Some f → AfterWord (codes "gotol") ts f
-unfolding gotol_of jal_made
+pub gotol_is : (ts : List Token) (f : Form × List ℕ) → parsed_gotol ts ≡ Some f → AfterWord (codes "gotol") ts f
+unfolding parsed_gotol jal_made
 gotol_is ts f e =
-    let to = map_some (destination_of ts) jal_made f e in
+    let to = map_some (parsed_destination ts) jal_made f e in
     let d = destination_is ts to.0 to.1 in (
       ap (λ (l : List Token). name (codes "gotol") ∷ l) d.0 ∙ ap (λ (x : Form × List ℕ). tokens_of (layout x.0 x.1)) to.2,
       subst (λ (x : Form × List ℕ). IsForm x.0) to.2 tt,
@@ -740,33 +740,33 @@ no_label true = tt
 no_label false = refl
 
 abbrev form_6 : List Token → Option (Form × List ℕ)
-form_6 ts = match_option (assigned_of ts) (option_map bare (store_of ts)) (λ f. Some (bare f))
+form_6 ts = match_option (parsed_assigned ts) (option_map bare (parsed_store ts)) (λ f. Some (bare f))
 
 abbrev form_5 : List Token → Option (Form × List ℕ)
-form_5 ts = match_option (after_word (codes "lock") ts) (form_6 ts) (λ rest. option_map bare (atomic_of rest))
+form_5 ts = match_option (after_word (codes "lock") ts) (form_6 ts) (λ rest. option_map bare (parsed_atomic rest))
 
 abbrev form_4 : List Token → Option (Form × List ℕ)
 form_4 ts = match_option (after_word (codes "exit") ts) (form_5 ts) (λ rest. at_end (bare form.Exit) rest)
 
 abbrev form_3 : List Token → Option (Form × List ℕ)
-form_3 ts = match_option (after_word (codes "call") ts) (form_4 ts) (λ rest. option_map bare (call_of rest))
+form_3 ts = match_option (after_word (codes "call") ts) (form_4 ts) (λ rest. option_map bare (parsed_call rest))
 
 abbrev form_2 : List Token → Option (Form × List ℕ)
-form_2 ts = match_option (after_word (codes "gotol") ts) (form_3 ts) (λ rest. gotol_of rest)
+form_2 ts = match_option (after_word (codes "gotol") ts) (form_3 ts) (λ rest. parsed_gotol rest)
 
 abbrev form_1 : List Token → Option (Form × List ℕ)
-form_1 ts = match_option (after_word (codes "goto") ts) (form_2 ts) (λ rest. goto_of rest)
+form_1 ts = match_option (after_word (codes "goto") ts) (form_2 ts) (λ rest. parsed_goto rest)
 
 form_6_is : (ts : List Token) (f : Form × List ℕ) → form_6 ts ≡ Some f → Whole ts f
-form_6_is ts f e = elim (either (assigned_of ts) (option_map bare (store_of ts)) (λ f. Some (bare f)) f e) [
+form_6_is ts f e = elim (either (parsed_assigned ts) (option_map bare (parsed_store ts)) (λ f. Some (bare f)) f e) [
   | inr m ↦ plain_whole ts m.0 f (made_is (bare m.0) f m.2) (assigned_is ts m.0 m.1) (no_label (names_label m.0))
-  | inl q ↦ let m = map_some (store_of ts) bare f q.1 in plain_whole ts m.0 f m.2 (store_is ts m.0 m.1) (no_label (names_label m.0))
+  | inl q ↦ let m = map_some (parsed_store ts) bare f q.1 in plain_whole ts m.0 f m.2 (store_is ts m.0 m.1) (no_label (names_label m.0))
 ]
 
 form_5_is : (ts : List Token) (f : Form × List ℕ) → form_5 ts ≡ Some f → Whole ts f
-form_5_is ts f e = elim (either (after_word (codes "lock") ts) (form_6 ts) (λ rest. option_map bare (atomic_of rest)) f e) [
+form_5_is ts f e = elim (either (after_word (codes "lock") ts) (form_6 ts) (λ rest. option_map bare (parsed_atomic rest)) f e) [
   | inr m ↦
-      let a = map_some (atomic_of m.0) bare f m.2 in
+      let a = map_some (parsed_atomic m.0) bare f m.2 in
       let g = atomic_is m.0 a.0 a.1 in
       plain_whole ts a.0 f a.2 (after_word_is (codes "lock") ts m.0 m.1 ∙ g.0, g.1) (no_label (names_label a.0))
   | inl q ↦ form_6_is ts f q.1
@@ -781,31 +781,31 @@ form_4_is ts f e = elim (either (after_word (codes "exit") ts) (form_5 ts) (λ r
 ]
 
 form_3_is : (ts : List Token) (f : Form × List ℕ) → form_3 ts ≡ Some f → Whole ts f
-form_3_is ts f e = elim (either (after_word (codes "call") ts) (form_4 ts) (λ rest. option_map bare (call_of rest)) f e) [
+form_3_is ts f e = elim (either (after_word (codes "call") ts) (form_4 ts) (λ rest. option_map bare (parsed_call rest)) f e) [
   | inr m ↦
-      let c = map_some (call_of m.0) bare f m.2 in
+      let c = map_some (parsed_call m.0) bare f m.2 in
       let g = call_is m.0 c.0 c.1 in
       plain_whole ts c.0 f c.2 (after_word_is (codes "call") ts m.0 m.1 ∙ g.0, g.1) (no_label (names_label c.0))
   | inl q ↦ form_4_is ts f q.1
 ]
 
-pub form_is : (ts : List Token) (f : Form × List ℕ) → form_of ts ≡ Some f → Whole ts f
-unfolding form_of bare
-form_is ts f e = elim (either (after_word (codes "if") ts) (form_1 ts) (λ rest. jump_of rest) f e) [
+pub form_is : (ts : List Token) (f : Form × List ℕ) → parsed_form ts ≡ Some f → Whole ts f
+unfolding parsed_form bare
+form_is ts f e = elim (either (after_word (codes "if") ts) (form_1 ts) (λ rest. parsed_jump rest) f e) [
   | inr m ↦ behind_word (codes "if") ts m.0 f m.1 (jump_is m.0 f m.2)
-  | inl q ↦ elim (either (after_word (codes "goto") ts) (form_2 ts) (λ rest. goto_of rest) f q.1) [
+  | inl q ↦ elim (either (after_word (codes "goto") ts) (form_2 ts) (λ rest. parsed_goto rest) f q.1) [
     | inr m ↦ behind_word (codes "goto") ts m.0 f m.1 (goto_is m.0 f m.2)
-    | inl r ↦ elim (either (after_word (codes "gotol") ts) (form_3 ts) (λ rest. gotol_of rest) f r.1) [
+    | inl r ↦ elim (either (after_word (codes "gotol") ts) (form_3 ts) (λ rest. parsed_gotol rest) f r.1) [
       | inr m ↦ behind_word (codes "gotol") ts m.0 f m.1 (gotol_is m.0 f m.2)
       | inl s ↦ form_3_is ts f s.1
     ]
   ]
 ]
 
-pub label_is : (ts : List Token) (n : List ℕ) → label_of ts ≡ Some n → ts ≡ spelled (label n)
-unfolding label_of
+pub label_is : (ts : List Token) (n : List ℕ) → parsed_label ts ≡ Some n → ts ≡ spelled (label n)
+unfolding parsed_label
 label_is ts n e =
-    let m = bind_some (name_then ts) (λ m. after_symbol (codes ":") m.1 >>= λ rest. at_end m.0 rest) n e in
+    let m = bind_some (leading_name ts) (λ m. after_symbol (codes ":") m.1 >>= λ rest. at_end m.0 rest) n e in
     let c = bind_some (after_symbol (codes ":") m.0.1) (λ rest. at_end m.0.0 rest) n m.2 in
     let d = end_is m.0.0 n c.0 c.2 in
     name_is ts m.0 m.1 ∙ ap (λ (l : List Token). name m.0.0 ∷ l) (after_symbol_is (codes ":") m.0.1 c.0 c.1 ∙ ap (λ (l : List Token). symbol (codes ":") ∷ l) d.0) ∙ ap (λ (x : List ℕ). spelled (label x)) d.1
@@ -820,12 +820,12 @@ line_is [] line e =
     let made = made_is blank line e in
     (ap spelled made, subst IsWellFormed made tt)
 line_is (t ∷ ts) line e =
-    elim (either (label_of (t ∷ ts)) (option_map line_made (form_of (t ∷ ts))) (λ n. Some (label n)) line e) [
+    elim (either (parsed_label (t ∷ ts)) (option_map line_made (parsed_form (t ∷ ts))) (λ n. Some (label n)) line e) [
       | inr m ↦
           let made = made_is (label m.0) line m.2 in
           (label_is (t ∷ ts) m.0 m.1 ∙ ap spelled made, subst IsWellFormed made tt)
       | inl q ↦
-          let f = map_some (form_of (t ∷ ts)) line_made line q.1 in
+          let f = map_some (parsed_form (t ∷ ts)) line_made line q.1 in
           let g = form_is (t ∷ ts) f.0 f.1 in
           (g.0 ∙ ap spelled f.2, subst IsWellFormed f.2 (g.1, g.2))
     ]

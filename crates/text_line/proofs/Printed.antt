@@ -23,7 +23,7 @@ use Rattle.insn_codec.specs.Spelling.{IsInsn, IsOperand}
 use Rattle.insn_codec.specs.Sizes.{access_size}
 use Rattle.text_line.specs.declared.form.JumpTarget.TheVariants as target
 use Rattle.text_line.specs.Names.{operator_name, condition_name, order_name, narrow_name, size_name, atomic_name, register_name, sign_name}
-use Rattle.text_line.specs.Form.{TokenLayout, layout, sign, word, reg, space, constant, operand, destination, address, IsSource}
+use Rattle.text_line.specs.Form.{TokenLayout, layout, sign, word, reg, space, constant, operand_layout, destination, address, IsSource}
 use Rattle.text_line.specs.Line.{code, IsWellFormed}
 use Rattle.text_line.specs.Token.{number}
 use Rattle.text_line.specs.Written.{number_of, source_of, written, printed_insn}
@@ -129,7 +129,7 @@ constant_apart : (z : ℤ) (rest : TokenLayout) → Fits z → Follows rest → 
 constant_apart (pos n) rest fits h = (fits, h.0, h.1)
 constant_apart (negsuc n) rest fits h = (refl, refl, (fits, h.0, h.1))
 
-operand_apart : (wide : Bool) (src : Operand) (rest : TokenLayout) → IsOperand src → Follows rest → IsApart (operand wide (source_of src) rest)
+operand_apart : (wide : Bool) (src : Operand) (rest : TokenLayout) → IsOperand src → Follows rest → IsApart (operand_layout wide (source_of src) rest)
 operand_apart wide (Imm z) rest fits h = constant_apart z rest (fits_32 z fits) h
 operand_apart wide (Reg r) rest fits h = register_apart wide r rest fits h
 
@@ -164,7 +164,7 @@ printed_apart (Jump wide cond dst src off) h = (refl, refl, (register_word wide 
 printed_apart (Call id) h = (refl, refl, constant_apart id [] (fits_32 id h) (refl, tt))
 printed_apart Exit h = (refl, refl, tt)
 printed_apart (Load l) h = (register_word true l.dst h.0, refl, (refl, refl, address_apart l.signed l.size l.src l.off [] h.1 (fits_16 l.off h.2) refl tt))
-printed_apart (Store s dst src off) h = address_apart false s dst off (space ∷ sign (codes "=") ∷ space ∷ operand true (source_of src) []) h.0 (fits_16 off h.2) refl (refl, refl, operand_apart true src [] h.1 (refl, tt))
+printed_apart (Store s dst src off) h = address_apart false s dst off (space ∷ sign (codes "=") ∷ space ∷ operand_layout true (source_of src) []) h.0 (fits_16 off h.2) refl (refl, refl, operand_apart true src [] h.1 (refl, tt))
 printed_apart (Atomic size op dst src off) h = (refl, refl, address_apart false (access_size size) dst off (space ∷ sign (atomic_name op) ∷ space ∷ reg true src ∷ []) h.0 (fits_16 off h.2) refl (atomic_sign op, refl, register_apart true src [] h.1 (refl, tt)))
 printed_apart (Const dst value) h = (register_word true dst h.0, refl, (refl, refl, (h.1, refl, (refl, refl, tt))))
 printed_apart (MapFd dst fd) h = (register_word true dst h.0, refl, (refl, refl, (refl, refl, constant_apart fd (space ∷ word (codes "ll") ∷ []) (fits_32 fd h.1) (refl, (refl, refl, tt)))))

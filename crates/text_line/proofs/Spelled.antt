@@ -30,9 +30,9 @@ use Rattle.text_line.specs.declared.form.Form.{Form}
 use Rattle.text_line.specs.declared.form.Form.TheVariants as form
 use Rattle.text_line.specs.Token.{Token, name, number, symbol}
 use Rattle.text_line.specs.Names.{operator_name, condition_name, order_name, narrow_name, size_name, atomic_name, register_name, sign_name}
-use Rattle.text_line.specs.Form.{TokenLayout, layout, sign, word, space, tokens_of, reg, minus, to_label, constant, operand, destination, address, IsForm, IsSource, names_label}
+use Rattle.text_line.specs.Form.{TokenLayout, layout, sign, word, space, tokens_of, reg, minus, to_label, constant, operand_layout, destination, address, IsForm, IsSource, names_label}
 use Rattle.text_line.specs.Line.{Line, blank, label, code, spelled, IsWellFormed, NoLabel}
-use Rattle.text_line.specs.inside.Reading.{named, operators, conditions, orders, narrows, sizes, atomic_operators, registers, after_symbol, after_word, register_then, constant_then, signed_then, operand_then, destination_of, address_then, atomic_size_of, jump_of, load_of, store_of, atomic_of, movsx_of, neg_of, end_of, const_of, map_fd_of, map_value_of, wide_of, moved_of, alu_of, assignment_of, assigned_of, goto_of, gotol_of, call_of, form_of, label_of, line_of}
+use Rattle.text_line.specs.inside.Reading.{named, operators, conditions, orders, narrows, sizes, atomic_operators, registers, after_symbol, after_word, leading_register, leading_constant, leading_signed_number, leading_operand, parsed_destination, leading_address, atomic_size_of, parsed_jump, parsed_load, parsed_store, parsed_atomic, parsed_movsx, parsed_neg, parsed_end, parsed_constant_load, parsed_map_fd, parsed_map_value, parsed_wide_move, parsed_special_move, parsed_alu, parsed_assignment, parsed_assigned, parsed_goto, parsed_gotol, parsed_call, parsed_form, parsed_label, line_of}
 
 -- ---- names
 
@@ -127,55 +127,55 @@ named_register false r fits = named_half r fits
 
 -- ---- parts of a line
 
-register_read : (wide : Bool) (r : ℕ) (ts : List Token) → r ≤ 10 → register_then wide (name (register_name wide r) ∷ ts) ≡ Some (r, ts)
-unfolding register_then
+register_read : (wide : Bool) (r : ℕ) (ts : List Token) → r ≤ 10 → leading_register wide (name (register_name wide r) ∷ ts) ≡ Some (r, ts)
+unfolding leading_register
 register_read true r ts fits = rw (named_wide r fits) refl
 register_read false r ts fits = rw (named_half r fits) refl
 
-constant_read : (n : Number) (rest : TokenLayout) → constant_then (tokens_of (constant n rest)) ≡ Some (n, tokens_of rest)
-unfolding constant_then after_symbol
+constant_read : (n : Number) (rest : TokenLayout) → leading_constant (tokens_of (constant n rest)) ≡ Some (n, tokens_of rest)
+unfolding leading_constant after_symbol
 constant_read n rest =
-    elim n.negative as (λ (t : Bool). constant_then (tokens_of (minus t (Some (number n.magnitude) ∷ rest))) ≡ Some (record { negative = t; magnitude = n.magnitude }, tokens_of rest)) [
+    elim n.negative as (λ (t : Bool). leading_constant (tokens_of (minus t (Some (number n.magnitude) ∷ rest))) ≡ Some (record { negative = t; magnitude = n.magnitude }, tokens_of rest)) [
       | true ↦ refl
       | false ↦ refl
     ]
 
-signed_read : (n : Number) (ts : List Token) → signed_then (symbol (sign_name n.negative) ∷ number n.magnitude ∷ ts) ≡ Some (n, ts)
-unfolding signed_then after_symbol
+signed_read : (n : Number) (ts : List Token) → leading_signed_number (symbol (sign_name n.negative) ∷ number n.magnitude ∷ ts) ≡ Some (n, ts)
+unfolding leading_signed_number after_symbol
 signed_read n ts =
-    elim n.negative as (λ (t : Bool). signed_then (symbol (sign_name t) ∷ number n.magnitude ∷ ts) ≡ Some (record { negative = t; magnitude = n.magnitude }, ts)) [
+    elim n.negative as (λ (t : Bool). leading_signed_number (symbol (sign_name t) ∷ number n.magnitude ∷ ts) ≡ Some (record { negative = t; magnitude = n.magnitude }, ts)) [
       | true ↦ refl
       | false ↦ refl
     ]
 
 -- a number is no register
-constant_no_register : (wide : Bool) (n : Number) (rest : TokenLayout) → register_then wide (tokens_of (constant n rest)) ≡ None
-unfolding register_then
+constant_no_register : (wide : Bool) (n : Number) (rest : TokenLayout) → leading_register wide (tokens_of (constant n rest)) ≡ None
+unfolding leading_register
 constant_no_register wide n rest =
-    elim n.negative as (λ (t : Bool). register_then wide (tokens_of (minus t (Some (number n.magnitude) ∷ rest))) ≡ None) [
+    elim n.negative as (λ (t : Bool). leading_register wide (tokens_of (minus t (Some (number n.magnitude) ∷ rest))) ≡ None) [
       | true ↦ refl
       | false ↦ refl
     ]
 
-operand_read : (wide : Bool) (s : SourceOperand) (rest : TokenLayout) → IsSource s → operand_then wide (tokens_of (operand wide s rest)) ≡ Some (s, tokens_of rest)
-unfolding operand_then
+operand_read : (wide : Bool) (s : SourceOperand) (rest : TokenLayout) → IsSource s → leading_operand wide (tokens_of (operand_layout wide s rest)) ≡ Some (s, tokens_of rest)
+unfolding leading_operand
 operand_read wide (source.Reg r) rest fits = rw (register_read wide r (tokens_of rest) fits) refl
 operand_read wide (source.Number n) rest fits = rw (constant_no_register wide n rest, constant_read n rest) refl
 
-signed_name : (n : List ℕ) (ts : List Token) → signed_then (name n ∷ ts) ≡ None
-unfolding signed_then after_symbol
+signed_name : (n : List ℕ) (ts : List Token) → leading_signed_number (name n ∷ ts) ≡ None
+unfolding leading_signed_number after_symbol
 signed_name n ts = refl
 
 abbrev destination_made : JumpTarget → List ℕ → JumpTarget × List ℕ
 destination_made to n = (to, n)
 
-destination_read : (to : JumpTarget) (n : List ℕ) → NoLabel (to_label to) n → destination_of (tokens_of (destination to n)) ≡ Some (to, n)
-unfolding destination_of
+destination_read : (to : JumpTarget) (n : List ℕ) → NoLabel (to_label to) n → parsed_destination (tokens_of (destination to n)) ≡ Some (to, n)
+unfolding parsed_destination
 destination_read (target.Number m) n none = rw (signed_read m []) (ap (λ (l : List ℕ). Some (destination_made (target.Number m) l)) (sym none))
 destination_read target.Label n none = rw (signed_name n []) refl
 
-address_read : (signed : Bool) (s : Size) (base : ℕ) (offset : Number) (rest : TokenLayout) → IsTrue (not (signed && is_double s)) → base ≤ 10 → address_then (tokens_of (address (size_name signed s) base offset rest)) ≡ Some (record { signed = signed; size = s; base = base; offset = offset }, tokens_of rest)
-unfolding address_then after_symbol
+address_read : (signed : Bool) (s : Size) (base : ℕ) (offset : Number) (rest : TokenLayout) → IsTrue (not (signed && is_double s)) → base ≤ 10 → leading_address (tokens_of (address (size_name signed s) base offset rest)) ≡ Some (record { signed = signed; size = s; base = base; offset = offset }, tokens_of rest)
+unfolding leading_address after_symbol
 address_read signed s base offset rest listed fits = rw (named_size signed s listed, register_read true base (symbol (sign_name offset.negative) ∷ number offset.magnitude ∷ symbol (codes ")") ∷ tokens_of rest) fits, signed_read offset (symbol (codes ")") ∷ tokens_of rest)) refl
 
 -- ---- forms
@@ -183,69 +183,69 @@ address_read signed s base offset rest listed fits = rw (named_size signed s lis
 same_eq : (a : ℕ) → eqb a a ≡ true
 same_eq a = grind (arith, nat_tests)
 
-call_read : (n : Number) → call_of (tokens_of (constant n [])) ≡ Some (form.Call n)
-unfolding call_of
+call_read : (n : Number) → parsed_call (tokens_of (constant n [])) ≡ Some (form.Call n)
+unfolding parsed_call
 call_read n = rw (constant_read n []) refl
 
-goto_read : (to : JumpTarget) (n : List ℕ) → NoLabel (to_label to) n → goto_of (tokens_of (destination to n)) ≡ Some (form.Ja to, n)
-unfolding goto_of
+goto_read : (to : JumpTarget) (n : List ℕ) → NoLabel (to_label to) n → parsed_goto (tokens_of (destination to n)) ≡ Some (form.Ja to, n)
+unfolding parsed_goto
 goto_read to n none = rw (destination_read to n none) refl
 
-gotol_read : (to : JumpTarget) (n : List ℕ) → NoLabel (to_label to) n → gotol_of (tokens_of (destination to n)) ≡ Some (form.Jal to, n)
-unfolding gotol_of
+gotol_read : (to : JumpTarget) (n : List ℕ) → NoLabel (to_label to) n → parsed_gotol (tokens_of (destination to n)) ≡ Some (form.Jal to, n)
+unfolding parsed_gotol
 gotol_read to n none = rw (destination_read to n none) refl
 
 jump_read : (wide : Bool) (c : Condition) (dst : ℕ) (src : SourceOperand) (to : JumpTarget) (n : List ℕ) → dst ≤ 10 → IsSource src → NoLabel (to_label to) n
-    → jump_of (name (register_name wide dst) ∷ symbol (condition_name c) ∷ tokens_of (operand wide src (space ∷ word (codes "goto") ∷ space ∷ destination to n))) ≡ Some (form.Jump wide c dst src to, n)
-unfolding jump_of after_word
+    → parsed_jump (name (register_name wide dst) ∷ symbol (condition_name c) ∷ tokens_of (operand_layout wide src (space ∷ word (codes "goto") ∷ space ∷ destination to n))) ≡ Some (form.Jump wide c dst src to, n)
+unfolding parsed_jump after_word
 jump_read wide c dst src to n fits s none = rw (named_register wide dst fits, named_condition c, operand_read wide src (space ∷ word (codes "goto") ∷ space ∷ destination to n) s, destination_read to n none) refl
 
-load_read : (size : Size) (signed : Bool) (dst src : ℕ) (offset : Number) → src ≤ 10 → IsTrue (not (signed && is_double size)) → load_of dst (tokens_of (address (size_name signed size) src offset [])) ≡ Some (form.Load size signed dst src offset)
-unfolding load_of
+load_read : (size : Size) (signed : Bool) (dst src : ℕ) (offset : Number) → src ≤ 10 → IsTrue (not (signed && is_double size)) → parsed_load dst (tokens_of (address (size_name signed size) src offset [])) ≡ Some (form.Load size signed dst src offset)
+unfolding parsed_load
 load_read size signed dst src offset fits listed = rw (address_read signed size src offset [] listed fits) refl
 
-store_read : (size : Size) (dst : ℕ) (src : SourceOperand) (offset : Number) → dst ≤ 10 → IsSource src → store_of (tokens_of (address (size_name false size) dst offset (space ∷ sign (codes "=") ∷ space ∷ operand true src []))) ≡ Some (form.Store size dst src offset)
-unfolding store_of after_symbol
-store_read size dst src offset fits s = rw (address_read false size dst offset (space ∷ sign (codes "=") ∷ space ∷ operand true src []) refl fits, operand_read true src [] s) refl
+store_read : (size : Size) (dst : ℕ) (src : SourceOperand) (offset : Number) → dst ≤ 10 → IsSource src → parsed_store (tokens_of (address (size_name false size) dst offset (space ∷ sign (codes "=") ∷ space ∷ operand_layout true src []))) ≡ Some (form.Store size dst src offset)
+unfolding parsed_store after_symbol
+store_read size dst src offset fits s = rw (address_read false size dst offset (space ∷ sign (codes "=") ∷ space ∷ operand_layout true src []) refl fits, operand_read true src [] s) refl
 
 atomic_read : (z : AtomicSize) (op : AtomicOp) (dst src : ℕ) (offset : Number) → dst ≤ 10 → src ≤ 10
-    → atomic_of (tokens_of (address (size_name false (access_size z)) dst offset (space ∷ sign (atomic_name op) ∷ space ∷ reg true src ∷ []))) ≡ Some (form.Atomic z op dst src offset)
-unfolding atomic_of
+    → parsed_atomic (tokens_of (address (size_name false (access_size z)) dst offset (space ∷ sign (atomic_name op) ∷ space ∷ reg true src ∷ []))) ≡ Some (form.Atomic z op dst src offset)
+unfolding parsed_atomic
 atomic_read z op dst src offset dst_fits src_fits =
     rw (address_read false (access_size z) dst offset (space ∷ sign (atomic_name op) ∷ space ∷ reg true src ∷ []) refl dst_fits, size_of_access z, named_atomic op, register_read true src [] src_fits) refl
 
-movsx_read : (wide : Bool) (b : Narrow) (dst src : ℕ) → src ≤ 10 → IsTrue (wide || is_short b) → movsx_of wide dst (name (narrow_name b) ∷ symbol (codes ")") ∷ name (register_name wide src) ∷ []) ≡ Some (form.Movsx wide b dst src)
-unfolding movsx_of after_symbol
+movsx_read : (wide : Bool) (b : Narrow) (dst src : ℕ) → src ≤ 10 → IsTrue (wide || is_short b) → parsed_movsx wide dst (name (narrow_name b) ∷ symbol (codes ")") ∷ name (register_name wide src) ∷ []) ≡ Some (form.Movsx wide b dst src)
+unfolding parsed_movsx after_symbol
 movsx_read wide b dst src fits listed = rw (named_narrow b, register_read wide src [] fits, listed) refl
 
-neg_read : (wide : Bool) (dst : ℕ) → dst ≤ 10 → neg_of wide dst (name (register_name wide dst) ∷ []) ≡ Some (form.Neg wide dst)
-unfolding neg_of
+neg_read : (wide : Bool) (dst : ℕ) → dst ≤ 10 → parsed_neg wide dst (name (register_name wide dst) ∷ []) ≡ Some (form.Neg wide dst)
+unfolding parsed_neg
 neg_read wide dst fits = rw (register_read wide dst [] fits, same_eq dst) refl
 
-end_read : (how : ByteOrder) (b : Bits) (dst : ℕ) → dst ≤ 10 → end_of dst (name (order_name how b) ∷ name (register_name true dst) ∷ []) ≡ Some (form.End how b dst)
-unfolding end_of
+end_read : (how : ByteOrder) (b : Bits) (dst : ℕ) → dst ≤ 10 → parsed_end dst (name (order_name how b) ∷ name (register_name true dst) ∷ []) ≡ Some (form.End how b dst)
+unfolding parsed_end
 end_read how b dst fits = rw (named_order how b, register_read true dst [] fits, same_eq dst) refl
 
-const_read : (dst : ℕ) (v : Option ℕ) → const_of dst (number v ∷ name (codes "ll") ∷ []) ≡ Some (form.Const dst v)
-unfolding const_of after_word
+const_read : (dst : ℕ) (v : Option ℕ) → parsed_constant_load dst (number v ∷ name (codes "ll") ∷ []) ≡ Some (form.Const dst v)
+unfolding parsed_constant_load after_word
 const_read dst v = refl
 
-map_fd_read : (dst : ℕ) (n : Number) → map_fd_of dst (tokens_of (constant n (space ∷ word (codes "ll") ∷ []))) ≡ Some (form.MapFd dst n)
-unfolding map_fd_of after_word
+map_fd_read : (dst : ℕ) (n : Number) → parsed_map_fd dst (tokens_of (constant n (space ∷ word (codes "ll") ∷ []))) ≡ Some (form.MapFd dst n)
+unfolding parsed_map_fd after_word
 map_fd_read dst n = rw (constant_read n (space ∷ word (codes "ll") ∷ [])) refl
 
-map_value_read : (dst : ℕ) (n : Number) (v : Option ℕ) → map_value_of dst (tokens_of (constant n (space ∷ sign (codes "+") ∷ space ∷ Some (number v) ∷ space ∷ word (codes "ll") ∷ []))) ≡ Some (form.MapValue dst n v)
-unfolding map_value_of after_symbol after_word
+map_value_read : (dst : ℕ) (n : Number) (v : Option ℕ) → parsed_map_value dst (tokens_of (constant n (space ∷ sign (codes "+") ∷ space ∷ Some (number v) ∷ space ∷ word (codes "ll") ∷ []))) ≡ Some (form.MapValue dst n v)
+unfolding parsed_map_value after_symbol after_word
 map_value_read dst n v = rw (constant_read n (space ∷ sign (codes "+") ∷ space ∷ Some (number v) ∷ space ∷ word (codes "ll") ∷ [])) refl
 
 -- ---- what is assigned
 
-alu_read : (wide : Bool) (op : AluOp) (dst : ℕ) (src : SourceOperand) → IsSource src → assignment_of wide dst (symbol (operator_name op) ∷ tokens_of (operand wide src [])) ≡ Some (form.Alu wide op dst src)
-unfolding assignment_of alu_of
+alu_read : (wide : Bool) (op : AluOp) (dst : ℕ) (src : SourceOperand) → IsSource src → parsed_assignment wide dst (symbol (operator_name op) ∷ tokens_of (operand_layout wide src [])) ≡ Some (form.Alu wide op dst src)
+unfolding parsed_assignment parsed_alu
 alu_read wide op dst src s = rw (named_operator op, operand_read wide src [] s) refl
 
-assign_move : (wide : Bool) (dst : ℕ) (ts : List Token) (f : Form) → alu_of wide Mov dst ts ≡ None → moved_of wide dst ts ≡ Some f → assignment_of wide dst (symbol (codes "=") ∷ ts) ≡ Some f
-unfolding assignment_of
+assign_move : (wide : Bool) (dst : ℕ) (ts : List Token) (f : Form) → parsed_alu wide Mov dst ts ≡ None → parsed_special_move wide dst ts ≡ Some f → parsed_assignment wide dst (symbol (codes "=") ∷ ts) ≡ Some f
+unfolding parsed_assignment
 assign_move wide dst ts f none some = rw (none, some) refl
 
 order_no_register : (how : ByteOrder) (b : Bits) → named registers (order_name how b) ≡ None
@@ -270,48 +270,48 @@ order_no_map Swap bits.Bits16 = (refl, refl)
 order_no_map Swap bits.Bits32 = (refl, refl)
 order_no_map Swap bits.Bits64 = (refl, refl)
 
-no_alu_symbol : (wide : Bool) (op : AluOp) (dst : ℕ) (s : List ℕ) (ts : List Token) → bytes_eq s (codes "-") ≡ false → alu_of wide op dst (symbol s ∷ ts) ≡ None
-unfolding alu_of operand_then register_then constant_then after_symbol
+no_alu_symbol : (wide : Bool) (op : AluOp) (dst : ℕ) (s : List ℕ) (ts : List Token) → bytes_eq s (codes "-") ≡ false → parsed_alu wide op dst (symbol s ∷ ts) ≡ None
+unfolding parsed_alu leading_operand leading_register leading_constant after_symbol
 no_alu_symbol wide op dst s ts h = rw h refl
 
-no_alu_minus : (wide : Bool) (op : AluOp) (dst : ℕ) (n : List ℕ) (ts : List Token) → alu_of wide op dst (symbol (codes "-") ∷ name n ∷ ts) ≡ None
-unfolding alu_of operand_then register_then constant_then after_symbol
+no_alu_minus : (wide : Bool) (op : AluOp) (dst : ℕ) (n : List ℕ) (ts : List Token) → parsed_alu wide op dst (symbol (codes "-") ∷ name n ∷ ts) ≡ None
+unfolding parsed_alu leading_operand leading_register leading_constant after_symbol
 no_alu_minus wide op dst n ts = refl
 
-no_alu_name : (wide : Bool) (op : AluOp) (dst : ℕ) (n : List ℕ) (ts : List Token) → named registers n ≡ None → alu_of wide op dst (name n ∷ ts) ≡ None
-unfolding alu_of operand_then register_then constant_then after_symbol
+no_alu_name : (wide : Bool) (op : AluOp) (dst : ℕ) (n : List ℕ) (ts : List Token) → named registers n ≡ None → parsed_alu wide op dst (name n ∷ ts) ≡ None
+unfolding parsed_alu leading_operand leading_register leading_constant after_symbol
 no_alu_name wide op dst n ts h = rw h refl
 
-no_alu_const : (wide : Bool) (op : AluOp) (dst : ℕ) (v : Option ℕ) → alu_of wide op dst (number v ∷ name (codes "ll") ∷ []) ≡ None
-unfolding alu_of operand_then register_then constant_then after_symbol
+no_alu_const : (wide : Bool) (op : AluOp) (dst : ℕ) (v : Option ℕ) → parsed_alu wide op dst (number v ∷ name (codes "ll") ∷ []) ≡ None
+unfolding parsed_alu leading_operand leading_register leading_constant after_symbol
 no_alu_const wide op dst v = refl
 
-moved_movsx : (wide : Bool) (dst : ℕ) (ts : List Token) (f : Form) → movsx_of wide dst ts ≡ Some f → moved_of wide dst (symbol (codes "(") ∷ ts) ≡ Some f
-unfolding moved_of after_symbol
+moved_movsx : (wide : Bool) (dst : ℕ) (ts : List Token) (f : Form) → parsed_movsx wide dst ts ≡ Some f → parsed_special_move wide dst (symbol (codes "(") ∷ ts) ≡ Some f
+unfolding parsed_special_move after_symbol
 moved_movsx wide dst ts f e = e
 
-moved_neg : (wide : Bool) (dst : ℕ) (ts : List Token) (f : Form) → neg_of wide dst ts ≡ Some f → moved_of wide dst (symbol (codes "-") ∷ ts) ≡ Some f
-unfolding moved_of after_symbol
+moved_neg : (wide : Bool) (dst : ℕ) (ts : List Token) (f : Form) → parsed_neg wide dst ts ≡ Some f → parsed_special_move wide dst (symbol (codes "-") ∷ ts) ≡ Some f
+unfolding parsed_special_move after_symbol
 moved_neg wide dst ts f e = e
 
-moved_end : (dst : ℕ) (how : ByteOrder) (b : Bits) (ts : List Token) (f : Form) → end_of dst (name (order_name how b) ∷ ts) ≡ Some f → moved_of true dst (name (order_name how b) ∷ ts) ≡ Some f
-unfolding moved_of wide_of after_symbol after_word
+moved_end : (dst : ℕ) (how : ByteOrder) (b : Bits) (ts : List Token) (f : Form) → parsed_end dst (name (order_name how b) ∷ ts) ≡ Some f → parsed_special_move true dst (name (order_name how b) ∷ ts) ≡ Some f
+unfolding parsed_special_move parsed_wide_move after_symbol after_word
 moved_end dst how b ts f e = let no_map = order_no_map how b in rw (no_map.0, no_map.1, e) refl
 
-moved_map : (dst : ℕ) (ts : List Token) (f : Form) → map_fd_of dst ts ≡ Some f → moved_of true dst (name (codes "map_fd") ∷ ts) ≡ Some f
-unfolding moved_of wide_of after_symbol after_word
+moved_map : (dst : ℕ) (ts : List Token) (f : Form) → parsed_map_fd dst ts ≡ Some f → parsed_special_move true dst (name (codes "map_fd") ∷ ts) ≡ Some f
+unfolding parsed_special_move parsed_wide_move after_symbol after_word
 moved_map dst ts f e = e
 
-moved_map_value : (dst : ℕ) (ts : List Token) (f : Form) → map_value_of dst ts ≡ Some f → moved_of true dst (name (codes "map_value") ∷ ts) ≡ Some f
-unfolding moved_of wide_of after_symbol after_word
+moved_map_value : (dst : ℕ) (ts : List Token) (f : Form) → parsed_map_value dst ts ≡ Some f → parsed_special_move true dst (name (codes "map_value") ∷ ts) ≡ Some f
+unfolding parsed_special_move parsed_wide_move after_symbol after_word
 moved_map_value dst ts f e = e
 
-moved_const : (dst : ℕ) (v : Option ℕ) (ts : List Token) (f : Form) → const_of dst (number v ∷ ts) ≡ Some f → moved_of true dst (number v ∷ ts) ≡ Some f
-unfolding moved_of wide_of after_symbol after_word end_of
+moved_const : (dst : ℕ) (v : Option ℕ) (ts : List Token) (f : Form) → parsed_constant_load dst (number v ∷ ts) ≡ Some f → parsed_special_move true dst (number v ∷ ts) ≡ Some f
+unfolding parsed_special_move parsed_wide_move after_symbol after_word parsed_end
 moved_const dst v ts f e = rw e refl
 
-moved_load : (dst : ℕ) (ts : List Token) (f : Form) → load_of dst (symbol (codes "*") ∷ ts) ≡ Some f → moved_of true dst (symbol (codes "*") ∷ ts) ≡ Some f
-unfolding moved_of wide_of after_symbol after_word end_of const_of
+moved_load : (dst : ℕ) (ts : List Token) (f : Form) → parsed_load dst (symbol (codes "*") ∷ ts) ≡ Some f → parsed_special_move true dst (symbol (codes "*") ∷ ts) ≡ Some f
+unfolding parsed_special_move parsed_wide_move after_symbol after_word parsed_end parsed_constant_load
 moved_load dst ts f e = e
 
 -- ---- whole lines
@@ -332,90 +332,90 @@ operator_no_colon Xor = refl
 operator_no_colon Mov = refl
 operator_no_colon SignedShiftRight = refl
 
-no_label_symbol : (n s : List ℕ) (ts : List Token) → bytes_eq s (codes ":") ≡ false → label_of (name n ∷ symbol s ∷ ts) ≡ None
-unfolding label_of after_symbol
+no_label_symbol : (n s : List ℕ) (ts : List Token) → bytes_eq s (codes ":") ≡ false → parsed_label (name n ∷ symbol s ∷ ts) ≡ None
+unfolding parsed_label after_symbol
 no_label_symbol n s ts h = rw h refl
 
-no_label_name : (n m : List ℕ) (ts : List Token) → label_of (name n ∷ name m ∷ ts) ≡ None
-unfolding label_of after_symbol
+no_label_name : (n m : List ℕ) (ts : List Token) → parsed_label (name n ∷ name m ∷ ts) ≡ None
+unfolding parsed_label after_symbol
 no_label_name n m ts = refl
 
-no_label_number : (n : List ℕ) (v : Option ℕ) (ts : List Token) → label_of (name n ∷ number v ∷ ts) ≡ None
-unfolding label_of after_symbol
+no_label_number : (n : List ℕ) (v : Option ℕ) (ts : List Token) → parsed_label (name n ∷ number v ∷ ts) ≡ None
+unfolding parsed_label after_symbol
 no_label_number n v ts = refl
 
-no_label_end : (n : List ℕ) → label_of (name n ∷ []) ≡ None
-unfolding label_of after_symbol
+no_label_end : (n : List ℕ) → parsed_label (name n ∷ []) ≡ None
+unfolding parsed_label after_symbol
 no_label_end n = refl
 
-no_label_front : (s : List ℕ) (ts : List Token) → label_of (symbol s ∷ ts) ≡ None
-unfolding label_of
+no_label_front : (s : List ℕ) (ts : List Token) → parsed_label (symbol s ∷ ts) ≡ None
+unfolding parsed_label
 no_label_front s ts = refl
 
-no_label_constant : (w : List ℕ) (n : Number) → label_of (name w ∷ tokens_of (constant n [])) ≡ None
-unfolding label_of after_symbol
+no_label_constant : (w : List ℕ) (n : Number) → parsed_label (name w ∷ tokens_of (constant n [])) ≡ None
+unfolding parsed_label after_symbol
 no_label_constant w n =
-    elim n.negative as (λ (t : Bool). label_of (name w ∷ tokens_of (minus t (Some (number n.magnitude) ∷ []))) ≡ None) [
+    elim n.negative as (λ (t : Bool). parsed_label (name w ∷ tokens_of (minus t (Some (number n.magnitude) ∷ []))) ≡ None) [
       | true ↦ refl
       | false ↦ refl
     ]
 
-no_label_destination : (w : List ℕ) (to : JumpTarget) (n : List ℕ) → label_of (name w ∷ tokens_of (destination to n)) ≡ None
-unfolding label_of after_symbol
+no_label_destination : (w : List ℕ) (to : JumpTarget) (n : List ℕ) → parsed_label (name w ∷ tokens_of (destination to n)) ≡ None
+unfolding parsed_label after_symbol
 no_label_destination w (target.Number m) n =
-    elim m.negative as (λ (t : Bool). label_of (name w ∷ symbol (sign_name t) ∷ number m.magnitude ∷ []) ≡ None) [
+    elim m.negative as (λ (t : Bool). parsed_label (name w ∷ symbol (sign_name t) ∷ number m.magnitude ∷ []) ≡ None) [
       | true ↦ refl
       | false ↦ refl
     ]
 no_label_destination w target.Label n = refl
 
-line_from : (t : Token) (ts : List Token) (f : Form) (n : List ℕ) → label_of (t ∷ ts) ≡ None → form_of (t ∷ ts) ≡ Some (f, n) → line_of (t ∷ ts) ≡ Some (code f n)
+line_from : (t : Token) (ts : List Token) (f : Form) (n : List ℕ) → parsed_label (t ∷ ts) ≡ None → parsed_form (t ∷ ts) ≡ Some (f, n) → line_of (t ∷ ts) ≡ Some (code f n)
 unfolding line_of
 line_from t ts f n none some = rw (none, some) refl
 
-form_from_register : (wide : Bool) (r : ℕ) (ts : List Token) (f : Form) → r ≤ 10 → assignment_of wide r ts ≡ Some f → form_of (name (register_name wide r) ∷ ts) ≡ Some (f, [])
-unfolding form_of after_word assigned_of
+form_from_register : (wide : Bool) (r : ℕ) (ts : List Token) (f : Form) → r ≤ 10 → parsed_assignment wide r ts ≡ Some f → parsed_form (name (register_name wide r) ∷ ts) ≡ Some (f, [])
+unfolding parsed_form after_word parsed_assigned
 form_from_register true r ts f fits e = rw (named_wide r fits, e) refl
 form_from_register false r ts f fits e = rw (named_half r fits, e) refl
 
-form_from_if : (ts : List Token) (f : Form) (n : List ℕ) → jump_of ts ≡ Some (f, n) → form_of (name (codes "if") ∷ ts) ≡ Some (f, n)
-unfolding form_of after_word
+form_from_if : (ts : List Token) (f : Form) (n : List ℕ) → parsed_jump ts ≡ Some (f, n) → parsed_form (name (codes "if") ∷ ts) ≡ Some (f, n)
+unfolding parsed_form after_word
 form_from_if ts f n e = e
 
-form_from_goto : (ts : List Token) (f : Form) (n : List ℕ) → goto_of ts ≡ Some (f, n) → form_of (name (codes "goto") ∷ ts) ≡ Some (f, n)
-unfolding form_of after_word
+form_from_goto : (ts : List Token) (f : Form) (n : List ℕ) → parsed_goto ts ≡ Some (f, n) → parsed_form (name (codes "goto") ∷ ts) ≡ Some (f, n)
+unfolding parsed_form after_word
 form_from_goto ts f n e = e
 
-form_from_gotol : (ts : List Token) (f : Form) (n : List ℕ) → gotol_of ts ≡ Some (f, n) → form_of (name (codes "gotol") ∷ ts) ≡ Some (f, n)
-unfolding form_of after_word
+form_from_gotol : (ts : List Token) (f : Form) (n : List ℕ) → parsed_gotol ts ≡ Some (f, n) → parsed_form (name (codes "gotol") ∷ ts) ≡ Some (f, n)
+unfolding parsed_form after_word
 form_from_gotol ts f n e = e
 
-form_from_call : (ts : List Token) (f : Form) → call_of ts ≡ Some f → form_of (name (codes "call") ∷ ts) ≡ Some (f, [])
-unfolding form_of after_word
+form_from_call : (ts : List Token) (f : Form) → parsed_call ts ≡ Some f → parsed_form (name (codes "call") ∷ ts) ≡ Some (f, [])
+unfolding parsed_form after_word
 form_from_call ts f e = rw e refl
 
-form_from_exit : form_of (name (codes "exit") ∷ []) ≡ Some (form.Exit, [])
-unfolding form_of after_word
+form_from_exit : parsed_form (name (codes "exit") ∷ []) ≡ Some (form.Exit, [])
+unfolding parsed_form after_word
 form_from_exit = refl
 
-form_from_lock : (ts : List Token) (f : Form) → atomic_of ts ≡ Some f → form_of (name (codes "lock") ∷ ts) ≡ Some (f, [])
-unfolding form_of after_word
+form_from_lock : (ts : List Token) (f : Form) → parsed_atomic ts ≡ Some f → parsed_form (name (codes "lock") ∷ ts) ≡ Some (f, [])
+unfolding parsed_form after_word
 form_from_lock ts f e = rw e refl
 
-form_from_store : (ts : List Token) (f : Form) → store_of (symbol (codes "*") ∷ ts) ≡ Some f → form_of (symbol (codes "*") ∷ ts) ≡ Some (f, [])
-unfolding form_of after_word assigned_of
+form_from_store : (ts : List Token) (f : Form) → parsed_store (symbol (codes "*") ∷ ts) ≡ Some f → parsed_form (symbol (codes "*") ∷ ts) ≡ Some (f, [])
+unfolding parsed_form after_word parsed_assigned
 form_from_store ts f e = rw e refl
 
 -- a register and what is assigned to it
-line_from_register : (wide : Bool) (r : ℕ) (s : List ℕ) (ts : List Token) (f : Form) (n : List ℕ) → r ≤ 10 → bytes_eq s (codes ":") ≡ false → n ≡ [] → assignment_of wide r (symbol s ∷ ts) ≡ Some f → line_of (name (register_name wide r) ∷ symbol s ∷ ts) ≡ Some (code f n)
+line_from_register : (wide : Bool) (r : ℕ) (s : List ℕ) (ts : List Token) (f : Form) (n : List ℕ) → r ≤ 10 → bytes_eq s (codes ":") ≡ false → n ≡ [] → parsed_assignment wide r (symbol s ∷ ts) ≡ Some f → line_of (name (register_name wide r) ∷ symbol s ∷ ts) ≡ Some (code f n)
 line_from_register wide r s ts f n fits colon none e =
     line_from (name (register_name wide r)) (symbol s ∷ ts) f [] (no_label_symbol (register_name wide r) s ts colon) (form_from_register wide r (symbol s ∷ ts) f fits e) ∙ ap (λ (l : List ℕ). Some (code f l)) (sym none)
 
-line_from_move : (wide : Bool) (r : ℕ) (ts : List Token) (f : Form) (n : List ℕ) → r ≤ 10 → n ≡ [] → alu_of wide Mov r ts ≡ None → moved_of wide r ts ≡ Some f → line_of (name (register_name wide r) ∷ symbol (codes "=") ∷ ts) ≡ Some (code f n)
+line_from_move : (wide : Bool) (r : ℕ) (ts : List Token) (f : Form) (n : List ℕ) → r ≤ 10 → n ≡ [] → parsed_alu wide Mov r ts ≡ None → parsed_special_move wide r ts ≡ Some f → line_of (name (register_name wide r) ∷ symbol (codes "=") ∷ ts) ≡ Some (code f n)
 line_from_move wide r ts f n fits none alu e = line_from_register wide r (codes "=") ts f n fits refl none (assign_move wide r ts f alu e)
 
 code_read : (f : Form) (n : List ℕ) → IsForm f → NoLabel (names_label f) n → line_of (tokens_of (layout f n)) ≡ Some (code f n)
-code_read (form.Alu wide op dst src) n fits none = line_from_register wide dst (operator_name op) (tokens_of (operand wide src [])) (form.Alu wide op dst src) n fits.0 (operator_no_colon op) none (alu_read wide op dst src fits.1)
+code_read (form.Alu wide op dst src) n fits none = line_from_register wide dst (operator_name op) (tokens_of (operand_layout wide src [])) (form.Alu wide op dst src) n fits.0 (operator_no_colon op) none (alu_read wide op dst src fits.1)
 code_read (form.Movsx wide b dst src) n fits none =
     let ts : List Token = name (narrow_name b) ∷ symbol (codes ")") ∷ name (register_name wide src) ∷ [] in
     line_from_move wide dst (symbol (codes "(") ∷ ts) (form.Movsx wide b dst src) n fits.0 none (no_alu_symbol wide Mov dst (codes "(") ts refl) (moved_movsx wide dst ts (form.Movsx wide b dst src) (movsx_read wide b dst src fits.1 fits.2))
@@ -428,7 +428,7 @@ code_read (form.End how b dst) n fits none =
 code_read (form.Ja to) n fits none = line_from (name (codes "goto")) (tokens_of (destination to n)) (form.Ja to) n (no_label_destination (codes "goto") to n) (form_from_goto (tokens_of (destination to n)) (form.Ja to) n (goto_read to n none))
 code_read (form.Jal to) n fits none = line_from (name (codes "gotol")) (tokens_of (destination to n)) (form.Jal to) n (no_label_destination (codes "gotol") to n) (form_from_gotol (tokens_of (destination to n)) (form.Jal to) n (gotol_read to n none))
 code_read (form.Jump wide c dst src to) n fits none =
-    let ts : List Token = symbol (condition_name c) ∷ tokens_of (operand wide src (space ∷ word (codes "goto") ∷ space ∷ destination to n)) in
+    let ts : List Token = symbol (condition_name c) ∷ tokens_of (operand_layout wide src (space ∷ word (codes "goto") ∷ space ∷ destination to n)) in
     line_from (name (codes "if")) (name (register_name wide dst) ∷ ts) (form.Jump wide c dst src to) n (no_label_name (codes "if") (register_name wide dst) ts) (form_from_if (name (register_name wide dst) ∷ ts) (form.Jump wide c dst src to) n (jump_read wide c dst src to n fits.0 fits.1 none))
 code_read (form.Call id) n fits none =
     line_from (name (codes "call")) (tokens_of (constant id [])) (form.Call id) [] (no_label_constant (codes "call") id) (form_from_call (tokens_of (constant id [])) (form.Call id) (call_read id)) ∙ ap (λ (l : List ℕ). Some (code (form.Call id) l)) (sym none)
@@ -437,7 +437,7 @@ code_read (form.Load size signed dst src offset) n fits none =
     let ts : List Token = symbol (codes "(") ∷ name (size_name signed size) ∷ symbol (codes "*") ∷ symbol (codes ")") ∷ symbol (codes "(") ∷ name (register_name true src) ∷ symbol (sign_name offset.negative) ∷ number offset.magnitude ∷ symbol (codes ")") ∷ [] in
     line_from_move true dst (symbol (codes "*") ∷ ts) (form.Load size signed dst src offset) n fits.0 none (no_alu_symbol true Mov dst (codes "*") ts refl) (moved_load dst ts (form.Load size signed dst src offset) (load_read size signed dst src offset fits.1 fits.2))
 code_read (form.Store size dst src offset) n fits none =
-    let ts : List Token = symbol (codes "(") ∷ name (size_name false size) ∷ symbol (codes "*") ∷ symbol (codes ")") ∷ symbol (codes "(") ∷ name (register_name true dst) ∷ symbol (sign_name offset.negative) ∷ number offset.magnitude ∷ symbol (codes ")") ∷ symbol (codes "=") ∷ tokens_of (operand true src []) in
+    let ts : List Token = symbol (codes "(") ∷ name (size_name false size) ∷ symbol (codes "*") ∷ symbol (codes ")") ∷ symbol (codes "(") ∷ name (register_name true dst) ∷ symbol (sign_name offset.negative) ∷ number offset.magnitude ∷ symbol (codes ")") ∷ symbol (codes "=") ∷ tokens_of (operand_layout true src []) in
     line_from (symbol (codes "*")) ts (form.Store size dst src offset) [] (no_label_front (codes "*") ts) (form_from_store ts (form.Store size dst src offset) (store_read size dst src offset fits.0 fits.1)) ∙ ap (λ (l : List ℕ). Some (code (form.Store size dst src offset) l)) (sym none)
 code_read (form.Atomic z op dst src offset) n fits none =
     let ts : List Token = symbol (codes "(") ∷ name (size_name false (access_size z)) ∷ symbol (codes "*") ∷ symbol (codes ")") ∷ symbol (codes "(") ∷ name (register_name true dst) ∷ symbol (sign_name offset.negative) ∷ number offset.magnitude ∷ symbol (codes ")") ∷ symbol (atomic_name op) ∷ name (register_name true src) ∷ [] in
@@ -453,7 +453,7 @@ code_read (form.MapValue dst fd off) n fits none =
 
 -- What is spelled is read so.
 pub line_read : (line : Line) → IsWellFormed line → line_of (spelled line) ≡ Some line
-unfolding line_of label_of after_symbol
+unfolding line_of parsed_label after_symbol
 line_read blank h = refl
 line_read (label n) h = refl
 line_read (code f n) h = code_read f n h.0 h.1

@@ -40,21 +40,21 @@ pub no_symbol : (text : List ℕ) (n : ℕ) → n ≡ option_map_or length (symb
 no_symbol text n is zero = none_of_zero (symbol_at text) (λ s e. (symbol_is text s e).0) (sym is ∙ zero)
 
 -- a symbol and the text after it
-abbrev symbol_then : List ℕ → List ℕ → Token × List ℕ
-symbol_then s rest = (symbol s, rest)
+abbrev leading_symbol : List ℕ → List ℕ → Token × List ℕ
+leading_symbol s rest = (symbol s, rest)
 
 abbrev cut_symbol : List ℕ → Option (List ℕ) → Option (Token × List ℕ)
-cut_symbol text o = option_map (λ s. symbol_then s (drop (length s) text)) o
+cut_symbol text o = option_map (λ s. leading_symbol s (drop (length s) text)) o
 
-symbol_of : (text : List ℕ) (n : ℕ) (o : Option (List ℕ)) → ((s : List ℕ) → o ≡ Some s → take (length s) text ≡ s) → n ≡ option_map_or length o 0 → 0 < n → Some (symbol_then (take n text) (drop n text)) ≡ cut_symbol text o
+symbol_of : (text : List ℕ) (n : ℕ) (o : Option (List ℕ)) → ((s : List ℕ) → o ≡ Some s → take (length s) text ≡ s) → n ≡ option_map_or length o 0 → 0 < n → Some (leading_symbol (take n text) (drop n text)) ≡ cut_symbol text o
 symbol_of text n None is e some = absurd (omega arith)
 symbol_of text n (Some s) is e some =
     let whole = is s refl in
-    ap (λ (k : ℕ). Some (symbol_then (take k text) (drop k text))) e ∙ ap (λ (t : List ℕ). Some (symbol_then t (drop (length s) text))) whole
+    ap (λ (k : ℕ). Some (leading_symbol (take k text) (drop k text))) e ∙ ap (λ (t : List ℕ). Some (leading_symbol t (drop (length s) text))) whole
 
-pub symbol_found : (text : List ℕ) (n : ℕ) (front rest : List ℕ) → n ≡ option_map_or length (symbol_at text) 0 → 0 < n → front ≡ take n text → rest ≡ drop n text → Some (symbol_then front rest) ≡ cut_symbol text (symbol_at text)
+pub symbol_found : (text : List ℕ) (n : ℕ) (front rest : List ℕ) → n ≡ option_map_or length (symbol_at text) 0 → 0 < n → front ≡ take n text → rest ≡ drop n text → Some (leading_symbol front rest) ≡ cut_symbol text (symbol_at text)
 symbol_found text n front rest is some f r =
-    ap (λ (t : List ℕ). Some (symbol_then t rest)) f ∙ ap (λ (t : List ℕ). Some (symbol_then (take n text) t)) r
+    ap (λ (t : List ℕ). Some (leading_symbol t rest)) f ∙ ap (λ (t : List ℕ). Some (leading_symbol (take n text) t)) r
     ∙ symbol_of text n (symbol_at text) (λ s e. (symbol_is text s e).1) is some
 
 -- ---- numbers

@@ -37,9 +37,9 @@ minus false rest = rest
 abbrev pub constant : Number → TokenLayout → TokenLayout
 constant n rest = minus n.negative (Some (number n.magnitude) ∷ rest)
 
-abbrev pub operand : Bool → SourceOperand → TokenLayout → TokenLayout
-operand wide (source.Number n) rest = constant n rest
-operand wide (source.Reg r) rest = reg wide r ∷ rest
+abbrev pub operand_layout : Bool → SourceOperand → TokenLayout → TokenLayout
+operand_layout wide (source.Number n) rest = constant n rest
+operand_layout wide (source.Reg r) rest = reg wide r ∷ rest
 
 -- a number whose sign stands, or the name of a label
 abbrev pub destination : JumpTarget → List ℕ → TokenLayout
@@ -53,17 +53,17 @@ address size base offset rest =
 
 -- the table: a line for each form, with the label that its jump names, if it names one
 abbrev pub layout : Form → List ℕ → TokenLayout
-layout (Alu wide op dst src) label = reg wide dst ∷ space ∷ sign (operator_name op) ∷ space ∷ operand wide src []
+layout (Alu wide op dst src) label = reg wide dst ∷ space ∷ sign (operator_name op) ∷ space ∷ operand_layout wide src []
 layout (Movsx wide bits dst src) label = reg wide dst ∷ space ∷ sign (codes "=") ∷ space ∷ sign (codes "(") ∷ word (narrow_name bits) ∷ sign (codes ")") ∷ reg wide src ∷ []
 layout (Neg wide dst) label = reg wide dst ∷ space ∷ sign (codes "=") ∷ space ∷ sign (codes "-") ∷ reg wide dst ∷ []
 layout (End how bits dst) label = reg true dst ∷ space ∷ sign (codes "=") ∷ space ∷ word (order_name how bits) ∷ space ∷ reg true dst ∷ []
 layout (Ja to) label = word (codes "goto") ∷ space ∷ destination to label
 layout (Jal to) label = word (codes "gotol") ∷ space ∷ destination to label
-layout (Jump wide cond dst src to) label = word (codes "if") ∷ space ∷ reg wide dst ∷ space ∷ sign (condition_name cond) ∷ space ∷ operand wide src (space ∷ word (codes "goto") ∷ space ∷ destination to label)
+layout (Jump wide cond dst src to) label = word (codes "if") ∷ space ∷ reg wide dst ∷ space ∷ sign (condition_name cond) ∷ space ∷ operand_layout wide src (space ∷ word (codes "goto") ∷ space ∷ destination to label)
 layout (Call id) label = word (codes "call") ∷ space ∷ constant id []
 layout Exit label = word (codes "exit") ∷ []
 layout (Load size signed dst src offset) label = reg true dst ∷ space ∷ sign (codes "=") ∷ space ∷ address (size_name signed size) src offset []
-layout (Store size dst src offset) label = address (size_name false size) dst offset (space ∷ sign (codes "=") ∷ space ∷ operand true src [])
+layout (Store size dst src offset) label = address (size_name false size) dst offset (space ∷ sign (codes "=") ∷ space ∷ operand_layout true src [])
 layout (Atomic size op dst src offset) label = word (codes "lock") ∷ space ∷ address (size_name false (access_size size)) dst offset (space ∷ sign (atomic_name op) ∷ space ∷ reg true src ∷ [])
 layout (Const dst value) label = reg true dst ∷ space ∷ sign (codes "=") ∷ space ∷ Some (number value) ∷ space ∷ word (codes "ll") ∷ []
 layout (MapFd dst fd) label = reg true dst ∷ space ∷ sign (codes "=") ∷ space ∷ word (codes "map_fd") ∷ space ∷ constant fd (space ∷ word (codes "ll") ∷ [])

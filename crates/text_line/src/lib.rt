@@ -4,7 +4,7 @@
 mod blanks;
 mod fields;
 mod form;
-mod laws;
+pub mod laws;
 mod line;
 mod names;
 mod parts;
@@ -13,5 +13,4 @@ mod token;
 
 pub use blanks::stripped;
 pub use form::{Form, JumpTarget, Line, Number, SourceOperand};
-pub use laws::{one_instruction, one_reading, printed_is_read, written_in_range};
 pub use reader::read_line;

@@ -3,7 +3,7 @@
 ghost use Rattle.std.specs.Prelude.{◌≡◌, option_map};
 ghost use Rattle.text_line.specs.inside.Shown.{shown_tokens};
 ghost use Rattle.text_line.specs.Shown.{seen_line};
-ghost use Rattle.text_line.specs.inside.Reading.{jump_of, load_of, store_of, atomic_of, movsx_of, neg_of, end_of, const_of, map_fd_of, map_value_of, wide_of, moved_of, is_move, alu_of, assignment_of, assigned_of, goto_of, gotol_of, call_of, form_of, label_of, line_of, seen_destination};
+ghost use Rattle.text_line.specs.inside.Reading.{parsed_jump, parsed_load, parsed_store, parsed_atomic, parsed_movsx, parsed_neg, parsed_end, parsed_constant_load, parsed_map_fd, parsed_map_value, parsed_wide_move, parsed_special_move, is_move, parsed_alu, parsed_assignment, parsed_assigned, parsed_goto, parsed_gotol, parsed_call, parsed_form, parsed_label, line_of, seen_destination};
 
 use crate::form::{Form, Line};
 use crate::names::{
@@ -17,9 +17,9 @@ use crate::token::Token;
 use insn_codec::{AluOp, Narrow, Reg};
 
 /// A conditional jump, after `if`.
-#[tactic(auto, unfolding(crate::specs::inside::Reading::jump_of))]
+#[tactic(auto, unfolding(crate::specs::inside::Reading::parsed_jump))]
 fn jump<'a>(tokens: &[Token<'a>]) -> Option<(Form, &'a str)>
-    ensures { seen_destination result ≡ jump_of (shown_tokens tokens.now) }
+    ensures { seen_destination result ≡ parsed_jump (shown_tokens tokens.now) }
 {
     let (name, rest) = name(tokens)?;
     let (wide, dst) = register_named(name)?;
@@ -43,9 +43,9 @@ fn jump<'a>(tokens: &[Token<'a>]) -> Option<(Form, &'a str)>
 }
 
 /// A load, after `=`.
-#[tactic(auto, unfolding(crate::specs::inside::Reading::load_of))]
+#[tactic(auto, unfolding(crate::specs::inside::Reading::parsed_load))]
 fn load(dst: Reg, tokens: &[Token<'_>]) -> Option<Form>
-    ensures { result ≡ load_of dst (shown_tokens tokens.now) }
+    ensures { result ≡ parsed_load dst (shown_tokens tokens.now) }
 {
     let Some((address, rest)) = address(tokens) else {
         return None;
@@ -63,9 +63,9 @@ fn load(dst: Reg, tokens: &[Token<'_>]) -> Option<Form>
 }
 
 /// A store.
-#[tactic(auto, unfolding(crate::specs::inside::Reading::store_of))]
+#[tactic(auto, unfolding(crate::specs::inside::Reading::parsed_store))]
 fn store(tokens: &[Token<'_>]) -> Option<Form>
-    ensures { result ≡ store_of (shown_tokens tokens.now) }
+    ensures { result ≡ parsed_store (shown_tokens tokens.now) }
 {
     let Some((address, rest)) = address(tokens) else {
         return None;
@@ -86,9 +86,9 @@ fn store(tokens: &[Token<'_>]) -> Option<Form>
 }
 
 /// An atomic operation, after `lock`.
-#[tactic(auto, unfolding(crate::specs::inside::Reading::atomic_of))]
+#[tactic(auto, unfolding(crate::specs::inside::Reading::parsed_atomic))]
 fn atomic(tokens: &[Token<'_>]) -> Option<Form>
-    ensures { result ≡ atomic_of (shown_tokens tokens.now) }
+    ensures { result ≡ parsed_atomic (shown_tokens tokens.now) }
 {
     let Some((address, rest)) = address(tokens) else {
         return None;
@@ -112,9 +112,9 @@ fn atomic(tokens: &[Token<'_>]) -> Option<Form>
 }
 
 /// A move with sign extension, after `(`.
-#[tactic(auto, unfolding(crate::specs::inside::Reading::movsx_of))]
+#[tactic(auto, unfolding(crate::specs::inside::Reading::parsed_movsx))]
 fn movsx(wide: bool, dst: Reg, tokens: &[Token<'_>]) -> Option<Form>
-    ensures { result ≡ movsx_of wide dst (shown_tokens tokens.now) }
+    ensures { result ≡ parsed_movsx wide dst (shown_tokens tokens.now) }
 {
     let (name, rest) = name(tokens)?;
     let bits = narrow(name)?;
@@ -137,9 +137,9 @@ fn movsx(wide: bool, dst: Reg, tokens: &[Token<'_>]) -> Option<Form>
 }
 
 /// A negation, after `-`.
-#[tactic(auto, unfolding(crate::specs::inside::Reading::neg_of))]
+#[tactic(auto, unfolding(crate::specs::inside::Reading::parsed_neg))]
 fn neg(wide: bool, dst: Reg, tokens: &[Token<'_>]) -> Option<Form>
-    ensures { result ≡ neg_of wide dst (shown_tokens tokens.now) }
+    ensures { result ≡ parsed_neg wide dst (shown_tokens tokens.now) }
 {
     let Some((again, rest)) = register(wide, tokens) else {
         return None;
@@ -155,9 +155,9 @@ fn neg(wide: bool, dst: Reg, tokens: &[Token<'_>]) -> Option<Form>
 }
 
 /// A change of byte order, after `=`.
-#[tactic(auto, unfolding(crate::specs::inside::Reading::end_of))]
+#[tactic(auto, unfolding(crate::specs::inside::Reading::parsed_end))]
 fn end(dst: Reg, tokens: &[Token<'_>]) -> Option<Form>
-    ensures { result ≡ end_of dst (shown_tokens tokens.now) }
+    ensures { result ≡ parsed_end dst (shown_tokens tokens.now) }
 {
     let (name, rest) = name(tokens)?;
     let (how, bits) = byte_order(name)?;
@@ -175,9 +175,9 @@ fn end(dst: Reg, tokens: &[Token<'_>]) -> Option<Form>
 }
 
 /// A wide constant, after `=`.
-#[tactic(auto, unfolding(crate::specs::inside::Reading::const_of))]
+#[tactic(auto, unfolding(crate::specs::inside::Reading::parsed_constant_load))]
 fn constant_load(dst: Reg, tokens: &[Token<'_>]) -> Option<Form>
-    ensures { result ≡ const_of dst (shown_tokens tokens.now) }
+    ensures { result ≡ parsed_constant_load dst (shown_tokens tokens.now) }
 {
     let (value, rest) = number(tokens)?;
     let rest = after_word(rest, "ll")?;
@@ -189,9 +189,9 @@ fn constant_load(dst: Reg, tokens: &[Token<'_>]) -> Option<Form>
 }
 
 /// A map's descriptor, after `map_fd`.
-#[tactic(auto, unfolding(crate::specs::inside::Reading::map_fd_of))]
+#[tactic(auto, unfolding(crate::specs::inside::Reading::parsed_map_fd))]
 fn map_fd(dst: Reg, tokens: &[Token<'_>]) -> Option<Form>
-    ensures { result ≡ map_fd_of dst (shown_tokens tokens.now) }
+    ensures { result ≡ parsed_map_fd dst (shown_tokens tokens.now) }
 {
     let (fd, rest) = constant(tokens)?;
     let rest = after_word(rest, "ll")?;
@@ -203,9 +203,9 @@ fn map_fd(dst: Reg, tokens: &[Token<'_>]) -> Option<Form>
 }
 
 /// A map's descriptor and an offset in its value, after `map_value`.
-#[tactic(auto, unfolding(crate::specs::inside::Reading::map_value_of))]
+#[tactic(auto, unfolding(crate::specs::inside::Reading::parsed_map_value))]
 fn map_value(dst: Reg, tokens: &[Token<'_>]) -> Option<Form>
-    ensures { result ≡ map_value_of dst (shown_tokens tokens.now) }
+    ensures { result ≡ parsed_map_value dst (shown_tokens tokens.now) }
 {
     let (fd, rest) = constant(tokens)?;
     let rest = after_symbol(rest, "+")?;
@@ -219,9 +219,9 @@ fn map_value(dst: Reg, tokens: &[Token<'_>]) -> Option<Form>
 }
 
 /// What only a wide register can be given, after `=`.
-#[tactic(auto, unfolding(crate::specs::inside::Reading::wide_of))]
+#[tactic(auto, unfolding(crate::specs::inside::Reading::parsed_wide_move))]
 fn wide_move(dst: Reg, tokens: &[Token<'_>]) -> Option<Form>
-    ensures { result ≡ wide_of dst (shown_tokens tokens.now) }
+    ensures { result ≡ parsed_wide_move dst (shown_tokens tokens.now) }
 {
     if let Some(rest) = after_word(tokens, "map_fd") {
         return map_fd(dst, rest);
@@ -239,9 +239,9 @@ fn wide_move(dst: Reg, tokens: &[Token<'_>]) -> Option<Form>
 }
 
 /// What is no plain operand, after `=`.
-#[tactic(auto, unfolding(crate::specs::inside::Reading::moved_of))]
+#[tactic(auto, unfolding(crate::specs::inside::Reading::parsed_special_move))]
 fn special_move(wide: bool, dst: Reg, tokens: &[Token<'_>]) -> Option<Form>
-    ensures { result ≡ moved_of wide dst (shown_tokens tokens.now) }
+    ensures { result ≡ parsed_special_move wide dst (shown_tokens tokens.now) }
 {
     if let Some(rest) = after_symbol(tokens, "(") {
         return movsx(wide, dst, rest);
@@ -253,9 +253,9 @@ fn special_move(wide: bool, dst: Reg, tokens: &[Token<'_>]) -> Option<Form>
 }
 
 /// An operator and one operand.
-#[tactic(auto, unfolding(crate::specs::inside::Reading::alu_of))]
+#[tactic(auto, unfolding(crate::specs::inside::Reading::parsed_alu))]
 fn alu(wide: bool, op: AluOp, dst: Reg, tokens: &[Token<'_>]) -> Option<Form>
-    ensures { result ≡ alu_of wide op dst (shown_tokens tokens.now) }
+    ensures { result ≡ parsed_alu wide op dst (shown_tokens tokens.now) }
 {
     let Some((src, rest)) = operand(wide, tokens) else {
         return None;
@@ -274,9 +274,9 @@ fn is_move(op: AluOp) -> bool
 }
 
 /// What follows the register that is written.
-#[tactic(auto, unfolding(crate::specs::inside::Reading::assignment_of))]
+#[tactic(auto, unfolding(crate::specs::inside::Reading::parsed_assignment))]
 fn assignment(wide: bool, dst: Reg, tokens: &[Token<'_>]) -> Option<Form>
-    ensures { result ≡ assignment_of wide dst (shown_tokens tokens.now) }
+    ensures { result ≡ parsed_assignment wide dst (shown_tokens tokens.now) }
 {
     let (symbol, rest) = symbol(tokens)?;
     let op = operator(symbol)?;
@@ -290,9 +290,9 @@ fn assignment(wide: bool, dst: Reg, tokens: &[Token<'_>]) -> Option<Form>
     }
 }
 
-#[tactic(auto, unfolding(crate::specs::inside::Reading::assigned_of))]
+#[tactic(auto, unfolding(crate::specs::inside::Reading::parsed_assigned))]
 fn assigned(tokens: &[Token<'_>]) -> Option<Form>
-    ensures { result ≡ assigned_of (shown_tokens tokens.now) }
+    ensures { result ≡ parsed_assigned (shown_tokens tokens.now) }
 {
     let (name, rest) = name(tokens)?;
     let (wide, dst) = register_named(name)?;
@@ -300,27 +300,27 @@ fn assigned(tokens: &[Token<'_>]) -> Option<Form>
 }
 
 /// A jump, after `goto`.
-#[tactic(auto, unfolding(crate::specs::inside::Reading::goto_of))]
+#[tactic(auto, unfolding(crate::specs::inside::Reading::parsed_goto))]
 fn goto<'a>(tokens: &[Token<'a>]) -> Option<(Form, &'a str)>
-    ensures { seen_destination result ≡ goto_of (shown_tokens tokens.now) }
+    ensures { seen_destination result ≡ parsed_goto (shown_tokens tokens.now) }
 {
     let (to, label) = destination(tokens)?;
     Some((Form::Ja { to }, label))
 }
 
 /// A long jump, after `gotol`.
-#[tactic(auto, unfolding(crate::specs::inside::Reading::gotol_of))]
+#[tactic(auto, unfolding(crate::specs::inside::Reading::parsed_gotol))]
 fn gotol<'a>(tokens: &[Token<'a>]) -> Option<(Form, &'a str)>
-    ensures { seen_destination result ≡ gotol_of (shown_tokens tokens.now) }
+    ensures { seen_destination result ≡ parsed_gotol (shown_tokens tokens.now) }
 {
     let (to, label) = destination(tokens)?;
     Some((Form::Jal { to }, label))
 }
 
 /// A call, after `call`.
-#[tactic(auto, unfolding(crate::specs::inside::Reading::call_of))]
+#[tactic(auto, unfolding(crate::specs::inside::Reading::parsed_call))]
 fn call(tokens: &[Token<'_>]) -> Option<Form>
-    ensures { result ≡ call_of (shown_tokens tokens.now) }
+    ensures { result ≡ parsed_call (shown_tokens tokens.now) }
 {
     let (id, rest) = constant(tokens)?;
     if ended(rest) {
@@ -331,9 +331,9 @@ fn call(tokens: &[Token<'_>]) -> Option<Form>
 }
 
 /// An instruction, and the label that its jump names.
-#[tactic(auto, unfolding(crate::specs::inside::Reading::form_of))]
+#[tactic(auto, unfolding(crate::specs::inside::Reading::parsed_form))]
 fn form<'a>(tokens: &[Token<'a>]) -> Option<(Form, &'a str)>
-    ensures { seen_destination result ≡ form_of (shown_tokens tokens.now) }
+    ensures { seen_destination result ≡ parsed_form (shown_tokens tokens.now) }
 {
     if let Some(rest) = after_word(tokens, "if") {
         return jump(rest);
@@ -367,9 +367,9 @@ fn form<'a>(tokens: &[Token<'a>]) -> Option<(Form, &'a str)>
 }
 
 /// The name of the label that the line defines.
-#[tactic(auto, unfolding(crate::specs::inside::Reading::label_of))]
+#[tactic(auto, unfolding(crate::specs::inside::Reading::parsed_label))]
 fn label<'a>(tokens: &[Token<'a>]) -> Option<&'a str>
-    ensures { option_map (λ n. n.now) result ≡ label_of (shown_tokens tokens.now) }
+    ensures { option_map (λ n. n.now) result ≡ parsed_label (shown_tokens tokens.now) }
 {
     let (name, rest) = name(tokens)?;
     let rest = after_symbol(rest, ":")?;

@@ -2,7 +2,7 @@
 
 ghost use Rattle.std.specs.Prelude.{◌≡◌};
 ghost use Rattle.text_line.specs.inside.Shown.{shown_tokens};
-ghost use Rattle.text_line.specs.inside.Reading.{symbol_then, name_then, number_then, after_symbol, after_word, register_then, constant_then, signed_then, operand_then, destination_of, address_then, is_ended, seen, seen_pair, seen_label, seen_destination};
+ghost use Rattle.text_line.specs.inside.Reading.{leading_symbol, leading_name, leading_number, after_symbol, after_word, leading_register, leading_constant, leading_signed_number, leading_operand, parsed_destination, leading_address, is_ended, seen, seen_pair, seen_label, seen_destination};
 
 use crate::form::{Address, JumpTarget, Number, SourceOperand};
 use crate::names::{register_named, size};
@@ -12,7 +12,7 @@ use insn_codec::Reg;
 // ---- one token, and the tokens after it
 
 pub(crate) fn symbol<'t, 'a>(tokens: &'t [Token<'a>]) -> Option<(&'a str, &'t [Token<'a>])>
-    ensures { seen_label result ≡ symbol_then (shown_tokens tokens.now) }
+    ensures { seen_label result ≡ leading_symbol (shown_tokens tokens.now) }
 {
     match tokens.split_first() {
         Some((Token::Symbol(symbol), rest)) => Some((*symbol, rest)),
@@ -21,7 +21,7 @@ pub(crate) fn symbol<'t, 'a>(tokens: &'t [Token<'a>]) -> Option<(&'a str, &'t [T
 }
 
 pub(crate) fn name<'t, 'a>(tokens: &'t [Token<'a>]) -> Option<(&'a str, &'t [Token<'a>])>
-    ensures { seen_label result ≡ name_then (shown_tokens tokens.now) }
+    ensures { seen_label result ≡ leading_name (shown_tokens tokens.now) }
 {
     match tokens.split_first() {
         Some((Token::Name(name), rest)) => Some((*name, rest)),
@@ -30,7 +30,7 @@ pub(crate) fn name<'t, 'a>(tokens: &'t [Token<'a>]) -> Option<(&'a str, &'t [Tok
 }
 
 pub(crate) fn number<'t, 'a>(tokens: &'t [Token<'a>]) -> Option<(Option<u64>, &'t [Token<'a>])>
-    ensures { seen_pair result ≡ number_then (shown_tokens tokens.now) }
+    ensures { seen_pair result ≡ leading_number (shown_tokens tokens.now) }
 {
     match tokens.split_first() {
         Some((Token::Number(value), rest)) => Some((*value, rest)),
@@ -62,12 +62,12 @@ pub(crate) fn after_word<'t, 'a>(tokens: &'t [Token<'a>], expected: &str) -> Opt
 // ---- parts of a line
 
 /// A register, 64 bits wide or its low half.
-#[tactic(auto, unfolding(crate::specs::inside::Reading::register_then))]
+#[tactic(auto, unfolding(crate::specs::inside::Reading::leading_register))]
 pub(crate) fn register<'t, 'a>(
     wide: bool,
     tokens: &'t [Token<'a>],
 ) -> Option<(Reg, &'t [Token<'a>])>
-    ensures { seen_pair result ≡ register_then wide (shown_tokens tokens.now) }
+    ensures { seen_pair result ≡ leading_register wide (shown_tokens tokens.now) }
 {
     let (name, rest) = name(tokens)?;
     let (found, reg) = register_named(name)?;
@@ -79,9 +79,9 @@ pub(crate) fn register<'t, 'a>(
 }
 
 /// A number, behind a minus where there is one.
-#[tactic(auto, unfolding(crate::specs::inside::Reading::constant_then))]
+#[tactic(auto, unfolding(crate::specs::inside::Reading::leading_constant))]
 pub(crate) fn constant<'t, 'a>(tokens: &'t [Token<'a>]) -> Option<(Number, &'t [Token<'a>])>
-    ensures { seen_pair result ≡ constant_then (shown_tokens tokens.now) }
+    ensures { seen_pair result ≡ leading_constant (shown_tokens tokens.now) }
 {
     match after_symbol(tokens, "-") {
         Some(rest) => {
@@ -108,9 +108,9 @@ pub(crate) fn constant<'t, 'a>(tokens: &'t [Token<'a>]) -> Option<(Number, &'t [
 }
 
 /// A number behind its sign.
-#[tactic(auto, unfolding(crate::specs::inside::Reading::signed_then))]
+#[tactic(auto, unfolding(crate::specs::inside::Reading::leading_signed_number))]
 pub(crate) fn signed<'t, 'a>(tokens: &'t [Token<'a>]) -> Option<(Number, &'t [Token<'a>])>
-    ensures { seen_pair result ≡ signed_then (shown_tokens tokens.now) }
+    ensures { seen_pair result ≡ leading_signed_number (shown_tokens tokens.now) }
 {
     match after_symbol(tokens, "+") {
         Some(rest) => {
@@ -138,12 +138,12 @@ pub(crate) fn signed<'t, 'a>(tokens: &'t [Token<'a>]) -> Option<(Number, &'t [To
 }
 
 /// A register or a constant.
-#[tactic(auto, unfolding(crate::specs::inside::Reading::operand_then))]
+#[tactic(auto, unfolding(crate::specs::inside::Reading::leading_operand))]
 pub(crate) fn operand<'t, 'a>(
     wide: bool,
     tokens: &'t [Token<'a>],
 ) -> Option<(SourceOperand, &'t [Token<'a>])>
-    ensures { seen_pair result ≡ operand_then wide (shown_tokens tokens.now) }
+    ensures { seen_pair result ≡ leading_operand wide (shown_tokens tokens.now) }
 {
     match register(wide, tokens) {
         Some((reg, rest)) => Some((SourceOperand::Reg(reg), rest)),
@@ -165,9 +165,9 @@ pub(crate) fn ended(tokens: &[Token<'_>]) -> bool
 }
 
 /// Where a jump leads, and the label's name if it names one. Nothing follows it.
-#[tactic(auto, unfolding(crate::specs::inside::Reading::destination_of))]
+#[tactic(auto, unfolding(crate::specs::inside::Reading::parsed_destination))]
 pub(crate) fn destination<'a>(tokens: &[Token<'a>]) -> Option<(JumpTarget, &'a str)>
-    ensures { seen_destination result ≡ destination_of (shown_tokens tokens.now) }
+    ensures { seen_destination result ≡ parsed_destination (shown_tokens tokens.now) }
 {
     if let Some((number, rest)) = signed(tokens) {
         return if ended(rest) {
@@ -185,9 +185,9 @@ pub(crate) fn destination<'a>(tokens: &[Token<'a>]) -> Option<(JumpTarget, &'a s
 }
 
 /// A place in memory.
-#[tactic(auto, unfolding(crate::specs::inside::Reading::address_then))]
+#[tactic(auto, unfolding(crate::specs::inside::Reading::leading_address))]
 pub(crate) fn address<'t, 'a>(tokens: &'t [Token<'a>]) -> Option<(Address, &'t [Token<'a>])>
-    ensures { seen_pair result ≡ address_then (shown_tokens tokens.now) }
+    ensures { seen_pair result ≡ leading_address (shown_tokens tokens.now) }
 {
     let rest = after_symbol(tokens, "*")?;
     let rest = after_symbol(rest, "(")?;

@@ -39,9 +39,9 @@ use Rattle.tagged_model.specs.Operators.{width, narrow_of, order_of, kept_of, si
 use Rattle.tagged_model.specs.Cells.{and_then}
 use Rattle.tagged_model.specs.Values.{arithmetic, first_operand, of_number, compared}
 use Rattle.tagged_model.specs.State.{RunState, load, store}
-use Rattle.tagged_model.specs.Step.{goes, or_fault, operand, advanced, assigned, changed, branched, ended, act}
+use Rattle.tagged_model.specs.Step.{goes, or_fault, operand_value, advanced, assigned, changed, branched, ended, act}
 use Rattle.insn_codec.specs.Flow.{natural, falls_to, jumps_to}
-use Rattle.transfer.specs.Arithmetic.{readable, arithmetic_kind, of_scalar}
+use Rattle.transfer.specs.Arithmetic.{check_readable, arithmetic_kind, of_scalar}
 use Rattle.transfer.specs.Branches.{Edges, falls, branch_edges}
 use Rattle.transfer.specs.Effects.{assigns, load_kind, store_facts, changed_facts, map_of, value_of, known, exits_with, effect}
 use Rattle.transfer.specs.Calls.{call_facts}
@@ -83,11 +83,11 @@ module _ (laws : Laws) (here : Here) (refused : Bool) (f : Facts) (s : RunState)
   alu_covered : (wide : Bool) (op : AluOp) (dst : ℕ) (src : Operand) → Covered (Alu wide op dst src)
   alu_covered wide op dst src =
       then_covered Next (IsFound here (first_operand op (s.registers dst))) _ _ _ _ (first_found here f s is_known op dst)
-      (λ k v h. then_covered Next (IsFound here (operand s wide src)) _ _ _ _ (source_found here f s is_known wide src)
+      (λ k v h. then_covered Next (IsFound here (operand_value s wide src)) _ _ _ _ (source_found here f s is_known wide src)
       (λ l w g. left_in dst (arithmetic_kind wide op k l) (arithmetic wide op v w) (arithmetic_agrees here laws.results wide op k l v w h.kind g.kind)))
 
   -- an operator of one register
-  one_covered : (wide : Bool) (op : Operator) (dst src : ℕ) (g : ℕ → ℕ) → ((n : ℕ) → operate (width wide) op n n ≡ g n) → IsCoveredIf Next (and_then_ok (readable (kind_at f src)) (λ k. assigns f dst (of_scalar wide op k))) (or_fault (s.registers src) (λ v. or_fault (of_number g v) (assigned 1 s dst)))
+  one_covered : (wide : Bool) (op : Operator) (dst src : ℕ) (g : ℕ → ℕ) → ((n : ℕ) → operate (width wide) op n n ≡ g n) → IsCoveredIf Next (and_then_ok (check_readable (kind_at f src)) (λ k. assigns f dst (of_scalar wide op k))) (or_fault (s.registers src) (λ v. or_fault (of_number g v) (assigned 1 s dst)))
   one_covered wide op dst src g same =
       then_covered Next (IsFound here (s.registers src)) _ _ _ _ (register_found here f s is_known src)
       (λ k v h. left_in dst (of_scalar wide op k) (of_number g v) (number_agrees here laws.results wide op g same k v h.kind))
@@ -105,7 +105,7 @@ module _ (laws : Laws) (here : Here) (refused : Bool) (f : Facts) (s : RunState)
   store_covered : (size : Size) (dst : ℕ) (src : Operand) (off : ℤ) → Covered (Store size dst src off)
   store_covered size dst src off =
       then_covered Next (IsFound here (s.registers dst)) _ _ _ _ (register_found here f s is_known dst)
-      (λ k p h. then_covered Next (IsFound here (operand s true src)) _ _ _ _ (source_found here f s is_known true src)
+      (λ k p h. then_covered Next (IsFound here (operand_value s true src)) _ _ _ _ (source_found here f s is_known true src)
       (λ l v g. then_covered Next (IsStored here s) (store_facts here.shapes f (size_of size) off k l) (store s (size_of size) p off v) falls (λ t. goes (advanced 1 t)) (store_agrees here f s is_known laws.accesses (size_of size) off k l p v h.kind g.kind g.readable) stored_covered))
 
   change_covered : (size : AtomicSize) (op : AtomicOp) (dst src : ℕ) (off : ℤ) → Covered (Atomic size op dst src off)
@@ -117,15 +117,15 @@ module _ (laws : Laws) (here : Here) (refused : Bool) (f : Facts) (s : RunState)
   -- ---- jumps, and the end
 
   -- a conditional jump jumps where its comparison of the values holds
-  jumps_if_compared : (wide : Bool) (cond : Condition) (dst : ℕ) (src : Operand) (off : ℤ) (v w : Tagged) → s.registers dst ≡ Some v → operand s wide src ≡ Some w → takes_jump (Jump wide cond dst src off) s ≡ unwrap_or (compared wide cond src v w) false
+  jumps_if_compared : (wide : Bool) (cond : Condition) (dst : ℕ) (src : Operand) (off : ℤ) (v w : Tagged) → s.registers dst ≡ Some v → operand_value s wide src ≡ Some w → takes_jump (Jump wide cond dst src off) s ≡ unwrap_or (compared wide cond src v w) false
   jumps_if_compared wide cond dst src off v w first second =
-      ap (λ o. unwrap_or (and_then o (λ a. and_then (operand s wide src) (compared wide cond src a))) false) first ∙ ap (λ o. unwrap_or (and_then o (compared wide cond src v)) false) second
+      ap (λ o. unwrap_or (and_then o (λ a. and_then (operand_value s wide src) (compared wide cond src a))) false) first ∙ ap (λ o. unwrap_or (and_then o (compared wide cond src v)) false) second
 
   branches_covered : (wide : Bool) (cond : Condition) (dst : ℕ) (src : Operand) (off : ℤ) → IsSome (natural (pos (s.at + 1) +ℤ off)) → Covered (Jump wide cond dst src off)
   branches_covered wide cond dst src off there =
       let i = Jump wide cond dst src off in
       then_covered (OnTaken i (takes_jump i s)) (IsFound here (s.registers dst)) _ _ _ _ (register_found here f s is_known dst)
-      (λ k v h. then_covered (OnTaken i (takes_jump i s)) (IsFound here (operand s wide src)) _ _ _ _ (source_found here f s is_known wide src)
+      (λ k v h. then_covered (OnTaken i (takes_jump i s)) (IsFound here (operand_value s wide src)) _ _ _ _ (source_found here f s is_known wide src)
       (λ l w g. subst (λ jumps. IsCoveredIf (OnTaken i jumps) (branch_edges wide cond f dst src k l) (or_fault (compared wide cond src v w) (branched s off))) (sym (jumps_if_compared wide cond dst src off v w h.from g.from))
       (branch_covered here laws.comparisons f s is_known off there wide cond dst src k l v w h g)))
 

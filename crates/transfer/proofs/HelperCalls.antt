@@ -8,6 +8,7 @@ use Rattle.std.proofs.lemmas.List.Elements.{All-take, All-drop}
 use Rattle.interval.specs.declared.range.Range.{Range}
 use Rattle.interval.specs.Ranges.{IsMember}
 use Rattle.words.specs.Bytes.{bytes_at}
+use Rattle.words.specs.Stack.{is_in_stack, place}
 use Rattle.reg_kinds.specs.declared.kind.ValuePointer.{ValuePointer}
 use Rattle.reg_kinds.specs.declared.kind.Kind.{Kind}
 use Rattle.reg_kinds.specs.declared.kind.Kind.TheVariants as kind
@@ -16,7 +17,6 @@ use Rattle.reg_kinds.specs.declared.reason.Reason.{Reason}
 use Rattle.reg_kinds.specs.declared.reason.Reason.TheVariants.{LengthUnbounded}
 use Rattle.reg_kinds.specs.Reason.{and_then_ok}
 use Rattle.reg_kinds.specs.Kinds.{kind_at}
-use Rattle.reg_kinds.specs.Stack.{is_in_stack, place}
 use Rattle.reg_kinds.specs.Many.{stack_input, stack_filled, called_facts}
 use Rattle.tagged_model.specs.declared.fault.MapFault.{MapFault}
 use Rattle.tagged_model.specs.declared.fault.MapFault.TheVariants.{NoEntry, TooBig, Memory, Exists, Invalid, NoSpace}
@@ -30,9 +30,10 @@ use Rattle.tagged_model.specs.Table.{look_up, verdict, Verdict, Refused, Present
 use Rattle.tagged_model.specs.Cells.{and_then, cell_over}
 use Rattle.tagged_model.specs.State.{RunState, RunMap, with_map, with_refusal, with_cells, stack_bytes, stack_written, object_bytes, object_written, input, output}
 use Rattle.tagged_model.specs.Helpers.{GivenMap, map_given, number_given, length_given, context_given, argument, map_argument, looked_up, MapReply, put, updated, taken_out, removed, errno, packet_bytes, packet_answer, is_in_packet, negative, outside, returns, replies, called}
-use Rattle.tagged_model.specs.Admits.{Witness, IsOfKind, IsLookup, HasKind, AdmitsBy, objects_of, AreBytes, IsMapOf, HasMaps, AreBelow, witness_at}
+use Rattle.tagged_model.specs.StateInvariant.{AreBytes, IsMapOf, HasMaps}
+use Rattle.tagged_model.specs.Admits.{Witness, IsOfKind, IsLookup, HasKind, AdmitsBy, objects_of, AreBelow, witness_at}
 use Rattle.tagged_model.specs.Laws.{StackInputAdmits, StackOutputAdmits, ObjectReadAdmits, ObjectWriteAdmits, MapCallsKeep, KeepsShape, Describes, MapChangeAdmits, CallAdmits, SiteAdmits}
-use Rattle.transfer.specs.Arithmetic.{readable}
+use Rattle.transfer.specs.Arithmetic.{check_readable}
 use Rattle.tagged_model.specs.Named.{Shapes}
 use Rattle.transfer.specs.declared.calls.ShapedMap.{ShapedMap}
 use Rattle.transfer.specs.Calls.{shaped, map_kind, room_of, input_kind, output_facts, number_kind, length_kind, context_kind, any_number, call_facts}
@@ -48,7 +49,7 @@ also_agree P Q (Ok x) None go on h further = absurd h
 also_agree P Q (Ok x) (Some y) go on h further = further x y h
 
 -- what may be read, without a step of the machine
-readable_agree : {C D : Type 0} (Q : C → D → Type 0) (k : Kind) (go : Kind → Result C Reason) (o : Option D) → (IsReadable k → Agree Q (go k) o) → Agree Q (and_then_ok (readable k) go) o
+readable_agree : {C D : Type 0} (Q : C → D → Type 0) (k : Kind) (go : Kind → Result C Reason) (o : Option D) → (IsReadable k → Agree Q (go k) o) → Agree Q (and_then_ok (check_readable k) go) o
 readable_agree Q kind.Unreadable go o h = tt
 readable_agree Q (kind.Scalar r) go o h = h tt
 readable_agree Q (kind.MapRef m) go o h = h tt

@@ -27,7 +27,7 @@ use Rattle.tagged_model.specs.declared.value.Tagged.TheVariants.{Scalar, Pointer
 use Rattle.tagged_model.specs.Operators.{width, comparison_of}
 use Rattle.tagged_model.specs.Values.{is_null_test, holds_of_pointers, compared}
 use Rattle.tagged_model.specs.State.{RunState, at_slot}
-use Rattle.tagged_model.specs.Step.{goes, or_fault, operand, branched}
+use Rattle.tagged_model.specs.Step.{goes, or_fault, operand_value, branched}
 use Rattle.insn_codec.specs.Flow.{natural}
 use Rattle.tagged_model.specs.Laws.{NullTestAdmits}
 use Rattle.tagged_model.specs.Admits.{IsLookup}
@@ -87,8 +87,8 @@ module _ (here : Here) (laws : Comparisons) (f : Facts) (s : RunState) (known : 
 
   -- ---- numbers
 
-  module _ (wide : Bool) (cond : Condition) (dst : ℕ) (src : Operand) (x y : ℕ) (first : s.registers dst ≡ Some (Scalar x)) (second : operand s wide src ≡ Some (Scalar y)) where
-    source_known : (g : Facts) (src : Operand) (b : Range) → operand s wide src ≡ Some (Scalar y) → IsMember y b → b.hi < 2 ^ 64 → IsKnown here g s → IsKnown here (with_source g src b) s
+  module _ (wide : Bool) (cond : Condition) (dst : ℕ) (src : Operand) (x y : ℕ) (first : s.registers dst ≡ Some (Scalar x)) (second : operand_value s wide src ≡ Some (Scalar y)) where
+    source_known : (g : Facts) (src : Operand) (b : Range) → operand_value s wide src ≡ Some (Scalar y) → IsMember y b → b.hi < 2 ^ 64 → IsKnown here g s → IsKnown here (with_source g src b) s
     source_known g (Imm z) b e m h k = k
     source_known g (Reg n) b e m h k = known_more here g s k n (kind.Scalar b) (Scalar y) e (scalar_of here b y m h)
 
@@ -139,7 +139,7 @@ module _ (here : Here) (laws : Comparisons) (f : Facts) (s : RunState) (known : 
       (λ t. subst (CoveredIf (Ok e)) (sym (ap (compared true cond (Imm z) (Scalar 0)) (zero_of z w t at) ∙ is)) h)
       (λ _. tt)
 
-  null_covered : (site : ℕ) → here.witness.gave site ≡ Scalar 0 → (wide : Bool) (cond : Condition) (src : Operand) (w : Tagged) → operand s wide src ≡ Some w → CoveredIf (edges_if wide cond src (settled_edges (not (holds_of_pointers cond)) site f)) (compared wide cond src (Scalar 0) w)
+  null_covered : (site : ℕ) → here.witness.gave site ≡ Scalar 0 → (wide : Bool) (cond : Condition) (src : Operand) (w : Tagged) → operand_value s wide src ≡ Some w → CoveredIf (edges_if wide cond src (settled_edges (not (holds_of_pointers cond)) site f)) (compared wide cond src (Scalar 0) w)
   null_covered site null true condition.Equal (Imm z) w at =
       let e = settled_edges true site f in
       zero_covered condition.Equal z w e true at refl (by_edges e true (λ _. settled_null site null) (λ t. absurd (false≢true (sym t))))
@@ -157,7 +157,7 @@ module _ (here : Here) (laws : Comparisons) (f : Facts) (s : RunState) (known : 
     pointer_covered null value h =
         let taken = holds_of_pointers cond in tested (is_null_test wide cond src) (null_edges (not taken) null value) taken (value_covered taken null value h)
 
-    lookup_covered : (m site : ℕ) (l : Kind) (v w : Tagged) → v ≡ here.witness.gave site → IsLookup here.witness m v → operand s wide src ≡ Some w → Holds (kind.MaybeValue m site) l v w
+    lookup_covered : (m site : ℕ) (l : Kind) (v w : Tagged) → v ≡ here.witness.gave site → IsLookup here.witness m v → operand_value s wide src ≡ Some w → Holds (kind.MaybeValue m site) l v w
     lookup_covered m site l v w e (inl null) at =
         subst (λ v. Holds (kind.MaybeValue m site) l v w) (sym null) (null_covered site (sym e ∙ null) wide cond src w at)
     lookup_covered m site l v w e (inr start) at =
@@ -166,13 +166,13 @@ module _ (here : Here) (laws : Comparisons) (f : Facts) (s : RunState) (known : 
         not_null : (number : ℕ) → Pointer (object.Value m number) (pos 0) ≡ Scalar 0 → ⊥
         not_null number e = cc
 
-    numbers_held : (a b : Range) (v w : Tagged) → IsFound here (s.registers dst) (kind.Scalar a) v → IsFound here (operand s wide src) (kind.Scalar b) w → Holds (kind.Scalar a) (kind.Scalar b) v w
+    numbers_held : (a b : Range) (v w : Tagged) → IsFound here (s.registers dst) (kind.Scalar a) v → IsFound here (operand_value s wide src) (kind.Scalar b) w → Holds (kind.Scalar a) (kind.Scalar b) v w
     numbers_held a b v w h g =
         by_number here a v (λ v. s.registers dst ≡ Some v → Holds (kind.Scalar a) (kind.Scalar b) v w) h.kind.is
-        (λ x m from. by_number here b w (λ w. operand s wide src ≡ Some w → Holds (kind.Scalar a) (kind.Scalar b) (Scalar x) w) g.kind.is
+        (λ x m from. by_number here b w (λ w. operand_value s wide src ≡ Some w → Holds (kind.Scalar a) (kind.Scalar b) (Scalar x) w) g.kind.is
         (λ y n too. numbers_covered wide cond dst src x y from too a b h.kind.words g.kind.words m n) g.from) h.from
 
-    pub branch_covered : (k l : Kind) (v w : Tagged) → IsFound here (s.registers dst) k v → IsFound here (operand s wide src) l w → Holds k l v w
+    pub branch_covered : (k l : Kind) (v w : Tagged) → IsFound here (s.registers dst) k v → IsFound here (operand_value s wide src) l w → Holds k l v w
     branch_covered kind.Unreadable l v w h g = absurd h.readable
     branch_covered (kind.Scalar a) (kind.Scalar b) v w h g = numbers_held a b v w h g
     branch_covered (kind.MapRef m) l v w h g = subst (λ v. Holds (kind.MapRef m) l v w) (sym h.kind.is) (pointer_covered None (Some f) known)

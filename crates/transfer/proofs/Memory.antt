@@ -8,16 +8,17 @@ use Rattle.std.proofs.lemmas.Option.{slice_get-get_or}
 use Rattle.interval.specs.declared.range.Range.{Range}
 use Rattle.interval.specs.Ranges.{full}
 use Rattle.words.specs.declared.operator.Operator.{Operator}
+use Rattle.words.specs.declared.stack.AccessSize.{AccessSize}
+use Rattle.words.specs.declared.stack.AccessSize.TheVariants.{Word}
+use Rattle.words.specs.Stack.{bytes_of}
 use Rattle.insn_codec.specs.declared.insn.AtomicSize.{AtomicSize}
 use Rattle.insn_codec.specs.declared.insn.AtomicOp.{AtomicOp}
 use Rattle.reg_kinds.specs.declared.kind.Kind.{Kind}
 use Rattle.reg_kinds.specs.declared.kind.Kind.TheVariants as kind
 use Rattle.reg_kinds.specs.declared.facts.Facts.{Facts}
-use Rattle.reg_kinds.specs.declared.stack.AccessSize.{AccessSize}
-use Rattle.reg_kinds.specs.declared.stack.AccessSize.TheVariants.{Word}
 use Rattle.reg_kinds.specs.declared.reason.Reason.TheVariants.{PointerArithmetic, PartOfSpill, ContextAccess, PointerStored, UnalignedAtomic}
-use Rattle.reg_kinds.specs.Stack.{bytes_of, loaded, stack_read, stack_write}
-use Rattle.tagged_model.specs.Admits.{HasMaps}
+use Rattle.reg_kinds.specs.Stack.{loaded, stack_read, stack_write}
+use Rattle.tagged_model.specs.StateInvariant.{HasMaps}
 use Rattle.tagged_model.specs.declared.shape.MapShape.{MapShape}
 use Rattle.reg_kinds.specs.declared.kind.ValuePointer.{ValuePointer}
 use Rattle.reg_kinds.specs.declared.reason.Reason.{Reason}

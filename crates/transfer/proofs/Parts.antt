@@ -8,7 +8,8 @@ use Rattle.reg_kinds.specs.Reason.{and_then_ok}
 use Rattle.tagged_model.specs.declared.value.Tagged.{Tagged}
 use Rattle.tagged_model.specs.State.{RunState, at_slot, with_refusal}
 use Rattle.tagged_model.specs.Step.{Step, goes, ends, faults, or_fault}
-use Rattle.tagged_model.specs.Admits.{Witness, IsOfKind, AdmitsBy, IsInRange, HasMaps}
+use Rattle.tagged_model.specs.StateInvariant.{IsInRange, HasMaps}
+use Rattle.tagged_model.specs.Admits.{Witness, IsOfKind, AdmitsBy}
 use Rattle.tagged_model.specs.Named.{Shapes}
 use Rattle.tagged_model.specs.Laws.{Describes}
 use Rattle.transfer.specs.Branches.{Edges}

@@ -5,6 +5,8 @@ use Rattle.std.proofs.lemmas.Bool.{cond_both}
 use Rattle.interval.specs.declared.range.Range.{Range}
 use Rattle.words.specs.declared.operator.Operator.{Operator}
 use Rattle.words.specs.declared.operator.Operator.TheVariants as on_words
+use Rattle.words.specs.declared.stack.AccessSize.{AccessSize}
+use Rattle.words.specs.declared.stack.AccessSize.TheVariants.{Word}
 use Rattle.interval.specs.Ranges.{is_constant, full}
 use Rattle.insn_codec.specs.declared.insn.AluOp.{AluOp}
 use Rattle.insn_codec.specs.declared.insn.AluOp.TheVariants as alu
@@ -17,27 +19,26 @@ use Rattle.reg_kinds.specs.declared.kind.Kind.TheVariants as kind
 use Rattle.reg_kinds.specs.declared.kind.Slot.{Slot}
 use Rattle.reg_kinds.specs.declared.kind.Slot.TheVariants.{Bytes, Spill}
 use Rattle.reg_kinds.specs.declared.facts.Facts.{Facts}
-use Rattle.reg_kinds.specs.declared.stack.AccessSize.{AccessSize}
-use Rattle.reg_kinds.specs.declared.stack.AccessSize.TheVariants.{Word}
 use Rattle.reg_kinds.specs.declared.reason.Reason.{Reason}
 use Rattle.reg_kinds.specs.declared.reason.Reason.TheVariants.{UnknownHelper, DescriptorNotMap, NoDirectValue, PointerArithmetic, MaybeNull, ContextAccess, PointerComparison, OutsideStack, UnwrittenStack, PartOfSpill, OutsideValue, PointerStored, LengthUnbounded, UnalignedAtomic, Memory}
 use Rattle.reg_kinds.specs.Reason.{and_then_ok}
 use Rattle.reg_kinds.specs.Pointers.{value_span}
 use Rattle.reg_kinds.specs.Kinds.{is_pointer, kind_at, slot_at, with_kind, with_slot}
-use Rattle.reg_kinds.specs.Stack.{bytes_of, is_whole, is_in_stack, is_aligned, place, touched, loaded, read_slot, stack_read, slot_written, facts_written, stack_write}
+use Rattle.reg_kinds.specs.Stack.{touched, loaded, read_slot, stack_read, slot_written, facts_written, stack_write}
 use Rattle.tagged_model.specs.Operators.{operator_of, narrow_of, order_of, kept_of, size_of, atomic_size}
 use Rattle.tagged_model.specs.Values.{is_null_test}
 use Rattle.tagged_model.specs.Cells.{and_then}
 use Rattle.transfer.specs.declared.arithmetic.Direction.{Direction}
 use Rattle.transfer.specs.declared.arithmetic.Direction.TheVariants.{Forwards, Backwards}
-use Rattle.transfer.specs.Arithmetic.{readable, near, stack_moved, value_by, distance, moved_offset, pointer_moved, is_maybe, of_scalars, of_scalar, sum_kind, difference_kind, unless_maybe, arithmetic_kind}
+use Rattle.transfer.specs.Arithmetic.{check_readable, near, stack_moved, value_by, distance, moved_offset, pointer_moved, is_maybe, of_scalars, of_scalar, sum_kind, difference_kind, unless_maybe, arithmetic_kind}
 use Rattle.transfer.specs.Branches.{Edges, falls, pointer_edges, branch_edges}
 use Rattle.transfer.specs.Effects.{source_kind, first_kind, assigns, is_word, context_read, load_kind, stored_outside, store_facts, number_or, stack_changed, is_known_multiple, value_changed, changed_facts, map_of, value_of, known, exits_with, effect}
-use Rattle.transfer.specs.Reasons.{IsOfOperands, IsReasonOf, TransferReasons}
+use Rattle.transfer.specs.Reasons.{IsSafetyReason, IsReasonOf, TransferReasons}
 use Rattle.transfer.specs.Calls.{shaped, map_kind, room_of, input_kind, output_facts, number_kind, length_kind, context_kind, any_number, call_facts}
 use Rattle.words.specs.Words.{unsigned}
+use Rattle.words.specs.Stack.{bytes_of, is_whole, is_in_stack, place, is_aligned, touches}
 use Rattle.reg_kinds.specs.declared.kind.ValuePointer.{ValuePointer}
-use Rattle.reg_kinds.specs.Many.{touches, bits_in, any_below, is_touched_spill, lacks, stack_input, filled}
+use Rattle.reg_kinds.specs.Many.{bits_in, any_below, is_touched_spill, lacks, stack_input, filled}
 use Rattle.tagged_model.specs.declared.helper.Helper.{Helper}
 use Rattle.tagged_model.specs.declared.helper.Helper.TheVariants.{LookUp, Update, Delete, LoadBytes}
 use Rattle.tagged_model.specs.declared.shape.MapShape.{MapShape}
@@ -48,7 +49,7 @@ use Rattle.tagged_model.specs.Helpers.{helper_of}
 -- what is refused is refused by a rule on operands
 abbrev ByRule : {A : Type 0} → Result A Reason → Type 0
 ByRule (Ok x) = Unit {0}
-ByRule (Err reason) = IsOfOperands reason
+ByRule (Err reason) = IsSafetyReason reason
 
 then_rule : {A B : Type 0} (r : Result A Reason) (go : A → Result B Reason) → ByRule r → ((x : A) → ByRule (go x)) → ByRule (and_then_ok r go)
 then_rule (Ok x) go h next = next x
@@ -56,7 +57,7 @@ then_rule (Err reason) go h next = h
 
 -- ---- operands
 
-readable_rule : (k : Kind) → ByRule (readable k)
+readable_rule : (k : Kind) → ByRule (check_readable k)
 readable_rule kind.Unreadable = tt
 readable_rule k = tt
 
@@ -152,7 +153,7 @@ store_rule shapes f size off (kind.Value p) v =
     (λ _. cond_both (is_pointer v) (Err PointerStored) (Ok f) ByRule (λ _. tt) (λ _. tt))
 store_rule shapes f size off k v = tt
 
-number_or_rule : (reason : Reason) (v : Kind) → IsOfOperands reason → ByRule (number_or reason v)
+number_or_rule : (reason : Reason) (v : Kind) → IsSafetyReason reason → ByRule (number_or reason v)
 number_or_rule reason (kind.Scalar r) h = tt
 number_or_rule reason v h = h
 
@@ -207,19 +208,19 @@ context_kind_rule k = tt
 
 call_rule : (shapes : Shapes) (at : ℕ) (h : Helper) (f : Facts) → ByRule (call_facts shapes at h f)
 call_rule shapes at LookUp f =
-    then_rule (readable (kind_at f 1)) _ (readable_rule (kind_at f 1)) (λ a. then_rule (readable (kind_at f 2)) _ (readable_rule (kind_at f 2))
+    then_rule (check_readable (kind_at f 1)) _ (readable_rule (kind_at f 1)) (λ a. then_rule (check_readable (kind_at f 2)) _ (readable_rule (kind_at f 2))
     (λ b. then_rule (map_kind shapes a) _ (map_kind_rule shapes a) (λ m. then_rule (input_kind shapes f m.shape.key_size b) _ (input_rule shapes f m.shape.key_size b) (λ _. tt))))
 call_rule shapes at Update f =
-    then_rule (readable (kind_at f 1)) _ (readable_rule (kind_at f 1)) (λ a. then_rule (readable (kind_at f 2)) _ (readable_rule (kind_at f 2))
-    (λ b. then_rule (readable (kind_at f 3)) _ (readable_rule (kind_at f 3)) (λ c. then_rule (readable (kind_at f 4)) _ (readable_rule (kind_at f 4))
+    then_rule (check_readable (kind_at f 1)) _ (readable_rule (kind_at f 1)) (λ a. then_rule (check_readable (kind_at f 2)) _ (readable_rule (kind_at f 2))
+    (λ b. then_rule (check_readable (kind_at f 3)) _ (readable_rule (kind_at f 3)) (λ c. then_rule (check_readable (kind_at f 4)) _ (readable_rule (kind_at f 4))
     (λ d. then_rule (map_kind shapes a) _ (map_kind_rule shapes a) (λ m. then_rule (input_kind shapes f m.shape.key_size b) _ (input_rule shapes f m.shape.key_size b)
     (λ _. then_rule (input_kind shapes f m.shape.value_size c) _ (input_rule shapes f m.shape.value_size c) (λ _. then_rule (number_kind d) _ (number_rule d) (λ _. tt))))))))
 call_rule shapes at Delete f =
-    then_rule (readable (kind_at f 1)) _ (readable_rule (kind_at f 1)) (λ a. then_rule (readable (kind_at f 2)) _ (readable_rule (kind_at f 2))
+    then_rule (check_readable (kind_at f 1)) _ (readable_rule (kind_at f 1)) (λ a. then_rule (check_readable (kind_at f 2)) _ (readable_rule (kind_at f 2))
     (λ b. then_rule (map_kind shapes a) _ (map_kind_rule shapes a) (λ m. then_rule (input_kind shapes f m.shape.key_size b) _ (input_rule shapes f m.shape.key_size b) (λ _. tt))))
 call_rule shapes at LoadBytes f =
-    then_rule (readable (kind_at f 1)) _ (readable_rule (kind_at f 1)) (λ a. then_rule (readable (kind_at f 2)) _ (readable_rule (kind_at f 2))
-    (λ b. then_rule (readable (kind_at f 3)) _ (readable_rule (kind_at f 3)) (λ c. then_rule (readable (kind_at f 4)) _ (readable_rule (kind_at f 4))
+    then_rule (check_readable (kind_at f 1)) _ (readable_rule (kind_at f 1)) (λ a. then_rule (check_readable (kind_at f 2)) _ (readable_rule (kind_at f 2))
+    (λ b. then_rule (check_readable (kind_at f 3)) _ (readable_rule (kind_at f 3)) (λ c. then_rule (check_readable (kind_at f 4)) _ (readable_rule (kind_at f 4))
     (λ d. then_rule (context_kind a) _ (context_kind_rule a) (λ _. then_rule (number_kind b) _ (number_rule b)
     (λ _. then_rule (length_kind d) _ (length_rule d) (λ r. then_rule (output_facts shapes f r c) _ (output_rule shapes f r c) (λ _. tt))))))))
 
@@ -240,14 +241,14 @@ module _ (shapes : Shapes) (at : ℕ) (f : Facts) where
   assigns_rule : (dst : ℕ) (r : Result Kind Reason) → ByRule r → ByRule (assigns f dst r)
   assigns_rule dst r h = then_rule r (λ k. falls (with_kind f dst k)) h (λ k. tt)
 
-  register_rule : (r : ℕ) (go : Kind → Result Edges Reason) → ((k : Kind) → ByRule (go k)) → ByRule (and_then_ok (readable (kind_at f r)) go)
-  register_rule r go next = then_rule (readable (kind_at f r)) go (readable_rule (kind_at f r)) next
+  register_rule : (r : ℕ) (go : Kind → Result Edges Reason) → ((k : Kind) → ByRule (go k)) → ByRule (and_then_ok (check_readable (kind_at f r)) go)
+  register_rule r go next = then_rule (check_readable (kind_at f r)) go (readable_rule (kind_at f r)) next
 
-  operand_rule : (wide : Bool) (src : Operand) (go : Kind → Result Edges Reason) → ((k : Kind) → ByRule (go k)) → ByRule (and_then_ok (readable (source_kind f wide src)) go)
-  operand_rule wide src go next = then_rule (readable (source_kind f wide src)) go (readable_rule (source_kind f wide src)) next
+  operand_rule : (wide : Bool) (src : Operand) (go : Kind → Result Edges Reason) → ((k : Kind) → ByRule (go k)) → ByRule (and_then_ok (check_readable (source_kind f wide src)) go)
+  operand_rule wide src go next = then_rule (check_readable (source_kind f wide src)) go (readable_rule (source_kind f wide src)) next
 
   -- an operator of one register
-  one_rule : (wide : Bool) (op : Operator) (dst src : ℕ) → ByRule (and_then_ok (readable (kind_at f src)) (λ k. assigns f dst (of_scalar wide op k)))
+  one_rule : (wide : Bool) (op : Operator) (dst src : ℕ) → ByRule (and_then_ok (check_readable (kind_at f src)) (λ k. assigns f dst (of_scalar wide op k)))
   one_rule wide op dst src = register_rule src _ (λ k. assigns_rule dst (of_scalar wide op k) (numbers_rule wide op k k))
 
   -- an instruction that names neither a function nor a map
@@ -286,7 +287,7 @@ module _ (shapes : Shapes) (at : ℕ) (f : Facts) where
   Tells i (Ok edges) = Unit {0}
   Tells i (Err reason) = IsReasonOf shapes i reason
 
-  of_operands : (i : Insn) (reason : Reason) → IsOfOperands reason → IsReasonOf shapes i reason
+  of_operands : (i : Insn) (reason : Reason) → IsSafetyReason reason → IsReasonOf shapes i reason
   of_operands i UnknownHelper h = absurd h
   of_operands i DescriptorNotMap h = absurd h
   of_operands i NoDirectValue h = absurd h

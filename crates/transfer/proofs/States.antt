@@ -19,9 +19,9 @@ use Rattle.tagged_model.specs.declared.value.Tagged.TheVariants.{Scalar}
 use Rattle.tagged_model.specs.Operators.{width}
 use Rattle.tagged_model.specs.Values.{first_operand}
 use Rattle.tagged_model.specs.State.{RunState, set_at, at_slot, with_register}
-use Rattle.tagged_model.specs.Step.{operand, assigned}
+use Rattle.tagged_model.specs.Step.{operand_value, assigned}
 use Rattle.tagged_model.specs.Admits.{IsOfKind, HasKind}
-use Rattle.transfer.specs.Arithmetic.{readable}
+use Rattle.transfer.specs.Arithmetic.{check_readable}
 use Rattle.transfer.specs.Branches.{falls}
 use Rattle.transfer.specs.Effects.{source_kind, first_kind}
 use Rattle.transfer.specs.Sound.{IsKindAt, EdgeAdmits}
@@ -57,15 +57,15 @@ module _ (here : Here) where
   there : (o : Option Tagged) (k : Kind) (v : Tagged) → o ≡ Some v → IsReadable k → IsOfKind here.witness k v → IsKindAt here.slot k → Agree (IsFound here o) (Ok k) o
   there o k v e r h w = subst (Agree (IsFound here o) (Ok k)) (sym e) (record { kind = record { is = h; words = w }; from = e; readable = r })
 
-  pub found : (o : Option Tagged) (k : Kind) → HasKind here.witness k o → IsKindAt here.slot k → Agree (IsFound here o) (readable k) o
+  pub found : (o : Option Tagged) (k : Kind) → HasKind here.witness k o → IsKindAt here.slot k → Agree (IsFound here o) (check_readable k) o
   found o kind.Unreadable h w = tt
   found o k h w = there o k h.0 h.1 tt h.2 w
 
   module _ (f : Facts) (s : RunState) (known : IsKnown here f s) where
-    pub register_found : (r : ℕ) → Agree (IsFound here (s.registers r)) (readable (kind_at f r)) (s.registers r)
+    pub register_found : (r : ℕ) → Agree (IsFound here (s.registers r)) (check_readable (kind_at f r)) (s.registers r)
     register_found r = found (s.registers r) (kind_at f r) (known.admits.registers r) (known.words.registers r)
 
-    pub source_found : (wide : Bool) (src : Operand) → Agree (IsFound here (operand s wide src)) (readable (source_kind f wide src)) (operand s wide src)
+    pub source_found : (wide : Bool) (src : Operand) → Agree (IsFound here (operand_value s wide src)) (check_readable (source_kind f wide src)) (operand_value s wide src)
     source_found wide (Imm z) = let k = constant_of here (unsigned (width wide) z) (word_of wide z) in record { kind = k; from = refl; readable = tt }
     source_found wide (Reg r) = register_found r
 

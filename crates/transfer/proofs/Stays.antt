@@ -6,6 +6,8 @@ use Rattle.std.proofs.lemmas.Bool.{cond_both}
 use Rattle.interval.specs.declared.range.Range.{Range}
 use Rattle.words.specs.declared.operator.Operator.{Operator}
 use Rattle.words.specs.declared.operator.Operator.TheVariants as on_words
+use Rattle.words.specs.declared.stack.AccessSize.{AccessSize}
+use Rattle.words.specs.declared.stack.AccessSize.TheVariants.{Word}
 use Rattle.interval.specs.Ranges.{is_constant, full}
 use Rattle.interval.specs.Refine.{RangePair, refined}
 use Rattle.interval.specs.Laws.{ResultsAreWords, EdgesAreWords, IsPairOfWords}
@@ -24,15 +26,14 @@ use Rattle.insn_codec.specs.Spelling.{IsInsn}
 use Rattle.reg_kinds.specs.declared.kind.Kind.{Kind}
 use Rattle.reg_kinds.specs.declared.kind.Kind.TheVariants as kind
 use Rattle.reg_kinds.specs.declared.facts.Facts.{Facts}
-use Rattle.reg_kinds.specs.declared.stack.AccessSize.{AccessSize}
-use Rattle.reg_kinds.specs.declared.stack.AccessSize.TheVariants.{Word}
 use Rattle.reg_kinds.specs.declared.reason.Reason.{Reason}
 use Rattle.reg_kinds.specs.declared.reason.Reason.TheVariants.{NoDirectValue, PointerArithmetic, PartOfSpill, MaybeNull, ContextAccess, PointerComparison, PointerStored, UnalignedAtomic}
 use Rattle.reg_kinds.specs.Reason.{and_then_ok}
 use Rattle.reg_kinds.specs.Pointers.{value_span}
 use Rattle.reg_kinds.specs.Kinds.{is_pointer, kind_at, with_kind}
-use Rattle.reg_kinds.specs.Stack.{bytes_of, loaded, stack_read, stack_write}
+use Rattle.reg_kinds.specs.Stack.{loaded, stack_read, stack_write}
 use Rattle.words.specs.Words.{unsigned}
+use Rattle.words.specs.Stack.{bytes_of}
 use Rattle.tagged_model.specs.declared.helper.Helper.{Helper}
 use Rattle.tagged_model.specs.declared.helper.Helper.TheVariants.{LookUp, Update, Delete, LoadBytes}
 use Rattle.tagged_model.specs.declared.shape.MapShape.{MapShape}
@@ -44,7 +45,7 @@ use Rattle.tagged_model.specs.Values.{is_null_test, holds_of_pointers}
 use Rattle.tagged_model.specs.Cells.{and_then}
 use Rattle.transfer.specs.declared.arithmetic.Direction.{Direction}
 use Rattle.transfer.specs.declared.arithmetic.Direction.TheVariants.{Forwards, Backwards}
-use Rattle.transfer.specs.Arithmetic.{readable, near, stack_moved, value_by, distance, moved_offset, pointer_moved, is_maybe, of_scalars, of_scalar, sum_kind, difference_kind, unless_maybe, arithmetic_kind}
+use Rattle.transfer.specs.Arithmetic.{check_readable, near, stack_moved, value_by, distance, moved_offset, pointer_moved, is_maybe, of_scalars, of_scalar, sum_kind, difference_kind, unless_maybe, arithmetic_kind}
 use Rattle.transfer.specs.Branches.{Edges, falls, with_source, with_pair, is_same, number_edges, null_edges, pointer_edges, branch_edges}
 use Rattle.transfer.specs.Effects.{source_kind, first_kind, assigns, is_word, context_read, load_kind, stored_outside, store_facts, number_or, stack_changed, is_known_multiple, value_changed, changed_facts, map_of, value_of, known, exits_with, effect}
 use Rattle.transfer.specs.Calls.{map_kind, room_of, input_kind, output_facts, number_kind, length_kind, context_kind, any_number, call_facts}
@@ -76,7 +77,7 @@ module _ (bound : ℕ) (shapes : Shapes) (at : ℕ) (lt : at < bound) where
 
   -- ---- operands
 
-  readable_words : (k : Kind) → IsKindAt bound k → OkIs (IsKindAt bound) (readable k)
+  readable_words : (k : Kind) → IsKindAt bound k → OkIs (IsKindAt bound) (check_readable k)
   readable_words kind.Unreadable h = tt
   readable_words k h = h
 
@@ -175,22 +176,22 @@ module _ (bound : ℕ) (shapes : Shapes) (at : ℕ) (lt : at < bound) where
 
   call_words : (h : Helper) (f : Facts) → AreWellFormedAt bound f → OkIs (AreWellFormedAt bound) (call_facts shapes at h f)
   call_words LookUp f is =
-      past (AreWellFormedAt bound) (readable (kind_at f 1)) _ (λ a. past (AreWellFormedAt bound) (readable (kind_at f 2)) _
+      past (AreWellFormedAt bound) (check_readable (kind_at f 1)) _ (λ a. past (AreWellFormedAt bound) (check_readable (kind_at f 2)) _
       (λ b. past (AreWellFormedAt bound) (map_kind shapes a) _ (λ m. past (AreWellFormedAt bound) (input_kind shapes f m.shape.key_size b) _
       (λ _. called_words bound f (kind.MaybeValue m.descriptor at) is lt))))
   call_words Update f is =
-      past (AreWellFormedAt bound) (readable (kind_at f 1)) _ (λ a. past (AreWellFormedAt bound) (readable (kind_at f 2)) _
-      (λ b. past (AreWellFormedAt bound) (readable (kind_at f 3)) _ (λ c. past (AreWellFormedAt bound) (readable (kind_at f 4)) _
+      past (AreWellFormedAt bound) (check_readable (kind_at f 1)) _ (λ a. past (AreWellFormedAt bound) (check_readable (kind_at f 2)) _
+      (λ b. past (AreWellFormedAt bound) (check_readable (kind_at f 3)) _ (λ c. past (AreWellFormedAt bound) (check_readable (kind_at f 4)) _
       (λ d. past (AreWellFormedAt bound) (map_kind shapes a) _ (λ m. past (AreWellFormedAt bound) (input_kind shapes f m.shape.key_size b) _
       (λ _. past (AreWellFormedAt bound) (input_kind shapes f m.shape.value_size c) _ (λ _. past (AreWellFormedAt bound) (number_kind d) _
       (λ _. called_words bound f any_number is number_words_any))))))))
   call_words Delete f is =
-      past (AreWellFormedAt bound) (readable (kind_at f 1)) _ (λ a. past (AreWellFormedAt bound) (readable (kind_at f 2)) _
+      past (AreWellFormedAt bound) (check_readable (kind_at f 1)) _ (λ a. past (AreWellFormedAt bound) (check_readable (kind_at f 2)) _
       (λ b. past (AreWellFormedAt bound) (map_kind shapes a) _ (λ m. past (AreWellFormedAt bound) (input_kind shapes f m.shape.key_size b) _
       (λ _. called_words bound f any_number is number_words_any))))
   call_words LoadBytes f is =
-      past (AreWellFormedAt bound) (readable (kind_at f 1)) _ (λ a. past (AreWellFormedAt bound) (readable (kind_at f 2)) _
-      (λ b. past (AreWellFormedAt bound) (readable (kind_at f 3)) _ (λ c. past (AreWellFormedAt bound) (readable (kind_at f 4)) _
+      past (AreWellFormedAt bound) (check_readable (kind_at f 1)) _ (λ a. past (AreWellFormedAt bound) (check_readable (kind_at f 2)) _
+      (λ b. past (AreWellFormedAt bound) (check_readable (kind_at f 3)) _ (λ c. past (AreWellFormedAt bound) (check_readable (kind_at f 4)) _
       (λ d. past (AreWellFormedAt bound) (context_kind a) _ (λ _. past (AreWellFormedAt bound) (number_kind b) _
       (λ _. past (AreWellFormedAt bound) (length_kind d) _
       (λ r. then_ok (AreWellFormedAt bound) (AreWellFormedAt bound) (output_facts shapes f r c) _ (output_words f r c is)
@@ -248,11 +249,11 @@ module _ (bound : ℕ) (shapes : Shapes) (at : ℕ) (lt : at < bound) where
     assigns_words dst r is = then_ok (IsKindAt bound) AreFactsBoth r (λ k. falls (with_kind f dst k)) is (λ k small. falls_words (with_kind f dst k) (kind_words bound f dst k h small))
 
     -- from the kind of a register that may be read
-    register_words : (r : ℕ) (go : Kind → Result Edges Reason) → ((k : Kind) → IsKindAt bound k → OkIs AreFactsBoth (go k)) → OkIs AreFactsBoth (and_then_ok (readable (kind_at f r)) go)
-    register_words r go next = then_ok (IsKindAt bound) AreFactsBoth (readable (kind_at f r)) go (readable_words (kind_at f r) (h.registers r)) next
+    register_words : (r : ℕ) (go : Kind → Result Edges Reason) → ((k : Kind) → IsKindAt bound k → OkIs AreFactsBoth (go k)) → OkIs AreFactsBoth (and_then_ok (check_readable (kind_at f r)) go)
+    register_words r go next = then_ok (IsKindAt bound) AreFactsBoth (check_readable (kind_at f r)) go (readable_words (kind_at f r) (h.registers r)) next
 
-    operand_words : (wide : Bool) (src : Operand) (go : Kind → Result Edges Reason) → ((k : Kind) → IsKindAt bound k → OkIs AreFactsBoth (go k)) → OkIs AreFactsBoth (and_then_ok (readable (source_kind f wide src)) go)
-    operand_words wide src go next = then_ok (IsKindAt bound) AreFactsBoth (readable (source_kind f wide src)) go (readable_words (source_kind f wide src) (source_words f wide src h)) next
+    operand_words : (wide : Bool) (src : Operand) (go : Kind → Result Edges Reason) → ((k : Kind) → IsKindAt bound k → OkIs AreFactsBoth (go k)) → OkIs AreFactsBoth (and_then_ok (check_readable (source_kind f wide src)) go)
+    operand_words wide src go next = then_ok (IsKindAt bound) AreFactsBoth (check_readable (source_kind f wide src)) go (readable_words (source_kind f wide src) (source_words f wide src h)) next
 
     ends_words : (k : Kind) → OkIs AreFactsBoth (exits_with k)
     ends_words (kind.Scalar r) = (tt, tt)
@@ -265,7 +266,7 @@ module _ (bound : ℕ) (shapes : Shapes) (at : ℕ) (lt : at < bound) where
         (λ b too. assigns_words dst (arithmetic_kind wide op a b) (arithmetic_words laws wide op a b small too)))
 
     -- an operator of one register
-    one_words : (wide : Bool) (op : Operator) (dst src : ℕ) → OkIs AreFactsBoth (and_then_ok (readable (kind_at f src)) (λ k. assigns f dst (of_scalar wide op k)))
+    one_words : (wide : Bool) (op : Operator) (dst src : ℕ) → OkIs AreFactsBoth (and_then_ok (check_readable (kind_at f src)) (λ k. assigns f dst (of_scalar wide op k)))
     one_words wide op dst src = register_words src _ (λ k small. assigns_words dst (of_scalar wide op k) (numbers_words laws wide op k k small small))
 
     jump_words : (wide : Bool) (cond : Condition) (dst : ℕ) (src : Operand) (off : ℤ) → OkIs AreFactsBoth (effect shapes at (Jump wide cond dst src off) f)

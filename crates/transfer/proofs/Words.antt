@@ -9,15 +9,16 @@ use Rattle.reg_kinds.specs.declared.kind.Kind.TheVariants as kind
 use Rattle.reg_kinds.specs.declared.kind.Slot.{Slot}
 use Rattle.reg_kinds.specs.declared.kind.Slot.TheVariants.{Bytes, Spill}
 use Rattle.reg_kinds.specs.declared.facts.Facts.{Facts}
-use Rattle.reg_kinds.specs.declared.stack.AccessSize.{AccessSize}
-use Rattle.reg_kinds.specs.declared.stack.AccessSize.TheVariants.{Byte, Half, Word, Double}
+use Rattle.words.specs.declared.stack.AccessSize.{AccessSize}
+use Rattle.words.specs.declared.stack.AccessSize.TheVariants.{Byte, Half, Word, Double}
+use Rattle.words.specs.Stack.{bytes_of, is_whole, is_in_stack, place, is_aligned, touches}
 use Rattle.reg_kinds.specs.declared.reason.Reason.TheVariants.{OutsideStack, UnwrittenStack, PartOfSpill}
 use Rattle.reg_kinds.specs.Kinds.{is_pointer, kind_at, slot_at, with_kind, with_slot}
-use Rattle.reg_kinds.specs.Stack.{bytes_of, is_whole, is_in_stack, is_aligned, place, byte_bits, touched, loaded, read_slot, stack_read, bytes_over, slot_written, facts_written, stack_write}
-use Rattle.reg_kinds.specs.Many.{touches, bits_in, filled, stack_filled, call_kind, called_facts}
+use Rattle.reg_kinds.specs.Stack.{byte_bits, touched, loaded, read_slot, stack_read, bytes_over, slot_written, facts_written, stack_write}
+use Rattle.reg_kinds.specs.Many.{bits_in, filled, stack_filled, call_kind, called_facts}
 use Rattle.reg_kinds.specs.Settle.{settled_value, kind_settled, settled_spill, slot_settled, facts_settled}
 use Rattle.reg_kinds.specs.TableLaws.{in_table, in_set}
-use Rattle.reg_kinds.specs.StackLaws.{bits_in_small}
+use Rattle.reg_kinds.specs.BitLaws.{bits_in_small}
 use Rattle.transfer.specs.Sound.{IsKindAt, IsSlotAt, AreWellFormedAt}
 use Rattle.transfer.proofs.Parts.{OkIs, then_ok}
 

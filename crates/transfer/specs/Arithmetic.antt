@@ -21,9 +21,9 @@ use Rattle.tagged_model.specs.Values.{is_near}
 use Rattle.tagged_model.specs.Cells.{and_then}
 
 -- a value that may be read
-abbrev pub readable : Kind → Result Kind Reason
-readable Unreadable = Err UnreadableRegister
-readable k = Ok k
+abbrev pub check_readable : Kind → Result Kind Reason
+check_readable Unreadable = Err UnreadableRegister
+check_readable k = Ok k
 
 -- ---- how far a number moves a pointer: its range, read as signed, if all of it has one sign
 

@@ -17,7 +17,7 @@ use Rattle.tagged_model.specs.declared.helper.Helper.TheVariants.{LookUp, Update
 use Rattle.tagged_model.specs.declared.shape.MapShape.{MapShape}
 use Rattle.tagged_model.specs.Named.{Shapes}
 use Rattle.transfer.specs.declared.calls.ShapedMap.{ShapedMap}
-use Rattle.transfer.specs.Arithmetic.{readable}
+use Rattle.transfer.specs.Arithmetic.{check_readable}
 
 abbrev pub shaped : ℕ → Option MapShape → Result ShapedMap Reason
 shaped m None = Err HelperArgument
@@ -59,10 +59,10 @@ context_kind k = Err HelperArgument
 
 -- registers from 1 on that may be read
 abbrev pub readable_two : Facts → (Kind → Kind → Result Facts Reason) → Result Facts Reason
-readable_two f go = and_then_ok (readable (kind_at f 1)) (λ a. and_then_ok (readable (kind_at f 2)) (λ b. go a b))
+readable_two f go = and_then_ok (check_readable (kind_at f 1)) (λ a. and_then_ok (check_readable (kind_at f 2)) (λ b. go a b))
 
 abbrev pub readable_four : Facts → (Kind → Kind → Kind → Kind → Result Facts Reason) → Result Facts Reason
-readable_four f go = readable_two f (λ a b. and_then_ok (readable (kind_at f 3)) (λ c. and_then_ok (readable (kind_at f 4)) (λ d. go a b c d)))
+readable_four f go = readable_two f (λ a b. and_then_ok (check_readable (kind_at f 3)) (λ c. and_then_ok (check_readable (kind_at f 4)) (λ d. go a b c d)))
 
 abbrev pub any_number : Kind
 any_number = kind.Scalar (full 64)

@@ -3,8 +3,11 @@
 use Rattle.std.specs.Prelude.{ℕ, ◌*◌, ◌%◌, ℤ, pos, negsuc, ◌+ℤ◌, ◌==◌, unsigned_abs, Bool, true, false, ◌&&◌, nat_lt, if◌then◌else◌, Option, Some, None, Result, Ok, Err}
 use Rattle.std.specs.Ordering.{int_eq}
 use Rattle.words.specs.declared.operator.Operator.TheVariants as on_words
+use Rattle.words.specs.declared.stack.AccessSize.{AccessSize}
+use Rattle.words.specs.declared.stack.AccessSize.TheVariants.{Word}
 use Rattle.interval.specs.Ranges.{constant, full}
 use Rattle.words.specs.Words.{unsigned}
+use Rattle.words.specs.Stack.{bytes_of}
 use Rattle.insn_codec.specs.declared.insn.AluOp.{AluOp}
 use Rattle.insn_codec.specs.declared.insn.AluOp.TheVariants as alu
 use Rattle.insn_codec.specs.declared.insn.Operand.{Operand}
@@ -15,14 +18,12 @@ use Rattle.reg_kinds.specs.declared.kind.Kind.{Kind}
 use Rattle.reg_kinds.specs.declared.kind.Kind.TheVariants as kind
 use Rattle.reg_kinds.specs.declared.kind.ValuePointer.{ValuePointer}
 use Rattle.reg_kinds.specs.declared.facts.Facts.{Facts}
-use Rattle.reg_kinds.specs.declared.stack.AccessSize.{AccessSize}
-use Rattle.reg_kinds.specs.declared.stack.AccessSize.TheVariants.{Word}
 use Rattle.reg_kinds.specs.declared.reason.Reason.{Reason}
 use Rattle.reg_kinds.specs.declared.reason.Reason.TheVariants.{UnknownHelper, DescriptorNotMap, NoDirectValue, ResultNotScalar, NotPointer, PointerArithmetic, PartOfSpill, MaybeNull, ContextAccess, PointerStored, UnalignedAtomic}
 use Rattle.reg_kinds.specs.Reason.{and_then_ok}
 use Rattle.reg_kinds.specs.Kinds.{is_pointer, kind_at, with_kind}
 use Rattle.reg_kinds.specs.Pointers.{value_span}
-use Rattle.reg_kinds.specs.Stack.{bytes_of, loaded, stack_read, stack_write}
+use Rattle.reg_kinds.specs.Stack.{loaded, stack_read, stack_write}
 use Rattle.tagged_model.specs.declared.helper.Helper.{Helper}
 use Rattle.tagged_model.specs.declared.shape.MapShape.{MapShape}
 use Rattle.tagged_model.specs.Helpers.{helper_of}
@@ -30,7 +31,7 @@ use Rattle.tagged_model.specs.Named.{Shapes}
 use Rattle.tagged_model.specs.Table.{has_direct_value}
 use Rattle.tagged_model.specs.Operators.{width, narrow_of, order_of, kept_of, size_of, atomic_size}
 use Rattle.tagged_model.specs.State.{context_words}
-use Rattle.transfer.specs.Arithmetic.{readable, arithmetic_kind, of_scalar}
+use Rattle.transfer.specs.Arithmetic.{check_readable, arithmetic_kind, of_scalar}
 use Rattle.transfer.specs.Branches.{Edges, falls, ends, branch_edges}
 use Rattle.transfer.specs.Calls.{room_of, any_number, call_facts}
 
@@ -44,7 +45,7 @@ source_kind f wide (Reg r) = kind_at f r
 -- a move does not read its destination
 abbrev pub first_kind : AluOp → Kind → Result Kind Reason
 first_kind alu.Mov k = Ok (kind.Scalar (constant 0))
-first_kind op k = readable k
+first_kind op k = check_readable k
 
 -- the register is given a value of this kind
 abbrev pub assigns : Facts → ℕ → Result Kind Reason → Result Edges Reason
@@ -125,28 +126,28 @@ exits_with (kind.Scalar r) = ends
 exits_with k = Err ResultNotScalar
 
 abbrev pub exit_edges : Facts → Result Edges Reason
-exit_edges f = and_then_ok (readable (kind_at f 0)) exits_with
+exit_edges f = and_then_ok (check_readable (kind_at f 0)) exits_with
 
 -- ---- operators
 
 abbrev pub operator_edges : Bool → AluOp → ℕ → Operand → Facts → Result Edges Reason
-operator_edges wide op dst src f = and_then_ok (first_kind op (kind_at f dst)) (λ a. and_then_ok (readable (source_kind f wide src)) (λ b. assigns f dst (arithmetic_kind wide op a b)))
+operator_edges wide op dst src f = and_then_ok (first_kind op (kind_at f dst)) (λ a. and_then_ok (check_readable (source_kind f wide src)) (λ b. assigns f dst (arithmetic_kind wide op a b)))
 
 -- ---- each instruction, at a slot
 
 abbrev pub effect : Shapes → ℕ → Insn → Facts → Result Edges Reason
 effect shapes at (Alu wide op dst src) f = operator_edges wide op dst src f
-effect shapes at (Movsx m) f = and_then_ok (readable (kind_at f m.src)) (λ k. assigns f m.dst (of_scalar m.wide (on_words.SignExtend (narrow_of m.bits)) k))
-effect shapes at (Neg wide dst) f = and_then_ok (readable (kind_at f dst)) (λ k. assigns f dst (of_scalar wide on_words.Neg k))
-effect shapes at (End how kept dst) f = and_then_ok (readable (kind_at f dst)) (λ k. assigns f dst (of_scalar true (on_words.End (order_of how) (kept_of kept)) k))
+effect shapes at (Movsx m) f = and_then_ok (check_readable (kind_at f m.src)) (λ k. assigns f m.dst (of_scalar m.wide (on_words.SignExtend (narrow_of m.bits)) k))
+effect shapes at (Neg wide dst) f = and_then_ok (check_readable (kind_at f dst)) (λ k. assigns f dst (of_scalar wide on_words.Neg k))
+effect shapes at (End how kept dst) f = and_then_ok (check_readable (kind_at f dst)) (λ k. assigns f dst (of_scalar true (on_words.End (order_of how) (kept_of kept)) k))
 effect shapes at (Ja off) f = Ok (record { falling = None; jumping = Some f })
 effect shapes at (Jal off) f = Ok (record { falling = None; jumping = Some f })
-effect shapes at (Jump wide cond dst src off) f = and_then_ok (readable (kind_at f dst)) (λ a. and_then_ok (readable (source_kind f wide src)) (λ b. branch_edges wide cond f dst src a b))
+effect shapes at (Jump wide cond dst src off) f = and_then_ok (check_readable (kind_at f dst)) (λ a. and_then_ok (check_readable (source_kind f wide src)) (λ b. branch_edges wide cond f dst src a b))
 effect shapes at (Call id) f = and_then_ok (known (helper_of id)) (λ h. and_then_ok (call_facts shapes at h f) falls)
 effect shapes at Exit f = exit_edges f
-effect shapes at (Load l) f = and_then_ok (readable (kind_at f l.src)) (λ k. assigns f l.dst (load_kind shapes f (size_of l.size) l.signed l.off k))
-effect shapes at (Store size dst src off) f = and_then_ok (readable (kind_at f dst)) (λ k. and_then_ok (readable (source_kind f true src)) (λ v. and_then_ok (store_facts shapes f (size_of size) off k v) falls))
-effect shapes at (Atomic size op dst src off) f = and_then_ok (readable (kind_at f dst)) (λ k. and_then_ok (readable (kind_at f src)) (λ v. and_then_ok (changed_facts shapes f (atomic_size size) off k v) falls))
+effect shapes at (Load l) f = and_then_ok (check_readable (kind_at f l.src)) (λ k. assigns f l.dst (load_kind shapes f (size_of l.size) l.signed l.off k))
+effect shapes at (Store size dst src off) f = and_then_ok (check_readable (kind_at f dst)) (λ k. and_then_ok (check_readable (source_kind f true src)) (λ v. and_then_ok (store_facts shapes f (size_of size) off k v) falls))
+effect shapes at (Atomic size op dst src off) f = and_then_ok (check_readable (kind_at f dst)) (λ k. and_then_ok (check_readable (kind_at f src)) (λ v. and_then_ok (changed_facts shapes f (atomic_size size) off k v) falls))
 effect shapes at (Const dst value) f = falls (with_kind f dst (kind.Scalar (constant value)))
 effect shapes at (MapFd dst fd) f = assigns f dst (map_of (unsigned 32 fd) (shapes (unsigned 32 fd)))
 effect shapes at (MapValue dst fd off) f = assigns f dst (value_of (unsigned 32 fd) off (shapes (unsigned 32 fd)))

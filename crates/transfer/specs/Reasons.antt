@@ -1,8 +1,9 @@
 -- Why an instruction may be refused. This project's own.
 use Rattle.std.specs.Prelude.{◌≡◌, ℕ, false, None, Some, Err}
-use Rattle.words.specs.Words.{unsigned}
 use Rattle.insn_codec.specs.declared.insn.Insn.{Insn}
-use Rattle.insn_codec.specs.declared.insn.Insn.TheVariants.{Call, MapFd, MapValue}
+use Rattle.insn_codec.specs.declared.profile.Reference.{Reference}
+use Rattle.insn_codec.specs.declared.profile.Reference.TheVariants as names
+use Rattle.insn_codec.specs.Profile.{profile}
 use Rattle.reg_kinds.specs.declared.facts.Facts.{Facts}
 use Rattle.reg_kinds.specs.declared.reason.Reason.{Reason}
 use Rattle.reg_kinds.specs.declared.reason.Reason.TheVariants.{JumpOutside, JumpBackward, FallsOff, Unreachable, UnknownHelper, FramePointerWritten, DescriptorNotOpen, DescriptorNotMap, NoDirectValue, Memory}
@@ -13,41 +14,46 @@ use Rattle.tagged_model.specs.Table.{has_direct_value}
 use Rattle.transfer.specs.Effects.{effect}
 
 -- a reason that what is known of the operands gives: neither the shape of the program nor memory
-abbrev pub IsOfOperands : Reason → Type 0
-IsOfOperands JumpOutside = ⊥
-IsOfOperands JumpBackward = ⊥
-IsOfOperands FallsOff = ⊥
-IsOfOperands Unreachable = ⊥
-IsOfOperands UnknownHelper = ⊥
-IsOfOperands FramePointerWritten = ⊥
-IsOfOperands DescriptorNotOpen = ⊥
-IsOfOperands DescriptorNotMap = ⊥
-IsOfOperands NoDirectValue = ⊥
-IsOfOperands Memory = ⊥
-IsOfOperands reason = Unit {0}
+abbrev pub IsSafetyReason : Reason → Type 0
+IsSafetyReason JumpOutside = ⊥
+IsSafetyReason JumpBackward = ⊥
+IsSafetyReason FallsOff = ⊥
+IsSafetyReason Unreachable = ⊥
+IsSafetyReason UnknownHelper = ⊥
+IsSafetyReason FramePointerWritten = ⊥
+IsSafetyReason DescriptorNotOpen = ⊥
+IsSafetyReason DescriptorNotMap = ⊥
+IsSafetyReason NoDirectValue = ⊥
+IsSafetyReason Memory = ⊥
+IsSafetyReason reason = Unit {0}
 
--- it calls a function that is not known
-abbrev pub CallsUnknown : Insn → Type 0
-CallsUnknown (Call id) = helper_of id ≡ None
-CallsUnknown i = ⊥
+-- what an instruction names is a function that is not known
+abbrev pub IsUnknownHelper : Reference → Type 0
+IsUnknownHelper names.Nothing = ⊥
+IsUnknownHelper (names.Helper id) = helper_of id ≡ None
+IsUnknownHelper (names.Map fd) = ⊥
+IsUnknownHelper (names.Value fd off) = ⊥
 
--- it loads a map, or a value of one, by a descriptor that has no shape
-abbrev pub LoadsUnshaped : Shapes → Insn → Type 0
-LoadsUnshaped shapes (MapFd dst fd) = shapes (unsigned 32 fd) ≡ None
-LoadsUnshaped shapes (MapValue dst fd off) = shapes (unsigned 32 fd) ≡ None
-LoadsUnshaped shapes i = ⊥
+-- a map, or a value of one, by a descriptor that has no shape
+abbrev pub IsUnshapedMap : Shapes → Reference → Type 0
+IsUnshapedMap shapes names.Nothing = ⊥
+IsUnshapedMap shapes (names.Helper id) = ⊥
+IsUnshapedMap shapes (names.Map fd) = shapes fd ≡ None
+IsUnshapedMap shapes (names.Value fd off) = shapes fd ≡ None
 
--- it loads a value directly that the map does not have
-abbrev pub LoadsNoValue : Shapes → Insn → Type 0
-LoadsNoValue shapes (MapValue dst fd off) = (shape : MapShape) × (shapes (unsigned 32 fd) ≡ Some shape) × (has_direct_value shape off ≡ false)
-LoadsNoValue shapes i = ⊥
+-- a value that the map does not have
+abbrev pub IsNoValue : Shapes → Reference → Type 0
+IsNoValue shapes names.Nothing = ⊥
+IsNoValue shapes (names.Helper id) = ⊥
+IsNoValue shapes (names.Map fd) = ⊥
+IsNoValue shapes (names.Value fd off) = (shape : MapShape) × (shapes fd ≡ Some shape) × (has_direct_value shape off ≡ false)
 
 -- what an instruction names is not there, or what is known of its operands gives the reason
 abbrev pub IsReasonOf : Shapes → Insn → Reason → Type 0
-IsReasonOf shapes i UnknownHelper = CallsUnknown i
-IsReasonOf shapes i DescriptorNotMap = LoadsUnshaped shapes i
-IsReasonOf shapes i NoDirectValue = LoadsNoValue shapes i
-IsReasonOf shapes i reason = IsOfOperands reason
+IsReasonOf shapes i UnknownHelper = IsUnknownHelper (profile i).reference
+IsReasonOf shapes i DescriptorNotMap = IsUnshapedMap shapes (profile i).reference
+IsReasonOf shapes i NoDirectValue = IsNoValue shapes (profile i).reference
+IsReasonOf shapes i reason = IsSafetyReason reason
 
 -- an instruction is refused for such a reason
 abbrev pub TransferReasons : Type 0

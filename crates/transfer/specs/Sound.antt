@@ -13,7 +13,7 @@ use Rattle.reg_kinds.specs.Kinds.{kind_at, slot_at}
 use Rattle.tagged_model.specs.Cells.{and_then}
 use Rattle.tagged_model.specs.Values.{compared}
 use Rattle.tagged_model.specs.State.{RunState}
-use Rattle.tagged_model.specs.Step.{Step, goes, ends, faults, operand, act}
+use Rattle.tagged_model.specs.Step.{Step, goes, ends, faults, operand_value, act}
 use Rattle.tagged_model.specs.Admits.{Witness, AreBelow}
 use Rattle.tagged_model.specs.declared.helper.Helper.{Helper}
 use Rattle.tagged_model.specs.Helpers.{called}
@@ -45,7 +45,7 @@ pub record AreWellFormedAt (n : ℕ) (f : Facts) : Type 0 where
 abbrev pub takes_jump : Insn → RunState → Bool
 takes_jump (Ja off) s = true
 takes_jump (Jal off) s = true
-takes_jump (Jump wide cond dst src off) s = unwrap_or (and_then (s.registers dst) (λ a. and_then (operand s wide src) (λ b. compared wide cond src a b))) false
+takes_jump (Jump wide cond dst src off) s = unwrap_or (and_then (s.registers dst) (λ a. and_then (operand_value s wide src) (λ b. compared wide cond src a b))) false
 takes_jump i s = false
 
 -- ---- the state after a step

@@ -4,7 +4,7 @@ ghost use Rattle.std.specs.Prelude.{◌≡◌, ◌≤ℤ◌, ◌+ℤ◌, ◌-ℤ
 ghost use Rattle.transfer.specs.declared.arithmetic.Direction.TheVariants.{Forwards, Backwards};
 ghost use Rattle.interval.specs.Table.{range_of};
 ghost use Rattle.tagged_model.specs.Operators.{width};
-ghost use Rattle.transfer.specs.Arithmetic.{readable, distance, moved_offset, stack_moved, value_by, value_moved, pointer_moved, is_maybe, of_scalars, sum_kind, difference_kind, arithmetic_kind, of_scalar};
+ghost use Rattle.transfer.specs.Arithmetic.{check_readable, distance, moved_offset, stack_moved, value_by, value_moved, pointer_moved, is_maybe, of_scalars, sum_kind, difference_kind, arithmetic_kind, of_scalar};
 
 use insn_codec::AluOp;
 use interval::{Range, alu32, alu64};
@@ -24,8 +24,8 @@ pub(crate) enum Direction {
 
 /// A value that may be read.
 #[inline(always)]
-pub(crate) fn readable(kind: Kind) -> Result<Kind, Reason>
-    ensures { result ≡ readable kind }
+pub(crate) fn check_readable(kind: Kind) -> Result<Kind, Reason>
+    ensures { result ≡ check_readable kind }
 {
     match kind {
         Kind::Unreadable => Err(Reason::UnreadableRegister),

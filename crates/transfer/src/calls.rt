@@ -6,7 +6,7 @@ ghost use Rattle.tagged_model.specs.declared.helper.Helper.TheVariants.{LookUp, 
 ghost use Rattle.reg_kinds.specs.declared.reason.Reason.TheVariants.{OutsideValue};
 ghost use Rattle.transfer.specs.Calls.{map_kind, room_of, input_kind, output_facts, number_kind, length_kind, context_kind, any_number, call_facts};
 
-use crate::arithmetic::readable;
+use crate::arithmetic::check_readable;
 use interval::Range;
 use reg_kinds::{Facts, Kind, Reason, ValuePointer, fill_stack, read_many};
 use tagged_model::{Helper, MapShape, Named, shape_of};
@@ -102,7 +102,7 @@ fn output(facts: &mut Facts, named: &[Named], length: Range, kind: Kind) -> Resu
 }
 
 /// The range of an argument that is a number.
-fn number(kind: Kind) -> Result<Range, Reason>
+fn check_number(kind: Kind) -> Result<Range, Reason>
     ensures { result ≡ number_kind kind }
 {
     match kind {
@@ -112,7 +112,7 @@ fn number(kind: Kind) -> Result<Range, Reason>
 }
 
 /// The range of an argument that is a length: it is not 0, and below 2^29.
-fn length(kind: Kind) -> Result<Range, Reason>
+fn check_length(kind: Kind) -> Result<Range, Reason>
     ensures value { result ≡ length_kind kind }
     ensures bound { IfOk result (λ r. r.hi < 2 ^ 29) }
 {
@@ -127,7 +127,7 @@ fn length(kind: Kind) -> Result<Range, Reason>
 }
 
 /// Whether an argument is the context.
-fn context(kind: Kind) -> Result<(), Reason>
+fn check_context(kind: Kind) -> Result<(), Reason>
     ensures { result ≡ context_kind kind }
 {
     match kind {
@@ -151,15 +151,15 @@ fn look_up(facts: &mut Facts, named: &[Named], slot: usize) -> Result<(), Reason
         facts.old ≡ Err reason) }
     ensures stays { OnErr result (facts.new ≡ facts.old) }
 {
-    let first = readable(facts.kind(1))?;
-    let key = readable(facts.kind(2))?;
+    let first = check_readable(facts.kind(1))?;
+    let key = check_readable(facts.kind(2))?;
     let map = map_kind(named, first)?;
     input(named, facts, map.shape.key_size, key)?;
     let found = Kind::MaybeValue {
         map: map.descriptor,
         site: slot,
     };
-    reg_kinds::call(facts, found);
+    reg_kinds::facts_after_call(facts, found);
     Ok(())
 }
 
@@ -171,15 +171,15 @@ fn update(facts: &mut Facts, named: &[Named], slot: usize) -> Result<(), Reason>
         facts.old ≡ Err reason) }
     ensures stays { OnErr result (facts.new ≡ facts.old) }
 {
-    let first = readable(facts.kind(1))?;
-    let key = readable(facts.kind(2))?;
-    let value = readable(facts.kind(3))?;
-    let flags = readable(facts.kind(4))?;
+    let first = check_readable(facts.kind(1))?;
+    let key = check_readable(facts.kind(2))?;
+    let value = check_readable(facts.kind(3))?;
+    let flags = check_readable(facts.kind(4))?;
     let map = map_kind(named, first)?;
     input(named, facts, map.shape.key_size, key)?;
     input(named, facts, map.shape.value_size, value)?;
-    number(flags)?;
-    reg_kinds::call(facts, any_number());
+    check_number(flags)?;
+    reg_kinds::facts_after_call(facts, any_number());
     Ok(())
 }
 
@@ -191,11 +191,11 @@ fn delete(facts: &mut Facts, named: &[Named], slot: usize) -> Result<(), Reason>
         facts.old ≡ Err reason) }
     ensures stays { OnErr result (facts.new ≡ facts.old) }
 {
-    let first = readable(facts.kind(1))?;
-    let key = readable(facts.kind(2))?;
+    let first = check_readable(facts.kind(1))?;
+    let key = check_readable(facts.kind(2))?;
     let map = map_kind(named, first)?;
     input(named, facts, map.shape.key_size, key)?;
-    reg_kinds::call(facts, any_number());
+    reg_kinds::facts_after_call(facts, any_number());
     Ok(())
 }
 
@@ -207,15 +207,15 @@ fn load_bytes(facts: &mut Facts, named: &[Named], slot: usize) -> Result<(), Rea
         facts.old ≡ Err reason) }
     ensures stays { OnErr result (facts.new ≡ facts.old) }
 {
-    let first = readable(facts.kind(1))?;
-    let offset = readable(facts.kind(2))?;
-    let to = readable(facts.kind(3))?;
-    let count = readable(facts.kind(4))?;
-    context(first)?;
-    number(offset)?;
-    let bytes = length(count)?;
+    let first = check_readable(facts.kind(1))?;
+    let offset = check_readable(facts.kind(2))?;
+    let to = check_readable(facts.kind(3))?;
+    let count = check_readable(facts.kind(4))?;
+    check_context(first)?;
+    check_number(offset)?;
+    let bytes = check_length(count)?;
     output(facts, named, bytes, to)?;
-    reg_kinds::call(facts, any_number());
+    reg_kinds::facts_after_call(facts, any_number());
     Ok(())
 }
 

@@ -2,12 +2,12 @@
 
 ghost use Rattle.std.specs.Prelude.{◌≡◌, ◌<◌, ℕ, pos, IfSome, Some, None, if◌then◌else◌, ◌+ℤ◌, ◌%◌, ◌==◌, unsigned_abs, false, IfOk, IfErr, OnErr, OnOk, Ok, Err};
 ghost use Rattle.words.specs.Words.{unsigned};
+ghost use Rattle.words.specs.Stack.{bytes_of, is_in_stack};
 ghost use Rattle.tagged_model.specs.Operators.{width, size_of, atomic_size};
 ghost use Rattle.tagged_model.specs.Shape.{longest_value};
 ghost use Rattle.transfer.specs.Arithmetic.{arithmetic_kind, of_scalar};
 ghost use Rattle.transfer.specs.Branches.{branch_edges, ends, falls};
 ghost use Rattle.transfer.specs.Effects.{source_kind, first_kind, is_word, context_read, load_kind, store_facts, number_or, stack_changed, is_known_multiple, changed_facts, map_of, value_of, exit_edges, operator_edges, effect};
-ghost use Rattle.reg_kinds.specs.Stack.{bytes_of, is_in_stack};
 ghost use Rattle.reg_kinds.specs.declared.reason.Reason.TheVariants.{OutsideStack, PointerStored};
 ghost use Rattle.tagged_model.specs.Named.{shapes_named};
 ghost use Rattle.transfer.specs.Flows.{edges_of};
@@ -15,17 +15,17 @@ ghost use Rattle.reg_kinds.specs.Kinds.{is_pointer, kind_at, with_kind};
 ghost use Rattle.reg_kinds.specs.declared.kind.Kind.TheVariants.{Scalar};
 ghost use Rattle.transfer.specs.declared.branches.Flow.TheVariants.{Falls};
 
-use crate::arithmetic::{arithmetic, of_scalar, readable, result_range};
+use crate::arithmetic::{arithmetic, check_readable, of_scalar, result_range};
 use crate::branches::{Flow, branch};
 use crate::calls::{behind, call, room_of};
 use insn_codec::{AluOp, AtomicSize, Insn, Load, Movsx, Operand, Reg, Size};
 use interval::Range;
-use reg_kinds::{AccessSize, Facts, Kind, Reason, ValuePointer, loaded, read_stack, write_stack};
+use reg_kinds::{Facts, Kind, Reason, ValuePointer, loaded, read_stack, write_stack};
 use tagged_model::{
     CONTEXT_WORDS, Named, access_size, byte_order, kept_bits, known_helper, narrow, operator,
     shape_of,
 };
-use words::Operator;
+use words::{AccessSize, Operator};
 
 /// The bytes of the context.
 const CONTEXT_SIZE: i16 = 4 * CONTEXT_WORDS as i16;
@@ -59,7 +59,7 @@ fn first(op: AluOp, kind: Kind) -> Result<Kind, Reason>
 {
     match op {
         AluOp::Mov => Ok(Kind::Scalar(Range::constant(0))),
-        _ => readable(kind),
+        _ => check_readable(kind),
     }
 }
 
@@ -305,7 +305,7 @@ fn operate_on_any(
     ensures stays { OnErr result (facts.new ≡ facts.old) }
 {
     let a = first(op, facts.kind(usize::from(dst.number())))?;
-    let b = readable(source(facts, wide, &src))?;
+    let b = check_readable(source(facts, wide, &src))?;
     let kind = arithmetic(wide, op, a, b)?;
     facts.set_kind(usize::from(dst.number()), kind);
     Ok(())
@@ -320,7 +320,7 @@ fn operate(facts: &mut Facts, wide: bool, op: AluOp, dst: Reg, src: Operand) -> 
     ensures stays { OnErr result (facts.new ≡ facts.old) }
 {
     if wide && op == AluOp::Mov {
-        let kind = readable(source(facts, wide, &src))?;
+        let kind = check_readable(source(facts, wide, &src))?;
         facts.set_kind(usize::from(dst.number()), kind);
         return Ok(());
     }
@@ -339,7 +339,7 @@ fn exit(facts: &Facts) -> Result<(), Reason>
     ensures ok { OnOk result (exit_edges facts.now ≡ ends) }
     ensures refused { IfErr result (λ reason. exit_edges facts.now ≡ Err reason) }
 {
-    match readable(facts.kind(0))? {
+    match check_readable(facts.kind(0))? {
         Kind::Scalar(_) => Ok(()),
         _ => Err(Reason::ResultNotScalar),
     }
@@ -379,17 +379,17 @@ pub fn apply(
                 src,
             },
         ) => {
-            let from = readable(facts.kind(usize::from(src.number())))?;
+            let from = check_readable(facts.kind(usize::from(src.number())))?;
             let kind = of_scalar(wide, Operator::SignExtend { from: narrow(bits) }, from)?;
             Ok(assign(facts, dst, kind))
         }
         Insn::Neg { wide, dst } => {
-            let from = readable(facts.kind(usize::from(dst.number())))?;
+            let from = check_readable(facts.kind(usize::from(dst.number())))?;
             let kind = of_scalar(wide, Operator::Neg, from)?;
             Ok(assign(facts, dst, kind))
         }
         Insn::End { how, bits, dst } => {
-            let from = readable(facts.kind(usize::from(dst.number())))?;
+            let from = check_readable(facts.kind(usize::from(dst.number())))?;
             let op = Operator::End {
                 how: byte_order(how),
                 bits: kept_bits(bits),
@@ -405,8 +405,8 @@ pub fn apply(
             src,
             ..
         } => {
-            let a = readable(facts.kind(usize::from(dst.number())))?;
-            let b = readable(source(facts, wide, &src))?;
+            let a = check_readable(facts.kind(usize::from(dst.number())))?;
+            let b = check_readable(source(facts, wide, &src))?;
             branch(facts, taken, wide, cond, dst, src, a, b)
         }
         Insn::Call { id } => {
@@ -427,7 +427,7 @@ pub fn apply(
                 off,
             },
         ) => {
-            let base = readable(facts.kind(usize::from(src.number())))?;
+            let base = check_readable(facts.kind(usize::from(src.number())))?;
             let kind = load(facts, named, size, signed, off, base)?;
             Ok(assign(facts, dst, kind))
         }
@@ -437,8 +437,8 @@ pub fn apply(
             src,
             off,
         } => {
-            let base = readable(facts.kind(usize::from(dst.number())))?;
-            let value = readable(source(facts, true, &src))?;
+            let base = check_readable(facts.kind(usize::from(dst.number())))?;
+            let value = check_readable(source(facts, true, &src))?;
             store(facts, named, size, off, base, value)?;
             Ok(Flow::Falls)
         }
@@ -449,8 +449,8 @@ pub fn apply(
             off,
             ..
         } => {
-            let base = readable(facts.kind(usize::from(dst.number())))?;
-            let value = readable(facts.kind(usize::from(src.number())))?;
+            let base = check_readable(facts.kind(usize::from(dst.number())))?;
+            let value = check_readable(facts.kind(usize::from(src.number())))?;
             change(facts, named, size, off, base, value)?;
             Ok(Flow::Falls)
         }

@@ -10,35 +10,28 @@ ghost use Rattle.transfer.specs.Effects.{effect};
 ghost use Rattle.transfer.specs.Reasons.{TransferReasons};
 ghost use Rattle.transfer.specs.Sound.{TransferIsSound, TransferKeepsWellFormed, CallsAreSound};
 
-use interval::{edges_are_words, edges_keep_members, results_are_members, results_are_words};
-use tagged_model::{
-    call_admits, map_calls_keep, map_change_admits, null_test_admits, object_read_admits,
-    object_write_admits, site_admits, stack_input_admits, stack_output_admits, stack_read_admits,
-    stack_write_admits, value_load_admits, value_store_admits,
-};
-
 /// Where facts admit a state and let an instruction be run, its step on tagged values is no fault, and the facts on the edge
 /// that it takes admit the state after it.
 pub fn transfer_is_sound()
     ensures { TransferIsSound }
 {
-    edges_are_words();
-    edges_keep_members();
-    results_are_members();
-    results_are_words();
-    null_test_admits();
-    stack_read_admits();
-    stack_write_admits();
-    value_load_admits();
-    value_store_admits();
-    stack_input_admits();
-    stack_output_admits();
-    object_read_admits();
-    object_write_admits();
-    map_calls_keep();
-    map_change_admits();
-    call_admits();
-    site_admits();
+    interval::laws::edges_are_words();
+    interval::laws::edges_keep_members();
+    interval::laws::results_are_members();
+    interval::laws::results_are_words();
+    tagged_model::laws::null_test_admits();
+    tagged_model::laws::stack_read_admits();
+    tagged_model::laws::stack_write_admits();
+    tagged_model::laws::value_load_admits();
+    tagged_model::laws::value_store_admits();
+    tagged_model::laws::stack_input_admits();
+    tagged_model::laws::stack_output_admits();
+    tagged_model::laws::object_read_admits();
+    tagged_model::laws::object_write_admits();
+    tagged_model::laws::map_calls_keep();
+    tagged_model::laws::map_change_admits();
+    tagged_model::laws::call_admits();
+    tagged_model::laws::site_admits();
 }
 
 /// The facts that an instruction leaves are facts before each later slot, where those before it are facts before its own:
@@ -46,8 +39,8 @@ pub fn transfer_is_sound()
 pub fn transfer_keeps_well_formed()
     ensures { TransferKeepsWellFormed }
 {
-    edges_are_words();
-    results_are_words();
+    interval::laws::edges_are_words();
+    interval::laws::results_are_words();
 }
 
 /// An instruction is refused for an unknown function only where it calls one, for what is no map only where it loads one
@@ -69,12 +62,12 @@ pub fn effects_need_no_memory()
 pub fn calls_are_sound()
     ensures { CallsAreSound }
 {
-    stack_input_admits();
-    stack_output_admits();
-    object_read_admits();
-    object_write_admits();
-    map_calls_keep();
-    map_change_admits();
-    call_admits();
-    site_admits();
+    tagged_model::laws::stack_input_admits();
+    tagged_model::laws::stack_output_admits();
+    tagged_model::laws::object_read_admits();
+    tagged_model::laws::object_write_admits();
+    tagged_model::laws::map_calls_keep();
+    tagged_model::laws::map_change_admits();
+    tagged_model::laws::call_admits();
+    tagged_model::laws::site_admits();
 }

@@ -20,7 +20,7 @@ use Rattle.reg_kinds.specs.Kinds.{entry, kind_at}
 use Rattle.reg_kinds.specs.Laws.{FactsCommute, FactsAssociate}
 use Rattle.tagged_model.specs.Cells.{and_then}
 use Rattle.tagged_model.specs.Named.{Shapes}
-use Rattle.transfer.specs.Arithmetic.{readable}
+use Rattle.transfer.specs.Arithmetic.{check_readable}
 use Rattle.transfer.specs.Branches.{Edges}
 use Rattle.transfer.specs.Effects.{effect, exits_with}
 use Rattle.insn_codec.specs.Flow.{falls_to, jumps_to, falls, jumps, jump_target}
@@ -67,7 +67,7 @@ module _ (shapes : Shapes) where
   fall_is : (at : ℕ) (i : Insn) (f : Facts) (b : Bool) → only_if b (falling_of (effect shapes at i f)) ≡ only_if (falls i && b) (falling_of (effect shapes at i f))
   fall_is at (Ja off) f b = on_none b
   fall_is at (Jal off) f b = on_none b
-  fall_is at Exit f b = no_fall b b (falling_of (effect shapes at Exit f)) (sym (given_end_falls (readable (kind_at f 0))))
+  fall_is at Exit f b = no_fall b b (falling_of (effect shapes at Exit f)) (sym (given_end_falls (check_readable (kind_at f 0))))
   fall_is at (Alu wide op dst src) f b = refl
   fall_is at (Movsx m) f b = refl
   fall_is at (Neg wide dst) f b = refl

@@ -6,9 +6,11 @@ use Rattle.std.specs.List.{All, AllByRecursion, list_any, filter_map, cons_optio
 use Rattle.std.proofs.lemmas.Bool.{eq-eqb, ne_eqb, cond-false, true≢false, or_left, or_right}
 use Rattle.std.proofs.lemmas.Option.{none-some, same_Some}
 use Rattle.std.proofs.lemmas.List.Elements.{All-cons, All-filter}
-use Rattle.words.specs.Words.{unsigned}
 use Rattle.insn_codec.specs.declared.insn.Insn.{Insn}
-use Rattle.insn_codec.specs.declared.insn.Insn.TheVariants.{Call, MapFd, MapValue}
+use Rattle.insn_codec.specs.declared.profile.Reference.{Reference}
+use Rattle.insn_codec.specs.declared.profile.Reference.TheVariants as names
+use Rattle.insn_codec.specs.Profile.{profile}
+use Rattle.insn_codec.specs.Flow.{descriptor_by, descriptor}
 use Rattle.insn_codec.specs.Program.{begins_at}
 use Rattle.insn_codec.specs.BeginLaws.{each_where_it_begins, all_that_begin}
 use Rattle.reg_kinds.specs.declared.facts.Facts.{Facts}
@@ -23,8 +25,8 @@ use Rattle.tagged_model.specs.Table.{has_direct_value}
 use Rattle.tagged_model.specs.Named.{Shapes, target_of, shape_in, shapes_named}
 use Rattle.transfer.specs.Branches.{Edges}
 use Rattle.transfer.specs.Effects.{effect}
-use Rattle.transfer.specs.Reasons.{CallsUnknown, LoadsUnshaped, LoadsNoValue, IsReasonOf, TransferReasons}
-use Rattle.verdict.specs.Shape.{calls_unknown, is_map, descriptor, is_not_open, is_not_map, lacks_value, shape_fault}
+use Rattle.transfer.specs.Reasons.{IsUnknownHelper, IsUnshapedMap, IsNoValue, IsReasonOf, TransferReasons}
+use Rattle.verdict.specs.Shape.{is_unknown_helper, is_map, is_not_open, is_not_map, is_no_value, structure_fault}
 use Rattle.verdict.specs.Before.{facts_before}
 use Rattle.verdict.specs.Maps.{without, distinct, maps_of, is_among, entries_of, shapes_of}
 use Rattle.verdict.specs.Verdict.{reason_of, safety_fault, HasNoFault}
@@ -78,7 +80,7 @@ shaped_target None h g = absurd (true≢false h)
 shaped_target (Some (target.Map shape)) h g = refl
 shaped_target (Some target.Program) h g = absurd (true≢false g)
 
-module _ (code : List Insn) (named : List Named) (none : HasNoFault (shape_fault code named)) where
+module _ (code : List Insn) (named : List Named) (none : HasNoFault (structure_fault code named)) where
   shaped : (n : ℕ) (i : Insn) → begins_at code n ≡ Some i → (fd : ℕ) → descriptor i ≡ Some fd → IsSome (shapes_named named fd)
   shaped n i begins fd e =
       let fine = each_is_fine code named none n i begins in
@@ -139,22 +141,27 @@ module _ (law : TransferReasons) (shapes : Shapes) (code : List Insn) (slot : �
   safety_told h = facts_told (facts_before shapes code slot) h
 
 -- a function that is called is known
-none_unknown : (i : Insn) → calls_unknown i ≡ false → CallsUnknown i → ⊥
-none_unknown (Call id) h none = true≢false (sym (ap (λ o. not (is_some o)) none) ∙ h)
-none_unknown i h none = none
+none_unknown : (r : Reference) → is_unknown_helper r ≡ false → IsUnknownHelper r → ⊥
+none_unknown names.Nothing h none = none
+none_unknown (names.Helper id) h none = true≢false (sym (ap (λ o. not (is_some o)) none) ∙ h)
+none_unknown (names.Map fd) h none = none
+none_unknown (names.Value fd off) h none = none
 
 -- a map that is loaded has a shape
-none_unshaped : (shapes : Shapes) (i : Insn) → ((fd : ℕ) → descriptor i ≡ Some fd → IsSome (shapes fd)) → LoadsUnshaped shapes i → ⊥
-none_unshaped shapes (MapFd dst fd) h none = true≢false (sym (h (unsigned 32 fd) refl) ∙ ap is_some none)
-none_unshaped shapes (MapValue dst fd off) h none = true≢false (sym (h (unsigned 32 fd) refl) ∙ ap is_some none)
-none_unshaped shapes i h none = none
+none_unshaped : (shapes : Shapes) (r : Reference) → ((fd : ℕ) → descriptor_by r ≡ Some fd → IsSome (shapes fd)) → IsUnshapedMap shapes r → ⊥
+none_unshaped shapes names.Nothing h none = none
+none_unshaped shapes (names.Helper id) h none = none
+none_unshaped shapes (names.Map fd) h none = true≢false (sym (h fd refl) ∙ ap is_some none)
+none_unshaped shapes (names.Value fd off) h none = true≢false (sym (h fd refl) ∙ ap is_some none)
 
 -- a value that is loaded directly is one that the map has
-none_lacking : (shapes : Shapes) (named : List Named) (i : Insn) → ((fd : ℕ) → descriptor i ≡ Some fd → shapes fd ≡ shapes_named named fd) → lacks_value named i ≡ false → LoadsNoValue shapes i → ⊥
-none_lacking shapes named (MapValue dst fd off) same has none =
-    let there : shapes_named named (unsigned 32 fd) ≡ Some none.0 = sym (same (unsigned 32 fd) refl) ∙ none.1 in
+none_lacking : (shapes : Shapes) (named : List Named) (r : Reference) → ((fd : ℕ) → descriptor_by r ≡ Some fd → shapes fd ≡ shapes_named named fd) → is_no_value named r ≡ false → IsNoValue shapes r → ⊥
+none_lacking shapes named names.Nothing same has none = none
+none_lacking shapes named (names.Helper id) same has none = none
+none_lacking shapes named (names.Map fd) same has none = none
+none_lacking shapes named (names.Value fd off) same has none =
+    let there : shapes_named named fd ≡ Some none.0 = sym (same fd refl) ∙ none.1 in
     true≢false (sym (ap not none.2) ∙ sym (ap (λ o. not (option_map_or (λ shape. has_direct_value shape off) o true)) there) ∙ has)
-none_lacking shapes named i same has none = none
 
 -- the shapes that are kept are those that all descriptors name
 kept_shape : (code : List Insn) (named : List Named) (n : ℕ) (i : Insn) → begins_at code n ≡ Some i → (fd : ℕ) → descriptor i ≡ Some fd → shapes_of code named fd ≡ shapes_named named fd
@@ -164,11 +171,11 @@ pub safety_follows : TransferReasons → SafetyFollowsShape
 safety_follows law = record {
   helpers = λ code named slot none h.
       let t = safety_told law (shapes_of code named) code slot UnknownHelper h in
-      none_unknown t.insn (each_is_fine code named none slot t.insn t.begins).known t.is;
+      none_unknown (profile t.insn).reference (each_is_fine code named none slot t.insn t.begins).known t.is;
   maps = λ code named slot none h.
       let t = safety_told law (shapes_of code named) code slot DescriptorNotMap h in
-      none_unshaped (shapes_of code named) t.insn (shaped_in code named none slot t.insn t.begins) t.is;
+      none_unshaped (shapes_of code named) (profile t.insn).reference (shaped_in code named none slot t.insn t.begins) t.is;
   values = λ code named slot none h.
       let t = safety_told law (shapes_of code named) code slot NoDirectValue h in
-      none_lacking (shapes_of code named) named t.insn (kept_shape code named slot t.insn t.begins) (each_is_fine code named none slot t.insn t.begins).value t.is;
+      none_lacking (shapes_of code named) named (profile t.insn).reference (kept_shape code named slot t.insn t.begins) (each_is_fine code named none slot t.insn t.begins).value t.is;
 }

@@ -7,7 +7,7 @@ use Rattle.std.specs.List.{slice_get, list_any, filter_map, cons_option}
 use Rattle.std.proofs.lemmas.List.Elements.{filter-append, filter_map-append}
 use Rattle.insn_codec.specs.declared.insn.Insn.{Insn}
 use Rattle.tagged_model.specs.Cells.{and_then}
-use Rattle.verdict.specs.Shape.{descriptor}
+use Rattle.insn_codec.specs.Flow.{descriptor}
 use Rattle.verdict.specs.Maps.{without, distinct, maps_of}
 use Rattle.verdict.specs.inside.Descriptors.{with_descriptor}
 

@@ -4,7 +4,7 @@ use Rattle.std.proofs.lemmas.Bool.{cases_order}
 use Rattle.insn_codec.specs.declared.insn.Insn.{Insn}
 use Rattle.reg_kinds.specs.declared.reason.Reason.{Reason}
 use Rattle.tagged_model.specs.declared.shape.Named.{Named}
-use Rattle.verdict.specs.Shape.{shape_fault}
+use Rattle.verdict.specs.Shape.{structure_fault}
 use Rattle.verdict.specs.Maps.{shapes_of}
 use Rattle.verdict.specs.Verdict.{IsFirstFault, HasNoFault, IsAccepted, IsRefused, safety_fault}
 
@@ -26,11 +26,11 @@ one_first fault_at m n a b p q =
     ]
 
 pub one_verdict : (code : List Insn) (named : List Named) (m n : ℕ) (a b : Reason) → IsRefused code named m a → IsRefused code named n b → (m ≡ n) × (a ≡ b)
-one_verdict code named m n a b (inl p) (inl q) = one_first (shape_fault code named) m n a b p q
-one_verdict code named m n a b (inl p) (inr q) = absurd (no_first (shape_fault code named) m a q.0 p)
-one_verdict code named m n a b (inr p) (inl q) = absurd (no_first (shape_fault code named) n b p.0 q)
+one_verdict code named m n a b (inl p) (inl q) = one_first (structure_fault code named) m n a b p q
+one_verdict code named m n a b (inl p) (inr q) = absurd (no_first (structure_fault code named) m a q.0 p)
+one_verdict code named m n a b (inr p) (inl q) = absurd (no_first (structure_fault code named) n b p.0 q)
 one_verdict code named m n a b (inr p) (inr q) = one_first (safety_fault (shapes_of code named) code) m n a b p.1 q.1
 
 pub not_refused : (code : List Insn) (named : List Named) (slot : ℕ) (reason : Reason) → IsAccepted code named → IsRefused code named slot reason → ⊥
-not_refused code named slot reason accepted (inl p) = no_first (shape_fault code named) slot reason accepted.0 p
+not_refused code named slot reason accepted (inl p) = no_first (structure_fault code named) slot reason accepted.0 p
 not_refused code named slot reason accepted (inr p) = no_first (safety_fault (shapes_of code named) code) slot reason accepted.1 p.1

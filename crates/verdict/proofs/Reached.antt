@@ -9,7 +9,7 @@ use Rattle.insn_codec.specs.BeginLaws.{begins_within}
 use Rattle.reg_kinds.specs.declared.reason.Reason.{Reason}
 use Rattle.tagged_model.specs.declared.shape.Named.{Named}
 use Rattle.insn_codec.specs.Flow.{jumps_to, jumps, jump_target}
-use Rattle.verdict.specs.Shape.{leads_into, leads_outside, reached_from, is_reachable, first_reason, shape_of, shape_fault}
+use Rattle.verdict.specs.Shape.{leads_into, leads_outside, reached_from, is_reachable, first_reason, shape_of, structure_fault}
 use Rattle.verdict.specs.ShapeLaws.{IsFine, each_is_fine}
 use Rattle.verdict.specs.inside.Jumps.{JumpsLand}
 use Rattle.verdict.specs.Verdict.{HasNoFault}
@@ -101,12 +101,12 @@ marked_past code i n old begins was =
 
 -- ---- the fault at a slot
 
-pub shape_is : (code : List Insn) (named : List Named) (at : ℕ) (o : Option Insn) (r : Option Reason) → o ≡ begins_at code at → r ≡ shape_of code named at o → shape_fault code named at ≡ r
-unfolding shape_fault
+pub shape_is : (code : List Insn) (named : List Named) (at : ℕ) (o : Option Insn) (r : Option Reason) → o ≡ begins_at code at → r ≡ shape_of code named at o → structure_fault code named at ≡ r
+unfolding structure_fault
 shape_is code named at o r begins is = sym (is ∙ ap (shape_of code named at) begins)
 
 -- where no slot has a fault
-module _ (code : List Insn) (named : List Named) (none : HasNoFault (shape_fault code named)) where
+module _ (code : List Insn) (named : List Named) (none : HasNoFault (structure_fault code named)) where
   -- each jump leads to a slot of the program
   pub each_lands : JumpsLand code
   each_lands n i begins = jump_lands code named i n (each_is_fine code named none n i begins)

@@ -13,7 +13,7 @@ use Rattle.tagged_model.specs.Named.{Shapes}
 use Rattle.verdict.specs.Maps.{shapes_of}
 use Rattle.transfer.specs.Branches.{Edges}
 use Rattle.transfer.specs.Effects.{effect}
-use Rattle.verdict.specs.Shape.{shape_of, shape_fault}
+use Rattle.verdict.specs.Shape.{shape_of, structure_fault}
 use Rattle.verdict.specs.Before.{facts_before}
 use Rattle.verdict.specs.Verdict.{reason_of, safety_fault, IsRefused}
 
@@ -57,8 +57,8 @@ shape_of_rule code named slot (Some i) =
     (line_rule _ DescriptorNotMap _ tt
     (line_rule _ NoDirectValue _ tt by_none))))))))
 
-shape_rule : (code : List Insn) (named : List Named) (slot : ℕ) → ByRule (shape_fault code named slot)
-unfolding shape_fault
+shape_rule : (code : List Insn) (named : List Named) (slot : ℕ) → ByRule (structure_fault code named slot)
+unfolding structure_fault
 shape_rule code named slot = shape_of_rule code named slot (begins_at code slot)
 
 -- ---- safety

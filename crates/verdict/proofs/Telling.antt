@@ -9,7 +9,7 @@ use Rattle.tagged_model.specs.declared.shape.Named.{Named}
 use Rattle.verdict.specs.Before.{facts_before}
 use Rattle.verdict.specs.declared.fault.VerifyFault.{VerifyFault}
 use Rattle.verdict.specs.Maps.{entries_of, maps_of, shapes_of}
-use Rattle.verdict.specs.Shape.{shape_fault}
+use Rattle.verdict.specs.Shape.{structure_fault}
 use Rattle.verdict.specs.Told.{known_at, reached, with_more, IsToldBelow, IsToldRefused}
 use Rattle.verdict.specs.inside.Telling.{IsFirstTold}
 use Rattle.verdict.specs.Verdict.{HasNoFault, IsFirstFault, memory_fault}
@@ -62,12 +62,12 @@ module _ (shapes : Shapes) (code : List Insn) where
 pub none_told_at_memory : (code : List Insn) (named : List Named) (told : Option (List (ℕ × Facts))) (fault : VerifyFault) → fault ≡ memory_fault → IsToldRefused code named told told fault
 none_told_at_memory code named told fault memory = inl (memory, 0, told_first (shapes_of code named) code told)
 
-pub none_told_of_shape : (code : List Insn) (named : List Named) (told : Option (List (ℕ × Facts))) (fault : VerifyFault) → (fault ≡ memory_fault) ⊎ IsFirstFault (shape_fault code named) fault.slot fault.reason → IsToldRefused code named told told fault
+pub none_told_of_shape : (code : List Insn) (named : List Named) (told : Option (List (ℕ × Facts))) (fault : VerifyFault) → (fault ≡ memory_fault) ⊎ IsFirstFault (structure_fault code named) fault.slot fault.reason → IsToldRefused code named told told fault
 none_told_of_shape code named told fault (inl memory) = none_told_at_memory code named told fault memory
 none_told_of_shape code named told fault (inr first) = inr (inl (first, refl))
 
 -- what the pass told of the shapes of the maps that a program loads
-pub told_of_safety : (code : List Insn) (named : List Named) (entries : List Named) (old new : Option (List (ℕ × Facts))) (fault : VerifyFault) → entries ≡ entries_of (maps_of code) named → HasNoFault (shape_fault code named) → IsFirstTold (shapes_named entries) code old new fault
+pub told_of_safety : (code : List Insn) (named : List Named) (entries : List Named) (old new : Option (List (ℕ × Facts))) (fault : VerifyFault) → entries ≡ entries_of (maps_of code) named → HasNoFault (structure_fault code named) → IsFirstTold (shapes_named entries) code old new fault
     → IsToldRefused code named old new fault
 told_of_safety code named entries old new fault is sound first =
     elim (subst (λ (es : List Named). IsFirstTold (shapes_named es) code old new fault) is first) [

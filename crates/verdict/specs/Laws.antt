@@ -7,16 +7,17 @@ use Rattle.reg_kinds.specs.declared.reason.Reason.TheVariants.{UnknownHelper, De
 use Rattle.tagged_model.specs.declared.shape.MapShape.{MapShape}
 use Rattle.tagged_model.specs.declared.shape.Named.{Named}
 use Rattle.tagged_model.specs.Named.{shapes_named}
-use Rattle.verdict.specs.Shape.{descriptor, shape_fault}
+use Rattle.insn_codec.specs.Flow.{descriptor}
+use Rattle.verdict.specs.Shape.{structure_fault}
 use Rattle.verdict.specs.Maps.{maps_of, shapes_of}
 use Rattle.verdict.specs.Verdict.{HasNoFault, IsAccepted, safety_fault}
 
 -- in a program without a fault of its shape what an instruction names is there: none is refused for safety since it calls an
 -- unknown function, loads what is no map, or loads a value directly that the map does not have
 pub record SafetyFollowsShape : Type 0 where
-  pub helpers : (code : List Insn) (named : List Named) (slot : ℕ) → HasNoFault (shape_fault code named) → safety_fault (shapes_of code named) code slot ≢ Some UnknownHelper
-  pub maps : (code : List Insn) (named : List Named) (slot : ℕ) → HasNoFault (shape_fault code named) → safety_fault (shapes_of code named) code slot ≢ Some DescriptorNotMap
-  pub values : (code : List Insn) (named : List Named) (slot : ℕ) → HasNoFault (shape_fault code named) → safety_fault (shapes_of code named) code slot ≢ Some NoDirectValue
+  pub helpers : (code : List Insn) (named : List Named) (slot : ℕ) → HasNoFault (structure_fault code named) → safety_fault (shapes_of code named) code slot ≢ Some UnknownHelper
+  pub maps : (code : List Insn) (named : List Named) (slot : ℕ) → HasNoFault (structure_fault code named) → safety_fault (shapes_of code named) code slot ≢ Some DescriptorNotMap
+  pub values : (code : List Insn) (named : List Named) (slot : ℕ) → HasNoFault (structure_fault code named) → safety_fault (shapes_of code named) code slot ≢ Some NoDirectValue
 
 -- each map that an accepted program loads has a shape, as all descriptors name it and as those do that are kept
 pub record LoadedMapsHaveShapes : Type 0 where

@@ -4,7 +4,7 @@ use Rattle.std.specs.List.{list_any, filter, filter_map}
 use Rattle.insn_codec.specs.declared.insn.Insn.{Insn}
 use Rattle.tagged_model.specs.declared.shape.Named.{Named}
 use Rattle.tagged_model.specs.Named.{Shapes, shapes_named}
-use Rattle.verdict.specs.Shape.{descriptor}
+use Rattle.insn_codec.specs.Flow.{descriptor}
 
 -- the others of these
 abbrev pub without : ℕ → List ℕ → List ℕ

@@ -2,9 +2,10 @@
 -- the registers hold. The rules and their order are this project's own.
 use Rattle.std.specs.Prelude.{ℕ, zero, suc, ◌==◌, Bool, true, false, not, ◌&&◌, ◌||◌, nat_lt, nat_le, List, [], ◌∷◌, Option, Some, None, is_some, if◌then◌else◌}
 use Rattle.std.specs.Option.{option_map_or}
-use Rattle.words.specs.Words.{unsigned}
 use Rattle.insn_codec.specs.declared.insn.Insn.{Insn}
-use Rattle.insn_codec.specs.declared.insn.Insn.TheVariants.{Call, MapFd, MapValue}
+use Rattle.insn_codec.specs.declared.profile.Reference.{Reference}
+use Rattle.insn_codec.specs.declared.profile.Reference.TheVariants as names
+use Rattle.insn_codec.specs.Profile.{profile}
 use Rattle.insn_codec.specs.Program.{begins_at, slot_count}
 use Rattle.reg_kinds.specs.declared.reason.Reason.{Reason}
 use Rattle.reg_kinds.specs.declared.reason.Reason.TheVariants.{JumpOutside, JumpBackward, FallsOff, Unreachable, UnknownHelper, FramePointerWritten, DescriptorNotOpen, DescriptorNotMap, NoDirectValue}
@@ -14,7 +15,7 @@ use Rattle.tagged_model.specs.declared.shape.Target.TheVariants as target
 use Rattle.tagged_model.specs.Named.{target_of, shapes_named}
 use Rattle.tagged_model.specs.Table.{has_direct_value}
 use Rattle.tagged_model.specs.Helpers.{helper_of}
-use Rattle.insn_codec.specs.Flow.{falls_to, jumps_to, falls, jumps, written_register}
+use Rattle.insn_codec.specs.Flow.{falls_to, jumps_to, falls, jumps, written_register, descriptor}
 
 -- ---- where an instruction leads
 
@@ -50,19 +51,18 @@ is_reachable code i = reached_from code i i
 -- ---- what is wrong with an instruction
 
 -- it calls a function that is not known
+abbrev pub is_unknown_helper : Reference → Bool
+is_unknown_helper names.Nothing = false
+is_unknown_helper (names.Helper id) = not (is_some (helper_of id))
+is_unknown_helper (names.Map fd) = false
+is_unknown_helper (names.Value fd off) = false
+
 abbrev pub calls_unknown : Insn → Bool
-calls_unknown (Call id) = not (is_some (helper_of id))
-calls_unknown i = false
+calls_unknown i = is_unknown_helper (profile i).reference
 
 abbrev pub is_map : Target → Bool
 is_map (target.Map shape) = true
 is_map target.Program = false
-
--- the descriptor of a load of a map, or of a value of one
-abbrev pub descriptor : Insn → Option ℕ
-descriptor (MapFd dst fd) = Some (unsigned 32 fd)
-descriptor (MapValue dst fd off) = Some (unsigned 32 fd)
-descriptor i = None
 
 abbrev pub is_not_open : List Named → Option ℕ → Bool
 is_not_open named None = false
@@ -73,9 +73,14 @@ is_not_map named None = false
 is_not_map named (Some fd) = not (option_map_or is_map (target_of named fd) true)
 
 -- it loads a value directly that the map does not have
+abbrev pub is_no_value : List Named → Reference → Bool
+is_no_value named names.Nothing = false
+is_no_value named (names.Helper id) = false
+is_no_value named (names.Map fd) = false
+is_no_value named (names.Value fd off) = not (option_map_or (λ shape. has_direct_value shape off) (shapes_named named fd) true)
+
 abbrev pub lacks_value : List Named → Insn → Bool
-lacks_value named (MapValue dst fd off) = not (option_map_or (λ shape. has_direct_value shape off) (shapes_named named (unsigned 32 fd)) true)
-lacks_value named i = false
+lacks_value named i = is_no_value named (profile i).reference
 
 abbrev pub leads_outside : List Insn → Option ℕ → Bool
 leads_outside code None = true
@@ -109,5 +114,5 @@ abbrev pub shape_of : List Insn → List Named → ℕ → Option Insn → Optio
 shape_of code named at None = None
 shape_of code named at (Some i) = shape_reason code named i at
 
-unfoldable pub shape_fault : List Insn → List Named → ℕ → Option Reason
-shape_fault code named at = shape_of code named at (begins_at code at)
+unfoldable pub structure_fault : List Insn → List Named → ℕ → Option Reason
+structure_fault code named at = shape_of code named at (begins_at code at)

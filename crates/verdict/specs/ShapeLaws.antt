@@ -5,11 +5,11 @@ use Rattle.std.specs.Prelude.{nat_le}
 use Rattle.std.proofs.lemmas.Bool.{not-false, cases_Bool, cond-true, cond-false}
 use Rattle.insn_codec.specs.declared.insn.Insn.{Insn}
 use Rattle.insn_codec.specs.Program.{begins_at, slot_count}
-use Rattle.insn_codec.specs.Flow.{falls_to, jumps_to, falls, jumps, written_register}
+use Rattle.insn_codec.specs.Flow.{falls_to, jumps_to, falls, jumps, written_register, descriptor}
 use Rattle.reg_kinds.specs.declared.reason.Reason.{Reason}
 use Rattle.reg_kinds.specs.declared.reason.Reason.TheVariants.{JumpOutside, JumpBackward, FallsOff, Unreachable, UnknownHelper, FramePointerWritten, DescriptorNotOpen, DescriptorNotMap, NoDirectValue}
 use Rattle.tagged_model.specs.declared.shape.Named.{Named}
-use Rattle.verdict.specs.Shape.{leads_outside, leads_backward, is_reachable, is_slot, calls_unknown, descriptor, is_not_open, is_not_map, lacks_value, first_reason, shape_reason, shape_of, shape_fault}
+use Rattle.verdict.specs.Shape.{leads_outside, leads_backward, is_reachable, is_slot, calls_unknown, is_not_open, is_not_map, lacks_value, first_reason, shape_reason, shape_of, structure_fault}
 use Rattle.verdict.specs.Verdict.{HasNoFault}
 
 no_reason : (reason : Reason) → Some reason ≡ None → ⊥
@@ -67,6 +67,6 @@ unrefused_is_fine code named i at none =
     }
 
 -- where no slot has a fault of its shape, each instruction is fine
-pub each_is_fine : (code : List Insn) (named : List Named) → HasNoFault (shape_fault code named) → (n : ℕ) (i : Insn) → begins_at code n ≡ Some i → IsFine code named i n
-unfolding shape_fault
+pub each_is_fine : (code : List Insn) (named : List Named) → HasNoFault (structure_fault code named) → (n : ℕ) (i : Insn) → begins_at code n ≡ Some i → IsFine code named i n
+unfolding structure_fault
 each_is_fine code named none n i begins = unrefused_is_fine code named i n (sym (ap (shape_of code named n) begins) ∙ none n)

@@ -8,7 +8,7 @@ use Rattle.tagged_model.specs.declared.shape.Named.{Named}
 use Rattle.tagged_model.specs.Cells.{and_then}
 use Rattle.tagged_model.specs.Named.{Shapes}
 use Rattle.verdict.specs.declared.fault.VerifyFault.{VerifyFault}
-use Rattle.verdict.specs.Shape.{shape_fault}
+use Rattle.verdict.specs.Shape.{structure_fault}
 use Rattle.verdict.specs.Before.{facts_before}
 use Rattle.verdict.specs.Maps.{shapes_of}
 use Rattle.verdict.specs.Verdict.{HasNoFault, IsFirstFault, safety_fault, memory_fault}
@@ -40,12 +40,12 @@ IsToldPart code named old new fault = (fault ≡ memory_fault) × (n : ℕ) × I
 
 -- a fault of shape, and nothing was told
 abbrev pub IsToldOfShape : List Insn → List Named → Option (List (ℕ × Facts)) → Option (List (ℕ × Facts)) → VerifyFault → Type 0
-IsToldOfShape code named old new fault = IsFirstFault (shape_fault code named) fault.slot fault.reason × (new ≡ old)
+IsToldOfShape code named old new fault = IsFirstFault (structure_fault code named) fault.slot fault.reason × (new ≡ old)
 
 -- a fault of safety, and those of the slots up to the one that is refused were told
 abbrev pub IsToldOfSafety : List Insn → List Named → Option (List (ℕ × Facts)) → Option (List (ℕ × Facts)) → VerifyFault → Type 0
 IsToldOfSafety code named old new fault =
-    HasNoFault (shape_fault code named) × IsFirstFault (safety_fault (shapes_of code named) code) fault.slot fault.reason × IsToldBelow (fault.slot + 1) (shapes_of code named) code old new
+    HasNoFault (structure_fault code named) × IsFirstFault (safety_fault (shapes_of code named) code) fault.slot fault.reason × IsToldBelow (fault.slot + 1) (shapes_of code named) code old new
 
 -- of a program that is refused
 abbrev pub IsToldRefused : List Insn → List Named → Option (List (ℕ × Facts)) → Option (List (ℕ × Facts)) → VerifyFault → Type 0

@@ -11,7 +11,7 @@ use Rattle.tagged_model.specs.Named.{Shapes}
 use Rattle.transfer.specs.Branches.{Edges}
 use Rattle.transfer.specs.Effects.{effect}
 use Rattle.verdict.specs.declared.fault.VerifyFault.{VerifyFault}
-use Rattle.verdict.specs.Shape.{shape_fault}
+use Rattle.verdict.specs.Shape.{structure_fault}
 use Rattle.verdict.specs.Before.{facts_before}
 use Rattle.verdict.specs.Maps.{shapes_of}
 
@@ -34,10 +34,10 @@ HasNoFault fault_at = (n : ℕ) → fault_at n ≡ None
 -- shape comes before safety; the shapes of maps are those that the descriptors name
 abbrev pub IsRefused : List Insn → List Named → ℕ → Reason → Type 0
 IsRefused code named slot reason =
-    IsFirstFault (shape_fault code named) slot reason ⊎ (HasNoFault (shape_fault code named) × IsFirstFault (safety_fault (shapes_of code named) code) slot reason)
+    IsFirstFault (structure_fault code named) slot reason ⊎ (HasNoFault (structure_fault code named) × IsFirstFault (safety_fault (shapes_of code named) code) slot reason)
 
 abbrev pub IsAccepted : List Insn → List Named → Type 0
-IsAccepted code named = HasNoFault (shape_fault code named) × HasNoFault (safety_fault (shapes_of code named) code)
+IsAccepted code named = HasNoFault (structure_fault code named) × HasNoFault (safety_fault (shapes_of code named) code)
 
 -- there was no memory for the pass
 abbrev pub memory_fault : VerifyFault

@@ -8,8 +8,6 @@ ghost use Rattle.tagged_model.specs.declared.shape.Named.{Named};
 ghost use Rattle.verdict.specs.Laws.{LoadedMapsHaveShapes, MapsAreListed, SafetyFollowsShape};
 ghost use Rattle.verdict.specs.Verdict.{IsAccepted, IsRefused};
 
-use transfer::{effects_need_no_memory, transfer_reasons};
-
 /// A program is refused in one way: at one slot, for one reason.
 pub fn one_refusal()
     ensures { (code : List Insn) (named : List Named) (m n : ℕ) (a b : Reason)
@@ -27,7 +25,7 @@ pub fn refused_by_a_rule()
     ensures { (code : List Insn) (named : List Named) (slot : ℕ) (reason : Reason)
         → IsRefused code named slot reason → reason ≢ Memory }
 {
-    effects_need_no_memory();
+    transfer::laws::effects_need_no_memory();
 }
 
 /// In a program without a fault of its shape no instruction is refused for safety since it calls an unknown function, loads
@@ -35,7 +33,7 @@ pub fn refused_by_a_rule()
 pub fn safety_follows_shape()
     ensures { SafetyFollowsShape }
 {
-    transfer_reasons();
+    transfer::laws::transfer_reasons();
 }
 
 /// Each map that an accepted program loads has a shape.

@@ -5,23 +5,16 @@
 #![tactic(auto)]
 
 mod edge_facts;
-mod edges;
-mod entries;
 mod fault;
 mod judging;
 mod known_answers;
-mod laws;
+pub mod laws;
 mod maps;
 mod pass;
 mod shape;
+mod target_facts;
 mod watcher;
 
-pub use edges::{falls, jump_offset, jump_target};
 pub use fault::VerifyFault;
 pub use judging::{LoadedMaps, judge, judge_watched};
-pub use laws::{
-    accepted_is_not_refused, loaded_maps_have_shapes, maps_are_listed, one_refusal,
-    refused_by_a_rule, safety_follows_shape,
-};
-pub use shape::descriptor;
 pub use watcher::{Unwatched, Watcher};

@@ -3,11 +3,10 @@
 ghost use Rattle.std.specs.Prelude.{◌≡◌, is_some, IfOk, OnOk};
 ghost use Rattle.insn_codec.specs.Program.{begins_at};
 ghost use Rattle.tagged_model.specs.Cells.{and_then};
-ghost use Rattle.verdict.specs.Shape.{descriptor};
+ghost use Rattle.insn_codec.specs.Flow.{descriptor};
 ghost use Rattle.verdict.specs.Maps.{maps_of, is_among, entries_of};
 ghost use Rattle.verdict.specs.inside.Descriptors.{with_descriptor};
 
-use crate::shape::descriptor;
 use insn_codec::{Insn, Program};
 use std::alloc::{AllocError, Global};
 use tagged_model::Named;
@@ -16,7 +15,7 @@ use tagged_model::Named;
 fn add_descriptor(maps: &mut Vec<u32>, insn: &Insn) -> Result<(), AllocError>
     ensures { OnOk result (maps.new.items ≡ with_descriptor maps.old.items (descriptor insn.now)) }
 {
-    match descriptor(insn) {
+    match insn.profile().reference.descriptor() {
         Some(fd) if !maps.contains(&fd) => maps.push(fd)?,
         _ => {}
     }
@@ -38,7 +37,7 @@ fn add_at(maps: &mut Vec<u32>, program: &Program, slot: usize) -> Result<(), All
 fn names_map(insn: &Insn) -> bool
     ensures { result ≡ is_some (descriptor insn.now) }
 {
-    matches!(insn, Insn::MapFd { .. } | Insn::MapValue { .. })
+    insn.profile().reference.descriptor().is_some()
 }
 
 /// The descriptors of the maps that a program loads, each once, in the order of the first load of each.

@@ -12,12 +12,11 @@ ghost use Rattle.verdict.specs.Told.{known_at, with_more, IsToldBelow};
 ghost use Rattle.verdict.specs.Verdict.{HasNoFault, safety_fault};
 
 use crate::edge_facts::EdgeFacts;
-use crate::edges::jump_target;
-use crate::entries::Entries;
 use crate::fault::VerifyFault;
+use crate::target_facts::TargetFacts;
 use crate::watcher::Watcher;
 use insn_codec::{Insn, MAX_SLOTS, Program};
-use reg_kinds::{Facts, joins_associate, joins_commute};
+use reg_kinds::{Facts, laws};
 use std::alloc::{AllocError, Global};
 use tagged_model::Named;
 use transfer::{Flow, apply};
@@ -28,7 +27,7 @@ struct Pass {
     /// By the falling edge into the next instruction.
     falling: EdgeFacts,
     /// By the jumps that lead ahead.
-    entries: Entries,
+    entries: TargetFacts,
     /// Room for what is known where the jump at hand is taken.
     taken: Facts,
 }
@@ -48,13 +47,13 @@ impl Pass {
             Flow::Ends => self.falling.is_known = false,
             Flow::Falls => {}
             Flow::Jumps => {
-                let target = jump_target(insn, slot);
+                let target = insn.profile().successors.target(slot);
                 self.entries.send(target, Some(&self.falling.facts))?;
                 self.falling.is_known = false;
             }
             Flow::Branches { falls, jumps } => {
                 if jumps {
-                    let target = jump_target(insn, slot);
+                    let target = insn.profile().successors.target(slot);
                     self.entries.send(target, Some(&self.taken))?;
                 }
                 self.falling.is_known = falls;
@@ -63,8 +62,44 @@ impl Pass {
         Ok(())
     }
 
-    /// Goes on past the instruction at a slot, if it may be run with what is known there, which the watcher is told. Where
-    /// nothing is known, no run comes there.
+    /// Goes on past the instruction at a slot, if it may be run with what is in hand, which the watcher is told. Where nothing is
+    /// known, no run comes there.
+    #[inline(always)]
+    fn go_past<W: Watcher>(
+        &mut self,
+        named: &[Named],
+        insn: &Insn,
+        slot: usize,
+        watcher: &mut W,
+    ) -> Result<(), VerifyFault>
+        requires room { slot < MAX_SLOTS }
+        requires lands { IfSome (jump_target insn.now slot) (λ to. to < length self.old.entries) }
+        ensures ok { OnOk result
+            (MayRun (shapes_named named.now) slot insn.now self.old.falling) }
+        ensures falling { OnOk result (self.new.falling
+            ≡ falling_from (shapes_named named.now) slot insn.now self.old.falling) }
+        ensures sent { OnOk result ((i : ℕ) → Brings (jump_target insn.now slot)
+            (jumping_from (shapes_named named.now) slot insn.now self.old.falling)
+            self.old.entries self.new.entries i) }
+        ensures long { OnOk result (length self.new.entries ≡ length self.old.entries) }
+        ensures told { OnOk result (W.told watcher.new
+            ≡ with_more (W.told watcher.old) (known_at slot self.old.falling)) }
+        ensures refused { IfErr result (λ e. StopsTelling (W.told watcher.old) (W.told watcher.new)
+            slot self.old.falling e
+            ⊎ IsFaultTold (shapes_named named.now) slot insn.now self.old.falling
+            (W.told watcher.old) (W.told watcher.new) e) }
+    {
+        if self.falling.is_known {
+            watcher.before(slot, &self.falling.facts)?;
+            match apply(&mut self.falling.facts, &mut self.taken, named, slot, insn) {
+                Ok(flow) => self.leave(flow, insn, slot)?,
+                Err(reason) => return Err(VerifyFault { slot, reason }),
+            }
+        }
+        Ok(())
+    }
+
+    /// Takes in hand what is known at a slot, and goes on past the instruction there, if it may be run.
     fn step<W: Watcher>(
         &mut self,
         named: &[Named],
@@ -90,15 +125,8 @@ impl Pass {
             ⊎ IsFaultTold (shapes_named named.now) slot insn.now (arriving_at slot self.old)
             (W.told watcher.old) (W.told watcher.new) e) }
     {
-        self.entries.join_at(slot, &mut self.falling);
-        if self.falling.is_known {
-            watcher.before(slot, &self.falling.facts)?;
-            match apply(&mut self.falling.facts, &mut self.taken, named, slot, insn) {
-                Ok(flow) => self.leave(flow, insn, slot)?,
-                Err(reason) => return Err(VerifyFault { slot, reason }),
-            }
-        }
-        Ok(())
+        self.entries.join_at(slot, &mut self.falling)?;
+        self.go_past(named, insn, slot, watcher)
     }
 }
 
@@ -117,15 +145,15 @@ pub(crate) fn check_safety<W: Watcher>(
     ensures refused { IfErr result (λ e. IsFirstTold (shapes_named named.now) program.now
         (W.told watcher.old) (W.told watcher.new) e) }
 {
-    joins_commute();
-    joins_associate();
+    laws::joins_commute();
+    laws::joins_associate();
     let slots = program.slots();
     let mut pass = Pass {
         falling: EdgeFacts {
             is_known: true,
             facts: Facts::at_entry(),
         },
-        entries: Entries::new(alloc, slots)?,
+        entries: TargetFacts::new(alloc, slots)?,
         taken: Facts::at_entry(),
     };
     for slot in 0..slots {

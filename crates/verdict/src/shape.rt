@@ -2,14 +2,13 @@
 
 ghost use Rattle.std.specs.Prelude.{◌≡◌, ◌⊎◌, ◌+◌, ◌<◌, ◌≤◌, ◌&&◌, ◌||◌, ℕ, nat_le, not, false, [], ◌∷◌, length, slice_index_or, IsTrue, IfSome, IfErr, OnOk, Some};
 ghost use Rattle.reg_kinds.specs.declared.reason.Reason.TheVariants.{JumpOutside, JumpBackward, FallsOff, Unreachable, FramePointerWritten, DescriptorNotOpen, DescriptorNotMap, NoDirectValue};
-ghost use Rattle.insn_codec.specs.Flow.{falls_to, jumps_to, falls, jumps, jump_target, written_register};
-ghost use Rattle.verdict.specs.Shape.{leads_into, is_reachable, is_slot, calls_unknown, descriptor, is_not_open, is_not_map, lacks_value, leads_outside, leads_backward, first_reason, shape_reason, shape_fault};
+ghost use Rattle.insn_codec.specs.Flow.{falls_to, jumps_to, falls, jumps, jump_target, written_register, descriptor, descriptor_by};
+ghost use Rattle.verdict.specs.Shape.{leads_into, is_reachable, is_slot, calls_unknown, is_unknown_helper, is_not_open, is_not_map, lacks_value, is_no_value, leads_outside, leads_backward, first_reason, shape_reason, structure_fault};
 ghost use Rattle.verdict.specs.inside.Jumps.{JumpsLand};
 ghost use Rattle.verdict.specs.Verdict.{IsFirstFault, HasNoFault, memory_fault};
 
-use crate::edges::{falls, jump_target, jumps};
 use crate::fault::VerifyFault;
-use insn_codec::{Insn, Load, MAX_SLOTS, Movsx, Program, Reg};
+use insn_codec::{Insn, MAX_SLOTS, Program, Reference, Reg, Successors};
 use reg_kinds::Reason;
 use std::alloc::Global;
 use tagged_model::{Named, Target, known_helper, shape_of, target_of};
@@ -17,78 +16,54 @@ use tagged_model::{Named, Target, known_helper, shape_of, target_of};
 /// The frame pointer's number.
 const FRAME_POINTER: u8 = 10;
 
-/// The register that an instruction gives a value.
-fn written_register(insn: &Insn) -> Option<Reg>
-    ensures { result ≡ written_register insn.now }
-{
-    match *insn {
-        Insn::Alu { dst, .. } => Some(dst),
-        Insn::Movsx(Movsx { dst, .. }) => Some(dst),
-        Insn::Neg { dst, .. } => Some(dst),
-        Insn::End { dst, .. } => Some(dst),
-        Insn::Load(Load { dst, .. }) => Some(dst),
-        Insn::Const { dst, .. } => Some(dst),
-        Insn::MapFd { dst, .. } => Some(dst),
-        Insn::MapValue { dst, .. } => Some(dst),
-        _ => None,
-    }
-}
-
 /// Whether it gives the frame pointer a value.
-fn writes_frame_pointer(insn: &Insn) -> bool
-    ensures { result ≡ is_slot (written_register insn.now) 10 }
+fn writes_frame_pointer(written: Option<Reg>) -> bool
+    ensures { result ≡ is_slot written 10 }
 {
-    match written_register(insn) {
+    match written {
         Some(register) => register.number() == FRAME_POINTER,
         None => false,
     }
 }
 
-/// Whether it calls a function that is not known.
-fn calls_unknown(insn: &Insn) -> bool
-    ensures { result ≡ calls_unknown insn.now }
+/// Whether it is a function that is not known.
+fn is_unknown_helper(reference: Reference) -> bool
+    ensures { result ≡ is_unknown_helper reference }
 {
-    match *insn {
-        Insn::Call { id } => known_helper(id).is_none(),
-        _ => false,
+    match reference {
+        Reference::Helper(id) => known_helper(id).is_none(),
+        Reference::Nothing => false,
+        Reference::Map(_) => false,
+        Reference::Value(_, _) => false,
     }
 }
 
-/// The descriptor that an instruction names: that of a load of a map, or of a value of one.
-pub fn descriptor(insn: &Insn) -> Option<u32>
-    ensures { result ≡ descriptor insn.now }
+/// Whether it is a value that the map does not have.
+fn is_no_value(named: &[Named], reference: Reference) -> bool
+    ensures { result ≡ is_no_value named.now reference }
 {
-    match *insn {
-        Insn::MapFd { fd, .. } => Some(fd.cast_unsigned()),
-        Insn::MapValue { fd, .. } => Some(fd.cast_unsigned()),
-        _ => None,
-    }
-}
-
-/// Whether it loads a value directly that the map does not have.
-fn lacks_value(named: &[Named], insn: &Insn) -> bool
-    ensures { result ≡ lacks_value named.now insn.now }
-{
-    match *insn {
-        Insn::MapValue { fd, off, .. } => match shape_of(named, fd.cast_unsigned()) {
+    match reference {
+        Reference::Value(fd, off) => match shape_of(named, fd) {
             Some(shape) => !shape.has_direct_value(off),
             None => false,
         },
-        _ => false,
+        Reference::Nothing => false,
+        Reference::Helper(_) => false,
+        Reference::Map(_) => false,
     }
 }
 
-/// What is wrong with what an instruction names: the descriptor, and the value that it loads directly.
-fn descriptor_reason(named: &[Named], insn: &Insn) -> Option<Reason>
+/// What is wrong with the map that is named, and the value that is loaded directly.
+fn descriptor_reason(named: &[Named], reference: Reference) -> Option<Reason>
     ensures { result ≡ first_reason
-        ((is_not_open named.now (descriptor insn.now), DescriptorNotOpen)
-        ∷ (is_not_map named.now (descriptor insn.now), DescriptorNotMap)
-        ∷ (lacks_value named.now insn.now, NoDirectValue) ∷ []) }
+        ((is_not_open named.now (descriptor_by reference), DescriptorNotOpen)
+        ∷ (is_not_map named.now (descriptor_by reference), DescriptorNotMap)
+        ∷ (is_no_value named.now reference, NoDirectValue) ∷ []) }
 {
-    match target_of(named, descriptor(insn)?) {
+    match target_of(named, reference.descriptor()?) {
         None => Some(Reason::DescriptorNotOpen),
         Some(Target::Program) => Some(Reason::DescriptorNotMap),
-        Some(Target::Map(_)) if lacks_value(named, insn) => Some(Reason::NoDirectValue),
+        Some(Target::Map(_)) if is_no_value(named, reference) => Some(Reason::NoDirectValue),
         Some(Target::Map(_)) => None,
     }
 }
@@ -100,10 +75,11 @@ fn jump_reason(program: &Program, insn: &Insn, slot: usize) -> Option<Reason>
         ((jumps insn.now && leads_outside program.now (jumps_to insn.now slot), JumpOutside)
         ∷ (jumps insn.now && leads_backward (jumps_to insn.now slot) slot, JumpBackward) ∷ []) }
 {
-    if !jumps(insn) {
+    let successors = insn.profile().successors;
+    if !successors.jumps() {
         return None;
     }
-    match jump_target(insn, slot) {
+    match successors.target(slot) {
         Some(to) if !program.is_first(to) => Some(Reason::JumpOutside),
         Some(to) if to <= slot => Some(Reason::JumpBackward),
         Some(_) => None,
@@ -111,20 +87,19 @@ fn jump_reason(program: &Program, insn: &Insn, slot: usize) -> Option<Reason>
     }
 }
 
-/// What is wrong with an instruction of one slot at a slot, which leads to the next one alone and names nothing.
+/// What is wrong with an instruction that leads to the next one alone, which is at a slot, and names nothing.
 #[inline(always)]
-fn plain_reason(dst: Option<Reg>, slot: usize, slots: usize, is_reached: bool) -> Option<Reason>
-    requires room { slot ≤ MAX_SLOTS }
-    ensures { result ≡ first_reason ((nat_le slots (slot + 1), FallsOff)
-        ∷ (not is_reached, Unreachable) ∷ (is_slot dst 10, FramePointerWritten) ∷ []) }
+fn plain_reason(written: Option<Reg>, next: usize, slots: usize, is_reached: bool) -> Option<Reason>
+    ensures { result ≡ first_reason ((nat_le slots next, FallsOff)
+        ∷ (not is_reached, Unreachable) ∷ (is_slot written 10, FramePointerWritten) ∷ []) }
 {
-    if slot + 1 >= slots {
+    if next >= slots {
         return Some(Reason::FallsOff);
     }
     if !is_reached {
         return Some(Reason::Unreachable);
     }
-    match dst {
+    match written {
         Some(register) if register.number() == FRAME_POINTER => Some(Reason::FramePointerWritten),
         _ => None,
     }
@@ -143,14 +118,14 @@ fn shape_reason(
     requires reached { is_reached ≡ is_reachable program.now slot }
     ensures { result ≡ shape_reason program.now named.now insn.now slot }
 {
-    let slots = program.slots();
-    match *insn {
-        Insn::Alu { dst, .. } | Insn::Neg { dst, .. } | Insn::End { dst, .. } => {
-            plain_reason(Some(dst), slot, slots, is_reached)
-        }
-        Insn::Movsx(Movsx { dst, .. }) => plain_reason(Some(dst), slot, slots, is_reached),
-        Insn::Load(Load { dst, .. }) => plain_reason(Some(dst), slot, slots, is_reached),
-        Insn::Store { .. } | Insn::Atomic { .. } => plain_reason(None, slot, slots, is_reached),
+    let row = insn.profile();
+    match (row.successors, row.reference) {
+        (Successors::Next, Reference::Nothing) => plain_reason(
+            row.written,
+            slot + row.slots,
+            program.slots(),
+            is_reached,
+        ),
         _ => other_reason(program, named, insn, slot, is_reached),
     }
 }
@@ -167,18 +142,19 @@ fn other_reason(
     requires reached { is_reached ≡ is_reachable program.now slot }
     ensures { result ≡ shape_reason program.now named.now insn.now slot }
 {
+    let row = insn.profile();
     if let Some(reason) = jump_reason(program, insn, slot) {
         Some(reason)
-    } else if falls(insn) && slot + insn.slots() >= program.slots() {
+    } else if row.successors.falls() && slot + insn.slots() >= program.slots() {
         Some(Reason::FallsOff)
     } else if !is_reached {
         Some(Reason::Unreachable)
-    } else if calls_unknown(insn) {
+    } else if is_unknown_helper(row.reference) {
         Some(Reason::UnknownHelper)
-    } else if writes_frame_pointer(insn) {
+    } else if writes_frame_pointer(row.written) {
         Some(Reason::FramePointerWritten)
     } else {
-        descriptor_reason(named, insn)
+        descriptor_reason(named, row.reference)
     }
 }
 
@@ -190,10 +166,11 @@ fn mark_edges(reached: &mut [bool], insn: &Insn, slot: usize)
     ensures { (i : ℕ) → slot < i → slice_index_or reached.new i false
         ≡ (slice_index_or reached.old i false || leads_into (Some insn.now) slot i) }
 {
-    if falls(insn) {
+    let successors = insn.profile().successors;
+    if successors.falls() {
         reached[slot + insn.slots()] = true;
     }
-    if let Some(to) = jump_target(insn, slot) {
+    if let Some(to) = successors.target(slot) {
         reached[to] = true;
     }
 }
@@ -205,10 +182,10 @@ pub(crate) fn check_shape(
     program: &Program,
     named: &[Named],
 ) -> Result<(), VerifyFault>
-    ensures sound { OnOk result (HasNoFault (shape_fault program.now named.now)) }
+    ensures sound { OnOk result (HasNoFault (structure_fault program.now named.now)) }
     ensures lands { OnOk result (JumpsLand program.now) }
     ensures refused { IfErr result (λ e. (e ≡ memory_fault)
-        ⊎ IsFirstFault (shape_fault program.now named.now) e.slot e.reason) }
+        ⊎ IsFirstFault (structure_fault program.now named.now) e.slot e.reason) }
 {
     let slots = program.slots();
     let mut reached = vec![in alloc; false; slots]?;

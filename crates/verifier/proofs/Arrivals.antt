@@ -16,7 +16,7 @@ use Rattle.tagged_model.specs.Admits.{Witness, AdmitsBy}
 use Rattle.tagged_model.specs.Laws.{JoinAdmits}
 use Rattle.transfer.specs.Branches.{Edges}
 use Rattle.transfer.specs.Effects.{effect}
-use Rattle.verdict.specs.Shape.{falls_into, jumps_into, shape_fault}
+use Rattle.verdict.specs.Shape.{falls_into, jumps_into, structure_fault}
 use Rattle.verdict.specs.Before.{joined, only_if, edges_into, facts_sent, facts_from_below, facts_before}
 use Rattle.verdict.specs.Verdict.{HasNoFault}
 use Rattle.verifier.proofs.Edges.{AreThere}
@@ -31,7 +31,7 @@ either_there (Some f) b h = inl tt
 on_there : (leads : Bool) (o : Option Facts) → AreThere (only_if leads o) → leads ≡ true
 on_there leads o = cond_both leads o None (λ z. AreThere z → leads ≡ true) (λ t _. t) (λ _ h. absurd h)
 
-module _ (shapes : Shapes) (code : List Insn) (named : List Named) (program : IsProgram code) (fine : HasNoFault (shape_fault code named)) where
+module _ (shapes : Shapes) (code : List Insn) (named : List Named) (program : IsProgram code) (fine : HasNoFault (structure_fault code named)) where
   pub shape_at : (n : ℕ) (i : Insn) → begins_at code n ≡ Some i → IsShaped code i n
   shape_at = shaped code named fine
 

@@ -18,7 +18,7 @@ use Rattle.reg_kinds.specs.Kinds.{kind_at, with_kind}
 use Rattle.tagged_model.specs.Operators.{narrow_of, order_of, kept_of, size_of, atomic_size}
 use Rattle.transfer.specs.Branches.{Edges}
 use Rattle.transfer.specs.Branches.{falls as falls_on}
-use Rattle.transfer.specs.Arithmetic.{readable, arithmetic_kind, of_scalar}
+use Rattle.transfer.specs.Arithmetic.{check_readable, arithmetic_kind, of_scalar}
 use Rattle.transfer.specs.Effects.{source_kind, first_kind, assigns, load_kind, store_facts, changed_facts, map_of, value_of, known, exits_with, effect}
 use Rattle.transfer.specs.Calls.{call_facts}
 use Rattle.tagged_model.specs.Named.{Shapes}
@@ -68,26 +68,26 @@ either_way i (Err e) h g = tt
 either_way i (Ok e) h g = record { falling = λ _. h; jumping = λ _. g }
 
 -- an operator of one register
-one_leads : (i : Insn) (f : Facts) (dst src : ℕ) (of : Kind → Result Kind Reason) → falls i ≡ true → IfOk (LeadOnly i) (and_then_ok (readable (kind_at f src)) (λ k. assigns f dst (of k)))
-one_leads i f dst src of h = after_given (LeadOnly i) (readable (kind_at f src)) (λ k. assigns f dst (of k)) (λ k. assigned_alone i f dst (of k) h)
+one_leads : (i : Insn) (f : Facts) (dst src : ℕ) (of : Kind → Result Kind Reason) → falls i ≡ true → IfOk (LeadOnly i) (and_then_ok (check_readable (kind_at f src)) (λ k. assigns f dst (of k)))
+one_leads i f dst src of h = after_given (LeadOnly i) (check_readable (kind_at f src)) (λ k. assigns f dst (of k)) (λ k. assigned_alone i f dst (of k) h)
 
 module _ (shapes : Shapes) (at : ℕ) where
   alu_leads : (wide : Bool) (op : AluOp) (dst : ℕ) (src : Operand) (f : Facts) → IfOk (LeadOnly (Alu wide op dst src)) (effect shapes at (Alu wide op dst src) f)
   alu_leads wide op dst src f =
       after_given (LeadOnly (Alu wide op dst src)) (first_kind op (kind_at f dst)) _
-      (λ a. after_given (LeadOnly (Alu wide op dst src)) (readable (source_kind f wide src)) _
+      (λ a. after_given (LeadOnly (Alu wide op dst src)) (check_readable (source_kind f wide src)) _
       (λ b. assigned_alone (Alu wide op dst src) f dst (arithmetic_kind wide op a b) refl))
 
   store_leads : (size : Size) (dst : ℕ) (src : Operand) (off : ℤ) (f : Facts) → IfOk (LeadOnly (Store size dst src off)) (effect shapes at (Store size dst src off) f)
   store_leads size dst src off f =
-      after_given (LeadOnly (Store size dst src off)) (readable (kind_at f dst)) _
-      (λ k. after_given (LeadOnly (Store size dst src off)) (readable (source_kind f true src)) _
+      after_given (LeadOnly (Store size dst src off)) (check_readable (kind_at f dst)) _
+      (λ k. after_given (LeadOnly (Store size dst src off)) (check_readable (source_kind f true src)) _
       (λ v. after_given (LeadOnly (Store size dst src off)) (store_facts shapes f (size_of size) off k v) _ (λ g. falls_alone (Store size dst src off) g refl)))
 
   change_leads : (size : AtomicSize) (op : AtomicOp) (dst src : ℕ) (off : ℤ) (f : Facts) → IfOk (LeadOnly (Atomic size op dst src off)) (effect shapes at (Atomic size op dst src off) f)
   change_leads size op dst src off f =
-      after_given (LeadOnly (Atomic size op dst src off)) (readable (kind_at f dst)) _
-      (λ k. after_given (LeadOnly (Atomic size op dst src off)) (readable (kind_at f src)) _
+      after_given (LeadOnly (Atomic size op dst src off)) (check_readable (kind_at f dst)) _
+      (λ k. after_given (LeadOnly (Atomic size op dst src off)) (check_readable (kind_at f src)) _
       (λ v. after_given (LeadOnly (Atomic size op dst src off)) (changed_facts shapes f (atomic_size size) off k v) _ (λ g. falls_alone (Atomic size op dst src off) g refl)))
 
   effect_leads : (i : Insn) (f : Facts) → IfOk (LeadOnly i) (effect shapes at i f)
@@ -99,7 +99,7 @@ module _ (shapes : Shapes) (at : ℕ) where
   effect_leads (Jal off) f = jumps_alone (Jal off) f refl
   effect_leads (Jump wide cond dst src off) f = either_way (Jump wide cond dst src off) (effect shapes at (Jump wide cond dst src off) f) refl refl
   effect_leads (Call id) f = after_given (LeadOnly (Call id)) (known (helper_of id)) _ (λ h. after_given (LeadOnly (Call id)) (call_facts shapes at h f) falls_on (λ g. falls_alone (Call id) g refl))
-  effect_leads Exit f = after_given (LeadOnly Exit) (readable (kind_at f 0)) exits_with ends_nowhere
+  effect_leads Exit f = after_given (LeadOnly Exit) (check_readable (kind_at f 0)) exits_with ends_nowhere
   effect_leads (Load l) f = one_leads (Load l) f l.dst l.src (load_kind shapes f (size_of l.size) l.signed l.off) refl
   effect_leads (Store size dst src off) f = store_leads size dst src off f
   effect_leads (Atomic size op dst src off) f = change_leads size op dst src off f

@@ -11,7 +11,7 @@ use Rattle.tagged_model.specs.Named.{Shapes}
 use Rattle.tagged_model.specs.Table.{Table}
 use Rattle.tagged_model.specs.State.{RunMap}
 use Rattle.tagged_model.specs.Step.{MapsByDescriptor, numbered, first_map}
-use Rattle.tagged_model.specs.Admits.{AreBytes, KeysHaveObjects, IsMapOf}
+use Rattle.tagged_model.specs.StateInvariant.{AreBytes, KeysHaveObjects, IsMapOf}
 use Rattle.verifier.specs.Sound.{IsTableOf}
 
 -- ---- the objects of a map are numbered in order

@@ -9,7 +9,7 @@ use Rattle.insn_codec.specs.Program.{slot_count, begins_at}
 use Rattle.insn_codec.specs.BeginLaws.{next_begins}
 use Rattle.tagged_model.specs.declared.shape.Named.{Named}
 use Rattle.insn_codec.specs.Flow.{falls_to, jumps_to, falls, jumps}
-use Rattle.verdict.specs.Shape.{is_slot, falls_into, jumps_into, leads_outside, leads_backward, shape_fault}
+use Rattle.verdict.specs.Shape.{is_slot, falls_into, jumps_into, leads_outside, leads_backward, structure_fault}
 use Rattle.verdict.specs.Verdict.{HasNoFault}
 use Rattle.verdict.specs.ShapeLaws.{each_is_fine}
 use Rattle.verifier.specs.Verified.{GoesAhead}
@@ -22,7 +22,7 @@ pub record IsShaped (code : List Insn) (i : Insn) (n : ℕ) : Type 0 where
   pub forward : (jumps i && leads_backward (jumps_to i n) n) ≡ false
   pub on : (falls i && nat_le (slot_count code) (falls_to i n)) ≡ false
 
-pub shaped : (code : List Insn) (named : List Named) → HasNoFault (shape_fault code named) → (n : ℕ) (i : Insn) → begins_at code n ≡ Some i → IsShaped code i n
+pub shaped : (code : List Insn) (named : List Named) → HasNoFault (structure_fault code named) → (n : ℕ) (i : Insn) → begins_at code n ≡ Some i → IsShaped code i n
 shaped code named none n i begins = let fine = each_is_fine code named none n i begins in record { inside = fine.inside; forward = fine.forward; on = fine.goes_on }
 
 -- ---- where its edges lead
@@ -88,7 +88,7 @@ some_slot : (o : Option ℕ) → IsSome o → (to : ℕ) × (o ≡ Some to)
 some_slot None h = absurd (false≢true h)
 some_slot (Some to) h = (to, refl)
 
-pub goes_ahead : (code : List Insn) (named : List Named) → HasNoFault (shape_fault code named) → GoesAhead code
+pub goes_ahead : (code : List Insn) (named : List Named) → HasNoFault (structure_fault code named) → GoesAhead code
 goes_ahead code named none =
     record {
       behind = λ at i begins h.

@@ -19,7 +19,7 @@ use Rattle.tagged_model.specs.Cells.{bytes}
 use Rattle.tagged_model.specs.State.{RunState}
 use Rattle.tagged_model.specs.Step.{Step, goes, ends, faults, step, Ending, ending_after, refused_at_first, refused_later, run, begins_with, MapsByDescriptor, start_of_run}
 use Rattle.tagged_model.specs.Admits.{Witness, objects_of, HasKind, HasSlot, AdmitsBy}
-use Rattle.tagged_model.specs.StateLaws.{no_bytes}
+use Rattle.tagged_model.specs.AdmitsLaws.{no_bytes}
 use Rattle.verdict.specs.Maps.{shapes_of}
 use Rattle.verdict.specs.Before.{facts_from_below, facts_before}
 use Rattle.verdict.specs.Verdict.{IsAccepted}

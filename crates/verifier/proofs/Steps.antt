@@ -13,7 +13,8 @@ use Rattle.tagged_model.specs.Named.{Shapes}
 use Rattle.tagged_model.specs.Cells.{and_then}
 use Rattle.tagged_model.specs.State.{RunState}
 use Rattle.tagged_model.specs.Step.{Step, goes, ends, faults, or_fault, act}
-use Rattle.tagged_model.specs.Admits.{Witness, IsInRange, HasMaps}
+use Rattle.tagged_model.specs.StateInvariant.{IsInRange, HasMaps}
+use Rattle.tagged_model.specs.Admits.{Witness}
 use Rattle.tagged_model.specs.Laws.{JoinAdmits}
 use Rattle.transfer.specs.Branches.{Edges}
 use Rattle.transfer.specs.Effects.{effect}

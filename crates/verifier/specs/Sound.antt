@@ -13,12 +13,13 @@ use Rattle.tagged_model.specs.Named.{Shapes}
 use Rattle.tagged_model.specs.Table.{Table, indexed}
 use Rattle.tagged_model.specs.State.{RunState, context_words}
 use Rattle.tagged_model.specs.Step.{Step, goes, ends, faults, act, step, MapsByDescriptor, result_with}
-use Rattle.tagged_model.specs.Admits.{Witness, AreBytes}
+use Rattle.tagged_model.specs.StateInvariant.{AreBytes}
+use Rattle.tagged_model.specs.Admits.{Witness}
 use Rattle.tagged_model.specs.Laws.{Describes}
 use Rattle.transfer.specs.Branches.{Edges}
 use Rattle.transfer.specs.Effects.{effect}
 use Rattle.transfer.specs.Sound.{CoversStep}
-use Rattle.verdict.specs.Shape.{shape_fault}
+use Rattle.verdict.specs.Shape.{structure_fault}
 use Rattle.verdict.specs.Maps.{shapes_of}
 use Rattle.verdict.specs.Before.{facts_before}
 use Rattle.verdict.specs.Verdict.{HasNoFault, IsAccepted}
@@ -30,7 +31,7 @@ use Rattle.verdict.specs.Verdict.{HasNoFault, IsAccepted}
 -- map of each shape again, and the facts on the edge that the step takes admit it
 abbrev pub StepIsSound : Type 0
 StepIsSound =
-    (code : List Insn) (named : List Named) (witness : Witness) (refused : Bool) (s : RunState) (i : Insn) (f : Facts) (edges : Edges) → IsProgram code → HasNoFault (shape_fault code named) → begins_at code s.at ≡ Some i
+    (code : List Insn) (named : List Named) (witness : Witness) (refused : Bool) (s : RunState) (i : Insn) (f : Facts) (edges : Edges) → IsProgram code → HasNoFault (structure_fault code named) → begins_at code s.at ≡ Some i
     → facts_before (shapes_of code named) code s.at ≡ Some f → Describes witness f (shapes_of code named) s → effect (shapes_of code named) s.at i f ≡ Ok edges
     → CoversStep (shapes_of code named) i s edges (act refused i s)
 

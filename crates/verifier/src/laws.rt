@@ -2,16 +2,13 @@
 
 ghost use Rattle.verifier.specs.Sound.{StepIsSound, StepsGoOn, NeverFaults};
 
-use tagged_model::join_admits;
-use transfer::{transfer_is_sound, transfer_keeps_well_formed};
-
 /// In a program without a fault of its shape: where the facts before a slot admit a state at it, and let the instruction
 /// there be run, the machine has a step, and the facts on the edge that it takes admit the next state.
 pub fn step_is_sound()
     ensures { StepIsSound }
 {
-    transfer_is_sound();
-    transfer_keeps_well_formed();
+    transfer::laws::transfer_is_sound();
+    transfer::laws::transfer_keeps_well_formed();
 }
 
 /// Where the facts before a slot admit a state at it, the step of an accepted program is no fault, and the facts before the
@@ -19,9 +16,9 @@ pub fn step_is_sound()
 pub fn steps_go_on()
     ensures { StepsGoOn }
 {
-    transfer_is_sound();
-    transfer_keeps_well_formed();
-    join_admits();
+    transfer::laws::transfer_is_sound();
+    transfer::laws::transfer_keeps_well_formed();
+    tagged_model::laws::join_admits();
 }
 
 /// No run of an accepted program faults.

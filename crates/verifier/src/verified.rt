@@ -9,7 +9,7 @@ ghost use Rattle.verdict.specs.Maps.{maps_of, entries_of};
 ghost use Rattle.verifier.specs.Sound.{AreRunInputs};
 ghost use Rattle.verifier.specs.Verified.{IsVerified, GoesAhead, shapes_in};
 
-use crate::laws::accepted_programs_never_fault;
+use crate::laws;
 use insn_codec::Program;
 use std::alloc::Global;
 use std::marker::Model;
@@ -60,7 +60,7 @@ impl Verified {
             → result_with refusals self.now.code maps words packet ≢ Fault }
     {
         self.program.code();
-        accepted_programs_never_fault();
+        laws::accepted_programs_never_fault();
     }
 
     /// A law: wherever an instruction of the program may lead another one begins, and farther on. It does nothing when it runs.

@@ -1,5 +1,5 @@
--- Known answers: what the equations give on numbers of RFC 9669's rules.
-use Rattle.std.proofs.Common.{◌≡◌, true, false, refl}
+-- Known answers: what the equations give on numbers of RFC 9669's rules, and where accesses lie in a stack of 512 bytes.
+use Rattle.std.proofs.Common.{◌≡◌, pos, neg_ℤ, true, false, refl}
 use Rattle.words.specs.declared.operator.KeptBits.TheVariants.{Bits16, Bits32, Bits64}
 use Rattle.words.specs.declared.operator.ExtendedBits.TheVariants as narrow
 use Rattle.words.specs.declared.operator.OrderChange.TheVariants.{Little, Big, Swap}
@@ -7,6 +7,7 @@ use Rattle.words.specs.declared.operator.Operator.TheVariants.{Add, Sub, Mul, Di
 use Rattle.words.specs.declared.operator.Comparison.TheVariants.{Equal, NotEqual, Above, AboveOrEqual, Below, BelowOrEqual, SignedAbove, SignedAboveOrEqual, SignedBelow, SignedBelowOrEqual, CommonBit}
 use Rattle.words.specs.Operate.{operate, byte_order}
 use Rattle.words.specs.Compare.{compares}
+use Rattle.words.specs.Stack.{is_in_stack, place, is_aligned, touches}
 
 -- ---- words of 64 bits (RFC 9669, sections 4.1 to 4.3)
 
@@ -275,3 +276,32 @@ upper_digits_do_not_meet = refl
 
 low_digits_meet : compares 32 CommonBit 0x1_0000_0006 3 ≡ true
 low_digits_meet = refl
+
+-- ---- the stack (linux/filter.h)
+
+lowest_byte : place (neg_ℤ (pos 512)) ≡ 0
+lowest_byte = refl
+
+whole_stack : is_in_stack (neg_ℤ (pos 512)) 512 ≡ true
+whole_stack = refl
+
+past_the_upper_end : is_in_stack (neg_ℤ (pos 4)) 8 ≡ false
+past_the_upper_end = refl
+
+below_the_lowest_byte : is_in_stack (neg_ℤ (pos 513)) 1 ≡ false
+below_the_lowest_byte = refl
+
+aligned_to_four : is_aligned (neg_ℤ (pos 12)) 4 ≡ true
+aligned_to_four = refl
+
+not_aligned_to_eight : is_aligned (neg_ℤ (pos 12)) 8 ≡ false
+not_aligned_to_eight = refl
+
+last_byte_of_a_slot : touches 7 2 0 ≡ true
+last_byte_of_a_slot = refl
+
+first_byte_of_the_next : touches 7 2 1 ≡ true
+first_byte_of_the_next = refl
+
+next_slot_alone : touches 8 8 0 ≡ false
+next_slot_alone = refl

@@ -4,4 +4,6 @@ pub mod ByteLaws
 pub mod Operate
 pub mod Compare
 pub mod SignLaws
+pub mod Stack
+pub mod StackLaws
 pub mod Widths

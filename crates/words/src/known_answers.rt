@@ -1,6 +1,6 @@
 //! Known answers, proved from the contracts alone.
 
-use crate::{Comparison, KeptBits, Operator, OrderChange, words32, words64};
+use crate::{AccessSize, Comparison, KeptBits, Operator, OrderChange, words32, words64};
 
 fn words_of_64_bits() {
     let quotient = words64::operate(Operator::Div, 7, 0);
@@ -24,4 +24,11 @@ fn words_of_32_bits() {
     prove!(difference == 0xffff_ffff);
     let equal = words32::compares(Comparison::Equal, 0x1_0000_0005, 5);
     prove!(equal);
+}
+
+fn sizes_of_accesses() {
+    let bytes = AccessSize::Half.bytes();
+    prove!(bytes == 2);
+    let is_whole = AccessSize::Word.is_whole();
+    prove!(!is_whole);
 }

@@ -2,8 +2,7 @@
 use Rattle.std.specs.Prelude.{◌≡◌, ℕ, ◌+◌, ◌<◌, ◌≤◌, ℤ, Bool, true, List, [], length, slice_get, slice_index, slice_set, Option, Some, None, IsSome}
 use Rattle.std.specs.Map.{values_of}
 use Rattle.words.specs.Bytes.{bytes_at, written_at}
-use Rattle.reg_kinds.specs.Kinds.{stack_size}
-use Rattle.reg_kinds.specs.Stack.{place}
+use Rattle.words.specs.Stack.{stack_size, place}
 use Rattle.tagged_model.specs.declared.helper.Helper.TheVariants.{LookUp}
 use Rattle.tagged_model.specs.declared.value.Tagged.{Tagged}
 use Rattle.tagged_model.specs.declared.value.Tagged.TheVariants.{Scalar}
@@ -15,9 +14,10 @@ use Rattle.arena.specs.Memory.{Memory, base, part_start, with_bytes}
 use Rattle.bpf_maps.specs.Places.{table_of, after_run, IsSound}
 use Rattle.bpf_maps.specs.Live.{LiveMaps, live_at, places_at, shape_at, offset_at}
 use Rattle.bpf_helpers.specs.Layout.{Layout, IsWord, HasStack}
-use Rattle.bpf_helpers.specs.Stands.{IsRoom, HasMap, StandsFor, place_bytes}
+use Rattle.bpf_helpers.specs.Stands.{IsRoom, HasMap, Simulates, place_bytes}
 use Rattle.bpf_helpers.specs.Calls.{Extends}
-use Rattle.bpf_helpers.specs.inside.Flat.{part_place, flat_look_up, Updates, Deletes}
+use Rattle.bpf_helpers.specs.Named.{part_place}
+use Rattle.bpf_helpers.specs.inside.Flat.{flat_look_up, Updates, Deletes}
 
 -- ---- the stack
 
@@ -39,14 +39,14 @@ StackBytesAreWritten =
 -- ---- what a helper writes
 
 -- where the machine writes bytes through a pointer, the memory with these bytes at its address stands for the state after it
-abbrev pub OutputsStand : Type 0
-OutputsStand =
+abbrev pub OutputsKeepSimulation : Type 0
+OutputsKeepSimulation =
     (l : Layout) (bind : List ℕ) (old : Memory) (t at : ℕ) (registers : List ℕ) (memory : Memory)
     (tenant : LiveMaps) (s u : RunState) (p : Tagged) (w : ℕ) (bs : List ℕ)
-    → IsRoom old t → StandsFor l bind old t at registers memory tenant s → IsWord l p w
+    → IsRoom old t → Simulates l bind old t at registers memory tenant s → IsWord l p w
     → output s p bs ≡ Some u
     → (q : ℕ) × (part_place (part_start memory t) memory.part (length bs) w ≡ Some q)
-    × StandsFor l bind old t at registers (with_bytes memory (part_start memory t + q) bs) tenant u
+    × Simulates l bind old t at registers (with_bytes memory (part_start memory t + q) bs) tenant u
 
 -- ---- the helpers
 
@@ -61,14 +61,14 @@ abbrev pub LookUpsFollow : Type 0
 LookUpsFollow =
     (l : Layout) (bind : List ℕ) (old : Memory) (t at : ℕ) (registers : List ℕ) (memory : Memory)
     (tenant : LiveMaps) (s u : RunState) (refused : Bool)
-    → IsRoom old t → StandsFor l bind old t at registers memory tenant s
+    → IsRoom old t → Simulates l bind old t at registers memory tenant s
     → called refused LookUp s ≡ Some u
     → (v : Tagged) × (u ≡ returns s v)
     × GivesWord l
     (flat_look_up memory t tenant bind (slice_index registers 1) (slice_index registers 2)) (Some v)
 
 -- an update by the machine, which may be refused memory, and what stands for the state after it
-pub record UpdateStands (l : Layout) (bind : List ℕ) (old : Memory) (t at : ℕ) (registers : List ℕ)
+pub record UpdateKeepsSimulation (l : Layout) (bind : List ℕ) (old : Memory) (t at : ℕ) (registers : List ℕ)
     (s : RunState) (m : ℕ) (map : RunMap) (key value : List ℕ) (flags word : ℕ) (after : Memory)
     (new : LiveMaps) : Type 0 where
   pub refused : Bool
@@ -76,51 +76,51 @@ pub record UpdateStands (l : Layout) (bind : List ℕ) (old : Memory) (t at : �
   pub layout : Layout
   pub extends : Extends l layout
   pub answer : word ≡ (updated refused map key value flags).answer
-  pub stands : StandsFor layout bind old t at registers after new
+  pub stands : Simulates layout bind old t at registers after new
       (with_reply s m (updated refused map key value flags))
 
-abbrev pub UpdatesStand : Type 0
-UpdatesStand =
+abbrev pub UpdatesKeepSimulation : Type 0
+UpdatesKeepSimulation =
     (l : Layout) (bind : List ℕ) (old : Memory) (t at : ℕ) (registers : List ℕ) (memory : Memory)
     (tenant : LiveMaps) (s : RunState) (i m : ℕ) (map : RunMap) (key value : List ℕ) (flags word : ℕ)
     (after : Memory) (new : LiveMaps)
-    → IsRoom old t → StandsFor l bind old t at registers memory tenant s
+    → IsRoom old t → Simulates l bind old t at registers memory tenant s
     → slice_get l.maps i ≡ Some m → s.maps m ≡ Some map → length value ≡ map.table.shape.value_size
     → Updates memory t tenant (slice_index bind i) key value flags word after new
-    → UpdateStands l bind old t at registers s m map key value flags word after new
+    → UpdateKeepsSimulation l bind old t at registers s m map key value flags word after new
 
 -- after a delete words, bytes and live maps stand for the state after the machine's delete
-abbrev pub DeletesStand : Type 0
-DeletesStand =
+abbrev pub DeletesKeepSimulation : Type 0
+DeletesKeepSimulation =
     (l : Layout) (bind : List ℕ) (old : Memory) (t at : ℕ) (registers : List ℕ) (memory : Memory)
     (tenant : LiveMaps) (s : RunState) (i m : ℕ) (map : RunMap) (key : List ℕ) (word : ℕ) (new : LiveMaps)
-    → StandsFor l bind old t at registers memory tenant s
+    → Simulates l bind old t at registers memory tenant s
     → slice_get l.maps i ≡ Some m → s.maps m ≡ Some map
     → Deletes tenant (slice_index bind i) key word new
     → (word ≡ (removed map key).answer)
-    × StandsFor l bind old t at registers memory new (with_reply s m (removed map key))
+    × Simulates l bind old t at registers memory new (with_reply s m (removed map key))
 
 -- bytes of the packet, or zeros, that the machine writes have a place in the part, and the memory with them there stands for
 -- the state with them
-pub record LoadStands (l : Layout) (bind : List ℕ) (old : Memory) (t at : ℕ) (registers : List ℕ)
+pub record LoadKeepsSimulation (l : Layout) (bind : List ℕ) (old : Memory) (t at : ℕ) (registers : List ℕ)
     (memory : Memory) (tenant : LiveMaps) (s u : RunState) : Type 0 where
   pub place : ℕ
   pub place_is :
       part_place (part_start memory t) memory.part
       (slice_index registers 4) (slice_index registers 3) ≡ Some place
   pub written : RunState
-  pub stands : StandsFor l bind old t at registers (with_bytes memory (part_start memory t + place)
+  pub stands : Simulates l bind old t at registers (with_bytes memory (part_start memory t + place)
       (packet_bytes s.packet (slice_index registers 2) (slice_index registers 4))) tenant written
   pub is : u ≡ returns written
       (Scalar (packet_answer s.packet (slice_index registers 2) (slice_index registers 4)))
 
 -- what a call gives goes into register 0; nothing is known of registers 1 to 5 any more
-abbrev pub ReturnsStand : Type 0
-ReturnsStand =
+abbrev pub ReturnsKeepSimulation : Type 0
+ReturnsKeepSimulation =
     (l : Layout) (bind : List ℕ) (old : Memory) (t at : ℕ) (registers : List ℕ) (memory : Memory)
     (tenant : LiveMaps) (s : RunState) (v : Tagged) (w : ℕ)
-    → StandsFor l bind old t at registers memory tenant s → IsWord l v w
-    → StandsFor l bind old t at (slice_set registers 0 w) memory tenant (returns s v)
+    → Simulates l bind old t at registers memory tenant s → IsWord l v w
+    → Simulates l bind old t at (slice_set registers 0 w) memory tenant (returns s v)
 
 -- ---- one map where a run begins and ends
 

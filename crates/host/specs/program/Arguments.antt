@@ -9,7 +9,7 @@ use Rattle.tagged_model.specs.Shape.{is_from_to}
 use Rattle.host.specs.program.Decimal.{decimal_number}
 use Rattle.host.specs.program.Judging.{AcceptsIfKnown}
 use Rattle.host.specs.program.Shapes.{IsFirstWrongArgument}
-use Rattle.host.specs.declared.host.TheConstants.{MOST_TENANTS}
+use Rattle.host_core.specs.declared.host.TheConstants.{MOST_TENANTS}
 use Rattle.host.specs.declared.program.texts.TextTask.{TextTask}
 use Rattle.host.specs.declared.program.texts.TextTask.TheVariants.{Assemble, Disassemble}
 
@@ -40,14 +40,14 @@ verify_command = with_rule (new_app (codes "verify")) maps_argument
 abbrev pub asks_for_subcommand : Shape → Shape
 asks_for_subcommand s = record s { no_binary_name = true; subcommand_required = true }
 
-abbrev pub serving : App
-serving = with_subcommand (on_top asks_for_subcommand (new_app (codes "bpfhost"))) serve_command.top
+abbrev pub program_up_to_serve : App
+program_up_to_serve = with_subcommand (on_top asks_for_subcommand (new_app (codes "bpfhost"))) serve_command.top
 
-abbrev pub rewriting : App
-rewriting = with_subcommand (with_subcommand serving asm_command.top) dis_command.top
+abbrev pub program_up_to_dis : App
+program_up_to_dis = with_subcommand (with_subcommand program_up_to_serve asm_command.top) dis_command.top
 
 abbrev pub program : App
-program = with_subcommand rewriting verify_command.top
+program = with_subcommand program_up_to_dis verify_command.top
 
 -- the kinds of error that clap has at the arguments: none where it takes them
 unfoldable pub refusal_kinds : List Text → Kinds

@@ -6,9 +6,9 @@ use Rattle.bpf_text.specs.Fault.{kind_number}
 use Rattle.bpf_text.specs.declared.fault.TextFault.{TextFault}
 use Rattle.bpf_text.specs.declared.fault.TextFaultKind.{TextFaultKind}
 use Rattle.bpf_text.specs.declared.fault.TextFaultKind.TheVariants as text
-use Rattle.host.specs.declared.server.ServeFault.{ServeFault}
-use Rattle.host.specs.declared.server.ServeFaultKind.{ServeFaultKind}
-use Rattle.host.specs.declared.server.ServeFaultKind.TheVariants as fault
+use Rattle.host_core.specs.declared.server.ServeFault.{ServeFault}
+use Rattle.host_core.specs.declared.server.ServeFaultKind.{ServeFaultKind}
+use Rattle.host_core.specs.declared.server.ServeFaultKind.TheVariants as fault
 use Rattle.host.specs.declared.program.failure.Failure.{Failure}
 use Rattle.host.specs.declared.program.failure.Failure.TheVariants.{WrongArguments, MapArgument, Truncated, TooManyFrames, TooLong, Line, Slot, Read, Write, Memory}
 

@@ -2,9 +2,9 @@
 
 ghost use Rattle.std.specs.Prelude.{◌≡◌};
 
-use crate::server::{ServeFault, ServeFaultKind};
 use bpf_text::{TextFault, TextFaultKind};
 use clap::error::ErrorKind;
+use host_core::{ServeFault, ServeFaultKind};
 use insn_codec::{CodecFault, FaultKind};
 use std::alloc::{AllocError, AllocFailed};
 use std::io;

@@ -10,14 +10,13 @@ ghost use Rattle.host.specs.declared.program.judging.Judgement.{Judgement as Any
 
 use crate::program::failure::Failure;
 use crate::program::texts::{program_on, read_input};
-use crate::stream::{Sink, Source};
-use crate::writing::write_whole;
+use host_core::{Sink, Source, write_whole};
 use insn_codec::Program;
 use reg_kinds::Reason;
 use std::alloc::Global;
 use std::fmt;
 use tagged_model::Named;
-use verdict::{accepted_is_not_refused, one_refusal};
+use verdict::laws;
 use verifier::verify;
 
 /// What is told of the slots on hex lines.
@@ -59,15 +58,19 @@ impl Judgement {
 }
 
 /// The verdict on a program, where descriptors name these maps.
-fn verdict_on(alloc: Global, program: &Program, maps: &[Named]) -> Result<Judgement, Failure>
+fn verdict_of_program(
+    alloc: Global,
+    program: &Program,
+    maps: &[Named],
+) -> Result<Judgement, Failure>
     ensures judged { IfOk result (λ judgement. IsVerdict maps.now program.now judgement) }
     ensures only { (judgement : AnyJudgement) → IsVerdict maps.now program.now judgement
         → Gives (λ told. told) result judgement }
     ensures fault { IfErr result (λ failure. failure ≡ Failure.Memory) }
 {
     // These laws say that there is one verdict.
-    one_refusal();
-    accepted_is_not_refused();
+    laws::one_refusal();
+    laws::accepted_is_not_refused();
     match verify(alloc, program, maps) {
         Ok(_) => Ok(Judgement::Accepted),
         Err(fault) => {
@@ -85,7 +88,7 @@ fn verdict_on(alloc: Global, program: &Program, maps: &[Named]) -> Result<Judgem
 }
 
 /// What is told of the slots on the lines of the input, where descriptors name these maps.
-fn judged(alloc: Global, maps: &[Named], input: &[u8]) -> Result<Judgement, Failure>
+fn verdict_of_input(alloc: Global, maps: &[Named], input: &[u8]) -> Result<Judgement, Failure>
     ensures judged { IfOk result (λ judgement. IsJudgement maps.now input.now judgement) }
     ensures only { (judgement : AnyJudgement) → IsJudgement maps.now input.now judgement
         → Gives (λ told. told) result judgement }
@@ -94,7 +97,7 @@ fn judged(alloc: Global, maps: &[Named], input: &[u8]) -> Result<Judgement, Fail
         → Fails result (λ failure. failure ≡ refusal) }
 {
     match program_on(alloc, input) {
-        Ok(program) => verdict_on(alloc, &program, maps),
+        Ok(program) => verdict_of_program(alloc, &program, maps),
         Err(failure) => {
             match failure {
                 Failure::Slot { slot, kind } => {
@@ -127,7 +130,7 @@ pub(crate) fn judge<S: Source, O: Sink>(
         failure) }
 {
     let input = read_input(alloc, reader)?;
-    let judgement = judged(alloc, maps, &input)?;
+    let judgement = verdict_of_input(alloc, maps, &input)?;
     let line = format!(in alloc; "{judgement}\n")?;
     match write_whole(writer, line.as_bytes()) {
         Ok(()) => Ok(judgement),

@@ -9,10 +9,8 @@ ghost use Rattle.host.specs.declared.program.failure.Failure.{Failure as AnyFail
 ghost use Rattle.insn_codec.specs.declared.insn.Insn.{Insn as AnyInsn};
 
 use crate::program::failure::Failure;
-use crate::reading::fill;
-use crate::stream::{Sink, Source};
-use crate::writing::write_whole;
 use bpf_text::{assemble, disassemble, from_hex_lines, hex_lines};
+use host_core::{Sink, Source, fill, write_whole};
 use insn_codec::{Program, read_program};
 use std::alloc::{AllocError, Global};
 

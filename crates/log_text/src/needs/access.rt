@@ -6,10 +6,11 @@ use crate::needs::arithmetic::write_maybe_null;
 use crate::needs::registers::{kind_of, register_of, write_register};
 use crate::ways::{Wanted, is_written, write_way};
 use insn_codec::Insn;
-use reg_kinds::{Facts, Kind, Reason, STACK_SLOTS, Slot, ValuePointer};
+use reg_kinds::{Facts, Kind, Reason, Slot, ValuePointer};
 use std::alloc::AllocError;
 use std::fmt::Write;
 use tagged_model::{Named, access_size, shape_of};
+use words::STACK_SLOTS;
 
 /// What an access does.
 #[derive(Clone, Copy, Debug, PartialEq, Eq)]

@@ -3,11 +3,12 @@
 use crate::kinds::write_kind;
 use crate::needs::Refusal;
 use crate::ways::{Wanted, write_way};
-use insn_codec::{AluOp, Insn, Operand, Reg};
-use reg_kinds::{Facts, Kind, REGISTERS};
+use insn_codec::{Insn, Operand, Reference, Reg};
+use reg_kinds::{Facts, Kind};
 use std::alloc::AllocError;
 use std::fmt::Write;
 use tagged_model::{Helper, known_helper};
+use words::REGISTERS;
 
 /// The kind of a register, by its number.
 pub(crate) fn kind_of(facts: &Facts, register: u8) -> Kind {
@@ -66,24 +67,14 @@ fn unreadable_argument(facts: &Facts, id: i32) -> Option<u8> {
 
 /// The register that an instruction reads and may not.
 fn unreadable_in(facts: &Facts, insn: &Insn) -> Option<u8> {
-    match *insn {
-        Insn::Alu {
-            op: AluOp::Mov,
-            src,
-            ..
-        } => register_of(src),
-        Insn::Alu { dst, src, .. } | Insn::Jump { dst, src, .. } | Insn::Store { dst, src, .. } => {
-            unreadable_of(facts, Some(dst.number()), register_of(src))
-        }
-        Insn::Movsx(ref moved) => Some(moved.src.number()),
-        Insn::Neg { dst, .. } | Insn::End { dst, .. } => Some(dst.number()),
-        Insn::Atomic { dst, src, .. } => {
-            unreadable_of(facts, Some(dst.number()), Some(src.number()))
-        }
-        Insn::Load(ref load) => Some(load.src.number()),
-        Insn::Call { id } => unreadable_argument(facts, id),
-        Insn::Exit => Some(0),
-        _ => None,
+    let row = insn.profile();
+    match row.reference {
+        Reference::Helper(id) => unreadable_argument(facts, id),
+        Reference::Nothing | Reference::Map(_) | Reference::Value(_, _) => unreadable_of(
+            facts,
+            row.first_read.map(|register| register.number()),
+            row.second_read.map(|register| register.number()),
+        ),
     }
 }
 

@@ -1,18 +1,17 @@
 //! Faults of a program's shape.
 
 use crate::needs::Refusal;
-use insn_codec::Insn;
+use insn_codec::{Insn, Reference};
 use reg_kinds::Reason;
 use std::alloc::AllocError;
 use std::fmt::Write;
 use tagged_model::{MapKind, Named, shape_of};
-use verdict::{descriptor, jump_offset};
 
 /// The slot that an instruction jumps to, which may be none of the program.
 fn far_target(insn: &Insn, slot: usize) -> i64 {
     let from = i64::try_from(slot).unwrap_or(i64::MAX);
     from.saturating_add(1)
-        .saturating_add(i64::from(jump_offset(insn)))
+        .saturating_add(i64::from(insn.profile().successors.offset()))
 }
 
 /// Writes where a jump leads that no instruction of the program begins.
@@ -40,13 +39,14 @@ fn write_backward(text: &mut String, refusal: &Refusal<'_>, insn: &Insn) -> Resu
 
 /// The map that an instruction names.
 fn fd_of(insn: &Insn) -> u32 {
-    descriptor(insn).unwrap_or(0)
+    insn.profile().reference.descriptor().unwrap_or(0)
 }
 
 /// Writes why a value can't be loaded directly.
 fn write_no_value(text: &mut String, named: &[Named], insn: &Insn) -> Result<(), AllocError> {
     let fd = fd_of(insn);
-    let (Some(shape), Insn::MapValue { off, .. }) = (shape_of(named, fd), *insn) else {
+    let reference = insn.profile().reference;
+    let (Some(shape), Reference::Value(_, off)) = (shape_of(named, fd), reference) else {
         return write!(text, "descriptor {fd} names no map");
     };
     let (size, entries) = (shape.value_size, shape.max_entries);
@@ -86,8 +86,8 @@ pub(crate) fn write_need(
             )
         }
         Reason::Unreachable => write!(text, "none leads from slot 0 to slot {slot}"),
-        Reason::UnknownHelper => match *insn {
-            Insn::Call { id } => {
+        Reason::UnknownHelper => match insn.profile().reference {
+            Reference::Helper(id) => {
                 write!(
                     text,
                     "there is no helper {id}, and those are 1, 2, 3 and 26"

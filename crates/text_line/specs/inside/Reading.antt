@@ -101,50 +101,50 @@ registers =
 
 -- ---- one token
 
-abbrev pub symbol_then : List Token → Option (List ℕ × List Token)
-symbol_then [] = None
-symbol_then (name n ∷ ts) = None
-symbol_then (number v ∷ ts) = None
-symbol_then (symbol t ∷ ts) = Some (t, ts)
+abbrev pub leading_symbol : List Token → Option (List ℕ × List Token)
+leading_symbol [] = None
+leading_symbol (name n ∷ ts) = None
+leading_symbol (number v ∷ ts) = None
+leading_symbol (symbol t ∷ ts) = Some (t, ts)
 
-abbrev pub name_then : List Token → Option (List ℕ × List Token)
-name_then [] = None
-name_then (name n ∷ ts) = Some (n, ts)
-name_then (number v ∷ ts) = None
-name_then (symbol t ∷ ts) = None
+abbrev pub leading_name : List Token → Option (List ℕ × List Token)
+leading_name [] = None
+leading_name (name n ∷ ts) = Some (n, ts)
+leading_name (number v ∷ ts) = None
+leading_name (symbol t ∷ ts) = None
 
-abbrev pub number_then : List Token → Option (Option ℕ × List Token)
-number_then [] = None
-number_then (name n ∷ ts) = None
-number_then (number v ∷ ts) = Some (v, ts)
-number_then (symbol t ∷ ts) = None
+abbrev pub leading_number : List Token → Option (Option ℕ × List Token)
+leading_number [] = None
+leading_number (name n ∷ ts) = None
+leading_number (number v ∷ ts) = Some (v, ts)
+leading_number (symbol t ∷ ts) = None
 
 -- the tokens after this symbol, and after this name
 unfoldable pub after_symbol : List ℕ → List Token → Option (List Token)
-after_symbol expected ts = symbol_then ts >>= λ s. if bytes_eq s.0 expected then Some s.1 else None
+after_symbol expected ts = leading_symbol ts >>= λ s. if bytes_eq s.0 expected then Some s.1 else None
 
 unfoldable pub after_word : List ℕ → List Token → Option (List Token)
-after_word expected ts = name_then ts >>= λ n. if bytes_eq n.0 expected then Some n.1 else None
+after_word expected ts = leading_name ts >>= λ n. if bytes_eq n.0 expected then Some n.1 else None
 
 -- ---- parts of a line, and the tokens after them
 
-unfoldable pub register_then : Bool → List Token → Option (ℕ × List Token)
-register_then wide ts = do
-  n ← name_then ts
+unfoldable pub leading_register : Bool → List Token → Option (ℕ × List Token)
+leading_register wide ts = do
+  n ← leading_name ts
   r ← named registers n.0
   if bool_eq r.0 wide then Some (r.1, n.1) else None
 
 abbrev pub number_from : Bool → Option (Option ℕ × List Token) → Option (Number × List Token)
 number_from negative o = option_map (λ v. (record { negative = negative; magnitude = v.0 }, v.1)) o
 
-unfoldable pub constant_then : List Token → Option (Number × List Token)
-constant_then ts = match_option (after_symbol (codes "-") ts) (number_from false (number_then ts)) (λ rest. number_from true (number_then rest))
+unfoldable pub leading_constant : List Token → Option (Number × List Token)
+leading_constant ts = match_option (after_symbol (codes "-") ts) (number_from false (leading_number ts)) (λ rest. number_from true (leading_number rest))
 
-unfoldable pub signed_then : List Token → Option (Number × List Token)
-signed_then ts = match_option (after_symbol (codes "+") ts) (after_symbol (codes "-") ts >>= λ rest. number_from true (number_then rest)) (λ rest. number_from false (number_then rest))
+unfoldable pub leading_signed_number : List Token → Option (Number × List Token)
+leading_signed_number ts = match_option (after_symbol (codes "+") ts) (after_symbol (codes "-") ts >>= λ rest. number_from true (leading_number rest)) (λ rest. number_from false (leading_number rest))
 
-unfoldable pub operand_then : Bool → List Token → Option (SourceOperand × List Token)
-operand_then wide ts = match_option (register_then wide ts) (option_map (λ n. (source.Number n.0, n.1)) (constant_then ts)) (λ r. Some (source.Reg r.0, r.1))
+unfoldable pub leading_operand : Bool → List Token → Option (SourceOperand × List Token)
+leading_operand wide ts = match_option (leading_register wide ts) (option_map (λ n. (source.Number n.0, n.1)) (leading_constant ts)) (λ r. Some (source.Reg r.0, r.1))
 
 abbrev pub is_ended : List Token → Bool
 is_ended [] = true
@@ -153,20 +153,20 @@ is_ended (t ∷ ts) = false
 abbrev pub at_end : {A : Type 0} → A → List Token → Option A
 at_end x ts = if is_ended ts then Some x else None
 
-unfoldable pub destination_of : List Token → Option (JumpTarget × List ℕ)
-destination_of ts = match_option (signed_then ts) (name_then ts >>= λ n. at_end (target.Label, n.0) n.1) (λ n. at_end (target.Number n.0, []) n.1)
+unfoldable pub parsed_destination : List Token → Option (JumpTarget × List ℕ)
+parsed_destination ts = match_option (leading_signed_number ts) (leading_name ts >>= λ n. at_end (target.Label, n.0) n.1) (λ n. at_end (target.Number n.0, []) n.1)
 
-unfoldable pub address_then : List Token → Option (Address × List Token)
-address_then ts = do
+unfoldable pub leading_address : List Token → Option (Address × List Token)
+leading_address ts = do
   ts ← after_symbol (codes "*") ts
   ts ← after_symbol (codes "(") ts
-  n ← name_then ts
+  n ← leading_name ts
   s ← named sizes n.0
   ts ← after_symbol (codes "*") n.1
   ts ← after_symbol (codes ")") ts
   ts ← after_symbol (codes "(") ts
-  r ← register_then true ts
-  o ← signed_then r.1
+  r ← leading_register true ts
+  o ← leading_signed_number r.1
   ts ← after_symbol (codes ")") o.1
   Some (record { signed = s.0; size = s.1; base = r.0; offset = o.0 }, ts)
 
@@ -179,152 +179,152 @@ atomic_size_of _ _ = None
 -- ---- forms
 
 -- after `if`
-unfoldable pub jump_of : List Token → Option (Form × List ℕ)
-jump_of ts = do
-  n ← name_then ts
+unfoldable pub parsed_jump : List Token → Option (Form × List ℕ)
+parsed_jump ts = do
+  n ← leading_name ts
   r ← named registers n.0
-  s ← symbol_then n.1
+  s ← leading_symbol n.1
   c ← named conditions s.0
-  src ← operand_then r.0 s.1
+  src ← leading_operand r.0 s.1
   ts ← after_word (codes "goto") src.1
-  to ← destination_of ts
+  to ← parsed_destination ts
   Some (form.Jump r.0 c r.1 src.0 to.0, to.1)
 
-unfoldable pub load_of : ℕ → List Token → Option Form
-load_of dst ts = address_then ts >>= λ a. at_end (form.Load a.0.size a.0.signed dst a.0.base a.0.offset) a.1
+unfoldable pub parsed_load : ℕ → List Token → Option Form
+parsed_load dst ts = leading_address ts >>= λ a. at_end (form.Load a.0.size a.0.signed dst a.0.base a.0.offset) a.1
 
-unfoldable pub store_of : List Token → Option Form
-store_of ts = do
-  a ← address_then ts
+unfoldable pub parsed_store : List Token → Option Form
+parsed_store ts = do
+  a ← leading_address ts
   ts ← after_symbol (codes "=") a.1
-  src ← operand_then true ts
+  src ← leading_operand true ts
   if a.0.signed then None else at_end (form.Store a.0.size a.0.base src.0 a.0.offset) src.1
 
 -- after `lock`
-unfoldable pub atomic_of : List Token → Option Form
-atomic_of ts = do
-  a ← address_then ts
+unfoldable pub parsed_atomic : List Token → Option Form
+parsed_atomic ts = do
+  a ← leading_address ts
   z ← atomic_size_of a.0.signed a.0.size
-  s ← symbol_then a.1
+  s ← leading_symbol a.1
   op ← named atomic_operators s.0
-  src ← register_then true s.1
+  src ← leading_register true s.1
   at_end (form.Atomic z op a.0.base src.0 a.0.offset) src.1
 
 -- after `(`
-unfoldable pub movsx_of : Bool → ℕ → List Token → Option Form
-movsx_of wide dst ts = do
-  n ← name_then ts
+unfoldable pub parsed_movsx : Bool → ℕ → List Token → Option Form
+parsed_movsx wide dst ts = do
+  n ← leading_name ts
   b ← named narrows n.0
   ts ← after_symbol (codes ")") n.1
-  src ← register_then wide ts
+  src ← leading_register wide ts
   if wide || is_short b then at_end (form.Movsx wide b dst src.0) src.1 else None
 
 -- after `-`
-unfoldable pub neg_of : Bool → ℕ → List Token → Option Form
-neg_of wide dst ts = register_then wide ts >>= λ r. if r.0 == dst then at_end (form.Neg wide dst) r.1 else None
+unfoldable pub parsed_neg : Bool → ℕ → List Token → Option Form
+parsed_neg wide dst ts = leading_register wide ts >>= λ r. if r.0 == dst then at_end (form.Neg wide dst) r.1 else None
 
-unfoldable pub end_of : ℕ → List Token → Option Form
-end_of dst ts = do
-  n ← name_then ts
+unfoldable pub parsed_end : ℕ → List Token → Option Form
+parsed_end dst ts = do
+  n ← leading_name ts
   o ← named orders n.0
-  r ← register_then true n.1
+  r ← leading_register true n.1
   if r.0 == dst then at_end (form.End o.0 o.1 dst) r.1 else None
 
-unfoldable pub const_of : ℕ → List Token → Option Form
-const_of dst ts = do
-  v ← number_then ts
+unfoldable pub parsed_constant_load : ℕ → List Token → Option Form
+parsed_constant_load dst ts = do
+  v ← leading_number ts
   ts ← after_word (codes "ll") v.1
   at_end (form.Const dst v.0) ts
 
 -- after `map_fd`
-unfoldable pub map_fd_of : ℕ → List Token → Option Form
-map_fd_of dst ts = do
-  n ← constant_then ts
+unfoldable pub parsed_map_fd : ℕ → List Token → Option Form
+parsed_map_fd dst ts = do
+  n ← leading_constant ts
   ts ← after_word (codes "ll") n.1
   at_end (form.MapFd dst n.0) ts
 
 -- after `map_value`
-unfoldable pub map_value_of : ℕ → List Token → Option Form
-map_value_of dst ts = do
-  n ← constant_then ts
+unfoldable pub parsed_map_value : ℕ → List Token → Option Form
+parsed_map_value dst ts = do
+  n ← leading_constant ts
   ts ← after_symbol (codes "+") n.1
-  off ← number_then ts
+  off ← leading_number ts
   ts ← after_word (codes "ll") off.1
   at_end (form.MapValue dst n.0 off.0) ts
 
 -- after `=`, what only a wide register can be given
-unfoldable pub wide_of : ℕ → List Token → Option Form
-wide_of dst ts =
+unfoldable pub parsed_wide_move : ℕ → List Token → Option Form
+parsed_wide_move dst ts =
     match_option (after_word (codes "map_fd") ts)
     (match_option (after_word (codes "map_value") ts)
-    (match_option (end_of dst ts) (match_option (const_of dst ts) (load_of dst ts) (λ f. Some f)) (λ f. Some f))
-    (λ rest. map_value_of dst rest))
-    (λ rest. map_fd_of dst rest)
+    (match_option (parsed_end dst ts) (match_option (parsed_constant_load dst ts) (parsed_load dst ts) (λ f. Some f)) (λ f. Some f))
+    (λ rest. parsed_map_value dst rest))
+    (λ rest. parsed_map_fd dst rest)
 
 -- after `=`
-unfoldable pub moved_of : Bool → ℕ → List Token → Option Form
-moved_of wide dst ts =
+unfoldable pub parsed_special_move : Bool → ℕ → List Token → Option Form
+parsed_special_move wide dst ts =
     match_option (after_symbol (codes "(") ts)
-    (match_option (after_symbol (codes "-") ts) (if wide then wide_of dst ts else None) (λ rest. neg_of wide dst rest))
-    (λ rest. movsx_of wide dst rest)
+    (match_option (after_symbol (codes "-") ts) (if wide then parsed_wide_move dst ts else None) (λ rest. parsed_neg wide dst rest))
+    (λ rest. parsed_movsx wide dst rest)
 
 abbrev pub is_move : AluOp → Bool
 is_move Mov = true
 is_move _ = false
 
 -- an operator and one operand, and nothing more
-unfoldable pub alu_of : Bool → AluOp → ℕ → List Token → Option Form
-alu_of wide op dst ts = operand_then wide ts >>= λ src. at_end (form.Alu wide op dst src.0) src.1
+unfoldable pub parsed_alu : Bool → AluOp → ℕ → List Token → Option Form
+parsed_alu wide op dst ts = leading_operand wide ts >>= λ src. at_end (form.Alu wide op dst src.0) src.1
 
 -- after the first register
-unfoldable pub assignment_of : Bool → ℕ → List Token → Option Form
-assignment_of wide dst ts = do
-  s ← symbol_then ts
+unfoldable pub parsed_assignment : Bool → ℕ → List Token → Option Form
+parsed_assignment wide dst ts = do
+  s ← leading_symbol ts
   op ← named operators s.0
-  match_option (alu_of wide op dst s.1) (if is_move op then moved_of wide dst s.1 else None) (λ f. Some f)
+  match_option (parsed_alu wide op dst s.1) (if is_move op then parsed_special_move wide dst s.1 else None) (λ f. Some f)
 
 abbrev pub without_label : Option Form → Option (Form × List ℕ)
 without_label o = option_map (λ f. (f, [])) o
 
-unfoldable pub goto_of : List Token → Option (Form × List ℕ)
-goto_of ts = option_map (λ to. (form.Ja to.0, to.1)) (destination_of ts)
+unfoldable pub parsed_goto : List Token → Option (Form × List ℕ)
+parsed_goto ts = option_map (λ to. (form.Ja to.0, to.1)) (parsed_destination ts)
 
-unfoldable pub gotol_of : List Token → Option (Form × List ℕ)
-gotol_of ts = option_map (λ to. (form.Jal to.0, to.1)) (destination_of ts)
+unfoldable pub parsed_gotol : List Token → Option (Form × List ℕ)
+parsed_gotol ts = option_map (λ to. (form.Jal to.0, to.1)) (parsed_destination ts)
 
-unfoldable pub call_of : List Token → Option Form
-call_of ts = constant_then ts >>= λ n. at_end (form.Call n.0) n.1
+unfoldable pub parsed_call : List Token → Option Form
+parsed_call ts = leading_constant ts >>= λ n. at_end (form.Call n.0) n.1
 
-unfoldable pub assigned_of : List Token → Option Form
-assigned_of ts = do
-  n ← name_then ts
+unfoldable pub parsed_assigned : List Token → Option Form
+parsed_assigned ts = do
+  n ← leading_name ts
   r ← named registers n.0
-  assignment_of r.0 r.1 n.1
+  parsed_assignment r.0 r.1 n.1
 
 -- by the first word
-unfoldable pub form_of : List Token → Option (Form × List ℕ)
-form_of ts =
+unfoldable pub parsed_form : List Token → Option (Form × List ℕ)
+parsed_form ts =
     match_option (after_word (codes "if") ts)
     (match_option (after_word (codes "goto") ts)
     (match_option (after_word (codes "gotol") ts)
     (match_option (after_word (codes "call") ts)
     (match_option (after_word (codes "exit") ts)
     (match_option (after_word (codes "lock") ts)
-    (match_option (assigned_of ts) (without_label (store_of ts)) (λ f. Some (f, [])))
-    (λ rest. without_label (atomic_of rest)))
+    (match_option (parsed_assigned ts) (without_label (parsed_store ts)) (λ f. Some (f, [])))
+    (λ rest. without_label (parsed_atomic rest)))
     (λ rest. at_end (form.Exit, []) rest))
-    (λ rest. without_label (call_of rest)))
-    (λ rest. gotol_of rest))
-    (λ rest. goto_of rest))
-    (λ rest. jump_of rest)
+    (λ rest. without_label (parsed_call rest)))
+    (λ rest. parsed_gotol rest))
+    (λ rest. parsed_goto rest))
+    (λ rest. parsed_jump rest)
 
-unfoldable pub label_of : List Token → Option (List ℕ)
-label_of ts = do
-  n ← name_then ts
+unfoldable pub parsed_label : List Token → Option (List ℕ)
+parsed_label ts = do
+  n ← leading_name ts
   rest ← after_symbol (codes ":") n.1
   at_end n.0 rest
 
 unfoldable pub line_of : List Token → Option Line
 line_of ts =
     if is_ended ts then Some blank
-    else (match_option (label_of ts) (option_map (λ f. Code f.0 f.1) (form_of ts)) (λ n. Some (label n)))
+    else (match_option (parsed_label ts) (option_map (λ f. Code f.0 f.1) (parsed_form ts)) (λ n. Some (label n)))

@@ -1,70 +1,90 @@
-use Rattle.std.proofs.Common.{◌≡◌, Some, Option, ℕ, false, sym, ap, subst, ◌∙◌, w32}
-use Rattle.std.specs.Prelude.{slice_index}
+use Rattle.std.proofs.Common.{◌≡◌, Some, Option, option_map, ℕ, false, refl, sym, ap, subst, ◌∙◌, w32}
+use Rattle.std.specs.Prelude.{slice_index, unwrap_or}
 use Rattle.std.proofs.lemmas.Int.{to_z-of_z}
-use Rattle.std.proofs.lemmas.Option.{none-some, same_Some}
+use Rattle.std.proofs.lemmas.Option.{same_Some}
 use Rattle.tagged_model.specs.declared.helper.Helper.{Helper}
 use Rattle.tagged_model.specs.declared.helper.Helper.TheVariants.{LookUp, Update, Delete, LoadBytes}
 use Rattle.tagged_model.specs.Helpers.{helper_of, called}
 use Rattle.arena.specs.Memory.{Memory}
 use Rattle.bpf_maps.specs.Live.{LiveMaps}
-use Rattle.bpf_helpers.specs.inside.Flat.{UpdatesBy, DeletesBy, LoadsBy}
+use Rattle.bpf_helpers.specs.Named.{NamesNothing, unnamed_answer}
+use Rattle.bpf_helpers.specs.inside.Flat.{key_word, UpdatesNamed, DeletesNamed, LoadsAt}
 use Rattle.bpf_helpers.specs.Calls.{ResultFollows}
 use Rattle.bpf_helpers.proofs.Followed.{look_up_followed, update_followed, delete_followed, load_followed}
-use Rattle.bpf_helpers.proofs.calls.call.Goals.{in-Some-LookUp, in-Some-Update, in-Some-Delete, in-Some-LoadBytes, in-None}
 use Rattle.bpf_helpers.proofs.calls.call.Goals as goal
 
-module _ (c : goal.After-ok_or) (helper : Helper) (known : helper_of c.args.id ≡ Some helper) where
-  -- the number is known
-  is_known : c.known_helper.result ≡ Some helper
-  is_known = c.known_helper.ensures ∙ ap helper_of (to_z-of_z w32 c.args.id c.ranges.id) ∙ known
+-- a number leads to one function
+same_helper : (o : Option Helper) (h field helper : Helper) → o ≡ Some helper → o ≡ Some field → field ≡ h → h ≡ helper
+same_helper o h field helper known is told = sym told ∙ same_Some field helper (sym is ∙ known)
 
-  same_helper : (h field : Helper) → c.known_helper.result ≡ Some field → field ≡ h → h ≡ helper
-  same_helper h field is told = sym told ∙ same_Some field helper (sym is ∙ is_known)
+-- what is answered and left by a call whose words name nothing
+abbrev AnswersAlone : Memory → LiveMaps → Helper → ℕ → Memory → LiveMaps → Type 0
+AnswersAlone memory tenant helper word after new = (word ≡ unnamed_answer helper) × (after ≡ memory) × (new ≡ tenant)
 
-pub returns-clause-follows : goal.returns-clause-follows
-returns-clause-follows c =
+pub returns-in-Some-LookUp-clause-follows : goal.returns-in-Some-LookUp-clause-follows
+returns-in-Some-LookUp-clause-follows c =
     λ helper known l old at registers s u room stands args packet e.
-    let bind = c.args.bind.now in
-    let t = c.args.tenant in
-    let memory = c.args.arena.now in
-    let tenant = c.args.maps.now in
-    let words = c.args.words.now in
-    let after = c.match-known_helper.arena in
-    let new = c.match-known_helper.maps in
-    let answer = c.match-known_helper.answer in
-    let result = c.ok_or.result in
-    let word : ℕ → ℕ = λ i. slice_index words i in
-    elim c.match-known_helper.branch [
-      | in-Some-LookUp w ↦
-          let same : LookUp ≡ helper = same_helper c helper known LookUp w.in-Some-LookUp.field-0 w.in-Some-LookUp.is w.in-Some-LookUp.field-0-is in
-          let goes : called false LookUp s ≡ Some u = subst (λ (h : Helper). called false h s ≡ Some u) (sym same) e in
-          subst (λ (h : Helper). ResultFollows l bind old t at registers tenant s h result after new) same
-          (subst (λ (m : Memory). ResultFollows l bind old t at registers tenant s LookUp result m new) (sym w.arena-is)
-          (subst (λ (n : LiveMaps). ResultFollows l bind old t at registers tenant s LookUp result memory n) (sym w.maps-is)
-          (look_up_followed l bind old t at registers memory tenant s room stands words args c.returns_stand.ensures c.laws_below.ensures result answer (record {}) c.ok_or.ensures.value u (w.answer-is ∙ w.look_up-answer.ensures.value) goes)))
-      | in-Some-Update w ↦
-          let same : Update ≡ helper = same_helper c helper known Update w.in-Some-Update.field-0 w.in-Some-Update.is w.in-Some-Update.field-0-is in
-          let goes : called false Update s ≡ Some u = subst (λ (h : Helper). called false h s ≡ Some u) (sym same) e in
-          subst (λ (h : Helper). ResultFollows l bind old t at registers tenant s h result after new) same
-          (subst (λ (m : Memory). ResultFollows l bind old t at registers tenant s Update result m new) (sym w.arena-is)
-          (subst (λ (n : LiveMaps). ResultFollows l bind old t at registers tenant s Update result w.update-answer.new.arena n) (sym w.maps-is)
-          (update_followed l bind old t at registers memory tenant s room stands words args c.returns_stand.ensures c.laws_below.ensures result answer (record {}) c.ok_or.ensures.value w.update-answer.new.arena w.update-answer.new.maps u
-          (subst (λ (o : Option ℕ). UpdatesBy memory t tenant bind (word 0) (word 1) (word 2) (word 3) o w.update-answer.new.arena w.update-answer.new.maps) (sym w.answer-is) w.update-answer.ensures.updated) goes)))
-      | in-Some-Delete w ↦
-          let same : Delete ≡ helper = same_helper c helper known Delete w.in-Some-Delete.field-0 w.in-Some-Delete.is w.in-Some-Delete.field-0-is in
-          let goes : called false Delete s ≡ Some u = subst (λ (h : Helper). called false h s ≡ Some u) (sym same) e in
-          subst (λ (h : Helper). ResultFollows l bind old t at registers tenant s h result after new) same
-          (subst (λ (m : Memory). ResultFollows l bind old t at registers tenant s Delete result m new) (sym w.arena-is)
-          (subst (λ (n : LiveMaps). ResultFollows l bind old t at registers tenant s Delete result memory n) (sym w.maps-is)
-          (delete_followed l bind old t at registers memory tenant s room stands words args c.returns_stand.ensures c.laws_below.ensures result answer (record {}) c.ok_or.ensures.value w.take_out-answer.new.maps u
-          (subst (λ (o : Option ℕ). DeletesBy memory t tenant bind (word 0) (word 1) o w.take_out-answer.new.maps) (sym w.answer-is) w.take_out-answer.ensures.deleted) goes)))
-      | in-Some-LoadBytes w ↦
-          let same : LoadBytes ≡ helper = same_helper c helper known LoadBytes w.in-Some-LoadBytes.field-0 w.in-Some-LoadBytes.is w.in-Some-LoadBytes.field-0-is in
-          let goes : called false LoadBytes s ≡ Some u = subst (λ (h : Helper). called false h s ≡ Some u) (sym same) e in
-          subst (λ (h : Helper). ResultFollows l bind old t at registers tenant s h result after new) same
-          (subst (λ (m : Memory). ResultFollows l bind old t at registers tenant s LoadBytes result m new) (sym w.arena-is)
-          (subst (λ (n : LiveMaps). ResultFollows l bind old t at registers tenant s LoadBytes result w.load_bytes-answer.new.arena n) (sym w.maps-is)
-          (load_followed l bind old t at registers memory tenant s room stands words args c.returns_stand.ensures c.laws_below.ensures result answer (record {}) c.ok_or.ensures.value c.args.packet.now packet w.load_bytes-answer.new.arena u
-          (subst (λ (o : Option ℕ). LoadsBy memory t c.args.packet.now (word 1) (word 2) (word 3) o w.load_bytes-answer.new.arena) (sym w.answer-is) w.load_bytes-answer.ensures.loaded) goes)))
-      | in-None w ↦ absurd (none-some helper (sym w.in-None.is ∙ is_known c helper known))
-    ]
+    let is_known = c.known_helper.ensures ∙ ap helper_of (to_z-of_z w32 c.args.id c.ranges.id) ∙ known in
+    let same : LookUp ≡ helper = same_helper c.known_helper.result LookUp c.in-Some-LookUp.field-0 helper is_known c.in-Some-LookUp.is c.in-Some-LookUp.field-0-is in
+    let goes : called false LookUp s ≡ Some u = subst (λ (h : Helper). called false h s ≡ Some u) (sym same) e in
+    subst (λ (h : Helper). ResultFollows l c.args.bind.now old c.args.tenant at registers c.args.maps.now s h c.look_up.result c.args.arena.now c.args.maps.now) same
+    (look_up_followed l c.args.bind.now old c.args.tenant at registers c.args.arena.now c.args.maps.now s room stands c.args.words.now args c.returns_keep_simulation.ensures c.call_premises.ensures c.look_up.result u c.look_up.ensures.value goes)
+
+pub returns-in-Some-LookUp-clause-unnamed : goal.returns-in-Some-LookUp-clause-unnamed
+returns-in-Some-LookUp-clause-unnamed c =
+    λ helper known.
+    let is_known = c.known_helper.ensures ∙ ap helper_of (to_z-of_z w32 c.args.id c.ranges.id) ∙ known in
+    let same : LookUp ≡ helper = same_helper c.known_helper.result LookUp c.in-Some-LookUp.field-0 helper is_known c.in-Some-LookUp.is c.in-Some-LookUp.field-0-is in
+    subst (λ (h : Helper). NamesNothing c.args.arena.now c.args.tenant c.args.maps.now c.args.bind.now c.args.words.now h → AnswersAlone c.args.arena.now c.args.maps.now h c.look_up.result c.args.arena.now c.args.maps.now) same
+    (λ nothing. (c.look_up.ensures.value ∙ ap (λ o. unwrap_or (option_map (key_word c.args.arena.now c.args.tenant c.args.maps.now) o) 0) nothing, refl, refl))
+
+pub returns-in-Some-Update-clause-follows : goal.returns-in-Some-Update-clause-follows
+returns-in-Some-Update-clause-follows c =
+    λ helper known l old at registers s u room stands args packet e.
+    let is_known = c.known_helper.ensures ∙ ap helper_of (to_z-of_z w32 c.args.id c.ranges.id) ∙ known in
+    let same : Update ≡ helper = same_helper c.known_helper.result Update c.in-Some-Update.field-0 helper is_known c.in-Some-Update.is c.in-Some-Update.field-0-is in
+    let goes : called false Update s ≡ Some u = subst (λ (h : Helper). called false h s ≡ Some u) (sym same) e in
+    subst (λ (h : Helper). ResultFollows l c.args.bind.now old c.args.tenant at registers c.args.maps.now s h c.update.result c.update.new.arena c.update.new.maps) same
+    (update_followed l c.args.bind.now old c.args.tenant at registers c.args.arena.now c.args.maps.now s room stands c.args.words.now args c.returns_keep_simulation.ensures c.call_premises.ensures c.update.result c.update.new.arena c.update.new.maps u c.update.ensures.updated goes)
+
+pub returns-in-Some-Update-clause-unnamed : goal.returns-in-Some-Update-clause-unnamed
+returns-in-Some-Update-clause-unnamed c =
+    λ helper known.
+    let is_known = c.known_helper.ensures ∙ ap helper_of (to_z-of_z w32 c.args.id c.ranges.id) ∙ known in
+    let same : Update ≡ helper = same_helper c.known_helper.result Update c.in-Some-Update.field-0 helper is_known c.in-Some-Update.is c.in-Some-Update.field-0-is in
+    subst (λ (h : Helper). NamesNothing c.args.arena.now c.args.tenant c.args.maps.now c.args.bind.now c.args.words.now h → AnswersAlone c.args.arena.now c.args.maps.now h c.update.result c.update.new.arena c.update.new.maps) same
+    (λ nothing. subst (λ o. UpdatesNamed c.args.arena.now c.args.tenant c.args.maps.now o (slice_index c.args.words.now 3) c.update.result c.update.new.arena c.update.new.maps) nothing c.update.ensures.updated)
+
+pub returns-in-Some-Delete-clause-follows : goal.returns-in-Some-Delete-clause-follows
+returns-in-Some-Delete-clause-follows c =
+    λ helper known l old at registers s u room stands args packet e.
+    let is_known = c.known_helper.ensures ∙ ap helper_of (to_z-of_z w32 c.args.id c.ranges.id) ∙ known in
+    let same : Delete ≡ helper = same_helper c.known_helper.result Delete c.in-Some-Delete.field-0 helper is_known c.in-Some-Delete.is c.in-Some-Delete.field-0-is in
+    let goes : called false Delete s ≡ Some u = subst (λ (h : Helper). called false h s ≡ Some u) (sym same) e in
+    subst (λ (h : Helper). ResultFollows l c.args.bind.now old c.args.tenant at registers c.args.maps.now s h c.delete.result c.args.arena.now c.delete.new.maps) same
+    (delete_followed l c.args.bind.now old c.args.tenant at registers c.args.arena.now c.args.maps.now s room stands c.args.words.now args c.returns_keep_simulation.ensures c.call_premises.ensures c.delete.result c.delete.new.maps u c.delete.ensures.deleted goes)
+
+pub returns-in-Some-Delete-clause-unnamed : goal.returns-in-Some-Delete-clause-unnamed
+returns-in-Some-Delete-clause-unnamed c =
+    λ helper known.
+    let is_known = c.known_helper.ensures ∙ ap helper_of (to_z-of_z w32 c.args.id c.ranges.id) ∙ known in
+    let same : Delete ≡ helper = same_helper c.known_helper.result Delete c.in-Some-Delete.field-0 helper is_known c.in-Some-Delete.is c.in-Some-Delete.field-0-is in
+    subst (λ (h : Helper). NamesNothing c.args.arena.now c.args.tenant c.args.maps.now c.args.bind.now c.args.words.now h → AnswersAlone c.args.arena.now c.args.maps.now h c.delete.result c.args.arena.now c.delete.new.maps) same
+    (λ nothing. let deleted = subst (λ o. DeletesNamed c.args.maps.now o c.delete.result c.delete.new.maps) nothing c.delete.ensures.deleted in (deleted.0, refl, deleted.1))
+
+pub returns-in-Some-LoadBytes-clause-follows : goal.returns-in-Some-LoadBytes-clause-follows
+returns-in-Some-LoadBytes-clause-follows c =
+    λ helper known l old at registers s u room stands args packet e.
+    let is_known = c.known_helper.ensures ∙ ap helper_of (to_z-of_z w32 c.args.id c.ranges.id) ∙ known in
+    let same : LoadBytes ≡ helper = same_helper c.known_helper.result LoadBytes c.in-Some-LoadBytes.field-0 helper is_known c.in-Some-LoadBytes.is c.in-Some-LoadBytes.field-0-is in
+    let goes : called false LoadBytes s ≡ Some u = subst (λ (h : Helper). called false h s ≡ Some u) (sym same) e in
+    subst (λ (h : Helper). ResultFollows l c.args.bind.now old c.args.tenant at registers c.args.maps.now s h c.load_bytes.result c.load_bytes.new.arena c.args.maps.now) same
+    (load_followed l c.args.bind.now old c.args.tenant at registers c.args.arena.now c.args.maps.now s room stands c.args.words.now args c.returns_keep_simulation.ensures c.call_premises.ensures c.load_bytes.result c.args.packet.now packet c.load_bytes.new.arena u c.load_bytes.ensures.loaded goes)
+
+pub returns-in-Some-LoadBytes-clause-unnamed : goal.returns-in-Some-LoadBytes-clause-unnamed
+returns-in-Some-LoadBytes-clause-unnamed c =
+    λ helper known.
+    let is_known = c.known_helper.ensures ∙ ap helper_of (to_z-of_z w32 c.args.id c.ranges.id) ∙ known in
+    let same : LoadBytes ≡ helper = same_helper c.known_helper.result LoadBytes c.in-Some-LoadBytes.field-0 helper is_known c.in-Some-LoadBytes.is c.in-Some-LoadBytes.field-0-is in
+    subst (λ (h : Helper). NamesNothing c.args.arena.now c.args.tenant c.args.maps.now c.args.bind.now c.args.words.now h → AnswersAlone c.args.arena.now c.args.maps.now h c.load_bytes.result c.load_bytes.new.arena c.args.maps.now) same
+    (λ nothing. let loaded = subst (λ o. LoadsAt c.args.arena.now c.args.tenant c.args.packet.now (slice_index c.args.words.now 1) (slice_index c.args.words.now 3) o c.load_bytes.result c.load_bytes.new.arena) nothing c.load_bytes.ensures.loaded in (loaded.0, loaded.1, refl))

@@ -5,7 +5,7 @@ use Rattle.tagged_model.specs.Table.{verdict}
 use Rattle.arena.specs.Memory.{part_start, with_bytes}
 use Rattle.bpf_maps.specs.Places.{table_of, Claims}
 use Rattle.bpf_maps.specs.Live.{places_at, shape_at, offset_at}
-use Rattle.bpf_helpers.proofs.Flat.{part_range}
+use Rattle.bpf_helpers.proofs.Words.{part_range}
 use Rattle.bpf_helpers.proofs.Copied.{copied_is}
 use Rattle.bpf_helpers.proofs.update.put.Goals as goal
 

@@ -3,7 +3,7 @@ use Rattle.std.specs.Prelude.{◌≤◌, List, [], Option, Some, None}
 use Rattle.std.specs.Borrow.{Bor}
 use Rattle.clap.specs.Words.{Text}
 use Rattle.clap.specs.Walk.{texts}
-use Rattle.host.specs.declared.host.TheConstants.{MOST_TENANTS}
+use Rattle.host_core.specs.declared.host.TheConstants.{MOST_TENANTS}
 use Rattle.host.specs.declared.program.arguments.Task.{Task}
 use Rattle.host.specs.declared.program.arguments.Task.TheVariants as task
 use Rattle.host.specs.program.Arguments.{Asked, Serves, Rewrites, Verifies}

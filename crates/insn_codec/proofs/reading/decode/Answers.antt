@@ -3,7 +3,7 @@ use Rattle.std.proofs.Common.{◌≡◌, length, ap, ◌∙◌, arith, refl}
 use Rattle.insn_codec.specs.declared.insn.Insn.{Insn}
 use Rattle.insn_codec.specs.Spelling.{slots}
 use Rattle.insn_codec.specs.Fault.{HasFault}
-use Rattle.insn_codec.proofs.Laws.{no_fault, same_insn}
+use Rattle.insn_codec.proofs.PrefixFree.{no_fault, same_insn}
 use Rattle.insn_codec.proofs.FaultKinds.{insn_has_no_fault, one_kind}
 use Rattle.insn_codec.proofs.FirstFault.{has_fault}
 use Rattle.insn_codec.proofs.reading.decode.Goals as goal

@@ -4,7 +4,8 @@ use Rattle.reg_kinds.specs.declared.kind.Slot.TheVariants.{Bytes}
 use Rattle.reg_kinds.specs.declared.facts.Facts.{Facts}
 use Rattle.reg_kinds.specs.Kinds.{slot_at, with_slots}
 use Rattle.reg_kinds.specs.Stack.{bytes_over}
-use Rattle.reg_kinds.specs.Many.{touches, bits_in}
+use Rattle.words.specs.Stack.{touches}
+use Rattle.reg_kinds.specs.Many.{bits_in}
 use Rattle.reg_kinds.proofs.Tables.{filled, fill_more, rest_more, same_facts}
 use Rattle.reg_kinds.proofs.many.fill_slots.Goals as goal
 

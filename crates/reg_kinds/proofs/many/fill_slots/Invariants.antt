@@ -2,7 +2,8 @@ use Rattle.std.proofs.Common.{◌≡◌, ℕ, ◌<◌, ◌≤◌, length, get_or
 use Rattle.reg_kinds.specs.declared.kind.Slot.TheVariants.{Bytes}
 use Rattle.reg_kinds.specs.Kinds.{slot_at}
 use Rattle.reg_kinds.specs.Stack.{bytes_over}
-use Rattle.reg_kinds.specs.Many.{touches, bits_in}
+use Rattle.words.specs.Stack.{touches}
+use Rattle.reg_kinds.specs.Many.{bits_in}
 use Rattle.reg_kinds.proofs.many.fill_slots.Given as goal
 
 abbrev pub invariant-loop-i : goal.invariant-loop-i

@@ -1,5 +1,5 @@
 use Rattle.std.proofs.Common.{arith}
-use Rattle.reg_kinds.specs.StackLaws.{ones_small}
+use Rattle.reg_kinds.specs.BitLaws.{ones_small}
 use Rattle.reg_kinds.proofs.SlotTests.{ones_are}
 use Rattle.reg_kinds.proofs.many.ones.Goals as goal
 

@@ -1,6 +1,7 @@
 use Rattle.std.proofs.Common.{sym, arith}
 use Rattle.reg_kinds.specs.Kinds.{slot_at}
-use Rattle.reg_kinds.specs.Many.{is_touched_spill, touches}
+use Rattle.words.specs.Stack.{touches}
+use Rattle.reg_kinds.specs.Many.{is_touched_spill}
 use Rattle.reg_kinds.proofs.SlotTests.{none_first, none_more, one_below}
 use Rattle.reg_kinds.proofs.many.touch_a_spill.Goals as goal
 

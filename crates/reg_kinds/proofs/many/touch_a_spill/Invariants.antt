@@ -1,6 +1,7 @@
 use Rattle.std.proofs.Common.{◌≡◌, false}
 use Rattle.reg_kinds.specs.Kinds.{slot_at}
-use Rattle.reg_kinds.specs.Many.{any_below, is_touched_spill, touches}
+use Rattle.words.specs.Stack.{touches}
+use Rattle.reg_kinds.specs.Many.{any_below, is_touched_spill}
 use Rattle.reg_kinds.proofs.many.touch_a_spill.Given as goal
 
 abbrev pub invariant-loop-index : goal.invariant-loop-index

@@ -1,6 +1,7 @@
 use Rattle.std.proofs.Common.{◌%◌, ap, ◌∙◌, sym}
-use Rattle.reg_kinds.specs.Stack.{bytes_of, byte_bits}
-use Rattle.reg_kinds.specs.declared.stack.AccessSize.{AccessSize}
+use Rattle.words.specs.declared.stack.AccessSize.{AccessSize}
+use Rattle.words.specs.Stack.{bytes_of}
+use Rattle.reg_kinds.specs.Stack.{byte_bits}
 use Rattle.reg_kinds.proofs.ByteBits.{half_bits, word_bits}
 use Rattle.reg_kinds.proofs.stack.byte_bits.Goals as goal
 

@@ -2,7 +2,7 @@ use Rattle.std.proofs.Common.{◌+◌, arith, List, ℕ, sym, ap, ◌∙◌}
 use Rattle.tagged_model.specs.Cells.{and_then}
 use Rattle.insn_codec.specs.declared.insn.Insn.{Insn}
 use Rattle.insn_codec.specs.Program.{begun_below, begins_at}
-use Rattle.verdict.specs.Shape.{descriptor}
+use Rattle.insn_codec.specs.Flow.{descriptor}
 use Rattle.verdict.specs.Maps.{maps_of}
 use Rattle.verdict.specs.inside.Descriptors.{with_descriptor}
 use Rattle.verdict.proofs.Loads.{none_loaded, loaded_at, loaded_silent}

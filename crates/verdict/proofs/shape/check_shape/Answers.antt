@@ -5,7 +5,7 @@ use Rattle.std.proofs.lemmas.List.{length-set, length-replicate, with_items_is}
 use Rattle.std.proofs.lemmas.Bool.{cases_lt}
 use Rattle.insn_codec.specs.Program.{begins_at, slot_count}
 use Rattle.insn_codec.specs.BeginLaws.{none_begins_past}
-use Rattle.verdict.specs.Shape.{shape_fault}
+use Rattle.verdict.specs.Shape.{structure_fault}
 use Rattle.insn_codec.specs.Flow.{jump_target}
 use Rattle.verdict.specs.ShapeLaws.{unrefused_is_fine}
 use Rattle.verdict.proofs.Reached.{jump_lands, marked_first, marked_next, marked_past, shape_is, each_lands}
@@ -66,7 +66,7 @@ loop-slot-preserved c =
           }
     ]
 
-sound : (c : goal.After-drop-reached-2) (n : ℕ) → shape_fault c.args.program.now c.args.named.now n ≡ None
+sound : (c : goal.After-drop-reached-2) (n : ℕ) → structure_fault c.args.program.now c.args.named.now n ≡ None
 sound c n =
     elim (cases_lt n (slot_count c.args.program.now)) [
       | inl lt ↦ c.loop-slot.invariant.none_below n (omega arith)

@@ -3,8 +3,8 @@ use Rattle.std.specs.Prelude.{nat_le}
 use Rattle.insn_codec.specs.Program.{slot_count}
 use Rattle.reg_kinds.specs.declared.reason.Reason.{Reason}
 use Rattle.reg_kinds.specs.declared.reason.Reason.TheVariants.{JumpOutside, JumpBackward, FallsOff, Unreachable, UnknownHelper, FramePointerWritten, DescriptorNotOpen, DescriptorNotMap, NoDirectValue}
-use Rattle.insn_codec.specs.Flow.{falls_to, jumps_to, falls, jumps, written_register}
-use Rattle.verdict.specs.Shape.{is_reachable, is_slot, calls_unknown, descriptor, is_not_open, is_not_map, lacks_value, leads_outside, leads_backward}
+use Rattle.insn_codec.specs.Flow.{falls_to, jumps_to, falls, jumps, written_register, descriptor}
+use Rattle.verdict.specs.Shape.{is_reachable, is_slot, calls_unknown, is_not_open, is_not_map, lacks_value, leads_outside, leads_backward}
 use Rattle.verdict.proofs.Reached.{told_early}
 use Rattle.verdict.proofs.shape.other_reason.Goals as goal
 

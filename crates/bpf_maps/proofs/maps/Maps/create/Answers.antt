@@ -1,5 +1,5 @@
 use Rattle.std.proofs.Common.{◌≡◌, ◌+◌, ◌*◌, ◌/◌, ◌<◌, ◌≤◌, ◌⊎◌, true, refl, ap, is_some, count_by, subst, ◌∙◌, arith, replicate, inl, inr}
-use Rattle.bpf_maps.specs.declared.part.TheConstants.{FRONT, LARGEST_SUM, MAPS}
+use Rattle.bpf_maps.specs.declared.part.TheConstants.{STACK_AND_CONTEXT, LARGEST_SUM, MAPS}
 use Rattle.bpf_maps.specs.Live.{LiveMaps, IsLaid, AreSound, create_fault}
 use Rattle.bpf_maps.specs.InMaps.{as_live_maps}
 use Rattle.bpf_maps.specs.declared.maps.Entry.{Entry}
@@ -54,7 +54,7 @@ module _ (c : goal.After-self-2-1) where
   }
 
   abbrev entry : Entry
-  entry = record { map = c.in-Ok.map; start = FRONT + c.self.inside.bytes; stride = c.next_multiple_of.result; holds = 1 }
+  entry = record { map = c.in-Ok.map; start = STACK_AND_CONTEXT + c.self.inside.bytes; stride = c.next_multiple_of.result; holds = 1 }
 
   stride : c.next_multiple_of.result ≡ (c.args.shape.value_size + 7) / 8 * 8
   stride =

@@ -1,5 +1,5 @@
 use Rattle.std.proofs.Common.{◌≡◌, ℕ, ◌+◌, ◌-◌, ◌<◌, ◌++◌, take, drop, Some, IsSome, refl, ap, sym, subst, is_some, ◌∙◌, option_map, arith, append_assoc}
-use Rattle.bpf_maps.specs.declared.part.TheConstants.{FRONT}
+use Rattle.bpf_maps.specs.declared.part.TheConstants.{STACK_AND_CONTEXT}
 use Rattle.tagged_model.specs.Shape.{area}
 use Rattle.tagged_model.specs.declared.shape.MapShape.{MapShape}
 use Rattle.bpf_maps.specs.Places.{IsSound}
@@ -138,7 +138,7 @@ module _ (c : goal.Joined-gone) where
   left = as_live_maps (without_entry c.self.inside c.area-size.result c.close_gap.new.slots c.close_gap.new.layouts)
 
   abbrev behind : ℕ
-  behind = FRONT + c.self.inside.bytes - (last.start + c.area-size.result)
+  behind = STACK_AND_CONTEXT + c.self.inside.bytes - (last.start + c.area-size.result)
 
   -- the bytes behind it have moved down
   moved : c.copy_within.new.self ≡ take last.start c.args.part.now ++ (take behind (drop (last.start + c.area-size.result) c.args.part.now) ++ drop (last.start + behind) c.args.part.now)

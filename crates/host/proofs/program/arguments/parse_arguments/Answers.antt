@@ -4,7 +4,7 @@ use Rattle.clap.specs.Words.{App, FailsBy, Shape, app_of, fault_of, is_simple, i
 use Rattle.clap.specs.Walk.{texts}
 use Rattle.clap.specs.Simple.{app_of_fields, on_top}
 use Rattle.clap.proofs.OnLiterals.{clap_on_literals}
-use Rattle.host.specs.program.Arguments.{asks_for_subcommand, asm_command, program, rewriting, serving, refusal_kinds, chosen_subcommand}
+use Rattle.host.specs.program.Arguments.{asks_for_subcommand, asm_command, program, program_up_to_dis, program_up_to_serve, refusal_kinds, chosen_subcommand}
 use Rattle.host.proofs.program.arguments.parse_arguments.Goals as goal
 
 simple : is_simple program ≡ true
@@ -33,11 +33,11 @@ returns c =
     = ap app_of_fields c.no_binary_name.ensures ∙ ap (on_top (λ (s : Shape). record s { no_binary_name = true })) c.new.ensures.app in
     let asks : app_of c.subcommand_required.result ≡ on_top asks_for_subcommand (new_app (codes "bpfhost"))
     = ap app_of_fields c.subcommand_required.ensures ∙ ap (on_top (λ (s : Shape). record s { subcommand_required = true })) named in
-    let serving_is : app_of c.in_ok-subcommand.field-0 ≡ serving = c.in_ok-subcommand.ensures.shape (plain_local _ _ _ _ (ap is_plain_app c.in_ok-serve_subcommand.ensures))
+    let serving_is : app_of c.in_ok-subcommand.field-0 ≡ program_up_to_serve = c.in_ok-subcommand.ensures.shape (plain_local _ _ _ _ (ap is_plain_app c.in_ok-serve_subcommand.ensures))
     ∙ ap₂ with_subcommand asks (ap top c.in_ok-serve_subcommand.ensures) in
-    let assembling_is : app_of c.in_ok-subcommand-2.field-0 ≡ with_subcommand serving asm_command.top = c.in_ok-subcommand-2.ensures.shape c.new-2.ensures.local
+    let assembling_is : app_of c.in_ok-subcommand-2.field-0 ≡ with_subcommand program_up_to_serve asm_command.top = c.in_ok-subcommand-2.ensures.shape c.new-2.ensures.local
     ∙ ap₂ with_subcommand serving_is (ap top c.new-2.ensures.app) in
-    let rewriting_is : app_of c.in_ok-subcommand-3.field-0 ≡ rewriting = c.in_ok-subcommand-3.ensures.shape c.new-3.ensures.local
+    let rewriting_is : app_of c.in_ok-subcommand-3.field-0 ≡ program_up_to_dis = c.in_ok-subcommand-3.ensures.shape c.new-3.ensures.local
     ∙ ap₂ with_subcommand assembling_is (ap top c.new-3.ensures.app) in
     let program_is : app_of c.in_ok-program.program ≡ program = c.in_ok-program.ensures.shape (plain_local _ _ _ _ (ap is_plain_app c.in_ok-verify_subcommand.ensures))
     ∙ ap₂ with_subcommand rewriting_is (ap top c.in_ok-verify_subcommand.ensures) in

@@ -19,10 +19,10 @@ returns-in-Ok-clause-no_fault c = no_fault_told c.args.frame.now c.in-Some.head 
 
 pub returns-in-Err-clause-told : goal.returns-in-Err-clause-told
 returns-in-Err-clause-told c =
-    refused_frame c.args.frame.now c.write_refusal.new.room (state_in (part_bytes c.args.arena.now c.args.tenant) c.args.self.now) c.in-Err.fault c.frame_error.result c.in-Some.head
+    refused_frame c.args.frame.now c.write_refusal.new.reply (state_in (part_bytes c.args.arena.now c.args.tenant) c.args.self.now) c.in-Err.fault c.frame_error.result c.in-Some.head
     (sym c.head.ensures ∙ c.in-Some.is) (sym c.in-Err.ensures) c.frame_error.ensures c.write_refusal.ensures
 
 pub returns-in-Err-clause-no_fault : goal.returns-in-Err-clause-no_fault
 returns-in-Err-clause-no_fault c =
-    refused_no_fault c.args.frame.now c.write_refusal.new.room (state_in (part_bytes c.args.arena.now c.args.tenant) c.args.self.now) c.in-Err.fault c.frame_error.result c.in-Some.head
+    refused_no_fault c.args.frame.now c.write_refusal.new.reply (state_in (part_bytes c.args.arena.now c.args.tenant) c.args.self.now) c.in-Err.fault c.frame_error.result c.in-Some.head
     (sym c.head.ensures ∙ c.in-Some.is) c.frame_error.ensures c.write_refusal.ensures

@@ -19,11 +19,11 @@ returns-in-Ok-clause-told c = λ kind key value max flags asked.
     let after = state_in c.create.new.part c.create.new.self in
     let answer = opened_answer c.create.result after in
     let (refused, is) = c.create.ensures.answer in
-    told (map_create kind key value max flags) c.args.head c.write_opened.new.room before after (refused ∷ []) answer tt c.table_has_all_places.ensures
+    told (map_create kind key value max flags) c.args.head c.write_opened.new.reply before after (refused ∷ []) answer tt c.table_has_all_places.ensures
     (is ∙ ap (λ (r : Result MapShape Errno). created refused before r) (sym c.in-Ok.is ∙ asked)) (c.write_opened.ensures after) (opened_after c.create.result after)
 
 pub returns-in-Err-clause-told : goal.returns-in-Err-clause-told
 returns-in-Err-clause-told c = λ kind key value max flags asked.
     let s = state_in c.args.part.now c.args.self.now in
-    told (map_create kind key value max flags) c.args.head c.write_refusal.new.room s s (false ∷ []) (refuses c.in-Err.errno s) tt c.table_has_all_places.ensures
+    told (map_create kind key value max flags) c.args.head c.write_refusal.new.reply s s (false ∷ []) (refuses c.in-Err.errno s) tt c.table_has_all_places.ensures
     (ap (λ (r : Result MapShape Errno). created false s r) (sym c.in-Err.is ∙ asked)) c.write_refusal.ensures refl

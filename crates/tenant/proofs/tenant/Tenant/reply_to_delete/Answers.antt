@@ -10,5 +10,5 @@ returns c = λ part.
     let before = state_in part c.args.self.now in
     let after = state_in part c.delete-answer.new.self in
     let answer = done_answer c.delete-answer.result after in
-    told (map_delete c.args.fd c.args.key.now) c.args.head c.write_done.new.room before after [] answer tt c.table_has_all_places.ensures (c.delete-answer.ensures part)
+    told (map_delete c.args.fd c.args.key.now) c.args.head c.write_done.new.reply before after [] answer tt c.table_has_all_places.ensures (c.delete-answer.ensures part)
     (c.write_done.ensures after) (done_after c.delete-answer.result after)

@@ -16,5 +16,5 @@ returns c = λ part.
     let after = state_in part c.load-answer.new.self in
     let answer = load_answer c.load-answer.result after in
     let (refused, is) = c.load-answer.ensures part in
-    told (prog_load c.args.kind c.args.slots.now) c.args.head c.write_load.new.room before after (refused ∷ []) answer tt c.table_has_all_places.ensures is
+    told (prog_load c.args.kind c.args.slots.now) c.args.head c.write_load.new.reply before after (refused ∷ []) answer tt c.table_has_all_places.ensures is
     (c.write_load.ensures after) (load_after c.load-answer.result after)

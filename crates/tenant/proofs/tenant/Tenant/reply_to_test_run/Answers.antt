@@ -8,7 +8,7 @@ returns-clause-told c =
     let before = state_in (part_bytes c.args.arena.now c.args.tenant) c.args.self.now in
     let after = state_in (part_bytes c.test_run-answer.new.arena c.args.tenant) c.test_run-answer.new.self in
     let (refusals, is) = c.test_run-answer.ensures.answer in
-    told_run c.args.head c.write_run.new.room before after refusals c.args.fd c.args.words.now c.args.packet.now c.test_run-answer.result is c.test_run-answer.ensures.no_fault
+    told_run c.args.head c.write_run.new.reply before after refusals c.args.fd c.args.words.now c.args.packet.now c.test_run-answer.result is c.test_run-answer.ensures.no_fault
     (c.write_run.ensures after)
 
 pub returns-clause-changes : goal.returns-clause-changes

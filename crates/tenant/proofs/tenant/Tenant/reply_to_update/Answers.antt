@@ -11,5 +11,5 @@ returns-clause-told c =
     let after = state_in c.update-answer.new.part c.update-answer.new.self in
     let answer = done_answer c.update-answer.result after in
     let (refused, is) = c.update-answer.ensures.answer in
-    told (map_update c.args.fd c.args.flags c.args.key_and_value.now) c.args.head c.write_done.new.room before after (refused ∷ []) answer tt c.table_has_all_places.ensures is
+    told (map_update c.args.fd c.args.flags c.args.key_and_value.now) c.args.head c.write_done.new.reply before after (refused ∷ []) answer tt c.table_has_all_places.ensures is
     (c.write_done.ensures after) (done_after c.update-answer.result after)

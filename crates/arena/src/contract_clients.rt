@@ -1,0 +1,37 @@
+//! What a caller can tell of a tenant's part from the contracts alone.
+
+ghost use Rattle.std.specs.Prelude.{◌+◌, ◌<◌, ◌≤◌};
+ghost use Rattle.words.specs.Bytes.{low_bytes};
+ghost use Rattle.arena.specs.Bytes.{bytes_at};
+ghost use Rattle.arena.specs.Memory.{part_bytes};
+ghost use Rattle.arena.specs.Apart.{IsWrittenAt};
+
+use crate::laws;
+use crate::memory::Arena;
+use crate::trace::Trace;
+
+/// A number that is stored within a part is in the part's bytes, and in those of no other.
+fn store_within(arena: &mut Arena, tenant: usize, at: usize, value: u64, trace: &mut Trace)
+    requires tenant { tenant < arena.old.parts }
+    requires room { at + 8 ≤ arena.old.part }
+    ensures { IsWrittenAt arena.old tenant at (low_bytes 8 value) arena.new }
+{
+    arena.memory_is_its_parts();
+    laws::accesses_are_in_parts();
+    let address = arena.address(tenant) + at as u64;
+    let _ = arena.store(address, 8, value, trace);
+}
+
+/// Bytes that are copied within a part are in the part's bytes, and in those of no other.
+fn copy_within(arena: &mut Arena, tenant: usize, to: usize, from: usize, trace: &mut Trace)
+    requires tenant { tenant < arena.old.parts }
+    requires to { to + 8 ≤ arena.old.part }
+    requires from { from + 8 ≤ arena.old.part }
+    ensures { IsWrittenAt arena.old tenant to (bytes_at (part_bytes arena.old tenant) from 8)
+        arena.new }
+{
+    arena.memory_is_its_parts();
+    laws::accesses_are_in_parts();
+    let start = arena.address(tenant);
+    let _ = arena.copy(start + to as u64, start + from as u64, 8, trace);
+}

@@ -1,0 +1,132 @@
+//! What a caller can tell of live maps, seen with the bytes of their values, from the contracts alone.
+
+ghost use Rattle.std.specs.Prelude.{◌≡◌, ◌≢◌, ◌-◌, ◌^◌, ◌<◌, ◌≤◌, length, Err, IfOk, OnErr, IsSome};
+ghost use Rattle.tagged_model.specs.Table.{after_run, with_deleted};
+ghost use Rattle.tagged_model.specs.declared.fault.MapFault.TheVariants.{NoSpace};
+ghost use Rattle.bpf_maps.specs.declared.part.TheConstants.{PART};
+ghost use Rattle.bpf_maps.specs.Live.{live_at, shape_at, holds_at, map_in, SameValues, KeepsMap, KeepsMaps, KeepsOthers, SameRoom};
+ghost use Rattle.bpf_maps.specs.InPart.{updated_in};
+
+use crate::laws;
+use crate::maps::{MapKey, Maps};
+use crate::value_map::ANY;
+use std::alloc::Global;
+use tagged_model::{MapFault, MapShape};
+
+/// An update changes the map as its verdict says, and no other map. A refusal changes no map.
+fn update(
+    maps: &mut Maps,
+    map: MapKey,
+    key: &[u8],
+    value: &[u8],
+    flags: u64,
+    part: &mut [u8],
+) -> Result<(), MapFault>
+    requires live { IsSome (live_at maps.old map) }
+    requires key { length key.now ≡ (shape_at maps.old map).key_size }
+    requires value { length value.now ≡ (shape_at maps.old map).value_size }
+    requires part { length part.old ≡ PART }
+    ensures done { IfOk result (λ _. map_in part.new maps.new map
+        ≡ updated_in part.old maps.old map key.now value.now flags) }
+    ensures refused { OnErr result (KeepsMap map maps.old part.old maps.new part.new) }
+    ensures others { KeepsOthers map maps.old part.old maps.new part.new }
+{
+    laws::values_are_written();
+    laws::live_maps_refine_values();
+    let place = maps.claim(map, key, flags)?;
+    maps.maps_are_laid();
+    let start = maps.value_at(map, place);
+    part[start..start + value.len()].copy_from_slice(value);
+    Ok(())
+}
+
+/// A delete outside a run takes the key out of the map, and changes no other map. A refusal changes no map.
+fn delete(maps: &mut Maps, map: MapKey, key: &[u8], part: &[u8]) -> Result<(), MapFault>
+    requires live { IsSome (live_at maps.old map) }
+    requires key { length key.now ≡ (shape_at maps.old map).key_size }
+    ensures done { IfOk result (λ _. map_in part.now maps.new map
+        ≡ after_run (with_deleted (map_in part.now maps.old map) key.now)) }
+    ensures refused { OnErr result (KeepsMap map maps.old part.now maps.new part.now) }
+    ensures others { KeepsOthers map maps.old part.now maps.new part.now }
+{
+    laws::live_maps_refine_values();
+    maps.remove(map, key)?;
+    maps.end_run(map);
+    Ok(())
+}
+
+/// Where no value at a place of a map has changed, the map has not.
+fn is_unchanged(maps: &Maps, map: MapKey, before: &[u8], after: &[u8])
+    requires live { IsSome (live_at maps.now map) }
+    requires values { SameValues maps.now before.now maps.now after.now }
+    ensures { map_in after.now maps.now map ≡ map_in before.now maps.now map }
+{
+    maps.maps_are_laid();
+    laws::values_agree();
+}
+
+/// A tenant's first map is made, if there is memory for it.
+fn make_first(alloc: Global, shape: MapShape, part: &mut [u8]) -> Result<MapKey, MapFault>
+    requires { length part.old ≡ PART }
+    ensures { result ≢ Err NoSpace }
+{
+    let Ok(mut maps) = Maps::new(alloc) else {
+        return Err(MapFault::Memory);
+    };
+    let _area = shape.area();
+    maps.create(shape, part)
+}
+
+/// Where a map goes, there is room for another of its shape, and the other maps stay.
+fn make_again(maps: &mut Maps, map: MapKey, part: &mut [u8]) -> Result<MapKey, MapFault>
+    requires live { IsSome (live_at maps.old map) }
+    requires last { holds_at maps.old map ≤ 1 }
+    requires part { length part.old ≡ PART }
+    ensures room { result ≢ Err NoSpace }
+    ensures others { KeepsOthers map maps.old part.old maps.new part.new }
+{
+    maps.maps_are_laid();
+    let shape = maps.shape(map);
+    maps.release(map, part);
+    maps.create(shape, part)
+}
+
+/// A map that is made and released leaves as much room as there was, and the other maps stay.
+fn make_and_release(maps: &mut Maps, shape: MapShape, part: &mut [u8])
+    requires { length part.old ≡ PART }
+    ensures room { SameRoom maps.old maps.new }
+    ensures maps { KeepsMaps maps.old part.old maps.new part.new }
+{
+    if let Ok(map) = maps.create(shape, part) {
+        maps.release(map, part);
+    }
+}
+
+/// The calls on a map leave as much room for others as there was.
+fn work_on(maps: &mut Maps, map: MapKey, key: &[u8], part: &mut [u8])
+    requires live { IsSome (live_at maps.old map) }
+    requires few { holds_at maps.old map < 2 ^ 32 - 1 }
+    requires held { 1 ≤ holds_at maps.old map }
+    requires key { length key.now ≡ (shape_at maps.old map).key_size }
+    requires part { length part.old ≡ PART }
+    ensures { SameRoom maps.old maps.new }
+{
+    maps.hold(map);
+    let _ = maps.claim(map, key, ANY);
+    let _ = maps.remove(map, key);
+    maps.end_run(map);
+    maps.release(map, part);
+}
+
+/// One hold more and one less change no map.
+fn hold_and_release(maps: &mut Maps, map: MapKey, part: &mut [u8])
+    requires live { IsSome (live_at maps.old map) }
+    requires few { holds_at maps.old map < 2 ^ 32 - 1 }
+    requires held { 1 ≤ holds_at maps.old map }
+    requires part { length part.old ≡ PART }
+    ensures { KeepsMaps maps.old part.old maps.new part.new }
+{
+    laws::live_maps_refine_values();
+    maps.hold(map);
+    maps.release(map, part);
+}

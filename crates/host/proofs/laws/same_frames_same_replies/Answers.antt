@@ -1,5 +1,0 @@
-use Rattle.host.proofs.ToldAlone.{same_frames_same_replies}
-use Rattle.host.proofs.laws.same_frames_same_replies.Goals as goal
-
-pub returns : goal.returns
-returns c = same_frames_same_replies c.one_alone.ensures

@@ -1,0 +1,291 @@
+-- One frame more.
+use Rattle.std.proofs.Common.{◌≡◌, ◌≢◌, ℕ, ◌+◌, ◌<◌, ◌≤◌, Ok, Err, Bool, true, false, List, [], ◌∷◌, ◌++◌, length, Option, refl, sym, ap, subst, ◌∙◌, arith, append-nil, append_assoc, length-append, take, lit≤, inl}
+use Rattle.std.specs.Prelude.{slice_get, ◌==◌, if◌then◌else◌}
+use Rattle.std.proofs.lemmas.Bool.{eqb-true, eqb-false}
+use Rattle.std.proofs.lemmas.List.Elements.{filter-append}
+use Rattle.std.proofs.lemmas.Grind.{flat_map-append}
+use Rattle.std.proofs.KnownBytes.{Consumes-nil, Consumes-trans, Appends-nil, Appends-trans}
+use Rattle.std.specs.List.{flat_map, AllByRecursion}
+use Rattle.std.specs.Io.KnownBytes.{Consumes, Appends, IsAtEnd}
+use Rattle.command_frames.specs.Frame.{owner, framed, IsFrame, IsPartial}
+use Rattle.host_core.specs.inside.Reading.{IsKeptFrontOf}
+use Rattle.host_core.proofs.Stands.{stands_owner, stands_tells}
+use Rattle.tenant.specs.State.{TenantState}
+use Rattle.tenant.specs.Alone.{frames_of, replies_of, MayReply, IsFault, AloneWithRefusals}
+use Rattle.host_core.specs.declared.server.ServeFault.{ServeFault}
+use Rattle.host_core.specs.declared.server.ServeFaultKind.{ServeFaultKind}
+use Rattle.host_core.specs.declared.server.ServeFaultKind.TheVariants.{Read, Write, Truncated, TooManyFrames, Memory}
+use Rattle.host_core.specs.Laws.{UnrefusedAreToldAlone}
+use Rattle.host_core.specs.Served.{EachIsToldByItsMachine, NoneFaults, StreamState, NoCallFailed, Serves, ServesAlone, AnswersFrames, CutsLastReply, joined_replies, ServesToEnd, StopsWithFault, StopsAlone, ServesStream}
+use Rattle.host_core.specs.Handled.{Handles, HandlesInOrder, CallsAreToldAlone}
+use Rattle.host_core.specs.inside.Frame.{ServesOneFrame, ReadsOnly, ServesFrameOrEnds, StopsInFrame}
+
+alone_more : (a b c : Option TenantState) (frames others replies more : List (List ℕ)) → AloneWithRefusals a frames replies b → AloneWithRefusals b others more c → AloneWithRefusals a (frames ++ others) (replies ++ more) c
+alone_more a b c [] others [] more h k = subst (λ (x : Option TenantState). AloneWithRefusals x others more c) h k
+alone_more a b c (frame ∷ frames) others (reply ∷ replies) more (between, answered, rest) k = (between, answered, alone_more between b c frames others replies more rest k)
+alone_more a b c [] others (reply ∷ replies) more h k = absurd h
+alone_more a b c (frame ∷ frames) others [] more h k = absurd h
+
+pushed : (b : Bool) (r : List ℕ) (xs ys zs : List (List ℕ)) → xs ≡ ys ++ zs → (if b then r ∷ xs else xs) ≡ (if b then r ∷ ys else ys) ++ zs
+pushed true r xs ys zs e = ap (λ l. r ∷ l) e
+pushed false r xs ys zs e = e
+
+replies_of-push : (t : ℕ) (frames replies : List (List ℕ)) (frame reply : List ℕ) → length replies ≡ length frames
+    → replies_of t (frames ++ frame ∷ []) (replies ++ reply ∷ []) ≡ replies_of t frames replies ++ replies_of t (frame ∷ []) (reply ∷ [])
+replies_of-push t [] [] frame reply len = refl
+replies_of-push t [] (r ∷ rs) frame reply len = absurd (omega arith)
+replies_of-push t (f ∷ fs) [] frame reply len = absurd (omega arith)
+replies_of-push t (f ∷ fs) (r ∷ rs) frame reply len =
+    pushed (owner f == t) r (replies_of t (fs ++ frame ∷ []) (rs ++ reply ∷ [])) (replies_of t fs rs) (replies_of t (frame ∷ []) (reply ∷ [])) (replies_of-push t fs rs frame reply (omega arith))
+
+one_by : (same : Bool) (frame reply : List ℕ) (before after : Option TenantState) → (same ≡ true → MayReply frame reply before after) → (same ≡ false → after ≡ before)
+    → AloneWithRefusals before (if same then frame ∷ [] else []) (if same then reply ∷ [] else []) after
+one_by true frame reply before after own other = (after, own refl, refl)
+one_by false frame reply before after own other = other refl
+
+one_alone : (t : ℕ) (frame reply : List ℕ) (before after : List TenantState) → Handles before frame reply after
+    → AloneWithRefusals (slice_get before t) (frames_of t (frame ∷ [])) (replies_of t (frame ∷ []) (reply ∷ [])) (slice_get after t)
+one_alone t frame reply before after h =
+    one_by (owner frame == t) frame reply (slice_get before t) (slice_get after t)
+    (λ e. subst (λ (n : ℕ). MayReply frame reply (slice_get before n) (slice_get after n)) (eqb-true (owner frame) t e) h.own)
+    (λ e. h.others t (λ k. eqb-false (owner frame) t e (sym k)))
+
+pub served_none : (states : List TenantState) → EachIsToldByItsMachine states [] [] states
+served_none states t = refl
+
+-- what each tenant is told goes on by one frame
+pub served_more : (before mid after : List TenantState) (frames replies : List (List ℕ)) (frame reply : List ℕ) → length replies ≡ length frames
+    → EachIsToldByItsMachine before frames replies mid → Handles mid frame reply after → EachIsToldByItsMachine before (frames ++ frame ∷ []) (replies ++ reply ∷ []) after
+served_more before mid after frames replies frame reply len served h t =
+    let more = alone_more (slice_get before t) (slice_get mid t) (slice_get after t) (frames_of t frames) (frames_of t (frame ∷ [])) (replies_of t frames replies) (replies_of t (frame ∷ []) (reply ∷ [])) (served t) (one_alone t frame reply mid after h) in
+    let fs : frames_of t (frames ++ frame ∷ []) ≡ frames_of t frames ++ frames_of t (frame ∷ []) = filter-append (λ f. owner f == t) frames (frame ∷ []) in
+    let rs = replies_of-push t frames replies frame reply len in
+    rw (fs, rs) more
+
+-- ---- calls of `handle`, one after another
+
+ahead : (same : Bool) (frame reply : List ℕ) (frames replies : List (List ℕ)) (before mid after : Option TenantState) → (same ≡ true → MayReply frame reply before mid) → (same ≡ false → mid ≡ before)
+    → AloneWithRefusals mid frames replies after → AloneWithRefusals before (if same then frame ∷ frames else frames) (if same then reply ∷ replies else replies) after
+ahead true frame reply frames replies before mid after own other rest = (mid, own refl, rest)
+ahead false frame reply frames replies before mid after own other rest = subst (λ (x : Option TenantState). AloneWithRefusals x frames replies after) (other refl) rest
+
+calls_told : (before after : List TenantState) (frames replies : List (List ℕ)) → HandlesInOrder before frames replies after → EachIsToldByItsMachine before frames replies after × NoneFaults replies
+calls_told before after [] [] same = ((λ t. ap (λ (s : List TenantState). slice_get s t) same), tt)
+calls_told before after (frame ∷ frames) (reply ∷ replies) (mid, h, rest) =
+    let (told, sound) = calls_told mid after frames replies rest in (
+      (λ t. ahead (owner frame == t) frame reply (frames_of t frames) (replies_of t frames replies) (slice_get before t) (slice_get mid t) (slice_get after t)
+          (λ e. subst (λ (n : ℕ). MayReply frame reply (slice_get before n) (slice_get mid n)) (eqb-true (owner frame) t e) h.own)
+          (λ e. h.others t (λ k. eqb-false (owner frame) t e (sym k))) (told t)),
+      (h.no_fault, sound),
+    )
+calls_told before after [] (reply ∷ replies) h = absurd h
+calls_told before after (frame ∷ frames) [] h = absurd h
+
+pub calls_are_told_alone : UnrefusedAreToldAlone → CallsAreToldAlone
+calls_are_told_alone alone before after frames replies h =
+    let (told, sound) = calls_told before after frames replies h in (told, alone before after frames replies told, sound)
+
+-- ---- the bytes
+
+all_push : {X : Type 0} (P : X → Type 0) (xs : List X) (x : X) → AllByRecursion P xs → P x → AllByRecursion P (xs ++ x ∷ [])
+all_push P [] x h p = (p, tt)
+all_push P (y ∷ ys) x h p = (h.0, all_push P ys x h.1 p)
+
+-- the frames that were read, and one more; `rest` is what came after it
+pub read_more : (a b c : Option (List ℕ)) (frames : List (List ℕ)) (frame rest : List ℕ) → Consumes a b (flat_map framed frames ++ []) → Consumes b c (framed frame ++ rest)
+    → Consumes a c (flat_map framed (frames ++ frame ∷ []) ++ rest)
+read_more a b c frames frame rest first later =
+    let whole : flat_map framed (frames ++ frame ∷ []) ≡ flat_map framed frames ++ framed frame = flat_map-append framed frames (frame ∷ []) ∙ ap (λ l. flat_map framed frames ++ l) (append-nil (framed frame)) in
+    let joins = Consumes-trans a b c (flat_map framed frames ++ []) (framed frame ++ rest) first later in
+    let regrouped : (flat_map framed frames ++ []) ++ (framed frame ++ rest) ≡ flat_map framed (frames ++ frame ∷ []) ++ rest =
+    ap (λ l. l ++ (framed frame ++ rest)) (append-nil (flat_map framed frames)) ∙ sym (append_assoc (flat_map framed frames) (framed frame) rest) ∙ ap (λ l. l ++ rest) (sym whole) in
+    subst (Consumes a c) regrouped joins
+
+-- the bytes after the last whole frame
+pub read_rest : (a b c : Option (List ℕ)) (frames : List (List ℕ)) (rest : List ℕ) → Consumes a b (flat_map framed frames ++ []) → Consumes b c rest
+    → Consumes a c (flat_map framed frames ++ rest)
+read_rest a b c frames rest first later =
+    subst (Consumes a c) (ap (λ l. l ++ rest) (append-nil (flat_map framed frames))) (Consumes-trans a b c (flat_map framed frames ++ []) rest first later)
+
+pub joined-push : (replies : List (List ℕ)) (reply : List ℕ) → joined_replies (replies ++ reply ∷ []) ≡ joined_replies replies ++ reply
+joined-push replies reply = flat_map-append (λ r. r) replies (reply ∷ []) ∙ ap (λ l. joined_replies replies ++ l) (append-nil reply)
+
+-- ---- from one stream state to the next
+
+serves_more : (old mid new : StreamState) (frames replies : List (List ℕ)) (frame reply out : List ℕ) → Serves old mid frames replies [] (joined_replies replies) → ServesOneFrame mid new frame reply out
+    → Serves old new (frames ++ frame ∷ []) (replies ++ reply ∷ []) [] (joined_replies replies ++ out)
+serves_more old mid new frames replies frame reply out s h = record {
+  each = all_push IsFrame frames frame s.each h.is_frame;
+  paired = omega (arith, s.paired, length-append frames (frame ∷ []), length-append replies (reply ∷ []));
+  read = read_more old.input mid.input new.input frames frame [] s.read (subst (Consumes mid.input new.input) (sym (append-nil (framed frame))) h.read);
+  written = Appends-trans old.output mid.output new.output (joined_replies replies) out s.written h.written;
+  served = served_more old.states mid.states new.states frames replies frame reply s.paired s.served h.handled;
+  no_fault = all_push (λ (r : List ℕ). ¬ IsFault r) replies reply s.no_fault h.handled.no_fault;
+}
+
+pub answered_none : (m : StreamState) → AnswersFrames m m 0 []
+answered_none m = ([], [], refl, record { each = tt; paired = refl; read = Consumes-nil m.input; written = Appends-nil m.output; served = served_none m.states; no_fault = tt })
+
+pub answered_more : (old mid new : StreamState) (count : ℕ) (frame reply : List ℕ) → AnswersFrames old mid count [] → ServesOneFrame mid new frame reply reply → AnswersFrames old new (count + 1) []
+answered_more old mid new count frame reply (frames, replies, len, s) h =
+    (frames ++ frame ∷ [], replies ++ reply ∷ [], omega (arith, len, length-append frames (frame ∷ [])), subst (Serves old new (frames ++ frame ∷ []) (replies ++ reply ∷ []) []) (sym (joined-push replies reply)) (serves_more old mid new frames replies frame reply reply s h))
+
+pub cut_off : (old mid new : StreamState) (count n : ℕ) (frame reply : List ℕ) → AnswersFrames old mid count [] → ServesOneFrame mid new frame reply (take n reply) → CutsLastReply old new count
+cut_off old mid new count n frame reply (frames, replies, len, s) h =
+    (frames ++ frame ∷ [], replies, reply, n, omega (arith, len, length-append frames (frame ∷ [])), omega (arith, len, s.paired), serves_more old mid new frames replies frame reply (take n reply) s h)
+
+pub answered_rest : (old mid new : StreamState) (count : ℕ) (rest : List ℕ) → AnswersFrames old mid count [] → ReadsOnly mid new rest → AnswersFrames old new count rest
+answered_rest old mid new count rest (frames, replies, len, s) h = (
+  frames,
+  replies,
+  len,
+  record {
+    each = s.each;
+    paired = s.paired;
+    read = read_rest old.input mid.input new.input frames rest s.read h.read;
+    written = subst (λ (o : Option (List ℕ)). Appends old.output o (joined_replies replies)) (sym h.written) s.written;
+    served = subst (λ (x : List TenantState). EachIsToldByItsMachine old.states frames replies x) (sym h.states) s.served;
+    no_fault = s.no_fault;
+  },
+)
+
+-- the room held as much of the frame as its answer depends on
+pub turns : (old new : StreamState) (frame front reply out : List ℕ) → IsFrame frame → Consumes old.input new.input (framed frame) → IsKeptFrontOf front frame
+    → Appends old.output new.output out → MayReply front reply (slice_get old.states (owner front)) (slice_get new.states (owner front))
+    → ((other : ℕ) → other ≢ owner front → slice_get new.states other ≡ slice_get old.states other) → length new.states ≡ length old.states → ¬ IsFault reply → ServesOneFrame old new frame reply out
+turns old new frame front reply out is_frame read stands written own others count no_fault =
+    let same = stands_owner front frame stands in
+    record {
+      is_frame = is_frame;
+      read = read;
+      written = written;
+      handled = record {
+        own = subst (λ (n : ℕ). MayReply frame reply (slice_get old.states n) (slice_get new.states n)) same (stands_tells front frame reply _ _ stands own);
+        others = λ other ne. others other (λ e. ne (e ∙ same));
+        count = count;
+        no_fault = no_fault;
+      };
+    }
+
+-- ---- the end of a call
+
+sound_both : (old mid new : StreamState) → NoCallFailed old mid → NoCallFailed mid new → NoCallFailed old new
+sound_both old mid new h k = (k.0 ∙ h.0, k.1 ∙ h.1)
+
+-- a frame that stops the call
+pub frame_stops : (old mid new : StreamState) (kind : ServeFaultKind) (count : ℕ) → AnswersFrames old mid count [] → NoCallFailed old mid → StopsInFrame mid new kind → StopsWithFault old new kind count
+frame_stops old mid new Read count answered sound ((rest, partial, waits), failed) =
+    (rest, partial, answered_rest old mid new count rest answered waits, omega (arith, sound.0, failed))
+frame_stops old mid new Write count answered sound ((frame, reply, n, turn), failed) =
+    (cut_off old mid new count n frame reply answered turn, omega (arith, sound.1, failed))
+frame_stops old mid new Truncated count answered sound ((rest, partial, some, waits), end, more) =
+    (rest, partial, some, answered_rest old mid new count rest answered waits, end, sound_both old mid new sound more)
+frame_stops old mid new TooManyFrames count answered sound h = absurd h
+frame_stops old mid new Memory count answered sound h = absurd h
+
+pub frame_is_no_limit : (old new : StreamState) (kind : ServeFaultKind) {P : Type 0} → StopsInFrame old new kind → kind ≡ TooManyFrames → P
+frame_is_no_limit old new kind stopped same = absurd (subst (StopsInFrame old new) same stopped)
+
+-- the input is at its end
+pub frame_done : (old mid new : StreamState) (count : ℕ) → AnswersFrames old mid count [] → NoCallFailed old mid → ServesFrameOrEnds mid new false → ServesToEnd old new count
+frame_done old mid new count answered sound (waits, end, more) = (answered_rest old mid new count [] answered waits, end, sound_both old mid new sound more)
+
+-- as many frames are answered as the limit allows, and the input is at its end
+pub end_done : (old mid new : StreamState) (count limit : ℕ) → count ≡ limit → AnswersFrames old mid count [] → NoCallFailed old mid → Consumes mid.input new.input []
+    → new.output ≡ mid.output → new.states ≡ mid.states → IsAtEnd new.input → NoCallFailed mid new → ServesToEnd old new limit
+end_done old mid new count limit same answered sound read written states end more =
+    let rest = answered_rest old mid new count [] answered (record { read = read; written = written; states = states }) in
+    (subst (λ (n : ℕ). AnswersFrames old new n []) same rest, end, sound_both old mid new sound more)
+
+-- each tenant was told what its machine alone tells it
+answered_alone : UnrefusedAreToldAlone → (old new : StreamState) (count : ℕ) (rest : List ℕ) → IsPartial rest → AnswersFrames old new count rest → ServesAlone old new count rest
+answered_alone law old new count rest partial (frames, replies, many, s) = record {
+  frames = frames;
+  replies = replies;
+  each = s.each;
+  many = (many, s.paired ∙ many);
+  partial = partial;
+  read = s.read;
+  written = s.written;
+  alone = law old.states new.states frames replies s.served;
+  no_fault = s.no_fault;
+}
+
+pub serves_alone : UnrefusedAreToldAlone → (old new : StreamState) (count : ℕ) → ServesToEnd old new count → ServesAlone old new count []
+serves_alone law old new count (answered, end, sound) = answered_alone law old new count [] (inl (lit≤ tt)) answered
+
+-- before anything is read nobody is told anything
+pub nothing_served : (m : StreamState) → ServesAlone m m 0 []
+nothing_served m = record {
+  frames = [];
+  replies = [];
+  each = tt;
+  many = (refl, refl);
+  partial = inl (lit≤ tt);
+  read = Consumes-nil m.input;
+  written = Appends-nil m.output;
+  alone = λ t unrefused. refl;
+  no_fault = tt;
+}
+
+pub stops_alone : UnrefusedAreToldAlone → (old new : StreamState) (kind : ServeFaultKind) (count : ℕ) → StopsWithFault old new kind count → StopsAlone old new kind count
+stops_alone law old new Read count (rest, partial, answered, failed) whole = (rest, answered_alone law old new count rest partial answered)
+stops_alone law old new Write count stopped whole = absurd (whole refl)
+stops_alone law old new Truncated count (rest, partial, some, answered, end, sound) whole = (rest, answered_alone law old new count rest partial answered)
+stops_alone law old new TooManyFrames count (byte, answered, sound) whole = (byte ∷ [], answered_alone law old new count (byte ∷ []) (inl (lit≤ tt)) answered)
+stops_alone law old new Memory count (none, same) whole =
+    ([], subst (λ (s : StreamState). ServesAlone old s count []) (sym same) (subst (λ (n : ℕ). ServesAlone old old n []) (sym none) (nothing_served old)))
+
+pub frame_more : (old mid new : StreamState) (count : ℕ) → AnswersFrames old mid count [] → NoCallFailed old mid → ServesFrameOrEnds mid new true → AnswersFrames old new (count + 1) [] × NoCallFailed old new
+frame_more old mid new count answered sound ((frame, reply, turn), more) = (answered_more old mid new count frame reply answered turn, sound_both old mid new sound more)
+
+-- as many frames are answered as the limit allows, and another byte follows
+pub end_more : (old mid new : StreamState) (count limit byte : ℕ) → count ≡ limit → AnswersFrames old mid count [] → NoCallFailed old mid → Consumes mid.input new.input (byte ∷ [])
+    → new.output ≡ mid.output → new.states ≡ mid.states → NoCallFailed mid new → StopsWithFault old new TooManyFrames limit
+end_more old mid new count limit byte same answered sound read written states more =
+    let rest = answered_rest old mid new count (byte ∷ []) answered (record { read = read; written = written; states = states }) in
+    (byte, subst (λ (n : ℕ). AnswersFrames old new n (byte ∷ [])) same rest, sound_both old mid new sound more)
+
+-- or the call fails that would tell
+pub end_fails : (old mid new : StreamState) (count limit : ℕ) (kind : ServeFaultKind) → kind ≡ Read → count ≡ limit → AnswersFrames old mid count [] → NoCallFailed old mid
+    → Consumes mid.input new.input [] → new.output ≡ mid.output → new.states ≡ mid.states → mid.read_failures < new.read_failures → StopsWithFault old new kind limit
+end_fails old mid new count limit kind is same answered sound read written states failed =
+    let rest = answered_rest old mid new count [] answered (record { read = read; written = written; states = states }) in
+    subst (λ (k : ServeFaultKind). StopsWithFault old new k limit) (sym is) ([], inl (lit≤ tt), subst (λ (n : ℕ). AnswersFrames old new n []) same rest, omega (arith, sound.0, failed))
+
+-- ---- what a call of `serve` promises
+
+pub ends_served : UnrefusedAreToldAlone → (limit count : ℕ) (old new : StreamState) → count ≤ limit → ServesToEnd old new count → ServesStream limit (Ok count) old new
+ends_served law limit count old new few served = record {
+  done = served;
+  alone = serves_alone law old new count served;
+  few = few;
+  fault = tt;
+  alone_before = tt;
+  few_before = tt;
+  too_many = tt;
+}
+
+-- before anything is read
+pub ends_unread : (limit : ℕ) (m : StreamState) → ServesStream limit (Err (record { kind = Memory; frames = 0 })) m m
+ends_unread limit m = record {
+  done = tt;
+  alone = tt;
+  few = tt;
+  fault = (refl, refl);
+  alone_before = λ whole. ([], nothing_served m);
+  few_before = omega arith;
+  too_many = λ wrong. cc wrong;
+}
+
+pub ends_stopped : UnrefusedAreToldAlone → (limit : ℕ) (fault : ServeFault) (old new : StreamState) → fault.frames ≤ limit → (fault.kind ≡ TooManyFrames → fault.frames ≡ limit)
+    → StopsWithFault old new fault.kind fault.frames → ServesStream limit (Err fault) old new
+ends_stopped law limit fault old new few full stopped = record {
+  done = tt;
+  alone = tt;
+  few = tt;
+  fault = stopped;
+  alone_before = stops_alone law old new fault.kind fault.frames stopped;
+  few_before = few;
+  too_many = full;
+}

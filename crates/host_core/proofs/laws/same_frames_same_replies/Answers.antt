@@ -1,0 +1,5 @@
+use Rattle.host_core.proofs.ToldAlone.{same_frames_same_replies}
+use Rattle.host_core.proofs.laws.same_frames_same_replies.Goals as goal
+
+pub returns : goal.returns
+returns c = same_frames_same_replies c.one_alone.ensures

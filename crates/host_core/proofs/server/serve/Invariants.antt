@@ -1,0 +1,15 @@
+-- So many frames are answered so far, and no call has failed.
+use Rattle.std.proofs.Common.{[]}
+use Rattle.host_core.specs.Served.{AnswersFrames, NoCallFailed, stream_state}
+use Rattle.host_core.proofs.server.serve.Given as goal
+
+abbrev pub invariant-loop-frames : goal.invariant-loop-frames
+invariant-loop-frames g l = record {
+  answered : AnswersFrames
+      (stream_state g.R.Source g.W.Sink l.initial.host l.initial.reader l.initial.writer)
+      (stream_state g.R.Source g.W.Sink l.host l.reader l.writer)
+      l.frames [];
+  sound : NoCallFailed
+      (stream_state g.R.Source g.W.Sink l.initial.host l.initial.reader l.initial.writer)
+      (stream_state g.R.Source g.W.Sink l.host l.reader l.writer);
+}

@@ -1,0 +1,3 @@
+-- What private contracts and proofs cite. No public contract names it.
+pub mod Reading
+pub mod Frame

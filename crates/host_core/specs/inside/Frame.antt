@@ -1,0 +1,37 @@
+-- How one frame is served: read, handled, answered. This project's own.
+use Rattle.std.specs.Prelude.{◌≡◌, Bool, true, false, ℕ, ◌<◌, List, [], length, take}
+use Rattle.std.specs.Io.KnownBytes.{Consumes, Appends, IsAtEnd}
+use Rattle.host_core.specs.declared.server.ServeFaultKind.{ServeFaultKind}
+use Rattle.host_core.specs.declared.server.ServeFaultKind.TheVariants.{Read, Write, Truncated, TooManyFrames, Memory}
+use Rattle.command_frames.specs.Frame.{framed, IsFrame, IsPartial}
+use Rattle.host_core.specs.Served.{StreamState, NoCallFailed}
+use Rattle.host_core.specs.Handled.{Handles}
+
+-- a frame was read, answered, and its reply written as far as `out`
+pub record ServesOneFrame (old new : StreamState) (frame reply out : List ℕ) : Type 0 where
+  pub is_frame : IsFrame frame
+  pub read : Consumes old.input new.input (framed frame)
+  pub written : Appends old.output new.output out
+  pub handled : Handles old.states frame reply new.states
+
+-- nothing but so many bytes was read
+pub record ReadsOnly (old new : StreamState) (rest : List ℕ) : Type 0 where
+  pub read : Consumes old.input new.input rest
+  pub written : new.output ≡ old.output
+  pub states : new.states ≡ old.states
+
+-- ---- one frame
+
+-- one frame was served, or the input was at its end
+abbrev pub ServesFrameOrEnds : StreamState → StreamState → Bool → Type 0
+ServesFrameOrEnds old new true = ((frame : List ℕ) × (reply : List ℕ) × ServesOneFrame old new frame reply reply) × NoCallFailed old new
+ServesFrameOrEnds old new false = ReadsOnly old new [] × IsAtEnd new.input × NoCallFailed old new
+
+abbrev pub StopsInFrame : StreamState → StreamState → ServeFaultKind → Type 0
+StopsInFrame old new Read = ((rest : List ℕ) × IsPartial rest × ReadsOnly old new rest) × (old.read_failures < new.read_failures)
+StopsInFrame old new Write =
+    ((frame : List ℕ) × (reply : List ℕ) × (n : ℕ) × ServesOneFrame old new frame reply (take n reply)) × (old.write_failures < new.write_failures)
+StopsInFrame old new Truncated =
+    ((rest : List ℕ) × IsPartial rest × (0 < length rest) × ReadsOnly old new rest) × IsAtEnd new.input × NoCallFailed old new
+StopsInFrame old new TooManyFrames = ⊥
+StopsInFrame old new Memory = ⊥

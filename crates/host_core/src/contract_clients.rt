@@ -1,0 +1,31 @@
+//! What a caller can tell of a stream from the contracts alone.
+
+ghost use Rattle.std.specs.Prelude.{◌≤◌, ◌<◌, ◌-◌, ◌^◌, List, [], replicate, IfSome};
+ghost use Rattle.tenant.specs.State.{TenantState, new_tenant};
+ghost use Rattle.host_core.specs.Served.{stream_state, ServesAlone};
+ghost use Rattle.host_core.specs.declared.host.TheConstants.{MOST_TENANTS};
+
+use crate::host::Host;
+use crate::server::serve;
+use crate::stream::{Sink, Source};
+use std::alloc::Global;
+
+/// A stream that a new host serves to its end: each tenant is told what the machine of a new tenant alone tells it.
+fn serve_from_the_beginning<R: Source, W: Sink>(
+    alloc: Global,
+    tenants: usize,
+    reader: &mut R,
+    writer: &mut W,
+) -> Option<u32>
+    requires some { 1 ≤ tenants }
+    requires few { tenants ≤ MOST_TENANTS }
+    requires reader { R.failures reader.old < 2 ^ 64 - 1 }
+    requires writer { W.failures writer.old < 2 ^ 64 - 1 }
+    ensures { IfSome result (λ count. (after : List TenantState) × ServesAlone
+        (stream_state R.Source W.Sink (replicate tenants new_tenant) reader.old writer.old)
+        (stream_state R.Source W.Sink after reader.new writer.new)
+        count []) }
+{
+    let mut host = Host::new(alloc, tenants).ok()?;
+    serve(alloc, &mut host, reader, writer, 100).ok()
+}

@@ -1,0 +1,17 @@
+//! The host: frames in, replies out.
+#![tactic(auto)]
+
+mod contract_clients;
+mod host;
+pub mod laws;
+mod reading;
+mod server;
+mod stream;
+mod writing;
+
+pub use command_frames::{LONGEST_REPLY, ReplyBuf};
+pub use host::{Host, MOST_TENANTS};
+pub use reading::fill;
+pub use server::{MOST_FRAMES, ServeFault, ServeFaultKind, serve};
+pub use stream::{Counted, Sink, Source};
+pub use writing::write_whole;

@@ -1,0 +1,201 @@
+//! Frames out of a reader.
+
+ghost use Rattle.std.specs.Prelude.{◌≡◌, ℕ, ◌+◌, ◌-◌, ◌<◌, ◌≤◌, ◌^◌, [], List, length, take, min, IfOk, IfErr, IfSome, IfNone, Ok, OnOk, OnErr};
+ghost use Rattle.std.specs.Io.KnownBytes.{IsAtEnd};
+ghost use Rattle.byteorder.specs.Endian.{little_bytes};
+ghost use Rattle.command_frames.specs.Frame.{framed, IsFrame};
+ghost use Rattle.host_core.specs.declared.reading.TheConstants.{KEPT};
+ghost use Rattle.host_core.specs.inside.Reading.{ReadsFewer, ReadsPartial, StopsAt, IsKeptFrontOf};
+ghost use Rattle.host_core.specs.Stream.{Takes};
+
+use crate::server::ServeFaultKind;
+use crate::stream::Source;
+use byteorder::{ByteOrder, LittleEndian};
+use command_frames::LONGEST_FRAME;
+use std::alloc::{AllocError, Global};
+
+/// How many bytes of a frame are kept: one more than the longest frame that is looked at has.
+pub(crate) const KEPT: usize = LONGEST_FRAME + 1;
+
+/// Reads into the buffer until it is full or the input ends, and says how many bytes came. Of the reader's calls fewer than
+/// 2^64 - 1 have failed before.
+///
+/// # Errors
+///
+/// `Read` where a call of the reader failed. What came before is in the front of the buffer, and does not fill it.
+pub fn fill<S: Source>(reader: &mut S, buffer: &mut [u8]) -> Result<usize, ServeFaultKind>
+    requires { S.failures reader.old < 2 ^ 64 - 1 }
+    ensures bytes { IfOk result (λ n. Takes S.remaining reader.old reader.new (take n buffer.new)) }
+    ensures bound { IfOk result (λ n. n ≤ length buffer.new) }
+    ensures end { IfOk result (λ n. n < length buffer.new → IsAtEnd (S.remaining reader.new)) }
+    ensures sound { IfOk result (λ n. S.failures reader.new ≡ S.failures reader.old) }
+    ensures kind { IfErr result (λ kind. kind ≡ ServeFaultKind.Read) }
+    ensures part { OnErr result ((n : ℕ) × (n < length buffer.new)
+        × Takes S.remaining reader.old reader.new (take n buffer.new)) }
+    ensures failed { OnErr result (S.failures reader.old < S.failures reader.new) }
+{
+    let mut at = 0;
+    while at < buffer.len() {
+        match reader.read(&mut buffer[at..]) {
+            Ok(0) => return Ok(at),
+            Ok(count) => at += count,
+            Err(_) => return Err(ServeFaultKind::Read),
+        }
+    }
+    Ok(at)
+}
+
+/// The number that four bytes spell.
+fn number_in(bytes: &[u8]) -> u32
+    requires { length bytes.now ≡ 4 }
+    ensures { little_bytes 4 result ≡ bytes.now }
+{
+    LittleEndian::read_u32(bytes)
+}
+
+/// Reads the length of a frame: none where the input ends before it.
+fn read_length<S: Source>(reader: &mut S) -> Result<Option<u32>, ServeFaultKind>
+    requires { S.failures reader.old < 2 ^ 64 - 1 }
+    ensures some { IfOk result (λ found.
+        IfSome found (λ total. Takes S.remaining reader.old reader.new (little_bytes 4 total))) }
+    ensures bound { IfOk result (λ found. IfSome found (λ total. total < 2 ^ 32)) }
+    ensures none { IfOk result (λ found. IfNone found (Takes S.remaining reader.old reader.new []
+        × IsAtEnd (S.remaining reader.new))) }
+    ensures sound { OnOk result (S.failures reader.new ≡ S.failures reader.old) }
+    ensures short { IfErr result (λ kind.
+        ReadsPartial kind (S.remaining reader.old) (S.remaining reader.new)) }
+    ensures stop { IfErr result (λ kind.
+        StopsAt S.remaining S.failures kind reader.old reader.new) }
+{
+    let mut bytes = [0; 4];
+    let count = fill(reader, &mut bytes)?;
+    if count == 0 {
+        return Ok(None);
+    }
+    if count < 4 {
+        return Err(ServeFaultKind::Truncated);
+    }
+    Ok(Some(number_in(&bytes)))
+}
+
+/// Reads so many bytes and keeps none of them.
+fn skip<S: Source>(reader: &mut S, scratch: &mut [u8], count: usize) -> Result<(), ServeFaultKind>
+    requires failures { S.failures reader.old < 2 ^ 64 - 1 }
+    requires scratch { 0 < length scratch.old }
+    ensures bytes { OnOk result ((bytes : List ℕ) × (length bytes ≡ count)
+        × Takes S.remaining reader.old reader.new bytes) }
+    ensures sound { OnOk result (S.failures reader.new ≡ S.failures reader.old) }
+    ensures short { OnErr result
+        (ReadsFewer (S.remaining reader.old) (S.remaining reader.new) count) }
+    ensures stop { IfErr result (λ kind.
+        StopsAt S.remaining S.failures kind reader.old reader.new) }
+{
+    let mut left = count;
+    while left > 0 {
+        let wanted = left.min(scratch.len());
+        let came = fill(reader, &mut scratch[..wanted])?;
+        if came < wanted {
+            return Err(ServeFaultKind::Truncated);
+        }
+        left -= came;
+    }
+    Ok(())
+}
+
+/// Reads so many bytes into the front of the buffer.
+fn read_whole<S: Source>(
+    reader: &mut S,
+    buffer: &mut [u8],
+    count: usize,
+) -> Result<(), ServeFaultKind>
+    requires failures { S.failures reader.old < 2 ^ 64 - 1 }
+    requires room { count ≤ length buffer.old }
+    ensures bytes { OnOk result (Takes S.remaining reader.old reader.new (take count buffer.new)) }
+    ensures sound { OnOk result (S.failures reader.new ≡ S.failures reader.old) }
+    ensures short { OnErr result
+        (ReadsFewer (S.remaining reader.old) (S.remaining reader.new) count) }
+    ensures stop { IfErr result (λ kind.
+        StopsAt S.remaining S.failures kind reader.old reader.new) }
+{
+    let came = fill(reader, &mut buffer[..count])?;
+    if came < count {
+        return Err(ServeFaultKind::Truncated);
+    }
+    Ok(())
+}
+
+/// Reads a frame that is longer than the buffer. The buffer is full then, and begins with the frame's head.
+fn read_long<S: Source>(
+    reader: &mut S,
+    buffer: &mut [u8],
+    total: usize,
+) -> Result<(), ServeFaultKind>
+    requires failures { S.failures reader.old < 2 ^ 64 - 1 }
+    requires room { length buffer.old ≡ KEPT }
+    requires long { KEPT < total }
+    ensures frame { OnOk result ((frame : List ℕ) × (length frame ≡ total)
+        × Takes S.remaining reader.old reader.new frame × (take 4 buffer.new ≡ take 4 frame)) }
+    ensures sound { OnOk result (S.failures reader.new ≡ S.failures reader.old) }
+    ensures short { OnErr result
+        (ReadsFewer (S.remaining reader.old) (S.remaining reader.new) total) }
+    ensures stop { IfErr result (λ kind.
+        StopsAt S.remaining S.failures kind reader.old reader.new) }
+{
+    read_whole(reader, buffer, KEPT)?;
+    skip(reader, &mut buffer[4..], total - KEPT)?;
+    Ok(())
+}
+
+/// Reads the bytes of a frame of this length into the front of the buffer, and says how many it holds then.
+fn read_body<S: Source>(
+    reader: &mut S,
+    buffer: &mut [u8],
+    total: usize,
+) -> Result<usize, ServeFaultKind>
+    requires failures { S.failures reader.old < 2 ^ 64 - 1 }
+    requires room { length buffer.old ≡ KEPT }
+    ensures frame { IfOk result (λ kept. (frame : List ℕ) × (length frame ≡ total)
+        × Takes S.remaining reader.old reader.new frame
+        × IsKeptFrontOf (take kept buffer.new) frame) }
+    ensures bound { IfOk result (λ kept. kept ≤ KEPT) }
+    ensures sound { OnOk result (S.failures reader.new ≡ S.failures reader.old) }
+    ensures short { OnErr result
+        (ReadsFewer (S.remaining reader.old) (S.remaining reader.new) total) }
+    ensures stop { IfErr result (λ kind.
+        StopsAt S.remaining S.failures kind reader.old reader.new) }
+{
+    if total <= KEPT {
+        read_whole(reader, buffer, total)?;
+        Ok(total)
+    } else {
+        read_long(reader, buffer, total)?;
+        Ok(KEPT)
+    }
+}
+
+/// Reads a frame into the front of the buffer, and says how many bytes the buffer holds of it; nothing where the input
+/// ends before a frame.
+pub(crate) fn read_frame<S: Source>(
+    reader: &mut S,
+    buffer: &mut [u8],
+) -> Result<Option<usize>, ServeFaultKind>
+    requires failures { S.failures reader.old < 2 ^ 64 - 1 }
+    requires room { length buffer.old ≡ KEPT }
+    ensures frame { IfOk result (λ found. IfSome found (λ kept. (frame : List ℕ) × IsFrame frame
+        × Takes S.remaining reader.old reader.new (framed frame)
+        × IsKeptFrontOf (take kept buffer.new) frame)) }
+    ensures bound { IfOk result (λ found. IfSome found (λ kept. kept ≤ KEPT)) }
+    ensures none { IfOk result (λ found. IfNone found (Takes S.remaining reader.old reader.new []
+        × IsAtEnd (S.remaining reader.new))) }
+    ensures sound { OnOk result (S.failures reader.new ≡ S.failures reader.old) }
+    ensures short { IfErr result (λ kind.
+        ReadsPartial kind (S.remaining reader.old) (S.remaining reader.new)) }
+    ensures stop { IfErr result (λ kind.
+        StopsAt S.remaining S.failures kind reader.old reader.new) }
+{
+    let Some(total) = read_length(reader)? else {
+        return Ok(None);
+    };
+    let kept = read_body(reader, buffer, total as usize)?;
+    Ok(Some(kept))
+}

@@ -1,0 +1,151 @@
+//! A whole stream.
+
+ghost use Rattle.std.specs.Prelude.{◌≡◌, ℕ, ◌-◌, ◌<◌, ◌≤◌, ◌^◌, [], length, IfOk, IfErr, OnOk, OnErr, true, false};
+ghost use Rattle.std.specs.Prelude.{◌∷◌};
+ghost use Rattle.std.specs.Io.KnownBytes.{IsAtEnd};
+ghost use Rattle.host_core.specs.declared.reading.TheConstants.{KEPT};
+ghost use Rattle.host_core.specs.declared.server.TheConstants.{MOST_FRAMES};
+ghost use Rattle.host_core.specs.Stream.{Takes};
+ghost use Rattle.host_core.specs.Served.{stream_state, ServesStream};
+ghost use Rattle.host_core.specs.inside.Frame.{ServesFrameOrEnds, StopsInFrame};
+
+use crate::host::Host;
+use crate::laws;
+use crate::reading::{KEPT, fill, read_frame};
+use crate::stream::{Sink, Source};
+use crate::writing::write_whole;
+use command_frames::ReplyBuf;
+use std::alloc::{AllocError, Global};
+
+/// The most frames that a call of `serve` may be allowed.
+pub const MOST_FRAMES: u32 = 16_777_216;
+
+/// Why a stream was not served to its end.
+#[derive(Clone, Copy, Debug, PartialEq, Eq)]
+pub enum ServeFaultKind {
+    /// A call of the reader failed.
+    Read,
+    /// A call of the writer failed.
+    Write,
+    /// The input ended inside a frame, which has no reply and no effect.
+    Truncated,
+    /// As many frames as allowed are answered, and another byte follows.
+    TooManyFrames,
+    /// The buffers could not be had. Nothing was read or written.
+    Memory,
+}
+
+/// Why a stream was not served to its end, and how many replies were written whole and sent on.
+#[derive(Clone, Copy, Debug, PartialEq, Eq)]
+pub struct ServeFault {
+    pub kind: ServeFaultKind,
+    pub frames: u32,
+}
+
+/// Room for a frame and for a reply.
+#[derive(Drop)]
+struct Rooms {
+    frame: Vec<u8>,
+    reply: ReplyBuf,
+    ghost long: { length frame.items ≡ KEPT },
+}
+
+impl Rooms {
+    fn new(alloc: Global) -> Result<Rooms, AllocError> {
+        Ok(Rooms {
+            frame: vec![in alloc; 0; KEPT]?,
+            reply: ReplyBuf::new(alloc)?,
+        })
+    }
+}
+
+/// Reads a frame, handles it, and writes its reply; false where the input ends before a frame.
+fn serve_frame<R: Source, W: Sink>(
+    host: &mut Host,
+    reader: &mut R,
+    writer: &mut W,
+    rooms: &mut Rooms,
+) -> Result<bool, ServeFaultKind>
+    requires reader { R.failures reader.old < 2 ^ 64 - 1 }
+    requires writer { W.failures writer.old < 2 ^ 64 - 1 }
+    ensures done { IfOk result (ServesFrameOrEnds
+        (stream_state R.Source W.Sink host.old reader.old writer.old)
+        (stream_state R.Source W.Sink host.new reader.new writer.new)) }
+    ensures fault { IfErr result (StopsInFrame
+        (stream_state R.Source W.Sink host.old reader.old writer.old)
+        (stream_state R.Source W.Sink host.new reader.new writer.new)) }
+{
+    let Some(kept) = read_frame(reader, &mut rooms.frame)? else {
+        return Ok(false);
+    };
+    host.handle(&rooms.frame[..kept], &mut rooms.reply);
+    write_whole(writer, rooms.reply.bytes())?;
+    Ok(true)
+}
+
+/// Whether the input is at its end. One byte more is taken from it where it isn't.
+fn is_at_end<R: Source>(reader: &mut R) -> Result<bool, ServeFaultKind>
+    requires { R.failures reader.old < 2 ^ 64 - 1 }
+    ensures end { IfOk result (λ end. end ≡ true → Takes R.remaining reader.old reader.new []
+        × IsAtEnd (R.remaining reader.new)) }
+    ensures more { IfOk result (λ end. end ≡ false → (byte : ℕ)
+        × Takes R.remaining reader.old reader.new (byte ∷ [])) }
+    ensures sound { OnOk result (R.failures reader.new ≡ R.failures reader.old) }
+    ensures kind { IfErr result (λ kind. kind ≡ ServeFaultKind.Read) }
+    ensures failed { OnErr result (Takes R.remaining reader.old reader.new []
+        × (R.failures reader.old < R.failures reader.new)) }
+{
+    let mut byte = [0; 1];
+    let count = fill(reader, &mut byte)?;
+    Ok(count == 0)
+}
+
+/// Serves a stream: reads a frame, handles it, writes its reply, sends it on, and goes on, until the input ends or as
+/// many frames are answered as the limit allows, which is at most 16,777,216. It says how many. Of the reader's calls, and of the
+/// writer's, fewer than 2^64 - 1 have failed before.
+///
+/// # Errors
+///
+/// `Read` and `Write` where a call of the reader or the writer failed; `Truncated` where the input ends inside a
+/// frame; `TooManyFrames` where another byte, which is taken, follows the last frame allowed; `Memory` where the buffers could
+/// not be had, before anything is read.
+pub fn serve<R: Source, W: Sink>(
+    alloc: Global,
+    host: &mut Host,
+    reader: &mut R,
+    writer: &mut W,
+    limit: u32,
+) -> Result<u32, ServeFault>
+    requires limit { limit ≤ MOST_FRAMES }
+    requires reader { R.failures reader.old < 2 ^ 64 - 1 }
+    requires writer { W.failures writer.old < 2 ^ 64 - 1 }
+    ensures { ServesStream limit result
+        (stream_state R.Source W.Sink host.old reader.old writer.old)
+        (stream_state R.Source W.Sink host.new reader.new writer.new) }
+{
+    let Ok(mut rooms) = Rooms::new(alloc) else {
+        return Err(ServeFault {
+            kind: ServeFaultKind::Memory,
+            frames: 0,
+        });
+    };
+    laws::unrefused_are_told_alone();
+    for frames in 0..limit {
+        match serve_frame(host, reader, writer, &mut rooms) {
+            Ok(true) => {}
+            Ok(false) => return Ok(frames),
+            Err(kind) => return Err(ServeFault { kind, frames }),
+        }
+    }
+    match is_at_end(reader) {
+        Ok(true) => Ok(limit),
+        Ok(false) => Err(ServeFault {
+            kind: ServeFaultKind::TooManyFrames,
+            frames: limit,
+        }),
+        Err(kind) => Err(ServeFault {
+            kind,
+            frames: limit,
+        }),
+    }
+}

@@ -1,0 +1,119 @@
+//! What `serve` reads from and writes to.
+
+ghost use Rattle.std.specs.Prelude.{◌≡◌, ℕ, ◌+◌, ◌-◌, ◌<◌, ◌^◌, List, None, Option};
+ghost use Rattle.std.specs.Io.{ReadsAtMost, WritesAtMost};
+ghost use Rattle.std.specs.Io.KnownBytes.{Keeps, ReadConsumes, WriteAppends};
+ghost use Rattle.host_core.specs.Stream.{read_failures, write_failures, flush_failures};
+
+use std::io::{self, Read, Write};
+
+/// Where frames come from. A caller learns which bytes come, where they are known, and how many calls failed.
+pub trait Source {
+    // The bytes that reads will give from here on, where they are known.
+    ghost remaining: { Self → Option (List ℕ) } = { λ _. None };
+
+    // How many calls failed so far.
+    ghost failures: { Self → ℕ };
+
+    /// Reads some bytes into the front of the buffer, and says how many; none only at the end, or where the buffer is
+    /// empty.
+    fn read(&mut self, buffer: &mut [u8]) -> io::Result<usize>
+        requires { failures self.old < 2 ^ 64 - 1 }
+        ensures bound { ReadsAtMost result buffer.new }
+        ensures bytes { ReadConsumes (remaining self.old) (remaining self.new) result buffer.new }
+        ensures failures { failures self.new ≡ failures self.old + read_failures result };
+}
+
+/// Where replies go. A caller learns which bytes went out, where they are known, and how many calls failed; a write
+/// that takes no byte of some has failed.
+pub trait Sink {
+    // The bytes that went out so far, where they are known.
+    ghost contents: { Self → Option (List ℕ) } = { λ _. None };
+
+    // How many calls failed so far.
+    ghost failures: { Self → ℕ };
+
+    /// Writes some bytes from the front of these, and says how many.
+    fn write(&mut self, bytes: &[u8]) -> io::Result<usize>
+        requires { failures self.old < 2 ^ 64 - 1 }
+        ensures bound { WritesAtMost result bytes.now }
+        ensures bytes { WriteAppends (contents self.old) (contents self.new) result bytes.now }
+        ensures failures { failures self.new
+            ≡ failures self.old + write_failures result bytes.now };
+
+    /// Sends on what was written.
+    fn flush(&mut self) -> io::Result<()>
+        requires { failures self.old < 2 ^ 64 - 1 }
+        ensures bytes { Keeps (contents self.old) (contents self.new) }
+        ensures failures { failures self.new ≡ failures self.old + flush_failures result };
+}
+
+/// A reader or a writer of std, with a count of its calls that failed.
+#[derive(Drop)]
+pub struct Counted<T> {
+    inner: T,
+    failures: u64,
+}
+
+impl<T> Counted<T> {
+    /// No call has failed yet.
+    pub fn new(inner: T) -> Counted<T>
+        ensures inner { result.inner ≡ inner }
+        ensures failures { result.failures ≡ 0 }
+    {
+        Counted { inner, failures: 0 }
+    }
+
+    /// How many calls failed so far.
+    pub fn failures(&self) -> u64
+        ensures { result ≡ self.now.failures }
+    {
+        self.failures
+    }
+
+    /// The reader or the writer.
+    pub fn into_inner(self) -> T
+        ensures { result ≡ self.inner }
+    {
+        let Counted { inner, failures: _ } = self;
+        inner
+    }
+}
+
+impl<R: Read> Source for Counted<R> {
+    ghost remaining = { λ c. R.Read.remaining c.inner };
+
+    ghost failures = { λ c. c.failures };
+
+    fn read(&mut self, buffer: &mut [u8]) -> io::Result<usize> {
+        let outcome = self.inner.read(buffer);
+        if outcome.is_err() {
+            self.failures += 1;
+        }
+        outcome
+    }
+}
+
+impl<W: Write> Sink for Counted<W> {
+    ghost contents = { λ c. W.Write.contents c.inner };
+
+    ghost failures = { λ c. c.failures };
+
+    fn write(&mut self, bytes: &[u8]) -> io::Result<usize> {
+        let outcome = self.inner.write(bytes);
+        match outcome {
+            Ok(0) if !bytes.is_empty() => self.failures += 1,
+            Ok(_) => {}
+            Err(_) => self.failures += 1,
+        }
+        outcome
+    }
+
+    fn flush(&mut self) -> io::Result<()> {
+        let outcome = self.inner.flush();
+        if outcome.is_err() {
+            self.failures += 1;
+        }
+        outcome
+    }
+}

@@ -1,0 +1,36 @@
+//! Replies into a writer.
+
+ghost use Rattle.std.specs.Prelude.{◌≡◌, ℕ, ◌-◌, ◌<◌, ◌≤◌, ◌^◌, length, take, IfErr, OnOk, OnErr};
+ghost use Rattle.std.specs.Io.KnownBytes.{Appends};
+
+use crate::server::ServeFaultKind;
+use crate::stream::Sink;
+
+/// Writes all of the bytes, each once, and sends them on. Of the writer's calls fewer than 2^64 - 1 have failed before.
+///
+/// # Errors
+///
+/// `Write` where a call of the writer failed, or took no byte of some. What went out before is a front of the bytes.
+pub fn write_whole<S: Sink>(writer: &mut S, bytes: &[u8]) -> Result<(), ServeFaultKind>
+    requires { S.failures writer.old < 2 ^ 64 - 1 }
+    ensures whole { OnOk result
+        (Appends (S.contents writer.old) (S.contents writer.new) bytes.now) }
+    ensures sound { OnOk result (S.failures writer.new ≡ S.failures writer.old) }
+    ensures kind { IfErr result (λ kind. kind ≡ ServeFaultKind.Write) }
+    ensures part { OnErr result ((n : ℕ) × (n ≤ length bytes.now)
+        × Appends (S.contents writer.old) (S.contents writer.new) (take n bytes.now)) }
+    ensures failed { OnErr result (S.failures writer.old < S.failures writer.new) }
+{
+    let mut rest = bytes;
+    while !rest.is_empty() {
+        match writer.write(rest) {
+            Ok(0) => return Err(ServeFaultKind::Write),
+            Ok(count) => rest = &rest[count..],
+            Err(_) => return Err(ServeFaultKind::Write),
+        }
+    }
+    match writer.flush() {
+        Ok(()) => Ok(()),
+        Err(_) => Err(ServeFaultKind::Write),
+    }
+}

@@ -1,0 +1,247 @@
+//! What an instruction is, whatever the registers hold: a table with a row for each.
+
+ghost use Rattle.std.specs.Prelude.{◌≡◌, ◌≤◌};
+ghost use Rattle.insn_codec.specs.Profile.{row, register_of, first_operand};
+
+use crate::MAX_SLOTS;
+use crate::insn::{AluOp, Insn, Load, Movsx, Operand, Reg};
+
+/// What may follow an instruction: its successors in the control flow graph (RFC 9669, section 4.3).
+#[derive(Clone, Copy, Debug, PartialEq, Eq)]
+pub enum Successors {
+    /// The next instruction alone.
+    Next,
+    /// What begins so many slots behind the next one.
+    Jump(i32),
+    /// Either.
+    NextOrJump(i32),
+    /// Nothing: the program ends.
+    Nothing,
+}
+
+/// What an instruction names that is in no register.
+#[derive(Clone, Copy, Debug, PartialEq, Eq)]
+pub enum Reference {
+    /// Nothing.
+    Nothing,
+    /// A helper function, by its number (RFC 9669, section 4.3.1).
+    Helper(i32),
+    /// A map, by its descriptor (RFC 9669, section 5.4.1).
+    Map(u32),
+    /// The byte at an offset in the first value of the map with a descriptor (RFC 9669, section 5.4.1).
+    Value(u32, u32),
+}
+
+/// What an instruction is, whatever the registers hold.
+#[derive(Clone, Copy, Debug, PartialEq, Eq)]
+pub struct Profile {
+    /// The register that is its first operand, if it reads one.
+    pub first_read: Option<Reg>,
+    /// The register that is its second operand, or the address of a load, if it reads one. A call reads its helper's
+    /// arguments, which are not told here.
+    pub second_read: Option<Reg>,
+    /// The register that it gives a value. What a call does to registers 0 to 5 is not told here.
+    pub written: Option<Reg>,
+    /// What may follow it.
+    pub successors: Successors,
+    /// What it names.
+    pub reference: Reference,
+    /// In how many slots it is spelled: one or two (RFC 9669, section 3.2).
+    pub slots: usize,
+}
+
+/// A row of the table.
+#[inline(always)]
+fn row(
+    first_read: Option<Reg>,
+    second_read: Option<Reg>,
+    written: Option<Reg>,
+    successors: Successors,
+    reference: Reference,
+    slots: usize,
+) -> Profile
+    ensures { result ≡ row first_read second_read written successors reference slots }
+{
+    Profile {
+        first_read,
+        second_read,
+        written,
+        successors,
+        reference,
+        slots,
+    }
+}
+
+/// The register that an operand is.
+#[inline(always)]
+fn register_of(operand: Operand) -> Option<Reg>
+    ensures { result ≡ register_of operand }
+{
+    match operand {
+        Operand::Imm(_) => None,
+        Operand::Reg(register) => Some(register),
+    }
+}
+
+/// The first operand of an operation: a move reads none (RFC 9669, section 4.1).
+#[inline(always)]
+fn first_operand(op: AluOp, dst: Reg) -> Option<Reg>
+    ensures { result ≡ first_operand op dst }
+{
+    match op {
+        AluOp::Mov => None,
+        _ => Some(dst),
+    }
+}
+
+impl Insn {
+    ghost use Rattle.insn_codec.specs.Profile.{profile};
+
+    /// Its row of the table.
+    #[inline(always)]
+    pub fn profile(&self) -> Profile
+        ensures { result ≡ profile self.now }
+    {
+        use Reference::Nothing;
+        use Successors::{Jump, Next, NextOrJump};
+        match *self {
+            Insn::Alu { op, dst, src, .. } => row(
+                first_operand(op, dst),
+                register_of(src),
+                Some(dst),
+                Next,
+                Nothing,
+                1,
+            ),
+            Insn::Movsx(Movsx { dst, src, .. }) => row(
+                None,
+                Some(src),
+                Some(dst),
+                Next,
+                Nothing,
+                1,
+            ),
+            Insn::Neg { dst, .. } => row(Some(dst), None, Some(dst), Next, Nothing, 1),
+            Insn::End { dst, .. } => row(Some(dst), None, Some(dst), Next, Nothing, 1),
+            Insn::Ja { off } => row(None, None, None, Jump(i32::from(off)), Nothing, 1),
+            Insn::Jal { off } => row(None, None, None, Jump(off), Nothing, 1),
+            Insn::Jump { dst, src, off, .. } => row(
+                Some(dst),
+                register_of(src),
+                None,
+                NextOrJump(i32::from(off)),
+                Nothing,
+                1,
+            ),
+            Insn::Call { id } => row(None, None, None, Next, Reference::Helper(id), 1),
+            Insn::Exit => row(
+                Some(Reg::new(0)),
+                None,
+                None,
+                Successors::Nothing,
+                Nothing,
+                1,
+            ),
+            Insn::Load(Load { dst, src, .. }) => row(None, Some(src), Some(dst), Next, Nothing, 1),
+            Insn::Store { dst, src, .. } => row(
+                Some(dst),
+                register_of(src),
+                None,
+                Next,
+                Nothing,
+                1,
+            ),
+            Insn::Atomic { dst, src, .. } => row(Some(dst), Some(src), None, Next, Nothing, 1),
+            Insn::Const { dst, .. } => row(None, None, Some(dst), Next, Nothing, 2),
+            Insn::MapFd { dst, fd } => row(
+                None,
+                None,
+                Some(dst),
+                Next,
+                Reference::Map(fd.cast_unsigned()),
+                2,
+            ),
+            Insn::MapValue { dst, fd, off } => row(
+                None,
+                None,
+                Some(dst),
+                Next,
+                Reference::Value(fd.cast_unsigned(), off),
+                2,
+            ),
+        }
+    }
+}
+
+impl Successors {
+    ghost use Rattle.insn_codec.specs.Flow.{falls_by, jumps_by, offset_by, target_by};
+
+    /// Whether the next instruction may follow.
+    #[inline(always)]
+    pub fn falls(self) -> bool
+        ensures { result ≡ falls_by self }
+    {
+        match self {
+            Successors::Next => true,
+            Successors::Jump(_) => false,
+            Successors::NextOrJump(_) => true,
+            Successors::Nothing => false,
+        }
+    }
+
+    /// Whether a jump may be taken.
+    #[inline(always)]
+    pub fn jumps(self) -> bool
+        ensures { result ≡ jumps_by self }
+    {
+        match self {
+            Successors::Next => false,
+            Successors::Jump(_) => true,
+            Successors::NextOrJump(_) => true,
+            Successors::Nothing => false,
+        }
+    }
+
+    /// How far the jump leads, in slots from the next one; 0 where there is none.
+    #[inline(always)]
+    pub fn offset(self) -> i32
+        ensures { result ≡ offset_by self }
+    {
+        match self {
+            Successors::Next => 0,
+            Successors::Jump(off) => off,
+            Successors::NextOrJump(off) => off,
+            Successors::Nothing => 0,
+        }
+    }
+
+    /// The slot that the jump leads to from an instruction at a slot: none where there is no jump, or below slot 0.
+    #[inline(always)]
+    pub fn target(self, slot: usize) -> Option<usize>
+        requires { slot ≤ MAX_SLOTS }
+        ensures { result ≡ target_by self slot }
+    {
+        if self.jumps() {
+            (slot + 1).checked_add_signed(self.offset() as isize)
+        } else {
+            None
+        }
+    }
+}
+
+impl Reference {
+    ghost use Rattle.insn_codec.specs.Flow.{descriptor_by};
+
+    /// The descriptor of the map, if it names one or a value of one.
+    #[inline(always)]
+    pub fn descriptor(self) -> Option<u32>
+        ensures { result ≡ descriptor_by self }
+    {
+        match self {
+            Reference::Nothing => None,
+            Reference::Helper(_) => None,
+            Reference::Map(fd) => Some(fd),
+            Reference::Value(fd, _) => Some(fd),
+        }
+    }
+}

@@ -1,0 +1,34 @@
+-- What holds of the bits that stand for bytes of a slot: laws of the definition `bits_in` of `Many`, proved here for the proofs of the
+-- crates above. This project's own. No contract cites them, so there is nothing in them to believe.
+use Rattle.std.proofs.Common.{◌≡◌, ℕ, zero, suc, ◌+◌, ◌-◌, ◌*◌, ◌^◌, ◌<◌, ◌≤◌, min, sym, ap, subst, ◌∙◌, ⊎_elim, arith}
+use Rattle.std.proofs.Math.Nat.{pow-le-pow_right}
+use Rattle.std.proofs.lemmas.Bool.{cases_lt}
+use Rattle.std.proofs.lemmas.Nat.{pow-add, pow_pos}
+use Rattle.reg_kinds.specs.Many.{bits_in}
+
+less_one : (x y : ℕ) → 0 < x → (x - 1) * y + y ≡ x * y
+less_one zero y h = absurd (omega arith)
+less_one (suc x) y h = let back : suc x - 1 ≡ x = omega arith in ap (λ (k : ℕ). k * y + y) back ∙ next x y
+  where
+    next : (x y : ℕ) → x * y + y ≡ suc x * y
+    next x y = grind arith
+
+-- so many ones from a bit on, within eight, are a byte
+pub ones_small : (a b : ℕ) → a + b ≤ 8 → (2 ^ a - 1) * 2 ^ b < 256
+ones_small a b h =
+    let some : 0 < 2 = omega arith in
+    let most : 2 ^ (a + b) ≤ 2 ^ 8 = pow-le-pow_right some h in
+    let sum = pow-add 2 a b in
+    let less = less_one (2 ^ a) (2 ^ b) (pow_pos a) in
+    let one = pow_pos b in
+    omega arith
+
+-- the bits of the bytes that lie in a slot are a byte
+pub bits_in_small : (p n i : ℕ) → bits_in p n i < 256
+bits_in_small p n i =
+    let a = min 8 (p + n - 8 * i) - (p - 8 * i) in
+    let b = p - 8 * i in
+    ⊎_elim
+    (λ lt. let few : a + b ≤ 8 = omega arith in ones_small a b few)
+    (λ le. let none : a ≡ 0 = omega arith in subst (λ k. (2 ^ k - 1) * 2 ^ b < 256) (sym none) (omega arith))
+    (cases_lt b 8)

@@ -1,0 +1,44 @@
+-- The stack of a program, and which of its bytes an access touches. Offsets count from the stack's upper end, so those of its
+-- bytes are -512 to -1; places count from its lowest byte. The stack's size is that of linux/filter.h (MAX_BPF_STACK), those of
+-- loads and stores are of RFC 9669, section 5.
+use Rattle.std.specs.Prelude.{ℕ, ◌+◌, ◌-◌, ◌*◌, ◌/◌, ◌%◌, ◌==◌, ℤ, pos, negsuc, ◌+ℤ◌, int_le, unsigned_abs, nat_lt, Bool, true, false, ◌&&◌}
+use Rattle.words.specs.declared.stack.AccessSize.{AccessSize}
+use Rattle.words.specs.declared.stack.AccessSize.TheVariants.{Byte, Half, Word, Double}
+
+-- its bytes, and its slots of eight
+abbrev pub stack_size : ℕ
+stack_size = 512
+
+abbrev pub stack_slots : ℕ
+stack_slots = stack_size / 8
+
+-- ---- sizes of loads and stores
+
+abbrev pub bytes_of : AccessSize → ℕ
+bytes_of Byte = 1
+bytes_of Half = 2
+bytes_of Word = 4
+bytes_of Double = 8
+
+-- a whole slot
+abbrev pub is_whole : AccessSize → Bool
+is_whole Double = true
+is_whole _ = false
+
+-- ---- places
+
+-- so many bytes from this offset on lie in the stack
+abbrev pub is_in_stack : ℤ → ℕ → Bool
+is_in_stack offset n = int_le (negsuc (stack_size - 1)) offset && int_le (offset +ℤ pos n) (pos 0)
+
+-- how far an offset in the stack is above the lowest byte
+abbrev pub place : ℤ → ℕ
+place offset = unsigned_abs (offset +ℤ pos stack_size)
+
+-- the stack has a multiple of each size, so an offset is one where its place is
+abbrev pub is_aligned : ℤ → ℕ → Bool
+is_aligned offset n = place offset % n == 0
+
+-- n bytes from place p on touch slot i
+abbrev pub touches : ℕ → ℕ → ℕ → Bool
+touches p n i = nat_lt p (8 * i + 8) && nat_lt (8 * i) (p + n)

@@ -72,7 +72,7 @@ def counts() -> dict[str, Counter[Key]]:
 def vectors() -> Counter[tuple[str, str]]:
     """How many known answers each operator's and each comparison's equation has, by its width."""
     text = (CRATES / "words/proofs/Vectors.antt").read_text()
-    found = Counter((name, width) for width, name in re.findall(r": operate (64|32) (\w+) ", text))
+    found = Counter((name, width) for width, name in re.findall(r": operate (64|32) (?:\(Binary )?(\w+)\b", text))
     found.update((name, width) for width, name in re.findall(r": compares (64|32) (\w+) ", text))
     found.update((f"byte order, {kind.lower()}", "64") for kind in re.findall(r": byte_order \(?(\w+)", text))
     return found

@@ -23,7 +23,7 @@ ROOTS = [
     name("host_core/src/stream.rt", "Counted"),
 ]
 MACHINE, COMMAND, ERRNO = "tenant/specs/Machine.antt", "command_frames/specs/Command.antt", "tenant/specs/Errno.antt"
-STATE, VERDICT = "tenant/specs/State.antt", "verdict/specs/Verdict.antt"
+STATE, VERDICT = "tenant/specs/State.antt", "verifier/specs/Verdict.antt"
 # Whatever these are, they are given a tenant's own frame and its own state: the machine, and what its state and its answers are.
 OF_THE_MACHINE = frozenset({
     *(name(MACHINE, word) for word in ("Answers", "Answer", "refuses")),
@@ -34,7 +34,7 @@ OF_THE_MACHINE = frozenset({
     name(ERRNO, "status_of"),
 })
 # The crates whose definitions say, but for some, which programs are accepted.
-VERIFIER = ("verdict", "transfer", "reg_kinds", "interval")
+VERIFIER = ("verifier", "transfer", "reg_kinds", "interval")
 # The verdict on a program.
 OF_THE_VERDICT = frozenset({name(VERDICT, "IsAccepted"), name(VERDICT, "IsRefused")})
 

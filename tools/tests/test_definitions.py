@@ -45,7 +45,7 @@ class Tiers(unittest.TestCase):
 
     def test_second_cut(self) -> None:
         second, third = tiers()[1:]
-        self.assertIn(name("verdict/specs/Maps.antt", "maps_of"), second.names)
+        self.assertIn(name("verifier/specs/Maps.antt", "maps_of"), second.names)
         self.assertIn(name("transfer/specs/Effects.antt", "effect"), third.names)
 
     def test_idle_stop(self) -> None:

@@ -1,26 +1,26 @@
--- What is written in one part leaves the others as they were. Parts are this project's own.
+-- A write within one part leaves the other parts unchanged. Parts are this project's own.
 use Rattle.std.specs.Prelude.{◌≡◌, ◌≢◌, ℕ, ◌+◌, ◌*◌, ◌<◌, ◌≤◌, List, length, Option, Some}
 use Rattle.words.specs.Bytes.{number_of, low_bytes}
 use Rattle.arena.specs.Bytes.{bytes_at, written_at}
 use Rattle.arena.specs.Memory.{Memory, size_of, base, place_of, loaded, stored, copied, part_start, part_bytes, with_bytes, with_part}
 
--- the memory is its parts, and this is one of them
+-- the memory consists of its parts, and t is one of them
 abbrev pub IsPart : Memory → ℕ → Type 0
 IsPart m t = (size_of m ≡ m.parts * m.part) × (t < m.parts)
 
--- bytes that are written within a part
+-- bytes written within part t leave every other part u unchanged
 abbrev pub WritesStayInside : Type 0
 WritesStayInside =
     (m : Memory) (t u place : ℕ) (new : List ℕ) → IsPart m t → part_start m t ≤ place → place + length new ≤ part_start m t + m.part → u ≢ t
     → part_bytes (with_bytes m place new) u ≡ part_bytes m u
 
--- all bytes of a part
+-- replacing all bytes of part t changes no other part, and not the size
 pub record PartsAreApart : Type 0 where
   pub others : (m : Memory) (t u : ℕ) (new : List ℕ) → IsPart m t → length new ≡ m.part → u ≢ t → part_bytes (with_part m t new) u ≡ part_bytes m u
   pub own : (m : Memory) (t : ℕ) (new : List ℕ) → IsPart m t → length new ≡ m.part → part_bytes (with_part m t new) t ≡ new
   pub size : (m : Memory) (t : ℕ) (new : List ℕ) → IsPart m t → length new ≡ m.part → size_of (with_part m t new) ≡ size_of m
 
--- bytes that are written within a part are written in its bytes, whichever way they come there
+-- bytes written at offset `at` of part t are written there in the part's bytes, through the memory or through the part
 pub record WritesAreInParts : Type 0 where
   pub bytes : (m : Memory) (t at : ℕ) (new : List ℕ) → IsPart m t → at + length new ≤ m.part → part_bytes (with_bytes m (part_start m t + at) new) t ≡ written_at (part_bytes m t) at new
   pub memory : (m : Memory) (t at : ℕ) (new : List ℕ) → IsPart m t → at + length new ≤ m.part → with_part m t (written_at (part_bytes m t) at new) ≡ with_bytes m (part_start m t + at) new
@@ -28,16 +28,16 @@ pub record WritesAreInParts : Type 0 where
 
 -- ---- by address
 
--- bytes are written at a place of a part, and the other parts are as they were
+-- in the memory after, new is written at offset `at` of part t, and every other part is unchanged
 pub record IsWrittenAt (old : Memory) (t at : ℕ) (new : List ℕ) (after : Memory) : Type 0 where
   pub own : part_bytes after t ≡ written_at (part_bytes old t) at new
   pub others : (u : ℕ) → u ≢ t → part_bytes after u ≡ part_bytes old u
 
--- what the memory has for n bytes at a place of a part
+-- the place in the memory of n bytes at offset `at` of part t, if they lie in the memory
 abbrev pub asked_in : Memory → ℕ → ℕ → ℕ → Option ℕ
 asked_in m t n at = place_of (size_of m) n (base + (part_start m t + at))
 
--- loads, stores and copies within a part are those of its bytes
+-- loads, stores and copies within part t are those of its bytes
 pub record HasAccesses (m : Memory) (t : ℕ) : Type 0 where
   pub found : (at n : ℕ) → at + n ≤ m.part → asked_in m t n at ≡ Some (part_start m t + at)
   pub bytes : (at n : ℕ) → at + n ≤ m.part → bytes_at m.bytes (part_start m t + at) n ≡ bytes_at (part_bytes m t) at n

@@ -1,11 +1,11 @@
--- The memory of all tenants, and what is asked of it. Loads and stores are those of RFC 9669, section 5.1, on a
+-- The memory of all tenants, with loads, stores and copies. Loads and stores are those of RFC 9669, section 5.1, on a
 -- little-endian machine; addresses from 2 ^ 32 on and a part for each tenant are this project's own.
 use Rattle.std.specs.Prelude.{ℕ, ◌+◌, ◌-◌, ◌*◌, ◌&&◌, List, length, Option, Some, None, nat_le, if◌then◌else◌, refl, take, drop, ◌++◌}
 use Rattle.std.specs.Coded.{Coded, code_by, coded×, coded_ℕ, coded_list}
 use Rattle.words.specs.Bytes.{number_of, low_bytes}
 use Rattle.arena.specs.Bytes.{bytes_at, written_at}
 
--- all bytes, how many parts they are, and how many bytes each part has
+-- all bytes, the number of parts, and the number of bytes of each part
 pub record Memory : Type 0 where
   pub bytes : List ℕ
   pub parts : ℕ
@@ -17,15 +17,15 @@ memory_code = code_by (List ℕ × (ℕ × ℕ)) (coded× (coded_list coded_ℕ)
 abbrev pub size_of : Memory → ℕ
 size_of m = length m.bytes
 
--- addresses begin here
+-- the first address
 abbrev pub base : ℕ
 base = 4294967296
 
--- the place of n bytes at an address, where they lie in a memory of that size
+-- the place (offset from base) of n bytes at an address; None where they don't lie in a memory of that size
 abbrev pub place_of : ℕ → ℕ → ℕ → Option ℕ
 place_of size n address = if nat_le base address && nat_le (address + n) (base + size) then Some (address - base) else None
 
--- ---- loads, stores and copies, at a place if there is one
+-- ---- loads, stores and copies; without a place, nothing is loaded or changed
 
 abbrev pub loaded : Memory → ℕ → Option ℕ → Option ℕ
 loaded m n None = None
@@ -51,10 +51,10 @@ part_start m t = t * m.part
 abbrev pub part_bytes : Memory → ℕ → List ℕ
 part_bytes m t = bytes_at m.bytes (part_start m t) m.part
 
--- the bytes with others in their place from the first on, as many as there are
+-- bytes overwritten by others from the first on, at their own length
 abbrev pub refilled : List ℕ → List ℕ → List ℕ
 refilled bytes others = take (length bytes) (others ++ drop (length others) bytes)
 
--- the memory with these as the bytes of a part
+-- the memory with new written over part t
 abbrev pub with_part : Memory → ℕ → List ℕ → Memory
 with_part m t new = record { bytes = refilled m.bytes (written_at m.bytes (part_start m t) new); parts = m.parts; part = m.part }

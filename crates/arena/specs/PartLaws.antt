@@ -1,5 +1,5 @@
--- What holds of parts of the memory and of addresses in it: laws of the definitions of `Memory` and `Apart`, proved here for
--- the proofs of the crates above. This project's own. No contract cites them, so there is nothing in them to believe.
+-- Laws of parts of the memory and of addresses in it, of the definitions of `Memory` and `Apart`, proved here for the proofs
+-- of the crates above. This project's own. No contract cites them, so there is nothing in them to believe.
 use Rattle.std.proofs.Common.{◌≡◌, ℕ, suc, ◌+◌, ◌-◌, ◌*◌, ◌≤◌, ◌&&◌, leb, Some, None, ap, ◌∙◌, arith}
 use Rattle.std.proofs.lemmas.Bool.{cond-true, and_from, le-leb}
 use Rattle.std.proofs.lemmas.Nat.{mul-le}
@@ -14,7 +14,7 @@ part_within m t is =
     let size = is.0 in
     omega arith
 
--- where so many bytes from a place on lie in the memory, that is the place of its address
+-- where n bytes at a place lie in the memory, the place of the address base + place is that place
 pub place_is : (size n place address : ℕ) → address ≡ base + place → place + n ≤ size → place_of size n address ≡ Some place
 place_is size n place address e h =
     let from : base ≤ address = omega arith in

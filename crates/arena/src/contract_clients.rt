@@ -1,4 +1,4 @@
-//! What a caller can tell of a tenant's part from the contracts alone.
+//! What a caller can prove of a tenant's part from the contracts alone.
 
 ghost use Rattle.std.specs.Prelude.{◌+◌, ◌<◌, ◌≤◌};
 ghost use Rattle.words.specs.Bytes.{low_bytes};
@@ -10,7 +10,7 @@ use crate::laws;
 use crate::memory::Arena;
 use crate::trace::Trace;
 
-/// A number that is stored within a part is in the part's bytes, and in those of no other.
+/// A number stored within a part is written in that part's bytes, and no other part changes.
 fn store_within(arena: &mut Arena, tenant: usize, at: usize, value: u64, trace: &mut Trace)
     requires tenant { tenant < arena.old.parts }
     requires room { at + 8 ≤ arena.old.part }
@@ -22,7 +22,7 @@ fn store_within(arena: &mut Arena, tenant: usize, at: usize, value: u64, trace: 
     let _ = arena.store(address, 8, value, trace);
 }
 
-/// Bytes that are copied within a part are in the part's bytes, and in those of no other.
+/// Bytes copied within a part are written in that part's bytes, and no other part changes.
 fn copy_within(arena: &mut Arena, tenant: usize, to: usize, from: usize, trace: &mut Trace)
     requires tenant { tenant < arena.old.parts }
     requires to { to + 8 ≤ arena.old.part }

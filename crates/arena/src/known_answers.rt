@@ -4,7 +4,7 @@ use crate::memory::{Arena, BASE};
 use crate::trace::Trace;
 use std::alloc::{AllocError, Global};
 
-/// A number comes back as it went, its lowest byte first.
+/// A stored number is loaded unchanged; the order of its bytes is little-endian.
 fn number_stored_and_loaded(alloc: Global) -> Result<(), AllocError> {
     let mut arena = Arena::new(alloc, 2, 16)?;
     let mut trace = Trace::new();
@@ -104,7 +104,7 @@ fn copies_from_outside(alloc: Global) -> Result<(), AllocError> {
     Ok(())
 }
 
-/// Ranges that overlap are copied as if through a buffer.
+/// Overlapping ranges are copied like memmove.
 fn overlapping_copies(alloc: Global) -> Result<(), AllocError> {
     let mut arena = Arena::new(alloc, 1, 16)?;
     let mut trace = Trace::new();

@@ -2,22 +2,22 @@
 
 ghost use Rattle.arena.specs.Apart.{WritesStayInside, PartsAreApart, WritesAreInParts, AccessesAreInParts};
 
-/// What a store or a copy writes within a part leaves the other parts as they were.
+/// Bytes written within one part leave every other part unchanged.
 pub fn writes_stay_inside()
     ensures { WritesStayInside }
 {}
 
-/// What is written through a part that is lent is that part, and leaves the other parts as they were.
+/// After a write through a lent part, the part has the bytes written, and every other part and the size are unchanged.
 pub fn parts_are_apart()
     ensures { PartsAreApart }
 {}
 
-/// What is written within a part is written in its bytes, through the memory or through the part that is lent.
+/// A write within a part, through the memory or through the lent part, is a write in the part's bytes.
 pub fn writes_are_in_parts()
     ensures { WritesAreInParts }
 {}
 
-/// A load, a store or a copy within a part is one in its bytes, and leaves the other parts as they were.
+/// A load, a store or a copy within a part is one in the part's bytes, and leaves the other parts unchanged.
 pub fn accesses_are_in_parts()
     ensures { AccessesAreInParts }
 {}

@@ -1,4 +1,4 @@
-//! The memory of all tenants: one list of bytes, in parts of one size, each of which belongs to one tenant.
+//! The memory of all tenants: one list of bytes, in parts of one size, one for each tenant.
 //!
 //! Addresses begin at 2^32, and the parts follow one another.
 #![tactic(auto)]

@@ -1,4 +1,4 @@
-//! The arena.
+//! The arena: the memory of all tenants, with its loads, stores and copies.
 
 ghost use Rattle.std.specs.Prelude.{◌≡◌, ℕ, ◌+◌, ◌*◌, ◌^◌, ◌<◌, ◌≤◌, ◌++◌, ◌∷◌, [], length, replicate, Some, IfOk, IsSome, is_some, ◌&&◌};
 ghost use Rattle.std.specs.Borrow.{sem};
@@ -11,7 +11,7 @@ use std::alloc::{AllocError, Global};
 use std::marker::Model;
 use std::mem::replace;
 
-/// Where addresses begin.
+/// The first address, 2^32.
 pub const BASE: u64 = 0x1_0000_0000;
 
 /// The bytes of all tenants, in parts of one size.
@@ -35,8 +35,8 @@ impl Model for Arena {
     ghost invariant = { IsWholeMemory };
 }
 
-/// The place of so many bytes at an address, which lie in a memory of this size: the low 32 bits of the address, since the memory
-/// begins at 2^32 and is no longer than 2^28 bytes. No constant is needed for them.
+/// The offset of `address` in a memory of `memory_size` bytes that holds `size` bytes there: the low 32 bits, since addresses
+/// begin at 2^32 and the memory has at most 2^28 bytes. The machine code needs no 64-bit constant for it.
 #[inline(always)]
 fn place_inside(memory_size: usize, size: usize, address: u64) -> usize
     requires small { memory_size ≤ 2 ^ 28 }
@@ -47,7 +47,7 @@ fn place_inside(memory_size: usize, size: usize, address: u64) -> usize
     (address % BASE) as usize
 }
 
-/// The place of so many bytes at an address, if they lie in a memory of this size.
+/// The offset of `size` bytes at `address`; `None` if they don't lie in a memory of `memory_size` bytes.
 #[inline(always)]
 fn place(memory_size: usize, size: usize, address: u64) -> Option<usize>
     requires { memory_size ≤ 2 ^ 28 }
@@ -63,11 +63,11 @@ fn place(memory_size: usize, size: usize, address: u64) -> Option<usize>
 impl Arena {
     ghost use Rattle.arena.specs.Lending.{LendsPart};
 
-    /// So many parts of so many bytes, all zero: at least one part of at least one byte, and no more than 2^28 bytes in all.
+    /// Creates `parts` parts of `part_size` zero bytes each: at least one part of at least one byte, at most 2^28 bytes in all.
     ///
     /// # Errors
     ///
-    /// `AllocError`: there is no memory for them.
+    /// `AllocError`: out of memory.
     pub fn new(alloc: Global, parts: usize, part_size: usize) -> Result<Arena, AllocError>
         requires parts { 1 ≤ parts }
         requires part_size { 1 ≤ part_size }
@@ -83,7 +83,7 @@ impl Arena {
         })
     }
 
-    /// Takes the memory, and leaves one of no part. For a caller that works on it and puts it back.
+    /// Takes the memory and leaves an empty one without parts, for a caller that works on it and puts it back.
     #[inline(always)]
     pub fn take(&mut self) -> Arena
         ensures taken { result ≡ self.old }
@@ -97,7 +97,7 @@ impl Arena {
         replace(self, none)
     }
 
-    /// A law: the memory is its parts, and no more than 2^28 bytes. It does nothing when it runs.
+    /// A law: the size of the memory is the number of parts times their size, and at most 2^28 bytes. It does nothing when it runs.
     pub fn memory_is_its_parts(&self)
         ensures parts { size_of self.now ≡ self.now.parts * self.now.part }
         ensures bound { size_of self.now ≤ 2 ^ 28 }
@@ -105,7 +105,7 @@ impl Arena {
         let _ = &self.bytes;
     }
 
-    /// Where a tenant's part begins.
+    /// The offset of the part of `tenant`.
     fn start(&self, tenant: usize) -> usize
         requires { tenant < self.now.parts }
         ensures value { result ≡ part_start self.now tenant }
@@ -115,7 +115,7 @@ impl Arena {
         tenant * self.part_size
     }
 
-    /// The address at which a tenant's part begins. Tenants are numbered from 0.
+    /// The first address of the part of `tenant`. Tenants are numbered from 0.
     pub fn address(&self, tenant: usize) -> u64
         requires { tenant < self.now.parts }
         ensures value { result ≡ base + part_start self.now tenant }
@@ -124,7 +124,7 @@ impl Arena {
         BASE + self.start(tenant) as u64
     }
 
-    /// The bytes of a tenant's part. Tenants are numbered from 0.
+    /// The bytes of the part of `tenant`. Tenants are numbered from 0.
     pub fn part(&self, tenant: usize) -> &[u8]
         requires { tenant < self.now.parts }
         ensures bytes { result.now ≡ part_bytes self.now tenant }
@@ -134,7 +134,7 @@ impl Arena {
         &self.bytes[start..start + self.part_size]
     }
 
-    /// The number that 1, 2, 4 or 8 bytes at an address make, the lowest first; nothing exactly where they leave the memory.
+    /// Loads a little-endian number of `size` bytes (1, 2, 4 or 8) at `address`; `None` exactly if they don't lie in the memory.
     #[inline(always)]
     pub fn load(&self, address: u64, size: usize, trace: &mut Trace) -> Option<u64>
         requires { IsSize size }
@@ -147,8 +147,8 @@ impl Arena {
         Some(read(&self.bytes, at, size))
     }
 
-    /// Writes the low 1, 2, 4 or 8 bytes of a number at an address, the lowest first. It answers nothing, and changes nothing,
-    /// exactly where they leave the memory.
+    /// Stores the low `size` bytes (1, 2, 4 or 8) of `value` at `address`, little-endian. `None`, and nothing changes, exactly if
+    /// they don't lie in the memory.
     #[inline(always)]
     pub fn store(&mut self, address: u64, size: usize, value: u64, trace: &mut Trace) -> Option<()>
         requires { IsSize size }
@@ -164,7 +164,7 @@ impl Arena {
         Some(())
     }
 
-    /// The number that 1, 2, 4 or 8 bytes at an address make, the lowest first, where they are known to lie in the memory.
+    /// Loads like `load`, where the bytes are known to lie in the memory.
     #[inline(always)]
     pub fn load_inside(&self, address: u64, size: usize, trace: &mut Trace) -> u64
         requires size { IsSize size }
@@ -179,8 +179,7 @@ impl Arena {
         read(&self.bytes, start, size)
     }
 
-    /// Writes the low 1, 2, 4 or 8 bytes of a number at an address, the lowest first, where as many bytes are known to lie in
-    /// the memory.
+    /// Stores like `store`, where the bytes are known to lie in the memory.
     #[inline(always)]
     pub fn store_inside(&mut self, address: u64, size: usize, value: u64, trace: &mut Trace)
         requires size { IsSize size }
@@ -195,8 +194,8 @@ impl Arena {
         write(&mut self.bytes, start, size, value);
     }
 
-    /// Writes so many bytes at one address, at least one, over those at another, as if through a buffer. It answers nothing,
-    /// and changes nothing, exactly where either leave the memory.
+    /// Copies `length` bytes, at least one, from address `from` to `to` like memmove: the ranges may overlap. `None`, and nothing
+    /// changes, exactly if either range doesn't lie in the memory.
     pub fn copy(&mut self, to: u64, from: u64, length: usize, trace: &mut Trace) -> Option<()>
         requires { 1 ≤ length }
         ensures found { is_some result ≡ (is_some (place_of (size_of self.old) length from)
@@ -216,8 +215,7 @@ impl Arena {
         Some(())
     }
 
-    /// Writes so many bytes at one address, at least one, over those at another, as if through a buffer, where both are known to
-    /// lie in the memory.
+    /// Copies like `copy`, where both ranges are known to lie in the memory.
     #[inline(always)]
     pub fn copy_inside(&mut self, to: u64, from: u64, length: usize, trace: &mut Trace)
         requires some { 1 ≤ length }
@@ -237,7 +235,7 @@ impl Arena {
         copy_bytes(&mut self.bytes, source, target, length);
     }
 
-    /// The bytes of a tenant's part, to write. All other bytes stay.
+    /// Lends the bytes of the part of `tenant` for writing. All other bytes keep their values.
     pub fn part_mut(&mut self, tenant: usize) -> &mut [u8]
         requires { tenant < self.old.parts }
         ensures* lends { sem 𝓛 (LendsPart self.entry tenant result) }

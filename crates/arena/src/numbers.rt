@@ -1,10 +1,10 @@
-//! Numbers in bytes, the lowest byte first.
+//! Little-endian numbers in byte slices.
 
 ghost use Rattle.std.specs.Prelude.{◌≡◌, ◌+◌, ◌≤◌, ◌<◌, ◌^◌, length};
 ghost use Rattle.words.specs.Bytes.{number_of, low_bytes};
 ghost use Rattle.arena.specs.Bytes.{bytes_at, written_at, IsSize};
 
-/// The number that so many bytes make.
+/// The little-endian number of `size` bytes at offset `at`.
 #[inline(always)]
 pub(crate) fn read(bytes: &[u8], at: usize, size: usize) -> u64
     requires size { IsSize size }
@@ -47,7 +47,7 @@ fn read_double(bytes: &[u8], at: usize) -> u64
     ])
 }
 
-/// The number whose low bytes are eight from a place on.
+/// The number whose eight bytes, little-endian, stand at offset `at`.
 #[inline(always)]
 fn spelled_double(bytes: &[u8], at: usize) -> u64
     requires { at + 8 ≤ length bytes.now }
@@ -56,7 +56,7 @@ fn spelled_double(bytes: &[u8], at: usize) -> u64
     read_double(bytes, at)
 }
 
-/// Writes the low bytes of a number.
+/// Writes the low `size` bytes of `value` at offset `at`, little-endian.
 #[inline(always)]
 pub(crate) fn write(bytes: &mut [u8], at: usize, size: usize, value: u64)
     requires size { IsSize size }
@@ -75,7 +75,7 @@ pub(crate) fn write(bytes: &mut [u8], at: usize, size: usize, value: u64)
     }
 }
 
-/// Writes the eight bytes from a place on over those from another, as one number.
+/// Copies the eight bytes at offset `from` to offset `to`, as one number.
 #[inline(always)]
 pub(crate) fn copy_double(bytes: &mut [u8], from: usize, to: usize)
     requires source { from + 8 ≤ length bytes.old }
@@ -86,7 +86,7 @@ pub(crate) fn copy_double(bytes: &mut [u8], from: usize, to: usize)
     write(bytes, to, 8, double);
 }
 
-/// Writes so many bytes from a place on over those from another, as if through a buffer.
+/// Copies `count` bytes from offset `from` to offset `to` like memmove: the ranges may overlap.
 #[inline(always)]
 pub(crate) fn copy_bytes(bytes: &mut [u8], from: usize, to: usize, count: usize)
     requires source { from + count ≤ length bytes.old }
@@ -100,7 +100,7 @@ pub(crate) fn copy_bytes(bytes: &mut [u8], from: usize, to: usize, count: usize)
     }
 }
 
-/// Writes bytes over those from a place on.
+/// Writes `new` over the bytes at offset `at`.
 #[inline(always)]
 fn put(bytes: &mut [u8], at: usize, new: &[u8])
     requires { at + length new.now ≤ length bytes.old }

@@ -15,7 +15,7 @@ use Rattle.bpf_maps.specs.Places.{PlaceTable, table_of, occurrences, IsFree, wit
 use Rattle.bpf_maps.specs.Live.{LiveMaps, live_at, places_at, shape_at, offset_at}
 use Rattle.bpf_maps.specs.Laws.{CallsRefineValues}
 use Rattle.bpf_helpers.specs.Layout.{Layout}
-use Rattle.bpf_helpers.specs.Stands.{HasObject, HasMap}
+use Rattle.bpf_helpers.specs.Stands.{HasObject, HasMap, stored_maps}
 use Rattle.bpf_helpers.proofs.Owned.{times_with, counted_once}
 use Rattle.bpf_helpers.proofs.Wider.{extended, extended_same, extended_here}
 
@@ -29,7 +29,7 @@ placed_same f g count [] owns same = refl
 placed_same f g count (e ∷ es) owns same =
     ap (λ (p : ℕ). let head : List ℕ × ℕ = (e.0, p) in head ∷ placed f es) (same e.1 owns.0) ∙ ap (λ fs. (e.0, g e.1) ∷ fs) (placed_same f g count es owns.1 same)
 
-module _ (l : Layout) (start : ℕ) (memory after : List ℕ) (old new : LiveMaps) (k m : ℕ) (t : RunMap) (key value : List ℕ) (p : ℕ) (h : HasMap l start memory old k m t) (free : IsFree (places_at old k) p) (places : places_at new k ≡ with_place (places_at old k) key p) (live : IsSome (live_at new k)) (offsets : (q : ℕ) → offset_at new k q ≡ offset_at old k q)
+module _ (l : Layout) (start : ℕ) (memory after : List ℕ) (old new : LiveMaps) (k m : ℕ) (t : RunMap) (key value : List ℕ) (p : ℕ) (h : HasMap l (stored_maps start memory old) k m t) (free : IsFree (places_at old k) p) (places : places_at new k ≡ with_place (places_at old k) key p) (live : IsSome (live_at new k)) (offsets : (q : ℕ) → offset_at new k q ≡ offset_at old k q)
     (kept : (q : ℕ) → q < (shape_at old k).max_entries → q ≢ p → bytes_at after (start + offset_at old k q) (shape_at old k).value_size ≡ bytes_at memory (start + offset_at old k q) (shape_at old k).value_size)
     (written : bytes_at after (start + offset_at old k p) (shape_at old k).value_size ≡ value) where
   -- no object has the place that was free
@@ -60,7 +60,7 @@ module _ (l : Layout) (start : ℕ) (memory after : List ℕ) (old new : LiveMap
   abbrev layout : Layout
   layout = extended l m (base + (start + offset_at old k p))
 
-  old_object : (number : ℕ) → number < t.count → HasObject layout start after new k m number (t.values number) (h.place number)
+  old_object : (number : ℕ) → number < t.count → HasObject (stored_maps start after new) k (h.place number) (layout.object_at m number) (t.values number)
   old_object number lt =
       let o = h.objects number lt in
       let counted = h.counted in
@@ -72,7 +72,7 @@ module _ (l : Layout) (start : ℕ) (memory after : List ℕ) (old new : LiveMap
             ∙ kept (h.place number) o.within (not_free number lt) ∙ o.bytes;
       }
 
-  new_object : HasObject layout start after new k m t.count value p
+  new_object : HasObject (stored_maps start after new) k p (layout.object_at m t.count) value
   new_object =
       record {
         within = subst (λ (s : MapShape). p < s.max_entries) (sym shape_stays) free.within;
@@ -84,13 +84,13 @@ module _ (l : Layout) (start : ℕ) (memory after : List ℕ) (old new : LiveMap
   either : (number : ℕ) → number < t.count + 1 → (number < t.count) ⊎ (number ≡ t.count)
   either number lt = ⊎_elim (λ b. inl b) (λ b. inr (omega arith)) (cases_lt number t.count)
 
-  object_after : (number : ℕ) → number < t.count + 1 → HasObject layout start after new k m number (set_at t.values t.count value number) (place number)
+  object_after : (number : ℕ) → number < t.count + 1 → HasObject (stored_maps start after new) k (place number) (layout.object_at m number) (set_at t.values t.count value number)
   object_after number lt = ⊎_elim
-      (λ below. subst (λ (q : ℕ). HasObject layout start after new k m number (set_at t.values t.count value number) q) (sym (place_old number below))
-      (subst (λ (v : List ℕ). HasObject layout start after new k m number v (h.place number)) (sym (cond-false (number == t.count) value (t.values number) (ne_eqb number t.count (λ e. omega arith)))) (old_object number below)))
-      (λ same. subst (λ (n : ℕ). HasObject layout start after new k m n (set_at t.values t.count value n) (place n)) (sym same)
-      (subst (λ (q : ℕ). HasObject layout start after new k m t.count (set_at t.values t.count value t.count) q) (sym place_new)
-      (subst (λ (v : List ℕ). HasObject layout start after new k m t.count v p) (sym (cond-true (t.count == t.count) value (t.values t.count) (eq-eqb t.count t.count refl))) new_object)))
+      (λ below. subst (λ (q : ℕ). HasObject (stored_maps start after new) k q (layout.object_at m number) (set_at t.values t.count value number)) (sym (place_old number below))
+      (subst (λ (v : List ℕ). HasObject (stored_maps start after new) k (h.place number) (layout.object_at m number) v) (sym (cond-false (number == t.count) value (t.values number) (ne_eqb number t.count (λ e. omega arith)))) (old_object number below)))
+      (λ same. subst (λ (n : ℕ). HasObject (stored_maps start after new) k (place n) (layout.object_at m n) (set_at t.values t.count value n)) (sym same)
+      (subst (λ (q : ℕ). HasObject (stored_maps start after new) k q (layout.object_at m t.count) (set_at t.values t.count value t.count)) (sym place_new)
+      (subst (λ (v : List ℕ). HasObject (stored_maps start after new) k p (layout.object_at m t.count) v) (sym (cond-true (t.count == t.count) value (t.values t.count) (eq-eqb t.count t.count refl))) new_object)))
       (either number lt)
 
   apart_after : (a b : ℕ) → a < t.count + 1 → b < t.count + 1 → place a ≡ place b → a ≡ b
@@ -113,7 +113,7 @@ module _ (l : Layout) (start : ℕ) (memory after : List ℕ) (old new : LiveMap
       ∙ ap (λ (q : ℕ). let y : Table ℕ = record { shape = t.table.shape; entries = with_key key q (placed place t.table.entries); deleted = t.table.deleted } in y) (sym place_new)
       ∙ sym (along.update place t.table key t.count)
 
-  pub map_with_new : CallsRefineValues ℕ ℕ → HasMap layout start after new k m (with_object t key value)
+  pub map_with_new : CallsRefineValues ℕ ℕ → HasMap layout (stored_maps start after new) k m (with_object t key value)
   map_with_new along = record {
     live = live;
     place = place;

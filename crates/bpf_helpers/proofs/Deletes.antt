@@ -11,32 +11,33 @@ use Rattle.tagged_model.specs.Table.{Table, look_up, removal, without, with_valu
 use Rattle.tagged_model.specs.State.{RunState, RunMap, set_at, with_map, with_refusal}
 use Rattle.tagged_model.specs.Helpers.{taken_out, removed, without_key, with_reply}
 use Rattle.tagged_model.specs.StateLaws.{owns_without}
-use Rattle.arena.specs.Memory.{Memory, base, part_start}
+use Rattle.arena.specs.Memory.{base, part_start}
 use Rattle.bpf_maps.specs.Places.{PlaceTable, table_of, occurrences, with_kept, Removes}
 use Rattle.bpf_maps.specs.Live.{LiveMaps, places_at, shape_at, offset_at, OnlyKeysChange}
 use Rattle.bpf_helpers.specs.inside.Below.{LawsBelow}
 use Rattle.bpf_helpers.specs.Layout.{Layout}
-use Rattle.bpf_helpers.specs.Stands.{HasObject, HasMap, MapsStandFor, Simulates}
+use Rattle.bpf_helpers.specs.Stands.{HasObject, HasMap, MapsStandFor, Simulates, stored_maps}
 use Rattle.bpf_helpers.specs.inside.Flat.{removal_word, Deletes}
 use Rattle.bpf_helpers.specs.inside.Laws.{DeletesKeepSimulation}
 use Rattle.bpf_helpers.proofs.Outputs.{others_moved}
 use Rattle.bpf_helpers.proofs.Verdicts.{removal_found}
 use Rattle.bpf_helpers.proofs.Flags.{or_none}
 use Rattle.bpf_helpers.proofs.Moved.{maps_moved, maps_again, map_replaced}
+use Rattle.bpf_helpers.specs.States.{Environment, FlatState, with_held}
 
 table_kept : (t : PlaceTable) (key : List ℕ) (p : ℕ) → table_of (with_kept t key p) ≡ with_deleted (table_of t) key
 table_kept t key p = ap (λ (n : ℕ). let m : Table ℕ = record { shape = t.shape; entries = without key t.entries; deleted = n } in m) (length-append t.kept (p ∷ []))
 
 -- ---- the map without the key
 
-module _ (below : LawsBelow) (l : Layout) (start : ℕ) (memory : List ℕ) (old new : LiveMaps) (k m : ℕ) (t : RunMap) (key : List ℕ) (p : ℕ) (h : HasMap l start memory old k m t) (found : look_up (table_of (places_at old k)) key ≡ Some p) (places : places_at new k ≡ with_kept (places_at old k) key p) (rest : OnlyKeysChange k old new) where
+module _ (below : LawsBelow) (l : Layout) (start : ℕ) (memory : List ℕ) (old new : LiveMaps) (k m : ℕ) (t : RunMap) (key : List ℕ) (p : ℕ) (h : HasMap l (stored_maps start memory old) k m t) (found : look_up (table_of (places_at old k)) key ≡ Some p) (places : places_at new k ≡ with_kept (places_at old k) key p) (rest : OnlyKeysChange k old new) where
   uses : (q : ℕ) → occurrences q (values_of (places_at new k).entries) + occurrences q (places_at new k).kept ≡ occurrences q (values_of (places_at old k).entries) + occurrences q (places_at old k).kept
   uses q = ap (λ (x : PlaceTable). occurrences q (values_of x.entries) + occurrences q x.kept) places ∙ below.deletes (places_at old k) key p q found
 
   table_after : table_of (places_at new k) ≡ with_values h.place (with_deleted t.table key)
   table_after = ap table_of places ∙ table_kept (places_at old k) key p ∙ ap (λ (x : Table ℕ). with_deleted x key) h.table ∙ sym (below.along.delete h.place t.table key)
 
-  object_after : (number : ℕ) → number < t.count → HasObject l start memory new k m number (t.values number) (h.place number)
+  object_after : (number : ℕ) → number < t.count → HasObject (stored_maps start memory new) k (h.place number) (l.object_at m number) (t.values number)
   object_after number lt =
       let o = h.objects number lt in
       let off = below.areas old new k (h.place number) rest.areas rest.live in
@@ -47,7 +48,7 @@ module _ (below : LawsBelow) (l : Layout) (start : ℕ) (memory : List ℕ) (old
         bytes = ap (λ (a : ℕ). bytes_at memory (start + a) (shape_at new k).value_size) off ∙ ap (λ (s : MapShape). bytes_at memory (start + offset_at old k (h.place number)) s.value_size) rest.shape ∙ o.bytes;
       }
 
-  pub map_without : HasMap l start memory new k m (without_key t key)
+  pub map_without : HasMap l (stored_maps start memory new) k m (without_key t key)
   map_without = record {
     live = rest.live;
     place = h.place;
@@ -60,23 +61,24 @@ module _ (below : LawsBelow) (l : Layout) (start : ℕ) (memory : List ℕ) (old
 
 -- ---- by the reply
 
-module _ (below : LawsBelow) (l : Layout) (bind : List ℕ) (old : Memory) (t at : ℕ) (registers : List ℕ) (memory : Memory) (tenant : LiveMaps) (s : RunState) (i m : ℕ) (map : RunMap) (key : List ℕ) (word : ℕ) (new : LiveMaps)
-    (stands : Simulates l bind old t at registers memory tenant s) (named : slice_get l.maps i ≡ Some m) (is : s.maps m ≡ Some map) (d : Deletes tenant (slice_index bind i) key word new) where
+module _ (below : LawsBelow) (env : Environment) (l : Layout) (flat : FlatState) (s : RunState) (i m : ℕ) (map : RunMap) (key : List ℕ) (word : ℕ) (new : LiveMaps)
+    (stands : Simulates env l flat s) (named : slice_get env.descriptors i ≡ Some m) (is : s.maps m ≡ Some map) (d : Deletes flat.maps (record { map = slice_index env.bind i; key = key }) word new) where
   abbrev k : ℕ
-  k = slice_index bind i
+  k = slice_index env.bind i
 
   Done : Result ℕ MapFault → Type 0
-  Done r = (word ≡ (taken_out map key r).answer) × Simulates l bind old t at registers memory new (with_reply s m (taken_out map key r))
+  Done r = (word ≡ (taken_out map key r).answer) × Simulates env l (with_held flat flat.memory new) (with_reply s m (taken_out map key r))
 
-  has : HasMap l (part_start old t) memory.bytes tenant k m map
+  has : HasMap l (stored_maps (part_start env.memory env.tenant) flat.memory.bytes flat.maps) k m map
   has =
       let g = stands.maps.each i m named in
-      subst (HasMap l (part_start old t) memory.bytes tenant k m) (same_Some g.0 map (sym g.1 ∙ is)) g.2
+      subst (HasMap l (stored_maps (part_start env.memory env.tenant) flat.memory.bytes flat.maps) k m) (same_Some g.0 map (sym g.1 ∙ is)) g.2
 
-  with_maps : (u : RunMap) → MapsStandFor l bind (part_start old t) memory.bytes new (set_at s.maps m (Some u)) → Simulates l bind old t at registers memory new (with_refusal (with_map s m u) false)
+  with_maps : (u : RunMap) → MapsStandFor env l (stored_maps (part_start env.memory env.tenant) flat.memory.bytes new) (set_at s.maps m (Some u)) → Simulates env l (with_held flat flat.memory new) (with_refusal (with_map s m u) false)
   with_maps u maps = record {
     slot = stands.slot;
     count = stands.count;
+    packet = stands.packet;
     changed = stands.changed;
     front = stands.front;
     values = stands.values;
@@ -84,31 +86,31 @@ module _ (below : LawsBelow) (l : Layout) (bind : List ℕ) (old : Memory) (t at
     words = stands.words;
     context = stands.context;
     maps = maps;
-    elsewhere = others_moved bind (part_start old t) old.bytes memory.bytes tenant new i (let count = stands.maps.count in let fits = slice_get_within l.maps i m named in omega arith) d.rest.others stands.elsewhere;
-    flag = d.flag ∙ stands.flag ∙ ap (λ b. l.refused || b) (or_none s.refused);
+    elsewhere = others_moved env.bind (part_start env.memory env.tenant) env.memory.bytes flat.memory.bytes flat.maps new i (let count = stands.maps.count in let fits = slice_get_within env.descriptors i m named in omega arith) d.rest.others stands.elsewhere;
+    flag = d.flag ∙ stands.flag ∙ ap (λ b. env.maps.refused || b) (or_none s.refused);
   }
 
-  done : (r : Result ℕ MapFault) → removal map.table key ≡ r → Removes (result_map_both has.place (λ fault. fault) r) key (places_at tenant k) d.answer (places_at new k) → Done r
+  done : (r : Result ℕ MapFault) → removal map.table key ≡ r → Removes (result_map_both has.place (λ fault. fault) r) key (places_at flat.maps k) d.outcome (places_at new k) → Done r
   unfolding Done
   done (Err fault) e c = (
     d.word_is ∙ ap removal_word c.0,
-    with_maps map (maps_again l bind (part_start old t) memory.bytes new s.maps m map is (maps_moved l bind (part_start old t) memory.bytes tenant new k d.rest below.areas s.maps c.1 stands.maps)),
+    with_maps map (maps_again env l (part_start env.memory env.tenant) flat.memory.bytes new s.maps m map is (maps_moved env l (part_start env.memory env.tenant) flat.memory.bytes flat.maps new k d.rest below.areas s.maps c.1 stands.maps)),
   )
   done (Ok number) e c =
-      let there : look_up (table_of (places_at tenant k)) key ≡ Some (has.place number) =
-      removal_found (table_of (places_at tenant k)).shape.kind (look_up (table_of (places_at tenant k)) key) (has.place number)
+      let there : look_up (table_of (places_at flat.maps k)) key ≡ Some (has.place number) =
+      removal_found (table_of (places_at flat.maps k)).shape.kind (look_up (table_of (places_at flat.maps k)) key) (has.place number)
       (ap (λ (x : Table ℕ). removal x key) has.table ∙ below.along.removal has.place map.table key ∙ ap (result_map_both has.place (λ fault. fault)) e) in (
         d.word_is ∙ ap removal_word c.0,
         with_maps (without_key map key)
-            (map_replaced l bind (part_start old t) memory.bytes tenant new s.maps i m (without_key map key) stands.maps named d.rest
-            (map_without below l (part_start old t) memory.bytes tenant new k m map key (has.place number) has there c.1 d.rest)),
+            (map_replaced env l (part_start env.memory env.tenant) flat.memory.bytes flat.maps new s.maps i m (without_key map key) stands.maps named d.rest
+            (map_without below l (part_start env.memory env.tenant) flat.memory.bytes flat.maps new k m map key (has.place number) has there c.1 d.rest)),
       )
 
-  pub delete_stands : (word ≡ (removed map key).answer) × Simulates l bind old t at registers memory new (with_reply s m (removed map key))
+  pub delete_stands : (word ≡ (removed map key).answer) × Simulates env l (with_held flat flat.memory new) (with_reply s m (removed map key))
   unfolding Done
   delete_stands =
-      let same : removal (table_of (places_at tenant k)) key ≡ result_map_both has.place (λ fault. fault) (removal map.table key) = ap (λ (x : Table ℕ). removal x key) has.table ∙ below.along.removal has.place map.table key in
-      done (removal map.table key) refl (subst (λ r. Removes r key (places_at tenant k) d.answer (places_at new k)) same d.removed)
+      let same : removal (table_of (places_at flat.maps k)) key ≡ result_map_both has.place (λ fault. fault) (removal map.table key) = ap (λ (x : Table ℕ). removal x key) has.table ∙ below.along.removal has.place map.table key in
+      done (removal map.table key) refl (subst (λ r. Removes r key (places_at flat.maps k) d.outcome (places_at new k)) same d.removed)
 
 pub deletes_keep_simulation : LawsBelow → DeletesKeepSimulation
-deletes_keep_simulation below l bind old t at registers memory tenant s i m map key word new stands named is d = delete_stands below l bind old t at registers memory tenant s i m map key word new stands named is d
+deletes_keep_simulation below env l flat s i m map key word new stands named is d = delete_stands below env l flat s i m map key word new stands named is d

@@ -11,7 +11,7 @@ use Rattle.arena.specs.Memory.{base}
 use Rattle.bpf_maps.specs.Places.{PlaceTable, table_of, occurrences, IsSound}
 use Rattle.bpf_maps.specs.Live.{LiveMaps, places_at, offset_at}
 use Rattle.bpf_helpers.specs.Layout.{Layout}
-use Rattle.bpf_helpers.specs.Stands.{HasObject}
+use Rattle.bpf_helpers.specs.Stands.{HasObject, stored_maps}
 use Rattle.bpf_helpers.specs.inside.Laws.{MapsBegin, MapsEnd}
 
 -- ---- numbers in order
@@ -101,7 +101,7 @@ module _ (l : Layout) (start : ℕ) (memory : List ℕ) (tenant : LiveMaps) (k m
       let some = used number lt in
       ltb-true p places.shape.max_entries (only_within (occurrences p (values_of places.entries) + occurrences p places.kept) (nat_lt p places.shape.max_entries) (omega arith) (sound.once p))
 
-  object : (number : ℕ) → number < length places.entries → HasObject l start memory tenant k m number (slice_index_or (values_of (valued value places.entries)) number []) (slice_index (values_of places.entries) number)
+  object : (number : ℕ) → number < length places.entries → HasObject (stored_maps start memory tenant) k (slice_index (values_of places.entries) number) (l.object_at m number) (slice_index_or (values_of (valued value places.entries)) number [])
   object number lt = record {
     within = subst (λ (x : PlaceTable). slice_index (values_of places.entries) number < x.shape.max_entries) (sym is) (in_range number lt);
     in_use = subst (λ (x : PlaceTable). 1 ≤ occurrences (slice_index (values_of places.entries) number) (values_of x.entries) + occurrences (slice_index (values_of places.entries) number) x.kept) (sym is) (let some = used number lt in omega arith);

@@ -20,10 +20,10 @@ use Rattle.bpf_maps.specs.Live.{LiveMaps, LiveMap, live_or, shape_at, holds_at, 
 use Rattle.bpf_maps.specs.LiveLaws.{same_areas}
 use Rattle.bpf_helpers.specs.Layout.{Layout, IsWord}
 use Rattle.bpf_helpers.specs.Stands.{IsRoom, Simulates}
-use Rattle.bpf_helpers.specs.Named.{bound_map, part_place, part_input, place_named, NamedKey, key_named}
-use Rattle.bpf_helpers.specs.inside.Flat.{flat_look_up, Updates, UpdatesNamed, UpdatesBy, Deletes, DeletesNamed, DeletesBy, LoadsAt, LoadsBy}
+use Rattle.bpf_helpers.specs.Named.{bound_map, part_place, part_input, place_named, NamedKey, key_named, NamedPair, pair_named}
+use Rattle.bpf_helpers.specs.inside.Flat.{flat_look_up, Updates, UpdatesNamed, Deletes, DeletesNamed, LoadsAt}
 use Rattle.bpf_helpers.specs.Calls.{AreArguments, ResultFollows}
-use Rattle.bpf_helpers.specs.inside.Laws.{GivesWord, ReturnsKeepSimulation}
+use Rattle.bpf_helpers.specs.inside.Laws.{GivesWord, ReturnsKeepSimulation, TaggedUpdate, update_reply}
 use Rattle.bpf_helpers.proofs.Many.{also_some}
 use Rattle.bpf_helpers.proofs.Inputs.{input_there}
 use Rattle.bpf_helpers.proofs.Words.{key_is, pair_is}
@@ -32,6 +32,7 @@ use Rattle.bpf_helpers.proofs.Loads.{number_word, load_stands}
 use Rattle.bpf_helpers.proofs.Wider.{extends_itself}
 use Rattle.bpf_helpers.proofs.Updates.{updates_keep_simulation}
 use Rattle.bpf_helpers.proofs.Deletes.{deletes_keep_simulation}
+use Rattle.bpf_helpers.specs.States.{CallAnswer, Environment, FlatState, answers, site_in, with_answer, with_held, with_memory}
 
 -- where only the keys of one map change, each map has the holds that it had
 same_holds : (old new : LiveMaps) (k : ℕ) → OnlyKeysChange k old new → (key : ℕ) → holds_at new key ≡ holds_at old key
@@ -44,7 +45,7 @@ same_holds old new k rest key =
 -- the bytes that are read are as many as were asked for
 input_long : (memory : Memory) (t n w : ℕ) (bs : List ℕ) → part_start memory t + memory.part ≤ length memory.bytes → part_input memory t n w ≡ Some bs → length bs ≡ n
 input_long memory t n w bs fits e =
-    let a = also_some (part_place (part_start memory t) memory.part n w) (λ at. Some (bytes_at memory.bytes (part_start memory t + at) n)) bs e in
+    let a = also_some (part_place (part_start memory t) memory.part n w) (λ p. Some (bytes_at memory.bytes (part_start memory t + p) n)) bs e in
     let start = part_start memory t in
     let c = cond_some (leb (base + start) w && leb (w + n) (base + start + memory.part)) (w - (base + start)) a.0 a.1 in
     let p = and_parts (leb (base + start) w) (leb (w + n) (base + start + memory.part)) c.0 in
@@ -53,11 +54,11 @@ input_long memory t n w bs fits e =
     let place : w - (base + start) ≡ a.0 = c.1 in
     ap length (sym (same_Some (bytes_at memory.bytes (part_start memory t + a.0) n) bs a.2)) ∙ length-bytes_at memory.bytes (part_start memory t + a.0) n (omega arith)
 
-module _ (l : Layout) (bind : List ℕ) (old : Memory) (t at : ℕ) (registers : List ℕ) (memory : Memory) (tenant : LiveMaps) (s : RunState) (room : IsRoom old t) (stands : Simulates l bind old t at registers memory tenant s) (words : List ℕ) (args : AreArguments words registers) where
-  part_fits : part_start memory t + memory.part ≤ length memory.bytes
+module _ (env : Environment) (l : Layout) (flat : FlatState) (s : RunState) (room : IsRoom env.memory env.tenant) (stands : Simulates env l flat s) (words : List ℕ) (args : AreArguments words flat.registers) where
+  part_fits : part_start flat.memory env.tenant + flat.memory.part ≤ length flat.memory.bytes
   part_fits =
-      let within = part_within old t room.is_part in
-      let begin : part_start memory t ≡ part_start old t = ap (λ (n : ℕ). t * n) stands.changed.part in
+      let within = part_within env.memory env.tenant room.is_part in
+      let begin : part_start flat.memory env.tenant ≡ part_start env.memory env.tenant = ap (λ (n : ℕ). env.tenant * n) stands.changed.part in
       let size = stands.changed.size in
       let part = stands.changed.part in
       omega arith
@@ -65,56 +66,56 @@ module _ (l : Layout) (bind : List ℕ) (old : Memory) (t at : ℕ) (registers :
   -- the map in register 1
   record IsMap (g : GivenMap) : Type 0 where
     index : ℕ
-    within : index < length bind
-    named : slice_get l.maps index ≡ Some g.descriptor
-    bound : bound_map bind (slice_index words 0) ≡ Some (slice_index bind index)
+    within : index < length env.bind
+    named : slice_get env.descriptors index ≡ Some g.descriptor
+    bound : bound_map env.bind (slice_index words 0) ≡ Some (slice_index env.bind index)
     there : s.maps g.descriptor ≡ Some g.map
-    shape : shape_at tenant (slice_index bind index) ≡ g.map.table.shape
+    shape : shape_at flat.maps (slice_index env.bind index) ≡ g.map.table.shape
 
   map_there : (g : GivenMap) → map_argument s 1 ≡ Some g → IsMap g
   map_there g e =
       let given = is_given s 1 g e in
       let word = stands.values 1 (Map g.descriptor) (omega arith) given.register in
-      let w = slice_index registers 1 in
+      let w = slice_index flat.registers 1 in
       let some = word.0 in
       let count = stands.maps.count in
-      let fits = slice_get_within l.maps (w - 1) g.descriptor word.1 in
+      let fits = slice_get_within env.descriptors (w - 1) g.descriptor word.1 in
       let h = stands.maps.each (w - 1) g.descriptor word.1 in
       record {
         index = w - 1;
         within = omega arith;
         named = word.1;
-        bound = ap (bound_map bind) (args 0 (omega arith)) ∙ cond-false (w == 0) None (slice_get bind (w - 1)) (ne_eqb w 0 (λ z. omega arith)) ∙ slice_get-get_or bind (w - 1) 0 (omega arith);
+        bound = ap (bound_map env.bind) (args 0 (omega arith)) ∙ cond-false (w == 0) None (slice_get env.bind (w - 1)) (ne_eqb w 0 (λ z. omega arith)) ∙ slice_get-get_or env.bind (w - 1) 0 (omega arith);
         there = given.there;
         shape = ap (λ (x : Table ℕ). x.shape) h.2.table ∙ ap (λ o. o.table.shape) (same_Some h.0 g.map (sym h.1 ∙ given.there));
       }
 
   -- the bytes at the address in another register
-  bytes_there : (i n size : ℕ) (bs : List ℕ) → i < 5 → size ≡ n → argument s (i + 1) (λ p. input s p n) ≡ Some bs → (part_input memory t size (slice_index words i) ≡ Some bs) × (length bs ≡ n)
+  bytes_there : (i n size : ℕ) (bs : List ℕ) → i < 5 → size ≡ n → argument s (i + 1) (λ p. input s p n) ≡ Some bs → (part_input flat.memory env.tenant size (slice_index words i) ≡ Some bs) × (length bs ≡ n)
   bytes_there i n size bs lt same e =
       let a = also_some (s.registers (i + 1)) (λ p. input s p n) bs e in
-      let read = input_there l bind old t at registers memory tenant s room stands a.0 (slice_index registers (i + 1)) n bs (stands.values (i + 1) a.0 (omega arith) a.1) a.2 in (
-        ap (λ (k : ℕ). part_input memory t k (slice_index words i)) same ∙ ap (λ (w : ℕ). part_input memory t n w) (args i lt) ∙ read,
-        input_long memory t n (slice_index registers (i + 1)) bs part_fits read,
+      let read = input_there env l flat s room stands a.0 (slice_index flat.registers (i + 1)) n bs (stands.values (i + 1) a.0 (omega arith) a.1) a.2 in (
+        ap (λ (k : ℕ). part_input flat.memory env.tenant k (slice_index words i)) same ∙ ap (λ (w : ℕ). part_input flat.memory env.tenant n w) (args i lt) ∙ read,
+        input_long flat.memory env.tenant n (slice_index flat.registers (i + 1)) bs part_fits read,
       )
 
   -- a key of the map in register 1, at the address in register 2
-  key_is_named : {g : GivenMap} (m : IsMap g) (key : List ℕ) → part_input memory t (shape_at tenant (slice_index bind m.index)).key_size (slice_index words 1) ≡ Some key
-      → key_named memory t tenant bind (slice_index words 0) (slice_index words 1) ≡ Some (record { map = slice_index bind m.index; key = key })
-  key_is_named m key e = key_is memory t tenant bind (slice_index words 0) (slice_index words 1) (slice_index bind m.index) m.bound key e
+  key_is_named : {g : GivenMap} (m : IsMap g) (key : List ℕ) → part_input flat.memory env.tenant (shape_at flat.maps (slice_index env.bind m.index)).key_size (slice_index words 1) ≡ Some key
+      → key_named (site_in env flat) (slice_index words 0) (slice_index words 1) ≡ Some (record { map = slice_index env.bind m.index; key = key })
+  key_is_named m key e = key_is (site_in env flat) (slice_index words 0) (slice_index words 1) (slice_index env.bind m.index) m.bound key e
 
-  other_key : (index key : ℕ) → index < length bind → ((i : ℕ) → i < length bind → slice_index bind i ≢ key) → key ≢ slice_index bind index
+  other_key : (index key : ℕ) → index < length env.bind → ((i : ℕ) → i < length env.bind → slice_index env.bind i ≢ key) → key ≢ slice_index env.bind index
   other_key index key lt away same = away index lt (sym same)
 
-  module _ (returned : ReturnsKeepSimulation) (below : LawsBelow) (word : ℕ) where
-    pub look_up_followed : (u : RunState) → word ≡ unwrap_or (flat_look_up memory t tenant bind (slice_index words 0) (slice_index words 1)) 0 → called false LookUp s ≡ Some u → ResultFollows l bind old t at registers tenant s LookUp word memory tenant
-    look_up_followed u told e =
-        let f = look_ups_follow below.along l bind old t at registers memory tenant s u false room stands e in
-        let same : flat_look_up memory t tenant bind (slice_index words 0) (slice_index words 1) ≡ flat_look_up memory t tenant bind (slice_index registers 1) (slice_index registers 2) =
-        ap (λ (w : ℕ). flat_look_up memory t tenant bind w (slice_index words 1)) (args 0 (omega arith)) ∙ ap (λ (w : ℕ). flat_look_up memory t tenant bind (slice_index registers 1) w) (args 1 (omega arith)) in
-        by f.0 f.1 (flat_look_up memory t tenant bind (slice_index words 0) (slice_index words 1)) told (subst (λ x. GivesWord l x (Some f.0)) (sym same) f.2)
+  module _ (returned : ReturnsKeepSimulation) (below : LawsBelow) where
+    pub look_up_followed : (word : ℕ) (u : RunState) → word ≡ unwrap_or (flat_look_up (site_in env flat) (slice_index words 0) (slice_index words 1)) 0 → called false LookUp s ≡ Some u → ResultFollows env l flat s LookUp (answers word flat.memory flat.maps)
+    look_up_followed word u told e =
+        let f = look_ups_follow below.along env l flat s u false room stands e in
+        let same : flat_look_up (site_in env flat) (slice_index words 0) (slice_index words 1) ≡ flat_look_up (site_in env flat) (slice_index flat.registers 1) (slice_index flat.registers 2) =
+        ap (λ (w : ℕ). flat_look_up (site_in env flat) w (slice_index words 1)) (args 0 (omega arith)) ∙ ap (λ (w : ℕ). flat_look_up (site_in env flat) (slice_index flat.registers 1) w) (args 1 (omega arith)) in
+        by f.0 f.1 (flat_look_up (site_in env flat) (slice_index words 0) (slice_index words 1)) told (subst (λ x. GivesWord env l x (Some f.0)) (sym same) f.2)
       where
-        by : (v : Tagged) → u ≡ returns s v → (x : Option ℕ) → word ≡ unwrap_or x 0 → GivesWord l x (Some v) → ResultFollows l bind old t at registers tenant s LookUp word memory tenant
+        by : (v : Tagged) → u ≡ returns s v → (x : Option ℕ) → word ≡ unwrap_or x 0 → GivesWord env l x (Some v) → ResultFollows env l flat s LookUp (answers word flat.memory flat.maps)
         by v after None f g = absurd g
         by v after (Some w) f g = record {
           refused = false;
@@ -123,59 +124,66 @@ module _ (l : Layout) (bind : List ℕ) (old : Memory) (t at : ℕ) (registers :
           goes = e;
           layout = l;
           extends = extends_itself l;
-          stands = subst (λ (x : RunState). Simulates l bind old t at (slice_set registers 0 word) memory tenant x) (sym after) (returned l bind old t at registers memory tenant s v word stands (subst (IsWord l v) (sym f) g));
+          stands = subst (λ (x : RunState). Simulates env l (with_answer flat (answers word flat.memory flat.maps)) x) (sym after) (returned env l flat s v word stands (subst (IsWord env l v) (sym f) g));
           others = λ key away. refl;
-          areas = same_areas tenant;
+          areas = same_areas flat.maps;
           holds = λ key. refl;
         }
 
-    pub update_followed : (after : Memory) (new : LiveMaps) (u : RunState) → UpdatesBy memory t tenant bind (slice_index words 0) (slice_index words 1) (slice_index words 2) (slice_index words 3) word after new → called false Update s ≡ Some u → ResultFollows l bind old t at registers tenant s Update word after new
-    update_followed after new u told e =
+    pub update_followed : (reply : CallAnswer) (u : RunState) → UpdatesNamed (site_in env flat) (pair_named (site_in env flat) (slice_index words 0) (slice_index words 1) (slice_index words 2)) (slice_index words 3) reply → called false Update s ≡ Some u → ResultFollows env l flat s Update reply
+    update_followed reply u told e =
         let a = also_some (map_argument s 1) (λ g. and_then (argument s 2 (λ p. input s p g.map.table.shape.key_size)) (λ key. and_then (argument s 3 (λ p. input s p g.map.table.shape.value_size)) (λ value. and_then (argument s 4 number_given) (λ flags. Some (replies s g.descriptor (updated false g.map key value flags)))))) u e in
         let g = a.0 in
         let b = also_some (argument s 2 (λ p. input s p g.map.table.shape.key_size)) (λ key. and_then (argument s 3 (λ p. input s p g.map.table.shape.value_size)) (λ value. and_then (argument s 4 number_given) (λ flags. Some (replies s g.descriptor (updated false g.map key value flags))))) u a.2 in
         let c = also_some (argument s 3 (λ p. input s p g.map.table.shape.value_size)) (λ value. and_then (argument s 4 number_given) (λ flags. Some (replies s g.descriptor (updated false g.map b.0 value flags)))) u b.2 in
         let d = also_some (argument s 4 number_given) (λ flags. Some (replies s g.descriptor (updated false g.map b.0 c.0 flags))) u c.2 in
-        update_by after new told g b.0 c.0 d.0 a.1 b.1 c.1 d.1 (map_there g a.1)
+        update_by reply told (record { given = g; key = b.0; value = c.0; flags = d.0 }) a.1 b.1 c.1 d.1 (map_there g a.1)
       where
-        update_by : (after : Memory) (new : LiveMaps) → UpdatesBy memory t tenant bind (slice_index words 0) (slice_index words 1) (slice_index words 2) (slice_index words 3) word after new → (g : GivenMap) (key value : List ℕ) (flags : ℕ) → map_argument s 1 ≡ Some g → argument s 2 (λ p. input s p g.map.table.shape.key_size) ≡ Some key → argument s 3 (λ p. input s p g.map.table.shape.value_size) ≡ Some value → argument s 4 number_given ≡ Some flags → IsMap g → ResultFollows l bind old t at registers tenant s Update word after new
-        update_by after new told g key value flags first second third fourth m =
-            let k = slice_index bind m.index in
-            let keys = bytes_there 1 g.map.table.shape.key_size (shape_at tenant k).key_size key (omega arith) (ap (λ (x : MapShape). x.key_size) m.shape) second in
-            let values = bytes_there 2 g.map.table.shape.value_size (shape_at tenant k).value_size value (omega arith) (ap (λ (x : MapShape). x.value_size) m.shape) third in
+        update_by : (reply : CallAnswer) → UpdatesNamed (site_in env flat) (pair_named (site_in env flat) (slice_index words 0) (slice_index words 1) (slice_index words 2)) (slice_index words 3) reply → (asked : TaggedUpdate)
+            → map_argument s 1 ≡ Some asked.given → argument s 2 (λ p. input s p asked.given.map.table.shape.key_size) ≡ Some asked.key → argument s 3 (λ p. input s p asked.given.map.table.shape.value_size) ≡ Some asked.value → argument s 4 number_given ≡ Some asked.flags → IsMap asked.given
+            → ResultFollows env l flat s Update reply
+        update_by reply told asked first second third fourth m =
+            let g = asked.given in
+            let key = asked.key in
+            let value = asked.value in
+            let flags = asked.flags in
+            let k = slice_index env.bind m.index in
+            let keys = bytes_there 1 g.map.table.shape.key_size (shape_at flat.maps k).key_size key (omega arith) (ap (λ (x : MapShape). x.key_size) m.shape) second in
+            let values = bytes_there 2 g.map.table.shape.value_size (shape_at flat.maps k).value_size value (omega arith) (ap (λ (x : MapShape). x.value_size) m.shape) third in
             let named : NamedKey = record { map = k; key = key } in
-            let pair = pair_is memory t tenant bind (slice_index words 0) (slice_index words 1) (slice_index words 2) named (key_is_named m key keys.0) value values.0 in
-            let r : Updates memory t tenant k key value (slice_index words 3) word after new = subst (λ o. UpdatesNamed memory t tenant o (slice_index words 3) word after new) pair told in
-            let flags_are : slice_index words 3 ≡ flags = args 3 (omega arith) ∙ number_word l bind old t at registers memory tenant s room stands 4 flags (omega arith) fourth in
-            let st = updates_keep_simulation below l bind old t at registers memory tenant s m.index g.descriptor g.map key value flags word after new room stands m.named m.there values.1 (subst (λ (f : ℕ). Updates memory t tenant k key value f word after new) flags_are r) in
-            let reply = updated st.refused g.map key value flags in
+            let pair : NamedPair = record { map = k; key = key; value = value } in
+            let is = pair_is (site_in env flat) (slice_index words 0) (slice_index words 1) (slice_index words 2) named (key_is_named m key keys.0) value values.0 in
+            let r : Updates (site_in env flat) pair (slice_index words 3) reply = subst (λ o. UpdatesNamed (site_in env flat) o (slice_index words 3) reply) is told in
+            let flags_are : slice_index words 3 ≡ flags = args 3 (omega arith) ∙ number_word env l flat s room stands 4 flags (omega arith) fourth in
+            let st = updates_keep_simulation below env l flat s m.index asked reply room stands m.named m.there values.1 (subst (λ (f : ℕ). Updates (site_in env flat) pair f reply) flags_are r) in
+            let gave = update_reply st.refused asked in
             record {
               refused = st.refused;
               only = λ x. record { given = g; key = key; flags = flags; map_is = first; key_is = second; flags_are = fourth; new = st.only x };
-              state = replies s g.descriptor reply;
+              state = replies s g.descriptor gave;
               goes = ap (λ o. and_then o (λ g. and_then (argument s 2 (λ p. input s p g.map.table.shape.key_size)) (λ key. and_then (argument s 3 (λ p. input s p g.map.table.shape.value_size)) (λ value. and_then (argument s 4 number_given) (λ flags. Some (replies s g.descriptor (updated st.refused g.map key value flags))))))) first
                   ∙ ap (λ o. and_then o (λ key. and_then (argument s 3 (λ p. input s p g.map.table.shape.value_size)) (λ value. and_then (argument s 4 number_given) (λ flags. Some (replies s g.descriptor (updated st.refused g.map key value flags)))))) second
                   ∙ ap (λ o. and_then o (λ value. and_then (argument s 4 number_given) (λ flags. Some (replies s g.descriptor (updated st.refused g.map key value flags))))) third
                   ∙ ap (λ o. and_then o (λ flags. Some (replies s g.descriptor (updated st.refused g.map key value flags)))) fourth;
               layout = st.layout;
               extends = st.extends;
-              stands = returned st.layout bind old t at registers after new (with_reply s g.descriptor reply) (Scalar reply.answer) word st.stands st.answer;
+              stands = returned env st.layout (with_held flat reply.memory reply.maps) (with_reply s g.descriptor gave) (Scalar gave.answer) reply.word st.stands st.answer_is;
               others = λ x away. r.rest.others x (other_key m.index x m.within away);
               areas = r.rest.areas;
-              holds = same_holds tenant new k r.rest;
+              holds = same_holds flat.maps reply.maps k r.rest;
             }
 
-    pub delete_followed : (new : LiveMaps) (u : RunState) → DeletesBy memory t tenant bind (slice_index words 0) (slice_index words 1) word new → called false Delete s ≡ Some u → ResultFollows l bind old t at registers tenant s Delete word memory new
-    delete_followed new u told e =
+    pub delete_followed : (word : ℕ) (new : LiveMaps) (u : RunState) → DeletesNamed flat.maps (key_named (site_in env flat) (slice_index words 0) (slice_index words 1)) word new → called false Delete s ≡ Some u → ResultFollows env l flat s Delete (answers word flat.memory new)
+    delete_followed word new u told e =
         let a = also_some (map_argument s 1) (λ g. and_then (argument s 2 (λ p. input s p g.map.table.shape.key_size)) (λ key. Some (replies s g.descriptor (removed g.map key)))) u e in
         let g = a.0 in
         let b = also_some (argument s 2 (λ p. input s p g.map.table.shape.key_size)) (λ key. Some (replies s g.descriptor (removed g.map key))) u a.2 in
         let m = map_there g a.1 in
-        let k = slice_index bind m.index in
-        let keys = bytes_there 1 g.map.table.shape.key_size (shape_at tenant k).key_size b.0 (omega arith) (ap (λ (x : MapShape). x.key_size) m.shape) b.1 in
-        let r : Deletes tenant k b.0 word new = subst (λ o. DeletesNamed tenant o word new) (key_is_named m b.0 keys.0) told in
-        let st = deletes_keep_simulation below l bind old t at registers memory tenant s m.index g.descriptor g.map b.0 word new stands m.named m.there r in
-        let reply = removed g.map b.0 in
+        let k = slice_index env.bind m.index in
+        let keys = bytes_there 1 g.map.table.shape.key_size (shape_at flat.maps k).key_size b.0 (omega arith) (ap (λ (x : MapShape). x.key_size) m.shape) b.1 in
+        let r : Deletes flat.maps (record { map = k; key = b.0 }) word new = subst (λ o. DeletesNamed flat.maps o word new) (key_is_named m b.0 keys.0) told in
+        let st = deletes_keep_simulation below env l flat s m.index g.descriptor g.map b.0 word new stands m.named m.there r in
+        let gave = removed g.map b.0 in
         record {
           refused = false;
           only = λ x. absurd (false≢true x);
@@ -183,29 +191,32 @@ module _ (l : Layout) (bind : List ℕ) (old : Memory) (t at : ℕ) (registers :
           goes = e;
           layout = l;
           extends = extends_itself l;
-          stands = subst (λ (x : RunState). Simulates l bind old t at (slice_set registers 0 word) memory new x) (same_Some (replies s g.descriptor reply) u b.2)
-              (returned l bind old t at registers memory new (with_reply s g.descriptor reply) (Scalar reply.answer) word st.1 st.0);
+          stands = subst (λ (x : RunState). Simulates env l (with_answer flat (answers word flat.memory new)) x) (same_Some (replies s g.descriptor gave) u b.2)
+              (returned env l (with_held flat flat.memory new) (with_reply s g.descriptor gave) (Scalar gave.answer) word st.1 st.0);
           others = λ x away. r.rest.others x (other_key m.index x m.within away);
           areas = r.rest.areas;
-          holds = same_holds tenant new k r.rest;
+          holds = same_holds flat.maps new k r.rest;
         }
 
-    pub load_followed : (packet : List ℕ) → s.packet ≡ packet → (after : Memory) (u : RunState) → LoadsBy memory t packet (slice_index words 1) (slice_index words 2) (slice_index words 3) word after → called false LoadBytes s ≡ Some u → ResultFollows l bind old t at registers tenant s LoadBytes word after tenant
-    load_followed packet same after u told e =
-        let st = load_stands l bind old t at registers memory tenant s room stands below.writes false u e in
+    pub load_followed : (word : ℕ) (after : Memory) (u : RunState) → LoadsAt (site_in env flat) (slice_index words 1) (slice_index words 3) (place_named flat.memory env.tenant (slice_index words 3) (slice_index words 2)) word after → called false LoadBytes s ≡ Some u
+        → ResultFollows env l flat s LoadBytes (answers word after flat.maps)
+    load_followed word after u told e =
+        let st = load_stands env l flat s room stands below.writes false u e in
         let offset = args 1 (omega arith) in
         let to = args 2 (omega arith) in
         let count = args 3 (omega arith) in
-        let place_is : place_named memory t (slice_index words 3) (slice_index words 2) ≡ Some st.place =
-        ap (λ (n : ℕ). place_named memory t n (slice_index words 2)) count ∙ ap (λ (w : ℕ). place_named memory t (slice_index registers 4) w) to ∙ st.place_is in
-        let r : (word ≡ packet_answer packet (slice_index words 1) (slice_index words 3)) × (after ≡ with_bytes memory (part_start memory t + st.place) (packet_bytes packet (slice_index words 1) (slice_index words 3))) =
-        subst (λ o. LoadsAt memory t packet (slice_index words 1) (slice_index words 3) o word after) place_is told in
-        let bytes : packet_bytes packet (slice_index words 1) (slice_index words 3) ≡ packet_bytes s.packet (slice_index registers 2) (slice_index registers 4) =
-        ap (λ (x : List ℕ). packet_bytes x (slice_index words 1) (slice_index words 3)) (sym same) ∙ ap (λ (x : ℕ). packet_bytes s.packet x (slice_index words 3)) offset ∙ ap (λ (x : ℕ). packet_bytes s.packet (slice_index registers 2) x) count in
-        let gives : packet_answer packet (slice_index words 1) (slice_index words 3) ≡ packet_answer s.packet (slice_index registers 2) (slice_index registers 4) =
-        ap (λ (x : List ℕ). packet_answer x (slice_index words 1) (slice_index words 3)) (sym same) ∙ ap (λ (x : ℕ). packet_answer s.packet x (slice_index words 3)) offset ∙ ap (λ (x : ℕ). packet_answer s.packet (slice_index registers 2) x) count in
-        let answer = packet_answer s.packet (slice_index registers 2) (slice_index registers 4) in
-        let memory_is : after ≡ with_bytes memory (part_start memory t + st.place) (packet_bytes s.packet (slice_index registers 2) (slice_index registers 4)) = r.1 ∙ ap (λ (x : List ℕ). with_bytes memory (part_start memory t + st.place) x) bytes in
+        let same = stands.packet in
+        let place_is : place_named flat.memory env.tenant (slice_index words 3) (slice_index words 2) ≡ Some st.place =
+        ap (λ (n : ℕ). place_named flat.memory env.tenant n (slice_index words 2)) count ∙ ap (λ (w : ℕ). place_named flat.memory env.tenant (slice_index flat.registers 4) w) to ∙ st.place_is in
+        let r : (word ≡ packet_answer env.packet (slice_index words 1) (slice_index words 3)) × (after ≡ with_bytes flat.memory (part_start flat.memory env.tenant + st.place) (packet_bytes env.packet (slice_index words 1) (slice_index words 3))) =
+        subst (λ o. LoadsAt (site_in env flat) (slice_index words 1) (slice_index words 3) o word after) place_is told in
+        let bytes : packet_bytes env.packet (slice_index words 1) (slice_index words 3) ≡ packet_bytes s.packet (slice_index flat.registers 2) (slice_index flat.registers 4) =
+        ap (λ (x : List ℕ). packet_bytes x (slice_index words 1) (slice_index words 3)) (sym same) ∙ ap (λ (x : ℕ). packet_bytes s.packet x (slice_index words 3)) offset ∙ ap (λ (x : ℕ). packet_bytes s.packet (slice_index flat.registers 2) x) count in
+        let gives : packet_answer env.packet (slice_index words 1) (slice_index words 3) ≡ packet_answer s.packet (slice_index flat.registers 2) (slice_index flat.registers 4) =
+        ap (λ (x : List ℕ). packet_answer x (slice_index words 1) (slice_index words 3)) (sym same) ∙ ap (λ (x : ℕ). packet_answer s.packet x (slice_index words 3)) offset ∙ ap (λ (x : ℕ). packet_answer s.packet (slice_index flat.registers 2) x) count in
+        let answer = packet_answer s.packet (slice_index flat.registers 2) (slice_index flat.registers 4) in
+        let written = with_bytes flat.memory (part_start flat.memory env.tenant + st.place) (packet_bytes s.packet (slice_index flat.registers 2) (slice_index flat.registers 4)) in
+        let memory_is : after ≡ written = r.1 ∙ ap (λ (x : List ℕ). with_bytes flat.memory (part_start flat.memory env.tenant + st.place) x) bytes in
         record {
           refused = false;
           only = λ x. absurd (false≢true x);
@@ -213,10 +224,10 @@ module _ (l : Layout) (bind : List ℕ) (old : Memory) (t at : ℕ) (registers :
           goes = e;
           layout = l;
           extends = extends_itself l;
-          stands = subst (λ (x : RunState). Simulates l bind old t at (slice_set registers 0 word) after tenant x) (sym st.is)
-              (subst (λ (n : Memory). Simulates l bind old t at (slice_set registers 0 word) n tenant (returns st.written (Scalar answer))) (sym memory_is)
-              (returned l bind old t at registers (with_bytes memory (part_start memory t + st.place) (packet_bytes s.packet (slice_index registers 2) (slice_index registers 4))) tenant st.written (Scalar answer) word st.stands (r.0 ∙ gives)));
+          stands = subst (λ (x : RunState). Simulates env l (with_answer flat (answers word after flat.maps)) x) (sym st.is)
+              (subst (λ (n : Memory). Simulates env l (with_answer flat (answers word n flat.maps)) (returns st.written (Scalar answer))) (sym memory_is)
+              (returned env l (with_memory flat written) st.written (Scalar answer) word st.stands (r.0 ∙ gives)));
           others = λ key away. refl;
-          areas = same_areas tenant;
+          areas = same_areas flat.maps;
           holds = λ key. refl;
         }

@@ -15,15 +15,16 @@ use Rattle.tagged_model.specs.declared.value.Tagged.{Tagged}
 use Rattle.tagged_model.specs.declared.value.Tagged.TheVariants.{Pointer}
 use Rattle.tagged_model.specs.Cells.{and_then, gathered}
 use Rattle.tagged_model.specs.State.{RunState, RunMap, stack_byte, stack_bytes, value_bytes, object_bytes, input}
-use Rattle.arena.specs.Memory.{Memory, base, part_start}
+use Rattle.arena.specs.Memory.{base, part_start}
 use Rattle.arena.specs.PartLaws.{part_within}
 use Rattle.bpf_maps.specs.declared.part.TheConstants.{PART}
 use Rattle.bpf_maps.specs.Live.{LiveMaps, live_at, shape_at, offset_at}
 use Rattle.bpf_maps.specs.LiveLaws.{laid_inside}
 use Rattle.bpf_helpers.specs.Layout.{Layout, IsWord}
-use Rattle.bpf_helpers.specs.Stands.{IsRoom, HasObject, MapsStandFor, Simulates}
+use Rattle.bpf_helpers.specs.Stands.{IsRoom, HasObject, MapsStandFor, Simulates, stored_maps}
 use Rattle.bpf_helpers.specs.Named.{part_place, part_input}
 use Rattle.bpf_helpers.proofs.Many.{also_some, bytes_there}
+use Rattle.bpf_helpers.specs.States.{Environment, FlatState}
 
 -- ---- parts
 
@@ -38,23 +39,23 @@ part_place_is start part n address at e h =
 -- ---- maps
 
 -- an object that is placed
-pub record Found (l : Layout) (start : ℕ) (memory : List ℕ) (bind : List ℕ) (tenant : LiveMaps) (maps : ℕ → Option RunMap) (m number : ℕ) : Type 0 where
+pub record Found (l : Layout) (start : ℕ) (memory : List ℕ) (tenant : LiveMaps) (maps : ℕ → Option RunMap) (m number : ℕ) : Type 0 where
   pub map : RunMap
   pub there : maps m ≡ Some map
   pub key : ℕ
   pub live : IsSome (live_at tenant key)
   pub place : ℕ
-  pub has : HasObject l start memory tenant key m number (map.values number) place
+  pub has : HasObject (stored_maps start memory tenant) key place (l.object_at m number) (map.values number)
 
-pub placed_object : (l : Layout) (start : ℕ) (memory bind : List ℕ) (tenant : LiveMaps) (maps : ℕ → Option RunMap) (m number : ℕ) → MapsStandFor l bind start memory tenant maps → number < l.counts m → Found l start memory bind tenant maps m number
-placed_object l start memory bind tenant maps m number has lt =
+pub placed_object : (env : Environment) (l : Layout) (start : ℕ) (memory : List ℕ) (tenant : LiveMaps) (maps : ℕ → Option RunMap) (m number : ℕ) → MapsStandFor env l (stored_maps start memory tenant) maps → number < l.counts m → Found l start memory tenant maps m number
+placed_object env l start memory tenant maps m number has lt =
     let at = has.listed m number lt in
     let g = has.each at.0 m at.1 in
     let same = g.2.counted in
     record {
       map = g.0;
       there = g.1;
-      key = slice_index bind at.0;
+      key = slice_index env.bind at.0;
       live = g.2.live;
       place = g.2.place number;
       has = g.2.objects number (omega arith);
@@ -62,28 +63,28 @@ placed_object l start memory bind tenant maps m number has lt =
 
 -- ---- inputs
 
-module _ (l : Layout) (bind : List ℕ) (old : Memory) (t at : ℕ) (registers : List ℕ) (memory : Memory) (tenant : LiveMaps) (s : RunState) (room : IsRoom old t) (stands : Simulates l bind old t at registers memory tenant s) where
+module _ (env : Environment) (l : Layout) (flat : FlatState) (s : RunState) (room : IsRoom env.memory env.tenant) (stands : Simulates env l flat s) where
   start : ℕ
-  start = part_start old t
+  start = part_start env.memory env.tenant
 
-  pub start_same : part_start memory t ≡ part_start old t
-  start_same = ap (λ (n : ℕ). t * n) stands.changed.part
+  pub start_same : part_start flat.memory env.tenant ≡ part_start env.memory env.tenant
+  start_same = ap (λ (n : ℕ). env.tenant * n) stands.changed.part
 
-  part_same : memory.part ≡ PART
+  part_same : flat.memory.part ≡ PART
   part_same = stands.changed.part ∙ room.room
 
   -- n bytes that stand in the part
-  there : (w n q : ℕ) (bs : List ℕ) → w ≡ base + (part_start old t + q) → q + n ≤ PART → bytes_at memory.bytes (part_start old t + q) n ≡ bs → part_input memory t n w ≡ Some bs
+  there : (w n q : ℕ) (bs : List ℕ) → w ≡ base + (part_start env.memory env.tenant + q) → q + n ≤ PART → bytes_at flat.memory.bytes (part_start env.memory env.tenant + q) n ≡ bs → part_input flat.memory env.tenant n w ≡ Some bs
   there w n q bs e fits same =
       let begin = start_same in
       let part = part_same in
-      ap (λ o. and_then o (λ at. Some (bytes_at memory.bytes (part_start memory t + at) n))) (part_place_is (part_start memory t) memory.part n w q (e ∙ ap (λ (a : ℕ). base + (a + q)) (sym start_same)) (omega arith))
-      ∙ ap (λ (a : ℕ). Some (bytes_at memory.bytes (a + q) n)) start_same ∙ ap (λ (x : List ℕ). Some x) same
+      ap (λ o. and_then o (λ p. Some (bytes_at flat.memory.bytes (part_start flat.memory env.tenant + p) n))) (part_place_is (part_start flat.memory env.tenant) flat.memory.part n w q (e ∙ ap (λ (a : ℕ). base + (a + q)) (sym start_same)) (omega arith))
+      ∙ ap (λ (a : ℕ). Some (bytes_at flat.memory.bytes (a + q) n)) start_same ∙ ap (λ (x : List ℕ). Some x) same
 
-  pub memory_long : part_start old t + PART ≤ length memory.bytes
-  memory_long = let within = part_within old t room.is_part in let size = stands.changed.size in let part = room.room in omega arith
+  pub memory_long : part_start env.memory env.tenant + PART ≤ length flat.memory.bytes
+  memory_long = let within = part_within env.memory env.tenant room.is_part in let size = stands.changed.size in let part = room.room in omega arith
 
-  stack_there : (x : ℤ) (w n : ℕ) (bs : List ℕ) → pos w ≡ pos l.front +ℤ x → stack_bytes s x n ≡ Some bs → part_input memory t n w ≡ Some bs
+  stack_there : (x : ℤ) (w n : ℕ) (bs : List ℕ) → pos w ≡ pos l.front +ℤ x → stack_bytes s x n ≡ Some bs → part_input flat.memory env.tenant n w ≡ Some bs
   stack_there x w n bs h e =
       let c = chosen (is_in_stack x n) (gathered (stack_byte s) (place x) n) e in
       let is = in_stack n x c in
@@ -91,36 +92,36 @@ module _ (l : Layout) (bind : List ℕ) (old : Memory) (t at : ℕ) (registers :
       let within = is.1 in
       let front = stands.front in
       let long = memory_long in
-      there w n (place x) bs (omega (arith, ints)) (omega arith) (bytes_there l memory.bytes (part_start old t) s x n bs stands.stack (omega arith) e)
+      there w n (place x) bs (omega (arith, ints)) (omega arith) (bytes_there env l flat.memory.bytes (part_start env.memory env.tenant) s x n bs stands.stack (omega arith) e)
     where
       chosen : (b : Bool) (o : Option (List ℕ)) → (if b then o else None) ≡ Some bs → b ≡ true
       chosen true o e = refl
       chosen false o e = absurd (none-some bs e)
 
-  pub object_there : (m number : ℕ) (x : ℤ) (w n : ℕ) (bs : List ℕ) → pos w ≡ pos (l.object_at m number) +ℤ x → number < l.counts m → object_bytes s m number x n ≡ Some bs → part_input memory t n w ≡ Some bs
+  pub object_there : (m number : ℕ) (x : ℤ) (w n : ℕ) (bs : List ℕ) → pos w ≡ pos (l.object_at m number) +ℤ x → number < l.counts m → object_bytes s m number x n ≡ Some bs → part_input flat.memory env.tenant n w ≡ Some bs
   object_there m number (negsuc y) w n bs h placed e =
-      let a = also_some (s.maps m) (λ t. value_bytes (t.values number) (negsuc y) n) bs e in absurd (none-some bs a.2)
+      let a = also_some (s.maps m) (λ map. value_bytes (map.values number) (negsuc y) n) bs e in absurd (none-some bs a.2)
   object_there m number (pos y) w n bs h placed e =
-      let f = placed_object l (part_start old t) memory.bytes bind tenant s.maps m number stands.maps placed in
-      let a = also_some (s.maps m) (λ t. value_bytes (t.values number) (pos y) n) bs e in
+      let f = placed_object env l (part_start env.memory env.tenant) flat.memory.bytes flat.maps s.maps m number stands.maps placed in
+      let a = also_some (s.maps m) (λ map. value_bytes (map.values number) (pos y) n) bs e in
       let same : a.0 ≡ f.map = same_Some a.0 f.map (sym a.1 ∙ f.there) in
-      let off = offset_at tenant f.key f.place in
-      let size = (shape_at tenant f.key).value_size in
+      let off = offset_at flat.maps f.key f.place in
+      let size = (shape_at flat.maps f.key).value_size in
       let value = f.map.values number in
-      let got : value_bytes value (pos y) n ≡ Some bs = ap (λ (t : RunMap). value_bytes (t.values number) (pos y) n) (sym same) ∙ a.2 in
+      let got : value_bytes value (pos y) n ≡ Some bs = ap (λ (map : RunMap). value_bytes (map.values number) (pos y) n) (sym same) ∙ a.2 in
       let c = cond_some (leb (y + n) (length value)) (bytes_at value y n) bs got in
       let few : y + n ≤ length value = leb-true (y + n) (length value) c.0 in
-      let is : bytes_at memory.bytes (part_start old t + off) size ≡ value = f.has.bytes in
-      let long : length (bytes_at memory.bytes (part_start old t + off) size) ≡ length value = ap length is in
-      let least = length-take size (drop (part_start old t + off) memory.bytes) in
-      let inside = (laid_inside tenant stands.maps.laid f.key f.place f.live f.has.within).within in
+      let is : bytes_at flat.memory.bytes (part_start env.memory env.tenant + off) size ≡ value = f.has.bytes in
+      let long : length (bytes_at flat.memory.bytes (part_start env.memory env.tenant + off) size) ≡ length value = ap length is in
+      let least = length-take size (drop (part_start env.memory env.tenant + off) flat.memory.bytes) in
+      let inside = (laid_inside flat.maps stands.maps.laid f.key f.place f.live f.has.within).within in
       let address = f.has.address in
       let whole = memory_long in
-      let at : part_start old t + off + y ≡ part_start old t + (off + y) = omega arith in
+      let here : part_start env.memory env.tenant + off + y ≡ part_start env.memory env.tenant + (off + y) = omega arith in
       there w n (off + y) bs (omega (arith, ints)) (omega arith)
-      (ap (λ (p : ℕ). bytes_at memory.bytes p n) (sym at) ∙ sym (bytes_within memory.bytes (part_start old t + off) size y n (omega arith)) ∙ ap (λ (v : List ℕ). bytes_at v y n) is ∙ c.1)
+      (ap (λ (p : ℕ). bytes_at flat.memory.bytes p n) (sym here) ∙ sym (bytes_within flat.memory.bytes (part_start env.memory env.tenant + off) size y n (omega arith)) ∙ ap (λ (v : List ℕ). bytes_at v y n) is ∙ c.1)
 
-  pub input_there : (p : Tagged) (w n : ℕ) (bs : List ℕ) → IsWord l p w → input s p n ≡ Some bs → part_input memory t n w ≡ Some bs
+  pub input_there : (p : Tagged) (w n : ℕ) (bs : List ℕ) → IsWord env l p w → input s p n ≡ Some bs → part_input flat.memory env.tenant n w ≡ Some bs
   input_there (Pointer object.Stack x) w n bs h e = stack_there x w n bs h.0 e
   input_there (Pointer (object.Value m number) x) w n bs h e = object_there m number x w n bs h.0 h.2 e
   input_there p w n bs h e = absurd (none-some bs e)

@@ -12,15 +12,15 @@ use Rattle.tagged_model.specs.declared.value.Tagged.TheVariants.{Scalar, Map, Po
 use Rattle.tagged_model.specs.Cells.{and_then}
 use Rattle.tagged_model.specs.State.{RunState, output}
 use Rattle.tagged_model.specs.Helpers.{argument, number_given, length_given, context_given, packet_bytes, packet_answer, is_in_packet, returns, called}
-use Rattle.arena.specs.Memory.{Memory, part_start, with_bytes}
+use Rattle.arena.specs.Memory.{part_start, with_bytes}
 use Rattle.arena.specs.Apart.{WritesStayInside}
-use Rattle.bpf_maps.specs.Live.{LiveMaps}
 use Rattle.bpf_helpers.specs.Layout.{Layout, IsWord}
 use Rattle.bpf_helpers.specs.Stands.{IsRoom, Simulates}
-use Rattle.bpf_helpers.specs.Named.{part_place}
+use Rattle.bpf_helpers.specs.Named.{place_named}
 use Rattle.bpf_helpers.specs.inside.Laws.{LoadKeepsSimulation}
 use Rattle.bpf_helpers.proofs.Many.{also_some}
 use Rattle.bpf_helpers.proofs.Outputs.{outputs_keep_simulation}
+use Rattle.bpf_helpers.specs.States.{Environment, FlatState, with_memory}
 
 pub is_number : (v : Tagged) (n : ℕ) → number_given v ≡ Some n → v ≡ Scalar n
 is_number (Scalar m) n e = ap (λ (k : ℕ). Scalar k) (same_Some m n e)
@@ -42,33 +42,33 @@ length-packet_bytes packet offset n =
     (λ b. length-bytes_at packet (offset % 2 ^ 32) n (leb-true (offset % 2 ^ 32 + n) (length packet) (and_parts (leb (offset % 2 ^ 32) (2 ^ 31 - 1)) (leb (offset % 2 ^ 32 + n) (length packet)) b).1))
     (λ b. length-replicate n 0)
 
-module _ (l : Layout) (bind : List ℕ) (old : Memory) (t at : ℕ) (registers : List ℕ) (memory : Memory) (tenant : LiveMaps) (s : RunState) (room : IsRoom old t) (stands : Simulates l bind old t at registers memory tenant s) where
+module _ (env : Environment) (l : Layout) (flat : FlatState) (s : RunState) (room : IsRoom env.memory env.tenant) (stands : Simulates env l flat s) where
   -- a number in a register is its word
-  pub number_word : (r n : ℕ) → r < 11 → argument s r number_given ≡ Some n → slice_index registers r ≡ n
+  pub number_word : (r n : ℕ) → r < 11 → argument s r number_given ≡ Some n → slice_index flat.registers r ≡ n
   number_word r n lt e =
       let a = also_some (s.registers r) number_given n e in
-      subst (λ v. IsWord l v (slice_index registers r)) (is_number a.0 n a.2) (stands.values r a.0 lt a.1)
+      subst (λ v. IsWord env l v (slice_index flat.registers r)) (is_number a.0 n a.2) (stands.values r a.0 lt a.1)
 
-  length_word : (r n : ℕ) → r < 11 → argument s r length_given ≡ Some n → slice_index registers r ≡ n
+  length_word : (r n : ℕ) → r < 11 → argument s r length_given ≡ Some n → slice_index flat.registers r ≡ n
   length_word r n lt e =
       let a = also_some (s.registers r) length_given n e in
-      subst (λ v. IsWord l v (slice_index registers r)) (is_length a.0 n a.2) (stands.values r a.0 lt a.1)
+      subst (λ v. IsWord env l v (slice_index flat.registers r)) (is_length a.0 n a.2) (stands.values r a.0 lt a.1)
 
   module _ (writes : WritesStayInside) where
-    written : (offset n : ℕ) (u v : RunState) → slice_index registers 2 ≡ offset → slice_index registers 4 ≡ n → argument s 3 (λ p. output s p (packet_bytes s.packet offset n)) ≡ Some v → Some (returns v (Scalar (packet_answer s.packet offset n))) ≡ Some u → LoadKeepsSimulation l bind old t at registers memory tenant s u
+    written : (offset n : ℕ) (u v : RunState) → slice_index flat.registers 2 ≡ offset → slice_index flat.registers 4 ≡ n → argument s 3 (λ p. output s p (packet_bytes s.packet offset n)) ≡ Some v → Some (returns v (Scalar (packet_answer s.packet offset n))) ≡ Some u → LoadKeepsSimulation env l flat s u
     written offset n u v first last e f =
         let d = also_some (s.registers 3) (λ p. output s p (packet_bytes s.packet offset n)) v e in
-        let r = outputs_keep_simulation writes l bind old t at registers memory tenant s v d.0 (slice_index registers 3) (packet_bytes s.packet offset n) room stands (stands.values 3 d.0 (omega arith) d.1) d.2 in
+        let r = outputs_keep_simulation writes env l flat s v d.0 (slice_index flat.registers 3) (packet_bytes s.packet offset n) room stands (stands.values 3 d.0 (omega arith) d.1) d.2 in
         record {
           place = r.0;
-          place_is = ap (λ (x : ℕ). part_place (part_start memory t) memory.part x (slice_index registers 3)) (last ∙ sym (length-packet_bytes s.packet offset n)) ∙ r.1;
+          place_is = ap (λ (x : ℕ). place_named flat.memory env.tenant x (slice_index flat.registers 3)) (last ∙ sym (length-packet_bytes s.packet offset n)) ∙ r.1;
           written = v;
-          stands = subst (λ (x : ℕ). Simulates l bind old t at registers (with_bytes memory (part_start memory t + r.0) (packet_bytes s.packet (slice_index registers 2) x)) tenant v) (sym last)
-              (subst (λ (x : ℕ). Simulates l bind old t at registers (with_bytes memory (part_start memory t + r.0) (packet_bytes s.packet x n)) tenant v) (sym first) r.2);
-          is = sym (same_Some (returns v (Scalar (packet_answer s.packet offset n))) u f) ∙ ap (λ (x : ℕ). returns v (Scalar (packet_answer s.packet x n))) (sym first) ∙ ap (λ (x : ℕ). returns v (Scalar (packet_answer s.packet (slice_index registers 2) x))) (sym last);
+          stands = subst (λ (x : ℕ). Simulates env l (with_memory flat (with_bytes flat.memory (part_start flat.memory env.tenant + r.0) (packet_bytes s.packet (slice_index flat.registers 2) x))) v) (sym last)
+              (subst (λ (x : ℕ). Simulates env l (with_memory flat (with_bytes flat.memory (part_start flat.memory env.tenant + r.0) (packet_bytes s.packet x n))) v) (sym first) r.2);
+          is = sym (same_Some (returns v (Scalar (packet_answer s.packet offset n))) u f) ∙ ap (λ (x : ℕ). returns v (Scalar (packet_answer s.packet x n))) (sym first) ∙ ap (λ (x : ℕ). returns v (Scalar (packet_answer s.packet (slice_index flat.registers 2) x))) (sym last);
         }
 
-    pub load_stands : (refused : Bool) (u : RunState) → called refused LoadBytes s ≡ Some u → LoadKeepsSimulation l bind old t at registers memory tenant s u
+    pub load_stands : (refused : Bool) (u : RunState) → called refused LoadBytes s ≡ Some u → LoadKeepsSimulation env l flat s u
     load_stands refused u e =
         let a = also_some (argument s 1 context_given) (λ c. and_then (argument s 2 number_given) (λ offset. and_then (argument s 4 length_given) (λ n. and_then (argument s 3 (λ p. output s p (packet_bytes s.packet offset n))) (λ t. Some (returns t (Scalar (packet_answer s.packet offset n))))))) u e in
         let b = also_some (argument s 2 number_given) (λ offset. and_then (argument s 4 length_given) (λ n. and_then (argument s 3 (λ p. output s p (packet_bytes s.packet offset n))) (λ t. Some (returns t (Scalar (packet_answer s.packet offset n)))))) u a.2 in

@@ -13,18 +13,19 @@ use Rattle.tagged_model.specs.Cells.{and_then}
 use Rattle.tagged_model.specs.State.{RunState, RunMap, input}
 use Rattle.tagged_model.specs.Helpers.{GivenMap, map_given, argument, map_argument, looked_up, called, returns}
 use Rattle.tagged_model.specs.StateLaws.{found_owned}
-use Rattle.arena.specs.Memory.{Memory, part_start}
+use Rattle.arena.specs.Memory.{part_start}
 use Rattle.bpf_maps.specs.Places.{table_of}
-use Rattle.bpf_maps.specs.Live.{LiveMaps, places_at, shape_at}
+use Rattle.bpf_maps.specs.Live.{places_at, shape_at}
 use Rattle.bpf_maps.specs.Laws.{CallsRefineValues}
 use Rattle.bpf_helpers.specs.Layout.{Layout, IsWord}
-use Rattle.bpf_helpers.specs.Stands.{IsRoom, HasMap, Simulates}
+use Rattle.bpf_helpers.specs.Stands.{IsRoom, HasMap, Simulates, stored_maps}
 use Rattle.bpf_helpers.specs.Named.{bound_map, part_input}
 use Rattle.bpf_helpers.specs.inside.Flat.{value_word, key_word, flat_look_up}
 use Rattle.bpf_helpers.specs.inside.Laws.{GivesWord, LookUpsFollow}
 use Rattle.bpf_helpers.proofs.Many.{also_some}
 use Rattle.bpf_helpers.proofs.Inputs.{input_there}
 use Rattle.bpf_helpers.proofs.Words.{key_is}
+use Rattle.bpf_helpers.specs.States.{Environment, FlatState, site_in}
 
 -- ---- arguments
 
@@ -40,73 +41,73 @@ pub record IsGiven (s : RunState) (r : ℕ) (g : GivenMap) : Type 0 where
 
 pub is_given : (s : RunState) (r : ℕ) (g : GivenMap) → map_argument s r ≡ Some g → IsGiven s r g
 is_given s r g e =
-    let a = also_some (argument s r map_given) (λ m. and_then (s.maps m) (λ t. Some (record { descriptor = m; map = t }))) g e in
+    let a = also_some (argument s r map_given) (λ m. and_then (s.maps m) (λ map. Some (record { descriptor = m; map = map }))) g e in
     let b = also_some (s.registers r) map_given a.0 a.1 in
-    let c = also_some (s.maps a.0) (λ t. Some (record { descriptor = a.0; map = t })) g a.2 in
+    let c = also_some (s.maps a.0) (λ map. Some (record { descriptor = a.0; map = map })) g a.2 in
     let same = same_Some (record { descriptor = a.0; map = c.0 }) g c.2 in
     subst (IsGiven s r) same (record { register = b.1 ∙ ap (λ (v : Tagged). Some v) (is_map b.0 a.0 b.2); there = c.1 })
 
-module _ (l : Layout) (bind : List ℕ) (old : Memory) (t at : ℕ) (registers : List ℕ) (memory : Memory) (tenant : LiveMaps) (s : RunState) (room : IsRoom old t) (stands : Simulates l bind old t at registers memory tenant s) where
+module _ (env : Environment) (l : Layout) (flat : FlatState) (s : RunState) (room : IsRoom env.memory env.tenant) (stands : Simulates env l flat s) where
   -- the map that a word names, and what stands for it
   pub record IsBound (w m : ℕ) (map : RunMap) : Type 0 where
     pub key : ℕ
-    pub bound : bound_map bind w ≡ Some key
-    pub has : HasMap l (part_start old t) memory.bytes tenant key m map
+    pub bound : bound_map env.bind w ≡ Some key
+    pub has : HasMap l (stored_maps (part_start env.memory env.tenant) flat.memory.bytes flat.maps) key m map
 
-  pub map_bound : (w m : ℕ) (map : RunMap) → IsWord l (Map m) w → s.maps m ≡ Some map → IsBound w m map
+  pub map_bound : (w m : ℕ) (map : RunMap) → IsWord env l (Map m) w → s.maps m ≡ Some map → IsBound w m map
   map_bound w m map h e =
       let i = w - 1 in
       let some = h.0 in
       let g = stands.maps.each i m h.1 in
       let same : g.0 ≡ map = same_Some g.0 map (sym g.1 ∙ e) in
       let count = stands.maps.count in
-      let fits = slice_get_within l.maps i m h.1 in
+      let fits = slice_get_within env.descriptors i m h.1 in
       record {
-        key = slice_index bind i;
-        bound = cond-false (w == 0) None (slice_get bind i) (ne_eqb w 0 (λ z. omega arith)) ∙ slice_get-get_or bind i 0 (omega arith);
-        has = subst (HasMap l (part_start old t) memory.bytes tenant (slice_index bind i) m) same g.2;
+        key = slice_index env.bind i;
+        bound = cond-false (w == 0) None (slice_get env.bind i) (ne_eqb w 0 (λ z. omega arith)) ∙ slice_get-get_or env.bind i 0 (omega arith);
+        has = subst (HasMap l (stored_maps (part_start env.memory env.tenant) flat.memory.bytes flat.maps) (slice_index env.bind i) m) same g.2;
       }
 
   -- ---- what is found
 
-  module _ (along : CallsRefineValues ℕ ℕ) (m key : ℕ) (map : RunMap) (has : HasMap l (part_start old t) memory.bytes tenant key m map) where
-    shape_same : shape_at tenant key ≡ map.table.shape
+  module _ (along : CallsRefineValues ℕ ℕ) (m key : ℕ) (map : RunMap) (has : HasMap l (stored_maps (part_start env.memory env.tenant) flat.memory.bytes flat.maps) key m map) where
+    shape_same : shape_at flat.maps key ≡ map.table.shape
     shape_same = ap (λ (x : Table ℕ). x.shape) has.table
 
-    found_place : (bytes : List ℕ) → look_up (table_of (places_at tenant key)) bytes ≡ option_map has.place (look_up map.table bytes)
+    found_place : (bytes : List ℕ) → look_up (table_of (places_at flat.maps key)) bytes ≡ option_map has.place (look_up map.table bytes)
     found_place bytes = ap (λ (x : Table ℕ). look_up x bytes) has.table ∙ along.found has.place map.table bytes
 
-    found_word : (o : Option ℕ) → ((number : ℕ) → o ≡ Some number → number < map.count) → IsWord l (looked_up m o) (value_word memory t tenant key (option_map has.place o))
+    found_word : (o : Option ℕ) → ((number : ℕ) → o ≡ Some number → number < map.count) → IsWord env l (looked_up m o) (value_word (site_in env flat) key (option_map has.place o))
     found_word None owned = refl
     found_word (Some number) owned =
         let lt = owned number refl in
         let address = (has.objects number lt).address in
         let counted = has.counted in
-        let begin : part_start memory t ≡ part_start old t = ap (λ (n : ℕ). t * n) stands.changed.part in
+        let begin : part_start flat.memory env.tenant ≡ part_start env.memory env.tenant = ap (λ (n : ℕ). env.tenant * n) stands.changed.part in
         (omega (arith, ints), refl, omega arith)
 
-    pub look_up_follows : (bytes : List ℕ) → IsWord l (looked_up m (look_up map.table bytes)) (value_word memory t tenant key (look_up (table_of (places_at tenant key)) bytes))
+    pub look_up_follows : (bytes : List ℕ) → IsWord env l (looked_up m (look_up map.table bytes)) (value_word (site_in env flat) key (look_up (table_of (places_at flat.maps key)) bytes))
     look_up_follows bytes =
-        subst (λ (o : Option ℕ). IsWord l (looked_up m (look_up map.table bytes)) (value_word memory t tenant key o)) (sym (found_place bytes))
+        subst (λ (o : Option ℕ). IsWord env l (looked_up m (look_up map.table bytes)) (value_word (site_in env flat) key o)) (sym (found_place bytes))
         (found_word (look_up map.table bytes) (λ number e. found_owned map.count bytes map.table.entries number has.owns e))
 
   pub follows : CallsRefineValues ℕ ℕ → (refused : Bool) (u : RunState) → called refused LookUp s ≡ Some u
-      → (v : Tagged) × (u ≡ returns s v) × GivesWord l (flat_look_up memory t tenant bind (slice_index registers 1) (slice_index registers 2)) (Some v)
+      → (v : Tagged) × (u ≡ returns s v) × GivesWord env l (flat_look_up (site_in env flat) (slice_index flat.registers 1) (slice_index flat.registers 2)) (Some v)
   follows along refused u e =
       let a = also_some (map_argument s 1) (λ g. and_then (argument s 2 (λ p. input s p g.map.table.shape.key_size)) (λ key. Some (returns s (looked_up g.descriptor (look_up g.map.table key))))) u e in
       let g = a.0 in
       let given = is_given s 1 g a.1 in
       let b = also_some (argument s 2 (λ p. input s p g.map.table.shape.key_size)) (λ key. Some (returns s (looked_up g.descriptor (look_up g.map.table key)))) u a.2 in
       let c = also_some (s.registers 2) (λ p. input s p g.map.table.shape.key_size) b.0 b.1 in
-      let bound = map_bound (slice_index registers 1) g.descriptor g.map (stands.values 1 (Map g.descriptor) (omega arith) given.register) given.there in
-      let size : (shape_at tenant bound.key).key_size ≡ g.map.table.shape.key_size = ap (λ (x : MapShape). x.key_size) (shape_same along g.descriptor bound.key g.map bound.has) in
-      let read = input_there l bind old t at registers memory tenant s room stands c.0 (slice_index registers 2) g.map.table.shape.key_size b.0 (stands.values 2 c.0 (omega arith) c.1) c.2 in
-      let flat : flat_look_up memory t tenant bind (slice_index registers 1) (slice_index registers 2) ≡ Some (value_word memory t tenant bound.key (look_up (table_of (places_at tenant bound.key)) b.0)) =
-      ap (option_map (key_word memory t tenant)) (key_is memory t tenant bind (slice_index registers 1) (slice_index registers 2) bound.key bound.bound b.0 (ap (λ (n : ℕ). part_input memory t n (slice_index registers 2)) size ∙ read)) in (
+      let bound = map_bound (slice_index flat.registers 1) g.descriptor g.map (stands.values 1 (Map g.descriptor) (omega arith) given.register) given.there in
+      let size : (shape_at flat.maps bound.key).key_size ≡ g.map.table.shape.key_size = ap (λ (x : MapShape). x.key_size) (shape_same along g.descriptor bound.key g.map bound.has) in
+      let read = input_there env l flat s room stands c.0 (slice_index flat.registers 2) g.map.table.shape.key_size b.0 (stands.values 2 c.0 (omega arith) c.1) c.2 in
+      let is : flat_look_up (site_in env flat) (slice_index flat.registers 1) (slice_index flat.registers 2) ≡ Some (value_word (site_in env flat) bound.key (look_up (table_of (places_at flat.maps bound.key)) b.0)) =
+      ap (option_map (key_word (site_in env flat))) (key_is (site_in env flat) (slice_index flat.registers 1) (slice_index flat.registers 2) bound.key bound.bound b.0 (ap (λ (n : ℕ). part_input flat.memory env.tenant n (slice_index flat.registers 2)) size ∙ read)) in (
         looked_up g.descriptor (look_up g.map.table b.0),
         sym (same_Some _ u b.2),
-        subst (λ (o : Option ℕ). GivesWord l o (Some (looked_up g.descriptor (look_up g.map.table b.0)))) (sym flat) (look_up_follows along g.descriptor bound.key g.map bound.has b.0),
+        subst (λ (o : Option ℕ). GivesWord env l o (Some (looked_up g.descriptor (look_up g.map.table b.0)))) (sym is) (look_up_follows along g.descriptor bound.key g.map bound.has b.0),
       )
 
 pub look_ups_follow : CallsRefineValues ℕ ℕ → LookUpsFollow
-look_ups_follow along l bind old t at registers memory tenant s u refused room stands e = follows l bind old t at registers memory tenant s room stands along refused u e
+look_ups_follow along env l flat s u refused room stands e = follows env l flat s room stands along refused u e

@@ -11,6 +11,7 @@ use Rattle.tagged_model.specs.Cells.{Cell, holds, bytes, and_then, byte_at, gath
 use Rattle.tagged_model.specs.State.{RunState, with_cells, stack_byte}
 use Rattle.bpf_helpers.specs.Layout.{Layout, IsWord, HasCell, HasStack}
 use Rattle.bpf_helpers.specs.inside.Laws.{StackBytesAreThere, StackBytesAreWritten}
+use Rattle.bpf_helpers.specs.States.{Environment}
 
 pub also_some : {A B : Type 0} (o : Option A) (f : A → Option B) (y : B) → and_then o f ≡ Some y → (x : A) × (o ≡ Some x) × (f x ≡ Some y)
 also_some None f y e = absurd (none-some y e)
@@ -41,19 +42,19 @@ are_from byte (suc n) p list e =
 -- ---- reading
 
 -- a byte of the stack is the memory's
-stack_byte_there : (l : Layout) (memory : List ℕ) (start : ℕ) (s : RunState) (q b : ℕ) → HasStack l memory start s.cells → q < 512 → stack_byte s q ≡ Some b → get_or memory (start + q) 0 ≡ b
-stack_byte_there l memory start s q b has lt e =
+stack_byte_there : (env : Environment) (l : Layout) (memory : List ℕ) (start : ℕ) (s : RunState) (q b : ℕ) → HasStack env l memory start s.cells → q < 512 → stack_byte s q ≡ Some b → get_or memory (start + q) 0 ≡ b
+stack_byte_there env l memory start s q b has lt e =
     let at : start + q ≡ start + 8 * (q / 8) + q % 8 = omega arith in
     ap (λ (a : ℕ). get_or memory a 0) at ∙ (has (q / 8) (omega arith)).present (q % 8) b (omega arith) e
 
 pub bytes_there : StackBytesAreThere
-bytes_there l memory start s y n bs has fits e =
+bytes_there env l memory start s y n bs has fits e =
     let i = chosen (is_in_stack y n) (gathered (stack_byte s) (place y) n) bs e in
     let within = (in_stack n y i.0).1 in
     let from = are_from (stack_byte s) n (place y) bs i.1 in
     bytes_are memory bs (start + place y) n from.count (omega arith)
     (λ k lt. let at : start + place y + k ≡ start + (place y + k) = omega arith in
-    ap (λ (a : ℕ). get_or memory a 0) at ∙ stack_byte_there l memory start s (place y + k) (get_or bs k 0) has (omega arith) (from.each k lt))
+    ap (λ (a : ℕ). get_or memory a 0) at ∙ stack_byte_there env l memory start s (place y + k) (get_or bs k 0) has (omega arith) (from.each k lt))
   where
     chosen : {A : Type 0} (b : Bool) (o : Option A) (y : A) → (if b then o else None) ≡ Some y → (b ≡ true) × (o ≡ Some y)
     chosen true o y e = (refl, e)
@@ -61,13 +62,13 @@ bytes_there l memory start s y n bs has fits e =
 
 -- ---- writing
 
-module _ (l : Layout) (memory : List ℕ) (start : ℕ) (fits : start + 512 ≤ length memory) (p : ℕ) (new : List ℕ) (room : p + length new ≤ 512) where
+module _ (env : Environment) (l : Layout) (memory : List ℕ) (start : ℕ) (fits : start + 512 ≤ length memory) (p : ℕ) (new : List ℕ) (room : p + length new ≤ 512) where
   -- a cell elsewhere
-  cell_stays : (i : ℕ) (c : Cell) → i < 64 → (8 * i + 8 ≤ p) ⊎ (p + length new ≤ 8 * i) → HasCell l memory (start + 8 * i) c → HasCell l (written_at memory (start + p) new) (start + 8 * i) c
+  cell_stays : (i : ℕ) (c : Cell) → i < 64 → (8 * i + 8 ≤ p) ⊎ (p + length new ≤ 8 * i) → HasCell env l memory (start + 8 * i) c → HasCell env l (written_at memory (start + p) new) (start + 8 * i) c
   cell_stays i c lt away has =
       record {
         present = λ j b few e. written_out memory new (start + p) (start + 8 * i + j) (omega arith) (apart j few away) ∙ has.present j b few e;
-        whole = λ v e. subst (λ (list : List ℕ). IsWord l v (number_of list)) (sym (bytes_stay memory new (start + p) (start + 8 * i) 8 (omega arith) (beside away))) (has.whole v e);
+        whole = λ v e. subst (λ (list : List ℕ). IsWord env l v (number_of list)) (sym (bytes_stay memory new (start + p) (start + 8 * i) 8 (omega arith) (beside away))) (has.whole v e);
       }
     where
       apart : (j : ℕ) → j < 8 → (8 * i + 8 ≤ p) ⊎ (p + length new ≤ 8 * i) → (start + 8 * i + j < start + p) ⊎ (start + p + length new ≤ start + 8 * i + j)
@@ -79,7 +80,7 @@ module _ (l : Layout) (memory : List ℕ) (start : ℕ) (fits : start + 512 ≤ 
       beside (inr above) = inr (omega arith)
 
   -- a byte of a cell that is touched
-  over_byte : (i : ℕ) (c : Cell) (j b : ℕ) → i < 64 → j < 8 → HasCell l memory (start + 8 * i) c
+  over_byte : (i : ℕ) (c : Cell) (j b : ℕ) → i < 64 → j < 8 → HasCell env l memory (start + 8 * i) c
       → (if leb p (8 * i + j) && ltb (8 * i + j) (p + length new) then slice_get new (8 * i + j - p) else byte_at c j) ≡ Some b → get_or (written_at memory (start + p) new) (start + 8 * i + j) 0 ≡ b
   over_byte i c j b lt few has =
       cond_both (leb p (8 * i + j) && ltb (8 * i + j) (p + length new)) (slice_get new (8 * i + j - p)) (byte_at c j) (λ (o : Option ℕ). o ≡ Some b → get_or (written_at memory (start + p) new) (start + 8 * i + j) 0 ≡ b)
@@ -95,9 +96,9 @@ module _ (l : Layout) (memory : List ℕ) (start : ℕ) (fits : start + 512 ≤ 
   not_whole : (b : ℕ → Option ℕ) (v : Tagged) → bytes b ≡ holds v → ⊥
   not_whole b v e = cc
 
-  pub cell_after : (i : ℕ) (c : Cell) → i < 64 → HasCell l memory (start + 8 * i) c → HasCell l (written_at memory (start + p) new) (start + 8 * i) (cell_over i c p new)
+  pub cell_after : (i : ℕ) (c : Cell) → i < 64 → HasCell env l memory (start + 8 * i) c → HasCell env l (written_at memory (start + p) new) (start + 8 * i) (cell_over i c p new)
   cell_after i c lt has =
-      cond_both (touches p (length new) i) (bytes (λ j. if leb p (8 * i + j) && ltb (8 * i + j) (p + length new) then slice_get new (8 * i + j - p) else byte_at c j)) c (λ (d : Cell). HasCell l (written_at memory (start + p) new) (start + 8 * i) d)
+      cond_both (touches p (length new) i) (bytes (λ j. if leb p (8 * i + j) && ltb (8 * i + j) (p + length new) then slice_get new (8 * i + j - p) else byte_at c j)) c (λ (d : Cell). HasCell env l (written_at memory (start + p) new) (start + 8 * i) d)
       (λ t. record { present = λ j b few e. over_byte i c j b lt few has e; whole = λ v e. absurd (not_whole _ v e) })
       (λ t. cell_stays i c lt (beside (and_cases (ltb p (8 * i + 8)) (ltb (8 * i) (p + length new)) t)) has)
     where
@@ -106,8 +107,8 @@ module _ (l : Layout) (memory : List ℕ) (start : ℕ) (fits : start + 512 ≤ 
       beside (inr f) = inr (ltb-false (8 * i) (p + length new) f)
 
 pub bytes_over : StackBytesAreWritten
-bytes_over l memory start s t y bs has fits e =
+bytes_over env l memory start s t y bs has fits e =
     let c = cond_some (is_in_stack y (length bs)) (with_cells s (λ i. cell_over i (s.cells i) (place y) bs)) t e in
     let within = (in_stack (length bs) y c.0).1 in
-    subst (λ (u : RunState). HasStack l (written_at memory (start + place y) bs) start u.cells) c.1
-    (λ i lt. cell_after l memory start fits (place y) bs within i (s.cells i) lt (has i lt))
+    subst (λ (u : RunState). HasStack env l (written_at memory (start + place y) bs) start u.cells) c.1
+    (λ i lt. cell_after env l memory start fits (place y) bs within i (s.cells i) lt (has i lt))

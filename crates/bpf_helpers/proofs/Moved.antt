@@ -12,20 +12,21 @@ use Rattle.bpf_maps.specs.Places.{PlaceTable, table_of, occurrences}
 use Rattle.bpf_maps.specs.Live.{LiveMaps, LiveMap, live_at, live_or, places_at, shape_at, offset, offset_at, OnlyKeysChange}
 use Rattle.bpf_maps.specs.Laws.{AreasKeepPlaces}
 use Rattle.bpf_helpers.specs.Layout.{Layout}
-use Rattle.bpf_helpers.specs.Stands.{HasMap, MapsStandFor}
+use Rattle.bpf_helpers.specs.Stands.{HasMap, MapsStandFor, stored_maps}
+use Rattle.bpf_helpers.specs.States.{Environment}
 
 -- the maps of other descriptors have other keys
-pub other_key : (l : Layout) (bind : List ℕ) (start : ℕ) (memory : List ℕ) (tenant : LiveMaps) (maps : ℕ → Option RunMap) → MapsStandFor l bind start memory tenant maps → (i m j n : ℕ) → slice_get l.maps i ≡ Some m → slice_get l.maps j ≡ Some n → n ≢ m → slice_index bind j ≢ slice_index bind i
-other_key l bind start memory tenant maps has i m j n named e differ same =
+pub other_key : (env : Environment) (l : Layout) (start : ℕ) (memory : List ℕ) (tenant : LiveMaps) (maps : ℕ → Option RunMap) → MapsStandFor env l (stored_maps start memory tenant) maps → (i m j n : ℕ) → slice_get env.descriptors i ≡ Some m → slice_get env.descriptors j ≡ Some n → n ≢ m → slice_index env.bind j ≢ slice_index env.bind i
+other_key env l start memory tenant maps has i m j n named e differ same =
     let count = has.count in
-    let a = slice_get_within l.maps j n e in
-    let b = slice_get_within l.maps i m named in
+    let a = slice_get_within env.descriptors j n e in
+    let b = slice_get_within env.descriptors i m named in
     let one : j ≡ i = has.keys j i (omega arith) (omega arith) same in
-    differ (same_Some n m (sym e ∙ ap (λ (x : ℕ). slice_get l.maps x) one ∙ named))
+    differ (same_Some n m (sym e ∙ ap (λ (x : ℕ). slice_get env.descriptors x) one ∙ named))
 
 module _ (l : Layout) (start : ℕ) (memory : List ℕ) (old new : LiveMaps) (k m : ℕ) (t : RunMap) where
   -- its places are the same, and begin where they did
-  map_moved : places_at new k ≡ places_at old k → ((p : ℕ) → offset_at new k p ≡ offset_at old k p) → IsSome (live_at new k) → HasMap l start memory old k m t → HasMap l start memory new k m t
+  map_moved : places_at new k ≡ places_at old k → ((p : ℕ) → offset_at new k p ≡ offset_at old k p) → IsSome (live_at new k) → HasMap l (stored_maps start memory old) k m t → HasMap l (stored_maps start memory new) k m t
   map_moved places offsets live h = record {
     live = live;
     place = h.place;
@@ -50,22 +51,22 @@ live_offsets : (old new : LiveMaps) (k p : ℕ) → live_at new k ≡ live_at ol
 live_offsets old new k p e = ap (λ (o : Option LiveMap). offset (live_or o) p) e
 
 -- the maps other than the one under key k are as they were, and so are the places of this one
-module _ (l : Layout) (bind : List ℕ) (start : ℕ) (memory : List ℕ) (old new : LiveMaps) (k : ℕ) (rest : OnlyKeysChange k old new) where
-  pub other_moved : (j n : ℕ) (u : RunMap) → j ≢ k → HasMap l start memory old j n u → HasMap l start memory new j n u
+module _ (env : Environment) (l : Layout) (start : ℕ) (memory : List ℕ) (old new : LiveMaps) (k : ℕ) (rest : OnlyKeysChange k old new) where
+  pub other_moved : (j n : ℕ) (u : RunMap) → j ≢ k → HasMap l (stored_maps start memory old) j n u → HasMap l (stored_maps start memory new) j n u
   other_moved j n u differ h =
       map_moved l start memory old new j n u (live_places old new j (rest.others j differ)) (λ p. live_offsets old new j p (rest.others j differ)) (subst IsSome (sym (rest.others j differ)) h.live) h
 
-  pub maps_moved : AreasKeepPlaces → (maps : ℕ → Option RunMap) → places_at new k ≡ places_at old k → MapsStandFor l bind start memory old maps → MapsStandFor l bind start memory new maps
+  pub maps_moved : AreasKeepPlaces → (maps : ℕ → Option RunMap) → places_at new k ≡ places_at old k → MapsStandFor env l (stored_maps start memory old) maps → MapsStandFor env l (stored_maps start memory new) maps
   maps_moved keep maps places has = record {
     count = has.count;
     each = λ i m e. let g = has.each i m e in (
       g.0,
       g.1,
       ⊎_elim
-          (λ b. let same : slice_index bind i ≡ k = eqb-true (slice_index bind i) k b in
-          subst (λ (j : ℕ). HasMap l start memory new j m g.0) (sym same) (map_moved l start memory old new k m g.0 places (λ p. keep old new k p rest.areas rest.live) rest.live (subst (λ (j : ℕ). HasMap l start memory old j m g.0) same g.2)))
-          (λ b. other_moved (slice_index bind i) m g.0 (eqb-false (slice_index bind i) k b) g.2)
-          (cases_Bool (eqb (slice_index bind i) k)),
+          (λ b. let same : slice_index env.bind i ≡ k = eqb-true (slice_index env.bind i) k b in
+          subst (λ (j : ℕ). HasMap l (stored_maps start memory new) j m g.0) (sym same) (map_moved l start memory old new k m g.0 places (λ p. keep old new k p rest.areas rest.live) rest.live (subst (λ (j : ℕ). HasMap l (stored_maps start memory old) j m g.0) same g.2)))
+          (λ b. other_moved (slice_index env.bind i) m g.0 (eqb-false (slice_index env.bind i) k b) g.2)
+          (cases_Bool (eqb (slice_index env.bind i) k)),
     );
     listed = has.listed;
     keys = has.keys;
@@ -74,11 +75,11 @@ module _ (l : Layout) (bind : List ℕ) (start : ℕ) (memory : List ℕ) (old n
   }
 
 -- the same map again
-pub maps_again : (l : Layout) (bind : List ℕ) (start : ℕ) (memory : List ℕ) (tenant : LiveMaps) (maps : ℕ → Option RunMap) (m : ℕ) (t : RunMap) → maps m ≡ Some t → MapsStandFor l bind start memory tenant maps → MapsStandFor l bind start memory tenant (set_at maps m (Some t))
-maps_again l bind start memory tenant maps m t is has = record {
+pub maps_again : (env : Environment) (l : Layout) (start : ℕ) (memory : List ℕ) (tenant : LiveMaps) (maps : ℕ → Option RunMap) (m : ℕ) (t : RunMap) → maps m ≡ Some t → MapsStandFor env l (stored_maps start memory tenant) maps → MapsStandFor env l (stored_maps start memory tenant) (set_at maps m (Some t))
+maps_again env l start memory tenant maps m t is has = record {
   count = has.count;
   each = λ i n e. let g = has.each i n e in
-      cond_both (n == m) (Some t) (maps n) (λ o. (u : RunMap) × (o ≡ Some u) × HasMap l start memory tenant (slice_index bind i) n u)
+      cond_both (n == m) (Some t) (maps n) (λ o. (u : RunMap) × (o ≡ Some u) × HasMap l (stored_maps start memory tenant) (slice_index env.bind i) n u)
       (λ b. (g.0, sym is ∙ ap maps (sym (eqb-true n m b)) ∙ g.1, g.2))
       (λ _. g);
   listed = has.listed;
@@ -88,16 +89,16 @@ maps_again l bind start memory tenant maps m t is has = record {
 }
 
 -- one map is another
-module _ (l : Layout) (bind : List ℕ) (start : ℕ) (memory : List ℕ) (old new : LiveMaps) (maps : ℕ → Option RunMap) (i m : ℕ) (t : RunMap) (has : MapsStandFor l bind start memory old maps) (named : slice_get l.maps i ≡ Some m)
-    (rest : OnlyKeysChange (slice_index bind i) old new) (own : HasMap l start memory new (slice_index bind i) m t) where
-  pub map_replaced : MapsStandFor l bind start memory new (set_at maps m (Some t))
+module _ (env : Environment) (l : Layout) (start : ℕ) (memory : List ℕ) (old new : LiveMaps) (maps : ℕ → Option RunMap) (i m : ℕ) (t : RunMap) (has : MapsStandFor env l (stored_maps start memory old) maps) (named : slice_get env.descriptors i ≡ Some m)
+    (rest : OnlyKeysChange (slice_index env.bind i) old new) (own : HasMap l (stored_maps start memory new) (slice_index env.bind i) m t) where
+  pub map_replaced : MapsStandFor env l (stored_maps start memory new) (set_at maps m (Some t))
   map_replaced = record {
     count = has.count;
     each = λ j n e. let g = has.each j n e in
-        cond_both (n == m) (Some t) (maps n) (λ o. (v : RunMap) × (o ≡ Some v) × HasMap l start memory new (slice_index bind j) n v)
+        cond_both (n == m) (Some t) (maps n) (λ o. (v : RunMap) × (o ≡ Some v) × HasMap l (stored_maps start memory new) (slice_index env.bind j) n v)
         (λ b. let same : m ≡ n = sym (eqb-true n m b) in let one : i ≡ j = has.names i j m named (e ∙ ap (λ (x : ℕ). Some x) (sym same)) in
-        (t, refl, subst (λ (x : ℕ). HasMap l start memory new (slice_index bind x) n t) one (subst (λ (x : ℕ). HasMap l start memory new (slice_index bind i) x t) same own)))
-        (λ b. (g.0, g.1, other_moved l bind start memory old new (slice_index bind i) rest (slice_index bind j) n g.0 (other_key l bind start memory old maps has i m j n named e (eqb-false n m b)) g.2));
+        (t, refl, subst (λ (x : ℕ). HasMap l (stored_maps start memory new) (slice_index env.bind x) n t) one (subst (λ (x : ℕ). HasMap l (stored_maps start memory new) (slice_index env.bind i) x t) same own)))
+        (λ b. (g.0, g.1, other_moved env l start memory old new (slice_index env.bind i) rest (slice_index env.bind j) n g.0 (other_key env l start memory old maps has i m j n named e (eqb-false n m b)) g.2));
     listed = has.listed;
     keys = has.keys;
     names = has.names;

@@ -15,29 +15,30 @@ use Rattle.tagged_model.specs.declared.value.Tagged.{Tagged}
 use Rattle.tagged_model.specs.declared.value.Tagged.TheVariants.{Pointer}
 use Rattle.tagged_model.specs.Cells.{Cell, and_then, cell_over}
 use Rattle.tagged_model.specs.State.{RunState, RunMap, set_at, with_cells, with_value, with_map, stack_written, value_written, object_written, output}
-use Rattle.arena.specs.Memory.{Memory, base, part_start, with_bytes}
+use Rattle.arena.specs.Memory.{base, part_start, with_bytes}
 use Rattle.arena.specs.Apart.{IsPart, WritesStayInside}
 use Rattle.bpf_maps.specs.declared.part.TheConstants.{PART}
 use Rattle.bpf_maps.specs.Live.{LiveMaps, LiveMap, live_at, live_or, shape_at, offset, offset_at, LiesInPart, IsLaid}
 use Rattle.bpf_helpers.specs.Layout.{Layout, IsWord, HasCell, HasStack, HasWords}
-use Rattle.bpf_helpers.specs.Stands.{stack_top, IsRoom, IsOnlyChanged, HasObject, HasMap, MapsStandFor, KeepsUnboundValues, Simulates}
-use Rattle.bpf_helpers.specs.Named.{part_place}
+use Rattle.bpf_helpers.specs.Stands.{stack_top, IsRoom, IsOnlyChanged, HasObject, HasMap, MapsStandFor, KeepsUnboundValues, Simulates, stored_maps}
+use Rattle.bpf_helpers.specs.Named.{place_named}
 use Rattle.bpf_helpers.specs.inside.Laws.{OutputsKeepSimulation}
 use Rattle.bpf_helpers.proofs.Many.{also_some, bytes_over}
 use Rattle.bpf_maps.specs.LiveLaws.{laid_inside}
 use Rattle.bpf_helpers.proofs.Inputs.{part_place_is, start_same, memory_long}
+use Rattle.bpf_helpers.specs.States.{Environment, FlatState, with_memory}
 
 -- ---- what is apart from what is written stays
 
-module _ (l : Layout) (memory new : List ℕ) (from : ℕ) (fits : from + length new ≤ length memory) where
+module _ (env : Environment) (l : Layout) (memory new : List ℕ) (from : ℕ) (fits : from + length new ≤ length memory) where
   abbrev IsApart : ℕ → ℕ → Type 0
   IsApart place n = (place + n ≤ from) ⊎ (from + length new ≤ place)
 
-  pub cell_kept : (at : ℕ) (c : Cell) → IsApart at 8 → HasCell l memory at c → HasCell l (written_at memory from new) at c
+  pub cell_kept : (at : ℕ) (c : Cell) → IsApart at 8 → HasCell env l memory at c → HasCell env l (written_at memory from new) at c
   cell_kept at c away has =
       record {
         present = λ j b few e. written_out memory new from (at + j) (omega arith) (apart j few away) ∙ has.present j b few e;
-        whole = λ v e. subst (λ (list : List ℕ). IsWord l v (number_of list)) (sym (bytes_stay memory new from at 8 fits away)) (has.whole v e);
+        whole = λ v e. subst (λ (list : List ℕ). IsWord env l v (number_of list)) (sym (bytes_stay memory new from at 8 fits away)) (has.whole v e);
       }
     where
       apart : (j : ℕ) → j < 8 → IsApart at 8 → (at + j < from) ⊎ (from + length new ≤ at + j)
@@ -52,7 +53,7 @@ module _ (l : Layout) (memory new : List ℕ) (from : ℕ) (fits : from + length
       apart (inr above) = inr (omega arith)
 
   pub object_kept : (start : ℕ) (tenant : LiveMaps) (key m number : ℕ) (value : List ℕ) (place : ℕ) → IsApart (start + offset_at tenant key place) (shape_at tenant key).value_size
-      → HasObject l start memory tenant key m number value place → HasObject l start (written_at memory from new) tenant key m number value place
+      → HasObject (stored_maps start memory tenant) key place (l.object_at m number) value → HasObject (stored_maps start (written_at memory from new) tenant) key place (l.object_at m number) value
   object_kept start tenant key m number value place away has =
       record {
         within = has.within;
@@ -76,12 +77,12 @@ module _ (tenant : LiveMaps) (laid : IsLaid tenant) where
 
 -- ---- maps
 
-module _ (l : Layout) (bind : List ℕ) (start : ℕ) (memory new : List ℕ) (tenant : LiveMaps) (maps : ℕ → Option RunMap) (has : MapsStandFor l bind start memory tenant maps) (long : start + PART ≤ length memory) where
+module _ (env : Environment) (l : Layout) (start : ℕ) (memory new : List ℕ) (tenant : LiveMaps) (maps : ℕ → Option RunMap) (has : MapsStandFor env l (stored_maps start memory tenant) maps) (long : start + PART ≤ length memory) where
   -- what is written lies in the front of the part
-  pub maps_behind : (q : ℕ) → q + length new ≤ 512 → MapsStandFor l bind start (written_at memory (start + q) new) tenant maps
+  pub maps_behind : (q : ℕ) → q + length new ≤ 512 → MapsStandFor env l (stored_maps start (written_at memory (start + q) new) tenant) maps
   maps_behind q low = record { count = has.count; each = each; listed = has.listed; keys = has.keys; names = has.names; laid = has.laid }
     where
-      one : (key m : ℕ) (t : RunMap) → HasMap l start memory tenant key m t → HasMap l start (written_at memory (start + q) new) tenant key m t
+      one : (key m : ℕ) (t : RunMap) → HasMap l (stored_maps start memory tenant) key m t → HasMap l (stored_maps start (written_at memory (start + q) new) tenant) key m t
       one key m t h = record {
         live = h.live;
         place = h.place;
@@ -92,23 +93,23 @@ module _ (l : Layout) (bind : List ℕ) (start : ℕ) (memory new : List ℕ) (t
             let o = h.objects number lt in
             let is = laid_inside tenant has.laid key (h.place number) h.live o.within in
             let within = is.within in let behind = is.behind in
-            object_kept l memory new (start + q) (omega arith) start tenant key m number (t.values number) (h.place number) (inr (omega arith)) o;
+            object_kept env l memory new (start + q) (omega arith) start tenant key m number (t.values number) (h.place number) (inr (omega arith)) o;
         apart = h.apart;
       }
 
-      each : (i m : ℕ) → slice_get l.maps i ≡ Some m → (t : RunMap) × (maps m ≡ Some t) × HasMap l start (written_at memory (start + q) new) tenant (slice_index bind i) m t
-      each i m e = let g = has.each i m e in (g.0, g.1, one (slice_index bind i) m g.0 g.2)
+      each : (i m : ℕ) → slice_get env.descriptors i ≡ Some m → (t : RunMap) × (maps m ≡ Some t) × HasMap l (stored_maps start (written_at memory (start + q) new) tenant) (slice_index env.bind i) m t
+      each i m e = let g = has.each i m e in (g.0, g.1, one (slice_index env.bind i) m g.0 g.2)
 
   -- it lies in an object
-  module _ (m number : ℕ) (t : RunMap) (is : maps m ≡ Some t) (i : ℕ) (at : slice_get l.maps i ≡ Some m) (h : HasMap l start memory tenant (slice_index bind i) m t) (lt : number < t.count) (y : ℕ) (room : y + length new ≤ (shape_at tenant (slice_index bind i)).value_size) where
+  module _ (m number : ℕ) (t : RunMap) (is : maps m ≡ Some t) (i : ℕ) (at : slice_get env.descriptors i ≡ Some m) (h : HasMap l (stored_maps start memory tenant) (slice_index env.bind i) m t) (lt : number < t.count) (y : ℕ) (room : y + length new ≤ (shape_at tenant (slice_index env.bind i)).value_size) where
     abbrev key : ℕ
-    key = slice_index bind i
+    key = slice_index env.bind i
 
     abbrev off : ℕ
-    off = offset_at tenant (slice_index bind i) (h.place number)
+    off = offset_at tenant (slice_index env.bind i) (h.place number)
 
     abbrev size : ℕ
-    size = (shape_at tenant (slice_index bind i)).value_size
+    size = (shape_at tenant (slice_index env.bind i)).value_size
 
     inside : LiesInPart off size
     inside = laid_inside tenant has.laid key (h.place number) h.live (h.objects number lt).within
@@ -119,7 +120,7 @@ module _ (l : Layout) (bind : List ℕ) (start : ℕ) (memory new : List ℕ) (t
     abbrev after : List ℕ
     after = written_at memory (start + (off + y)) new
 
-    value_after : HasObject l start after tenant key m number (written_at (t.values number) y new) (h.place number)
+    value_after : HasObject (stored_maps start after tenant) key (h.place number) (l.object_at m number) (written_at (t.values number) y new)
     value_after =
         let o = h.objects number lt in
         let within = inside.within in
@@ -132,67 +133,67 @@ module _ (l : Layout) (bind : List ℕ) (start : ℕ) (memory new : List ℕ) (t
         }
 
     -- another place
-    other_after : (other n k : ℕ) (value : List ℕ) (p : ℕ) → IsSome (live_at tenant other) → (other ≡ key → p ≢ h.place number) → HasObject l start memory tenant other n k value p → HasObject l start after tenant other n k value p
+    other_after : (other n k : ℕ) (value : List ℕ) (p : ℕ) → IsSome (live_at tenant other) → (other ≡ key → p ≢ h.place number) → HasObject (stored_maps start memory tenant) other p (l.object_at n k) value → HasObject (stored_maps start after tenant) other p (l.object_at n k) value
     other_after other n k value p live differ o =
         let q = laid_inside tenant has.laid other p live o.within in
         let within = q.within in
         let mine = inside.within in
-        object_kept l memory new (start + (off + y)) fits start tenant other n k value p
+        object_kept env l memory new (start + (off + y)) fits start tenant other n k value p
         (⊎_elim (λ below. inl (omega arith)) (λ above. inr (omega arith)) (laid_apart tenant has.laid other p key (h.place number) live h.live o.within (h.objects number lt).within differ)) o
 
-    own_after : HasMap l start after tenant key m (with_value t number (written_at (t.values number) y new))
+    own_after : HasMap l (stored_maps start after tenant) key m (with_value t number (written_at (t.values number) y new))
     own_after = record {
       live = h.live;
       place = h.place;
       table = h.table;
       owns = h.owns;
       counted = h.counted;
-      objects = λ k few. cond_both (k == number) (written_at (t.values number) y new) (t.values k) (λ v. HasObject l start after tenant key m k v (h.place k))
-          (λ e. let same : number ≡ k = sym (eqb-true k number e) in subst (λ x. HasObject l start after tenant key m x (written_at (t.values number) y new) (h.place x)) same value_after)
+      objects = λ k few. cond_both (k == number) (written_at (t.values number) y new) (t.values k) (λ v. HasObject (stored_maps start after tenant) key (h.place k) (l.object_at m k) v)
+          (λ e. let same : number ≡ k = sym (eqb-true k number e) in subst (λ x. HasObject (stored_maps start after tenant) key (h.place x) (l.object_at m x) (written_at (t.values number) y new)) same value_after)
           (λ e. other_after key m k (t.values k) (h.place k) h.live (λ _ same. eqb-false k number e (h.apart k number few lt same)) (h.objects k few));
       apart = h.apart;
     }
 
-    others_after : (j n : ℕ) (u : RunMap) → slice_get l.maps j ≡ Some n → n ≢ m → HasMap l start memory tenant (slice_index bind j) n u → HasMap l start after tenant (slice_index bind j) n u
+    others_after : (j n : ℕ) (u : RunMap) → slice_get env.descriptors j ≡ Some n → n ≢ m → HasMap l (stored_maps start memory tenant) (slice_index env.bind j) n u → HasMap l (stored_maps start after tenant) (slice_index env.bind j) n u
     others_after j n u e differ g = record {
       live = g.live;
       place = g.place;
       table = g.table;
       owns = g.owns;
       counted = g.counted;
-      objects = λ k few. other_after (slice_index bind j) n k (u.values k) (g.place k) g.live (λ same. absurd (other_key same)) (g.objects k few);
+      objects = λ k few. other_after (slice_index env.bind j) n k (u.values k) (g.place k) g.live (λ same. absurd (other_key same)) (g.objects k few);
       apart = g.apart;
     }
       where
-        other_key : slice_index bind j ≡ key → ⊥
+        other_key : slice_index env.bind j ≡ key → ⊥
         other_key same =
             let count = has.count in
             let j_in = within j n e in
             let i_in = within i m at in
             let one : j ≡ i = has.keys j i (omega arith) (omega arith) same in
-            differ (same_Some n m (sym e ∙ ap (λ (x : ℕ). slice_get l.maps x) one ∙ at))
+            differ (same_Some n m (sym e ∙ ap (λ (x : ℕ). slice_get env.descriptors x) one ∙ at))
           where
-            within : (x n : ℕ) → slice_get l.maps x ≡ Some n → x < length l.maps
-            within x n e = slice_get_within l.maps x n e
+            within : (x n : ℕ) → slice_get env.descriptors x ≡ Some n → x < length env.descriptors
+            within x n e = slice_get_within env.descriptors x n e
 
-    maps_over : MapsStandFor l bind start after tenant (set_at maps m (Some (with_value t number (written_at (t.values number) y new))))
+    maps_over : MapsStandFor env l (stored_maps start after tenant) (set_at maps m (Some (with_value t number (written_at (t.values number) y new))))
     maps_over = record { count = has.count; each = each; listed = has.listed; keys = has.keys; names = has.names; laid = has.laid }
       where
-        each : (j n : ℕ) → slice_get l.maps j ≡ Some n → (u : RunMap) × (set_at maps m (Some (with_value t number (written_at (t.values number) y new))) n ≡ Some u) × HasMap l start after tenant (slice_index bind j) n u
+        each : (j n : ℕ) → slice_get env.descriptors j ≡ Some n → (u : RunMap) × (set_at maps m (Some (with_value t number (written_at (t.values number) y new))) n ≡ Some u) × HasMap l (stored_maps start after tenant) (slice_index env.bind j) n u
         each j n e =
-            cond_both (n == m) (Some (with_value t number (written_at (t.values number) y new))) (maps n) (λ o. (u : RunMap) × (o ≡ Some u) × HasMap l start after tenant (slice_index bind j) n u)
+            cond_both (n == m) (Some (with_value t number (written_at (t.values number) y new))) (maps n) (λ o. (u : RunMap) × (o ≡ Some u) × HasMap l (stored_maps start after tenant) (slice_index env.bind j) n u)
             (λ b. let same : m ≡ n = sym (eqb-true n m b) in let one : i ≡ j = has.names i j m at (e ∙ ap (λ (x : ℕ). Some x) (sym same)) in (
               with_value t number (written_at (t.values number) y new),
               refl,
-              subst (λ (x : ℕ). HasMap l start after tenant (slice_index bind x) n (with_value t number (written_at (t.values number) y new))) one
-                  (subst (λ (x : ℕ). HasMap l start after tenant key x (with_value t number (written_at (t.values number) y new))) same own_after),
+              subst (λ (x : ℕ). HasMap l (stored_maps start after tenant) (slice_index env.bind x) n (with_value t number (written_at (t.values number) y new))) one
+                  (subst (λ (x : ℕ). HasMap l (stored_maps start after tenant) key x (with_value t number (written_at (t.values number) y new))) same own_after),
             ))
             (λ b. let g = has.each j n e in (g.0, g.1, others_after j n g.0 e (eqb-false n m b) g.2))
 
 -- ---- the maps that the run does not name
 
-module _ (bind : List ℕ) (start : ℕ) (old memory new : List ℕ) (tenant : LiveMaps) (laid : IsLaid tenant) (long : start + PART ≤ length memory) (has : KeepsUnboundValues bind start old memory tenant) where
-  pub others_behind : (q : ℕ) → q + length new ≤ 512 → KeepsUnboundValues bind start old (written_at memory (start + q) new) tenant
+module _ (bind : List ℕ) (start : ℕ) (old memory new : List ℕ) (tenant : LiveMaps) (laid : IsLaid tenant) (long : start + PART ≤ length memory) (has : KeepsUnboundValues bind old (stored_maps start memory tenant)) where
+  pub others_behind : (q : ℕ) → q + length new ≤ 512 → KeepsUnboundValues bind old (stored_maps start (written_at memory (start + q) new) tenant)
   others_behind q low key p away live lt =
       let is = laid_inside tenant laid key p live lt in
       let within = is.within in let behind = is.behind in
@@ -200,7 +201,7 @@ module _ (bind : List ℕ) (start : ℕ) (old memory new : List ℕ) (tenant : L
 
   -- a place of a map that it names is written
   pub others_over : (i at y : ℕ) → i < length bind → IsSome (live_at tenant (slice_index bind i)) → at < (shape_at tenant (slice_index bind i)).max_entries → y + length new ≤ (shape_at tenant (slice_index bind i)).value_size
-      → KeepsUnboundValues bind start old (written_at memory (start + (offset_at tenant (slice_index bind i) at + y)) new) tenant
+      → KeepsUnboundValues bind old (stored_maps start (written_at memory (start + (offset_at tenant (slice_index bind i) at + y)) new) tenant)
   others_over i at y within live lt room key p away there few =
       let is = laid_inside tenant laid key p there few in
       let mine = laid_inside tenant laid (slice_index bind i) at live lt in
@@ -210,7 +211,7 @@ module _ (bind : List ℕ) (start : ℕ) (old memory new : List ℕ) (tenant : L
       ∙ has key p away there few
 
 -- a call of one of its maps changes no other
-pub others_moved : (bind : List ℕ) (start : ℕ) (old memory : List ℕ) (tenant new : LiveMaps) (i : ℕ) → i < length bind → ((other : ℕ) → other ≢ slice_index bind i → live_at new other ≡ live_at tenant other) → KeepsUnboundValues bind start old memory tenant → KeepsUnboundValues bind start old memory new
+pub others_moved : (bind : List ℕ) (start : ℕ) (old memory : List ℕ) (tenant new : LiveMaps) (i : ℕ) → i < length bind → ((other : ℕ) → other ≢ slice_index bind i → live_at new other ≡ live_at tenant other) → KeepsUnboundValues bind old (stored_maps start memory tenant) → KeepsUnboundValues bind old (stored_maps start memory new)
 others_moved bind start old memory tenant new i within others has key p away =
     subst (λ (o : Option LiveMap). IsSome o → p < (live_or o).places.shape.max_entries → bytes_at memory (start + offset (live_or o) p) (live_or o).places.shape.value_size ≡ bytes_at old (start + offset (live_or o) p) (live_or o).places.shape.value_size)
     (sym (others key (λ same. away i within (sym same))))
@@ -218,119 +219,121 @@ others_moved bind start old memory tenant new i within others has key p away =
 
 -- ---- states
 
-module _ (writes : WritesStayInside) (l : Layout) (bind : List ℕ) (old : Memory) (t at : ℕ) (registers : List ℕ) (memory : Memory) (tenant : LiveMaps) (s : RunState) (room : IsRoom old t) (stands : Simulates l bind old t at registers memory tenant s) where
-  pub changed_after : (q : ℕ) (new : List ℕ) → q + length new ≤ PART → IsOnlyChanged old t (with_bytes memory (part_start old t + q) new)
+module _ (writes : WritesStayInside) (env : Environment) (l : Layout) (flat : FlatState) (s : RunState) (room : IsRoom env.memory env.tenant) (stands : Simulates env l flat s) where
+  pub changed_after : (q : ℕ) (new : List ℕ) → q + length new ≤ PART → IsOnlyChanged env.memory env.tenant (with_bytes flat.memory (part_start env.memory env.tenant + q) new)
   changed_after q new h =
       let large = room.room in
-      let start = start_same l bind old t at registers memory tenant s room stands in
+      let start = start_same env l flat s room stands in
       let part = stands.changed.part in
-      let all : memory.parts * memory.part ≡ old.parts * old.part = ap (λ (n : ℕ). n * memory.part) stands.changed.parts ∙ ap (λ (n : ℕ). old.parts * n) stands.changed.part in
+      let all : flat.memory.parts * flat.memory.part ≡ env.memory.parts * env.memory.part = ap (λ (n : ℕ). n * flat.memory.part) stands.changed.parts ∙ ap (λ (n : ℕ). env.memory.parts * n) stands.changed.part in
       let few = stands.changed.parts in
       let one = room.is_part.1 in
-      let long = memory_long l bind old t at registers memory tenant s room stands in
-      let is : IsPart memory t = (stands.changed.size ∙ room.is_part.0 ∙ sym all, omega arith) in
+      let long = memory_long env l flat s room stands in
+      let is : IsPart flat.memory env.tenant = (stands.changed.size ∙ room.is_part.0 ∙ sym all, omega arith) in
       record {
-        size = length-written_at memory.bytes new (part_start old t + q) (omega arith) ∙ stands.changed.size;
+        size = length-written_at flat.memory.bytes new (part_start env.memory env.tenant + q) (omega arith) ∙ stands.changed.size;
         parts = stands.changed.parts;
         part = stands.changed.part;
-        others = λ u differ. writes memory t u (part_start old t + q) new is (omega arith) (omega arith) differ ∙ stands.changed.others u differ;
+        others = λ u differ. writes flat.memory env.tenant u (part_start env.memory env.tenant + q) new is (omega arith) (omega arith) differ ∙ stands.changed.others u differ;
       }
 
   -- the place of what is written, and what stands then
   Written : ℕ → List ℕ → RunState → Type 0
-  Written w bs u = (q : ℕ) × (part_place (part_start memory t) memory.part (length bs) w ≡ Some q) × Simulates l bind old t at registers (with_bytes memory (part_start memory t + q) bs) tenant u
+  Written w bs u = (q : ℕ) × (place_named flat.memory env.tenant (length bs) w ≡ Some q) × Simulates env l (with_memory flat (with_bytes flat.memory (part_start flat.memory env.tenant + q) bs)) u
 
-  written : (w q : ℕ) (bs : List ℕ) (u : RunState) → w ≡ base + (part_start old t + q) → q + length bs ≤ PART → Simulates l bind old t at registers (with_bytes memory (part_start old t + q) bs) tenant u → Written w bs u
+  written : (w q : ℕ) (bs : List ℕ) (u : RunState) → w ≡ base + (part_start env.memory env.tenant + q) → q + length bs ≤ PART → Simulates env l (with_memory flat (with_bytes flat.memory (part_start env.memory env.tenant + q) bs)) u → Written w bs u
   unfolding Written
   written w q bs u e fits after =
       let part = stands.changed.part in let large = room.room in (
         q,
-        part_place_is (part_start memory t) memory.part (length bs) w q (e ∙ ap (λ (a : ℕ). base + (a + q)) (sym (start_same l bind old t at registers memory tenant s room stands))) (omega arith),
-        subst (λ (a : ℕ). Simulates l bind old t at registers (with_bytes memory (a + q) bs) tenant u) (sym (start_same l bind old t at registers memory tenant s room stands)) after,
+        part_place_is (part_start flat.memory env.tenant) flat.memory.part (length bs) w q (e ∙ ap (λ (a : ℕ). base + (a + q)) (sym (start_same env l flat s room stands))) (omega arith),
+        subst (λ (a : ℕ). Simulates env l (with_memory flat (with_bytes flat.memory (a + q) bs)) u) (sym (start_same env l flat s room stands)) after,
       )
 
   stack_output : (x : ℤ) (w : ℕ) (bs : List ℕ) (u : RunState) → pos w ≡ pos l.front +ℤ x → stack_written s x bs ≡ Some u → Written w bs u
   stack_output x w bs u h e =
-      let start = part_start old t in
+      let start = part_start env.memory env.tenant in
       let c = cond_some (is_in_stack x (length bs)) (with_cells s (λ i. cell_over i (s.cells i) (place x) bs)) u e in
       let is = in_stack (length bs) x c.0 in
       let value = is.0 in
       let within = is.1 in
       let front = stands.front in
-      let long = memory_long l bind old t at registers memory tenant s room stands in
-      let cells = bytes_over l memory.bytes start s u x bs stands.stack (omega arith) e in
+      let long = memory_long env l flat s room stands in
+      let cells = bytes_over env l flat.memory.bytes start s u x bs stands.stack (omega arith) e in
       written w (place x) bs u (omega (arith, ints)) (omega arith)
-      (subst (λ (v : RunState). HasStack l (written_at memory.bytes (start + place x) bs) start v.cells → Simulates l bind old t at registers (with_bytes memory (start + place x) bs) tenant v) c.1
+      (subst (λ (v : RunState). HasStack env l (written_at flat.memory.bytes (start + place x) bs) start v.cells → Simulates env l (with_memory flat (with_bytes flat.memory (start + place x) bs)) v) c.1
       (λ cells. record {
         slot = stands.slot;
         count = stands.count;
+        packet = stands.packet;
         changed = changed_after (place x) bs (omega arith);
         front = stands.front;
         values = stands.values;
         stack = cells;
         words = stands.words;
-        context = words_kept l memory.bytes bs (start + place x) (omega arith) (stack_top old t) s.words (inr (omega arith)) stands.context;
-        maps = maps_behind l bind start memory.bytes bs tenant s.maps stands.maps long (place x) within;
-        elsewhere = others_behind bind start old.bytes memory.bytes bs tenant stands.maps.laid long stands.elsewhere (place x) within;
+        context = words_kept env l flat.memory.bytes bs (start + place x) (omega arith) (stack_top env.memory env.tenant) s.words (inr (omega arith)) stands.context;
+        maps = maps_behind env l start flat.memory.bytes bs flat.maps s.maps stands.maps long (place x) within;
+        elsewhere = others_behind env.bind start env.memory.bytes flat.memory.bytes bs flat.maps stands.maps.laid long stands.elsewhere (place x) within;
         flag = stands.flag;
       }) cells)
 
   object_output : (m number : ℕ) (x : ℤ) (w : ℕ) (bs : List ℕ) (u : RunState) → pos w ≡ pos (l.object_at m number) +ℤ x → number < l.counts m → object_written s m number x bs ≡ Some u → Written w bs u
   object_output m number (negsuc y) w bs u h placed e =
-      let a = also_some (s.maps m) (λ t. and_then (value_written (t.values number) (negsuc y) bs) (λ value. Some (with_map s m (with_value t number value)))) u e in absurd (none-some u a.2)
+      let a = also_some (s.maps m) (λ map. and_then (value_written (map.values number) (negsuc y) bs) (λ value. Some (with_map s m (with_value map number value)))) u e in absurd (none-some u a.2)
   object_output m number (pos y) w bs u h placed e =
-      let start = part_start old t in
+      let start = part_start env.memory env.tenant in
       let listed = stands.maps.listed m number placed in
       let i = listed.0 in
       let g = stands.maps.each i m listed.1 in
-      let key = slice_index bind i in
-      let a = also_some (s.maps m) (λ t. and_then (value_written (t.values number) (pos y) bs) (λ value. Some (with_map s m (with_value t number value)))) u e in
+      let key = slice_index env.bind i in
+      let a = also_some (s.maps m) (λ map. and_then (value_written (map.values number) (pos y) bs) (λ value. Some (with_map s m (with_value map number value)))) u e in
       let same : a.0 ≡ g.0 = same_Some a.0 g.0 (sym a.1 ∙ g.1) in
-      let got : and_then (value_written (g.0.values number) (pos y) bs) (λ value. Some (with_map s m (with_value g.0 number value))) ≡ Some u = ap (λ (t : RunMap). and_then (value_written (t.values number) (pos y) bs) (λ value. Some (with_map s m (with_value t number value)))) (sym same) ∙ a.2 in
+      let got : and_then (value_written (g.0.values number) (pos y) bs) (λ value. Some (with_map s m (with_value g.0 number value))) ≡ Some u = ap (λ (map : RunMap). and_then (value_written (map.values number) (pos y) bs) (λ value. Some (with_map s m (with_value map number value)))) (sym same) ∙ a.2 in
       let b = also_some (value_written (g.0.values number) (pos y) bs) (λ value. Some (with_map s m (with_value g.0 number value))) u got in
       let c = cond_some (leb (y + length bs) (length (g.0.values number))) (written_at (g.0.values number) y bs) b.0 b.1 in
       let few : y + length bs ≤ length (g.0.values number) = leb-true (y + length bs) (length (g.0.values number)) c.0 in
       let counted = g.2.counted in
       let lt : number < g.0.count = omega arith in
       let o = g.2.objects number lt in
-      let off = offset_at tenant key (g.2.place number) in
-      let size = (shape_at tenant key).value_size in
-      let is : length (bytes_at memory.bytes (start + off) size) ≡ length (g.0.values number) = ap length o.bytes in
-      let least = length-take size (drop (start + off) memory.bytes) in
+      let off = offset_at flat.maps key (g.2.place number) in
+      let size = (shape_at flat.maps key).value_size in
+      let is : length (bytes_at flat.memory.bytes (start + off) size) ≡ length (g.0.values number) = ap length o.bytes in
+      let least = length-take size (drop (start + off) flat.memory.bytes) in
       let small : y + length bs ≤ size = omega arith in
-      let inside = laid_inside tenant stands.maps.laid key (g.2.place number) g.2.live o.within in
+      let inside = laid_inside flat.maps stands.maps.laid key (g.2.place number) g.2.live o.within in
       let within = inside.within in
       let behind = inside.behind in
       let address = o.address in
-      let long = memory_long l bind old t at registers memory tenant s room stands in
+      let long = memory_long env l flat s room stands in
       let now = with_map s m (with_value g.0 number (written_at (g.0.values number) y bs)) in
       let state : now ≡ u = ap (λ (v : List ℕ). with_map s m (with_value g.0 number v)) c.1 ∙ same_Some _ u b.2 in
       written w (off + y) bs u (omega (arith, ints)) (omega arith)
-      (subst (λ (v : RunState). Simulates l bind old t at registers (with_bytes memory (start + (off + y)) bs) tenant v) state
+      (subst (λ (v : RunState). Simulates env l (with_memory flat (with_bytes flat.memory (start + (off + y)) bs)) v) state
       (record {
         slot = stands.slot;
         count = stands.count;
+        packet = stands.packet;
         changed = changed_after (off + y) bs (omega arith);
         front = stands.front;
         values = stands.values;
-        stack = λ k few. cell_kept l memory.bytes bs (start + (off + y)) (omega arith) (start + 8 * k) (s.cells k) (inl (omega arith)) (stands.stack k few);
+        stack = λ k few. cell_kept env l flat.memory.bytes bs (start + (off + y)) (omega arith) (start + 8 * k) (s.cells k) (inl (omega arith)) (stands.stack k few);
         words = stands.words;
-        context = words_kept l memory.bytes bs (start + (off + y)) (omega arith) (stack_top old t) s.words (inl (omega arith)) stands.context;
-        maps = maps_over l bind start memory.bytes bs tenant s.maps stands.maps long m number g.0 g.1 i listed.1 g.2 lt y small;
-        elsewhere = let count = stands.maps.count in let fits = slice_get_within l.maps i m listed.1 in others_over bind start old.bytes memory.bytes bs tenant stands.maps.laid long stands.elsewhere i (g.2.place number) y (omega arith) g.2.live o.within small;
+        context = words_kept env l flat.memory.bytes bs (start + (off + y)) (omega arith) (stack_top env.memory env.tenant) s.words (inl (omega arith)) stands.context;
+        maps = maps_over env l start flat.memory.bytes bs flat.maps s.maps stands.maps long m number g.0 g.1 i listed.1 g.2 lt y small;
+        elsewhere = let count = stands.maps.count in let fits = slice_get_within env.descriptors i m listed.1 in others_over env.bind start env.memory.bytes flat.memory.bytes bs flat.maps stands.maps.laid long stands.elsewhere i (g.2.place number) y (omega arith) g.2.live o.within small;
         flag = stands.flag;
       }))
 
-  output_written : (p : Tagged) (w : ℕ) (bs : List ℕ) (u : RunState) → IsWord l p w → output s p bs ≡ Some u → Written w bs u
+  output_written : (p : Tagged) (w : ℕ) (bs : List ℕ) (u : RunState) → IsWord env l p w → output s p bs ≡ Some u → Written w bs u
   output_written (Pointer object.Stack x) w bs u h e = stack_output x w bs u h.0 e
   output_written (Pointer (object.Value m number) x) w bs u h e = object_output m number x w bs u h.0 h.2 e
   output_written p w bs u h e = absurd (none-some u e)
 
   pub object_overwritten : (m number : ℕ) (x : ℤ) (w : ℕ) (bs : List ℕ) (u : RunState) → pos w ≡ pos (l.object_at m number) +ℤ x → number < l.counts m → object_written s m number x bs ≡ Some u
-      → (q : ℕ) × (part_place (part_start memory t) memory.part (length bs) w ≡ Some q) × Simulates l bind old t at registers (with_bytes memory (part_start memory t + q) bs) tenant u
+      → (q : ℕ) × (place_named flat.memory env.tenant (length bs) w ≡ Some q) × Simulates env l (with_memory flat (with_bytes flat.memory (part_start flat.memory env.tenant + q) bs)) u
   unfolding Written
   object_overwritten m number x w bs u h placed e = object_output m number x w bs u h placed e
 
 pub outputs_keep_simulation : WritesStayInside → OutputsKeepSimulation
 unfolding Written
-outputs_keep_simulation writes l bind old t at registers memory tenant s u p w bs room stands h e = output_written writes l bind old t at registers memory tenant s room stands p w bs u h e
+outputs_keep_simulation writes env l flat s u p w bs room stands h e = output_written writes env l flat s room stands p w bs u h e

@@ -1,4 +1,4 @@
--- Bytes that are written through a part that is lent.
+-- Bytes that are written through a borrowed part.
 use Rattle.std.proofs.Common.{◌≡◌, ℕ, suc, ◌+◌, ◌-◌, ◌*◌, ◌<◌, ◌≤◌, List, ◌++◌, length, take, drop, ap, ◌∙◌, arith}
 use Rattle.std.proofs.lemmas.Nat.{mul-le}
 use Rattle.std.proofs.lemmas.List.{length-take, length-drop, drop-drop}
@@ -12,7 +12,7 @@ part_fits m t parts lt =
     let next : suc t * m.part ≡ t * m.part + m.part = omega arith in
     omega arith
 
--- what a lent part is when some of it was written
+-- a borrowed part after some of its bytes are written
 pub lent_written : WritesAreInParts → (m : Memory) (t at n : ℕ) (part new written : List ℕ) → part ≡ part_bytes m t → written ≡ new → length new ≡ n → size_of m ≡ m.parts * m.part → t < m.parts → at + n ≤ m.part
     → with_part m t (take at part ++ (written ++ drop (at + n - at) (drop at part))) ≡ with_bytes m (part_start m t + at) new
 lent_written law m t at n part new written is same count parts lt room =

@@ -22,11 +22,12 @@ use Rattle.bpf_maps.specs.Places.{PlaceTable, after_run}
 use Rattle.bpf_maps.specs.Live.{LiveMaps, live_at, places_at, shape_at, offset_at, value_in, map_in, SameAreas}
 use Rattle.bpf_maps.specs.Laws.{AreasKeepPlaces}
 use Rattle.bpf_helpers.specs.Layout.{Layout, IsWord}
-use Rattle.bpf_helpers.specs.Stands.{stack_top, IsRoom, HasMap, Simulates}
-use Rattle.bpf_helpers.specs.Runs.{AreReady, HasContext, first_registers, RunBeginsWith, RunsBegin, RunsEnd, OthersStay}
+use Rattle.bpf_helpers.specs.Stands.{stack_top, IsRoom, HasMap, Simulates, stored_maps}
+use Rattle.bpf_helpers.specs.Runs.{AreReady, HasContext, first_registers, RunsBegin, RunsEnd, OthersStay, first_state}
 use Rattle.bpf_maps.specs.LiveLaws.{laid_inside}
 use Rattle.bpf_helpers.proofs.Ends.{maps_begin, maps_end}
 use Rattle.bpf_helpers.proofs.Flags.{or_none}
+use Rattle.bpf_helpers.specs.States.{Environment, FlatState}
 
 -- ---- where a descriptor stands
 
@@ -70,151 +71,145 @@ module _ (old : Memory) (t : ℕ) (room : IsRoom old t) (memory : Memory) (size 
 
 -- ---- the beginning
 
-module _ (bind descriptors : List ℕ) (old : Memory) (t : ℕ) (memory : Memory) (tenant : LiveMaps) (maps : MapsByDescriptor) (words packet : List ℕ) (room : IsRoom old t) (context : HasContext old t words memory) (ready : AreReady tenant bind descriptors)
-    (given : (i m : ℕ) → slice_get descriptors i ≡ Some m → maps m ≡ Some (map_in (part_bytes old t) tenant (slice_index bind i))) where
+module _ (env : Environment) (memory : Memory) (maps : MapsByDescriptor) (words : List ℕ) (room : IsRoom env.memory env.tenant) (context : HasContext env.memory env.tenant words memory) (ready : AreReady env)
+    (given : (i m : ℕ) → slice_get env.descriptors i ≡ Some m → maps m ≡ Some (map_in (part_bytes env.memory env.tenant) env.maps (slice_index env.bind i))) where
   -- the objects of a map are those of its keys, in order
   count_at : Option ℕ → ℕ
   count_at None = 0
-  count_at (Some i) = length (places_at tenant (slice_index bind i)).entries
+  count_at (Some i) = length (places_at env.maps (slice_index env.bind i)).entries
 
   object_at : Option ℕ → ℕ → ℕ
   object_at None number = 0
-  object_at (Some i) number = base + (part_start old t + offset_at tenant (slice_index bind i) (slice_index (values_of (places_at tenant (slice_index bind i)).entries) number))
+  object_at (Some i) number = base + (part_start env.memory env.tenant + offset_at env.maps (slice_index env.bind i) (slice_index (values_of (places_at env.maps (slice_index env.bind i)).entries) number))
 
   layout : Layout
   layout = record {
-    front = base + stack_top old t;
-    object_at = λ m number. object_at (place_in descriptors m) number;
-    counts = λ m. count_at (place_in descriptors m);
-    maps = descriptors;
-    refused = tenant.refused;
+    front = base + stack_top env.memory env.tenant;
+    object_at = λ m number. object_at (place_in env.descriptors m) number;
+    counts = λ m. count_at (place_in env.descriptors m);
   }
 
   -- a value lies behind the context, and stays
-  value_stays : (k p : ℕ) → IsSome (live_at tenant k) → p < (shape_at tenant k).max_entries
-      → bytes_at memory.bytes (part_start old t + offset_at tenant k p) (shape_at tenant k).value_size ≡ bytes_at old.bytes (part_start old t + offset_at tenant k p) (shape_at tenant k).value_size
+  value_stays : (k p : ℕ) → IsSome (live_at env.maps k) → p < (shape_at env.maps k).max_entries
+      → bytes_at memory.bytes (part_start env.memory env.tenant + offset_at env.maps k p) (shape_at env.maps k).value_size ≡ bytes_at env.memory.bytes (part_start env.memory env.tenant + offset_at env.maps k p) (shape_at env.maps k).value_size
   value_stays k p live lt =
-      let is = laid_inside tenant ready.laid k p live lt in
+      let is = laid_inside env.maps ready.laid k p live lt in
       let behind = is.behind in
       let within = is.within in
-      let fits = part_within old t room.is_part in
+      let fits = part_within env.memory env.tenant room.is_part in
       let large = room.room in
-      context.behind (part_start old t + offset_at tenant k p) (shape_at tenant k).value_size (omega arith) (omega arith)
+      context.behind (part_start env.memory env.tenant + offset_at env.maps k p) (shape_at env.maps k).value_size (omega arith) (omega arith)
 
-  value_there : (k p : ℕ) → IsSome (live_at tenant k) → p < (shape_at tenant k).max_entries → bytes_at memory.bytes (part_start old t + offset_at tenant k p) (shape_at tenant k).value_size ≡ value_in (part_bytes old t) tenant k p
+  value_there : (k p : ℕ) → IsSome (live_at env.maps k) → p < (shape_at env.maps k).max_entries → bytes_at memory.bytes (part_start env.memory env.tenant + offset_at env.maps k p) (shape_at env.maps k).value_size ≡ value_in (part_bytes env.memory env.tenant) env.maps k p
   value_there k p live lt =
-      let within = (laid_inside tenant ready.laid k p live lt).within in
-      value_stays k p live lt ∙ sym (in_part old t room old refl refl (offset_at tenant k p) (shape_at tenant k).value_size (omega arith))
+      let within = (laid_inside env.maps ready.laid k p live lt).within in
+      value_stays k p live lt ∙ sym (in_part env.memory env.tenant room env.memory refl refl (offset_at env.maps k p) (shape_at env.maps k).value_size (omega arith))
 
-  index_within : (i m : ℕ) → slice_get descriptors i ≡ Some m → i < length bind
-  index_within i m e = let fits = slice_get_within descriptors i m e in let count = ready.count in omega arith
+  index_within : (i m : ℕ) → slice_get env.descriptors i ≡ Some m → i < length env.bind
+  index_within i m e = let fits = slice_get_within env.descriptors i m e in let count = ready.count in omega arith
 
   -- the place of a descriptor is the one that it has
-  place_is : (i m : ℕ) → slice_get descriptors i ≡ Some m → place_in descriptors m ≡ Some i
+  place_is : (i m : ℕ) → slice_get env.descriptors i ≡ Some m → place_in env.descriptors m ≡ Some i
   place_is i m e =
-      let r = has_place descriptors m i e in
-      let same : r.0 ≡ i = ready.names r.0 i m (place_is_there descriptors m r.0 r.1) e in
+      let r = has_place env.descriptors m i e in
+      let same : r.0 ≡ i = ready.names r.0 i m (place_is_there env.descriptors m r.0 r.1) e in
       r.1 ∙ ap (λ (x : ℕ). Some x) same
 
-  map_begins : (i m : ℕ) → slice_get descriptors i ≡ Some m → HasMap layout (part_start old t) memory.bytes tenant (slice_index bind i) m (first_map (map_in (part_bytes old t) tenant (slice_index bind i)))
+  map_begins : (i m : ℕ) → slice_get env.descriptors i ≡ Some m → HasMap layout (stored_maps (part_start env.memory env.tenant) memory.bytes env.maps) (slice_index env.bind i) m (first_map (map_in (part_bytes env.memory env.tenant) env.maps (slice_index env.bind i)))
   unfolding layout count_at object_at
   map_begins i m e =
       let lt = index_within i m e in
-      let k = slice_index bind i in
-      maps_begin layout (part_start old t) memory.bytes tenant k m (value_in (part_bytes old t) tenant k) (ready.live i lt) (ready.sound i lt) (ready.free i lt) (λ p few. value_there k p (ready.live i lt) few)
+      let k = slice_index env.bind i in
+      maps_begin layout (part_start env.memory env.tenant) memory.bytes env.maps k m (value_in (part_bytes env.memory env.tenant) env.maps k) (ready.live i lt) (ready.sound i lt) (ready.free i lt) (λ p few. value_there k p (ready.live i lt) few)
       (ap count_at (place_is i m e))
       (λ number few. ap (λ (o : Option ℕ). object_at o number) (place_is i m e))
 
-  listed : (m number : ℕ) → number < layout.counts m → (i : ℕ) × (slice_get descriptors i ≡ Some m)
+  listed : (m number : ℕ) → number < layout.counts m → (i : ℕ) × (slice_get env.descriptors i ≡ Some m)
   unfolding layout count_at
-  listed m number = by (place_in descriptors m) refl
+  listed m number = by (place_in env.descriptors m) refl
     where
-      by : (o : Option ℕ) → place_in descriptors m ≡ o → number < count_at o → (i : ℕ) × (slice_get descriptors i ≡ Some m)
+      by : (o : Option ℕ) → place_in env.descriptors m ≡ o → number < count_at o → (i : ℕ) × (slice_get env.descriptors i ≡ Some m)
       by None e lt = absurd (omega arith)
-      by (Some i) e lt = (i, place_is_there descriptors m i e)
+      by (Some i) e lt = (i, place_is_there env.descriptors m i e)
 
-  context_first : IsWord layout (Pointer object.Context (pos 0)) (base + stack_top old t)
+  context_first : IsWord env layout (Pointer object.Context (pos 0)) (base + stack_top env.memory env.tenant)
   unfolding layout
   context_first = (omega (arith, ints), refl, tt)
 
-  stack_first : IsWord layout (Pointer object.Stack (pos 0)) (base + stack_top old t)
+  stack_first : IsWord env layout (Pointer object.Stack (pos 0)) (base + stack_top env.memory env.tenant)
   unfolding layout
   stack_first = (omega (arith, ints), refl, tt)
 
-  first_words : (r : ℕ) (v : Tagged) → r < 11 → begins_with r ≡ Some v → IsWord layout v (slice_index (first_registers old t) r)
+  first_words : (r : ℕ) (v : Tagged) → r < 11 → begins_with r ≡ Some v → IsWord env layout v (slice_index (first_registers env.memory env.tenant) r)
   first_words r v lt e = context_word context_first stack_first (eqb r 1) refl e
     where
-      stack_word : IsWord layout (Pointer object.Stack (pos 0)) (base + stack_top old t) → (b : Bool) → eqb r 10 ≡ b → cond b (Some (Pointer object.Stack (pos 0))) None ≡ Some v → IsWord layout v (slice_index (first_registers old t) r)
-      stack_word h true k e = subst (λ (x : ℕ). IsWord layout v (slice_index (first_registers old t) x)) (sym (eqb-true r 10 k))
-          (subst (λ (x : Tagged). IsWord layout x (base + stack_top old t)) (same_Some (Pointer object.Stack (pos 0)) v e) h)
+      stack_word : IsWord env layout (Pointer object.Stack (pos 0)) (base + stack_top env.memory env.tenant) → (b : Bool) → eqb r 10 ≡ b → cond b (Some (Pointer object.Stack (pos 0))) None ≡ Some v → IsWord env layout v (slice_index (first_registers env.memory env.tenant) r)
+      stack_word h true k e = subst (λ (x : ℕ). IsWord env layout v (slice_index (first_registers env.memory env.tenant) x)) (sym (eqb-true r 10 k))
+          (subst (λ (x : Tagged). IsWord env layout x (base + stack_top env.memory env.tenant)) (same_Some (Pointer object.Stack (pos 0)) v e) h)
       stack_word h false k e = absurd (none-some v e)
 
-      context_word : IsWord layout (Pointer object.Context (pos 0)) (base + stack_top old t) → IsWord layout (Pointer object.Stack (pos 0)) (base + stack_top old t) → (b : Bool) → eqb r 1 ≡ b
-          → cond b (Some (Pointer object.Context (pos 0))) (cond (eqb r 10) (Some (Pointer object.Stack (pos 0))) None) ≡ Some v → IsWord layout v (slice_index (first_registers old t) r)
-      context_word h g true k e = subst (λ (x : ℕ). IsWord layout v (slice_index (first_registers old t) x)) (sym (eqb-true r 1 k))
-          (subst (λ (x : Tagged). IsWord layout x (base + stack_top old t)) (same_Some (Pointer object.Context (pos 0)) v e) h)
+      context_word : IsWord env layout (Pointer object.Context (pos 0)) (base + stack_top env.memory env.tenant) → IsWord env layout (Pointer object.Stack (pos 0)) (base + stack_top env.memory env.tenant) → (b : Bool) → eqb r 1 ≡ b
+          → cond b (Some (Pointer object.Context (pos 0))) (cond (eqb r 10) (Some (Pointer object.Stack (pos 0))) None) ≡ Some v → IsWord env layout v (slice_index (first_registers env.memory env.tenant) r)
+      context_word h g true k e = subst (λ (x : ℕ). IsWord env layout v (slice_index (first_registers env.memory env.tenant) x)) (sym (eqb-true r 1 k))
+          (subst (λ (x : Tagged). IsWord env layout x (base + stack_top env.memory env.tenant)) (same_Some (Pointer object.Context (pos 0)) v e) h)
       context_word h g false k e = stack_word g (eqb r 10) refl e
 
   not_whole : (b : ℕ → Option ℕ) (v : Tagged) → bytes b ≡ holds v → ⊥
   not_whole b v e = cc
 
-  begins : RunBeginsWith bind descriptors old t memory tenant (start_of_run maps words packet)
+  begins : Simulates env layout (first_state env memory) (start_of_run maps words env.packet)
   unfolding layout
   begins = record {
-    layout = layout;
-    maps_are = refl;
-    flag_is = refl;
-    stands = record {
-      slot = refl;
-      count = refl;
-      changed = context.changed;
-      front = refl;
-      values = first_words;
-      stack = λ i lt. record { present = λ j b few e. absurd (none-some b e); whole = λ v e. absurd (not_whole _ v e) };
-      words = context.count;
-      context = context.words_are;
-      maps = record {
-        count = ready.count;
-        each = λ i m e. (first_map (map_in (part_bytes old t) tenant (slice_index bind i)), ap (option_map first_map) (given i m e), map_begins i m e);
-        listed = listed;
-        keys = ready.keys;
-        names = ready.names;
-        laid = ready.laid;
-      };
-      elsewhere = λ key p away live lt. value_stays key p live lt;
-      flag = or_none tenant.refused;
+    slot = refl;
+    count = refl;
+    packet = refl;
+    changed = context.changed;
+    front = refl;
+    values = first_words;
+    stack = λ i lt. record { present = λ j b few e. absurd (none-some b e); whole = λ v e. absurd (not_whole _ v e) };
+    words = context.count;
+    context = context.words_are;
+    maps = record {
+      count = ready.count;
+      each = λ i m e. (first_map (map_in (part_bytes env.memory env.tenant) env.maps (slice_index env.bind i)), ap (option_map first_map) (given i m e), map_begins i m e);
+      listed = listed;
+      keys = ready.keys;
+      names = ready.names;
+      laid = ready.laid;
     };
+    elsewhere = λ key p away live lt. value_stays key p live lt;
+    flag = or_none env.maps.refused;
   }
 
 pub runs_begin : RunsBegin
-runs_begin bind descriptors old t memory tenant maps words packet room context ready given = begins bind descriptors old t memory tenant maps words packet room context ready given
+runs_begin env memory maps words room context ready given = (layout env memory maps words room context ready given, begins env memory maps words room context ready given)
 
 -- ---- the end
 
-module _ (l : Layout) (bind : List ℕ) (old : Memory) (t at : ℕ) (registers : List ℕ) (memory : Memory) (tenant : LiveMaps) (s : RunState) (room : IsRoom old t) (stands : Simulates l bind old t at registers memory tenant s) where
-  map_ends : AreasKeepPlaces → (new : LiveMaps) (i m : ℕ) → slice_get l.maps i ≡ Some m → IsSome (live_at new (slice_index bind i)) → places_at new (slice_index bind i) ≡ after_run (places_at tenant (slice_index bind i)) → SameAreas tenant new
-      → option_map last_map (s.maps m) ≡ Some (map_in (part_bytes memory t) new (slice_index bind i))
+module _ (env : Environment) (l : Layout) (flat : FlatState) (s : RunState) (room : IsRoom env.memory env.tenant) (stands : Simulates env l flat s) where
+  map_ends : AreasKeepPlaces → (new : LiveMaps) (i m : ℕ) → slice_get env.descriptors i ≡ Some m → IsSome (live_at new (slice_index env.bind i)) → places_at new (slice_index env.bind i) ≡ after_run (places_at flat.maps (slice_index env.bind i)) → SameAreas flat.maps new
+      → option_map last_map (s.maps m) ≡ Some (map_in (part_bytes flat.memory env.tenant) new (slice_index env.bind i))
   map_ends keep new i m named live ended areas =
       let g = stands.maps.each i m named in
-      let k = slice_index bind i in
-      let shape : shape_at new k ≡ shape_at tenant k = ap (λ (x : PlaceTable). x.shape) ended in
+      let k = slice_index env.bind i in
+      let shape : shape_at new k ≡ shape_at flat.maps k = ap (λ (x : PlaceTable). x.shape) ended in
       ap (option_map last_map) g.1
-      ∙ ap (λ x. Some x) (sym (maps_end l (part_start old t) memory.bytes tenant new k m g.0 (value_in (part_bytes memory t) new k) g.2 ended
+      ∙ ap (λ x. Some x) (sym (maps_end l (part_start env.memory env.tenant) flat.memory.bytes flat.maps new k m g.0 (value_in (part_bytes flat.memory env.tenant) new k) g.2 ended
       (λ p lt.
-      let within = (laid_inside tenant stands.maps.laid k p g.2.live lt).within in
-      ap (λ (x : MapShape). bytes_at (part_bytes memory t) (offset_at new k p) x.value_size) shape
-      ∙ ap (λ (x : ℕ). bytes_at (part_bytes memory t) x (shape_at tenant k).value_size) (keep tenant new k p areas live)
-      ∙ in_part old t room memory stands.changed.size stands.changed.part (offset_at tenant k p) (shape_at tenant k).value_size (omega arith))))
+      let within = (laid_inside flat.maps stands.maps.laid k p g.2.live lt).within in
+      ap (λ (x : MapShape). bytes_at (part_bytes flat.memory env.tenant) (offset_at new k p) x.value_size) shape
+      ∙ ap (λ (x : ℕ). bytes_at (part_bytes flat.memory env.tenant) x (shape_at flat.maps k).value_size) (keep flat.maps new k p areas live)
+      ∙ in_part env.memory env.tenant room flat.memory stands.changed.size stands.changed.part (offset_at flat.maps k p) (shape_at flat.maps k).value_size (omega arith))))
 
-  other_stays : (key p : ℕ) → ((i : ℕ) → i < length bind → slice_index bind i ≡ key → ⊥) → IsSome (live_at tenant key) → p < (shape_at tenant key).max_entries → value_in (part_bytes memory t) tenant key p ≡ value_in (part_bytes old t) tenant key p
+  other_stays : (key p : ℕ) → ((i : ℕ) → i < length env.bind → slice_index env.bind i ≡ key → ⊥) → IsSome (live_at flat.maps key) → p < (shape_at flat.maps key).max_entries → value_in (part_bytes flat.memory env.tenant) flat.maps key p ≡ value_in (part_bytes env.memory env.tenant) flat.maps key p
   other_stays key p away live lt =
-      let within = (laid_inside tenant stands.maps.laid key p live lt).within in
-      in_part old t room memory stands.changed.size stands.changed.part (offset_at tenant key p) (shape_at tenant key).value_size (omega arith)
+      let within = (laid_inside flat.maps stands.maps.laid key p live lt).within in
+      in_part env.memory env.tenant room flat.memory stands.changed.size stands.changed.part (offset_at flat.maps key p) (shape_at flat.maps key).value_size (omega arith)
       ∙ stands.elsewhere key p away live lt
-      ∙ sym (in_part old t room old refl refl (offset_at tenant key p) (shape_at tenant key).value_size (omega arith))
+      ∙ sym (in_part env.memory env.tenant room env.memory refl refl (offset_at flat.maps key p) (shape_at flat.maps key).value_size (omega arith))
 
 pub runs_end : AreasKeepPlaces → RunsEnd
-runs_end keep l bind old t at registers memory tenant s new i m room stands named live ended areas = map_ends l bind old t at registers memory tenant s room stands keep new i m named live ended areas
+runs_end keep env l flat s new i m room stands named live ended areas = map_ends env l flat s room stands keep new i m named live ended areas
 
 pub others_stay : OthersStay
-others_stay l bind old t at registers memory tenant s key p room stands away live lt = other_stays l bind old t at registers memory tenant s room stands key p away live lt
+others_stay env l flat s key p room stands away live lt = other_stays env l flat s room stands key p away live lt

@@ -19,12 +19,12 @@ use Rattle.tagged_model.specs.Helpers.{put, with_object, with_reply, negative, e
 use Rattle.tagged_model.specs.StateLaws.{found_owned}
 use Rattle.arena.specs.Memory.{Memory as Bytes, base, part_start, with_bytes}
 use Rattle.bpf_maps.specs.Places.{table_of, IsFree, with_place, Claims}
-use Rattle.bpf_maps.specs.Live.{LiveMaps, live_at, places_at, shape_at, offset_at, is_memory}
+use Rattle.bpf_maps.specs.Live.{live_at, places_at, shape_at, offset_at, is_memory}
 use Rattle.bpf_helpers.specs.inside.Below.{LawsBelow}
 use Rattle.bpf_helpers.specs.Layout.{Layout, IsWord}
-use Rattle.bpf_helpers.specs.Stands.{stack_top, IsRoom, HasMap, MapsStandFor, Simulates}
+use Rattle.bpf_helpers.specs.Stands.{stack_top, IsRoom, HasMap, MapsStandFor, Simulates, stored_maps}
 use Rattle.bpf_maps.specs.declared.part.TheConstants.{PART}
-use Rattle.bpf_helpers.specs.Named.{part_place}
+use Rattle.bpf_helpers.specs.Named.{part_place, NamedPair}
 use Rattle.bpf_helpers.specs.inside.Flat.{Updates, claim_word, with_claimed}
 use Rattle.bpf_maps.specs.LiveLaws.{laid_inside}
 use Rattle.bpf_helpers.proofs.Inputs.{part_place_is, memory_long, start_same}
@@ -36,17 +36,22 @@ use Rattle.bpf_helpers.proofs.Flags.{or_once_more}
 use Rattle.bpf_helpers.proofs.Moved.{other_key, other_moved, maps_moved, maps_again}
 use Rattle.bpf_helpers.proofs.Wider.{extends_itself, extended, extends, word_more, cell_more, map_extended}
 use Rattle.bpf_helpers.proofs.Added.{map_with_new}
+use Rattle.bpf_helpers.specs.States.{CallAnswer, Environment, FlatState, site_in, with_held, with_memory}
 
 written_whole : (old new : List ℕ) → length old ≡ length new → written_at old 0 new ≡ new
 written_whole old new e = ap (λ (x : List ℕ). new ++ x) (drop_all (0 + length new) old (omega arith)) ∙ append-nil new
 
-module _ (below : LawsBelow) (l : Layout) (bind : List ℕ) (old : Bytes) (t at : ℕ) (registers : List ℕ) (memory : Bytes) (tenant : LiveMaps) (s : RunState) (i m : ℕ) (map : RunMap) (key value : List ℕ) (flags word : ℕ) (after : Bytes) (new : LiveMaps)
-    (room : IsRoom old t) (stands : Simulates l bind old t at registers memory tenant s) (named : slice_get l.maps i ≡ Some m) (is : s.maps m ≡ Some map) (size : length value ≡ map.table.shape.value_size) (u : Updates memory t tenant (slice_index bind i) key value flags word after new) where
-  abbrev k : ℕ
-  k = slice_index bind i
+module _ (below : LawsBelow) (env : Environment) (l : Layout) (flat : FlatState) (s : RunState) (i m : ℕ) (map : RunMap) (key value : List ℕ) (flags : ℕ) (reply : CallAnswer)
+    (room : IsRoom env.memory env.tenant) (stands : Simulates env l flat s) (named : slice_get env.descriptors i ≡ Some m) (is : s.maps m ≡ Some map) (size : length value ≡ map.table.shape.value_size)
+    (u : Updates (site_in env flat) (record { map = slice_index env.bind i; key = key; value = value }) flags reply) where
+  abbrev pair : NamedPair
+  pair = record { map = slice_index env.bind i; key = key; value = value }
 
-  index_within : i < length bind
-  index_within = let count = stands.maps.count in let fits = slice_get_within l.maps i m named in omega arith
+  abbrev k : ℕ
+  k = slice_index env.bind i
+
+  index_within : i < length env.bind
+  index_within = let count = stands.maps.count in let fits = slice_get_within env.descriptors i m named in omega arith
 
   -- what is to be shown of a verdict
   record Done (v : Verdict ℕ) : Type 0 where
@@ -54,43 +59,44 @@ module _ (below : LawsBelow) (l : Layout) (bind : List ℕ) (old : Bytes) (t at 
     only : refused ≡ true → v ≡ New
     layout : Layout
     more : Extends l layout
-    answer : word ≡ (put refused map key value v).answer
-    standing : Simulates layout bind old t at registers after new (with_reply s m (put refused map key value v))
+    answer : reply.word ≡ (put refused map key value v).answer
+    standing : Simulates env layout (with_held flat reply.memory reply.maps) (with_reply s m (put refused map key value v))
 
-  has : HasMap l (part_start old t) memory.bytes tenant k m map
+  has : HasMap l (stored_maps (part_start env.memory env.tenant) flat.memory.bytes flat.maps) k m map
   has =
       let g = stands.maps.each i m named in
-      subst (HasMap l (part_start old t) memory.bytes tenant k m) (same_Some g.0 map (sym g.1 ∙ is)) g.2
+      subst (HasMap l (stored_maps (part_start env.memory env.tenant) flat.memory.bytes flat.maps) k m) (same_Some g.0 map (sym g.1 ∙ is)) g.2
 
-  value_size_is : (shape_at tenant k).value_size ≡ length value
+  value_size_is : (shape_at flat.maps k).value_size ≡ length value
   value_size_is = ap (λ (x : Table ℕ). x.shape.value_size) has.table ∙ sym size
 
   -- whether memory was refused to the live maps, where it was, or was not, to this update
-  flag_after : (answer : Result ℕ MapFault) (refused : Bool) → u.answer ≡ answer → is_memory answer ≡ refused → new.refused ≡ (l.refused || (s.refused || refused))
+  flag_after : (answer : Result ℕ MapFault) (refused : Bool) → u.claim ≡ answer → is_memory answer ≡ refused → reply.maps.refused ≡ (env.maps.refused || (s.refused || refused))
   flag_after answer refused told memory_is =
-      u.flag ∙ ap (λ a. tenant.refused || is_memory a) told ∙ ap (λ b. tenant.refused || b) memory_is ∙ ap (λ b. b || refused) stands.flag ∙ or_once_more l.refused s.refused refused
+      u.flag ∙ ap (λ a. flat.maps.refused || is_memory a) told ∙ ap (λ b. flat.maps.refused || b) memory_is ∙ ap (λ b. b || refused) stands.flag ∙ or_once_more env.maps.refused s.refused refused
 
   -- nothing has changed but the flag
-  unchanged : (x : RunState) (refused : Bool) → x ≡ with_refusal (with_map s m map) refused → new.refused ≡ (l.refused || (s.refused || refused)) → places_at new k ≡ places_at tenant k → after ≡ memory → Simulates l bind old t at registers after new x
+  unchanged : (x : RunState) (refused : Bool) → x ≡ with_refusal (with_map s m map) refused → reply.maps.refused ≡ (env.maps.refused || (s.refused || refused)) → places_at reply.maps k ≡ places_at flat.maps k → reply.memory ≡ flat.memory → Simulates env l (with_held flat reply.memory reply.maps) x
   unchanged x refused e flag places same =
-      subst (λ (y : RunState). Simulates l bind old t at registers after new y) (sym e)
-      (subst (λ (n : Bytes). Simulates l bind old t at registers n new (with_refusal (with_map s m map) refused)) (sym same)
+      subst (λ (y : RunState). Simulates env l (with_held flat reply.memory reply.maps) y) (sym e)
+      (subst (λ (n : Bytes). Simulates env l (with_held flat n reply.maps) (with_refusal (with_map s m map) refused)) (sym same)
       (record {
         slot = stands.slot;
         count = stands.count;
+        packet = stands.packet;
         changed = stands.changed;
         front = stands.front;
         values = stands.values;
         stack = stands.stack;
         words = stands.words;
         context = stands.context;
-        maps = maps_again l bind (part_start old t) memory.bytes new s.maps m map is
-            (maps_moved l bind (part_start old t) memory.bytes tenant new k u.rest below.areas s.maps places stands.maps);
-        elsewhere = others_moved bind (part_start old t) old.bytes memory.bytes tenant new i index_within u.rest.others stands.elsewhere;
+        maps = maps_again env l (part_start env.memory env.tenant) flat.memory.bytes reply.maps s.maps m map is
+            (maps_moved env l (part_start env.memory env.tenant) flat.memory.bytes flat.maps reply.maps k u.rest below.areas s.maps places stands.maps);
+        elsewhere = others_moved env.bind (part_start env.memory env.tenant) env.memory.bytes flat.memory.bytes flat.maps reply.maps i index_within u.rest.others stands.elsewhere;
         flag = flag;
       }))
 
-  refused_stands : (fault : MapFault) (refused : Bool) (v : Verdict ℕ) → (refused ≡ true → v ≡ New) → is_memory (Err fault) ≡ refused → u.answer ≡ Err fault → places_at new k ≡ places_at tenant k → (put refused map key value v).answer ≡ negative (errno fault) → (put refused map key value v).map ≡ map → (put refused map key value v).refused ≡ refused → Done v
+  refused_stands : (fault : MapFault) (refused : Bool) (v : Verdict ℕ) → (refused ≡ true → v ≡ New) → is_memory (Err fault) ≡ refused → u.claim ≡ Err fault → places_at reply.maps k ≡ places_at flat.maps k → (put refused map key value v).answer ≡ negative (errno fault) → (put refused map key value v).map ≡ map → (put refused map key value v).refused ≡ refused → Done v
   refused_stands fault refused v only memory_is told places answer map_is flag_is = record {
     refused = refused;
     only = only;
@@ -98,141 +104,142 @@ module _ (below : LawsBelow) (l : Layout) (bind : List ℕ) (old : Bytes) (t at 
     more = extends_itself l;
     answer = u.word_is ∙ ap claim_word told ∙ sym answer;
     standing = unchanged (with_reply s m (put refused map key value v)) refused (ap (λ x. with_refusal (with_map s m x) (put refused map key value v).refused) map_is ∙ ap (with_refusal (with_map s m map)) flag_is)
-        (flag_after (Err fault) refused told memory_is) places (u.memory_is ∙ ap (with_claimed memory t tenant k value) told);
+        (flag_after (Err fault) refused told memory_is) places (u.memory_is ∙ ap (with_claimed (site_in env flat) pair) told);
   }
 
-  moved : (x : RunState) (n : Bytes) (p : ℕ) → u.answer ≡ Ok p → x.refused ≡ s.refused → places_at new k ≡ places_at tenant k → Simulates l bind old t at registers n tenant x → Simulates l bind old t at registers n new (with_refusal x false)
+  moved : (x : RunState) (n : Bytes) (p : ℕ) → u.claim ≡ Ok p → x.refused ≡ s.refused → places_at reply.maps k ≡ places_at flat.maps k → Simulates env l (with_memory flat n) x → Simulates env l (with_held flat n reply.maps) (with_refusal x false)
   moved x n p told same places st = record {
     slot = st.slot;
     count = st.count;
+    packet = st.packet;
     changed = st.changed;
     front = st.front;
     values = st.values;
     stack = st.stack;
     words = st.words;
     context = st.context;
-    maps = maps_moved l bind (part_start old t) n.bytes tenant new k u.rest below.areas x.maps places st.maps;
-    elsewhere = others_moved bind (part_start old t) old.bytes n.bytes tenant new i index_within u.rest.others st.elsewhere;
-    flag = flag_after (Ok p) false told refl ∙ ap (λ b. l.refused || (b || false)) (sym same);
+    maps = maps_moved env l (part_start env.memory env.tenant) n.bytes flat.maps reply.maps k u.rest below.areas x.maps places st.maps;
+    elsewhere = others_moved env.bind (part_start env.memory env.tenant) env.memory.bytes n.bytes flat.maps reply.maps i index_within u.rest.others st.elsewhere;
+    flag = flag_after (Ok p) false told refl ∙ ap (λ b. env.maps.refused || (b || false)) (sym same);
   }
 
-  long_memory : part_start old t + PART ≤ length memory.bytes
-  long_memory = memory_long l bind old t at registers memory tenant s room stands
+  long_memory : part_start env.memory env.tenant + PART ≤ length flat.memory.bytes
+  long_memory = memory_long env l flat s room stands
 
-  begins : part_start memory t ≡ part_start old t
-  begins = start_same l bind old t at registers memory tenant s room stands
+  begins : part_start flat.memory env.tenant ≡ part_start env.memory env.tenant
+  begins = start_same env l flat s room stands
 
   -- ---- a present key
 
-  present_stands : (number : ℕ) → u.answer ≡ Ok (has.place number) → places_at new k ≡ places_at tenant k → number < map.count → Done (Present number)
+  present_stands : (number : ℕ) → u.claim ≡ Ok (has.place number) → places_at reply.maps k ≡ places_at flat.maps k → number < map.count → Done (Present number)
   present_stands number told places lt =
-      let start = part_start old t in
+      let start = part_start env.memory env.tenant in
       let o = has.objects number lt in
-      let off = offset_at tenant k (has.place number) in
+      let off = offset_at flat.maps k (has.place number) in
       let v = map.values number in
-      let inside = laid_inside tenant stands.maps.laid k (has.place number) has.live o.within in
+      let inside = laid_inside flat.maps stands.maps.laid k (has.place number) has.live o.within in
       let within = inside.within in
       let large = long_memory in
       let sized = value_size_is in
-      let is_long : length (bytes_at memory.bytes (start + off) (shape_at tenant k).value_size) ≡ length v = ap length o.bytes in
-      let whole : length v ≡ length value = omega (arith, length-take (shape_at tenant k).value_size (drop (start + off) memory.bytes), length-drop (start + off) memory.bytes) in
+      let is_long : length (bytes_at flat.memory.bytes (start + off) (shape_at flat.maps k).value_size) ≡ length v = ap length o.bytes in
+      let whole : length v ≡ length value = omega (arith, length-take (shape_at flat.maps k).value_size (drop (start + off) flat.memory.bytes), length-drop (start + off) flat.memory.bytes) in
       let now = written_whole v value whole in
       let w = l.object_at m number in
       let counted = has.counted in
-      let word_is : IsWord l (Pointer (object.Value m number) (pos 0)) w = (omega (arith, ints), refl, omega arith) in
+      let word_is : IsWord env l (Pointer (object.Value m number) (pos 0)) w = (omega (arith, ints), refl, omega arith) in
       let fits : 0 + length value ≤ length v = omega arith in
       let writes_value : value_written v (pos 0) value ≡ Some value = cond-true (leb (0 + length value) (length v)) (Some (written_at v 0 value)) None (le-leb (0 + length value) (length v) fits) ∙ ap (λ (x : List ℕ). Some x) now in
       let out : output s (Pointer (object.Value m number) (pos 0)) value ≡ Some (with_map s m (with_value map number value)) =
-      ap (λ o. and_then o (λ t. and_then (value_written (t.values number) (pos 0) value) (λ x. Some (with_map s m (with_value t number x))))) is
+      ap (λ o. and_then o (λ map. and_then (value_written (map.values number) (pos 0) value) (λ x. Some (with_map s m (with_value map number x))))) is
       ∙ ap (λ o. and_then o (λ x. Some (with_map s m (with_value map number x)))) writes_value in
-      let r = outputs_keep_simulation below.writes l bind old t at registers memory tenant s (with_map s m (with_value map number value)) (Pointer (object.Value m number) (pos 0)) w value room stands word_is out in
+      let r = outputs_keep_simulation below.writes env l flat s (with_map s m (with_value map number value)) (Pointer (object.Value m number) (pos 0)) w value room stands word_is out in
       let address = o.address in
       let begin = begins in
       let part = stands.changed.part in
       let large_part = room.room in
-      let at_off : part_place (part_start memory t) memory.part (length value) w ≡ Some off = part_place_is (part_start memory t) memory.part (length value) w off (omega arith) (omega arith) in
+      let at_off : part_place (part_start flat.memory env.tenant) flat.memory.part (length value) w ≡ Some off = part_place_is (part_start flat.memory env.tenant) flat.memory.part (length value) w off (omega arith) (omega arith) in
       let same : r.0 ≡ off = same_Some r.0 off (sym r.1 ∙ at_off) in
-      let memory_is : after ≡ with_bytes memory (part_start memory t + off) value = u.memory_is ∙ ap (with_claimed memory t tenant k value) told in
+      let memory_is : reply.memory ≡ with_bytes flat.memory (part_start flat.memory env.tenant + off) value = u.memory_is ∙ ap (with_claimed (site_in env flat) pair) told in
       record {
         refused = false;
         only = λ e. absurd (false≢true e);
         layout = l;
         more = extends_itself l;
         answer = u.word_is ∙ ap claim_word told;
-        standing = subst (λ (n : Bytes). Simulates l bind old t at registers n new (with_refusal (with_map s m (with_value map number value)) false)) (sym memory_is)
-            (moved (with_map s m (with_value map number value)) (with_bytes memory (part_start memory t + off) value) (has.place number) told refl places
-            (subst (λ (q : ℕ). Simulates l bind old t at registers (with_bytes memory (part_start memory t + q) value) tenant (with_map s m (with_value map number value))) same r.2));
+        standing = subst (λ (n : Bytes). Simulates env l (with_held flat n reply.maps) (with_refusal (with_map s m (with_value map number value)) false)) (sym memory_is)
+            (moved (with_map s m (with_value map number value)) (with_bytes flat.memory (part_start flat.memory env.tenant + off) value) (has.place number) told refl places
+            (subst (λ (q : ℕ). Simulates env l (with_memory flat (with_bytes flat.memory (part_start flat.memory env.tenant + q) value)) (with_map s m (with_value map number value))) same r.2));
       }
 
   -- ---- a new key
 
-  module _ (p : ℕ) (told : u.answer ≡ Ok p) (free : IsFree (places_at tenant k) p) (places : places_at new k ≡ with_place (places_at tenant k) key p) where
+  module _ (p : ℕ) (told : u.claim ≡ Ok p) (free : IsFree (places_at flat.maps k) p) (places : places_at reply.maps k ≡ with_place (places_at flat.maps k) key p) where
     abbrev begin : ℕ
-    begin = part_start old t
+    begin = part_start env.memory env.tenant
 
     abbrev off : ℕ
-    off = offset_at tenant (slice_index bind i) p
+    off = offset_at flat.maps (slice_index env.bind i) p
 
     abbrev bytes : List ℕ
-    bytes = written_at memory.bytes (part_start old t + offset_at tenant (slice_index bind i) p) value
+    bytes = written_at flat.memory.bytes (part_start env.memory env.tenant + offset_at flat.maps (slice_index env.bind i) p) value
 
     abbrev wider : Layout
-    wider = extended l m (base + (part_start old t + offset_at tenant (slice_index bind i) p))
+    wider = extended l m (base + (part_start env.memory env.tenant + offset_at flat.maps (slice_index env.bind i) p))
 
     within : off + length value ≤ PART
-    within = let inside = (laid_inside tenant stands.maps.laid k p has.live free.within).within in let sized = value_size_is in omega arith
+    within = let inside = (laid_inside flat.maps stands.maps.laid k p has.live free.within).within in let sized = value_size_is in omega arith
 
     behind : 576 ≤ off
-    behind = (laid_inside tenant stands.maps.laid k p has.live free.within).behind
+    behind = (laid_inside flat.maps stands.maps.laid k p has.live free.within).behind
 
-    room_there : begin + off + length value ≤ length memory.bytes
+    room_there : begin + off + length value ≤ length flat.memory.bytes
     room_there = let a = within in let b = long_memory in omega arith
 
     -- another place of any map
-    place_kept : (j q : ℕ) → IsSome (live_at tenant j) → q < (shape_at tenant j).max_entries → (j ≡ k → q ≢ p)
-        → bytes_at bytes (begin + offset_at tenant j q) (shape_at tenant j).value_size ≡ bytes_at memory.bytes (begin + offset_at tenant j q) (shape_at tenant j).value_size
+    place_kept : (j q : ℕ) → IsSome (live_at flat.maps j) → q < (shape_at flat.maps j).max_entries → (j ≡ k → q ≢ p)
+        → bytes_at bytes (begin + offset_at flat.maps j q) (shape_at flat.maps j).value_size ≡ bytes_at flat.memory.bytes (begin + offset_at flat.maps j q) (shape_at flat.maps j).value_size
     place_kept j q live lt differ =
         let a = room_there in
-        let b = (laid_inside tenant stands.maps.laid j q live lt).within in
+        let b = (laid_inside flat.maps stands.maps.laid j q live lt).within in
         let large = long_memory in
         let sized = value_size_is in
-        bytes_stay memory.bytes value (begin + off) (begin + offset_at tenant j q) (shape_at tenant j).value_size (omega arith)
-        (⊎_elim (λ below. inl (omega arith)) (λ above. inr (omega arith)) (laid_apart tenant stands.maps.laid j q k p live has.live lt free.within differ))
+        bytes_stay flat.memory.bytes value (begin + off) (begin + offset_at flat.maps j q) (shape_at flat.maps j).value_size (omega arith)
+        (⊎_elim (λ below. inl (omega arith)) (λ above. inr (omega arith)) (laid_apart flat.maps stands.maps.laid j q k p live has.live lt free.within differ))
 
-    value_there : bytes_at bytes (begin + off) (shape_at tenant k).value_size ≡ value
-    value_there = let a = room_there in ap (bytes_at bytes (begin + off)) value_size_is ∙ bytes_written memory.bytes value (begin + off) (omega arith)
+    value_there : bytes_at bytes (begin + off) (shape_at flat.maps k).value_size ≡ value
+    value_there = let a = room_there in ap (bytes_at bytes (begin + off)) value_size_is ∙ bytes_written flat.memory.bytes value (begin + off) (omega arith)
 
-    own : HasMap wider begin bytes new k m (with_object map key value)
-    own = map_with_new l begin memory.bytes bytes tenant new k m map key value p has free places u.rest.live (λ q. below.areas tenant new k q u.rest.areas u.rest.live) (λ q lt differ. place_kept k q has.live lt (λ _. differ)) value_there below.along
+    own : HasMap wider (stored_maps begin bytes reply.maps) k m (with_object map key value)
+    own = map_with_new l begin flat.memory.bytes bytes flat.maps reply.maps k m map key value p has free places u.rest.live (λ q. below.areas flat.maps reply.maps k q u.rest.areas u.rest.live) (λ q lt differ. place_kept k q has.live lt (λ _. differ)) value_there below.along
 
-    other : (j n : ℕ) (v : RunMap) → slice_get l.maps j ≡ Some n → n ≢ m → HasMap l begin memory.bytes tenant (slice_index bind j) n v → HasMap wider begin bytes new (slice_index bind j) n v
+    other : (j n : ℕ) (v : RunMap) → slice_get env.descriptors j ≡ Some n → n ≢ m → HasMap l (stored_maps begin flat.memory.bytes flat.maps) (slice_index env.bind j) n v → HasMap wider (stored_maps begin bytes reply.maps) (slice_index env.bind j) n v
     other j n v e differ h =
-        let key_differs = other_key l bind begin memory.bytes tenant s.maps stands.maps i m j n named e differ in
-        map_extended l begin bytes new m (base + (begin + off)) (slice_index bind j) n v differ
-        (other_moved l bind begin bytes tenant new k u.rest (slice_index bind j) n v key_differs
+        let key_differs = other_key env l begin flat.memory.bytes flat.maps s.maps stands.maps i m j n named e differ in
+        map_extended l begin bytes reply.maps m (base + (begin + off)) (slice_index env.bind j) n v differ
+        (other_moved env l begin bytes flat.maps reply.maps k u.rest (slice_index env.bind j) n v key_differs
         (record {
           live = h.live;
           place = h.place;
           table = h.table;
           owns = h.owns;
           counted = h.counted;
-          objects = λ number lt. let o = h.objects number lt in record { within = o.within; in_use = o.in_use; address = o.address; bytes = place_kept (slice_index bind j) (h.place number) h.live o.within (λ same. absurd (key_differs same)) ∙ o.bytes };
+          objects = λ number lt. let o = h.objects number lt in record { within = o.within; in_use = o.in_use; address = o.address; bytes = place_kept (slice_index env.bind j) (h.place number) h.live o.within (λ same. absurd (key_differs same)) ∙ o.bytes };
           apart = h.apart;
         }))
 
-    maps_after : MapsStandFor wider bind begin bytes new (set_at s.maps m (Some (with_object map key value)))
+    maps_after : MapsStandFor env wider (stored_maps begin bytes reply.maps) (set_at s.maps m (Some (with_object map key value)))
     maps_after = record {
       count = stands.maps.count;
       each = λ j n e. let g = stands.maps.each j n e in
-          cond_both (n == m) (Some (with_object map key value)) (s.maps n) (λ o. (v : RunMap) × (o ≡ Some v) × HasMap wider begin bytes new (slice_index bind j) n v)
+          cond_both (n == m) (Some (with_object map key value)) (s.maps n) (λ o. (v : RunMap) × (o ≡ Some v) × HasMap wider (stored_maps begin bytes reply.maps) (slice_index env.bind j) n v)
           (λ b. let same : m ≡ n = sym (eqb-true n m b) in let one : i ≡ j = stands.maps.names i j m named (e ∙ ap (λ (x : ℕ). Some x) (sym same)) in (
             with_object map key value,
             refl,
-            subst (λ (x : ℕ). HasMap wider begin bytes new (slice_index bind x) n (with_object map key value)) one (subst (λ (x : ℕ). HasMap wider begin bytes new k x (with_object map key value)) same own),
+            subst (λ (x : ℕ). HasMap wider (stored_maps begin bytes reply.maps) (slice_index env.bind x) n (with_object map key value)) one (subst (λ (x : ℕ). HasMap wider (stored_maps begin bytes reply.maps) k x (with_object map key value)) same own),
           ))
           (λ b. (g.0, g.1, other j n g.0 e (eqb-false n m b) g.2));
       listed = λ n number.
-          cond_both (n == m) (l.counts m + 1) (l.counts n) (λ c. number < c → (j : ℕ) × (slice_get l.maps j ≡ Some n))
+          cond_both (n == m) (l.counts m + 1) (l.counts n) (λ c. number < c → (j : ℕ) × (slice_get env.descriptors j ≡ Some n))
           (λ b _. (i, named ∙ ap (λ (x : ℕ). Some x) (sym (eqb-true n m b))))
           (λ _ lt. stands.maps.listed n number lt);
       keys = stands.maps.keys;
@@ -244,24 +251,25 @@ module _ (below : LawsBelow) (l : Layout) (bind : List ℕ) (old : Bytes) (t at 
     new_stands =
         let more = extends l m (base + (begin + off)) in
         let a = room_there in let b = within in let c = behind in let d = long_memory in
-        let memory_is : after ≡ with_bytes memory (begin + off) value = u.memory_is ∙ ap (with_claimed memory t tenant k value) told ∙ ap (λ (x : ℕ). with_bytes memory (x + off) value) begins in
+        let memory_is : reply.memory ≡ with_bytes flat.memory (begin + off) value = u.memory_is ∙ ap (with_claimed (site_in env flat) pair) told ∙ ap (λ (x : ℕ). with_bytes flat.memory (x + off) value) begins in
         record {
           refused = false;
           only = λ e. absurd (false≢true e);
           layout = wider;
           more = more;
           answer = u.word_is ∙ ap claim_word told;
-          standing = subst (λ (n : Bytes). Simulates wider bind old t at registers n new (with_refusal (with_map s m (with_object map key value)) false)) (sym memory_is) (record {
+          standing = subst (λ (n : Bytes). Simulates env wider (with_held flat n reply.maps) (with_refusal (with_map s m (with_object map key value)) false)) (sym memory_is) (record {
             slot = stands.slot;
             count = stands.count;
-            changed = changed_after below.writes l bind old t at registers memory tenant s room stands off value b;
+            packet = stands.packet;
+            changed = changed_after below.writes env l flat s room stands off value b;
             front = stands.front;
-            values = λ r v lt e. word_more l wider more v (slice_index registers r) (stands.values r v lt e);
-            stack = λ x lt. cell_more l wider more bytes (begin + 8 * x) (s.cells x) (cell_kept l memory.bytes value (begin + off) (omega arith) (begin + 8 * x) (s.cells x) (inl (omega arith)) (stands.stack x lt));
+            values = λ r v lt e. word_more l wider more env v (slice_index flat.registers r) (stands.values r v lt e);
+            stack = λ x lt. cell_more l wider more env bytes (begin + 8 * x) (s.cells x) (cell_kept env l flat.memory.bytes value (begin + off) (omega arith) (begin + 8 * x) (s.cells x) (inl (omega arith)) (stands.stack x lt));
             words = stands.words;
-            context = words_kept l memory.bytes value (begin + off) (omega arith) (stack_top old t) s.words (inl (omega arith)) stands.context;
+            context = words_kept env l flat.memory.bytes value (begin + off) (omega arith) (stack_top env.memory env.tenant) s.words (inl (omega arith)) stands.context;
             maps = maps_after;
-            elsewhere = others_moved bind (part_start old t) old.bytes bytes tenant new i index_within u.rest.others
+            elsewhere = others_moved env.bind (part_start env.memory env.tenant) env.memory.bytes bytes flat.maps reply.maps i index_within u.rest.others
                 (λ other q away live lt. place_kept other q live lt (λ same. absurd (away i index_within (sym same))) ∙ stands.elsewhere other q away live lt);
             flag = flag_after (Ok p) false told refl;
           });
@@ -269,7 +277,7 @@ module _ (below : LawsBelow) (l : Layout) (bind : List ℕ) (old : Bytes) (t at 
 
   -- ---- by the verdict
 
-  new_done : (answer : Result ℕ MapFault) → u.answer ≡ answer → Claims New key (places_at tenant k) answer (places_at new k) → Done New
+  new_done : (answer : Result ℕ MapFault) → u.claim ≡ answer → Claims New key (places_at flat.maps k) answer (places_at reply.maps k) → Done New
   new_done (Ok p) e c = new_stands p e c.0 c.1
   new_done (Err Memory) e c = refused_stands Memory true New (λ _. refl) refl e c refl refl refl
   new_done (Err NoEntry) e c = absurd c
@@ -278,17 +286,17 @@ module _ (below : LawsBelow) (l : Layout) (bind : List ℕ) (old : Bytes) (t at 
   new_done (Err Invalid) e c = absurd c
   new_done (Err NoSpace) e c = absurd c
 
-  done : (v : Verdict ℕ) → verdict map.table key flags ≡ v → Claims (verdict_with has.place v) key (places_at tenant k) u.answer (places_at new k) → Done v
+  done : (v : Verdict ℕ) → verdict map.table key flags ≡ v → Claims (verdict_with has.place v) key (places_at flat.maps k) u.claim (places_at reply.maps k) → Done v
   done (Refused fault) e c = refused_stands fault false (Refused fault) (λ f. absurd (false≢true f)) (never_memory map.table key flags fault e) c.0 c.1 refl refl refl
   done (Present number) e c = present_stands number c.0 c.1 (found_owned map.count key map.table.entries number has.owns (present_found map.table key flags number e))
-  done New e c = new_done u.answer refl c
+  done New e c = new_done u.claim refl c
 
-  update_stands : UpdateKeepsSimulation l bind old t at registers s m map key value flags word after new
+  update_stands : UpdateKeepsSimulation env l flat s (record { given = record { descriptor = m; map = map }; key = key; value = value; flags = flags }) reply
   update_stands =
-      let same : verdict (table_of (places_at tenant k)) key flags ≡ verdict_with has.place (verdict map.table key flags) = ap (λ (x : Table ℕ). verdict x key flags) has.table ∙ below.along.verdict has.place map.table key flags in
-      let d = done (verdict map.table key flags) refl (subst (λ v. Claims v key (places_at tenant k) u.answer (places_at new k)) same u.claimed) in
-      record { refused = d.refused; only = d.only; layout = d.layout; extends = d.more; answer = d.answer; stands = d.standing }
+      let same : verdict (table_of (places_at flat.maps k)) key flags ≡ verdict_with has.place (verdict map.table key flags) = ap (λ (x : Table ℕ). verdict x key flags) has.table ∙ below.along.verdict has.place map.table key flags in
+      let d = done (verdict map.table key flags) refl (subst (λ v. Claims v key (places_at flat.maps k) u.claim (places_at reply.maps k)) same u.claimed) in
+      record { refused = d.refused; only = d.only; layout = d.layout; extends = d.more; answer_is = d.answer; stands = d.standing }
 
 pub updates_keep_simulation : LawsBelow → UpdatesKeepSimulation
-updates_keep_simulation below l bind old t at registers memory tenant s i m map key value flags word after new room stands named is size u =
-    update_stands below l bind old t at registers memory tenant s i m map key value flags word after new room stands named is size u
+updates_keep_simulation below env l flat s i asked reply room stands named is size u =
+    update_stands below env l flat s i asked.given.descriptor asked.given.map asked.key asked.value asked.flags reply room stands named is size u

@@ -9,11 +9,12 @@ use Rattle.tagged_model.specs.Cells.{Cell}
 use Rattle.tagged_model.specs.State.{RunMap, set_at}
 use Rattle.bpf_maps.specs.Live.{LiveMaps}
 use Rattle.bpf_helpers.specs.Layout.{Layout, address, HasAddress, IsWord, HasCell}
-use Rattle.bpf_helpers.specs.Stands.{HasMap}
+use Rattle.bpf_helpers.specs.Stands.{HasMap, stored_maps}
 use Rattle.bpf_helpers.specs.Calls.{Extends}
+use Rattle.bpf_helpers.specs.States.{Environment}
 
 pub extends_itself : (l : Layout) → Extends l l
-extends_itself l = record { front = refl; maps = refl; refused = refl; more = λ k. omega arith; same = λ k number lt. refl }
+extends_itself l = record { front = refl; more = λ k. omega arith; same = λ k number lt. refl }
 
 module _ (l m : Layout) (e : Extends l m) where
   placed_more : (o : Object) → HasAddress l o → (HasAddress m o) × (address m o ≡ address l o)
@@ -21,13 +22,13 @@ module _ (l m : Layout) (e : Extends l m) where
   placed_more object.Context h = (tt, e.front)
   placed_more (object.Value k number) h = (let more = e.more k in omega arith, e.same k number h)
 
-  pub word_more : (v : Tagged) (w : ℕ) → IsWord l v w → IsWord m v w
-  word_more (Scalar n) w h = h
-  word_more (Map k) w h = (h.0, ap (λ (ms : List ℕ). slice_get ms (w - 1)) e.maps ∙ h.1)
-  word_more (Pointer o x) w h = let p = placed_more o h.2 in (subst (λ (a : ℕ). pos w ≡ pos a +ℤ x) (sym p.1) h.0, h.1, p.0)
+  pub word_more : (env : Environment) (v : Tagged) (w : ℕ) → IsWord env l v w → IsWord env m v w
+  word_more env (Scalar n) w h = h
+  word_more env (Map k) w h = h
+  word_more env (Pointer o x) w h = let p = placed_more o h.2 in (subst (λ (a : ℕ). pos w ≡ pos a +ℤ x) (sym p.1) h.0, h.1, p.0)
 
-  pub cell_more : (memory : List ℕ) (place : ℕ) (c : Cell) → HasCell l memory place c → HasCell m memory place c
-  cell_more memory place c h = record { present = h.present; whole = λ v k. word_more v _ (h.whole v k) }
+  pub cell_more : (env : Environment) (memory : List ℕ) (place : ℕ) (c : Cell) → HasCell env l memory place c → HasCell env m memory place c
+  cell_more env memory place c h = record { present = h.present; whole = λ v k. word_more env v _ (h.whole v k) }
 
 -- object `l.counts m` of map m is at this address
 abbrev pub extended : Layout → ℕ → ℕ → Layout
@@ -35,8 +36,6 @@ extended l m a = record {
   front = l.front;
   object_at = λ k number. if (k == m) && (number == l.counts m) then a else l.object_at k number;
   counts = set_at l.counts m (l.counts m + 1);
-  maps = l.maps;
-  refused = l.refused;
 }
 
 module _ (l : Layout) (m a : ℕ) where
@@ -55,14 +54,12 @@ module _ (l : Layout) (m a : ℕ) where
   pub extends : Extends l (extended l m a)
   extends = record {
     front = refl;
-    maps = refl;
-    refused = refl;
     more = extended_counts;
     same = λ k number lt. extended_same k number (λ e f. let same = ap l.counts e in omega arith);
   }
 
 -- a map of which nothing is written, in a layout with more
-pub map_extended : (l : Layout) (start : ℕ) (memory : List ℕ) (tenant : LiveMaps) (m a key n : ℕ) (u : RunMap) → n ≢ m → HasMap l start memory tenant key n u → HasMap (extended l m a) start memory tenant key n u
+pub map_extended : (l : Layout) (start : ℕ) (memory : List ℕ) (tenant : LiveMaps) (m a key n : ℕ) (u : RunMap) → n ≢ m → HasMap l (stored_maps start memory tenant) key n u → HasMap (extended l m a) (stored_maps start memory tenant) key n u
 map_extended l start memory tenant m a key n u differ h = record {
   live = h.live;
   place = h.place;

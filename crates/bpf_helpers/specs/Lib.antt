@@ -1,3 +1,5 @@
+pub mod States
+pub mod Parts
 pub mod Layout
 pub mod Stands
 pub mod Named

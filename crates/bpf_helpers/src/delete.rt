@@ -1,44 +1,44 @@
-//! A delete of a key, on words and bytes.
+//! The deletion of a key, on words and bytes.
 
 ghost use Rattle.std.specs.Prelude.{◌≡◌, ◌<◌};
-ghost use Rattle.arena.specs.Ranges.{AddsInside};
-ghost use Rattle.bpf_maps.specs.declared.part.TheConstants.{PART};
 ghost use Rattle.bpf_helpers.specs.Calls.{AreLive};
-ghost use Rattle.bpf_helpers.specs.inside.Flat.{DeletesBy};
+ghost use Rattle.bpf_helpers.specs.Named.{key_named};
+ghost use Rattle.bpf_helpers.specs.States.{site_of};
+ghost use Rattle.bpf_helpers.specs.Parts.{IsPartOf, AsksInside};
+ghost use Rattle.bpf_helpers.specs.inside.Flat.{DeletesNamed};
 
+use crate::caller::Caller;
 use crate::look_up::{asked_place, bound};
 use crate::update::refusal;
 use arena::{Arena, Trace};
 use bpf_maps::{MapKey, Maps, laws};
 use tagged_model::MapFault;
 
-/// A delete that is asked for by words, which name the map and the address of the key: helper 3. Where they name none the
-/// answer is that of a wrong argument, and nothing changes.
+/// bpf_map_delete_elem (3): deletes a key. `map` names the map, and `key` is the address of the key. If one of them names nothing,
+/// it returns EINVAL, negated, and nothing changes.
 pub(crate) fn delete(
     map: u64,
     key: u64,
-    bind: &[MapKey],
-    tenant: usize,
+    caller: Caller<'_>,
     arena: &Arena,
     maps: &mut Maps,
     trace: &mut Trace,
 ) -> u64
-    requires tenant { tenant < arena.now.parts }
-    requires part { arena.now.part ≡ PART }
-    requires live { AreLive maps.old bind.now }
-    ensures deleted { DeletesBy arena.now tenant maps.old bind.now map key result maps.new }
-    ensures inside { AddsInside arena.now tenant trace.old.ranges trace.new.ranges }
-    ensures steps { trace.new.steps ≡ trace.old.steps }
+    requires part { IsPartOf caller.tenant arena.now }
+    requires live { AreLive maps.old caller.bind.now }
+    ensures deleted { DeletesNamed maps.old
+        (key_named (site_of caller.entry arena.now maps.old) map key) result maps.new }
+    ensures asks { AsksInside arena.now caller.entry.tenant trace.old trace.new }
 {
     laws::sizes_fit_in_parts();
-    let Some(map) = bound(bind, map) else {
+    let Some(map) = bound(caller.bind, map) else {
         return refusal(MapFault::Invalid);
     };
     let size = maps.shape(map).key_size as usize;
-    let Some(at) = asked_place(arena, tenant, size, key, trace) else {
+    let Some(at) = asked_place(arena, caller.tenant, size, key, trace) else {
         return refusal(MapFault::Invalid);
     };
-    let part = arena.part(tenant);
+    let part = arena.part(caller.tenant);
     match maps.remove(map, &part[at..at + size]) {
         Ok(()) => 0,
         Err(fault) => refusal(fault),

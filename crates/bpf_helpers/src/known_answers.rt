@@ -1,10 +1,10 @@
-//! Answers that were worked out by hand. Each follows from the contracts alone.
+//! Known answers, worked out by hand and proved from the contracts alone.
 
 use crate::output::OUTSIDE;
 use crate::update::refusal;
 use tagged_model::MapFault;
 
-/// A refusal is the negative error of bpf(2) in 64 bits, two's complement.
+/// A refusal is the negated error of bpf(2) in 64 bits, two's complement.
 fn refusals_as_words() {
     let no_entry = refusal(MapFault::NoEntry);
     prove!(no_entry == 0xffff_ffff_ffff_fffe);

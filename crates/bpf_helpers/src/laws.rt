@@ -1,11 +1,11 @@
-//! Laws of the words and bytes that stand for a state. Each is the contract of a function that does nothing.
+//! Laws of the words and bytes that represent a state. Each law is the contract of a function that does nothing.
 
 ghost use Rattle.bpf_helpers.specs.Accesses.{LoadsGiveWords, StoresKeepSimulation, PointersAreLow};
 ghost use Rattle.bpf_helpers.specs.Runs.{RunsBegin, RunsEnd, OthersStay};
 ghost use Rattle.bpf_helpers.specs.inside.Below.{LawsBelow};
 ghost use Rattle.bpf_helpers.specs.inside.Laws.{ReturnsKeepSimulation};
 
-/// The laws of the memory and of maps that the laws of calls rest on.
+/// The laws of the memory and of maps on which the laws of calls depend.
 pub(crate) fn call_premises()
     ensures { LawsBelow }
 {
@@ -15,43 +15,42 @@ pub(crate) fn call_premises()
     bpf_maps::laws::deletes_keep_places();
 }
 
-/// Where the machine loads a value, the bytes at the address of the load are a word that stands for it, and lie in the part.
+/// If the machine loads a value, the bytes at the address of the load are a word that represents it, and lie in the part.
 pub fn loads_give_words()
     ensures { LoadsGiveWords }
 {}
 
-/// Where the machine stores a value, its word at the address of the store, which lies in the part, leaves words and bytes that
-/// stand for the state after it.
+/// If the machine stores a value, its word, stored at the same address, which lies in the part, leaves words and bytes that
+/// represent the state after the store.
 pub fn stores_keep_simulation()
     ensures { StoresKeepSimulation }
 {
     arena::laws::writes_stay_inside();
 }
 
-/// The address of an object is at least 2^32, and at most 2^28 more.
+/// The address of an object is at least 2^32, and at most 2^32 + 2^28.
 pub fn pointers_are_low()
     ensures { PointersAreLow }
 {}
 
-/// With what a call gives in register 0, the words stand for the state after the call.
+/// With the result of a call in register 0, the words represent the state after the call.
 pub(crate) fn returns_keep_simulation()
     ensures { ReturnsKeepSimulation }
 {}
 
-/// Where a run begins, with its context in the part, words, bytes and live maps stand for the state in which the machine
-/// begins.
+/// At the start of a run, with its context in the part, words, bytes and live maps represent the machine's initial state.
 pub fn runs_begin()
     ensures { RunsBegin }
 {}
 
-/// Where a run ends, each of its maps has the pairs that the machine leaves.
+/// At the end of a run, each of its maps has the same pairs as after the machine's run.
 pub fn runs_end()
     ensures { RunsEnd }
 {
     bpf_maps::laws::areas_keep_places();
 }
 
-/// The values of maps that a run does not name have the bytes that they had.
+/// The values of maps that are not bound to a run have the same bytes after it.
 pub fn others_stay()
     ensures { OthersStay }
 {}

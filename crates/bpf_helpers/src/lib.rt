@@ -1,6 +1,7 @@
-//! The functions that a program may call, on words and bytes.
+//! The helpers, on words and bytes.
 #![tactic(auto)]
 
+mod caller;
 mod calls;
 mod delete;
 mod known_answers;
@@ -9,4 +10,5 @@ mod look_up;
 mod output;
 mod update;
 
+pub use caller::Caller;
 pub use calls::call;

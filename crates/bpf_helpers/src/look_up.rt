@@ -1,17 +1,19 @@
 //! The look-up of a key, on words and bytes.
 
 ghost use Rattle.std.specs.Prelude.{◌≡◌, ℕ, ◌+◌, ◌-◌, ◌<◌, ◌≤◌, length, slice_index, unwrap_or, IfSome, IsSome};
-ghost use Rattle.arena.specs.Ranges.{IsInside, AddsInside};
+ghost use Rattle.arena.specs.Ranges.{IsInside};
 ghost use Rattle.bpf_maps.specs.declared.part.TheConstants.{PART};
-ghost use Rattle.bpf_maps.specs.Live.{live_at};
 ghost use Rattle.bpf_helpers.specs.Named.{bound_map, place_named};
 ghost use Rattle.bpf_helpers.specs.Calls.{AreLive};
+ghost use Rattle.bpf_helpers.specs.States.{site_of};
+ghost use Rattle.bpf_helpers.specs.Parts.{IsPartOf, AsksInside};
 ghost use Rattle.bpf_helpers.specs.inside.Flat.{flat_look_up};
 
+use crate::caller::Caller;
 use arena::{Arena, Trace};
 use bpf_maps::{MapKey, Maps, PART, laws};
 
-/// The map that a word names.
+/// The key of the bound map that a word names; `None` if it names none.
 #[inline(always)]
 pub(crate) fn bound(bind: &[MapKey], word: u64) -> Option<MapKey>
     ensures value { result ≡ bound_map bind.now word }
@@ -25,11 +27,11 @@ pub(crate) fn bound(bind: &[MapKey], word: u64) -> Option<MapKey>
     Some(bind[index as usize])
 }
 
-/// The place in a tenant's part of so many bytes at an address, no more than a part has, if they lie in it.
+/// The offset, in the part of `tenant`, of `size` bytes at an address, where `size` is at most `PART`; `None`
+/// if they don't lie in the part.
 #[inline(always)]
 pub(crate) fn place_in(arena: &Arena, tenant: usize, size: usize, address: u64) -> Option<usize>
-    requires tenant { tenant < arena.now.parts }
-    requires part { arena.now.part ≡ PART }
+    requires part { IsPartOf tenant arena.now }
     requires size { size ≤ PART }
     ensures value { result ≡ place_named arena.now tenant size address }
     ensures within { IfSome result (λ at. at + size ≤ arena.now.part) }
@@ -43,7 +45,7 @@ pub(crate) fn place_in(arena: &Arena, tenant: usize, size: usize, address: u64) 
     Some(at as usize)
 }
 
-/// The place of bytes that are asked for, which is noted.
+/// The offset of requested bytes, like `place_in`; appends their range to the trace if they lie in the part.
 #[inline(always)]
 pub(crate) fn asked_place(
     arena: &Arena,
@@ -52,48 +54,43 @@ pub(crate) fn asked_place(
     address: u64,
     trace: &mut Trace,
 ) -> Option<usize>
-    requires tenant { tenant < arena.now.parts }
-    requires part { arena.now.part ≡ PART }
+    requires part { IsPartOf tenant arena.now }
     requires size { size ≤ PART }
     ensures value { result ≡ place_named arena.now tenant size address }
     ensures within { IfSome result (λ at. at + size ≤ arena.now.part) }
-    ensures inside { AddsInside arena.now tenant trace.old.ranges trace.new.ranges }
-    ensures steps { trace.new.steps ≡ trace.old.steps }
+    ensures asks { AsksInside arena.now tenant trace.old trace.new }
 {
     let at = place_in(arena, tenant, size, address)?;
     trace.range(address, size as u64);
     Some(at)
 }
 
-/// The address of the value of a key, or 0: helper 1. The words name the map and the address of the key. Where they name none
-/// the answer is 0.
+/// bpf_map_lookup_elem (1): returns the address of the value of a key, or 0. `map` names the map, and `key` is the address of the
+/// key. It also returns 0 if one of them names nothing.
 #[inline(always)]
 pub(crate) fn look_up(
     map: u64,
     key: u64,
-    bind: &[MapKey],
-    tenant: usize,
+    caller: Caller<'_>,
     arena: &Arena,
     maps: &Maps,
     trace: &mut Trace,
 ) -> u64
-    requires tenant { tenant < arena.now.parts }
-    requires part { arena.now.part ≡ PART }
-    requires live { AreLive maps.now bind.now }
+    requires part { IsPartOf caller.tenant arena.now }
+    requires live { AreLive maps.now caller.bind.now }
     ensures value { result
-        ≡ unwrap_or (flat_look_up arena.now tenant maps.now bind.now map key) 0 }
-    ensures inside { AddsInside arena.now tenant trace.old.ranges trace.new.ranges }
-    ensures steps { trace.new.steps ≡ trace.old.steps }
+        ≡ unwrap_or (flat_look_up (site_of caller.entry arena.now maps.now) map key) 0 }
+    ensures asks { AsksInside arena.now caller.entry.tenant trace.old trace.new }
 {
     laws::sizes_fit_in_parts();
     arena.memory_is_its_parts();
-    let Some(map) = bound(bind, map) else {
+    let Some(map) = bound(caller.bind, map) else {
         return 0;
     };
     let size = maps.shape(map).key_size as usize;
-    let Some(at) = asked_place(arena, tenant, size, key, trace) else {
+    let Some(at) = asked_place(arena, caller.tenant, size, key, trace) else {
         return 0;
     };
-    let part = arena.part(tenant);
-    maps.address_of(map, &part[at..at + size], arena.address(tenant))
+    let part = arena.part(caller.tenant);
+    maps.address_of(map, &part[at..at + size], arena.address(caller.tenant))
 }

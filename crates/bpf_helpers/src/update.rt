@@ -1,13 +1,16 @@
 //! An update of a map, on words and bytes.
 
 ghost use Rattle.std.specs.Prelude.{◌≡◌, ◌≢◌, ℕ, ◌+◌, ◌-◌, ◌^◌, ◌<◌, ◌≤◌, length, IsSome};
-ghost use Rattle.arena.specs.Ranges.{AddsInside};
 ghost use Rattle.bpf_maps.specs.declared.part.TheConstants.{PART};
 ghost use Rattle.bpf_maps.specs.Live.{live_at, shape_at};
 ghost use Rattle.tagged_model.specs.Helpers.{errno, negative};
 ghost use Rattle.bpf_helpers.specs.Calls.{AreLive};
-ghost use Rattle.bpf_helpers.specs.inside.Flat.{key_bytes, value_bytes, Updates, UpdatesBy};
+ghost use Rattle.bpf_helpers.specs.States.{site_of, answers};
+ghost use Rattle.bpf_helpers.specs.Named.{pair_named};
+ghost use Rattle.bpf_helpers.specs.Parts.{IsPartOf, AsksInside};
+ghost use Rattle.bpf_helpers.specs.inside.Flat.{pair_there, Updates, UpdatesNamed};
 
+use crate::caller::Caller;
 use crate::look_up::{asked_place, bound};
 use arena::{Arena, Trace};
 use bpf_maps::{MapKey, Maps, laws};
@@ -28,43 +31,40 @@ fn errno_of(fault: MapFault) -> u64
     }
 }
 
-/// A negative error.
+/// The negated number of an error.
 pub(crate) fn refusal(fault: MapFault) -> u64
     ensures { result ≡ negative (errno fault) }
 {
     u64::MAX - errno_of(fault) + 1
 }
 
-/// Puts a value under a key of a live map. The key and the value lie at places of the tenant's part.
+/// Stores a value under a key of a live map. The key and the value are at offsets `key` and `value` of the tenant's part.
 pub(crate) fn put(
     map: MapKey,
     key: usize,
     value: usize,
     flags: u64,
-    tenant: usize,
+    caller: Caller<'_>,
     arena: &mut Arena,
     maps: &mut Maps,
     trace: &mut Trace,
 ) -> u64
-    requires tenant { tenant < arena.old.parts }
-    requires part { arena.old.part ≡ PART }
+    requires part { IsPartOf caller.tenant arena.old }
     requires live { IsSome (live_at maps.old map) }
     requires key { key + (shape_at maps.old map).key_size ≤ PART }
     requires value { value + (shape_at maps.old map).value_size ≤ PART }
-    ensures updated { Updates arena.old tenant maps.old map
-        (key_bytes arena.old tenant maps.old map key)
-        (value_bytes arena.old tenant maps.old map value)
-        flags result arena.new maps.new }
-    ensures inside { AddsInside arena.old tenant trace.old.ranges trace.new.ranges }
-    ensures steps { trace.new.steps ≡ trace.old.steps }
+    ensures updated { Updates (site_of caller.entry arena.old maps.old)
+        (pair_there (site_of caller.entry arena.old maps.old) map key value) flags
+        (answers result arena.new maps.new) }
+    ensures asks { AsksInside arena.old caller.entry.tenant trace.old trace.new }
 {
     arena.memory_is_its_parts();
     laws::areas_keep_places();
     let shape = maps.shape(map);
-    let part = arena.part(tenant);
+    let part = arena.part(caller.tenant);
     match maps.claim(map, &part[key..key + shape.key_size as usize], flags) {
         Ok(place) => {
-            let start = arena.address(tenant);
+            let start = arena.address(caller.tenant);
             let to = start + maps.value_at(map, place) as u64;
             arena.copy_inside(to, start + value as u64, shape.value_size as usize, trace);
             0
@@ -73,37 +73,37 @@ pub(crate) fn put(
     }
 }
 
-/// An update that is asked for by words, which name the map and the addresses of the key and the value: helper 2. Where they
-/// name none the answer is that of a wrong argument, and nothing changes.
+/// bpf_map_update_elem (2): stores a value under a key. `map` names the map, and `key` and `value` are the addresses of the key and
+/// the value. If one of them names nothing, it returns EINVAL, negated, and nothing changes.
 pub(crate) fn update(
     map: u64,
     key: u64,
     value: u64,
     flags: u64,
-    bind: &[MapKey],
-    tenant: usize,
+    caller: Caller<'_>,
     arena: &mut Arena,
     maps: &mut Maps,
     trace: &mut Trace,
 ) -> u64
-    requires tenant { tenant < arena.old.parts }
-    requires part { arena.old.part ≡ PART }
-    requires live { AreLive maps.old bind.now }
-    ensures updated { UpdatesBy arena.old tenant maps.old bind.now map key value flags
-        result arena.new maps.new }
-    ensures inside { AddsInside arena.old tenant trace.old.ranges trace.new.ranges }
-    ensures steps { trace.new.steps ≡ trace.old.steps }
+    requires part { IsPartOf caller.tenant arena.old }
+    requires live { AreLive maps.old caller.bind.now }
+    ensures updated { UpdatesNamed (site_of caller.entry arena.old maps.old)
+        (pair_named (site_of caller.entry arena.old maps.old) map key value) flags
+        (answers result arena.new maps.new) }
+    ensures asks { AsksInside arena.old caller.entry.tenant trace.old trace.new }
 {
     laws::sizes_fit_in_parts();
-    let Some(map) = bound(bind, map) else {
+    let Some(map) = bound(caller.bind, map) else {
         return refusal(MapFault::Invalid);
     };
     let shape = maps.shape(map);
-    let Some(key) = asked_place(arena, tenant, shape.key_size as usize, key, trace) else {
+    let size = shape.key_size as usize;
+    let Some(key) = asked_place(arena, caller.tenant, size, key, trace) else {
         return refusal(MapFault::Invalid);
     };
-    let Some(value) = asked_place(arena, tenant, shape.value_size as usize, value, trace) else {
+    let size = shape.value_size as usize;
+    let Some(value) = asked_place(arena, caller.tenant, size, value, trace) else {
         return refusal(MapFault::Invalid);
     };
-    put(map, key, value, flags, tenant, arena, maps, trace)
+    put(map, key, value, flags, caller, arena, maps, trace)
 }

@@ -1,4 +1,4 @@
--- What the calls on the fields tell of the calls of the map.
+-- From calls on the fields of a map to the calls of the map.
 use Rattle.std.proofs.Common.{◌≡◌, ℕ, ◌+◌, ◌<◌, ◌≤◌, ◌==◌, Bool, true, false, List, Option, Some, None, Result, Ok, Err, IfOk, IfSome, refl, sym, ap, subst, ◌∙◌, nat_lt, nat_le, if◌then◌else◌, arith}
 use Rattle.std.proofs.lemmas.Bool.{ltb-true}
 use Rattle.std.specs.Map.{values_of}
@@ -82,7 +82,7 @@ pub found_within : (t : PlaceTable) (key : List ℕ) (o : Option ℕ) → IsSoun
 found_within t key None h e = tt
 found_within t key (Some p) h e = place_below t key p h (sym e)
 
--- the place that an update answers
+-- the place that a claim returns
 claims_within : (old new : PlaceTable) (flags p : ℕ) (key : List ℕ) → Claims (verdict (table_of old) key flags) key old (Ok p) new → IsSound new → p < new.shape.max_entries
 claims_within old new flags p key c h = by (verdict (table_of old) key flags) refl c
   where

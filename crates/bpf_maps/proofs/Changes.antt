@@ -1,24 +1,28 @@
 -- A call that changes one map, which keeps its shape and its area.
-use Rattle.std.proofs.Common.{◌≡◌, ◌≢◌, ℕ, ◌-◌, ◌<◌, ◌≤◌, Bool, true, false, true≢false, if◌then◌else◌, nat_le, List, take, drop, Option, Some, None, is_some, option_map, refl, sym, ap, ◌∙◌, get_or, set, arith}
+use Rattle.std.proofs.Common.{◌≡◌, ◌≢◌, ℕ, ◌-◌, ◌<◌, ◌≤◌, Bool, true, false, true≢false, if◌then◌else◌, nat_le, List, take, drop, Option, Some, None, IsSome, is_some, option_map, refl, sym, ap, subst, ◌∙◌, get_or, arith}
 use Rattle.std.proofs.lemmas.Bool.{lt-leb, le-leb}
-use Rattle.bpf_maps.specs.declared.maps.Entry.{Entry}
+use Rattle.bpf_maps.specs.declared.entries.Entry.{Entry}
 use Rattle.bpf_maps.specs.declared.maps.Maps.TheInside.{Inside}
 use Rattle.bpf_maps.specs.Places.{IsSound}
 use Rattle.bpf_maps.specs.Any.{places_of}
-use Rattle.bpf_maps.specs.Live.{LiveMap, LiveMaps, live_at, live_or, holds_at, offset, value_in, IsLaid, SameAreas, SameValues, count, areas, SameRoom, MapWithoutArea, without_area, held_at, one_less}
-use Rattle.bpf_maps.specs.InMaps.{live_of, live_maps_of, as_live_maps, IsWellFormedMaps}
-use Rattle.bpf_maps.proofs.Slots.{live_by, others_by, set_here, set_others, one_changed, offset_same}
-use Rattle.bpf_maps.proofs.Whole.{laid, same_count, whole_replaced}
+use Rattle.bpf_maps.specs.Live.{LiveMap, LiveMaps, live_at, live_or, holds_at, offset, value_in, IsLaid, SameAreas, SameValues, areas, MapWithoutArea, without_area, held_at, one_less}
+use Rattle.slab.specs.Slab.{get, with_value}
+use Rattle.bpf_maps.specs.InMaps.{live_of, live_maps_of, entries_of, as_live_maps, IsInItsArea, IsWellFormedMaps}
+use Rattle.bpf_maps.proofs.Slots.{some_entry, live_by, others_by, one_changed, offset_same}
+use Rattle.bpf_maps.proofs.Placed.{under_key, changed_here, changed_others, changed_keys}
+use Rattle.bpf_maps.proofs.Whole.{laid, whole_replaced}
 
--- the fields with another entry at a slot
+-- the fields with another entry under a key
 abbrev pub with_entry : Inside → ℕ → Entry → Bool → Inside
-with_entry a at new refused = record a { slots = record a.slots { slots = set a.slots.slots at (Some new) }; refused = refused }
+with_entry a key new refused = record a { entries = with_value a.entries key new; refused = refused }
 
-pub record IsChange (a : Inside) (t : LiveMaps) (at key : ℕ) (old new : Entry) : Type 0 where
+-- the entry of the map at `place`, which is under `key`, has become another
+pub record IsChange (a : Inside) (t : LiveMaps) (place map key : ℕ) (old new : Entry) : Type 0 where
   pub view : as_live_maps a ≡ t
   pub whole : IsWellFormedMaps a
-  pub same : at ≡ key
-  pub here : get_or a.slots.slots at None ≡ Some old
+  pub same : place ≡ map
+  pub keyed : get_or a.keys place None ≡ Some key
+  pub here : get a.entries key ≡ Some old
   pub start : new.start ≡ old.start
   pub stride : new.stride ≡ old.stride
   pub shape : (places_of new.map).shape ≡ (places_of old.map).shape
@@ -26,52 +30,73 @@ pub record IsChange (a : Inside) (t : LiveMaps) (at key : ℕ) (old new : Entry)
   pub sound : IsSound (places_of new.map)
 
 -- a map is live
-module _ (a : Inside) (t : LiveMaps) (at key : ℕ) (e : Entry) (view : as_live_maps a ≡ t) (same : at ≡ key) (here : get_or a.slots.slots at None ≡ Some e) where
-  pub live_here : live_at t key ≡ Some (live_of e)
-  live_here = ap (λ (u : LiveMaps). live_at u key) (sym view) ∙ ap (λ (k : ℕ). get_or (live_maps_of a.slots.slots) k None) (sym same) ∙ live_by a.slots.slots a.slots.slots at e here
+module _ (a : Inside) (t : LiveMaps) (place map : ℕ) (e : Entry) (view : as_live_maps a ≡ t) (same : place ≡ map) (here : get_or (entries_of a) place None ≡ Some e) where
+  pub live_here : live_at t map ≡ Some (live_of e)
+  live_here = ap (λ (u : LiveMaps). live_at u map) (sym view) ∙ ap (λ (p : ℕ). get_or (live_maps_of (entries_of a)) p None) (sym same) ∙ live_by (entries_of a) (entries_of a) place e here
 
-module _ (a : Inside) (t : LiveMaps) (at key : ℕ) (old new : Entry) (refused : Bool) (c : IsChange a t at key old new) where
-  pub live_old : live_at t key ≡ Some (live_of old)
-  live_old = live_here a t at key old c.view c.same c.here
+-- its entry is under its key
+module _ (a : Inside) (t : LiveMaps) (place map key : ℕ) (e : Entry) (keyed : get_or a.keys place None ≡ Some key) (here : get a.entries key ≡ Some e) where
+  pub live_under : as_live_maps a ≡ t → place ≡ map → live_at t map ≡ Some (live_of e)
+  live_under view same = live_here a t place map e view same (under_key a.entries a.keys place key keyed ∙ here)
 
-  there : get_or (set a.slots.slots at (Some new)) at None ≡ Some new
-  there = set_here a.slots.slots at old new c.here
+  pub placed_under : IsWellFormedMaps a → IsInItsArea a.bytes e
+  placed_under h = h.placed place e (under_key a.entries a.keys place key keyed ∙ here)
 
-  pub live_new : live_at (as_live_maps (with_entry a at new refused)) key ≡ Some (live_of new)
-  live_new = live_here (with_entry a at new refused) (as_live_maps (with_entry a at new refused)) at key new refl c.same there
+-- a live map has an entry
+pub live_entry : (a : Inside) (t : LiveMaps) (place map : ℕ) → as_live_maps a ≡ t → place ≡ map → IsSome (live_at t map) → (e : Entry) × (get_or (entries_of a) place None ≡ Some e) × (live_at t map ≡ Some (live_of e))
+live_entry a t place map view same live =
+    let there : IsSome (live_at (as_live_maps a) place) = subst (λ (u : LiveMaps). IsSome (live_at u place)) (sym view) (subst (λ (k : ℕ). IsSome (live_at t k)) (sym same) live) in
+    let e = some_entry (entries_of a) place there in
+    (e.0, e.1, live_here a t place map e.0 view same e.1)
 
-  pub others_stay : (other : ℕ) → other ≢ key → live_at (as_live_maps (with_entry a at new refused)) other ≡ live_at t other
+module _ (a : Inside) (t : LiveMaps) (place map key : ℕ) (old new : Entry) (refused : Bool) (c : IsChange a t place map key old new) where
+  abbrev after : Inside
+  after = with_entry a key new refused
+
+  was : get_or (entries_of a) place None ≡ Some old
+  was = under_key a.entries a.keys place key c.keyed ∙ c.here
+
+  is : get_or (entries_of after) place None ≡ Some new
+  is = changed_here a.keys a.entries c.whole.keys place key c.keyed old new c.here
+
+  others : (p : ℕ) → p ≢ place → get_or (entries_of after) p None ≡ get_or (entries_of a) p None
+  others = changed_others a.keys a.entries c.whole.keys place key c.keyed old new c.here
+
+  pub live_old : live_at t map ≡ Some (live_of old)
+  live_old = live_here a t place map old c.view c.same was
+
+  pub live_new : live_at (as_live_maps after) map ≡ Some (live_of new)
+  live_new = live_here after (as_live_maps after) place map new refl c.same is
+
+  pub others_stay : (other : ℕ) → other ≢ map → live_at (as_live_maps after) other ≡ live_at t other
   others_stay other ne =
-      others_by a.slots.slots (set a.slots.slots at (Some new)) at (set_others a.slots.slots at old new c.here) other (λ e. ne (e ∙ c.same))
+      others_by (entries_of a) (entries_of after) place others other (λ e. ne (e ∙ c.same))
       ∙ ap (λ (u : LiveMaps). live_at u other) c.view
 
-  pub areas_stay : SameAreas t (as_live_maps (with_entry a at new refused))
-  areas_stay = one_changed t (as_live_maps (with_entry a at new refused)) key (live_of old) (live_of new) live_old live_new c.shape c.start c.stride others_stay
+  pub areas_stay : SameAreas t (as_live_maps after)
+  areas_stay = one_changed t (as_live_maps after) map (live_of old) (live_of new) live_old live_new c.shape c.start c.stride others_stay
 
-  pub whole_stays : IsWellFormedMaps (with_entry a at new refused)
-  whole_stays = whole_replaced a (with_entry a at new refused) at c.whole (set_others a.slots.slots at old new c.here) refl old new c.here there c.start c.stride c.shape c.held c.sound refl refl
+  pub whole_stays : IsWellFormedMaps after
+  whole_stays =
+      whole_replaced a after place c.whole others old new was is c.start c.stride c.shape c.held c.sound refl refl
+      (changed_keys a.keys a.entries c.whole.keys place key c.keyed old new c.here) c.whole.room
 
-  pub laid_stays : IsLaid (as_live_maps (with_entry a at new refused))
-  laid_stays = laid (with_entry a at new refused) whole_stays
+  pub laid_stays : IsLaid (as_live_maps after)
+  laid_stays = laid after whole_stays
 
-  pub room_stays : SameRoom t (as_live_maps (with_entry a at new refused))
-  room_stays = record {
-    maps =
-        same_count a (with_entry a at new refused) at c.whole (set_others a.slots.slots at old new c.here) refl old new c.here there c.start c.stride c.shape c.held c.sound refl refl
-        ∙ ap count c.view;
-    bytes = sym whole_stays.sum ∙ c.whole.sum ∙ ap areas c.view;
-  }
+  pub room_stays : areas (as_live_maps after) ≡ areas t
+  room_stays = sym whole_stays.sum ∙ c.whole.sum ∙ ap areas c.view
 
--- what is said of the map, of its entry
+-- a property of the map at a place is that of the live map there
 module _ {P : Type 0} (f : LiveMap → P) (o : Option LiveMap) (l : LiveMap) (is : o ≡ Some l) where
   pub told_of : f (live_or o) ≡ f l
   told_of = ap (λ (x : Option LiveMap). f (live_or x)) is
 
--- one holds it
+-- a live map with at most one reference doesn't have more than one
 pub not_more : (t : LiveMaps) (key : ℕ) (l : LiveMap) → live_at t key ≡ Some l → l.holds ≤ 1 → 1 < holds_at t key → ⊥
 not_more t key l here last more = let held = told_of (λ (x : LiveMap). x.holds) (live_at t key) l here in omega arith
 
--- where the areas stay, so do the values
+-- if the areas are unchanged, so are the values
 pub values_along : (t u : LiveMaps) (bytes : List ℕ) → SameAreas t u → SameValues t bytes u bytes
 values_along t u bytes same j p old_live new_live l = by (live_at u j) refl
   where

@@ -59,7 +59,8 @@ module _ (end size start : ℕ) where
   pub same : start < end → start_without end size start ≡ start
   same l = ap (λ (b : Bool). if b then start - size else start) (lt-leb end start l)
 
--- an area of `n` bytes from `s` on, beside one of `size` bytes from `gone` on that goes: it stands before, or behind
+-- an area of n bytes at s, apart from the area of `size` bytes at `gone` that is freed: it lies before that one and stays, or after
+-- it and moves down
 module _ (gone size s n : ℕ) (apart : (gone + size ≤ s) ⊎ (s + n ≤ gone)) where
   pub before_or_behind : ((s + n ≤ gone) × (start_without (gone + size) size s ≡ s)) ⊎ ((gone + size ≤ s) × (start_without (gone + size) size s ≡ s - size))
   before_or_behind =

@@ -1,8 +1,8 @@
 -- The layouts stay those of the entries.
-use Rattle.std.proofs.Common.{◌≡◌, ◌≢◌, ℕ, ◌<◌, List, length, Some, None, refl, sym, ap, ◌∙◌, get_or, set, arith, get_or-set_same, get_or-set_other}
+use Rattle.std.proofs.Common.{◌≡◌, ◌≢◌, ℕ, ◌<◌, List, Option, Some, None, sym, ap, ◌∙◌, get_or, set, arith, get_or-set_same, get_or-set_other}
 use Rattle.std.proofs.lemmas.List.{length-set}
-use Rattle.slab.specs.Slab.{Slab}
-use Rattle.bpf_maps.specs.declared.maps.Entry.{Entry}
+use Rattle.bpf_maps.specs.declared.part.TheConstants.{MAPS}
+use Rattle.bpf_maps.specs.declared.entries.Entry.{Entry}
 use Rattle.bpf_maps.specs.declared.map_layout.MapLayout.{MapLayout}
 use Rattle.bpf_maps.specs.Any.{places_of}
 use Rattle.bpf_maps.specs.InMaps.{layout_of, AreLaidOut}
@@ -12,14 +12,14 @@ same_layout : (e f : Entry) → (places_of f.map).shape ≡ (places_of e.map).sh
 same_layout e f shape start stride = λ i. let l : MapLayout = record { shape = sym shape i; start = sym start i; stride = sym stride i } in l
 
 -- one entry is changed, and the others stay
-module _ (old new : Slab Entry) (layouts : List MapLayout) (k : ℕ) (h : AreLaidOut old layouts) (others : (j : ℕ) → j ≢ k → get_or new.slots j None ≡ get_or old.slots j None) (room : new.capacity ≡ old.capacity) (f : Entry) (there : get_or new.slots k None ≡ Some f) where
-  is_changed : (j : ℕ) (g : Entry) → j ≡ k → get_or new.slots j None ≡ Some g → f ≡ g
-  is_changed j g s at = same_some (get_or new.slots k None) f g there (ap (λ (i : ℕ). get_or new.slots i None) (sym s) ∙ at)
+module _ (old new : List (Option Entry)) (layouts : List MapLayout) (k : ℕ) (h : AreLaidOut old layouts) (others : (j : ℕ) → j ≢ k → get_or new j None ≡ get_or old j None) (f : Entry) (there : get_or new k None ≡ Some f) where
+  is_changed : (j : ℕ) (g : Entry) → j ≡ k → get_or new j None ≡ Some g → f ≡ g
+  is_changed j g s at = same_some (get_or new k None) f g there (ap (λ (i : ℕ). get_or new i None) (sym s) ∙ at)
 
   -- one that keeps its shape and its area
-  pub replaced_out : (e : Entry) → get_or old.slots k None ≡ Some e → f.start ≡ e.start → f.stride ≡ e.stride → (places_of f.map).shape ≡ (places_of e.map).shape → AreLaidOut new layouts
+  pub replaced_out : (e : Entry) → get_or old k None ≡ Some e → f.start ≡ e.start → f.stride ≡ e.stride → (places_of f.map).shape ≡ (places_of e.map).shape → AreLaidOut new layouts
   replaced_out e here start stride shape = record {
-    long = h.long ∙ sym room;
+    long = h.long;
     each = λ j g other at.
         same_or_other j k
         (λ (s : j ≡ k). ap (λ (i : ℕ). get_or layouts i other) s ∙ h.each k e other here ∙ same_layout e f shape start stride ∙ ap layout_of (is_changed j g s at))
@@ -27,11 +27,11 @@ module _ (old new : Slab Entry) (layouts : List MapLayout) (k : ℕ) (h : AreLai
   }
 
   -- one that is new
-  pub added_out : k < new.capacity → AreLaidOut new (set layouts k (layout_of f))
+  pub added_out : k < MAPS → AreLaidOut new (set layouts k (layout_of f))
   added_out below =
       let long = h.long in
       record {
-        long = length-set layouts k (layout_of f) ∙ h.long ∙ sym room;
+        long = length-set layouts k (layout_of f) ∙ h.long;
         each = λ j g other at.
             same_or_other j k
             (λ (s : j ≡ k). ap (λ (i : ℕ). get_or (set layouts k (layout_of f)) i other) s ∙ get_or-set_same layouts k (layout_of f) other (omega arith) ∙ ap layout_of (is_changed j g s at))

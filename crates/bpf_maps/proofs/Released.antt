@@ -1,44 +1,50 @@
 -- A map that goes.
-use Rattle.std.proofs.Common.{◌≡◌, ◌≢◌, ℕ, ◌+◌, ◌-◌, ◌*◌, ◌<◌, ◌≤◌, List, ◌++◌, length, take, drop, Option, Some, None, IsSome, is_some, option_map, refl, sym, ap, subst, ◌∙◌, arith, get_or, set, ⊎_elim, true≢false}
+use Rattle.std.proofs.Common.{◌≡◌, ◌≢◌, ℕ, ◌+◌, ◌-◌, ◌*◌, ◌<◌, ◌≤◌, List, ◌++◌, length, take, drop, Option, Some, None, is_some, option_map, refl, sym, ap, subst, ◌∙◌, arith, get_or, set, ⊎_elim, true≢false}
 use Rattle.std.proofs.lemmas.List.{drop-take, drop-drop, length-drop}
 use Rattle.std.proofs.Math.Seq.{length-take-le, take-take}
-use Rattle.tagged_model.specs.declared.shape.MapShape.{MapShape}
-use Rattle.slab.specs.Slab.{Slab}
+use Rattle.slab.specs.Slab.{Slab, get, slab_len, with_value}
 use Rattle.bpf_maps.specs.declared.part.TheConstants.{STACK_AND_CONTEXT, PART}
-use Rattle.bpf_maps.specs.declared.maps.Entry.{Entry}
+use Rattle.bpf_maps.specs.declared.entries.Entry.{Entry}
 use Rattle.bpf_maps.specs.declared.maps.Maps.TheInside.{Inside}
 use Rattle.bpf_maps.specs.Any.{places_of}
-use Rattle.bpf_maps.specs.Live.{LiveMap, LiveMaps, live_at, live_or, shape_at, offset, count, areas, HasOneMore, without_area, held_at, one_less, area_of, IsLaid, SameValues, map_without, ClosesUp}
+use Rattle.bpf_maps.specs.Live.{LiveMap, LiveMaps, live_at, live_or, shape_at, offset, area_by, areas, without_area, held_at, one_less, area_of, IsLaid, SameValues, map_without, ClosesUp}
 use Rattle.bpf_maps.specs.Sum.{weight}
-use Rattle.bpf_maps.specs.InMaps.{live_of, live_maps_of, as_live_maps, closed_up, AreLaidOut, IsWellFormedMaps}
+use Rattle.bpf_maps.specs.InMaps.{live_of, live_maps_of, placed, entries_of, as_live_maps, AreKeys, closed_up, AreLaidOut, IsWellFormedMaps}
 use Rattle.bpf_maps.specs.declared.map_layout.MapLayout.{MapLayout}
-use Rattle.bpf_maps.proofs.Slots.{at_lives, some_entry, live_by, none_by, same_some, same_or_other, set_here, set_others}
+use Rattle.bpf_maps.proofs.Slots.{at_lives, some_entry, live_by, none_by, same_some}
+use Rattle.bpf_maps.proofs.Placed.{under_key, changed_entry, changed_others, changed_keys, removed_here, removed_others, removed_keys}
 use Rattle.bpf_maps.proofs.Totals.{weight_most}
 use Rattle.bpf_maps.proofs.Changes.{live_here, none_held, told_of}
 use Rattle.bpf_maps.proofs.InAreas.{value_ends, before_or_behind}
 use Rattle.bpf_maps.proofs.Written.{length_same, front_same, before_same, own}
-use Rattle.bpf_maps.proofs.Whole.{laid, offset_of, offset_without, beside, one_less_now, whole_removed}
+use Rattle.bpf_maps.proofs.Whole.{laid, offset_of, offset_without, beside, whole_removed}
 
--- the entry that was taken out is the one that was there
-pub record IsTaken (a : Inside) (t : LiveMaps) (at key : ℕ) (old gone : Entry) : Type 0 where
+-- the entry that is taken out is the one that was there
+pub record IsTaken (a : Inside) (t : LiveMaps) (place map key : ℕ) (old gone : Entry) : Type 0 where
   pub view : as_live_maps a ≡ t
   pub whole : IsWellFormedMaps a
-  pub same : at ≡ key
-  pub here : get_or a.slots.slots at None ≡ Some old
-  pub value : get_or (set a.slots.slots at (Some old)) at None ≡ Some gone
+  pub same : place ≡ map
+  pub keyed : get_or a.keys place None ≡ Some key
+  pub here : get a.entries key ≡ Some old
+  pub value : get (with_value a.entries key old) key ≡ Some gone
 
--- the slots without it, and those after they have closed up
-pub record IsClosed (a : Inside) (at end size : ℕ) (old : Entry) (left slots : Slab Entry) (layouts : List MapLayout) : Type 0 where
-  pub gap : get_or left.slots at None ≡ None
-  pub others : (j : ℕ) → j ≢ at → get_or left.slots j None ≡ get_or (set a.slots.slots at (Some old)) j None
-  pub capacity_left : left.capacity ≡ a.slots.capacity
-  pub each : (j : ℕ) → get_or slots.slots j None ≡ option_map (closed_up end size) (get_or left.slots j None)
-  pub capacity : slots.capacity ≡ left.capacity
-  pub layouts_are : AreLaidOut slots layouts
+-- the entries without it
+pub record IsLeft (a : Inside) (key : ℕ) (old : Entry) (left : Slab Entry) : Type 0 where
+  pub gap : get left key ≡ None
+  pub others : (j : ℕ) → j ≢ key → get left j ≡ get (with_value a.entries key old) j
+  pub len : slab_len left + 1 ≡ slab_len (with_value a.entries key old)
+  pub capacity : left.capacity ≡ a.entries.capacity
+
+-- and those after they have closed up, with these keys
+pub record IsClosed (keys : List (Option ℕ)) (end size : ℕ) (left entries : Slab Entry) (layouts : List MapLayout) : Type 0 where
+  pub each : (p : ℕ) → get_or (placed keys entries) p None ≡ option_map (closed_up end size) (get_or (placed keys left) p None)
+  pub are_keys : AreKeys keys entries
+  pub capacity : entries.capacity ≡ left.capacity
+  pub layouts_are : AreLaidOut (placed keys entries) layouts
 
 -- the fields without it
-abbrev pub without_entry : Inside → ℕ → Slab Entry → List MapLayout → Inside
-without_entry a size slots layouts = record a { slots = slots; layouts = layouts; bytes = a.bytes - size }
+abbrev pub without_entry : Inside → ℕ → ℕ → Slab Entry → List MapLayout → Inside
+without_entry a size place entries layouts = record a { keys = set a.keys place None; entries = entries; layouts = layouts; bytes = a.bytes - size }
 
 -- a map without its area is the same where it stands elsewhere
 held_still : (gone : LiveMap) (o : Option LiveMap) → option_map without_area (option_map (map_without gone) o) ≡ option_map without_area o
@@ -49,105 +55,102 @@ lives_closed : (gone : Entry) (o : Option Entry) → option_map live_of (option_
 lives_closed gone None = refl
 lives_closed gone (Some e) = refl
 
-module _ (a : Inside) (t : LiveMaps) (at key : ℕ) (old gone : Entry) (c : IsTaken a t at key old gone) where
+module _ (a : Inside) (t : LiveMaps) (place map key : ℕ) (old gone : Entry) (c : IsTaken a t place map key old gone) where
   is_gone : old ≡ gone
-  is_gone = same_some (get_or (set a.slots.slots at (Some old)) at None) old gone (set_here a.slots.slots at old old c.here) c.value
+  is_gone = same_some (get (with_value a.entries key old) key) old gone (changed_entry a.keys a.entries c.whole.keys place key c.keyed old old c.here) c.value
 
-  was : get_or a.slots.slots at None ≡ Some gone
-  was = subst (λ (e : Entry). get_or a.slots.slots at None ≡ Some e) is_gone c.here
+  was : get_or (entries_of a) place None ≡ Some gone
+  was = under_key a.entries a.keys place key c.keyed ∙ subst (λ (e : Entry). get a.entries key ≡ Some e) is_gone c.here
 
   -- its area
   pub gone_behind : STACK_AND_CONTEXT ≤ gone.start
-  gone_behind = (c.whole.placed at gone was).behind
+  gone_behind = (c.whole.placed place gone was).behind
 
   pub gone_within : gone.start + area_of (live_of gone) ≤ STACK_AND_CONTEXT + a.bytes
-  gone_within = (c.whole.placed at gone was).within
+  gone_within = (c.whole.placed place gone was).within
 
-  pub gone_keys : (left : Slab Entry) → get_or left.slots at None ≡ None → ((j : ℕ) → j ≢ at → get_or left.slots j None ≡ get_or (set a.slots.slots at (Some old)) j None) → left.capacity ≡ a.slots.capacity
-      → (k : ℕ) → IsSome (get_or left.slots k None) → k < left.capacity
-  gone_keys left gap others capacity k some =
-      same_or_other k at
-      (λ (s : k ≡ at). absurd (true≢false (sym some ∙ ap (λ (i : ℕ). is_some (get_or left.slots i None)) s ∙ ap is_some gap)))
-      (λ (ne : k ≢ at).
-      let same = others k ne ∙ set_others a.slots.slots at old old c.here k ne in
-      let e = found (get_or a.slots.slots k None) (sym (ap is_some same) ∙ some) in
-      let l = c.whole.below k e.0 e.1 in
-      omega arith)
-    where
-      found : (o : Option Entry) → IsSome o → (e : Entry) × (o ≡ Some e)
-      found None h = absurd (true≢false (sym h))
-      found (Some e) h = (e, refl)
+  module _ (left : Slab Entry) (l : IsLeft a key old left) where
+    pub left_keys : AreKeys (set a.keys place None) left
+    left_keys =
+        removed_keys a.keys (with_value a.entries key old) left
+        (changed_keys a.keys a.entries c.whole.keys place key c.keyed old old c.here) place key c.keyed l.gap l.others l.len
+
+    none_left : get_or (placed (set a.keys place None) left) place None ≡ None
+    none_left =
+        removed_here a.keys (with_value a.entries key old) left
+        (changed_keys a.keys a.entries c.whole.keys place key c.keyed old old c.here) place key c.keyed l.gap l.others
+
+    others_left : (p : ℕ) → p ≢ place → get_or (placed (set a.keys place None) left) p None ≡ get_or (entries_of a) p None
+    others_left p ne =
+        removed_others a.keys (with_value a.entries key old) left
+        (changed_keys a.keys a.entries c.whole.keys place key c.keyed old old c.here) place key c.keyed l.gap l.others p ne
+        ∙ changed_others a.keys a.entries c.whole.keys place key c.keyed old old c.here p ne
 
   module _ (size : ℕ) (size_is : size ≡ area_of (live_of gone)) where
     pub size_most : size ≤ a.bytes
     size_most =
         let s = c.whole.sum in
-        let w = weight_most area_of at (live_maps_of a.slots.slots) in
-        let x = ap (weight area_of) (live_by a.slots.slots a.slots.slots at gone was) in
+        let w = weight_most area_of place (live_maps_of (entries_of a)) in
+        let x = ap (weight area_of) (live_by (entries_of a) (entries_of a) place gone was) in
         omega arith
 
-    module _ (left slots : Slab Entry) (layouts : List MapLayout) (d : IsClosed a at (gone.start + size) size old left slots layouts) where
+    module _ (left entries : Slab Entry) (layouts : List MapLayout) (l : IsLeft a key old left) (d : IsClosed (set a.keys place None) (gone.start + size) size left entries layouts) where
       abbrev new : Inside
-      new = without_entry a size slots layouts
+      new = without_entry a size place entries layouts
 
-      closed : (j : ℕ) → j ≢ at → get_or slots.slots j None ≡ option_map (closed_up (gone.start + area_of (live_of gone)) (area_of (live_of gone))) (get_or a.slots.slots j None)
-      closed j ne =
-          d.each j
-          ∙ ap (λ (n : ℕ). option_map (closed_up (gone.start + n) n) (get_or left.slots j None)) size_is
-          ∙ ap (option_map (closed_up (gone.start + area_of (live_of gone)) (area_of (live_of gone)))) (d.others j ne ∙ set_others a.slots.slots at old old c.here j ne)
+      closed : (p : ℕ) → p ≢ place → get_or (entries_of new) p None ≡ option_map (closed_up (gone.start + area_of (live_of gone)) (area_of (live_of gone))) (get_or (entries_of a) p None)
+      closed p ne =
+          d.each p
+          ∙ ap (λ (n : ℕ). option_map (closed_up (gone.start + n) n) (get_or (placed (set a.keys place None) left) p None)) size_is
+          ∙ ap (option_map (closed_up (gone.start + area_of (live_of gone)) (area_of (live_of gone)))) (others_left left l p ne)
 
-      empty : get_or slots.slots at None ≡ None
-      empty = d.each at ∙ ap (option_map (closed_up (gone.start + size) size)) d.gap
-
-      capacity : slots.capacity ≡ a.slots.capacity
-      capacity = d.capacity ∙ d.capacity_left
+      empty : get_or (entries_of new) place None ≡ None
+      empty = d.each place ∙ ap (option_map (closed_up (gone.start + size) size)) (none_left left l)
 
       bytes_now : a.bytes - size + area_of (live_of gone) ≡ a.bytes
       bytes_now = let m = size_most in omega arith
 
       pub whole_gone : IsWellFormedMaps new
-      whole_gone = whole_removed a new at c.whole gone was empty closed capacity bytes_now d.layouts_are
+      whole_gone =
+          let room = c.whole.room in
+          let same = l.capacity in
+          let still = d.capacity in
+          whole_removed a new place c.whole gone was empty closed bytes_now d.are_keys (omega arith) d.layouts_are
 
       pub laid_gone : IsLaid (as_live_maps new)
       laid_gone = laid new whole_gone
 
-      pub freed_gone : HasOneMore (as_live_maps new) t (shape_at t key)
+      pub freed_gone : areas t ≡ areas (as_live_maps new) + area_by (shape_at t map)
       freed_gone =
-          let here = live_here a t at key gone c.view c.same was in
-          let shape = told_of (λ (l : LiveMap). l.places.shape) (live_at t key) (live_of gone) here in
-          subst (λ (s : MapShape). HasOneMore (as_live_maps new) t s) (sym shape) more
-        where
-          more : HasOneMore (as_live_maps new) t (places_of gone.map).shape
-          more =
-              let maps = one_less_now a new at c.whole gone was empty closed capacity bytes_now in
-              let seen_maps = ap count c.view in
-              let bytes = whole_gone.sum in
-              let sum = c.whole.sum in
-              let seen_bytes = ap areas c.view in
-              let most = size_most in
-              record { maps = omega arith; bytes = omega arith }
+          let here = live_here a t place map gone c.view c.same was in
+          let shape : area_by (shape_at t map) ≡ area_of (live_of gone) = told_of (λ (x : LiveMap). area_of x) (live_at t map) (live_of gone) here in
+          let bytes = whole_gone.sum in
+          let sum = c.whole.sum in
+          let seen = ap areas c.view in
+          let most = size_most in
+          omega arith
 
-      pub none_now : live_at (as_live_maps new) key ≡ None
-      none_now = ap (λ (k : ℕ). get_or (live_maps_of slots.slots) k None) (sym c.same) ∙ none_by slots.slots slots.slots at empty
+      pub none_now : live_at (as_live_maps new) map ≡ None
+      none_now = ap (λ (p : ℕ). get_or (live_maps_of (entries_of new)) p None) (sym c.same) ∙ none_by (entries_of new) (entries_of new) place empty
 
       -- the other maps
-      lives_close : (j : ℕ) → j ≢ at → live_at (as_live_maps new) j ≡ option_map (map_without (live_of gone)) (live_at t j)
-      lives_close j ne =
-          at_lives slots.slots j
-          ∙ ap (option_map live_of) (closed j ne)
-          ∙ lives_closed gone (get_or a.slots.slots j None)
-          ∙ ap (option_map (map_without (live_of gone))) (sym (at_lives a.slots.slots j) ∙ ap (λ (u : LiveMaps). live_at u j) c.view)
+      lives_close : (p : ℕ) → p ≢ place → live_at (as_live_maps new) p ≡ option_map (map_without (live_of gone)) (live_at t p)
+      lives_close p ne =
+          at_lives (entries_of new) p
+          ∙ ap (option_map live_of) (closed p ne)
+          ∙ lives_closed gone (get_or (entries_of a) p None)
+          ∙ ap (option_map (map_without (live_of gone))) (sym (at_lives (entries_of a) p) ∙ ap (λ (u : LiveMaps). live_at u p) c.view)
 
-      pub closes_up : ClosesUp key t (as_live_maps new)
-      closes_up j ne =
-          lives_close j (λ e. ne (e ∙ c.same))
-          ∙ ap (λ (o : Option LiveMap). option_map (map_without (live_or o)) (live_at t j)) (sym (live_here a t at key gone c.view c.same was))
+      pub closes_up : ClosesUp map t (as_live_maps new)
+      closes_up p ne =
+          lives_close p (λ e. ne (e ∙ c.same))
+          ∙ ap (λ (o : Option LiveMap). option_map (map_without (live_or o)) (live_at t p)) (sym (live_here a t place map gone c.view c.same was))
 
-      pub less_gone : old.holds ≤ 1 → held_at (as_live_maps new) key ≡ one_less (held_at t key)
-      less_gone last = none_held t (as_live_maps new) key (live_of old) (live_here a t at key old c.view c.same c.here) none_now last
+      pub less_gone : old.holds ≤ 1 → held_at (as_live_maps new) map ≡ one_less (held_at t map)
+      less_gone last = none_held t (as_live_maps new) map (live_of gone) (live_here a t place map gone c.view c.same was) none_now (subst (λ (e : Entry). e.holds ≤ 1) is_gone last)
 
-      pub others_gone : (j : ℕ) → j ≢ key → held_at (as_live_maps new) j ≡ held_at t j
-      others_gone j ne = ap (option_map without_area) (lives_close j (λ e. ne (e ∙ c.same))) ∙ held_still (live_of gone) (live_at t j)
+      pub others_gone : (p : ℕ) → p ≢ map → held_at (as_live_maps new) p ≡ held_at t p
+      others_gone p ne = ap (option_map without_area) (lives_close p (λ e. ne (e ∙ c.same))) ∙ held_still (live_of gone) (live_at t p)
 
       -- ---- the bytes
 
@@ -183,7 +186,7 @@ module _ (a : Inside) (t : LiveMaps) (at key : ℕ) (old gone : Entry) (c : IsTa
             ∙ ap (take n) (drop-drop x (gone.start + size) bytes)
 
         -- a value of another map
-        kept_at : (j p : ℕ) (f : Entry) → j ≢ at → get_or a.slots.slots j None ≡ Some f → p < (places_of f.map).shape.max_entries
+        kept_at : (j p : ℕ) (f : Entry) → j ≢ place → get_or (entries_of a) j None ≡ Some f → p < (places_of f.map).shape.max_entries
             → take (places_of f.map).shape.value_size (drop (offset (map_without (live_of gone) (live_of f)) p) later) ≡ take (places_of f.map).shape.value_size (drop (offset (live_of f) p) bytes)
         kept_at j p f ne ft l =
             let s = (places_of f.map).shape in
@@ -211,13 +214,13 @@ module _ (a : Inside) (t : LiveMaps) (at key : ℕ) (old gone : Entry) (c : IsTa
             ∙ own bytes moved gone.start many long_moved room (f.start - (gone.start + size) + p * f.stride) s.value_size fits
             ∙ from_behind (f.start - (gone.start + size) + p * f.stride) s.value_size fits
             ∙ ap (λ (n : ℕ). take s.value_size (drop n bytes)) at_then)
-            (before_or_behind gone.start (area_of (live_of gone)) f.start (area_of (live_of f)) (beside a new at c.whole gone was empty closed capacity bytes_now j f ne ft))
+            (before_or_behind gone.start (area_of (live_of gone)) f.start (area_of (live_of f)) (beside a new place c.whole gone was empty closed bytes_now j f ne ft))
 
         pub values_gone : SameValues t bytes (as_live_maps new) later
         values_gone j p old_live new_live l =
-            let ne : j ≢ key = λ (s : j ≡ key). true≢false (sym new_live ∙ ap is_some (ap (live_at (as_live_maps new)) s ∙ none_now)) in
-            let f = some_entry a.slots.slots j (ap (λ (u : LiveMaps). is_some (live_at u j)) c.view ∙ old_live) in
-            let o : live_at t j ≡ Some (live_of f.0) = ap (λ (u : LiveMaps). live_at u j) (sym c.view) ∙ live_by a.slots.slots a.slots.slots j f.0 f.1 in
+            let ne : j ≢ map = λ (s : j ≡ map). true≢false (sym new_live ∙ ap is_some (ap (live_at (as_live_maps new)) s ∙ none_now)) in
+            let f = some_entry (entries_of a) j (ap (λ (u : LiveMaps). is_some (live_at u j)) c.view ∙ old_live) in
+            let o : live_at t j ≡ Some (live_of f.0) = ap (λ (u : LiveMaps). live_at u j) (sym c.view) ∙ live_by (entries_of a) (entries_of a) j f.0 f.1 in
             let n : live_at (as_live_maps new) j ≡ Some (map_without (live_of gone) (live_of f.0)) = lives_close j (λ e. ne (e ∙ c.same)) ∙ ap (option_map (map_without (live_of gone))) o in
             let m = told_of (λ x. x.places.shape.max_entries) _ _ n in
             ap (λ (x : Option LiveMap). take (live_or x).places.shape.value_size (drop (offset (live_or x) p) later)) n

@@ -1,4 +1,4 @@
--- What an index answers of its keys, told of the bytes that they stand for.
+-- The results of an index on its keys are those on the bytes that the keys represent.
 use Rattle.std.proofs.Common.{◌≡◌, ℕ, suc, ◌+◌, ◌<◌, Bool, true, false, cond, not, List, [], ◌∷◌, ◌++◌, length, Option, Some, None, is_some, option_map, Result, Ok, Err, OnOk, is_err, true≢false, refl, sym, ap, subst, ◌∙◌, nat_lt, slice_get, if◌then◌else◌, arith}
 use Rattle.std.specs.List.{position, position_or_len}
 use Rattle.std.specs.Map.{lookup, remove_entry, keys_of}
@@ -30,7 +30,7 @@ module _ {K : Type 0} (bytes : K → List ℕ) where
   shown_by-append [] fs = refl
   shown_by-append (e ∷ es) fs = ap (λ r. (bytes e.0, e.1) ∷ r) (shown_by-append es fs)
 
-  -- the key of the entry that the index shows
+  -- the bytes of the key of an entry
   pub key_shown : (es : List (K × ℕ)) (i : ℕ) (o : Option (K × ℕ)) → o ≡ slice_get es i → option_map (λ e. bytes e.0) o ≡ key_of (slice_get (view es) i)
   key_shown es i o h = ap (option_map (λ e. bytes e.0)) h ∙ by (slice_get es i) ∙ ap key_of (sym (slice_get-map (λ e. (bytes e.0, e.1)) es i))
     where
@@ -39,7 +39,7 @@ module _ {K : Type 0} (bytes : K → List ℕ) where
       by (Some e) = refl
 
   module _ (key : List ℕ) (test : K → Bool) where
-    -- each key passes the test where its bytes are these
+    -- a key passes the test exactly if its bytes are `key`
     abbrev pub Tests : List (K × ℕ) → Type 0
     Tests [] = Unit {0}
     Tests (e ∷ es) = (test e.0 ≡ is_key key (bytes e.0)) × Tests es

@@ -1,7 +1,7 @@
 -- A live map among the others.
-use Rattle.std.proofs.Common.{◌≡◌, ◌≢◌, ℕ, zero, suc, ◌+◌, ◌<◌, List, [], ◌∷◌, length, Option, Some, None, option_map, refl, sym, ap, ◌∙◌, get_or, set, arith, get_or-set_same, get_or-set_other, Bool, true, false, IsSome, is_some, nat_eq, eqb-true, eq-eqb, true≢false, ◌*◌}
+use Rattle.std.proofs.Common.{◌≡◌, ◌≢◌, ℕ, zero, suc, ◌+◌, ◌<◌, List, [], ◌∷◌, length, Option, Some, None, option_map, refl, sym, ap, ◌∙◌, get_or, arith, Bool, true, false, IsSome, is_some, nat_eq, eqb-true, eq-eqb, true≢false, ◌*◌}
 use Rattle.std.proofs.lemmas.Option.{none-some, same_Some}
-use Rattle.bpf_maps.specs.declared.maps.Entry.{Entry}
+use Rattle.bpf_maps.specs.declared.entries.Entry.{Entry}
 use Rattle.bpf_maps.specs.Live.{LiveMap, LiveMaps, live_at, live_or, offset, offset_at, SameAreas}
 use Rattle.bpf_maps.specs.InMaps.{live_of, live_maps_of}
 
@@ -40,13 +40,6 @@ module _ (xs ys : List (Option Entry)) (k : ℕ) where
   -- the other slots
   pub others_by : ((l : ℕ) → l ≢ k → get_or ys l None ≡ get_or xs l None) → (l : ℕ) → l ≢ k → get_or (live_maps_of ys) l None ≡ get_or (live_maps_of xs) l None
   others_by h l ne = at_lives ys l ∙ ap (option_map live_of) (h l ne) ∙ sym (at_lives xs l)
-
-module _ (xs : List (Option Entry)) (k : ℕ) (old new : Entry) (at : get_or xs k None ≡ Some old) where
-  pub set_here : get_or (set xs k (Some new)) k None ≡ Some new
-  set_here = get_or-set_same xs k (Some new) None (within xs k old at)
-
-  pub set_others : (l : ℕ) → l ≢ k → get_or (set xs k (Some new)) l None ≡ get_or xs l None
-  set_others l ne = get_or-set_other xs k l (Some new) None ne
 
 pub offset_same : (l m : LiveMap) (p : ℕ) → l.start ≡ m.start → l.stride ≡ m.stride → offset l p ≡ offset m p
 unfolding offset

@@ -15,7 +15,7 @@ places_held : (o : Option LiveMap) → (live_or o).places ≡ held_places (optio
 places_held None = refl
 places_held (Some l) = refl
 
-some_held : (o : Option LiveMap) → is_some (option_map without_area o) ≡ is_some o
+pub some_held : (o : Option LiveMap) → is_some (option_map without_area o) ≡ is_some o
 some_held None = refl
 some_held (Some l) = refl
 

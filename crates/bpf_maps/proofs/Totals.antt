@@ -1,14 +1,11 @@
 -- Sums over the live maps.
-use Rattle.std.proofs.Common.{◌≡◌, ◌≢◌, ℕ, zero, suc, ◌+◌, ◌≤◌, List, [], ◌∷◌, Option, Some, None, is_some, refl, get_or, arith, count_by, cond}
-use Rattle.std.proofs.lemmas.List.Recursion.{is_count_by}
-use Rattle.bpf_maps.specs.declared.maps.Entry.{Entry}
+use Rattle.std.proofs.Common.{◌≡◌, ◌≢◌, ℕ, zero, suc, ◌+◌, ◌≤◌, List, [], ◌∷◌, Option, None, refl, get_or, arith}
 use Rattle.bpf_maps.specs.Live.{LiveMap}
 use Rattle.bpf_maps.specs.Sum.{weight, total}
 use Rattle.bpf_maps.specs.LiveLaws.{total_same}
-use Rattle.bpf_maps.specs.InMaps.{live_maps_of}
 
 module _ (f : LiveMap → ℕ) where
-  -- where what is summed stays in all slots but one
+  -- where what is summed stays at all places but one
   pub total_but_one : (k : ℕ) (xs ys : List (Option LiveMap)) → ((j : ℕ) → j ≢ k → weight f (get_or ys j None) ≡ weight f (get_or xs j None)) → total f ys + weight f (get_or xs k None) ≡ total f xs + weight f (get_or ys k None)
   unfolding total
   total_but_one zero [] [] h = refl
@@ -35,12 +32,3 @@ unfolding total
 weight_most f k [] = omega arith
 weight_most f zero (x ∷ xs) = omega arith
 weight_most f (suc k) (x ∷ xs) = let r = weight_most f k xs in omega arith
-
--- the live maps are the entries
-pub count_entries : (xs : List (Option Entry)) → total (λ l. 1) (live_maps_of xs) ≡ count_by is_some xs
-unfolding total
-count_entries xs = is_count_by (λ (ys : List (Option Entry)). total (λ l. 1) (live_maps_of ys)) is_some refl step xs
-  where
-    step : (x : Option Entry) (ys : List (Option Entry)) → total (λ l. 1) (live_maps_of (x ∷ ys)) ≡ cond (is_some x) (1 + total (λ l. 1) (live_maps_of ys)) (total (λ l. 1) (live_maps_of ys))
-    step None ys = omega arith
-    step (Some e) ys = omega arith

@@ -1,16 +1,16 @@
--- The maps stay whole: their areas stand behind one another, and what is counted is right.
+-- The invariant of the live maps, which each change keeps.
 use Rattle.std.proofs.Common.{◌≡◌, ◌≢◌, ℕ, ◌+◌, ◌*◌, ◌/◌, ◌%◌, ◌<◌, ◌≤◌, ◌⊎◌, Bool, List, Option, Some, None, IsSome, option_map, refl, sym, ap, subst, ◌∙◌, arith, get_or, ⊎_elim, inl, inr}
 use Rattle.std.proofs.lemmas.Option.{none-some, same_Some}
 use Rattle.tagged_model.specs.declared.shape.MapShape.{MapShape}
 use Rattle.tagged_model.specs.Shape.{area}
 use Rattle.bpf_maps.specs.declared.part.TheConstants.{STACK_AND_CONTEXT, LARGEST_SUM, MAPS}
-use Rattle.bpf_maps.specs.declared.maps.Entry.{Entry}
+use Rattle.bpf_maps.specs.declared.entries.Entry.{Entry}
 use Rattle.bpf_maps.specs.declared.maps.Maps.TheInside.{Inside}
 use Rattle.bpf_maps.specs.Any.{places_of}
 use Rattle.bpf_maps.specs.Places.{IsSound}
 use Rattle.bpf_maps.specs.Live.{LiveMap, live_at, live_or, places_at, offset, LiesInPart, IsLaid, IsPacked, area_of, areas, StandsBefore, start_without, map_without}
-use Rattle.bpf_maps.specs.Sum.{weight, total}
-use Rattle.bpf_maps.specs.InMaps.{live_of, live_maps_of, as_live_maps, closed_up, IsInItsArea, AreLaidOut, IsWellFormedMaps}
+use Rattle.bpf_maps.specs.Sum.{weight}
+use Rattle.bpf_maps.specs.InMaps.{live_of, live_maps_of, entries_of, as_live_maps, AreKeys, closed_up, IsInItsArea, AreLaidOut, IsWellFormedMaps}
 use Rattle.bpf_maps.proofs.Slots.{at_lives, entry_of, some_entry, live_by, none_by, others_by, same_or_other, same_some}
 use Rattle.bpf_maps.specs.declared.map_layout.MapLayout.{MapLayout}
 use Rattle.bpf_maps.proofs.LaidOut.{replaced_out}
@@ -20,7 +20,7 @@ use Rattle.bpf_maps.proofs.InAreas.{area_aligned, value_ends, place_inside, apar
 -- ---- the values are laid out apart
 
 abbrev entry_at : Inside → ℕ → Entry → Type 0
-entry_at a k e = get_or a.slots.slots k None ≡ Some e
+entry_at a k e = get_or (entries_of a) k None ≡ Some e
 
 abbrev AreApart : LiveMap → LiveMap → Type 0
 AreApart l m = StandsBefore l m ⊎ StandsBefore m l
@@ -64,18 +64,18 @@ module _ (a : Inside) (h : IsWellFormedMaps a) where
   apart k j p q e f at bt ne l m =
       same_or_other k j
       (λ (s : k ≡ j).
-      let is : e ≡ f = same_some (get_or a.slots.slots k None) e f at (ap (λ (i : ℕ). get_or a.slots.slots i None) s ∙ bt) in
+      let is : e ≡ f = same_some (get_or (entries_of a) k None) e f at (ap (λ (i : ℕ). get_or (entries_of a) i None) s ∙ bt) in
       subst (λ (g : Entry). IsApart (live_of e) (live_of g) p q) is (apart_in_one k p q e at (ne s)))
       (λ (o : k ≢ j). apart_in_two k j p q e f at bt o l m)
 
   pub laid : IsLaid (as_live_maps a)
   laid = record {
     inside = λ k p l at lt.
-        let e = entry_of a.slots.slots k l at in
+        let e = entry_of (entries_of a) k l at in
         subst (λ (x : LiveMap). p < x.places.shape.max_entries → LiesInPart (offset x p) x.places.shape.value_size) e.2 (inside k p e.0 e.1) lt;
     apart = λ k p j q l m at bt pl ql ne.
-        let e = entry_of a.slots.slots k l at in
-        let f = entry_of a.slots.slots j m bt in
+        let e = entry_of (entries_of a) k l at in
+        let f = entry_of (entries_of a) j m bt in
         subst (λ (x : LiveMap). p < x.places.shape.max_entries → IsApart x m p q) e.2
         (λ (x : p < (places_of e.0.map).shape.max_entries). subst (λ (y : LiveMap). q < y.places.shape.max_entries → IsApart (live_of e.0) y p q) f.2 (λ (y : q < (places_of f.0.map).shape.max_entries). apart k j p q e.0 f.0 e.1 f.1 ne x y) ql) pl;
   }
@@ -83,59 +83,57 @@ module _ (a : Inside) (h : IsWellFormedMaps a) where
   pub packed : IsPacked (as_live_maps a)
   packed = record {
     inside = λ k l at.
-        let e = entry_of a.slots.slots k l at in
+        let e = entry_of (entries_of a) k l at in
         let i = h.placed k e.0 e.1 in
         let within : e.0.start + area_of (live_of e.0) ≤ STACK_AND_CONTEXT + areas (as_live_maps a) = let w = i.within in let s = h.sum in omega arith in
         subst (λ (x : LiveMap). (STACK_AND_CONTEXT ≤ x.start) × (x.start + area_of x ≤ STACK_AND_CONTEXT + areas (as_live_maps a))) e.2 (i.behind, within);
     apart = λ k j l m at bt ne.
-        let e = entry_of a.slots.slots k l at in
-        let f = entry_of a.slots.slots j m bt in
+        let e = entry_of (entries_of a) k l at in
+        let f = entry_of (entries_of a) j m bt in
         subst (λ (x : LiveMap). AreApart x m) e.2 (subst (λ (y : LiveMap). AreApart (live_of e.0) y) f.2 (h.apart k j e.0 f.0 e.1 f.1 ne));
     stride = λ k l at.
-        let e = entry_of a.slots.slots k l at in
+        let e = entry_of (entries_of a) k l at in
         subst (λ (x : LiveMap). x.stride ≡ (x.places.shape.value_size + 7) / 8 * 8) e.2 (h.placed k e.0 e.1).stride;
   }
 
 -- no two keys of a live map have one place
 pub sound_at : (a : Inside) (h : IsWellFormedMaps a) (k : ℕ) → IsSome (live_at (as_live_maps a) k) → IsSound (places_at (as_live_maps a) k)
 sound_at a h k live =
-    let e = some_entry a.slots.slots k live in
-    subst (λ (o : Option LiveMap). IsSound (live_or o).places) (sym (live_by a.slots.slots a.slots.slots k e.0 e.1)) (h.placed k e.0 e.1).sound
+    let e = some_entry (entries_of a) k live in
+    subst (λ (o : Option LiveMap). IsSound (live_or o).places) (sym (live_by (entries_of a) (entries_of a) k e.0 e.1)) (h.placed k e.0 e.1).sound
 
 -- no field but `refused` is changed
 pub whole_refused : (a : Inside) (refused : Bool) → IsWellFormedMaps a → IsWellFormedMaps (record a { refused = refused })
-whole_refused a refused h = record { placed = h.placed; apart = h.apart; below = h.below; most = h.most; room = h.room; sum = h.sum; few = h.few; aligned = h.aligned; laid_out = h.laid_out }
+whole_refused a refused h = record { keys = h.keys; room = h.room; placed = h.placed; apart = h.apart; sum = h.sum; few = h.few; aligned = h.aligned; laid_out = h.laid_out }
 
--- ---- one slot is changed
+-- ---- the entry at one place is changed
 
-module _ (a b : Inside) (k : ℕ) (h : IsWellFormedMaps a) (others : (j : ℕ) → j ≢ k → get_or b.slots.slots j None ≡ get_or a.slots.slots j None) (room : b.slots.capacity ≡ a.slots.capacity) where
+module _ (a b : Inside) (k : ℕ) (h : IsWellFormedMaps a) (others : (j : ℕ) → j ≢ k → get_or (entries_of b) j None ≡ get_or (entries_of a) j None) where
   still : (j : ℕ) (e : Entry) → j ≢ k → entry_at b j e → entry_at a j e
   still j e ne at = sym (others j ne) ∙ at
 
-  changed : (f : LiveMap → ℕ) → total f (live_maps_of b.slots.slots) + weight f (get_or (live_maps_of a.slots.slots) k None) ≡ total f (live_maps_of a.slots.slots) + weight f (get_or (live_maps_of b.slots.slots) k None)
-  changed f = total_but_one f k (live_maps_of a.slots.slots) (live_maps_of b.slots.slots) (λ j ne. ap (weight f) (others_by a.slots.slots b.slots.slots k others j ne))
+  changed : areas (as_live_maps b) + weight area_of (get_or (live_maps_of (entries_of a)) k None) ≡ areas (as_live_maps a) + weight area_of (get_or (live_maps_of (entries_of b)) k None)
+  changed = total_but_one area_of k (live_maps_of (entries_of a)) (live_maps_of (entries_of b)) (λ j ne. ap (weight area_of) (others_by (entries_of a) (entries_of b) k others j ne))
 
   -- a map that keeps its area
   module _ (e f : Entry) (at : entry_at a k e) (bt : entry_at b k f) (start : f.start ≡ e.start) (stride : f.stride ≡ e.stride) (shape : (places_of f.map).shape ≡ (places_of e.map).shape) (held : 1 ≤ f.holds) (sound : IsSound (places_of f.map)) (bytes : b.bytes ≡ a.bytes) (layouts : b.layouts ≡ a.layouts) where
     same_area : area_of (live_of f) ≡ area_of (live_of e)
     same_area = ap (λ (s : MapShape). area s.value_size s.max_entries) shape
 
-    same_total : (w : LiveMap → ℕ) → w (live_of f) ≡ w (live_of e) → total w (live_maps_of b.slots.slots) ≡ total w (live_maps_of a.slots.slots)
-    same_total w s =
-        let c = changed w in
-        let x = ap (weight w) (live_by a.slots.slots b.slots.slots k e at) in
-        let y = ap (weight w) (live_by b.slots.slots b.slots.slots k f bt) in
+    pub same_areas : areas (as_live_maps b) ≡ areas (as_live_maps a)
+    same_areas =
+        let c = changed in
+        let s = same_area in
+        let x = ap (weight area_of) (live_by (entries_of a) (entries_of b) k e at) in
+        let y = ap (weight area_of) (live_by (entries_of b) (entries_of b) k f bt) in
         omega arith
-
-    pub same_count : total (λ (l : LiveMap). 1) (live_maps_of b.slots.slots) ≡ total (λ (l : LiveMap). 1) (live_maps_of a.slots.slots)
-    same_count = same_total (λ l. 1) refl
 
     placed_replaced : (j : ℕ) (g : Entry) → entry_at b j g → IsInItsArea b.bytes g
     placed_replaced j g gt =
         subst (λ (n : ℕ). IsInItsArea n g) (sym bytes)
         (same_or_other j k
         (λ (s : j ≡ k).
-        let is : f ≡ g = same_some (get_or b.slots.slots k None) f g bt (ap (λ (i : ℕ). get_or b.slots.slots i None) (sym s) ∙ gt) in
+        let is : f ≡ g = same_some (get_or (entries_of b) k None) f g bt (ap (λ (i : ℕ). get_or (entries_of b) i None) (sym s) ∙ gt) in
         subst (λ (x : Entry). IsInItsArea a.bytes x) is placed_new)
         (λ (o : j ≢ k). h.placed j g (still j g o gt)))
       where
@@ -151,13 +149,13 @@ module _ (a b : Inside) (k : ℕ) (h : IsWellFormedMaps a) (others : (j : ℕ) �
               sound = sound;
             }
 
-    -- an entry after the change has the area of one of before, under the same key
+    -- an entry after the change has the area of the one of before, at the same place
     before : (j : ℕ) (g : Entry) → entry_at b j g → (x : Entry) × (entry_at a j x) × (x.start ≡ g.start) × (area_of (live_of x) ≡ area_of (live_of g))
     before j g gt =
         same_or_other j k
         (λ (s : j ≡ k).
-        let is : f ≡ g = same_some (get_or b.slots.slots k None) f g bt (ap (λ (i : ℕ). get_or b.slots.slots i None) (sym s) ∙ gt) in
-        (e, ap (λ (i : ℕ). get_or a.slots.slots i None) s ∙ at, sym start ∙ ap (λ (x : Entry). x.start) is, sym same_area ∙ ap (λ (x : Entry). area_of (live_of x)) is))
+        let is : f ≡ g = same_some (get_or (entries_of b) k None) f g bt (ap (λ (i : ℕ). get_or (entries_of b) i None) (sym s) ∙ gt) in
+        (e, ap (λ (i : ℕ). get_or (entries_of a) i None) s ∙ at, sym start ∙ ap (λ (x : Entry). x.start) is, sym same_area ∙ ap (λ (x : Entry). area_of (live_of x)) is))
         (λ (o : j ≢ k). (g, still j g o gt, refl, refl))
 
     apart_replaced : (i j : ℕ) (g l : Entry) → entry_at b i g → entry_at b j l → i ≢ j → AreApart (live_of g) (live_of l)
@@ -170,35 +168,31 @@ module _ (a b : Inside) (k : ℕ) (h : IsWellFormedMaps a) (others : (j : ℕ) �
         let ya = y.3 in
         ⊎_elim (λ z. inl (omega arith)) (λ z. inr (omega arith)) (h.apart i j x.0 y.0 x.1 y.1 ne)
 
-    pub whole_replaced : IsWellFormedMaps b
-    whole_replaced = record {
+    pub whole_replaced : AreKeys b.keys b.entries → MAPS ≤ b.entries.capacity → IsWellFormedMaps b
+    whole_replaced keys room = record {
+      keys = keys;
+      room = room;
       placed = placed_replaced;
       apart = apart_replaced;
-      below = λ j g gt. let x = before j g gt in let l = h.below j x.0 x.1 in omega arith;
-      most = let m = h.most in let s = same_count in omega arith;
-      room = let r = h.room in omega arith;
-      sum = bytes ∙ h.sum ∙ sym (same_total area_of same_area);
+      sum = bytes ∙ h.sum ∙ sym same_areas;
       few = let f = h.few in omega arith;
       aligned = ap (λ (n : ℕ). n % 8) bytes ∙ h.aligned;
       laid_out =
-          subst (λ (ls : List MapLayout). AreLaidOut b.slots ls) (sym layouts)
-          (replaced_out a.slots b.slots a.layouts k h.laid_out others room f bt e at start stride shape);
+          subst (λ (ls : List MapLayout). AreLaidOut (entries_of b) ls) (sym layouts)
+          (replaced_out (entries_of a) (entries_of b) a.layouts k h.laid_out others f bt e at start stride shape);
     }
 
   -- a map that is new
-  module _ (e : Entry) (at : get_or a.slots.slots k None ≡ None) (bt : entry_at b k e) where
-    more_total : (w : LiveMap → ℕ) → total w (live_maps_of b.slots.slots) ≡ total w (live_maps_of a.slots.slots) + w (live_of e)
-    more_total w =
-        let c = changed w in
-        let x = ap (weight w) (none_by a.slots.slots b.slots.slots k at) in
-        let y = ap (weight w) (live_by b.slots.slots b.slots.slots k e bt) in
+  module _ (e : Entry) (at : get_or (entries_of a) k None ≡ None) (bt : entry_at b k e) where
+    pub more_areas : areas (as_live_maps b) ≡ areas (as_live_maps a) + area_of (live_of e)
+    more_areas =
+        let c = changed in
+        let x = ap (weight area_of) (none_by (entries_of a) (entries_of b) k at) in
+        let y = ap (weight area_of) (live_by (entries_of b) (entries_of b) k e bt) in
         omega arith
 
-    pub count_added : total (λ (l : LiveMap). 1) (live_maps_of b.slots.slots) ≡ total (λ (l : LiveMap). 1) (live_maps_of a.slots.slots) + 1
-    count_added = more_total (λ l. 1)
-
   -- its area stands behind the others
-  module _ (e : Entry) (at : get_or a.slots.slots k None ≡ None) (bt : entry_at b k e) (below : k < a.slots.capacity) (start : e.start ≡ STACK_AND_CONTEXT + a.bytes) (stride : e.stride ≡ ((places_of e.map).shape.value_size + 7) / 8 * 8) (held : 1 ≤ e.holds) (sound : IsSound (places_of e.map)) (bytes : b.bytes ≡ a.bytes + area_of (live_of e)) (few : b.bytes ≤ LARGEST_SUM) (layouts : AreLaidOut b.slots b.layouts) where
+  module _ (e : Entry) (at : get_or (entries_of a) k None ≡ None) (bt : entry_at b k e) (start : e.start ≡ STACK_AND_CONTEXT + a.bytes) (stride : e.stride ≡ ((places_of e.map).shape.value_size + 7) / 8 * 8) (held : 1 ≤ e.holds) (sound : IsSound (places_of e.map)) (bytes : b.bytes ≡ a.bytes + area_of (live_of e)) (few : b.bytes ≤ LARGEST_SUM) (layouts : AreLaidOut (entries_of b) b.layouts) where
     aligned_now : (a.bytes + area_of (live_of e)) % 8 ≡ 0
     aligned_now = let al = h.aligned in let r = area_aligned (places_of e.map).shape.value_size (places_of e.map).shape.max_entries in omega arith
 
@@ -206,14 +200,14 @@ module _ (a b : Inside) (k : ℕ) (h : IsWellFormedMaps a) (others : (j : ℕ) �
     placed_added j g gt =
         same_or_other j k
         (λ (s : j ≡ k).
-        let is : e ≡ g = same_some (get_or b.slots.slots k None) e g bt (ap (λ (i : ℕ). get_or b.slots.slots i None) (sym s) ∙ gt) in
+        let is : e ≡ g = same_some (get_or (entries_of b) k None) e g bt (ap (λ (i : ℕ). get_or (entries_of b) i None) (sym s) ∙ gt) in
         subst (λ (x : Entry). IsInItsArea b.bytes x) is (record { behind = omega arith; within = omega arith; aligned = let al = h.aligned in omega arith; stride = stride; held = held; sound = sound }))
         (λ (o : j ≢ k).
         let i = h.placed j g (still j g o gt) in
         record { behind = i.behind; within = let w = i.within in omega arith; aligned = i.aligned; stride = i.stride; held = i.held; sound = i.sound })
 
     is_new : (j : ℕ) (g : Entry) → j ≡ k → entry_at b j g → g ≡ e
-    is_new j g s gt = same_some (get_or b.slots.slots k None) g e (ap (λ (i : ℕ). get_or b.slots.slots i None) (sym s) ∙ gt) bt
+    is_new j g s gt = same_some (get_or (entries_of b) k None) g e (ap (λ (i : ℕ). get_or (entries_of b) i None) (sym s) ∙ gt) bt
 
     -- the others stand before it
     stands_last : (j : ℕ) (g : Entry) → j ≢ k → entry_at b j g → StandsBefore (live_of g) (live_of e)
@@ -227,17 +221,13 @@ module _ (a b : Inside) (k : ℕ) (h : IsWellFormedMaps a) (others : (j : ℕ) �
         (λ (t : j ≡ k). inl (subst (λ (x : Entry). StandsBefore (live_of g) (live_of x)) (sym (is_new j l t lt)) (stands_last i g o gt)))
         (λ (u : j ≢ k). h.apart i j g l (still i g o gt) (still j l u lt) ne))
 
-    below_added : (j : ℕ) (g : Entry) → entry_at b j g → j < b.slots.capacity
-    below_added j g gt = same_or_other j k (λ (s : j ≡ k). omega arith) (λ (o : j ≢ k). let l = h.below j g (still j g o gt) in omega arith)
-
-    pub whole_added : total (λ (l : LiveMap). 1) (live_maps_of a.slots.slots) < MAPS → IsWellFormedMaps b
-    whole_added fewer = record {
+    pub whole_added : AreKeys b.keys b.entries → MAPS ≤ b.entries.capacity → IsWellFormedMaps b
+    whole_added keys room = record {
+      keys = keys;
+      room = room;
       placed = placed_added;
       apart = apart_added;
-      below = below_added;
-      most = let m = count_added e at bt in omega arith;
-      room = let r = h.room in omega arith;
-      sum = let s = h.sum in let m = more_total e at bt area_of in omega arith;
+      sum = let s = h.sum in let m = more_areas e at bt in omega arith;
       few = few;
       aligned = ap (λ (n : ℕ). n % 8) bytes ∙ aligned_now;
       laid_out = layouts;
@@ -250,9 +240,9 @@ pub opened_up : (end size : ℕ) (o : Option Entry) (g : Entry) → option_map (
 opened_up end size None g h = absurd (none-some g h)
 opened_up end size (Some f) g h = (f, refl, same_Some (closed_up end size f) g h)
 
-module _ (a b : Inside) (k : ℕ) (h : IsWellFormedMaps a) (e : Entry) (at : entry_at a k e) (bt : get_or b.slots.slots k None ≡ None)
-    (closed : (j : ℕ) → j ≢ k → get_or b.slots.slots j None ≡ option_map (closed_up (e.start + area_of (live_of e)) (area_of (live_of e))) (get_or a.slots.slots j None))
-    (room : b.slots.capacity ≡ a.slots.capacity) (bytes : b.bytes + area_of (live_of e) ≡ a.bytes) where
+module _ (a b : Inside) (k : ℕ) (h : IsWellFormedMaps a) (e : Entry) (at : entry_at a k e) (bt : get_or (entries_of b) k None ≡ None)
+    (closed : (j : ℕ) → j ≢ k → get_or (entries_of b) j None ≡ option_map (closed_up (e.start + area_of (live_of e)) (area_of (live_of e))) (get_or (entries_of a) j None))
+    (bytes : b.bytes + area_of (live_of e) ≡ a.bytes) where
   abbrev end : ℕ
   end = e.start + area_of (live_of e)
 
@@ -260,28 +250,25 @@ module _ (a b : Inside) (k : ℕ) (h : IsWellFormedMaps a) (e : Entry) (at : ent
   size = area_of (live_of e)
 
   other : (j : ℕ) (g : Entry) → entry_at b j g → j ≢ k
-  other j g gt s = none-some g (sym bt ∙ ap (λ (i : ℕ). get_or b.slots.slots i None) (sym s) ∙ gt)
+  other j g gt s = none-some g (sym bt ∙ ap (λ (i : ℕ). get_or (entries_of b) i None) (sym s) ∙ gt)
 
   was : (j : ℕ) (g : Entry) → entry_at b j g → (f : Entry) × (entry_at a j f) × (closed_up end size f ≡ g)
-  was j g gt = opened_up end size (get_or a.slots.slots j None) g (sym (closed j (other j g gt)) ∙ gt)
+  was j g gt = opened_up end size (get_or (entries_of a) j None) g (sym (closed j (other j g gt)) ∙ gt)
 
-  same_weight : (w : LiveMap → ℕ) → ((f : Entry) → w (live_of (closed_up end size f)) ≡ w (live_of f)) → (o : Option Entry) → weight w (option_map live_of (option_map (closed_up end size) o)) ≡ weight w (option_map live_of o)
-  same_weight w s None = refl
-  same_weight w s (Some f) = s f
+  same_weight : (o : Option Entry) → weight area_of (option_map live_of (option_map (closed_up end size) o)) ≡ weight area_of (option_map live_of o)
+  same_weight None = refl
+  same_weight (Some f) = refl
 
-  less_total : (w : LiveMap → ℕ) → ((f : Entry) → w (live_of (closed_up end size f)) ≡ w (live_of f)) → total w (live_maps_of b.slots.slots) + w (live_of e) ≡ total w (live_maps_of a.slots.slots)
-  less_total w s =
-      let c = total_but_one w k (live_maps_of a.slots.slots) (live_maps_of b.slots.slots)
+  pub less_areas : areas (as_live_maps b) + area_of (live_of e) ≡ areas (as_live_maps a)
+  less_areas =
+      let c = total_but_one area_of k (live_maps_of (entries_of a)) (live_maps_of (entries_of b))
       (λ j ne.
-      ap (weight w) (at_lives b.slots.slots j ∙ ap (option_map live_of) (closed j ne))
-      ∙ same_weight w s (get_or a.slots.slots j None)
-      ∙ ap (weight w) (sym (at_lives a.slots.slots j))) in
-      let x = ap (weight w) (live_by a.slots.slots a.slots.slots k e at) in
-      let y = ap (weight w) (none_by b.slots.slots b.slots.slots k bt) in
+      ap (weight area_of) (at_lives (entries_of b) j ∙ ap (option_map live_of) (closed j ne))
+      ∙ same_weight (get_or (entries_of a) j None)
+      ∙ ap (weight area_of) (sym (at_lives (entries_of a) j))) in
+      let x = ap (weight area_of) (live_by (entries_of a) (entries_of a) k e at) in
+      let y = ap (weight area_of) (none_by (entries_of b) (entries_of b) k bt) in
       omega arith
-
-  pub one_less_now : total (λ (l : LiveMap). 1) (live_maps_of b.slots.slots) + 1 ≡ total (λ (l : LiveMap). 1) (live_maps_of a.slots.slots)
-  one_less_now = less_total (λ l. 1) (λ f. refl)
 
   pub beside : (j : ℕ) (f : Entry) → j ≢ k → entry_at a j f → (end ≤ f.start) ⊎ (f.start + area_of (live_of f) ≤ e.start)
   beside j f ne ft = h.apart k j e f at ft (λ s. ne (sym s))
@@ -312,14 +299,13 @@ module _ (a b : Inside) (k : ℕ) (h : IsWellFormedMaps a) (e : Entry) (at : ent
       (subst (λ (y : Entry). AreApart (live_of (closed_up end size f.0)) (live_of y)) m.2
       (apart_still e.start size f.0.start (area_of (live_of f.0)) m.0.start (area_of (live_of m.0)) (beside i f.0 (other i g gt) f.1) (beside j m.0 (other j l lt) m.1) (h.apart i j f.0 m.0 f.1 m.1 ne)))
 
-  pub whole_removed : AreLaidOut b.slots b.layouts → IsWellFormedMaps b
-  whole_removed layouts = record {
+  pub whole_removed : AreKeys b.keys b.entries → MAPS ≤ b.entries.capacity → AreLaidOut (entries_of b) b.layouts → IsWellFormedMaps b
+  whole_removed keys room layouts = record {
+    keys = keys;
+    room = room;
     placed = placed_removed;
     apart = apart_removed;
-    below = λ j g gt. let f = was j g gt in let l = h.below j f.0 f.1 in omega arith;
-    most = let m = h.most in let l = one_less_now in omega arith;
-    room = let r = h.room in omega arith;
-    sum = let s = h.sum in let m = less_total area_of (λ f. refl) in omega arith;
+    sum = let s = h.sum in let m = less_areas in omega arith;
     few = let f = h.few in omega arith;
     aligned = let al = h.aligned in let r = area_aligned (places_of e.map).shape.value_size (places_of e.map).shape.max_entries in omega arith;
     laid_out = layouts;

@@ -1,4 +1,4 @@
--- The two kinds of map as one. The kinds are those of bpf(2), BPF_MAP_TYPE_ARRAY and BPF_MAP_TYPE_HASH.
+-- A map of either kind. The kinds are those of bpf(2), BPF_MAP_TYPE_ARRAY and BPF_MAP_TYPE_HASH.
 use Rattle.bpf_maps.specs.declared.any_map.AnyMap.{AnyMap}
 use Rattle.bpf_maps.specs.declared.any_map.AnyMap.TheVariants.{Array, Hash}
 use Rattle.bpf_maps.specs.Places.{PlaceTable}

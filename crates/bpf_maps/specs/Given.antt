@@ -1,4 +1,4 @@
--- A key that a map gives. This project's own.
+-- The next key, as a map returns it. This project's own.
 use Rattle.std.specs.Prelude.{ℕ, List}
 use Rattle.bpf_maps.specs.declared.given_key.GivenKey.{GivenKey}
 use Rattle.bpf_maps.specs.declared.given_key.GivenKey.TheVariants.{Short, Lent}

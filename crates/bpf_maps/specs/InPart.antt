@@ -1,5 +1,5 @@
--- What writes and calls do to live maps, seen as keys with the bytes of their values. The calls are those of bpf(2);
--- where values lie is this project's own.
+-- The effects of writes and calls on live maps, as keys with the bytes of their values. The calls are those of bpf(2); where
+-- values lie is this project's own.
 use Rattle.std.specs.Prelude.{◌≡◌, ◌≢◌, ℕ, ◌<◌, List, length, take, Some, IsSome, Ok}
 use Rattle.words.specs.Bytes.{written_at}
 use Rattle.tagged_model.specs.Table as map
@@ -9,7 +9,7 @@ use Rattle.bpf_maps.specs.Live.{LiveMaps, live_at, places_at, shape_at, offset_a
 
 -- ---- a value is written
 
--- bytes for the value at a place of a live map
+-- these bytes have the size of the value at place p of the live map at place k
 pub record IsValueAt (part : List ℕ) (t : LiveMaps) (k p : ℕ) (bytes : List ℕ) : Type 0 where
   pub whole : length part ≡ PART
   pub laid : IsLaid t
@@ -18,11 +18,12 @@ pub record IsValueAt (part : List ℕ) (t : LiveMaps) (k p : ℕ) (bytes : List 
   pub within : p < (shape_at t k).max_entries
   pub size : length bytes ≡ (shape_at t k).value_size
 
--- a part with these bytes at a place of the map under a key
+-- the part with these bytes as the value at place p of the map at place k
 abbrev pub with_value : List ℕ → LiveMaps → ℕ → ℕ → List ℕ → List ℕ
 with_value part t k p bytes = written_at part (offset_at t k p) bytes
 
--- the value is there, and the key of the place has it; no other value of a live map changes, and neither does the front
+-- these bytes are the value at the place, and that of the place's key; no other value of a live map changes, nor do the stack and
+-- the context
 pub record ValueIsWritten (part : List ℕ) (t : LiveMaps) (k p : ℕ) (bytes : List ℕ) : Type 0 where
   pub here : value_in (with_value part t k p bytes) t k p ≡ bytes
   pub elsewhere : (j q : ℕ) → IsSome (live_at t j) → q < (shape_at t j).max_entries → (j ≡ k → q ≢ p) → value_in (with_value part t k p bytes) t j q ≡ value_in part t j q
@@ -34,9 +35,9 @@ pub record ValueIsWritten (part : List ℕ) (t : LiveMaps) (k p : ℕ) (bytes : 
 abbrev pub ValuesAreWritten : Type 0
 ValuesAreWritten = (part : List ℕ) (t : LiveMaps) (k p : ℕ) (bytes : List ℕ) → IsValueAt part t k p bytes → ValueIsWritten part t k p bytes
 
--- ---- a map changes, and its area stays
+-- ---- a map changes, and its area does not
 
--- the map with a value under a key, as an update with this verdict leaves it
+-- the map after an update of a key to a value, with this verdict
 abbrev pub updated : map.Verdict (List ℕ) → map.Table (List ℕ) → List ℕ → List ℕ → map.Table (List ℕ)
 updated (map.Refused fault) t key value = t
 updated (map.Present old) t key value = map.with_object t key value
@@ -45,7 +46,7 @@ updated map.New t key value = map.with_new t key value
 abbrev pub updated_in : List ℕ → LiveMaps → ℕ → List ℕ → List ℕ → ℕ → map.Table (List ℕ)
 updated_in part t k key value flags = updated (map.verdict (map_in part t k) key flags) (map_in part t k) key value
 
--- the map of values changes as that of places does, where a claim is followed by the write of its value
+-- the map of values changes as that of places does; in an update, a claim is followed by the write of the value
 pub record RefinesValues (part : List ℕ) (old new : LiveMaps) (k : ℕ) : Type 0 where
   pub same : places_at new k ≡ places_at old k → map_in part new k ≡ map_in part old k
   pub delete : (key : List ℕ) (place : ℕ) → places_at new k ≡ with_kept (places_at old k) key place → map_in part new k ≡ map.with_deleted (map_in part old k) key

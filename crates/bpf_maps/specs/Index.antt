@@ -1,4 +1,4 @@
--- How the two kinds of map are kept. This project's own.
+-- The fields of a hash map: its keys with their places, and its invariant. This project's own.
 use Rattle.std.specs.Prelude.{◌≡◌, ℕ, ◌+◌, ◌≤◌, List, length, nat_lt, if◌then◌else◌, vec_capacity}
 use Rattle.std.specs.Map.{values_of}
 use Rattle.tagged_model.specs.declared.shape.MapKind.TheVariants.{Hash}
@@ -12,7 +12,7 @@ abbrev pub entries_of : KeyIndex → List (List ℕ × ℕ)
 entries_of (Words keys) = keys.entries
 entries_of (Bytes es) = es
 
--- it takes keys of so many bytes
+-- the index takes keys of this size in bytes
 abbrev pub TakesKeys : KeyIndex → ℕ → Type 0
 TakesKeys (Words keys) size = size ≡ keys.size
 TakesKeys (Bytes es) size = Unit {0}
@@ -20,7 +20,7 @@ TakesKeys (Bytes es) size = Unit {0}
 abbrev pub shown : Inside → PlaceTable
 shown a = record { shape = a.shape; entries = entries_of a.index; kept = a.kept.items }
 
--- each place is in use, or kept apart, or free, and there is room to keep all places apart and to free them
+-- each place is in use, kept apart or free, and there is room to keep all places apart and to free them all
 pub record IsWellFormedHash (a : Inside) : Type 0 where
   pub kind : a.shape.kind ≡ Hash
   pub takes : TakesKeys a.index a.shape.key_size

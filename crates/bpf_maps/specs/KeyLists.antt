@@ -1,7 +1,7 @@
--- Keys with their places, as the indices of a hash map show them. This project's own.
+-- Keys with their places, as contracts see those of a hash map's index. This project's own.
 use Rattle.std.specs.Prelude.{ℕ, List, map}
 
--- each entry with the bytes that its key stands for
+-- each entry, with the bytes that its key represents
 abbrev pub shown_by : {K : Type 0} → (K → List ℕ) → List (K × ℕ) → List (List ℕ × ℕ)
 shown_by bytes es = map (λ e. (bytes e.0, e.1)) es
 

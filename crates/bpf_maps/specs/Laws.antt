@@ -1,5 +1,5 @@
--- What the calls leave, seen as a map, is what the definition of a map says: as a map of places, and as one of
--- values. This project's own.
+-- Laws of tables of places and of live maps: they change as the definition of a map says, as a map of places and as one of values.
+-- This project's own.
 use Rattle.std.specs.Prelude.{◌≡◌, ℕ, ◌+◌, ◌<◌, ◌≤◌, ◌==◌, if◌then◌else◌, List, Some, IsSome}
 use Rattle.std.specs.Map.{values_of}
 use Rattle.tagged_model.specs.declared.shape.MapShape.{MapShape}
@@ -9,7 +9,7 @@ use Rattle.bpf_maps.specs.Places.{PlaceTable, table_of, occurrences, IsSound, ne
 use Rattle.bpf_maps.specs.declared.part.TheConstants.{PART}
 use Rattle.bpf_maps.specs.Live.{LiveMaps, live_at, offset_at, SameAreas}
 
--- as a map of places
+-- the changes of a table of places are those of a map of places
 
 pub record CallsAreThoseOfAMap : Type 0 where
   pub new : (shape : MapShape) → table_of (new_places shape) ≡ map.new_table (λ i. i) shape
@@ -17,34 +17,34 @@ pub record CallsAreThoseOfAMap : Type 0 where
   pub delete : (t : PlaceTable) (key : List ℕ) (place : ℕ) → table_of (with_kept t key place) ≡ map.with_deleted (table_of t) key
   pub end : (t : PlaceTable) → table_of (after_run t) ≡ map.after_run (table_of t)
 
--- to write a value at a place is to give its key another object
+-- a write of the value at a place gives the place's key another object in the map of values
 abbrev pub WritesRefineValues : Type 0 → Type 0
 WritesRefineValues B =
     (value : ℕ → B) (t : PlaceTable) (key : List ℕ) (place : ℕ) (bytes : B) → IsSound t → map.look_up (table_of t) key ≡ Some place
     → map.with_values (λ p. if p == place then bytes else value p) (table_of t) ≡ map.with_object (map.with_values value (table_of t)) key bytes
 
--- values that agree on the places in use give one map
+-- values that are equal at all places in use give equal maps
 abbrev pub ValuesAgree : Type 0 → Type 0
 ValuesAgree B =
     (f g : ℕ → B) (t : PlaceTable) → ((p : ℕ) → 1 ≤ occurrences p (values_of t.entries) → f p ≡ g p)
     → map.with_values f (table_of t) ≡ map.with_values g (table_of t)
 
--- a place in use, or kept apart, is one of the map
+-- a place in use, or kept apart, is less than `max_entries`
 abbrev pub PlacesAreWithin : Type 0
 PlacesAreWithin = (t : PlaceTable) (p : ℕ) → IsSound t → 1 ≤ occurrences p (values_of t.entries) + occurrences p t.kept → p < t.shape.max_entries
 
 -- ---- a tenant's live maps
 
--- the same areas keep where each value lies
+-- if the areas are unchanged, each value keeps its offset in the part
 abbrev pub AreasKeepPlaces : Type 0
 AreasKeepPlaces = (old new : LiveMaps) (k p : ℕ) → SameAreas old new → IsSome (live_at new k) → offset_at new k p ≡ offset_at old k p
 
--- a delete keeps each place in use: that of the key is kept apart
+-- a deletion frees no place: that of the key is kept apart
 abbrev pub DeletesKeepPlaces : Type 0
 DeletesKeepPlaces =
     (t : PlaceTable) (key : List ℕ) (place p : ℕ) → map.look_up (table_of t) key ≡ Some place
     → occurrences p (values_of (with_kept t key place).entries) + occurrences p (with_kept t key place).kept ≡ occurrences p (values_of t.entries) + occurrences p t.kept
 
--- a key and a value of any shape are no longer than a part
+-- a key and a value of any shape are at most as long as a part
 abbrev pub SizesFitInParts : Type 0
 SizesFitInParts = (s : MapShape) → (s.key_size ≤ PART) × (s.value_size ≤ PART)

@@ -1,11 +1,15 @@
--- Laws of what calls leave of live maps, proved here for the proofs of this crate and of those above. This project's own. No contract
--- cites them: there is nothing in them to believe.
-use Rattle.std.proofs.Common.{◌≡◌, ◌≢◌, ℕ, zero, suc, ◌+◌, ◌<◌, ◌≤◌, List, [], ◌∷◌, Option, Some, None, IsSome, refl, sym, subst, ap₂, ◌∙◌, get_or, arith}
-use Rattle.std.proofs.lemmas.Bool.{false≢true}
+-- Laws of live maps and of the changes by calls, proved here for the proofs of this crate and of the crates above. This project's
+-- own. No contract cites them, so there is nothing in them to believe.
+use Rattle.std.proofs.Common.{◌≡◌, ◌≢◌, ℕ, zero, suc, ◌+◌, ◌<◌, ◌≤◌, ◌⊎◌, inl, inr, false, cond, List, [], ◌∷◌, length, Option, Some, None, IsSome, is_some, refl, sym, subst, ap, ap₂, ◌∙◌, get_or, arith, true≢false}
+use Rattle.std.specs.Prelude.{is_none, position, nat_lt}
+use Rattle.std.specs.List.{position_or_len}
+use Rattle.std.proofs.lemmas.Bool.{false≢true, lt-ltb, cases_lt}
+use Rattle.std.proofs.lemmas.List.Quantifiers.{position-Some}
+use Rattle.std.proofs.lemmas.Option.{none-some}
 use Rattle.bpf_maps.specs.Sum.{weight, total}
-use Rattle.bpf_maps.specs.Live.{LiveMap, LiveMaps, live_at, live_or, shape_at, count, offset, offset_at, LiesInPart, IsLaid, SameAreas, OnlyKeysChange}
+use Rattle.bpf_maps.specs.Live.{LiveMap, LiveMaps, live_at, live_or, shape_at, free_place, offset, offset_at, LiesInPart, IsLaid, SameAreas, OnlyKeysChange}
 
--- where each place counts the same, so does the sum
+-- if the numbers at each place are equal, so are the sums
 pub total_same : {A : Type 0} (f : A → ℕ) (xs ys : List (Option A)) → ((j : ℕ) → weight f (get_or ys j None) ≡ weight f (get_or xs j None)) → total f ys ≡ total f xs
 unfolding total
 total_same f [] [] h = refl
@@ -13,7 +17,7 @@ total_same f [] (y ∷ ys) h = let r = total_same f [] ys (λ j. h (suc j)) in l
 total_same f (x ∷ xs) [] h = let r = total_same f xs [] (λ j. h (suc j)) in let a = h 0 in omega arith
 total_same f (x ∷ xs) (y ∷ ys) h = ap₂ (λ (m n : ℕ). m + n) (h 0) (total_same f xs ys (λ j. h (suc j)))
 
--- the other slots without one that is in use: they are one fewer
+-- a list with one element fewer: the one at k is absent, and the others are unchanged
 record IsWithout {A : Type 0} (k : ℕ) (xs : List (Option A)) : Type 0 where
   slots : List (Option A)
   fewer : total (λ x. 1) slots + 1 ≡ total (λ x. 1) xs
@@ -36,7 +40,7 @@ without_slot (suc k) (x ∷ xs) some =
     later rest zero h = refl
     later rest (suc j) h = rest.others j (λ e. h (omega arith))
 
--- slots in use of which no two are the same are at most as many as there are
+-- n different positions that have an element are at most as many as the elements
 few_slots : {A : Type 0} (n : ℕ) (at : ℕ → ℕ) (xs : List (Option A)) → ((i : ℕ) → i < n → IsSome (get_or xs (at i) None)) → ((i j : ℕ) → i < n → j < n → at i ≡ at j → i ≡ j) → n ≤ total (λ x. 1) xs
 few_slots zero at xs used apart = omega arith
 few_slots (suc m) at xs used apart =
@@ -47,9 +51,62 @@ few_slots (suc m) at xs used apart =
     (λ i j lt less e. apart i j (omega arith) (omega arith) e) in
     omega arith
 
--- keys of live maps of which no two are the same are at most as many as there are live maps
-pub few_keys : (n : ℕ) (key : ℕ → ℕ) (tenant : LiveMaps) → ((i : ℕ) → i < n → IsSome (live_at tenant (key i))) → ((i j : ℕ) → i < n → j < n → key i ≡ key j → i ≡ j) → n ≤ count tenant
-few_keys n key tenant live apart = few_slots n key tenant.slots live apart
+slots_most : {A : Type 0} (xs : List (Option A)) → total (λ x. 1) xs ≤ length xs
+unfolding total
+slots_most [] = omega arith
+slots_most (None ∷ xs) = let rest = slots_most xs in omega arith
+slots_most (Some x ∷ xs) = let rest = slots_most xs in omega arith
+
+-- n different keys of live maps are at most as many as there are places
+pub few_keys : (n : ℕ) (key : ℕ → ℕ) (tenant : LiveMaps) → ((i : ℕ) → i < n → IsSome (live_at tenant (key i))) → ((i j : ℕ) → i < n → j < n → key i ≡ key j → i ≡ j) → n ≤ length tenant.maps
+few_keys n key tenant live apart = let few = few_slots n key tenant.maps live apart in let most = slots_most tenant.maps in omega arith
+
+some_within : {A : Type 0} (k : ℕ) (xs : List (Option A)) → IsSome (get_or xs k None) → k < length xs
+some_within k [] some = absurd (false≢true some)
+some_within zero (x ∷ xs) some = omega arith
+some_within (suc k) (x ∷ xs) some = let rest = some_within k xs some in omega arith
+
+-- a live map is at one of the places
+pub live_within : (k : ℕ) (tenant : LiveMaps) → IsSome (live_at tenant k) → k < length tenant.maps
+live_within k tenant live = some_within k tenant.maps live
+
+-- ---- the lowest free place
+
+same_front : {A B : Type 0} (xs : List (Option A)) (ys : List (Option B)) → length xs ≡ length ys → ((k : ℕ) → is_some (get_or xs k None) ≡ is_some (get_or ys k None)) → position_or_len is_none xs ≡ position_or_len is_none ys
+same_front [] [] long same = refl
+same_front [] (y ∷ ys) long same = absurd (omega arith)
+same_front (x ∷ xs) [] long same = absurd (omega arith)
+same_front (None ∷ xs) (None ∷ ys) long same = refl
+same_front (None ∷ xs) (Some y ∷ ys) long same = absurd (false≢true (same 0))
+same_front (Some x ∷ xs) (None ∷ ys) long same = absurd (true≢false (same 0))
+same_front (Some x ∷ xs) (Some y ∷ ys) long same = ap (λ (n : ℕ). 1 + n) (same_front xs ys (omega arith) (λ k. same (suc k)))
+
+-- it is the same in two lists of the same length in which the same places are free
+pub same_lowest : {A B : Type 0} (xs : List (Option A)) (ys : List (Option B)) → length xs ≡ length ys → ((k : ℕ) → is_some (get_or xs k None) ≡ is_some (get_or ys k None)) → position is_none xs ≡ position is_none ys
+same_lowest xs ys long same = ap₂ (λ (n len : ℕ). cond (nat_lt n len) (Some n) None) (same_front xs ys long same) long
+
+pub same_free_place : (old new : LiveMaps) → length new.maps ≡ length old.maps → ((k : ℕ) → is_some (live_at new k) ≡ is_some (live_at old k)) → free_place new ≡ free_place old
+same_free_place old new long same = same_lowest new.maps old.maps long same
+
+front_most : {A : Type 0} (k : ℕ) (xs : List (Option A)) → k < length xs → get_or xs k None ≡ None → position_or_len is_none xs ≤ k
+front_most k [] within free = absurd (omega arith)
+front_most k (None ∷ xs) within free = omega arith
+front_most zero (Some x ∷ xs) within free = absurd (none-some x (sym free))
+front_most (suc k) (Some x ∷ xs) within free = let rest = front_most k xs (omega arith) free in omega arith
+
+-- it is no higher than any free place
+pub lowest_most : (lowest k : ℕ) (tenant : LiveMaps) → free_place tenant ≡ Some lowest → live_at tenant k ≡ None → lowest ≤ k
+lowest_most lowest k tenant is free = by_order (cases_lt k lowest)
+  where
+    by_order : (k < lowest) ⊎ (lowest ≤ k) → lowest ≤ k
+    by_order (inl lower) = absurd (true≢false (sym (ap is_none free) ∙ (position-Some is_none tenant.maps lowest None is).2 k lower))
+    by_order (inr high) = high
+
+-- there is one if a place has no map
+pub some_place_free : (k : ℕ) (tenant : LiveMaps) → k < length tenant.maps → live_at tenant k ≡ None → is_none (free_place tenant) ≡ false
+some_place_free k tenant within free =
+    let most = front_most k tenant.maps within free in
+    ap (λ b. is_none (cond b (Some (position_or_len is_none tenant.maps)) None)) (lt-ltb (position_or_len is_none tenant.maps) (length tenant.maps) (omega arith))
 
 -- the value at a place of a live map lies in the part
 pub laid_inside : (tenant : LiveMaps) → IsLaid tenant → (k p : ℕ) → IsSome (live_at tenant k) → p < (shape_at tenant k).max_entries → LiesInPart (offset_at tenant k p) (shape_at tenant k).value_size
@@ -59,18 +116,18 @@ laid_inside tenant laid k p live lt = by (live_at tenant k) refl live lt
     by None e some lt = absurd (false≢true some)
     by (Some l) e some lt = laid.inside k p l e lt
 
--- nothing changes where nothing is done
+-- all areas are the same if nothing changes
 pub same_areas : (tenant : LiveMaps) → SameAreas tenant tenant
 same_areas tenant k l e = (l, e, refl, refl, refl)
 
--- and one change after another keeps what both keep
+-- and after two changes that each keep the areas
 pub areas_along : (old mid new : LiveMaps) → SameAreas old mid → SameAreas mid new → SameAreas old new
 areas_along old mid new first then k l e =
     let m = then k l e in
     let o = first k m.0 m.1 in
     (o.0, o.1, m.2 ∙ o.2, m.3 ∙ o.3, m.4 ∙ o.4)
 
--- calls on the keys of one map, one after another
+-- two changes of one map's keys, one after the other, change only its keys
 pub keys_along : (key : ℕ) (old mid new : LiveMaps) → OnlyKeysChange key old mid → OnlyKeysChange key mid new → OnlyKeysChange key old new
 keys_along key old mid new first then = record {
   live = then.live;
@@ -79,6 +136,6 @@ keys_along key old mid new first then = record {
   sound = then.sound;
   others = λ other apart. then.others other apart ∙ first.others other apart;
   areas = areas_along old mid new first.areas then.areas;
-  room = record { maps = then.room.maps ∙ first.room.maps; bytes = then.room.bytes ∙ first.room.bytes };
+  room = then.room ∙ first.room;
   laid = then.laid;
 }

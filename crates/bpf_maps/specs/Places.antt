@@ -1,5 +1,5 @@
--- A map with places for objects, and what its calls may answer and leave. The places of the keys that a run deleted
--- are kept apart until it ends. The calls are those of bpf(2); places are this project's own.
+-- A map whose objects are places, and the possible results and effects of its calls. The place of a key that a run deletes is kept
+-- apart until the run ends. The calls are those of bpf(2); places are this project's own.
 use Rattle.std.specs.Prelude.{◌≡◌, ℕ, ◌+◌, ◌<◌, ◌≤◌, nat_eq, nat_lt, if◌then◌else◌, List, [], ◌∷◌, ◌++◌, drop, length, Option, Some, None, Result, Ok, Err}
 use Rattle.std.specs.Map.{keys_of, values_of}
 use Rattle.tagged_model.specs.declared.shape.MapKind.TheVariants.{Array}
@@ -8,34 +8,34 @@ use Rattle.tagged_model.specs.declared.fault.MapFault.{MapFault}
 use Rattle.tagged_model.specs.declared.fault.MapFault.TheVariants.{NoEntry, TooBig, Memory, Exists, Invalid, NoSpace}
 use Rattle.tagged_model.specs.Table.{Table, Verdict, Refused, Present, New, with_key, without, indexed, new_entries}
 
--- the keys with their places in order, and the places that are kept apart
+-- the keys in order, each with its place, and the places that are kept apart
 pub record PlaceTable : Type 0 where
   pub shape : MapShape
   pub entries : List (List ℕ × ℕ)
   pub kept : List ℕ
 
--- as a map: each place that is kept apart is an object that was deleted
+-- the table as a map; each place that is kept apart counts as a deleted object
 abbrev pub table_of : PlaceTable → Table ℕ
 table_of t = record { shape = t.shape; entries = t.entries; deleted = length t.kept }
 
--- a new map. The place of an index is the index
+-- the table of a new map; the place of an array's index is the index
 abbrev pub new_places : MapShape → PlaceTable
 new_places shape = record { shape = shape; entries = new_entries (λ i. i) shape.kind shape.max_entries; kept = [] }
 
--- ---- what always holds
+-- ---- the invariant
 
--- how often a place stands in a list
+-- the number of times that a list has a place
 abbrev pub occurrences : ℕ → List ℕ → ℕ
 occurrences p [] = 0
 occurrences p (x ∷ xs) = (if nat_eq p x then 1 else 0) + occurrences p xs
 
--- each key has this size
+-- each key has n bytes
 abbrev pub IsSized : ℕ → List (List ℕ × ℕ) → Type 0
 IsSized n [] = Unit {0}
 IsSized n (e ∷ es) = (length e.0 ≡ n) × IsSized n es
 
--- each place below `max_entries` is in use at most once, and no other is. To be kept apart is a use. An array has all its
--- indices
+-- each place less than `max_entries` is in use at most once, and no other place is; being kept apart is a use. Each key has the
+-- map's key size, and an array has all its indices
 pub record IsSound (t : PlaceTable) : Type 0 where
   pub once : (p : ℕ) → occurrences p (values_of t.entries) + occurrences p t.kept ≤ (if nat_lt p t.shape.max_entries then 1 else 0)
   pub few : length t.entries + length t.kept ≤ t.shape.max_entries
@@ -53,8 +53,8 @@ pub record IsFree (t : PlaceTable) (p : ℕ) : Type 0 where
 abbrev pub with_place : PlaceTable → List ℕ → ℕ → PlaceTable
 with_place t key p = record { shape = t.shape; entries = with_key key p t.entries; kept = t.kept }
 
--- what an update may answer and leave, by its verdict. A new key's place is any that is not in use, and a new key may be
--- refused for memory
+-- the possible results of a claim by the verdict on its update, each with the table after it; a new key gets any place that is not
+-- in use, or is refused memory
 abbrev pub Claims : Verdict ℕ → List ℕ → PlaceTable → Result ℕ MapFault → PlaceTable → Type 0
 Claims (Refused fault) key old answer new = (answer ≡ Err fault) × (new ≡ old)
 Claims (Present p) key old answer new = (answer ≡ Ok p) × (new ≡ old)
@@ -69,16 +69,16 @@ Claims New key old (Err NoSpace) new = ⊥
 abbrev pub with_kept : PlaceTable → List ℕ → ℕ → PlaceTable
 with_kept t key p = record { shape = t.shape; entries = without key t.entries; kept = t.kept ++ p ∷ [] }
 
--- what a delete answers and leaves. The place that goes is kept apart
+-- the result of a deletion, and the table after it; the place of the key is kept apart
 abbrev pub Removes : Result ℕ MapFault → List ℕ → PlaceTable → Result (Unit {0}) MapFault → PlaceTable → Type 0
 Removes (Err fault) key old answer new = (answer ≡ Err fault) × (new ≡ old)
 Removes (Ok p) key old answer new = (answer ≡ Ok tt) × (new ≡ with_kept old key p)
 
--- what a request for the next key answers and leaves in the room that is given
+-- the result of a request for the next key, and the bytes of the caller's buffer after it
 abbrev pub GivesKey : Option (List ℕ) → List ℕ → Result (Unit {0}) MapFault → List ℕ → Type 0
 GivesKey None old answer new = (answer ≡ Err NoEntry) × (new ≡ old)
 GivesKey (Some key) old answer new = (answer ≡ Ok tt) × (new ≡ key ++ drop (length key) old)
 
--- no place is kept apart any more
+-- the table after the end of a run: no place is kept apart
 abbrev pub after_run : PlaceTable → PlaceTable
 after_run t = record { shape = t.shape; entries = t.entries; kept = [] }

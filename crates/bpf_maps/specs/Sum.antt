@@ -1,8 +1,8 @@
--- The sum of a number over what is there. This project's own.
+-- The sum of a number over the elements that are present. This project's own.
 use Rattle.std.specs.Prelude.{ℕ, ◌+◌, List, [], ◌∷◌, Option}
 use Rattle.std.specs.Option.{option_map_or}
 
--- a number of what is there, and 0 where nothing is
+-- the number of an element; 0 if it is absent
 abbrev pub weight : {A : Type 0} → (A → ℕ) → Option A → ℕ
 weight f x = option_map_or f x 0
 

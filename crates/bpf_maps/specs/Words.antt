@@ -4,16 +4,16 @@ use Rattle.words.specs.Bytes.{low_bytes}
 use Rattle.bpf_maps.specs.KeyLists.{SizedKeys, shown_by}
 use Rattle.bpf_maps.specs.declared.word_index.WordIndex.TheInside.{Inside}
 
--- a number stands for its low bytes, as many as a key has
+-- a number represents its low bytes, as many as a key has
 abbrev pub words_shown : Inside → SizedKeys
 words_shown w = record { size = w.size; entries = shown_by (low_bytes w.size) w.map.entries }
 
--- each key is a number below this
+-- each key is a number less than `bound`
 abbrev pub AreBelow : ℕ → List (ℕ × ℕ) → Type 0
 AreBelow bound [] = Unit {0}
 AreBelow bound (e ∷ es) = (e.0 < bound) × AreBelow bound es
 
--- a key has at most eight bytes, and is a number of so many
+-- a key has at most eight bytes, and its number fits in as many bytes as it has
 pub record IsWellFormedWords (w : Inside) : Type 0 where
   pub short : w.size ≤ 8
   pub below : AreBelow (256 ^ w.size) w.map.entries

@@ -1,4 +1,4 @@
-//! The two kinds of map as one.
+//! The two kinds of map as one type.
 
 ghost use Rattle.std.specs.Prelude.{◌≡◌, ◌<◌, ◌⊎◌, length, [], option_map, IfOk, IfSome};
 ghost use Rattle.tagged_model.specs.declared.shape.MapKind.TheVariants.{Array};
@@ -22,7 +22,7 @@ pub enum AnyMap {
 }
 
 impl AnyMap {
-    /// A new map of this shape. An error is want of memory, which only a hash map needs.
+    /// Makes a map of this shape. Only a hash map takes memory. `AllocError`: out of memory.
     pub fn new(alloc: Global, shape: MapShape) -> Result<AnyMap, AllocError>
         ensures { IfOk result (λ map. places_of map ≡ new_places shape) }
     {
@@ -32,7 +32,7 @@ impl AnyMap {
         }
     }
 
-    /// A law: an array has its indices and nothing else. It does nothing when it runs.
+    /// A law: an array has all its indices and nothing else. It does nothing when it runs.
     #[inline(always)]
     pub(crate) fn array_has_its_indices(&self)
         ensures { (places_of self.now).shape.kind ≡ Array
@@ -44,7 +44,7 @@ impl AnyMap {
         }
     }
 
-    /// Its shape.
+    /// The map's shape.
     pub fn shape(&self) -> MapShape
         ensures { result ≡ (places_of self.now).shape }
     {

@@ -12,7 +12,7 @@ use crate::value_map::{EXIST, NOEXIST, ValueMap};
 use std::marker::Model;
 use tagged_model::{MapFault, MapShape};
 
-/// The bytes of an index.
+/// The size of an index in bytes.
 const INDEX_SIZE: usize = 4;
 
 /// An array, which has all its indices from the start. The place of an index is the index.
@@ -34,7 +34,7 @@ impl Model for ArrayMap {
 }
 
 impl ArrayMap {
-    /// An array of this shape.
+    /// Makes an array of this shape.
     #[inline(always)]
     pub fn new(shape: MapShape) -> ArrayMap
         requires { shape.kind ≡ Array }
@@ -43,14 +43,14 @@ impl ArrayMap {
         ArrayMap { shape }
     }
 
-    /// Its shape.
+    /// The map's shape.
     pub fn shape(&self) -> MapShape
         ensures { result ≡ self.now.shape }
     {
         self.shape
     }
 
-    /// A law: it has its indices and nothing else, and their keys have four bytes. It does nothing when it runs.
+    /// A law: the array has all its indices and nothing else, and their keys have four bytes. It does nothing when it runs.
     #[inline(always)]
     pub(crate) fn keys_are_its_indices(&self)
         ensures kind { self.now.shape.kind ≡ Array }
@@ -61,7 +61,7 @@ impl ArrayMap {
         let _ = &self.shape;
     }
 
-    /// The index that a key spells. The array has it if it is below `max_entries`.
+    /// The index whose key has these four bytes. The array has it if it is less than `max_entries`.
     #[inline(always)]
     pub(crate) fn index_spelled(&self, key: &[u8]) -> u32
         requires { length key.now ≡ self.now.shape.key_size }
@@ -73,7 +73,7 @@ impl ArrayMap {
         index_of(key)
     }
 
-    /// The index that a key spells, if the array has it.
+    /// The index of a key; `None` if the array doesn't have it.
     #[inline(always)]
     fn place_of(&self, key: &[u8]) -> Option<u32>
         requires { length key.now ≡ self.now.shape.key_size }
@@ -90,11 +90,12 @@ impl ArrayMap {
         }
     }
 
-    /// The place of a key that is updated with these flags.
+    /// The place of a key, for an update with these flags.
     ///
     /// # Errors
     ///
-    /// Those of an update with these flags.
+    /// Those of an update: `Invalid` if `flags` is none of `ANY`, `NOEXIST` and `EXIST`, else `TooBig` if the index is out of
+    /// range, else `Exists` if `flags` is `NOEXIST`.
     #[inline(always)]
     pub(crate) fn place_for(&self, key: &[u8], flags: u64) -> Result<u32, MapFault>
         requires size { length key.now ≡ self.now.shape.key_size }
@@ -119,7 +120,7 @@ impl ArrayMap {
         }
     }
 
-    /// The index that follows a key, which may be the one behind the last. An empty or unknown key is followed by the first.
+    /// The index that follows a key, which may be one past the last. After an empty or absent key it is the first.
     fn index_after(&self, key: &[u8]) -> u32
         requires size { (key.now ≡ []) ⊎ (length key.now ≡ self.now.shape.key_size) }
         ensures next { next_of (table_of self.now) key.now
@@ -170,7 +171,7 @@ impl ValueMap for ArrayMap {
     }
 }
 
-/// The number that a key spells, the lowest byte first.
+/// The index in the four bytes of a key, little-endian.
 #[inline(always)]
 fn index_of(key: &[u8]) -> u32
     requires { length key.now ≡ 4 }

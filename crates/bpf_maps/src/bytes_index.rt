@@ -1,4 +1,4 @@
-//! Places by keys of any length.
+//! The places of keys of any length.
 
 ghost use Rattle.std.specs.Prelude.{◌≡◌, None, OnOk, OnErr, [], slice_get, option_map};
 ghost use Rattle.tagged_model.specs.Table.{found, with_key, without, key_after};
@@ -9,7 +9,7 @@ use indexmap::IndexMap;
 use std::alloc::{AllocError, Global};
 use std::marker::Model;
 
-/// Keys of any length, each with its place, in the order in which they came. Contracts see the keys' bytes with their places.
+/// Keys of any length, each with its place, in the order in which they were added. Contracts see the keys' bytes with their places.
 #[derive(Drop)]
 pub struct BytesIndex {
     map: IndexMap<LongKey, u32>,
@@ -24,7 +24,7 @@ impl Model for BytesIndex {
 }
 
 impl BytesIndex {
-    /// No key yet.
+    /// Makes an index without keys.
     pub(crate) fn new(alloc: Global) -> BytesIndex
         ensures { result ≡ [] }
     {
@@ -33,7 +33,7 @@ impl BytesIndex {
         }
     }
 
-    /// The place of a key.
+    /// Returns the place of a key; `None` if the key is absent.
     #[inline(always)]
     pub(crate) fn get(&self, key: &[u8]) -> Option<u32>
         ensures { result ≡ found key.now self.now }
@@ -41,11 +41,11 @@ impl BytesIndex {
         self.map.get(KeyBytes { bytes: key }).copied()
     }
 
-    /// The index of the entry that follows a key. A key that is not there is followed by the first.
+    /// The index of the entry that follows a key. After an absent key it is the first.
     fn index_after(&self, key: &[u8]) -> usize
         ensures { key_of (slice_get self.now result) ≡ key_after key.now self.now }
     {
-        // An index is below the number of keys, so the next one is a number too.
+        // An index is less than the number of keys, so the next one doesn't overflow.
         let _count = self.map.len();
         match self.map.get_index_of(KeyBytes { bytes: key }) {
             Some(index) => index + 1,
@@ -53,7 +53,7 @@ impl BytesIndex {
         }
     }
 
-    /// The key that follows a key, if one does. A key that is not there is followed by the first.
+    /// Returns the key that follows a key, if there is one. After an absent key it is the first.
     pub(crate) fn key_after(&self, key: &[u8]) -> Option<&[u8]>
         ensures { option_map lent_key result ≡ key_after key.now self.now }
     {
@@ -61,7 +61,7 @@ impl BytesIndex {
         Some(following.bytes())
     }
 
-    /// Puts a new key last. An error is want of memory, and nothing has changed then.
+    /// Adds a new key at the end. `AllocError`: out of memory. Then nothing has changed.
     pub(crate) fn insert(&mut self, key: &[u8], place: u32) -> Result<(), AllocError>
         requires { found key.now self.old ≡ None }
         ensures added { OnOk result (self.new ≡ with_key key.now place self.old) }
@@ -72,7 +72,7 @@ impl BytesIndex {
         Ok(())
     }
 
-    /// Takes a key out, and answers its place. The others keep their order.
+    /// Removes a key and returns its place; `None` if the key is absent. The others keep their order.
     pub(crate) fn remove(&mut self, key: &[u8]) -> Option<u32>
         ensures place { result ≡ found key.now self.old }
         ensures left { self.new ≡ without key.now self.old }

@@ -1,10 +1,10 @@
-//! What a caller can tell of live maps, seen with the bytes of their values, from the contracts alone.
+//! What follows for a caller from the contracts alone, of live maps with the bytes of their values.
 
-ghost use Rattle.std.specs.Prelude.{◌≡◌, ◌≢◌, ◌-◌, ◌^◌, ◌<◌, ◌≤◌, length, Err, IfOk, OnErr, IsSome};
+ghost use Rattle.std.specs.Prelude.{◌≡◌, ◌≢◌, ◌+◌, ◌-◌, ◌^◌, ◌<◌, ◌≤◌, length, Err, IfOk, OnErr, IsSome};
 ghost use Rattle.tagged_model.specs.Table.{after_run, with_deleted};
 ghost use Rattle.tagged_model.specs.declared.fault.MapFault.TheVariants.{NoSpace};
 ghost use Rattle.bpf_maps.specs.declared.part.TheConstants.{PART};
-ghost use Rattle.bpf_maps.specs.Live.{live_at, shape_at, holds_at, map_in, SameValues, KeepsMap, KeepsMaps, KeepsOthers, SameRoom};
+ghost use Rattle.bpf_maps.specs.Live.{live_at, shape_at, holds_at, map_in, SameValues, KeepsMap, KeepsMaps, KeepsOthers, areas, create_fault};
 ghost use Rattle.bpf_maps.specs.InPart.{updated_in};
 
 use crate::laws;
@@ -13,7 +13,7 @@ use crate::value_map::ANY;
 use std::alloc::Global;
 use tagged_model::{MapFault, MapShape};
 
-/// An update changes the map as its verdict says, and no other map. A refusal changes no map.
+/// An update changes the map as the verdict on it says, and no other map. A refused update changes no map.
 fn update(
     maps: &mut Maps,
     map: MapKey,
@@ -40,7 +40,7 @@ fn update(
     Ok(())
 }
 
-/// A delete outside a run takes the key out of the map, and changes no other map. A refusal changes no map.
+/// A deletion outside a run removes the key from the map, and changes no other map. A refused deletion changes no map.
 fn delete(maps: &mut Maps, map: MapKey, key: &[u8], part: &[u8]) -> Result<(), MapFault>
     requires live { IsSome (live_at maps.old map) }
     requires key { length key.now ≡ (shape_at maps.old map).key_size }
@@ -55,7 +55,7 @@ fn delete(maps: &mut Maps, map: MapKey, key: &[u8], part: &[u8]) -> Result<(), M
     Ok(())
 }
 
-/// Where no value at a place of a map has changed, the map has not.
+/// If no value at a place of a map has changed, the map is unchanged.
 fn is_unchanged(maps: &Maps, map: MapKey, before: &[u8], after: &[u8])
     requires live { IsSome (live_at maps.now map) }
     requires values { SameValues maps.now before.now maps.now after.now }
@@ -65,10 +65,11 @@ fn is_unchanged(maps: &Maps, map: MapKey, before: &[u8], after: &[u8])
     laws::values_agree();
 }
 
-/// A tenant's first map is made, if there is memory for it.
+/// Creates a tenant's first map, at place 0, unless out of memory.
 fn make_first(alloc: Global, shape: MapShape, part: &mut [u8]) -> Result<MapKey, MapFault>
     requires { length part.old ≡ PART }
-    ensures { result ≢ Err NoSpace }
+    ensures room { result ≢ Err NoSpace }
+    ensures first { IfOk result (λ map. map ≡ 0) }
 {
     let Ok(mut maps) = Maps::new(alloc) else {
         return Err(MapFault::Memory);
@@ -77,39 +78,43 @@ fn make_first(alloc: Global, shape: MapShape, part: &mut [u8]) -> Result<MapKey,
     maps.create(shape, part)
 }
 
-/// Where a map goes, there is room for another of its shape, and the other maps stay.
+/// After a map is freed there is room for another of its shape, at its place or a lower one. The other maps are unchanged.
 fn make_again(maps: &mut Maps, map: MapKey, part: &mut [u8]) -> Result<MapKey, MapFault>
     requires live { IsSome (live_at maps.old map) }
     requires last { holds_at maps.old map ≤ 1 }
     requires part { length part.old ≡ PART }
     ensures room { result ≢ Err NoSpace }
+    ensures lowest { IfOk result (λ made. made ≤ map) }
     ensures others { KeepsOthers map maps.old part.old maps.new part.new }
 {
     maps.maps_are_laid();
     let shape = maps.shape(map);
     maps.release(map, part);
+    maps.maps_are_laid();
     maps.create(shape, part)
 }
 
-/// A map that is made and released leaves as much room as there was, and the other maps stay.
+/// After a map is created and released there is as much room as before. The other maps are unchanged.
 fn make_and_release(maps: &mut Maps, shape: MapShape, part: &mut [u8])
     requires { length part.old ≡ PART }
-    ensures room { SameRoom maps.old maps.new }
+    ensures room { (other : MapShape) → create_fault maps.new other ≡ create_fault maps.old other }
     ensures maps { KeepsMaps maps.old part.old maps.new part.new }
 {
+    maps.maps_are_laid();
     if let Ok(map) = maps.create(shape, part) {
         maps.release(map, part);
+        maps.maps_are_laid();
     }
 }
 
-/// The calls on a map leave as much room for others as there was.
+/// Calls on a map leave as much room for others as before.
 fn work_on(maps: &mut Maps, map: MapKey, key: &[u8], part: &mut [u8])
     requires live { IsSome (live_at maps.old map) }
     requires few { holds_at maps.old map < 2 ^ 32 - 1 }
     requires held { 1 ≤ holds_at maps.old map }
     requires key { length key.now ≡ (shape_at maps.old map).key_size }
     requires part { length part.old ≡ PART }
-    ensures { SameRoom maps.old maps.new }
+    ensures { areas maps.new ≡ areas maps.old }
 {
     maps.hold(map);
     let _ = maps.claim(map, key, ANY);
@@ -118,7 +123,7 @@ fn work_on(maps: &mut Maps, map: MapKey, key: &[u8], part: &mut [u8])
     maps.release(map, part);
 }
 
-/// One hold more and one less change no map.
+/// A reference that is added and dropped again changes no map.
 fn hold_and_release(maps: &mut Maps, map: MapKey, part: &mut [u8])
     requires live { IsSome (live_at maps.old map) }
     requires few { holds_at maps.old map < 2 ^ 32 - 1 }

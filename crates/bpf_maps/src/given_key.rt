@@ -1,4 +1,4 @@
-//! A key that a map gives.
+//! The next key, as a map returns it.
 
 ghost use Rattle.std.specs.Prelude.{◌≡◌, ◌≤◌};
 ghost use Rattle.words.specs.Bytes.{low_bytes};
@@ -9,7 +9,7 @@ use std::marker::Model;
 /// A key of at most eight bytes. Contracts see its bytes.
 #[derive(Drop)]
 pub struct ShortKey {
-    // Those of the key stand at the front.
+    // The first `length` are those of the key.
     bytes: [u8; 8],
     length: usize,
 }
@@ -25,7 +25,7 @@ impl Model for ShortKey {
 }
 
 impl ShortKey {
-    /// The low bytes of a number, so many.
+    /// Makes a key of the lowest `length` bytes of a number, little-endian.
     pub(crate) fn of_word(word: u64, length: usize) -> ShortKey
         requires { length ≤ 8 }
         ensures { result ≡ low_bytes length word }
@@ -43,7 +43,7 @@ impl ShortKey {
     }
 }
 
-/// A key that a map gives: a short one by value, and a longer one lent from where the map keeps it.
+/// A key that a map returns: a short one by value, a longer one borrowed from where the map keeps it.
 #[derive(Drop)]
 pub enum GivenKey<'a> {
     Short(ShortKey),
@@ -51,7 +51,7 @@ pub enum GivenKey<'a> {
 }
 
 impl<'a> GivenKey<'a> {
-    /// Its bytes.
+    /// The bytes of the key.
     pub fn bytes(&self) -> &[u8]
         ensures { result.now ≡ given_bytes self.now }
     {

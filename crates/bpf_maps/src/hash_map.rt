@@ -12,14 +12,14 @@ use std::alloc::{AllocError, Global};
 use std::marker::Model;
 use tagged_model::{MapFault, MapShape};
 
-/// A map from keys of any bytes to places, in the order in which the keys came.
+/// A map from keys of any bytes to places, in the order in which the keys were added.
 #[derive(Drop)]
 pub struct HashMapIx {
     shape: MapShape,
     index: KeyIndex,
-    // Places of keys that were removed in this run.
+    // The places of keys that were removed in this run.
     kept: Vec<u32>,
-    // Places that are not in use.
+    // The places that are free.
     free: Vec<u32>,
 }
 
@@ -36,7 +36,7 @@ impl Model for HashMapIx {
 }
 
 impl HashMapIx {
-    /// A map of this shape with no keys. Room to keep all places apart is made here. An error is want of memory.
+    /// Makes a map of this shape without keys. Allocates room to keep all places apart. `AllocError`: out of memory.
     pub fn new(alloc: Global, shape: MapShape) -> Result<HashMapIx, AllocError>
         requires { shape.kind ≡ Hash }
         ensures { IfOk result (λ map. map ≡ new_places shape) }
@@ -51,7 +51,7 @@ impl HashMapIx {
         })
     }
 
-    /// Its shape.
+    /// The map's shape.
     pub fn shape(&self) -> MapShape
         ensures { result ≡ self.now.shape }
     {
@@ -67,7 +67,7 @@ impl HashMapIx {
         let _ = &self.shape;
     }
 
-    /// The place of a key.
+    /// The place of a key; `None` if the key is absent.
     #[inline(always)]
     fn place_of(&self, key: &[u8]) -> Option<u32>
         requires { length key.now ≡ self.now.shape.key_size }
@@ -77,7 +77,8 @@ impl HashMapIx {
         self.index.get(key)
     }
 
-    /// A place for a new key, which goes last.
+    /// Claims a free place for a new key, which goes to the end. `TooBig` if no place is free, else `Memory` if out of memory. Then
+    /// nothing has changed.
     #[cold]
     #[inline(never)]
     fn add(&mut self, key: &[u8]) -> Result<u32, MapFault>
@@ -150,7 +151,7 @@ impl ValueMap for HashMapIx {
     }
 }
 
-/// All places below a number.
+/// All places less than `count`, each once. `AllocError`: out of memory.
 fn all_places(alloc: Global, count: u32) -> Result<Vec<u32>, AllocError>
     ensures once { IfOk result (λ all. (p : ℕ) → occurrences p all.items
         ≡ (if nat_lt p count then 1 else 0)) }

@@ -1,4 +1,4 @@
-//! Places by keys of one size.
+//! The index of a hash map: the places of keys of one size.
 
 ghost use Rattle.std.specs.Prelude.{◌≡◌, None, OnOk, OnErr, [], length, option_map};
 ghost use Rattle.tagged_model.specs.Table.{found, with_key, without, key_after};
@@ -10,7 +10,8 @@ use crate::given_key::GivenKey;
 use crate::word_index::{LONGEST_WORD, WordIndex};
 use std::alloc::{AllocError, Global};
 
-/// The keys of a hash map, each with its place, in the order in which they came: short keys as numbers, longer ones as bytes.
+/// The keys of a hash map, each with its place, in the order in which they were added. Short keys are kept as numbers, longer ones
+/// as bytes.
 #[derive(Drop)]
 pub enum KeyIndex {
     Words(WordIndex),
@@ -18,7 +19,7 @@ pub enum KeyIndex {
 }
 
 impl KeyIndex {
-    /// No key yet. It takes keys of this size.
+    /// Makes an index without keys, for keys of `key_size` bytes.
     pub(crate) fn new(alloc: Global, key_size: usize) -> KeyIndex
         ensures entries { entries_of result ≡ [] }
         ensures takes { TakesKeys result key_size }
@@ -30,7 +31,7 @@ impl KeyIndex {
         }
     }
 
-    /// The place of a key.
+    /// Returns the place of a key; `None` if the key is absent.
     #[inline(always)]
     pub(crate) fn get(&self, key: &[u8]) -> Option<u32>
         requires { TakesKeys self.now (length key.now) }
@@ -42,7 +43,7 @@ impl KeyIndex {
         }
     }
 
-    /// The key that follows a key, if one does. A key that is not there is followed by the first.
+    /// Returns the key that follows a key, if there is one. After an absent key it is the first.
     pub(crate) fn key_after(&self, key: &[u8]) -> Option<GivenKey<'_>>
         ensures { option_map given_bytes result ≡ key_after key.now (entries_of self.now) }
     {
@@ -52,7 +53,7 @@ impl KeyIndex {
         }
     }
 
-    /// Puts a new key last. An error is want of memory, and nothing has changed then.
+    /// Adds a new key at the end. `AllocError`: out of memory. Then nothing has changed.
     pub(crate) fn insert(&mut self, key: &[u8], place: u32) -> Result<(), AllocError>
         requires takes { TakesKeys self.old (length key.now) }
         requires absent { found key.now (entries_of self.old) ≡ None }
@@ -67,7 +68,7 @@ impl KeyIndex {
         }
     }
 
-    /// Takes a key out, and answers its place. The others keep their order.
+    /// Removes a key and returns its place; `None` if the key is absent. The others keep their order.
     pub(crate) fn remove(&mut self, key: &[u8]) -> Option<u32>
         requires { TakesKeys self.old (length key.now) }
         ensures place { result ≡ found key.now (entries_of self.old) }

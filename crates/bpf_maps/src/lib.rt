@@ -1,13 +1,14 @@
-//! The two kinds of map. Each finds places for keys; what a place holds is no concern of theirs.
+//! The two kinds of map, and a tenant's live maps. A map finds the place of a key; it does not look at the value there.
 //!
-//! Both are the one definition of a map, with places for objects. A tenant's live maps have their values in its part of the
-//! memory, and each place of a map has its own bytes there.
+//! Both kinds follow one definition of a map, with places as the objects. The values of a tenant's live maps lie in its part of
+//! the memory, where each place of a map has bytes of its own.
 #![tactic(auto)]
 
 mod any_map;
 mod array_map;
 mod bytes_index;
 mod contract_clients;
+mod entries;
 mod given_key;
 mod hash_map;
 mod key_index;

@@ -25,7 +25,7 @@ impl Model for LongKey {
 }
 
 impl LongKey {
-    /// A key with these bytes. An error is want of memory.
+    /// Makes a key with a copy of these bytes. `AllocError`: out of memory.
     pub(crate) fn copy_of(alloc: Global, bytes: &[u8]) -> Result<LongKey, AllocError>
         ensures { IfOk result (λ key. key ≡ bytes.now) }
     {
@@ -56,7 +56,7 @@ impl Eq for LongKey {
     ghost laws = { nat_list_eq_equiv };
 }
 
-// All bytes are one write, which the hasher takes sixteen at a time.
+// All bytes go to the hasher in one write, of which it takes sixteen at a time.
 impl Hash for LongKey {
     ghost hash_input = { λ k. k ∷ [] };
 

@@ -1,4 +1,4 @@
-//! What a call asks of a live map, beside its keys.
+//! The layouts of live maps: what a call reads of a map besides its keys.
 
 ghost use Rattle.std.specs.Prelude.{◌≡◌, ◌<◌, length, slice_index_or, slice_set, IfOk};
 
@@ -10,14 +10,14 @@ use tagged_model::{MapKind, MapShape};
 #[derive(Clone, Copy)]
 pub(crate) struct MapLayout {
     pub shape: MapShape,
-    /// Where its area begins in the part.
+    /// The offset of its area in the part, in bytes.
     pub start: usize,
-    /// How far its values are from one another.
+    /// The distance from the start of one value to the start of the next, in bytes.
     pub stride: usize,
 }
 
 impl MapLayout {
-    /// The layout under a key that no map has.
+    /// The layout at a place without a map.
     fn unused() -> MapLayout {
         MapLayout {
             shape: MapShape {
@@ -32,7 +32,7 @@ impl MapLayout {
     }
 }
 
-/// The layouts of a tenant's maps by their keys, side by side. Contracts see the list.
+/// The layouts of a tenant's maps, by the places of the maps, contiguous in memory. Contracts see the list.
 #[derive(Drop)]
 pub(crate) struct Layouts {
     all: Vec<MapLayout>,
@@ -48,7 +48,7 @@ impl Model for Layouts {
 }
 
 impl Layouts {
-    /// So many layouts, for keys that no map has yet. An error is want of memory.
+    /// Makes `count` layouts, for places without a map. `AllocError`: out of memory.
     pub(crate) fn new(alloc: Global, count: usize) -> Result<Layouts, AllocError>
         ensures { IfOk result (λ all. length all ≡ count) }
     {
@@ -56,20 +56,20 @@ impl Layouts {
         Ok(Layouts { all })
     }
 
-    /// The layout under a key.
+    /// The layout at a place.
     #[inline(always)]
-    pub(crate) fn get(&self, key: usize) -> &MapLayout
-        requires { key < length self.now }
-        ensures { result.now ≡ slice_index_or self.now key result.now }
+    pub(crate) fn get(&self, place: usize) -> &MapLayout
+        requires { place < length self.now }
+        ensures { result.now ≡ slice_index_or self.now place result.now }
     {
-        &self.all[key]
+        &self.all[place]
     }
 
-    /// Puts a layout under a key.
-    pub(crate) fn put(&mut self, key: usize, layout: MapLayout)
-        requires { key < length self.old }
-        ensures { self.new ≡ slice_set self.old key layout }
+    /// Sets the layout at a place.
+    pub(crate) fn put(&mut self, place: usize, layout: MapLayout)
+        requires { place < length self.old }
+        ensures { self.new ≡ slice_set self.old place layout }
     {
-        self.all[key] = layout;
+        self.all[place] = layout;
     }
 }

@@ -1,17 +1,17 @@
-//! A tenant's live maps.
+//! A tenant's live maps, each at a place.
 
-ghost use Rattle.std.specs.Prelude.{◌≡◌, ◌≢◌, ℕ, ◌+◌, ◌-◌, ◌<◌, ◌≤◌, ◌^◌, ◌⊎◌, ◌||◌, true, false, if◌then◌else◌, [], length, take, replicate, option_map, Some, None, IfSome, IfNone, IfOk, OnErr, IsSome, slice_index_or};
+ghost use Rattle.std.specs.Prelude.{◌≡◌, ◌≢◌, ℕ, ◌+◌, ◌-◌, ◌<◌, ◌≤◌, ◌^◌, ◌⊎◌, ◌||◌, true, false, if◌then◌else◌, [], length, take, replicate, option_map, Some, None, IfSome, IfNone, IfOk, OnErr, IsSome};
 ghost use Rattle.tagged_model.specs.declared.shape.MapKind.TheVariants.{Array};
 ghost use Rattle.tagged_model.specs.Table.{look_up, verdict, removal, next_of, new_table};
 ghost use Rattle.bpf_maps.specs.declared.part.TheConstants.{PART, STACK_AND_CONTEXT, MAPS, LARGEST_SUM};
 ghost use Rattle.bpf_maps.specs.Places.{table_of, IsSound, Claims, Removes, GivesKey, after_run, new_places};
 ghost use Rattle.bpf_maps.specs.Given.{given_bytes};
-ghost use Rattle.bpf_maps.specs.Live.{live_at, places_at, shape_at, holds_at, held_at, offset_at, value_in, map_in, value_address, LiesInPart, IsLaid, IsPacked, ClosesUp, start_at, AreSound, SameAreas, SameValues, KeepsMap, KeepsMaps, KeepsOthers, count, areas, SameRoom, OnlyKeysChange, HasOneMore, create_fault, Creates, one_more, one_less, is_memory};
-ghost use Rattle.bpf_maps.specs.InMaps.{closed_up, layout_of, layout_at, AreLaidOut};
-ghost use Rattle.slab.specs.Slab.{ContainsKey, get};
+ghost use Rattle.bpf_maps.specs.Live.{live_at, places_at, shape_at, holds_at, held_at, offset_at, value_in, map_in, value_address, LiesInPart, IsLaid, IsPacked, ClosesUp, start_at, AreSound, SameAreas, SameValues, KeepsMap, KeepsMaps, KeepsOthers, area_by, areas, OnlyKeysChange, create_fault, Creates, one_more, one_less, is_memory};
+ghost use Rattle.bpf_maps.specs.InMaps.{live_of, layout_at};
 
 use crate::any_map::AnyMap;
 use crate::array_map::ArrayMap;
+use crate::entries::{Entry, close_gap, free_place, key_at};
 use crate::given_key::GivenKey;
 use crate::map_layout::{Layouts, MapLayout};
 use crate::part::{KEY_ROOM, LARGEST_SUM, MAPS, PART, STACK_AND_CONTEXT, clear};
@@ -21,43 +21,36 @@ use std::alloc::{AllocError, Global};
 use std::marker::Model;
 use tagged_model::{MapFault, MapKind, MapShape};
 
-// A map goes when so many hold it and one releases it.
+// A map with this number of references is freed when one of them is dropped.
 const LAST: u32 = 1;
 
-/// The key of a live map. Contracts see its number.
+/// The key of a live map: its place. Contracts see the place's number.
 #[derive(Clone, Copy, Debug, PartialEq, Eq)]
 pub struct MapKey {
-    number: usize,
+    place: usize,
 }
 
 impl Model for MapKey {
     ghost Value = { ℕ };
 
-    ghost view = { λ k. k.number };
+    ghost view = { λ k. k.place };
 
-    ghost inverse = { λ n. record { number = n } };
+    ghost inverse = { λ n. record { place = n } };
 }
 
-/// A tenant's live maps. Contracts see the maps by their keys, and where each has its values in the tenant's part.
+/// A tenant's live maps. Contracts see the map at each of `MAPS` places, and where it has its values in the tenant's part.
 #[derive(Drop)]
 pub struct Maps {
     alloc: Global,
-    slots: Slab<Entry>,
-    // The layout of the map under each key: what a call asks for stands side by side, and apart from the keys.
+    entries: Slab<Entry>,
+    // The layout of the map at each place. It is what calls read, and is contiguous in memory, apart from the entries.
     layouts: Layouts,
-    // The bytes that the areas of all maps take. They stand one behind the other after the front, in order of creation.
+    // The key in `entries` of the map at each place.
+    keys: [Option<usize>; MAPS],
+    // The number of bytes that the areas of all maps take. The areas lie one after another, in order of creation, after the stack
+    // and the context.
     bytes: usize,
     refused: bool,
-}
-
-#[derive(Drop)]
-struct Entry {
-    map: AnyMap,
-    // Where its area begins in the part.
-    start: usize,
-    // How far its values are from one another.
-    stride: usize,
-    holds: u32,
 }
 
 impl Model for Maps {
@@ -73,48 +66,62 @@ impl Model for Maps {
 }
 
 impl Maps {
-    /// No maps. Room for as many as there may be is made here. An error is want of memory.
+    /// No live maps. Allocates room for `MAPS` of them. `AllocError`: out of memory.
     pub fn new(alloc: Global) -> Result<Maps, AllocError>
+        ensures maps { IfOk result (λ new. new.maps ≡ replicate MAPS None) }
         ensures none { IfOk result (λ maps. (k : ℕ) → live_at maps k ≡ None) }
-        ensures maps { IfOk result (λ maps. count maps ≡ 0) }
         ensures bytes { IfOk result (λ maps. areas maps ≡ 0) }
         ensures refused { IfOk result (λ maps. maps.refused ≡ false) }
     {
-        let slots = Slab::with_capacity(alloc, MAPS)?;
-        let layouts = Layouts::new(alloc, slots.capacity())?;
+        let entries = Slab::with_capacity(alloc, MAPS)?;
+        let layouts = Layouts::new(alloc, MAPS)?;
         Ok(Maps {
             alloc,
-            slots,
+            entries,
             layouts,
+            keys: [None; MAPS],
             bytes: 0,
             refused: false,
         })
     }
 
-    /// A law: the values of all live maps lie inside and apart, their areas leave no gap behind the front, no two keys of a live
-    /// map have one place, and there are no more than `MAPS` maps, whose values take no more than `LARGEST_SUM` bytes. It does
-    /// nothing when it runs.
+    /// A law: the values of all live maps lie in the part and don't overlap, their areas lie without gaps after the stack and the
+    /// context, no two keys of a live map have the same place, and there are `MAPS` places for maps, whose values take at most
+    /// `LARGEST_SUM` bytes. It does nothing when it runs.
     #[inline(always)]
     pub fn maps_are_laid(&self)
         ensures laid { IsLaid self.now }
         ensures packed { IsPacked self.now }
         ensures sound { AreSound self.now }
-        ensures maps { count self.now ≤ MAPS }
+        ensures maps { length self.now.maps ≡ MAPS }
         ensures bytes { areas self.now ≤ LARGEST_SUM }
     {
-        let _ = &self.slots;
+        let _ = &self.entries;
     }
 
-    /// A law: an array has its indices and nothing else. It does nothing when it runs.
+    /// A law: an array has all its indices and nothing else. It does nothing when it runs.
     #[inline(always)]
     fn arrays_have_their_indices(&self, map: MapKey)
         requires { IsSome (live_at self.now map) }
         ensures { (shape_at self.now map).kind ≡ Array
             → places_at self.now map ≡ new_places (shape_at self.now map) }
     {
-        if let Some(entry) = self.slots.get(map.number) {
-            entry.map.array_has_its_indices();
+        let keys = &self.keys;
+        if let Some(key) = keys[map.place] {
+            if let Some(entry) = self.entries.get(key) {
+                entry.map.array_has_its_indices();
+            }
         }
+    }
+
+    /// The entry of a map.
+    #[inline(always)]
+    fn entry(&self, map: MapKey) -> &Entry
+        requires { IsSome (live_at self.now map) }
+        ensures { live_at self.now map ≡ Some (live_of result.now) }
+    {
+        let key = key_at(&self.keys, map.place);
+        &self.entries[key]
     }
 
     /// The layout of a map.
@@ -123,17 +130,17 @@ impl Maps {
         requires { IsSome (live_at self.now map) }
         ensures { result.now ≡ layout_at self.now map }
     {
-        self.layouts.get(map.number)
+        self.layouts.get(map.place)
     }
 
-    /// Makes a map, which one holds, with an area of its own in the tenant's part, `PART` bytes: it stands behind those of the
-    /// maps that are live. A hash map has no key, and the values of an array are zero bytes. The maps that were live stay as
-    /// they are.
+    /// Creates a map with one reference at the lowest free place. The map gets an area of its own in the tenant's part, `PART`
+    /// bytes, after the areas of the live maps. A hash map has no keys, and the values of an array are zero bytes. The maps that
+    /// were live are unchanged.
     ///
     /// # Errors
     ///
-    /// `NoSpace` where there are sixteen maps, or where the values of all, each rounded up to a multiple of eight bytes, would
-    /// take more than `LARGEST_SUM` bytes. Else `Memory`, where there is none for a hash map. No map has changed then.
+    /// `NoSpace` if no place is free, or if the values of all maps, each rounded up to a multiple of eight bytes, would take
+    /// more than `LARGEST_SUM` bytes; else `Memory` if out of memory for a hash map. Then no map has changed.
     pub fn create(&mut self, shape: MapShape, part: &mut [u8]) -> Result<MapKey, MapFault>
         requires { length part.old ≡ PART }
         ensures created { Creates (create_fault self.old shape) self.old shape result self.new }
@@ -147,13 +154,16 @@ impl Maps {
             (λ i. replicate shape.value_size 0) shape) }
         ensures values { SameValues self.old part.old self.new part.new }
         ensures maps { KeepsMaps self.old part.old self.new part.new }
-        ensures more { IfOk result (λ k. HasOneMore self.old self.new shape) }
+        ensures more { IfOk result (λ k. areas self.new ≡ areas self.old + area_by shape) }
         ensures front { take STACK_AND_CONTEXT part.new ≡ take STACK_AND_CONTEXT part.old }
         ensures length { length part.new ≡ PART }
         ensures unchanged { OnErr result (part.new ≡ part.old) }
     {
         let size = shape.area() as usize;
-        if self.slots.len() >= MAPS || self.bytes + size > LARGEST_SUM {
+        let Some(place) = free_place(&self.keys) else {
+            return Err(MapFault::NoSpace);
+        };
+        if self.bytes + size > LARGEST_SUM {
             return Err(MapFault::NoSpace);
         }
         let Ok(map) = AnyMap::new(self.alloc, shape) else {
@@ -169,13 +179,13 @@ impl Maps {
             holds: 1,
         };
         let layout = entry.layout();
-        let key = self.slots.insert_reserved(entry);
-        self.layouts.put(key, layout);
+        self.keys[place] = Some(self.entries.insert_reserved(entry));
+        self.layouts.put(place, layout);
         self.bytes += size;
-        Ok(MapKey { number: key })
+        Ok(MapKey { place })
     }
 
-    /// One more holds the map, which fewer than 2^32 - 1 hold.
+    /// Adds one reference to a map, which has fewer than 2^32 - 1.
     pub fn hold(&mut self, map: MapKey)
         requires live { IsSome (live_at self.old map) }
         requires few { holds_at self.old map < 2 ^ 32 - 1 }
@@ -187,16 +197,17 @@ impl Maps {
         ensures others { (other : ℕ) → other ≢ map → live_at self.new other
             ≡ live_at self.old other }
         ensures areas { SameAreas self.old self.new }
-        ensures room { SameRoom self.old self.new }
+        ensures room { areas self.new ≡ areas self.old }
         ensures refused { self.new.refused ≡ self.old.refused }
         ensures laid { IsLaid self.new }
     {
-        let entry = &mut self.slots[map.number];
+        let key = key_at(&self.keys, map.place);
+        let entry = &mut self.entries[key];
         entry.holds += 1;
     }
 
-    /// One less holds the map, and at the last it is gone: the bytes of all maps behind it move down by its area, and these
-    /// maps keep their keys, their places and their values.
+    /// Drops one reference to a map; the last frees the map, its place and its area. The areas after that one then move down by its
+    /// size, and their maps keep their places, keys and values.
     pub fn release(&mut self, map: MapKey, part: &mut [u8])
         requires live { IsSome (live_at self.old map) }
         requires length { length part.old ≡ PART }
@@ -214,39 +225,32 @@ impl Maps {
         ensures maps { KeepsOthers map self.old part.old self.new part.new }
         ensures kept { 1 < holds_at self.old map
             → KeepsMap map self.old part.old self.new part.new }
-        ensures room { 1 < holds_at self.old map → SameRoom self.old self.new }
+        ensures room { 1 < holds_at self.old map → areas self.new ≡ areas self.old }
         ensures freed { holds_at self.old map ≤ 1
-            → HasOneMore self.new self.old (shape_at self.old map) }
+            → areas self.old ≡ areas self.new + area_by (shape_at self.old map) }
         ensures front { take STACK_AND_CONTEXT part.new ≡ take STACK_AND_CONTEXT part.old }
         ensures length { length part.new ≡ PART }
     {
-        let entry = &mut self.slots[map.number];
+        let key = key_at(&self.keys, map.place);
+        let entry = &mut self.entries[key];
         if entry.holds > LAST {
             entry.holds -= 1;
             return;
         }
-        let gone = self.slots.remove(map.number);
+        let gone = self.entries.remove(key);
+        self.keys[map.place] = None;
         let size = gone.map.shape().area() as usize;
         let end = gone.start + size;
         part.copy_within(end..STACK_AND_CONTEXT + self.bytes, gone.start);
-        close_gap(&mut self.slots, &mut self.layouts, end, size);
+        close_gap(&self.keys, &mut self.entries, &mut self.layouts, end, size);
         self.bytes -= size;
     }
 
-    /// Whether a map was ever refused for memory, or a new key of one.
+    /// Whether memory was ever refused to a new map or a new key.
     pub fn refused(&self) -> bool
         ensures { result ≡ self.now.refused }
     {
         self.refused
-    }
-
-    /// How many hold a map.
-    pub fn holds(&self, map: MapKey) -> u32
-        requires { IsSome (live_at self.now map) }
-        ensures { result ≡ holds_at self.now map }
-    {
-        let entry = &self.slots[map.number];
-        entry.holds
     }
 
     /// The shape of a map.
@@ -258,8 +262,8 @@ impl Maps {
         self.layout(map).shape
     }
 
-    /// Where the value at a place of a map begins in the tenant's part. The values of all maps lie in the part, behind the
-    /// stack and the context, and apart from one another.
+    /// The offset of the value at a place of a map in the tenant's part, in bytes. The values of all maps lie in the part, after
+    /// the stack and the context, and don't overlap.
     #[inline(always)]
     pub fn value_at(&self, map: MapKey, place: u32) -> usize
         requires live { IsSome (live_at self.now map) }
@@ -273,7 +277,7 @@ impl Maps {
         layout.start + place as usize * layout.stride
     }
 
-    /// The place of a key.
+    /// The place of a key; `None` if the map doesn't have the key.
     #[inline(always)]
     pub fn find(&self, map: MapKey, key: &[u8]) -> Option<u32>
         requires live { IsSome (live_at self.now map) }
@@ -286,15 +290,12 @@ impl Maps {
         let shape = self.shape(map);
         match shape.kind {
             MapKind::Array => ArrayMap::new(shape).find(key),
-            MapKind::Hash => {
-                let entry = &self.slots[map.number];
-                entry.map.find(key)
-            }
+            MapKind::Hash => self.entry(map).map.find(key),
         }
     }
 
-    /// The address of the value of a key, modulo 2^64, in a part that begins at `part`: 0 where the map has no such key. The
-    /// value lies in the part.
+    /// The address of the value of a key, modulo 2^64, in a part that begins at address `part`; 0 if the map doesn't have the key.
+    /// The value lies in the part.
     #[inline(always)]
     pub fn address_of(&self, map: MapKey, key: &[u8], part: u64) -> u64
         requires live { IsSome (live_at self.now map) }
@@ -322,12 +323,15 @@ impl Maps {
         }
     }
 
-    /// A place for a key, where the caller then writes its value. A present key keeps its place. A new key goes last, and its
-    /// place is any that is not in use.
+    /// Claims a place for a key, where the caller then writes the value. A present key keeps its place. A new key goes to the end,
+    /// and gets any place that is not in use.
     ///
     /// # Errors
     ///
-    /// Those of an update with these flags; no map has changed then. `Memory` is answered only to a new key of a hash map.
+    /// Those of an update (bpf(2), BPF_MAP_UPDATE_ELEM): `Invalid` if `flags` is none of `ANY`, `NOEXIST` and `EXIST`; for a
+    /// present key, `Exists` if `flags` is `NOEXIST`; for an absent key of an array, `TooBig`; for an absent key of a hash map,
+    /// `NoEntry` if `flags` is `EXIST`, else `TooBig` if the map is full, counting the keys removed in this run, else `Memory` if
+    /// out of memory. Then no map has changed.
     #[inline(always)]
     pub fn claim(&mut self, map: MapKey, key: &[u8], flags: u64) -> Result<u32, MapFault>
         requires live { IsSome (live_at self.old map) }
@@ -344,7 +348,8 @@ impl Maps {
         match shape.kind {
             MapKind::Array => ArrayMap::new(shape).place_for(key, flags),
             MapKind::Hash => {
-                let entry = &mut self.slots[map.number];
+                let at = key_at(&self.keys, map.place);
+                let entry = &mut self.entries[at];
                 let answer = entry.map.claim(key, flags);
                 if matches!(answer, Err(MapFault::Memory)) {
                     self.refused = true;
@@ -354,11 +359,12 @@ impl Maps {
         }
     }
 
-    /// Takes a key out. Its place is kept apart until the run ends, and is given to no key.
+    /// Removes a key. Its place is kept apart until the run ends: until then no key gets it. Takes no memory.
     ///
     /// # Errors
     ///
-    /// Those of a delete; nothing has changed then. It takes no memory.
+    /// Those of a deletion (bpf(2), BPF_MAP_DELETE_ELEM): `Invalid` for an array, `NoEntry` if the key is absent. Then nothing has
+    /// changed.
     pub fn remove(&mut self, map: MapKey, key: &[u8]) -> Result<(), MapFault>
         requires live { IsSome (live_at self.old map) }
         requires size { length key.now ≡ (shape_at self.old map).key_size }
@@ -367,11 +373,12 @@ impl Maps {
         ensures rest { OnlyKeysChange map self.old self.new }
         ensures refused { self.new.refused ≡ self.old.refused }
     {
-        let entry = &mut self.slots[map.number];
+        let at = key_at(&self.keys, map.place);
+        let entry = &mut self.entries[at];
         entry.map.remove(key)
     }
 
-    /// The key that follows a key, if one does. An empty or unknown key is followed by the first.
+    /// Returns the key that follows a key, if there is one. After an empty or absent key it is the first.
     pub fn key_after(&self, map: MapKey, key: &[u8]) -> Option<GivenKey<'_>>
         requires live { IsSome (live_at self.now map) }
         requires size { (key.now ≡ []) ⊎ (length key.now ≡ (shape_at self.now map).key_size) }
@@ -380,15 +387,14 @@ impl Maps {
         ensures size { IfSome result (λ given.
             length (given_bytes given) ≡ (shape_at self.now map).key_size) }
     {
-        let entry = &self.slots[map.number];
-        entry.map.key_after(key)
+        self.entry(map).map.key_after(key)
     }
 
-    /// Writes the key that follows a key at the front of `next`. An empty or unknown key is followed by the first.
+    /// Writes the key that follows a key to the start of `next`. After an empty or absent key it is the first.
     ///
     /// # Errors
     ///
-    /// `NoEntry` where no key follows; `next` stays as it was then.
+    /// `NoEntry` if no key follows. Then `next` is unchanged.
     pub fn next_key(
         &self,
         map: MapKey,
@@ -400,58 +406,18 @@ impl Maps {
         ensures given { GivesKey (next_of (table_of (places_at self.now map)) key.now) next.old
             result next.new }
     {
-        let entry = &self.slots[map.number];
-        entry.map.next_key(key, next)
+        self.entry(map).map.next_key(key, next)
     }
 
-    /// Ends a run on a map: the places that were kept apart are free again. It takes no memory.
+    /// Ends a run on a map: the places that were kept apart are free again. Takes no memory.
     pub fn end_run(&mut self, map: MapKey)
         requires { IsSome (live_at self.old map) }
         ensures ended { places_at self.new map ≡ after_run (places_at self.old map) }
         ensures rest { OnlyKeysChange map self.old self.new }
         ensures refused { self.new.refused ≡ self.old.refused }
     {
-        let entry = &mut self.slots[map.number];
+        let key = key_at(&self.keys, map.place);
+        let entry = &mut self.entries[key];
         entry.map.end_run();
-    }
-}
-
-impl Entry {
-    /// The layout of its map.
-    fn layout(&self) -> MapLayout
-        ensures { result ≡ layout_of self.now }
-    {
-        MapLayout {
-            shape: self.map.shape(),
-            start: self.start,
-            stride: self.stride,
-        }
-    }
-
-    /// Its area begins lower by `size` where it begins at `end` or behind.
-    fn close_up(&mut self, end: usize, size: usize)
-        requires { size ≤ end }
-        ensures { self.new ≡ closed_up end size self.old }
-    {
-        if self.start >= end {
-            self.start -= size;
-        }
-    }
-}
-
-/// Each area from `end` on begins lower by `size`: the one that ended there, and had so many bytes, is gone.
-fn close_gap(slots: &mut Slab<Entry>, layouts: &mut Layouts, end: usize, size: usize)
-    requires size { size ≤ end }
-    requires keys { (k : ℕ) → ContainsKey slots.old k → k < slots.old.capacity }
-    requires long { length layouts.old ≡ slots.old.capacity }
-    ensures each { (k : ℕ) → get slots.new k ≡ option_map (closed_up end size) (get slots.old k) }
-    ensures capacity { slots.new.capacity ≡ slots.old.capacity }
-    ensures layouts { AreLaidOut slots.new layouts.new }
-{
-    for key in 0..slots.capacity() {
-        if let Some(entry) = slots.get_mut(key) {
-            entry.close_up(end, size);
-            layouts.put(key, entry.layout());
-        }
     }
 }

@@ -10,33 +10,37 @@ use crate::given_key::GivenKey;
 use crate::part::KEY_ROOM;
 use tagged_model::MapFault;
 
-/// The flag of an update of any key.
+/// The flag of an update of any key, present or absent.
 pub const ANY: u64 = 0;
 
-/// The flag of an update whose key must be new (bpf(2), BPF_NOEXIST).
+/// The flag of an update whose key must be absent (bpf(2), BPF_NOEXIST).
 pub const NOEXIST: u64 = 1;
 
-/// The flag of an update whose key must be there (bpf(2), BPF_EXIST).
+/// The flag of an update whose key must be present (bpf(2), BPF_EXIST).
 pub const EXIST: u64 = 2;
 
-/// A map from keys to places, in order. A place is a number below the map's `max_entries`, and no two keys have the same.
+/// A map from keys, in order, to places. A place is a number less than the map's `max_entries`, and no two keys have the same
+/// place.
 pub trait ValueMap {
-    /// The keys with their places in order, and the places that are kept apart.
+    /// The keys in order, each with its place, and the places that are kept apart.
     ghost places: { Self → PlaceTable };
 
-    /// The place of a key.
+    /// Returns the place of a key; `None` if the key is absent.
     fn find(&self, key: &[u8]) -> Option<u32>
         requires size { length key.now ≡ (places self.now).shape.key_size }
         ensures place { result ≡ look_up (table_of (places self.now)) key.now }
         ensures within { IfSome result (λ place. place < (places self.now).shape.max_entries) }
         ensures sound { IsSound (places self.now) };
 
-    /// A place for a key, where the caller then writes its value. A present key keeps its place. A new key goes last, and
-    /// its place is any that is not in use.
+    /// Claims a place for a key, where the caller then writes the value. A present key keeps its place. A new key goes to the end,
+    /// and gets any place that is not in use.
     ///
     /// # Errors
     ///
-    /// Those of an update with these flags; nothing has changed then. `Memory` is answered only to a new key.
+    /// Those of an update (bpf(2), BPF_MAP_UPDATE_ELEM): `Invalid` if `flags` is none of `ANY`, `NOEXIST` and `EXIST`; for a
+    /// present key, `Exists` if `flags` is `NOEXIST`; for an absent key of an array, `TooBig`; for an absent key of a hash map,
+    /// `NoEntry` if `flags` is `EXIST`, else `TooBig` if the map is full, counting the keys removed in this run, else `Memory` if
+    /// out of memory. Then nothing has changed.
     fn claim(&mut self, key: &[u8], flags: u64) -> Result<u32, MapFault>
         requires size { length key.now ≡ (places self.old).shape.key_size }
         ensures claimed { Claims (verdict (table_of (places self.old)) key.now flags) key.now
@@ -45,11 +49,12 @@ pub trait ValueMap {
         ensures shape { (places self.new).shape ≡ (places self.old).shape }
         ensures sound { IsSound (places self.new) };
 
-    /// Takes a key out. Its place is kept apart until the run ends, and is given to no key.
+    /// Removes a key. Its place is kept apart until the run ends: until then no key gets it. Takes no memory.
     ///
     /// # Errors
     ///
-    /// Those of a delete; nothing has changed then. It takes no memory.
+    /// Those of a deletion (bpf(2), BPF_MAP_DELETE_ELEM): `Invalid` for an array, `NoEntry` if the key is absent. Then nothing has
+    /// changed.
     fn remove(&mut self, key: &[u8]) -> Result<(), MapFault>
         requires size { length key.now ≡ (places self.old).shape.key_size }
         ensures removed { Removes (removal (table_of (places self.old)) key.now) key.now
@@ -57,7 +62,7 @@ pub trait ValueMap {
         ensures shape { (places self.new).shape ≡ (places self.old).shape }
         ensures sound { IsSound (places self.new) };
 
-    /// The key that follows a key, if one does. An empty or unknown key is followed by the first.
+    /// Returns the key that follows a key, if there is one. After an empty or absent key it is the first.
     fn key_after(&self, key: &[u8]) -> Option<GivenKey<'_>>
         requires size { (key.now ≡ []) ⊎ (length key.now ≡ (places self.now).shape.key_size) }
         ensures given { option_map given_bytes result
@@ -66,11 +71,11 @@ pub trait ValueMap {
             length (given_bytes given) ≡ (places self.now).shape.key_size) }
         ensures short { IfSome result (λ given. length (given_bytes given) ≤ KEY_ROOM) };
 
-    /// Writes the key that follows a key at the front of `next`. An empty or unknown key is followed by the first.
+    /// Writes the key that follows a key to the start of `next`. After an empty or absent key it is the first.
     ///
     /// # Errors
     ///
-    /// `NoEntry` where no key follows; `next` stays as it was then.
+    /// `NoEntry` if no key follows. Then `next` is unchanged.
     fn next_key(&self, key: &[u8], next: &mut [u8; KEY_ROOM]) -> Result<(), MapFault>
         requires size { (key.now ≡ []) ⊎ (length key.now ≡ (places self.now).shape.key_size) }
         ensures given { GivesKey (next_of (table_of (places self.now)) key.now) next.old result
@@ -83,13 +88,13 @@ pub trait ValueMap {
         Ok(())
     }
 
-    /// Ends a run: the places that were kept apart are free again. It takes no memory.
+    /// Ends a run: the places that were kept apart are free again. Takes no memory.
     fn end_run(&mut self)
         ensures ended { places self.new ≡ after_run (places self.old) }
         ensures sound { IsSound (places self.new) };
 }
 
-/// Writes a key at the front of `next`. What is behind it stays.
+/// Writes a key to the start of `next`. The bytes after it are unchanged.
 fn put_key(key: &[u8], next: &mut [u8; KEY_ROOM])
     requires { length key.now ≤ KEY_ROOM }
     ensures { next.new ≡ key.now ++ drop (length key.now) next.old }

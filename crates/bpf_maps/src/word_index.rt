@@ -1,4 +1,4 @@
-//! Places by keys of at most eight bytes.
+//! The places of keys of at most eight bytes.
 
 ghost use Rattle.std.specs.Prelude.{◌≡◌, ◌≤◌, None, OnOk, OnErr, [], length, slice_get, option_map};
 ghost use Rattle.words.specs.Bytes.{number_of};
@@ -10,11 +10,11 @@ use indexmap::IndexMap;
 use std::alloc::{AllocError, Global};
 use std::marker::Model;
 
-/// The bytes of the longest key that is kept as a number.
+/// The length of the longest key that is kept as a number, in bytes.
 pub(crate) const LONGEST_WORD: usize = 8;
 
-/// Keys of one size, at most eight bytes, each with its place, in the order in which they came. A key is kept as the number
-/// that its bytes make, the lowest byte first. Contracts see the size and the keys' bytes with their places.
+/// Keys of one size, at most eight bytes, each with its place, in the order in which they were added. A key is kept as the number
+/// that its bytes make, little-endian. Contracts see the size and the keys' bytes with their places.
 #[derive(Drop)]
 pub struct WordIndex {
     size: usize,
@@ -34,7 +34,7 @@ impl Model for WordIndex {
 }
 
 impl WordIndex {
-    /// No key yet.
+    /// Makes an index without keys, for keys of `size` bytes.
     pub(crate) fn new(alloc: Global, size: usize) -> WordIndex
         requires { size ≤ LONGEST_WORD }
         ensures size { result.size ≡ size }
@@ -46,7 +46,7 @@ impl WordIndex {
         }
     }
 
-    /// The place of a key.
+    /// Returns the place of a key; `None` if the key is absent.
     #[inline(always)]
     pub(crate) fn get(&self, key: &[u8]) -> Option<u32>
         requires { length key.now ≡ self.now.size }
@@ -55,14 +55,14 @@ impl WordIndex {
         self.map.get(&word_of(key)).copied()
     }
 
-    /// The index of the entry that follows a key. A key that is not there is followed by the first, also one of another size.
+    /// The index of the entry that follows a key. After an absent key, also one of another size, it is the first.
     fn index_after(&self, key: &[u8]) -> usize
         ensures { key_of (slice_get self.now.entries result) ≡ key_after key.now self.now.entries }
     {
         if key.len() != self.size {
             return 0;
         }
-        // An index is below the number of keys, so the next one is a number too.
+        // An index is less than the number of keys, so the next one doesn't overflow.
         let _count = self.map.len();
         match self.map.get_index_of(&word_of(key)) {
             Some(index) => index + 1,
@@ -70,7 +70,7 @@ impl WordIndex {
         }
     }
 
-    /// The key that follows a key, if one does. A key that is not there is followed by the first, also one of another size.
+    /// Returns the key that follows a key, if there is one. After an absent key, also one of another size, it is the first.
     pub(crate) fn key_after(&self, key: &[u8]) -> Option<ShortKey>
         ensures { result ≡ key_after key.now self.now.entries }
     {
@@ -78,7 +78,7 @@ impl WordIndex {
         Some(ShortKey::of_word(*word, self.size))
     }
 
-    /// Puts a new key last. An error is want of memory, and nothing has changed then.
+    /// Adds a new key at the end. `AllocError`: out of memory. Then nothing has changed.
     pub(crate) fn insert(&mut self, key: &[u8], place: u32) -> Result<(), AllocError>
         requires size { length key.now ≡ self.old.size }
         requires absent { found key.now self.old.entries ≡ None }
@@ -90,7 +90,7 @@ impl WordIndex {
         Ok(())
     }
 
-    /// Takes a key out, and answers its place. The others keep their order.
+    /// Removes a key and returns its place; `None` if the key is absent. The others keep their order.
     pub(crate) fn remove(&mut self, key: &[u8]) -> Option<u32>
         requires { length key.now ≡ self.old.size }
         ensures place { result ≡ found key.now self.old.entries }
@@ -101,7 +101,7 @@ impl WordIndex {
     }
 }
 
-/// The number that the bytes of a key make, the lowest first. Keys of four and of eight bytes are one load.
+/// The number that the bytes of a key make, little-endian. A key of four or eight bytes takes one load.
 #[inline(always)]
 fn word_of(key: &[u8]) -> u64
     requires { length key.now ≤ LONGEST_WORD }
@@ -132,7 +132,7 @@ fn eight_bytes(key: &[u8]) -> u64
     ])
 }
 
-/// The number of a key of another length: zeros follow its bytes.
+/// The number of a key of another length, filled up with zero bytes to eight.
 #[cold]
 #[inline(never)]
 fn filled_word(key: &[u8]) -> u64

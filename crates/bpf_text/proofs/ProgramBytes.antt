@@ -3,19 +3,19 @@ use Rattle.std.proofs.Common.{ℕ, zero, suc, ◌+◌, ◌*◌, ◌/◌, ◌%◌
 use Rattle.std.specs.Int.{byte_at}
 use Rattle.std.specs.List.{AllByRecursion}
 use Rattle.hex.specs.Hex.{IsBytes}
-use Rattle.insn_codec.specs.declared.insn.AluOp.{AluOp}
-use Rattle.insn_codec.specs.declared.insn.AluOp.TheVariants.{Add, Sub, Mul, Div, SignedDiv, Or, And, ShiftLeft, ShiftRight, Mod, SignedMod, Xor, Mov, SignedShiftRight}
-use Rattle.insn_codec.specs.declared.insn.ByteOrder.{ByteOrder}
-use Rattle.insn_codec.specs.declared.insn.ByteOrder.TheVariants.{Little, Big, Swap}
-use Rattle.insn_codec.specs.declared.insn.Size.{Size}
-use Rattle.insn_codec.specs.declared.insn.Size.TheVariants as size
+use Rattle.words.specs.declared.operator.AluOp.{AluOp}
+use Rattle.words.specs.declared.operator.AluOp.TheVariants.{Add, Sub, Mul, Div, SignedDiv, Or, And, ShiftLeft, ShiftRight, Mod, SignedMod, Xor, Mov, SignedShiftRight}
+use Rattle.words.specs.declared.operator.ByteOrder.{ByteOrder}
+use Rattle.words.specs.declared.operator.ByteOrder.TheVariants.{Little, Big, Swap}
+use Rattle.words.specs.declared.stack.AccessSize.{AccessSize}
+use Rattle.words.specs.declared.stack.AccessSize.TheVariants as size
 use Rattle.insn_codec.specs.declared.insn.Operand.{Operand}
 use Rattle.insn_codec.specs.declared.insn.Operand.TheVariants.{Imm, Reg}
 use Rattle.insn_codec.specs.declared.insn.Insn.{Insn}
 use Rattle.insn_codec.specs.declared.insn.Insn.TheVariants.{Alu, Movsx, Neg, End, Ja, Jal, Jump, Call, Exit, Load, Store, Atomic, Const, MapFd, MapValue}
 use Rattle.insn_codec.specs.declared.slot.SlotFields.{SlotFields}
 use Rattle.insn_codec.specs.Slot.{slot, slot_bytes}
-use Rattle.insn_codec.specs.Sizes.{access_size}
+use Rattle.insn_codec.specs.Atomic.{access_size}
 use Rattle.insn_codec.specs.Numbers.{opcode, alu_number, alu_class, end_opcode, size_number, load_mode, memory_opcode}
 use Rattle.insn_codec.specs.Spelling.{source_bit, src_field, first, spelling, IsInsn, IsOperand}
 use Rattle.insn_codec.specs.Program.{program_bytes, slot_count, IsProgram}
@@ -85,7 +85,7 @@ end_small Little = lit< tt
 end_small Big = lit< tt
 end_small Swap = lit< tt
 
-size_small : (s : Size) → size_number s ≤ 3
+size_small : (s : AccessSize) → size_number s ≤ 3
 size_small size.Byte = lit≤ tt
 size_small size.Half = lit≤ tt
 size_small size.Word = lit≤ tt
@@ -95,7 +95,7 @@ mode_small : (signed : Bool) → load_mode signed ≤ 6
 mode_small true = lit≤ tt
 mode_small false = lit≤ tt
 
-memory_small : (mode class : ℕ) (s : Size) → mode ≤ 6 → class ≤ 3 → memory_opcode mode s class < 256
+memory_small : (mode class : ℕ) (s : AccessSize) → mode ≤ 6 → class ≤ 3 → memory_opcode mode s class < 256
 memory_small mode class s a b = omega (arith, size_small s)
 
 first_small : (i : Insn) → IsInsn i → IsSmall (first i)

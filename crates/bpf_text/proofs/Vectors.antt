@@ -1,9 +1,9 @@
 -- Known texts: how slots and instructions are written, and what a line of hex digits is.
 use Rattle.std.specs.Prelude.{◌≡◌, ℕ, [], ◌∷◌, codes, Bool, true, false, pos, negsuc, refl, Option, Some, None}
-use Rattle.insn_codec.specs.declared.insn.AluOp.TheVariants.{Mov}
-use Rattle.insn_codec.specs.declared.insn.Condition.TheVariants.{SignedBelow}
+use Rattle.words.specs.declared.operator.AluOp.TheVariants.{Mov}
+use Rattle.words.specs.declared.operator.Condition.TheVariants.{SignedBelow}
 use Rattle.insn_codec.specs.declared.insn.Operand.TheVariants.{Imm, Reg}
-use Rattle.insn_codec.specs.declared.insn.Size.TheVariants.{Half, Byte}
+use Rattle.words.specs.declared.stack.AccessSize.TheVariants.{Half, Byte}
 use Rattle.insn_codec.specs.declared.insn.AtomicSize.TheVariants as atomic_size
 use Rattle.insn_codec.specs.declared.insn.AtomicOp.TheVariants as atomic
 use Rattle.insn_codec.specs.declared.insn.Insn.TheVariants.{Alu, Jump, Exit, Load, Store, Atomic, Const, MapFd, MapValue}

@@ -14,7 +14,7 @@ use Rattle.text_line.specs.Ranges.{form_fits, form_slots, resolved}
 use Rattle.text_line.specs.Written.{written}
 use Rattle.bpf_text.specs.Lines.{text_lines}
 
--- ---- slots and labels of lines; `None` is a line that is none of the forms
+-- ---- slots and labels of lines; `None` is a line that has none of the forms
 
 abbrev pub line_slots : Option Line → ℕ
 line_slots None = 0
@@ -37,7 +37,7 @@ unfoldable pub label_line : List ℕ → List (Option Line) → Option ℕ
 label_line name [] = None
 label_line name (line ∷ lines) = if defines name line then Some 0 else option_map suc (label_line name lines)
 
--- the slot of a label: how many slots come before its line
+-- the slot of a label: the number of slots before its line
 abbrev pub label_slot : List (Option Line) → List ℕ → ℕ
 label_slot lines name = slots_on (take (unwrap_or (label_line name lines) 0) lines)
 
@@ -49,11 +49,11 @@ is_known lines form name = not (names_label form) || is_some (label_line name li
 abbrev pub is_twice : List (Option Line) → ℕ → List ℕ → Bool
 is_twice lines i name = nat_lt (unwrap_or (label_line name lines) i) i
 
--- the line's slots pass what a program may have
+-- the line's slots go past the most that a program may have
 abbrev pub passes : ℕ → ℕ → Bool
 passes before slots = nat_le before MAX_SLOTS && nat_lt MAX_SLOTS (before + slots)
 
--- the fault of a line, the lowest kind first, by its index and the slots before it
+-- the fault of a line, of the lowest kind, given its index and the slots before it
 abbrev pub line_fault : List (Option Line) → ℕ → ℕ → Option Line → Option TextFaultKind
 line_fault lines i before None = Some Syntax
 line_fault lines i before (Some blank) = None
@@ -72,11 +72,11 @@ fault_at lines i = line_fault_of lines i (slice_get lines i)
 
 -- ---- the program
 
--- how far a label is: its slot minus the next slot
+-- the distance to a label: its slot minus the next slot
 abbrev pub distance : List (Option Line) → ℕ → List ℕ → ℤ
 distance lines slot name = pos (label_slot lines name) -ℤ pos (slot + 1)
 
--- the instructions of lines that begin at a slot, as they are printed
+-- the written forms of the lines from a slot on, with labels replaced by distances
 unfoldable pub forms_from : List (Option Line) → ℕ → List (Option Line) → List Form
 forms_from all slot [] = []
 forms_from all slot (None ∷ lines) = forms_from all slot lines
@@ -84,13 +84,13 @@ forms_from all slot (Some blank ∷ lines) = forms_from all slot lines
 forms_from all slot (Some (label n) ∷ lines) = forms_from all slot lines
 forms_from all slot (Some (code form n) ∷ lines) = resolved (distance all slot n) form ∷ forms_from all (slot + form_slots form) lines
 
--- each line is read
+-- each line has its reading
 abbrev pub AreRead : List (List ℕ) → List (Option Line) → Type 0
 AreRead [] [] = Unit {0}
 AreRead (bytes ∷ more) (line ∷ lines) = ReadAs bytes line × AreRead more lines
 AreRead _ _ = ⊥
 
--- the text is these instructions: no line has a fault, there is a slot, and the lines are the instructions
+-- the program of the text is these instructions: no line has a fault, there is a slot, and the lines have their written forms
 pub record IsAssembled (text : List ℕ) (insns : List Insn) : Type 0 where
   pub lines : List (Option Line)
   pub read : AreRead (text_lines text) lines
@@ -98,7 +98,7 @@ pub record IsAssembled (text : List ℕ) (insns : List Insn) : Type 0 where
   pub forms : map written insns ≡ forms_from lines 0 lines
   pub some : 0 < slots_on lines
 
--- the fault of the text itself: of its first line that has one, or that it has no slot
+-- the text's own fault: that of its first line that has one, or that it has no slot
 pub record IsOwnFault (text : List ℕ) (fault : TextFault) : Type 0 where
   pub lines : List (Option Line)
   pub read : AreRead (text_lines text) lines

@@ -13,14 +13,14 @@ kind_number TooLong = 5
 kind_number Empty = 6
 kind_number Memory = 7
 
--- a growth was refused
+-- out of memory
 abbrev pub memory_fault : TextFault
 memory_fault = record { line = 0; kind = Memory }
 
 abbrev pub empty_fault : TextFault
 empty_fault = record { line = 0; kind = Empty }
 
--- Below, `fault_at i` is the fault of line i + 1, of the lowest kind that the line has: none if it has none.
+-- Below, `fault_at i` is the fault of line i + 1, of the lowest kind that the line has; None if it has no fault.
 
 -- no line below has a fault
 abbrev pub NoneBelow : (ℕ → Option TextFaultKind) → ℕ → Type 0
@@ -39,6 +39,6 @@ pub record IsEmpty (fault_at : ℕ → Option TextFaultKind) (slots : ℕ) (faul
   pub none : (i : ℕ) → fault_at i ≡ None
   pub slots_is : slots ≡ 0
 
--- a text's own fault, by the faults of its lines and its number of slots
+-- a text's own fault, given the faults of its lines and its number of slots
 abbrev pub IsFaultBy : (ℕ → Option TextFaultKind) → ℕ → TextFault → Type 0
 IsFaultBy fault_at slots fault = IsFirstFaultyLine fault_at fault ⊎ IsEmpty fault_at slots fault

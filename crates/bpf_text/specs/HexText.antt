@@ -16,7 +16,7 @@ unfoldable pub hex_text : List ℕ → List ℕ
 hex_text (a ∷ b ∷ c ∷ d ∷ e ∷ f ∷ g ∷ h ∷ bytes) = encode_lower (a ∷ b ∷ c ∷ d ∷ e ∷ f ∷ g ∷ h ∷ []) ++ 10 ∷ hex_text bytes
 hex_text _ = []
 
--- the bytes on a line without blanks at its ends: none on an empty one, else eight of sixteen digits in either case
+-- the bytes on a line without blanks at its ends: no byte if it is empty, else eight bytes in sixteen digits of either case
 abbrev pub hex_digits : List ℕ → Option (List ℕ)
 hex_digits digits = if length digits == 0 then Some [] else result_ok (decode_sized digits 8)
 
@@ -27,7 +27,7 @@ hex_line line = hex_digits (stripped line)
 abbrev pub hex_bytes : List (List ℕ) → List ℕ
 hex_bytes lines = flat_map (λ line. unwrap_or (hex_line line) []) lines
 
--- the fault of a line with these bytes, after lines with that many
+-- the fault of a line with these bytes, where the lines before it have `before` bytes
 abbrev pub hex_fault : ℕ → Option (List ℕ) → Option TextFaultKind
 hex_fault before None = Some Syntax
 hex_fault before (Some bytes) = if nat_le before (8 * MAX_SLOTS) && nat_lt (8 * MAX_SLOTS) (before + length bytes) then Some TooLong else None
@@ -39,12 +39,12 @@ hex_fault_of before (Some line) = hex_fault before (hex_line line)
 unfoldable pub hex_fault_at : List (List ℕ) → ℕ → Option TextFaultKind
 hex_fault_at lines i = hex_fault_of (length (hex_bytes (take i lines))) (slice_get lines i)
 
--- the text is lines of these slots, at least one and at most as many as a program may have
+-- the text has the bytes of these slots, at least one and at most as many as a program may have
 pub record IsHexText (text bytes : List ℕ) : Type 0 where
   pub none : (i : ℕ) → hex_fault_at (text_lines text) i ≡ None
   pub bytes_are : bytes ≡ hex_bytes (text_lines text)
   pub some : 0 < length bytes
 
--- the fault of the text itself: of its first line that has one, or that it has no slot
+-- the text's own fault: that of its first line that has one, or that it has no slot
 abbrev pub IsHexFault : List ℕ → TextFault → Type 0
 IsHexFault text fault = let lines = text_lines text in IsFaultBy (hex_fault_at lines) (length (hex_bytes lines)) fault

@@ -1,4 +1,4 @@
--- What the laws of texts say. This project's own.
+-- The statements of the laws of texts. This project's own.
 use Rattle.std.specs.Prelude.{◌≡◌, ℕ, List}
 use Rattle.insn_codec.specs.declared.insn.Insn.{Insn}
 use Rattle.insn_codec.specs.Program.{program_bytes, IsProgram}
@@ -7,11 +7,11 @@ use Rattle.bpf_text.specs.Assembly.{IsAssembled, IsOwnFault}
 use Rattle.bpf_text.specs.HexText.{hex_text, IsHexText}
 use Rattle.bpf_text.specs.Printed.{printed}
 
--- a text is at most one program
+-- a text has at most one program
 abbrev pub OneProgram : Type 0
 OneProgram = (text : List ℕ) (a b : List Insn) → IsAssembled text a → IsAssembled text b → a ≡ b
 
--- a text that is a program has no fault of its own
+-- a text with a program has no fault of its own
 abbrev pub ProgramHasNoFault : Type 0
 ProgramHasNoFault = (text : List ℕ) (insns : List Insn) (fault : TextFault) → IsAssembled text insns → ¬ IsOwnFault text fault
 
@@ -19,10 +19,10 @@ ProgramHasNoFault = (text : List ℕ) (insns : List Insn) (fault : TextFault) �
 abbrev pub OneFault : Type 0
 OneFault = (text : List ℕ) (a b : TextFault) → IsOwnFault text a → IsOwnFault text b → a ≡ b
 
--- the printed text of a program is that program
+-- the program of the printed text of a program is that program
 abbrev pub PrintedIsAssembled : Type 0
 PrintedIsAssembled = (insns : List Insn) → IsProgram insns → IsAssembled (printed insns) insns
 
--- the hex lines of a program are its slots
+-- the slots of the hex lines of a program are its slots
 abbrev pub HexLinesAreRead : Type 0
 HexLinesAreRead = (insns : List Insn) → IsProgram insns → IsHexText (hex_text (program_bytes insns)) (program_bytes insns)

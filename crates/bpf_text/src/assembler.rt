@@ -1,4 +1,4 @@
-//! Text to programs.
+//! The assembler: text to programs.
 
 ghost use Rattle.std.specs.Prelude.{◌≡◌, ◌<◌, ◌≤◌, ◌⊎◌, ℕ, List, length, map, option_map, Some, None, if◌then◌else◌, IfOk, OnOk, IfErr, IsErrAnd, MatchResult};
 ghost use Rattle.std.specs.List.{AllByRecursion};
@@ -23,7 +23,7 @@ use std::alloc::{AllocError, Global};
 use std::collections::HashMap;
 use text_line::{Form, Line, read_line};
 
-/// The lines of a text.
+/// Parses the lines of a text.
 fn read_lines<'a>(alloc: Global, text: &'a [&'a str]) -> Result<Vec<Option<Line<'a>>>, AllocError>
     ensures { IfOk result (λ lines. AreRead (map (λ line. line.now) text.now)
         (seen_lines lines.items)) }
@@ -39,14 +39,14 @@ fn read_lines<'a>(alloc: Global, text: &'a [&'a str]) -> Result<Vec<Option<Line<
     Ok(lines)
 }
 
-/// A line, by its index, and the slots before it.
+/// The index of a line, and the number of slots before it.
 #[derive(Clone, Copy, Debug)]
 struct Place {
     line: usize,
     slot: usize,
 }
 
-/// How many slots a line takes.
+/// The number of slots of a line.
 fn line_slots(line: &Option<Line<'_>>) -> usize
     ensures value { result ≡ line_slots (seen_option line.now) }
     ensures bound { result ≤ 2 }
@@ -86,7 +86,7 @@ fn note<'a>(
     Ok(())
 }
 
-/// The first line that defines each label, and its slot.
+/// The place of the first line that defines each label.
 fn labels<'a>(
     alloc: Global,
     lines: &[Option<Line<'a>>],
@@ -109,7 +109,7 @@ fn place_of_label(labels: &HashMap<&str, Place>, name: &str) -> Option<Place>
     labels.get(name).copied()
 }
 
-/// How far a label is from the slot after this one.
+/// The distance in slots from slot `slot + 1` to a label.
 fn distance(label: Option<Place>, slot: usize) -> i16
     requires { slot ≤ MAX_SLOTS }
     ensures { result ≡ kept_distance label slot }
@@ -121,7 +121,7 @@ fn distance(label: Option<Place>, slot: usize) -> i16
     to as i16 - (slot as i16 + 1)
 }
 
-/// The instruction of a form, by the place of the label that it names and the slots before it.
+/// The instruction of a form, given the place of the label that it names and the slots before it.
 fn resolve(form: &Form, label: Option<Place>, slot: usize) -> Result<Insn, TextFaultKind>
     requires form { IsForm form.now }
     requires room { slot ≤ MAX_SLOTS }
@@ -142,7 +142,7 @@ fn resolve(form: &Form, label: Option<Place>, slot: usize) -> Result<Insn, TextF
     Ok(insn)
 }
 
-/// The instruction on a line at a place; none on a blank line or one that defines a label.
+/// The instruction on a line at a place; `None` for a blank line or one that defines a label.
 fn instruction(
     labels: &HashMap<&str, Place>,
     line: &Option<Line<'_>>,
@@ -202,7 +202,7 @@ fn instructions(
     Ok(insns)
 }
 
-/// The program of the instructions, if there is one.
+/// The program of the instructions; `Empty` if there is no instruction.
 fn program(alloc: Global, insns: &[Insn]) -> Result<Program, TextFault>
     requires { slot_count insns.now ≤ MAX_SLOTS }
     ensures made { IfOk result (λ program. (program ≡ insns.now) × (0 < slot_count insns.now)) }
@@ -226,7 +226,7 @@ fn program(alloc: Global, insns: &[Insn]) -> Result<Program, TextFault>
     }
 }
 
-/// The program that a text says.
+/// Assembles a text.
 fn program_of(alloc: Global, text: &str) -> Result<Program, TextFault>
     ensures ok { IfOk result (λ program. IsAssembled text.now program) }
     ensures fault { IfErr result (λ e. (e ≡ memory_fault) ⊎ IsOwnFault text.now e) }
@@ -238,26 +238,26 @@ fn program_of(alloc: Global, text: &str) -> Result<Program, TextFault>
     program(alloc, &insns)
 }
 
-/// The program that a text says, line by line.
+/// Assembles a text, line by line.
 ///
-/// A line is empty, a label `name:`, or one instruction; `//` begins a comment. A label names the slot after it, and
-/// stands for the number that leads there.
+/// A line is empty, a label `name:`, or one instruction; `//` begins a comment. A label names the slot after it; in a jump
+/// it is replaced by the offset that leads there.
 ///
 /// # Errors
 ///
-/// The fault of the first line that has one, in it the lowest kind: `Syntax` where it is none of the forms, `Range` where
-/// a number is too large or too small, `UnknownLabel` where no line defines the label, `LabelTwice` where an earlier
-/// line defines it, `TooLong` where the line's slots pass `MAX_SLOTS`. Where no line has a fault, `Empty` at line 0 if
-/// there is no slot. `Memory` at line 0 where a growth was refused.
+/// The fault of the first line that has one, and the lowest kind there: `Syntax` if it has none of the forms, `Range` if a
+/// number is out of range, `UnknownLabel` if no line defines the label, `LabelTwice` if an earlier line defines it,
+/// `TooLong` if the line's slots go past `MAX_SLOTS`. If no line has a fault, `Empty` at line 0 if there is no slot.
+/// `Memory` at line 0 if out of memory.
 pub fn assemble(alloc: Global, text: &str) -> Result<Program, TextFault>
-    // What is answered is what the text says.
+    // A program that is returned is the one of the text.
     ensures ok { IfOk result (λ program. IsAssembled text.now program) }
-    // What the text says is answered, unless memory runs out.
+    // The program of the text is returned, unless memory runs out.
     ensures only { (insns : List AnyInsn) → IsAssembled text.now insns → MatchResult result
         (λ program. program ≡ insns) (λ e. e ≡ memory_fault) }
-    // A refusal tells the fault, unless memory runs out.
+    // A fault that is returned is the one of the text, unless memory runs out.
     ensures fault { IfErr result (λ e. (e ≡ memory_fault) ⊎ IsOwnFault text.now e) }
-    // A fault is refused so, unless memory runs out.
+    // The fault of the text is returned, unless memory runs out.
     ensures faulty { (fault : AnyFault) → IsOwnFault text.now fault → IsErrAnd result
         (λ e. (e ≡ fault) ⊎ (e ≡ memory_fault)) }
 {

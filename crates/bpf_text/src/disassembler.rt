@@ -1,4 +1,4 @@
-//! Programs to text.
+//! The disassembler: programs to text.
 
 ghost use Rattle.std.specs.Prelude.{◌≡◌, ◌++◌, [], true, false, IfOk, OnOk};
 ghost use Rattle.std.specs.String.{string_bytes};
@@ -11,8 +11,8 @@ ghost use Rattle.bpf_text.specs.inside.Signs.{signed_bytes};
 
 use crate::laws;
 use insn_codec::{
-    AluOp, AtomicOp, AtomicSize, Bits, ByteOrder, Condition, Insn, Load, Movsx, Narrow, Operand,
-    Program, Reg, Size,
+    AccessSize, AluOp, AtomicOp, AtomicSize, ByteOrder, Condition, ExtendedBits, Insn, KeptBits,
+    Load, Movsx, Operand, Program, Reg,
 };
 use std::alloc::{AllocError, Global};
 use std::fmt::Write;
@@ -58,44 +58,44 @@ fn condition_name(cond: Condition) -> &'static str
     }
 }
 
-fn order_name(how: ByteOrder, bits: Bits) -> &'static str
+fn order_name(how: ByteOrder, bits: KeptBits) -> &'static str
     ensures { result.now ≡ order_name how bits }
 {
     match (how, bits) {
-        (ByteOrder::Little, Bits::Bits16) => "le16",
-        (ByteOrder::Little, Bits::Bits32) => "le32",
-        (ByteOrder::Little, Bits::Bits64) => "le64",
-        (ByteOrder::Big, Bits::Bits16) => "be16",
-        (ByteOrder::Big, Bits::Bits32) => "be32",
-        (ByteOrder::Big, Bits::Bits64) => "be64",
-        (ByteOrder::Swap, Bits::Bits16) => "bswap16",
-        (ByteOrder::Swap, Bits::Bits32) => "bswap32",
-        (ByteOrder::Swap, Bits::Bits64) => "bswap64",
+        (ByteOrder::Little, KeptBits::Bits16) => "le16",
+        (ByteOrder::Little, KeptBits::Bits32) => "le32",
+        (ByteOrder::Little, KeptBits::Bits64) => "le64",
+        (ByteOrder::Big, KeptBits::Bits16) => "be16",
+        (ByteOrder::Big, KeptBits::Bits32) => "be32",
+        (ByteOrder::Big, KeptBits::Bits64) => "be64",
+        (ByteOrder::Swap, KeptBits::Bits16) => "bswap16",
+        (ByteOrder::Swap, KeptBits::Bits32) => "bswap32",
+        (ByteOrder::Swap, KeptBits::Bits64) => "bswap64",
     }
 }
 
-fn narrow_name(bits: Narrow) -> &'static str
+fn narrow_name(bits: ExtendedBits) -> &'static str
     ensures { result.now ≡ narrow_name bits }
 {
     match bits {
-        Narrow::Bits8 => "s8",
-        Narrow::Bits16 => "s16",
-        Narrow::Bits32 => "s32",
+        ExtendedBits::Bits8 => "s8",
+        ExtendedBits::Bits16 => "s16",
+        ExtendedBits::Bits32 => "s32",
     }
 }
 
-fn size_name(signed: bool, size: Size) -> &'static str
+fn size_name(signed: bool, size: AccessSize) -> &'static str
     ensures { result.now ≡ size_name signed size }
 {
     match (signed, size) {
-        (false, Size::Byte) => "u8",
-        (false, Size::Half) => "u16",
-        (false, Size::Word) => "u32",
-        (false, Size::Double) => "u64",
-        (true, Size::Byte) => "s8",
-        (true, Size::Half) => "s16",
-        (true, Size::Word) => "s32",
-        (true, Size::Double) => "s64",
+        (false, AccessSize::Byte) => "u8",
+        (false, AccessSize::Half) => "u16",
+        (false, AccessSize::Word) => "u32",
+        (false, AccessSize::Double) => "u64",
+        (true, AccessSize::Byte) => "s8",
+        (true, AccessSize::Half) => "s16",
+        (true, AccessSize::Word) => "s32",
+        (true, AccessSize::Double) => "s64",
     }
 }
 
@@ -162,7 +162,7 @@ fn write_constant(text: &mut String, n: i32) -> Result<(), AllocError>
     write!(text, "{n}")
 }
 
-/// Writes a number behind its sign.
+/// Writes a number with its sign, `+` or `-`, and `gap` between the two.
 fn write_signed(text: &mut String, n: i32, gap: &str) -> Result<(), AllocError>
     ensures { OnOk result (string_bytes text.new ≡ string_bytes text.old
         ++ signed_bytes n gap.now) }
@@ -203,7 +203,7 @@ fn write_atomic(
     write!(text, ") {op} {src}")
 }
 
-/// Writes a wide load of a map.
+/// Writes a load of a map by its descriptor.
 #[tactic(auto, using(crate::proofs::Printing::laid_out_constant), unfolding(text_line::specs::Written::printed_insn))]
 fn write_map_fd(text: &mut String, dst: Reg, fd: i32) -> Result<(), AllocError>
     ensures { OnOk result (string_bytes text.new ≡ string_bytes text.old
@@ -215,7 +215,7 @@ fn write_map_fd(text: &mut String, dst: Reg, fd: i32) -> Result<(), AllocError>
     text.push_str(" ll")
 }
 
-/// Writes a wide load of an address in a map's value.
+/// Writes a load of an address in a map's value.
 fn write_map_value(text: &mut String, dst: Reg, fd: i32, off: u32) -> Result<(), AllocError>
     ensures { OnOk result (string_bytes text.new ≡ string_bytes text.old
         ++ printed_insn (Insn.MapValue dst fd off)) }
@@ -226,11 +226,11 @@ fn write_map_value(text: &mut String, dst: Reg, fd: i32, off: u32) -> Result<(),
     write!(text, " + {off} ll")
 }
 
-/// Writes an instruction's line behind a text, without the line feed.
+/// Appends the line of an instruction to `text`, without a line feed.
 ///
 /// # Errors
 ///
-/// `AllocError`: there is no memory for it. Some of it may stand there then.
+/// `AllocError`: out of memory. Part of the line may have been appended then.
 #[tactic(auto, unfolding(text_line::specs::Written::printed_insn))]
 pub fn write_insn(text: &mut String, insn: &Insn) -> Result<(), AllocError>
     ensures { OnOk result (string_bytes text.new ≡ string_bytes text.old ++ printed_insn insn.now) }
@@ -336,10 +336,10 @@ pub fn write_insn(text: &mut String, insn: &Insn) -> Result<(), AllocError>
 ///
 /// # Errors
 ///
-/// `AllocError`: there is no memory for the text.
+/// `AllocError`: out of memory.
 pub fn disassemble(alloc: Global, program: &Program) -> Result<String, AllocError>
     ensures text { IfOk result (λ text. string_bytes text ≡ printed program.now) }
-    // So `assemble` gives the program again.
+    // `assemble` turns the text into the same program.
     ensures program { IfOk result (λ text. IsAssembled (string_bytes text) program.now) }
 {
     program.insns_in_order();

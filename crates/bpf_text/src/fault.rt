@@ -1,13 +1,13 @@
-//! What is wrong with a text.
+//! Faults of a text.
 
 ghost use Rattle.std.specs.Prelude.{◌≡◌, ◌<◌, ◌^◌};
 
 use std::alloc::{AllocError, AllocFailed};
 
-/// The kinds, lowest first.
+/// The kinds of faults, lowest first.
 #[derive(Clone, Copy, Debug, PartialEq, Eq)]
 pub enum TextFaultKind {
-    /// The line is none of the forms.
+    /// The line has none of the forms.
     Syntax,
     /// A number is out of its range.
     Range,
@@ -15,11 +15,11 @@ pub enum TextFaultKind {
     UnknownLabel,
     /// The line defines a label that an earlier line defines.
     LabelTwice,
-    /// The line's slots pass the number that a program may have.
+    /// The line's slots go past the most that a program may have.
     TooLong,
     /// The text has no slot.
     Empty,
-    /// A growth was refused.
+    /// Out of memory.
     Memory,
 }
 
@@ -52,7 +52,7 @@ pub struct TextFault {
 impl TextFault {
     ghost use Rattle.bpf_text.specs.inside.Faults.{fault_on};
 
-    /// The fault of a line, given by its index from 0; a refused growth is the whole text's.
+    /// The fault of the line with this index, counted from 0; `Memory` is a fault of the whole text.
     pub(crate) fn at(index: usize, kind: TextFaultKind) -> TextFault
         requires { index < 2 ^ 63 }
         ensures { result ≡ fault_on index kind }

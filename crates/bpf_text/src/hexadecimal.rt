@@ -17,14 +17,14 @@ use insn_codec::{MAX_SLOTS, Program, write_program};
 use std::alloc::{AllocError, Global};
 use text_line::stripped;
 
-/// The slots of a program, one on each line, as sixteen lower-case hex digits and a line feed.
+/// The slots of a program, each as a line of sixteen lower-case hex digits and a line feed.
 ///
 /// # Errors
 ///
-/// `AllocError`: there is no memory for the text.
+/// `AllocError`: out of memory.
 pub fn hex_lines(alloc: Global, program: &Program) -> Result<String, AllocError>
     ensures text { IfOk result (λ text. string_bytes text ≡ hex_text (program_bytes program.now)) }
-    // So `from_hex_lines` gives the slots again.
+    // `from_hex_lines` turns the text into the same slots.
     ensures slots { IfOk result (λ text. IsHexText (string_bytes text)
         (program_bytes program.now)) }
 {
@@ -41,25 +41,25 @@ pub fn hex_lines(alloc: Global, program: &Program) -> Result<String, AllocError>
     Ok(text)
 }
 
-/// The slots on the lines of a text, one after the other.
+/// The bytes of the slots on the lines of a text, in order.
 ///
-/// A line is sixteen hex digits, in either case. Spaces, tabs and carriage returns at its ends are dropped, and
-/// a line that is empty then is skipped.
+/// A line is sixteen hex digits in either case. Spaces, tabs and carriage returns at its ends are ignored, and a line
+/// without anything else is skipped.
 ///
 /// # Errors
 ///
-/// The fault of the first line that has one: `Syntax` where it is no such line, `TooLong` where its slot is one more
-/// than a program may have. Where no line has a fault, `Empty` at line 0 if there is no slot.
-/// `Memory` at line 0 where a growth was refused.
+/// The fault of the first line that has one: `Syntax` if it is no such line, `TooLong` if its slot is one more than a
+/// program may have. If no line has a fault, `Empty` at line 0 if there is no slot. `Memory` at line 0 if out of
+/// memory.
 pub fn from_hex_lines(alloc: Global, text: &str) -> Result<Vec<u8>, TextFault>
-    // What is answered is what the text has.
+    // Slots that are returned are those of the text.
     ensures found { IfOk result (λ bytes. IsHexText text.now bytes.items) }
-    // What the text has is answered, unless memory runs out.
+    // The slots of the text are returned, unless memory runs out.
     ensures only { (slots : List ℕ) → IsHexText text.now slots → MatchResult result
         (λ bytes. bytes.items ≡ slots) (λ e. e ≡ memory_fault) }
-    // A refusal tells the fault, unless memory runs out.
+    // A fault that is returned is the one of the text, unless memory runs out.
     ensures fault { IfErr result (λ e. (e ≡ memory_fault) ⊎ IsHexFault text.now e) }
-    // A fault is refused so, unless memory runs out.
+    // The fault of the text is returned, unless memory runs out.
     ensures faulty { (fault : AnyFault) → IsHexFault text.now fault → IsErrAnd result
         (λ e. (e ≡ fault) ⊎ (e ≡ memory_fault)) }
 {
@@ -74,7 +74,7 @@ pub fn from_hex_lines(alloc: Global, text: &str) -> Result<Vec<u8>, TextFault>
     Ok(bytes)
 }
 
-/// The slots on the lines, one after the other.
+/// The bytes of the slots on the lines, in order.
 fn slots_on(alloc: Global, lines: &[&str]) -> Result<Vec<u8>, TextFault>
     ensures found { IfOk result (λ bytes. bytes.items
         ≡ hex_bytes (map (λ line. line.now) lines.now)) }
@@ -92,7 +92,7 @@ fn slots_on(alloc: Global, lines: &[&str]) -> Result<Vec<u8>, TextFault>
     Ok(bytes)
 }
 
-/// Adds the slot of a line at the end, if the line has one.
+/// Appends the slot of a line to `bytes`, if the line has one.
 fn append_slot(bytes: &mut Vec<u8>, line: &str) -> Result<(), TextFaultKind>
     requires { vec_len bytes.old ≤ 8 * MAX_SLOTS }
     ensures ok { OnOk result (bytes.new.items ≡ bytes.old.items

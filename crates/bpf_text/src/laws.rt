@@ -7,7 +7,7 @@ ghost use Rattle.bpf_text.specs.Law.{OneProgram, ProgramHasNoFault, OneFault, Pr
 
 use insn_codec::MAX_SLOTS;
 
-/// A text is at most one program.
+/// A text has at most one program.
 pub fn one_program()
     ensures { OneProgram }
 {
@@ -15,7 +15,7 @@ pub fn one_program()
     text_line::laws::one_instruction();
 }
 
-/// A text that is a program has no fault of its own.
+/// A text with a program has no fault of its own.
 pub fn program_has_no_fault()
     ensures { ProgramHasNoFault }
 {
@@ -29,7 +29,7 @@ pub fn one_fault()
     text_line::laws::one_reading();
 }
 
-/// The text that `disassemble` prints of a program is that program.
+/// The program of the text that `disassemble` prints is the program that was printed.
 pub fn printed_text_is_assembled()
     ensures { PrintedIsAssembled }
 {
@@ -37,12 +37,12 @@ pub fn printed_text_is_assembled()
     text_line::laws::written_in_range();
 }
 
-/// The lines that `hex_lines` writes of a program are its slots.
+/// The slots of the text that `hex_lines` writes are those of the program.
 pub fn hex_lines_are_read()
     ensures { HexLinesAreRead }
 {}
 
-/// The hex lines of one to `MAX_SLOTS` slots are these slots, whether a program has them or not.
+/// The slots of the hex lines of 1 to `MAX_SLOTS` slots are these slots, whether they are a program's or not.
 pub fn hex_slots_are_read()
     ensures { (slots : ℕ) (bytes : List ℕ) → IsBytes bytes → length bytes ≡ 8 * slots → 1 ≤ slots
         → slots ≤ MAX_SLOTS → IsHexText (hex_text bytes) bytes }

@@ -5,7 +5,7 @@ ghost use Rattle.bpf_text.specs.Lines.{text_lines};
 
 use std::alloc::{AllocError, Global};
 
-/// The lines, parted by line feeds.
+/// Splits a text into lines at its line feeds.
 pub(crate) fn split_lines(alloc: Global, text: &str) -> Result<Vec<&str>, AllocError>
     ensures { IfOk result (λ lines. map (λ line. line.now) lines.items ≡ text_lines text.now) }
 {

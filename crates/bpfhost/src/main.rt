@@ -5,7 +5,7 @@ use host::{refuse_unread_words, run_words};
 use std::process::ExitCode;
 use std::{env, io};
 
-/// Runs the program on its arguments. An error is one of reading them.
+/// Runs the program on its arguments. An error means that the arguments could not be read.
 fn run(rt: &HostRuntime) -> io::Result<u8> {
     let alloc = rt.alloc();
     let given: Vec<String> = env::args(rt)?.skip(1).collect(alloc)?;

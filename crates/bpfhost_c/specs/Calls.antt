@@ -13,15 +13,15 @@ abbrev pub states : Option Session → List TenantState
 states None = []
 states (Some s) = s.host
 
--- A reply stands at an address: it is the bytes of the vector of the session's last reply, which begin there. The session owns
--- them, and the handle the session.
+-- A reply lies at an address: it is the bytes of the vector of the session's last reply, which begin there. The session owns
+-- them, and the handle owns the session.
 abbrev pub StandsAt : Option Session → List ℕ → Ptr → ℕ → Type 0
 StandsAt None reply at length = ⊥
 StandsAt (Some s) reply at length = (s.reply.items ≡ reply) × (at ≡ vec_ptr s.reply) × (length ≡ vec_len s.reply)
 
 -- ---- codes
 
--- of `new`, where memory is not refused
+-- of `new`, unless it is out of memory
 abbrev pub new_code : Option Session → ℕ → ℤ
 new_code before tenants =
     if nat_lt tenants 1 || nat_lt MOST_TENANTS tenants then TENANTS else (if is_none before then DONE else HAS_HOST)
@@ -30,6 +30,6 @@ new_code before tenants =
 abbrev pub host_code : Option Session → ℤ
 host_code before = if is_none before then NO_HOST else DONE
 
--- of one that takes room for the longest reply too
+-- of a call that also takes room for the longest reply
 abbrev pub room_code : Option Session → ℕ → ℤ
 room_code before room = if nat_lt room longest_reply then ROOM else host_code before

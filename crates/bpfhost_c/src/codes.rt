@@ -1,4 +1,4 @@
-//! What a call answers C. `clients/c/include/bpfhost.h` has the same numbers.
+//! The codes that calls return to C. `clients/c/include/bpfhost.h` has the same numbers.
 
 /// The call did what it says.
 pub(crate) const DONE: i32 = 0;
@@ -12,7 +12,7 @@ pub(crate) const HAS_HOST: i32 = -2;
 /// A host has 1 to `MOST_TENANTS` tenants.
 pub(crate) const TENANTS: i32 = -3;
 
-/// There is no memory for the host.
+/// Out of memory for the host.
 pub(crate) const MEMORY: i32 = -4;
 
 /// The room has fewer than `LONGEST_REPLY` bytes.

@@ -1,4 +1,4 @@
-//! What C holds of a session: a pointer to it, or null.
+//! The handle that C holds of a session: a pointer to it, or null.
 
 ghost use Rattle.std.specs.Prelude.{◌≡◌, Some, None, Option, option_map};
 ghost use Rattle.bpfhost_c.specs.declared.session.Session.{Session};
@@ -45,7 +45,7 @@ impl Handle {
         }
     }
 
-    /// The box of the session, if there is one.
+    /// The box of the session; `None` if the handle is empty.
     pub(crate) fn into_raw_box(self) -> Option<RawBox<Session, Global>>
         ensures { option_map (λ raw. raw.value) result ≡ self.session }
     {
@@ -59,7 +59,7 @@ impl Handle {
         })
     }
 
-    /// Takes the session out, if there is one. The handle is empty then.
+    /// Takes the session out, which leaves the handle empty; `None` if it was empty.
     pub(crate) fn take(&mut self, alloc: Global) -> Option<Box<Session>>
         ensures session { option_map (λ b. b.value) result ≡ self.old.session }
         ensures empty { self.new.session ≡ None }
@@ -70,7 +70,7 @@ impl Handle {
         }
     }
 
-    /// Puts a session in. What was there is dropped.
+    /// Puts a session in. A session that was there is dropped.
     pub(crate) fn put(&mut self, session: Box<Session>)
         ensures { self.new.session ≡ Some session.value }
     {
@@ -86,5 +86,5 @@ impl Drop for Handle {
     }
 }
 
-// The box behind it is its own, and a session may go to another thread.
+// The handle owns the box behind it, and a session may be sent to another thread.
 unsafe impl Send for Handle {}

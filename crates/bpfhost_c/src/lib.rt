@@ -20,7 +20,7 @@ use host_core::{LONGEST_REPLY, MOST_TENANTS};
 use session::Session;
 use std::alloc::Global;
 
-/// Where a reply stands, and how many bytes it has.
+/// The address of a reply, and its length in bytes.
 #[derive(Drop)]
 #[repr(C)]
 pub struct Lent {
@@ -28,9 +28,9 @@ pub struct Lent {
     pub length: usize,
 }
 
-/// Makes a host for 1 to `MOST_TENANTS` tenants, and puts it behind an empty handle.
+/// Creates a host for 1 to `MOST_TENANTS` tenants, and puts it behind an empty handle.
 ///
-/// It answers `DONE`; else `TENANTS`, `HAS_HOST` or `MEMORY`, and the handle is as it was.
+/// Returns `DONE`; else `TENANTS`, `HAS_HOST` or `MEMORY`, and the handle is unchanged.
 #[unsafe(no_mangle)]
 pub extern "C" fn bpfhost_c_new(alloc: Global, handle: &mut Handle, tenants: usize) -> i32
     ensures made { result ≡ DONE → states handle.new.session ≡ replicate tenants new_tenant }
@@ -54,7 +54,7 @@ pub extern "C" fn bpfhost_c_new(alloc: Global, handle: &mut Handle, tenants: usi
     }
 }
 
-/// Copies bytes to the front of the room, which is no shorter, and says how many.
+/// Copies bytes to the front of `room`, which is no shorter, and returns how many.
 fn copy_to_front(bytes: &[u8], room: &mut [u8]) -> usize
     requires { length bytes.now ≤ length room.old }
     ensures count { result ≡ length bytes.now }
@@ -65,10 +65,10 @@ fn copy_to_front(bytes: &[u8], room: &mut [u8]) -> usize
     count
 }
 
-/// Handles a frame, which is what follows the length field and may have any length, and copies the reply to the front of the
-/// room. `written` is the reply's length.
+/// Handles a frame (what follows the length field) of any length, copies the reply to the front of `room` and its length to
+/// `written`.
 ///
-/// It answers `DONE`; else `ROOM` or `NO_HOST`, and host, room and `written` are as they were.
+/// Returns `DONE`; else `ROOM` or `NO_HOST`, and the host, `room` and `written` are unchanged.
 #[unsafe(no_mangle)]
 pub extern "C" fn bpfhost_c_handle(
     alloc: Global,
@@ -98,9 +98,10 @@ pub extern "C" fn bpfhost_c_handle(
     DONE
 }
 
-/// Handles a frame, and says where the reply stands. There it stays until the next call with this handle.
+/// Handles a frame, and writes the address and the length of the reply to `lent`. They are valid until the next call with this
+/// handle.
 ///
-/// It answers `DONE`; else `NO_HOST`, and handle and `lent` are as they were.
+/// Returns `DONE`; else `NO_HOST`, and the handle and `lent` are unchanged.
 #[unsafe(no_mangle)]
 pub extern "C" fn bpfhost_c_handle_lent(
     alloc: Global,
@@ -126,10 +127,10 @@ pub extern "C" fn bpfhost_c_handle_lent(
     DONE
 }
 
-/// Tells whether memory was ever refused to a tenant: the premise of what each tenant is promised. A number that is not served
-/// takes no memory.
+/// Sets `refused` to whether memory was ever refused to `tenant`; noninterference is promised to tenants to which it was not.
+/// False for a number that is not served.
 ///
-/// It answers `DONE`; else `NO_HOST`, and `refused` is as it was.
+/// Returns `DONE`; else `NO_HOST`, and `refused` is unchanged.
 #[unsafe(no_mangle)]
 pub extern "C" fn bpfhost_c_memory_refused(
     alloc: Global,
@@ -153,7 +154,7 @@ pub extern "C" fn bpfhost_c_memory_refused(
     DONE
 }
 
-/// Frees the host behind a handle, which is empty then; an empty handle stays so.
+/// Frees the host behind a handle, which is empty afterwards; an empty handle stays empty.
 #[unsafe(no_mangle)]
 pub extern "C" fn bpfhost_c_free(alloc: Global, handle: &mut Handle)
     ensures { handle.new.session ≡ None }

@@ -1,4 +1,4 @@
-//! A host, and where its last reply stands.
+//! A host with its last reply.
 
 ghost use Rattle.std.specs.Prelude.{◌≡◌, ◌≤◌, length, replicate, vec_capacity, IfOk};
 ghost use Rattle.host_core.specs.Frame.{longest_reply};
@@ -10,7 +10,7 @@ use host_core::{Host, LONGEST_REPLY, MOST_TENANTS, ReplyBuf};
 use std::alloc::{AllocError, Global};
 use std::mem::replace;
 
-/// A host and its last reply, in a vector that has room for the longest one.
+/// A host and its last reply, in a vector with the capacity for the longest one.
 #[derive(Drop)]
 pub struct Session {
     pub(crate) host: Host,
@@ -20,7 +20,7 @@ pub struct Session {
 }
 
 impl Session {
-    /// A session of a new host. An error is want of memory.
+    /// A session with a new host. `AllocError`: out of memory.
     pub(crate) fn new(alloc: Global, tenants: usize) -> Result<Box<Session>, AllocError>
         requires some { 1 ≤ tenants }
         requires few { tenants ≤ MOST_TENANTS }
@@ -31,7 +31,7 @@ impl Session {
         Ok(Box::new(alloc, Session { host, reply, alloc })?)
     }
 
-    /// Handles a frame. The reply is the last one then.
+    /// Handles a frame, whose reply becomes the last one.
     pub(crate) fn handle(&mut self, frame: &[u8])
         ensures handled { Handles self.old.host frame.now self.new.reply.items self.new.host }
         ensures bound { length self.new.reply.items ≤ longest_reply }

@@ -5,13 +5,13 @@ ghost use Rattle.std.specs.Prelude.{◌<◌};
 use crate::fault::LineFault;
 use std::alloc::{AllocError, Global};
 
-/// How many bytes of a frame or a reply are written in one group.
+/// The number of bytes of a frame or a reply in one group.
 pub const GROUP: usize = 4;
 
 /// The most copies that a line may ask for.
 const MOST_COPIES: usize = 131_073;
 
-/// Appends so many copies of the bytes of hex digits.
+/// Appends the bytes of hex digits `copies` times.
 fn append(
     alloc: Global,
     bytes: &mut Vec<u8>,
@@ -28,7 +28,7 @@ fn append(
     Ok(())
 }
 
-/// The bytes of hex digits. Blanks may part them, and `DIGITS*COUNT` stands for so many copies.
+/// The bytes of hex digits. Blanks may separate them, and `DIGITS*COUNT` repeats the bytes of `DIGITS` `COUNT` times.
 pub fn bytes_of(alloc: Global, text: &str) -> Result<Vec<u8>, LineFault> {
     let mut bytes = Vec::new(alloc);
     for part in text.split_whitespace() {
@@ -40,7 +40,7 @@ pub fn bytes_of(alloc: Global, text: &str) -> Result<Vec<u8>, LineFault> {
     Ok(bytes)
 }
 
-/// The hex digits of bytes, in groups of so many bytes with a blank between them.
+/// The hex digits of bytes, in groups of `size` bytes with a blank between them.
 pub fn hex_groups(alloc: Global, bytes: &[u8], size: usize) -> Result<String, AllocError>
     requires { 0 < size }
 {

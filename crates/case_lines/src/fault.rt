@@ -5,7 +5,7 @@ use std::alloc::AllocError;
 use std::num::ParseIntError;
 use thiserror::Error;
 
-/// Why a line, or a part of it, is not written as it has to be.
+/// What is wrong with a line or with a part of it.
 #[derive(Debug, Drop, Error)]
 pub enum LineFault {
     #[error("no number")]

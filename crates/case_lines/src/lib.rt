@@ -1,4 +1,4 @@
-//! Lines of worked cases: how they write bytes and programs, and how a program plays those of its input.
+//! Lines of worked cases: bytes and programs in them, and how a program plays the lines of its input.
 #![tactic(auto)]
 
 mod bytes;

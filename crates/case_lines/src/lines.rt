@@ -7,7 +7,7 @@ ghost use Rattle.case_lines.specs.Lines.{is_space, is_remark};
 use crate::fault::LineFault;
 use std::alloc::Global;
 
-/// Whether a line asks for nothing: it is empty, or begins with `#`.
+/// Whether a line is a remark: it is empty, or begins with `#`.
 pub fn is_remark(line: &str) -> bool
     ensures { result ≡ is_remark line.now }
 {
@@ -17,7 +17,7 @@ pub fn is_remark(line: &str) -> bool
     }
 }
 
-/// The first word of a text, and what follows the blank behind it.
+/// The first word of a text, and the text after the space that follows it.
 pub fn first_word(text: &str) -> (&str, &str)
     ensures word { result.0.now ≡ before_first is_space text.now }
     ensures rest { result.1.now ≡ after_first is_space text.now }
@@ -25,7 +25,7 @@ pub fn first_word(text: &str) -> (&str, &str)
     text.split_once(' ').unwrap_or((text, ""))
 }
 
-/// The lines of a program's text, where `;` ends a line and `COUNT times LINE` is so many lines.
+/// The lines of a program's text, where `;` ends a line and `COUNT times LINE` is `COUNT` such lines.
 pub fn program_lines(alloc: Global, text: &str) -> Result<String, LineFault> {
     let mut lines = String::new(alloc);
     for part in text.split(';') {

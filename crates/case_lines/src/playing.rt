@@ -1,15 +1,15 @@
-//! The lines of the input, one after another.
+//! Playing the lines of the input, one after another.
 
 use crate::lines::is_remark;
 use anyhow::Result;
 
-/// What lines are played on.
+/// Plays lines.
 pub trait Player {
-    /// What is written for a line that is no remark.
+    /// The output for a line that is no remark.
     fn play(&mut self, line: &str) -> Result<String>;
 }
 
-/// Writes for each line of the input what it gives, or why it gives nothing. A remark is written as it stands.
+/// Writes for each line of the input its output, or its error. A remark is written unchanged.
 pub fn play_lines<R: AllocGlobal + Input + Print, P: Player>(rt: &R, player: &mut P) -> Result<()> {
     for line in rt.lines(rt.alloc()) {
         let line = line?;

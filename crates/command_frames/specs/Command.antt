@@ -6,7 +6,7 @@ use Rattle.command_frames.specs.declared.command.BadFrame.{BadFrame}
 use Rattle.command_frames.specs.declared.command.BadFrame.TheVariants.{TooLong, Unknown, Body}
 use Rattle.command_frames.specs.Frame.{head_length}
 
--- what follows the numbers is bytes
+-- key, value, slots and packet are lists of bytes
 pub data Command : Type 0 where
   map_create : (kind key_size value_size max_entries flags : ℕ) → Command
   map_lookup : (fd : ℕ) (key : List ℕ) → Command
@@ -23,51 +23,51 @@ pub data Command : Type 0 where
 abbrev pub word_length : ℕ
 word_length = 4
 
--- the body of a command that makes a map: five words
+-- the body of MAP_CREATE: five words
 abbrev pub create_body : ℕ
 create_body = 20
 
--- what comes before the key and the value of an update: a descriptor and eight bytes of flags
+-- the bytes before the key and the value of MAP_UPDATE: a descriptor and eight bytes of flags
 abbrev pub before_key_and_value : ℕ
 before_key_and_value = 12
 
--- a test run brings so many words of context: all but the first, which is the packet's length
+-- the number of context words in a test run's body: all but the first, which is the packet's length
 abbrev pub given_words : ℕ
 given_words = 10
 
 abbrev pub context_length : ℕ
 context_length = given_words * word_length
 
--- what comes before the packet of a test run: a descriptor and the context
+-- the bytes before the packet of a test run: a descriptor and the context
 abbrev pub before_packet : ℕ
 before_packet = word_length + context_length
 
--- the longest frame that is looked at
+-- the longest frame that is read
 abbrev pub longest_frame : ℕ
 longest_frame = 131072
 
 -- ---- the body
 
--- the number in four bytes, or in eight, the lowest first, behind so many bytes
+-- the little-endian number in the four bytes, or the eight, at an offset of the body
 abbrev pub word_behind : ℕ → List ℕ → ℕ
 word_behind at body = little_number 4 (drop at body)
 
 abbrev pub long_behind : ℕ → List ℕ → ℕ
 long_behind at body = little_number 8 (drop at body)
 
--- so many words one after the other
+-- the first n words
 unfoldable pub words : ℕ → List ℕ → List ℕ
 words zero bytes = []
 words (suc n) bytes = little_number 4 bytes ∷ words n (drop 4 bytes)
 
--- a body of just so many bytes, and one of at least so many
+-- the command if its body has exactly n bytes, or at least n
 abbrev pub exactly : ℕ → List ℕ → Command → Result Command BadFrame
 exactly n body command = if length body == n then Ok command else Err Body
 
 abbrev pub at_least : ℕ → List ℕ → Command → Result Command BadFrame
 at_least n body command = if nat_le n (length body) then Ok command else Err Body
 
--- the command of a number with this body
+-- the command of number n with this body
 abbrev pub command_in : ℕ → List ℕ → Result Command BadFrame
 command_in n body =
     if n == 0 then exactly create_body body (map_create (word_behind 0 body) (word_behind 4 body) (word_behind 8 body) (word_behind 12 body) (word_behind 16 body)) else

@@ -1,11 +1,11 @@
--- Frames: a stream is a list of them and a rest, and each has a reply. Their form is this project's own; a status is
--- an answer of bpf(2).
+-- Frames: a stream is a list of them and a rest, and each has a reply. Their format is this project's own; a status is
+-- a result of bpf(2).
 use Rattle.std.specs.Prelude.{ℕ, ℤ, ◌+◌, ◌<◌, ◌^◌, List, ◌++◌, length, drop, nat_lt, Option, Some, None, if◌then◌else◌, ◌⊎◌}
 use Rattle.std.specs.Int.{w32, cast_unsigned}
 use Rattle.byteorder.specs.Endian.{little_number, little_bytes}
 use Rattle.command_frames.specs.declared.command.Head.{Head}
 
--- on the stream: its length in four bytes, the lowest first, and then so many bytes
+-- a frame on the stream: its length in four bytes, little-endian, and then its bytes
 abbrev pub framed : List ℕ → List ℕ
 framed frame = little_bytes 4 (length frame) ++ frame
 
@@ -13,7 +13,7 @@ framed frame = little_bytes 4 (length frame) ++ frame
 abbrev pub IsFrame : List ℕ → Type 0
 IsFrame frame = length frame < 2 ^ 32
 
--- no whole frame stands at the front
+-- the bytes don't begin with a whole frame
 abbrev pub IsPartial : List ℕ → Type 0
 IsPartial bytes = (length bytes < 4) ⊎ (length bytes < 4 + little_number 4 bytes)
 
@@ -23,15 +23,15 @@ IsPartial bytes = (length bytes < 4) ⊎ (length bytes < 4 + little_number 4 byt
 abbrev pub head_length : ℕ
 head_length = 4
 
--- there is none in fewer bytes
+-- the head of a frame; None in fewer bytes
 abbrev pub head_of : List ℕ → Option Head
 head_of frame = if nat_lt (length frame) head_length then None else Some (record { tenant = little_number 2 frame; command = little_number 2 (drop 2 frame) })
 
--- the tenant that it belongs to, and 65535 where it is too short for a head
+-- the tenant of a frame, and 65535 where it is too short for a head
 abbrev pub owner : List ℕ → ℕ
 owner frame = if nat_lt (length frame) head_length then 65535 else little_number 2 frame
 
--- the command, by its number
+-- the number of its command, and 65535 where it is too short for a head
 abbrev pub command_number : List ℕ → ℕ
 command_number frame = if nat_lt (length frame) head_length then 65535 else little_number 2 (drop 2 frame)
 
@@ -41,15 +41,15 @@ command_number frame = if nat_lt (length frame) head_length then 65535 else litt
 abbrev pub reply_head : ℕ
 reply_head = 8
 
--- the bytes of the longest payload
+-- the length of the longest payload, in bytes
 abbrev pub longest_payload : ℕ
 longest_payload = 4096
 
--- and of the longest reply
+-- the length of the longest reply, in bytes
 abbrev pub longest_reply : ℕ
 longest_reply = 4 + reply_head + longest_payload
 
--- the length of what follows, the tenant, the command, the status and the payload
+-- a reply: the length of what follows it, the tenant, the command and the status, and then the payload
 abbrev pub front_bytes : ℕ → ℕ → ℤ → ℕ → List ℕ
 front_bytes tenant command status size =
     little_bytes 4 size ++ (little_bytes 2 tenant ++ (little_bytes 2 command ++ little_bytes 4 (cast_unsigned w32 status)))

@@ -1,4 +1,4 @@
--- Bytes tell the frames, and the replies, that they are. This project's own.
+-- Bytes determine the frames and the replies that they encode. This project's own.
 use Rattle.std.specs.Prelude.{◌≡◌, ℕ, ℤ, ◌<◌, ◌≤◌, ◌^◌, List, ◌++◌, length, slice_index, FitsSigned}
 use Rattle.std.specs.Int.{w32}
 use Rattle.std.specs.List.{flat_map, AllByRecursion}
@@ -12,7 +12,7 @@ pub record IsStream (bytes : List ℕ) (frames : List (List ℕ)) (rest : List �
   pub partial : IsPartial rest
   pub spelled : bytes ≡ flat_map framed frames ++ rest
 
--- all bytes are, and in one way
+-- all bytes are a stream, and in one way
 abbrev pub EachIsStream : Type 0
 EachIsStream =
     (bytes : List ℕ) → ((i : ℕ) → slice_index bytes i < 256)

@@ -1,4 +1,4 @@
--- What the code's commands stand for. This project's own.
+-- The command that each command of the code represents. This project's own.
 use Rattle.std.specs.Prelude.{Result}
 use Rattle.std.specs.Result.{result_map_both}
 use Rattle.command_frames.specs.declared.command.BadFrame.{BadFrame}

@@ -8,22 +8,22 @@ ghost use Rattle.command_frames.specs.Shown.{shown_result};
 use crate::command::{BadFrame, Command};
 use byteorder::{ByteOrder, LittleEndian};
 
-/// The bytes of a word: a descriptor, a type or a size.
+/// The length of a word (a descriptor, a type or a size) in bytes.
 const WORD_LENGTH: usize = 4;
 
-/// The body of MAP_CREATE: five words.
+/// The length of the body of MAP_CREATE: five words.
 const CREATE_BODY: usize = 20;
 
-/// What comes before the key and the value of an update: a descriptor and eight bytes of flags.
+/// The bytes before the key and the value of MAP_UPDATE: a descriptor and eight bytes of flags.
 const BEFORE_KEY_AND_VALUE: usize = 12;
 
-/// The words of the context that a test run brings.
+/// The number of context words in the body of PROG_TEST_RUN.
 pub const GIVEN_WORDS: usize = 10;
 
-/// The bytes of these words.
+/// The length of these words in bytes.
 const CONTEXT_LENGTH: usize = GIVEN_WORDS * WORD_LENGTH;
 
-/// What comes before the packet of a test run: a descriptor and the context.
+/// The bytes before the packet of PROG_TEST_RUN: a descriptor and the context.
 const BEFORE_PACKET: usize = WORD_LENGTH + CONTEXT_LENGTH;
 
 fn word(bytes: &[u8], at: usize) -> u32
@@ -109,7 +109,7 @@ fn prog_load(body: &[u8]) -> Result<Command<'_>, BadFrame>
     })
 }
 
-/// The words of the context, one after the other.
+/// Reads the words of the context, in order.
 fn given_words(bytes: &[u8]) -> [u32; GIVEN_WORDS]
     requires { context_length ≤ length bytes.now }
     ensures { result ≡ words given_words bytes.now }
@@ -141,7 +141,8 @@ fn close(body: &[u8]) -> Result<Command<'_>, BadFrame>
     Ok(Command::Close { fd: word(body, 0) })
 }
 
-/// The command of a number, as bpf(2) numbers them, with this body.
+/// Reads the command `number` (those of bpf(2), and 256 for CLOSE) from its body. `Unknown` if no command has this number;
+/// `Body` if the body's length is wrong.
 pub(crate) fn command_in(number: u16, body: &[u8]) -> Result<Command<'_>, BadFrame>
     ensures { shown_result result ≡ command_in number body.now }
 {

@@ -1,15 +1,15 @@
-//! What frames carry.
+//! Heads and commands, and why a frame carries no command.
 
 use crate::body::GIVEN_WORDS;
 
-/// Whose a frame is, and the number of its command. The reply has the same.
+/// The tenant of a frame, and the number of its command. The reply has the same.
 #[derive(Clone, Copy, Debug, PartialEq, Eq)]
 pub struct Head {
     pub tenant: u16,
     pub command: u16,
 }
 
-/// A command with its fields, as bpf(2) names them. No field has been looked at yet, and what follows the numbers is lent.
+/// A command with its fields, named as by bpf(2). No field is checked yet; byte fields are borrowed from the frame.
 #[derive(Clone, Copy, Debug)]
 pub enum Command<'a> {
     MapCreate {
@@ -42,7 +42,7 @@ pub enum Command<'a> {
     },
     ProgTestRun {
         fd: u32,
-        /// The context but for its first word, which is the packet's length.
+        /// The context without its first word, which is the packet's length.
         words: [u32; GIVEN_WORDS],
         packet: &'a [u8],
     },
@@ -51,13 +51,13 @@ pub enum Command<'a> {
     },
 }
 
-/// Why a frame carries no command. Of several causes the first is told.
+/// Why a frame carries no command: the first of these that applies.
 #[derive(Clone, Copy, Debug, PartialEq, Eq)]
 pub enum BadFrame {
     /// It is longer than `LONGEST_FRAME`.
     TooLong,
     /// No command has its number.
     Unknown,
-    /// Its body is shorter or longer than the command's may be.
+    /// Its body is shorter or longer than its command allows.
     Body,
 }

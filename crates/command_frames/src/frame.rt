@@ -1,4 +1,4 @@
-//! Frames as they are read. A frame is what follows the length field.
+//! Reading frames. A frame is what follows the length field.
 
 ghost use Rattle.std.specs.Prelude.{◌≡◌, ◌≤◌, length};
 ghost use Rattle.command_frames.specs.Command.{parsed};
@@ -9,13 +9,13 @@ use crate::body::command_in;
 use crate::command::{BadFrame, Command, Head};
 use byteorder::{ByteOrder, LittleEndian};
 
-/// The bytes of a head: a tenant and a command.
+/// The length of a head (a tenant and a command) in bytes.
 pub const HEAD_LENGTH: usize = 4;
 
-/// The bytes of the longest frame that is looked at.
+/// The length of the longest frame that is read, in bytes.
 pub const LONGEST_FRAME: usize = 131_072;
 
-/// The head of a frame; none in fewer than four bytes.
+/// The head of a frame; `None` if it has fewer than four bytes.
 pub fn head(frame: &[u8]) -> Option<Head>
     ensures { result ≡ head_of frame.now }
 {
@@ -28,11 +28,11 @@ pub fn head(frame: &[u8]) -> Option<Head>
     })
 }
 
-/// The command that a frame carries, which has a head. The frame's bytes are lent; none is copied but the numbers.
+/// The command of a frame, which has at least the four bytes of a head. Only its numbers are copied; the rest is borrowed.
 ///
 /// # Errors
 ///
-/// What is wrong with the frame, the first cause in the order of `BadFrame`.
+/// Why the frame carries no command, the first cause in the order of `BadFrame`.
 pub fn parse(frame: &[u8]) -> Result<Command<'_>, BadFrame>
     requires { head_length ≤ length frame.now }
     ensures { shown_result result ≡ parsed frame.now }

@@ -2,17 +2,17 @@
 
 ghost use Rattle.command_frames.specs.Laws.{EachIsStream, OneStream, OneReplyInFront};
 
-/// Bytes are a list of frames, and a rest that is no whole frame.
+/// All bytes are a list of frames and a rest that is no whole frame.
 pub fn each_is_stream()
     ensures { EachIsStream }
 {}
 
-/// Bytes are one list of frames and one rest: a stream is read in one way.
+/// The frames and the rest of a stream are unique.
 pub fn one_stream()
     ensures { OneStream }
 {}
 
-/// Bytes begin with one reply at most: it tells its tenant, command, status and payload.
+/// Bytes begin with one reply at most: they determine its tenant, command, status and payload.
 pub fn one_reply_in_front()
     ensures { OneReplyInFront }
 {}

@@ -1,4 +1,4 @@
-//! Frames: whose a frame is, the command that it carries, and the bytes of replies.
+//! Frames: the tenant of a frame, the command that it carries, and the bytes of replies.
 #![tactic(auto)]
 
 mod body;

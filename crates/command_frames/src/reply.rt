@@ -1,4 +1,4 @@
-//! Replies.
+//! Writing replies.
 
 ghost use Rattle.std.specs.Prelude.{◌≡◌, ◌+◌, ◌≤◌, ◌++◌, ◌<◌, [], length, pos, vec_capacity, IfOk};
 ghost use Rattle.byteorder.specs.Endian.{little_bytes};
@@ -14,16 +14,16 @@ const REPLY_HEAD: usize = 8;
 /// The bytes before the payload.
 const FRONT_LENGTH: usize = 4 + REPLY_HEAD;
 
-/// The length that a reply with a number has.
+/// The length field of a reply whose payload is a number of four bytes.
 const NUMBER_LENGTH: u32 = REPLY_HEAD as u32 + 4;
 
-/// The bytes of the longest payload of a reply.
+/// The length of the longest payload of a reply, in bytes.
 pub const LONGEST_PAYLOAD: usize = 4096;
 
-/// The bytes of the longest reply.
+/// The length of the longest reply, in bytes.
 pub const LONGEST_REPLY: usize = FRONT_LENGTH + LONGEST_PAYLOAD;
 
-/// Room for one reply. In contracts it is the list of the reply's bytes.
+/// A buffer for one reply. Contracts see the list of its bytes.
 #[derive(Drop)]
 pub struct ReplyBuf {
     bytes: Vec<u8>,
@@ -42,7 +42,7 @@ impl Model for ReplyBuf {
 }
 
 impl ReplyBuf {
-    /// Takes room for the longest reply, 4,108 bytes, so that no reply takes memory. An error is want of memory.
+    /// Allocates a buffer for the longest reply, 4,108 bytes, so that no reply takes memory. `AllocError`: out of memory.
     pub fn new(alloc: Global) -> Result<ReplyBuf, AllocError>
         ensures { IfOk result (λ reply. reply ≡ []) }
     {
@@ -51,7 +51,7 @@ impl ReplyBuf {
         })
     }
 
-    /// Takes the room of a vector, which has room for the longest reply, 4,108 bytes. What is in it is forgotten.
+    /// Takes over a vector, whose capacity is at least the longest reply, 4,108 bytes. Its contents are dropped.
     pub fn from_vec(bytes: Vec<u8>) -> ReplyBuf
         requires { longest_reply ≤ vec_capacity bytes }
         ensures { result ≡ [] }
@@ -61,7 +61,7 @@ impl ReplyBuf {
         ReplyBuf { bytes }
     }
 
-    /// The vector that the reply stands in, with its room.
+    /// The vector with the bytes of the reply, and a capacity of at least 4,108 bytes.
     pub fn into_vec(self) -> Vec<u8>
         ensures bytes { result.items ≡ self }
         ensures bound { length result.items ≤ longest_reply }
@@ -79,7 +79,7 @@ impl ReplyBuf {
         &self.bytes
     }
 
-    /// Forgets the last reply.
+    /// Empties the buffer.
     fn clear(&mut self)
         ensures { self.new ≡ [] }
     {
@@ -95,7 +95,7 @@ impl ReplyBuf {
     }
 }
 
-/// What a reply has before its payload: its length, the tenant, the command and the status.
+/// The bytes of a reply before its payload: its length, the tenant, the command and the status.
 fn front(head: Head, status: i32, length: u32) -> [u8; FRONT_LENGTH]
     ensures { result ≡ front_bytes head.tenant head.command status length }
 {
@@ -106,7 +106,7 @@ fn front(head: Head, status: i32, length: u32) -> [u8; FRONT_LENGTH]
     [a, b, c, d, e, f, g, h, i, j, k, l]
 }
 
-/// Leaves the bytes of a reply, whose payload has at most 4,096 bytes, in the room for it.
+/// Writes a reply to `reply`, in place of its contents. The payload has at most 4,096 bytes.
 pub fn write_reply(head: Head, status: i32, payload: &[u8], reply: &mut ReplyBuf)
     requires { length payload.now ≤ longest_payload }
     ensures { reply.new ≡ reply_bytes head.tenant head.command status payload.now }
@@ -117,7 +117,7 @@ pub fn write_reply(head: Head, status: i32, payload: &[u8], reply: &mut ReplyBuf
     reply.append(payload);
 }
 
-/// Leaves the bytes of a reply whose payload is a number of four bytes, the lowest first, in the room for it. Its status is 0.
+/// Writes a reply of status 0 to `reply`, in place of its contents. Its payload is `number` in four bytes, little-endian.
 pub fn write_number(head: Head, number: u32, reply: &mut ReplyBuf)
     ensures { reply.new ≡ reply_bytes head.tenant head.command (pos 0) (little_bytes 4 number) }
 {

@@ -1,4 +1,4 @@
-//! Bytes as they are written.
+//! Bytes as text.
 
 use case_lines::{GROUP, hex_groups};
 use std::alloc::{AllocError, Global};
@@ -6,7 +6,7 @@ use std::alloc::{AllocError, Global};
 /// The most bytes that are written.
 const MOST_WRITTEN: usize = 64;
 
-/// The hex digits of bytes; of many, those of the first, and how many there are.
+/// The hex digits of bytes; of many, those of the first, and their number.
 pub fn shown(alloc: Global, bytes: &[u8]) -> Result<String, AllocError> {
     if bytes.len() <= MOST_WRITTEN {
         return hex_groups(alloc, bytes, GROUP);

@@ -3,13 +3,13 @@
 //! - `head HEX`: the tenant and the command of a frame, which is what follows the length field.
 //! - `parse HEX`: the command that a frame with a head carries, with its fields, or why it carries none.
 //! - `reply TENANT COMMAND STATUS HEX`: the bytes of a reply with this payload, which may be left out.
-//! - `place NUMBER..`: opens these numbers, and tells their descriptors.
+//! - `place NUMBER..`: opens these numbers, and writes their descriptors.
 //! - `get FD..`: what these descriptors name.
-//! - `close FD..`: closes these descriptors, and tells what they named.
+//! - `close FD..`: closes these descriptors, and writes what they named.
 //! - `full`: whether no descriptor is free.
 //!
-//! Spaces may part the bytes, and `HEX*COUNT` stands for so many copies. Of many bytes the first are written, and how many
-//! there are. A line that is empty or begins with `#` is written as it stands.
+//! Spaces may separate the bytes, and `HEX*COUNT` repeats them `COUNT` times. Of many bytes the first are written, and their
+//! number. A line that is empty or begins with `#` is written unchanged.
 #![tactic(auto)]
 
 mod bytes;

@@ -1,4 +1,4 @@
-//! Lines that are played one after another.
+//! Plays lines one after another.
 
 use crate::bytes::shown;
 use crate::commands::{head_line, parse_line};
@@ -8,7 +8,7 @@ use command_frames::{Head, LONGEST_PAYLOAD, ReplyBuf, write_reply};
 use fd_table::FdTable;
 use std::alloc::{AllocError, Global};
 
-/// The numbers that are open, and the room for replies.
+/// The numbers that are open, and the buffer for replies.
 #[derive(Drop)]
 pub struct CommandPlayer {
     alloc: Global,
@@ -17,7 +17,7 @@ pub struct CommandPlayer {
 }
 
 impl CommandPlayer {
-    /// Nothing is open.
+    /// A player with nothing open.
     pub fn new(alloc: Global) -> Result<CommandPlayer, AllocError> {
         Ok(CommandPlayer {
             alloc,
@@ -43,7 +43,7 @@ impl CommandPlayer {
         Ok(shown(self.alloc, self.room.bytes())?)
     }
 
-    /// What becomes of a number that is to be opened.
+    /// Opens a number.
     fn place(&mut self, number: u32) -> Result<String, AllocError> {
         match self.numbers.place(number) {
             Ok(fd) => fd.to_string(self.alloc),
@@ -59,7 +59,7 @@ impl CommandPlayer {
         }
     }
 
-    /// What a descriptor named that is closed.
+    /// Closes a descriptor, and returns what it named.
     fn close(&mut self, fd: u32) -> Result<String, AllocError> {
         match self.numbers.close(fd) {
             Some(number) => number.to_string(self.alloc),
@@ -67,7 +67,7 @@ impl CommandPlayer {
         }
     }
 
-    /// What each number of a line comes to.
+    /// The answer to each number of a line.
     fn each(&mut self, word: &str, rest: &str) -> Result<String> {
         let mut text = String::new(self.alloc);
         for number in rest.split_whitespace() {

@@ -1,12 +1,12 @@
--- Descriptors: the numbers from 3 to 66, and what each open one names. The lowest free number is given, as open(2)
--- gives it; the bounds are this project's own.
+-- Descriptors: the numbers from 3 to 66, and what each open one names. A new one is the lowest free number, as that of
+-- open(2); the bounds are this project's own.
 use Rattle.std.specs.Prelude.{◌≡◌, ℕ, ◌+◌, ◌-◌, nat_lt, is_none, List, Option, Some, None, option_map, option_and_then, position, replicate, slice_get, slice_set, Result, Ok, Err, if◌then◌else◌}
 
--- the lowest number
+-- the lowest descriptor
 abbrev pub first_descriptor : ℕ
 first_descriptor = 3
 
--- so many may be open
+-- how many may be open at once
 abbrev pub most : ℕ
 most = 64
 
@@ -29,11 +29,11 @@ module _ {A : Type 0} where
   abbrev pub with_open : List (Option A) → ℕ → A → List (Option A)
   with_open table fd x = slice_set table (fd - first_descriptor) (Some x)
 
-  -- a descriptor that is closed. What is not open stays so
+  -- fd is closed; the table is unchanged if it is not open
   abbrev pub with_closed : List (Option A) → ℕ → List (Option A)
   with_closed table fd = if nat_lt fd first_descriptor then table else slice_set table (fd - first_descriptor) None
 
-  -- the lowest one is given; where there is none, what was to be opened is handed back
+  -- x is opened at the lowest free descriptor; if no descriptor is free, x is handed back and the table is unchanged
   abbrev pub OpensLowest : Option ℕ → List (Option A) → A → Result ℕ A → List (Option A) → Type 0
   OpensLowest (Some fd) old x answer new = (answer ≡ Ok fd) × (new ≡ with_open old fd x)
   OpensLowest None old x answer new = (answer ≡ Err x) × (new ≡ old)

@@ -1,5 +1,5 @@
-//! Descriptors: a table of the objects that are open, by numbers from 3 to 66. A new object has the lowest number that is
-//! free, which a word of bits tells.
+//! Descriptors: a table of the open objects, numbered from 3 to 66. A new object gets the lowest free number, which a bit mask
+//! finds.
 #![tactic(auto)]
 
 mod table;

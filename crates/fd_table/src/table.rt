@@ -1,4 +1,4 @@
-//! The table.
+//! The descriptor table.
 
 ghost use Rattle.std.specs.Prelude.{◌≡◌, ◌+◌, ◌<◌, ◌≤◌, IfOk, IfSome, is_none, position};
 ghost use Rattle.std.specs.Option.{option_copied};
@@ -7,14 +7,14 @@ ghost use Rattle.fd_table.specs.Table.{first_descriptor, most, nothing_open, nam
 use std::alloc::{AllocError, Global};
 use std::marker::Model;
 
-/// The lowest number of a descriptor.
+/// The lowest descriptor.
 pub const FIRST: u32 = 3;
 
 /// How many descriptors may be open at once.
 pub const MOST: usize = 64;
 
-/// The objects that are open, by descriptors. Contracts see a list of 64 places: what is open at each, from descriptor 3
-/// on.
+/// The open objects by descriptor. Contracts see a list of 64 places, each free or with an object; place 0 is descriptor
+/// 3.
 #[derive(Drop)]
 pub struct FdTable<T> {
     places: Vec<Option<T>>,
@@ -34,7 +34,7 @@ impl<T> Model for FdTable<T> {
     ghost invariant = { λ t. (vec_len t.places ≡ most) × TellsTaken t.taken t.places.items };
 }
 
-/// So many free places.
+/// `MOST` free places.
 fn free_places<T: Drop>(alloc: Global) -> Result<Vec<Option<T>>, AllocError>
     ensures { IfOk result (λ places. places.items ≡ nothing_open) }
 {
@@ -46,8 +46,8 @@ fn free_places<T: Drop>(alloc: Global) -> Result<Vec<Option<T>>, AllocError>
 }
 
 impl<T: Drop> FdTable<T> {
-    /// A table with nothing open. The room for all descriptors is made here, so that no other call takes memory. An error
-    /// is want of memory.
+    /// Creates a table with nothing open. It allocates for all descriptors, so that no other call takes memory. `AllocError`:
+    /// out of memory.
     pub fn new(alloc: Global) -> Result<FdTable<T>, AllocError>
         ensures { IfOk result (λ table. table ≡ nothing_open) }
     {
@@ -57,7 +57,7 @@ impl<T: Drop> FdTable<T> {
         })
     }
 
-    /// The lowest place that is free.
+    /// The lowest free place; `None` if all are taken.
     fn free_place(&self) -> Option<usize>
         ensures value { result ≡ position is_none self.now }
         ensures bound { IfSome result (λ place. place < most) }
@@ -73,11 +73,11 @@ impl<T: Drop> FdTable<T> {
         self.free_place().is_none()
     }
 
-    /// Opens an object under the lowest descriptor that is free.
+    /// Opens `object` at the lowest free descriptor, which it returns.
     ///
     /// # Errors
     ///
-    /// The object itself, where none is free.
+    /// The object itself, and nothing changes, if no descriptor is free.
     pub fn place(&mut self, object: T) -> Result<u32, T>
         ensures placed { OpensLowest (lowest self.old) self.old object result self.new }
         ensures bounds { IfOk result (λ fd.
@@ -91,7 +91,7 @@ impl<T: Drop> FdTable<T> {
         Ok(FIRST + place as u32)
     }
 
-    /// What a descriptor names.
+    /// The object that `fd` names; `None` if it is not open.
     pub fn get(&self, fd: u32) -> Option<&T>
         ensures { option_copied result ≡ named self.now fd }
     {
@@ -99,7 +99,7 @@ impl<T: Drop> FdTable<T> {
         self.places.get(place)?.as_ref()
     }
 
-    /// Closes a descriptor, and hands out what it named. It is free from then on.
+    /// Closes `fd`, which is free from then on, and returns what it named; `None` if it is not open.
     pub fn close(&mut self, fd: u32) -> Option<T>
         ensures named { result ≡ named self.old fd }
         ensures closed { self.new ≡ with_closed self.old fd }

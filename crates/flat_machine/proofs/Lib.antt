@@ -8,7 +8,6 @@ pub mod Descriptors
 pub mod Tables
 pub mod Beginning
 pub mod Ended
-pub mod Packets
 pub mod Ahead
 pub mod Turns
 pub mod GroupTurns

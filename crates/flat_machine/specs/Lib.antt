@@ -3,4 +3,5 @@ pub mod inside
 -- what public contracts cite of crates below
 pub use Rattle.arena.specs.Memory
 pub use Rattle.arena.specs.Ranges
+pub use Rattle.bpf_helpers.specs.Parts
 pub use Rattle.insn_codec.specs.Program

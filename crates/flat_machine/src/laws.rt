@@ -1,11 +1,11 @@
-//! Why a run on words and bytes is the run on tagged values. A law does nothing when it runs.
+//! Laws by which a run on words and bytes simulates the run on tagged values. A law does nothing when it runs.
 
 ghost use Rattle.std.specs.Prelude.{◌<◌, ℕ, slice_index};
 ghost use Rattle.flat_machine.specs.Runs.{ClearRunsHaveNoRefusal};
 ghost use Rattle.flat_machine.specs.inside.Laws.{RunLaws};
 ghost use Rattle.flat_machine.specs.inside.Steps.{StepsFollow, StepsStayInside, AreWords};
 ghost use Rattle.flat_machine.specs.inside.Flat.{run_maps};
-ghost use Rattle.flat_machine.specs.inside.Turns.{HasNext, HasNextIn, HasSomeNext, HasNextWith};
+ghost use Rattle.flat_machine.specs.inside.Turns.{HasNext, any, with_maps, in_memory, with_both};
 
 use crate::execution::Registers;
 use crate::map_words::MapTable;
@@ -28,7 +28,7 @@ pub(crate) fn bytes_fit(bytes: &[u8])
     let _ = bytes.len();
 }
 
-/// An instruction that is next with these maps and this memory is next with some.
+/// The instruction that is next with these maps and this memory is next where less of the two is known.
 #[inline(always)]
 pub(crate) fn has_some_next(
     fds: &[u32],
@@ -37,17 +37,19 @@ pub(crate) fn has_some_next(
     registers: &Registers,
     arena: &Arena,
 )
-    requires { HasNext (run_maps fds.now table.now.values) rest.now registers.now arena.now }
-    ensures some { HasSomeNext rest.now registers.now }
-    ensures within { HasNextIn rest.now registers.now arena.now }
-    ensures among { HasNextWith (run_maps fds.now table.now.values) rest.now registers.now }
+    requires { HasNext rest.now registers.now
+        (with_both (run_maps fds.now table.now.values) arena.now) }
+    ensures some { HasNext rest.now registers.now any }
+    ensures within { HasNext rest.now registers.now (in_memory arena.now) }
+    ensures among { HasNext rest.now registers.now
+        (with_maps (run_maps fds.now table.now.values)) }
 {
     let _ = (fds.len(), rest.len(), registers[0]);
     let _ = arena;
     let _ = table;
 }
 
-/// Where words and bytes stand for a state, a step on them leaves what stands for the state after the machine's step.
+/// If words and bytes represent a state, those after a step represent the state after the machine's step.
 fn steps_follow()
     ensures { StepsFollow }
 {
@@ -56,7 +58,7 @@ fn steps_follow()
     bpf_helpers::laws::stores_keep_simulation();
 }
 
-/// Each range that such a step asks for lies in the part of the run.
+/// Each range that such a step accesses lies in the part of the run.
 fn steps_stay_inside()
     ensures { StepsStayInside }
 {
@@ -64,7 +66,7 @@ fn steps_stay_inside()
     bpf_helpers::laws::stores_keep_simulation();
 }
 
-/// What a run rests on: its steps, its beginning, its end, and what the machine of tagged values promises.
+/// The premises of a run's proof: the laws of its steps, its start and its end, and those of the machine of tagged values.
 pub(crate) fn run_premises()
     ensures { RunLaws }
 {
@@ -74,12 +76,12 @@ pub(crate) fn run_premises()
     bpf_helpers::laws::runs_end();
     bpf_helpers::laws::others_stay();
     tagged_model::laws::refusals_are_told();
-    verdict::laws::maps_are_listed();
+    verifier::laws::maps_are_listed();
     bpf_maps::laws::areas_keep_places();
 }
 
-/// Where the flag of the live maps is clear after a run, memory was refused to no new key: the run, the steps and what is left are
-/// those without refusals.
+/// If the flag of the live maps is clear after a run, no new key was refused memory: the result, the number of steps and the maps
+/// are those of the run without refusals.
 pub fn clear_runs_have_no_refusal()
     ensures { ClearRunsHaveNoRefusal }
 {}

@@ -1,4 +1,4 @@
-//! Runs of accepted programs, on words and bytes.
+//! The machine that runs accepted programs, on words and bytes.
 #![tactic(auto)]
 
 mod arms;

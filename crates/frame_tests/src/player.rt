@@ -1,4 +1,4 @@
-//! Lines that are played on one host after another.
+//! Plays lines on a host.
 
 use crate::streams::{cut, program, stream};
 use anyhow::{Result, bail};
@@ -28,10 +28,10 @@ const CLOSE: u16 = 256;
 /// A program type of PROG_LOAD: a socket filter.
 const SOCKET_FILTER: u32 = 1;
 
-/// The bytes of the words of context.
+/// The length of the context words in bytes.
 const WORDS: usize = 40;
 
-/// A new host for so many tenants.
+/// A new host for this number of tenants.
 pub fn new_host(alloc: Global, tenants: &str) -> Result<Host> {
     let tenants: usize = tenants.parse()?;
     if tenants < 1 || tenants > MOST_TENANTS {
@@ -40,7 +40,7 @@ pub fn new_host(alloc: Global, tenants: &str) -> Result<Host> {
     Ok(Host::new(alloc, tenants)?)
 }
 
-/// A frame of a tenant, with a number at its front.
+/// A frame of a tenant, with a number at the front of its body.
 fn frame(
     alloc: Global,
     tenant: u16,
@@ -65,7 +65,7 @@ fn slots_of(alloc: Global, text: &str) -> Result<Vec<u8>> {
     Ok(write_program(alloc, &program)?)
 }
 
-/// The host that lines are played on, and the words of context of its runs.
+/// The host on which lines are played, and the context words of its runs.
 #[derive(Drop)]
 pub struct HostPlayer {
     alloc: Global,
@@ -74,7 +74,7 @@ pub struct HostPlayer {
 }
 
 impl HostPlayer {
-    /// A host for one tenant, and words of zero.
+    /// A player with a host for one tenant, and zeros as context words.
     pub fn new(alloc: Global) -> Result<HostPlayer, AllocError> {
         Ok(HostPlayer {
             alloc,
@@ -189,7 +189,7 @@ impl HostPlayer {
         }
     }
 
-    /// The replies to lines that are parted by `|`.
+    /// The replies to lines separated by `|`.
     fn round(&mut self, lines: &str) -> Result<String> {
         let mut replies = String::new(self.alloc);
         for line in lines.split('|') {
@@ -202,7 +202,7 @@ impl HostPlayer {
         Ok(replies)
     }
 
-    /// The replies to lines that are played so many times, where they are the same each time.
+    /// The replies to lines that are played a number of times, if they are the same each time.
     fn rounds(&mut self, rest: &str) -> Result<String> {
         let alloc = self.alloc;
         let (count, lines) = first_word(rest);
@@ -217,7 +217,7 @@ impl HostPlayer {
         Ok(format!(in alloc; "{count} rounds: {first}")?)
     }
 
-    /// What a line's first word asks for; nothing where it has no answer.
+    /// The answer to a line by its first word; `None` if it has no answer.
     fn answer(&mut self, word: &str, rest: &str) -> Result<Option<String>> {
         let alloc = self.alloc;
         let answer = match word {

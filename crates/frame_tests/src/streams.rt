@@ -3,23 +3,19 @@
 use crate::player::new_host;
 use anyhow::{Result, bail};
 use case_lines::{GROUP, bytes_of, first_word, hex_groups};
-use host::{Counted, Host, MOST_FRAMES, ServeFault, ServeFaultKind, run_words, serve};
+use host::{Counted, Failure, Host, MOST_FRAMES, ServeFault, run_words, serve};
 use std::alloc::{AllocError, Global};
 
-/// How a stream ended.
+/// How a stream ended: by the fault line of the program, where it ended with a fault.
 fn end_of(alloc: Global, end: Result<u32, ServeFault>) -> Result<String, AllocError> {
-    let (kind, frames) = match end {
-        Ok(frames) => return format!(in alloc; "ok {frames}"),
-        Err(fault) => (fault.kind, fault.frames),
-    };
-    let kind = match kind {
-        ServeFaultKind::Read => "read fault",
-        ServeFaultKind::Write => "write fault",
-        ServeFaultKind::Truncated => "truncated",
-        ServeFaultKind::TooManyFrames => "too many frames",
-        ServeFaultKind::Memory => "out of memory",
-    };
-    format!(in alloc; "{kind} after {frames}")
+    match end {
+        Ok(frames) => format!(in alloc; "ok {frames}"),
+        Err(fault) => {
+            let frames = fault.frames;
+            let failure = Failure::from(fault);
+            format!(in alloc; "{failure}: {frames} answered")
+        }
+    }
 }
 
 /// How `serve` ends on these bytes, and what it wrote.
@@ -36,7 +32,7 @@ fn served(alloc: Global, mut host: Host, limit: &str, input: &[u8]) -> Result<St
     Ok(format!(in alloc; "{end} [{output}]")?)
 }
 
-/// How `serve` ends: a number of tenants, a limit and the stream's bytes.
+/// How `serve` ends, for a number of tenants, a limit and a stream's bytes.
 pub fn stream(alloc: Global, line: &str) -> Result<String> {
     let (tenants, rest) = first_word(line);
     let (limit, digits) = first_word(rest);
@@ -44,7 +40,7 @@ pub fn stream(alloc: Global, line: &str) -> Result<String> {
     served(alloc, host, limit, &bytes_of(alloc, digits)?)
 }
 
-/// How `serve` ends on a stream that is cut short: its bytes follow how many of them come.
+/// How `serve` ends on a stream that is cut short, for a number of bytes and then the stream's bytes.
 pub fn cut(alloc: Global, line: &str) -> Result<String> {
     let (tenants, rest) = first_word(line);
     let (limit, rest) = first_word(rest);
@@ -55,12 +51,12 @@ pub fn cut(alloc: Global, line: &str) -> Result<String> {
     served(alloc, host, limit, &input)
 }
 
-/// The word that stands for a word of a line.
+/// The argument that a word of a line represents.
 fn word_of(word: &str) -> &str {
     if word == "\"\"" { "" } else { word }
 }
 
-/// What the program answers: its words, and after `<` its input.
+/// A run of the program, for its arguments and, after `<`, its input.
 pub fn program(alloc: Global, line: &str) -> Result<String> {
     let Some((words, digits)) = line.split_once('<') else {
         bail!("no input");

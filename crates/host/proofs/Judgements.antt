@@ -4,7 +4,7 @@ use Rattle.insn_codec.specs.declared.insn.Insn.{Insn}
 use Rattle.reg_kinds.specs.Reason.{number as reason_number}
 use Rattle.reg_kinds.specs.declared.reason.Reason.{Reason}
 use Rattle.tagged_model.specs.declared.shape.Named.{Named}
-use Rattle.verdict.specs.Verdict.{IsAccepted, IsRefused}
+use Rattle.verifier.specs.Verdict.{IsAccepted, IsRefused}
 use Rattle.insn_codec.specs.declared.fault.FaultKind.{FaultKind}
 use Rattle.insn_codec.specs.declared.fault.FaultKind.TheVariants as codec
 use Rattle.host.specs.program.Failure.{failure_at}

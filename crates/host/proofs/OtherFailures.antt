@@ -1,11 +1,17 @@
 -- No failure of a run over streams is that the arguments are wrong.
-use Rattle.std.proofs.Common.{◌≢◌, ◌∙◌, ℕ, List, ap, subst, sym, inl, inr, arith}
+use Rattle.std.proofs.Common.{◌≢◌, ◌∙◌, ℕ, List, Result, Ok, Err, IfErr, ap, subst, sym, inl, inr, arith}
 use Rattle.bpf_text.specs.declared.fault.TextFaultKind.{TextFaultKind}
 use Rattle.bpf_text.specs.declared.fault.TextFaultKind.TheVariants as text
 use Rattle.insn_codec.specs.declared.fault.FaultKind.{FaultKind}
 use Rattle.insn_codec.specs.declared.fault.FaultKind.TheVariants as codec
+use Rattle.host_core.specs.declared.server.ServeFault.{ServeFault}
+use Rattle.host_core.specs.declared.server.ServeFaultKind.{ServeFaultKind}
+use Rattle.host_core.specs.declared.server.ServeFaultKind.TheVariants as fault
+use Rattle.host_core.specs.Served.{StreamState}
+use Rattle.host_core.specs.State.{TenantState}
 use Rattle.host.specs.program.Failure.{failure_at}
-use Rattle.host.specs.program.Statuses.{exit_status, failure_on}
+use Rattle.host.specs.program.Statuses.{exit_status, failure_on, failure_after}
+use Rattle.host.specs.inside.program.Frames.{stream_end, ServesNewHost}
 use Rattle.host.specs.inside.program.Rewriting.{IsInputRefused, HasNoInput, Streams, StopsRewriting}
 use Rattle.host.specs.declared.program.failure.Failure.{Failure}
 use Rattle.host.specs.declared.program.failure.Failure.TheVariants.{WrongArguments, MapArgument, Truncated, TooManyFrames, TooLong, Line, Slot, Read, Write, Memory}
@@ -71,3 +77,21 @@ stops_otherwise made refused otherwise old new failure (inr (inl unmade)) =
       | inr why ↦ otherwise unmade.input failure why
     ]
 stops_otherwise made refused otherwise old new failure (inr (inr unwritten)) = λ e. omega (arith, sym (ap exit_status unwritten.failure_is) ∙ e)
+
+-- ---- streams
+
+stream_otherwise : (kind : ServeFaultKind) (frames : ℕ) → IsOther (failure_after kind frames)
+stream_otherwise fault.Read frames = λ e. omega (arith, e)
+stream_otherwise fault.Write frames = λ e. omega (arith, e)
+stream_otherwise fault.Truncated frames = λ e. omega (arith, e)
+stream_otherwise fault.TooManyFrames frames = λ e. omega (arith, e)
+stream_otherwise fault.Memory frames = λ e. omega (arith, e)
+
+ends_otherwise : (served : Result ℕ ServeFault) → IfErr (stream_end served) IsOther
+ends_otherwise (Ok count) = tt
+ends_otherwise (Err fault) = stream_otherwise fault.kind fault.frames
+
+pub served_otherwise : (result : Result (Unit {0}) Failure) (before : StreamState) (after : List TenantState → StreamState)
+    → ServesNewHost result before after → IfErr result IsOther
+served_otherwise result before after (inl is) = subst (λ r. IfErr r IsOther) (sym is.3) (ends_otherwise is.0)
+served_otherwise result before after (inr none) = subst (λ r. IfErr r IsOther) (sym none.0) (λ e. omega (arith, e))

@@ -1,4 +1,4 @@
-//! The command line of the host: its subcommands, their arguments and their texts. What frames are served by is passed on.
+//! The command line of the host: its subcommands, their arguments and their texts. The host itself is re-exported.
 #![tactic(auto)]
 
 mod program;

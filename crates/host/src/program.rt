@@ -3,6 +3,7 @@
 pub(crate) mod arguments;
 mod decimal;
 pub(crate) mod failure;
+mod frames;
 pub(crate) mod inputs;
 mod judging;
 pub(crate) mod shapes;

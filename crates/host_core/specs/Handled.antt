@@ -1,4 +1,4 @@
--- What a call of `Host::handle` did, and what follows for the tenants of calls one after another. This project's own.
+-- What a call of `Host::handle` does, and what follows for the tenants over a sequence of calls. This project's own.
 use Rattle.std.specs.Prelude.{◌≡◌, ◌≢◌, ℕ, List, [], ◌∷◌, length, slice_get}
 use Rattle.command_frames.specs.Frame.{owner}
 use Rattle.tenant.specs.State.{TenantState}
@@ -20,8 +20,8 @@ HandlesInOrder before (frame ∷ frames) (reply ∷ replies) after =
 HandlesInOrder before [] (reply ∷ replies) after = ⊥
 HandlesInOrder before (frame ∷ frames) [] after = ⊥
 
--- What each tenant is told in all is what its machine may tell it on its own frames, and where no memory was refused to it, what
--- its machine alone tells it; and no test run faults.
+-- Over a sequence of calls, each tenant gets replies that its machine may give to its own frames, and where no memory was
+-- refused to it, those of its machine alone; and no test run faults.
 abbrev pub CallsAreToldAlone : Type 0
 CallsAreToldAlone =
     (before after : List TenantState) (frames replies : List (List ℕ)) → HandlesInOrder before frames replies after

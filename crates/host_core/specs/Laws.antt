@@ -1,16 +1,16 @@
--- What follows for a tenant from what all are told. This project's own.
+-- What follows for one tenant from the replies to all. This project's own.
 use Rattle.std.specs.Prelude.{◌≡◌, ℕ, List, slice_get}
 use Rattle.tenant.specs.State.{TenantState}
 use Rattle.tenant.specs.Alone.{frames_of, replies_of}
 use Rattle.host_core.specs.Served.{EachIsToldByItsMachine, IsUnrefused, Noninterference}
 
--- whatever is refused to others
+-- a tenant to which no memory was refused gets the replies of its machine alone, whatever was refused to others
 abbrev pub UnrefusedAreToldAlone : Type 0
 UnrefusedAreToldAlone =
     (before after : List TenantState) (frames replies : List (List ℕ)) → EachIsToldByItsMachine before frames replies after → Noninterference before frames replies after
 
--- Two streams that agree on a tenant's frames give it the same replies: neither the frames of others nor the order in which
--- they come between its own can be told.
+-- Two streams that agree on a tenant's state at the start and on its frames give it the same replies, if neither refuses memory
+-- to it: it can observe neither the frames of others nor how they interleave with its own.
 abbrev pub SameFramesSameReplies : Type 0
 SameFramesSameReplies =
     (t : ℕ) (before after before_too after_too : List TenantState) (frames replies frames_too replies_too : List (List ℕ))

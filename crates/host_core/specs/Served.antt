@@ -1,4 +1,4 @@
--- What a call of `serve` did: the frames that it read, the replies to them, and where it stopped. This project's own.
+-- What a call of `serve` does: the frames that it reads, the replies to them, and where it stops. This project's own.
 use Rattle.std.specs.Prelude.{◌≡◌, ◌≢◌, false, ℕ, ◌+◌, ◌<◌, ◌≤◌, List, [], ◌∷◌, ◌++◌, length, take, slice_get, Option, Some, None, Result, IfOk, IfErr}
 use Rattle.std.specs.List.{flat_map, AllByRecursion}
 use Rattle.std.specs.Io.KnownBytes.{Consumes, Appends, IsAtEnd}
@@ -11,20 +11,20 @@ use Rattle.command_frames.specs.Frame.{framed, IsFrame, IsPartial}
 use Rattle.tenant.specs.State.{TenantState}
 use Rattle.tenant.specs.Alone.{frames_of, replies_of, IsFault, IsToldAlone, AloneWithRefusals}
 
--- ---- what the tenants are told
+-- ---- the replies to the tenants
 
--- each tenant is told what its own machine may tell it on its own frames
+-- each tenant gets replies that its own machine may give to its own frames
 abbrev pub EachIsToldByItsMachine : List TenantState → List (List ℕ) → List (List ℕ) → List TenantState → Type 0
 EachIsToldByItsMachine before frames replies after =
     (t : ℕ) → AloneWithRefusals (slice_get before t) (frames_of t frames) (replies_of t frames replies) (slice_get after t)
 
--- no memory was ever refused to a tenant: one that is not served takes none
+-- no memory was ever refused to the tenant; one that is not served takes none
 abbrev pub IsUnrefused : Option TenantState → Type 0
 IsUnrefused None = Unit {0}
 IsUnrefused (Some s) = s.refused ≡ false
 
--- Each tenant to which no memory was refused is told just what its own machine, which knows of nobody else, tells it on its
--- own frames where no memory is refused; and so is each number that is not served.
+-- Each tenant to which no memory was refused gets just the replies that its own machine, which knows of nobody else, gives to
+-- its own frames where no memory is refused; and so does each number that is not served.
 abbrev pub Noninterference : List TenantState → List (List ℕ) → List (List ℕ) → List TenantState → Type 0
 Noninterference before frames replies after =
     (t : ℕ) → IsUnrefused (slice_get after t)
@@ -36,8 +36,8 @@ NoneFaults replies = AllByRecursion (λ reply. ¬ IsFault reply) replies
 
 -- ---- calls of `serve`
 
--- the states; the bytes that the reader has left and those that the writer holds, where they are known; and how many
--- calls of the two failed so far
+-- the tenants' states; the bytes that the reader has left and those that the writer holds, where they are known; and how
+-- many calls of each failed so far
 pub record StreamState : Type 0 where
   pub states : List TenantState
   pub input : Option (List ℕ)
@@ -45,7 +45,7 @@ pub record StreamState : Type 0 where
   pub read_failures : ℕ
   pub write_failures : ℕ
 
--- these states, this reader and this writer, by what is told of the two
+-- the state of a stream with these tenants' states, this reader and this writer
 abbrev pub stream_state : {R W : Type 0} → OfSource R → OfSink W → List TenantState → R → W → StreamState
 stream_state source sink states reader writer = record {
   states = states;
@@ -59,7 +59,7 @@ stream_state source sink states reader writer = record {
 abbrev pub NoCallFailed : StreamState → StreamState → Type 0
 NoCallFailed old new = (new.read_failures ≡ old.read_failures) × (new.write_failures ≡ old.write_failures)
 
--- frames were read and answered, and then so many bytes were read; the replies went out, and of them `out`
+-- frames were read and answered, and then the bytes `rest` were read; of the replies, `out` was written
 pub record Serves (old new : StreamState) (frames replies : List (List ℕ)) (rest out : List ℕ) : Type 0 where
   pub each : AllByRecursion IsFrame frames
   pub paired : length replies ≡ length frames
@@ -68,18 +68,18 @@ pub record Serves (old new : StreamState) (frames replies : List (List ℕ)) (re
   pub served : EachIsToldByItsMachine old.states frames replies new.states
   pub no_fault : NoneFaults replies
 
--- replies one after another
+-- the bytes of the replies, one after another
 abbrev pub joined_replies : List (List ℕ) → List ℕ
 joined_replies replies = flat_map (λ reply. reply) replies
 
--- so many frames are answered, and each reply was written whole
+-- `count` frames were answered, and each reply was written whole
 abbrev pub AnswersFrames : StreamState → StreamState → ℕ → List ℕ → Type 0
 AnswersFrames old new count rest =
     (frames : List (List ℕ)) × (replies : List (List ℕ)) × (length frames ≡ count)
     × Serves old new frames replies rest (joined_replies replies)
 
--- So many frames came in, and then bytes that are no whole frame; the replies to the frames went out, one after another. Each
--- tenant was told what its machine alone tells it, and no test run faulted.
+-- `count` frames were read, and then bytes that are no whole frame; the replies to the frames were written, one after another.
+-- Each tenant to which no memory was refused got those of its machine alone, and no test run faulted.
 pub record ServesAlone (old new : StreamState) (count : ℕ) (rest : List ℕ) : Type 0 where
   pub frames : List (List ℕ)
   pub replies : List (List ℕ)
@@ -91,17 +91,17 @@ pub record ServesAlone (old new : StreamState) (count : ℕ) (rest : List ℕ) :
   pub alone : Noninterference old.states frames replies new.states
   pub no_fault : NoneFaults replies
 
--- one frame more is answered, and its reply is not written whole, or not sent on
+-- one more frame was answered, and its reply was not written whole, or not flushed
 abbrev pub CutsLastReply : StreamState → StreamState → ℕ → Type 0
 CutsLastReply old new count =
     (frames : List (List ℕ)) × (replies : List (List ℕ)) × (last : List ℕ) × (n : ℕ) × (length frames ≡ count + 1)
     × (length replies ≡ count) × Serves old new frames (replies ++ last ∷ []) [] (joined_replies replies ++ take n last)
 
--- the end of a call that answers so many frames: the input is at its end
+-- the end of a call that answers `count` frames: the input is at its end
 abbrev pub ServesToEnd : StreamState → StreamState → ℕ → Type 0
 ServesToEnd old new count = AnswersFrames old new count [] × IsAtEnd new.input × NoCallFailed old new
 
--- the end of a call with a fault, where so many replies were written whole
+-- the end of a call with a fault, after `count` replies were written whole
 abbrev pub StopsWithFault : StreamState → StreamState → ServeFaultKind → ℕ → Type 0
 StopsWithFault old new Read count =
     (rest : List ℕ) × IsPartial rest × AnswersFrames old new count rest × (old.read_failures < new.read_failures)
@@ -111,13 +111,13 @@ StopsWithFault old new Truncated count =
 StopsWithFault old new TooManyFrames count = (byte : ℕ) × AnswersFrames old new count (byte ∷ []) × NoCallFailed old new
 StopsWithFault old new Memory count = (count ≡ 0) × (new ≡ old)
 
--- up to any fault but one that cuts a reply, the frames that are answered are served as those of a whole stream are
+-- at any fault but Write, the frames answered until then are served like those of a whole stream
 abbrev pub StopsAlone : StreamState → StreamState → ServeFaultKind → ℕ → Type 0
 StopsAlone old new kind count = kind ≢ Write → (rest : List ℕ) × ServesAlone old new count rest
 
--- A call of `serve`, from the state before it to the state after it, where so many frames are allowed. With Ok, `done` and `alone`:
--- the input is at its end. With a fault, `fault` and `alone_before`: what happened until then. `alone` and `alone_before` say it
--- of the tenants to which no memory was refused.
+-- A call of `serve` that allows `limit` frames, from the state before it to the state after it. With Ok, `done` and `alone`:
+-- the input is at its end. With a fault, `fault` and `alone_before`: what happened until then. `alone` and `alone_before` are
+-- about the tenants to which no memory was refused.
 pub record ServesStream (limit : ℕ) (result : Result ℕ ServeFault) (old new : StreamState) : Type 0 where
   pub done : IfOk result (λ count. ServesToEnd old new count)
   pub alone : IfOk result (λ count. ServesAlone old new count [])

@@ -4,7 +4,7 @@ use Rattle.arena.specs.Memory.{Memory, part_bytes}
 use Rattle.tenant.specs.Kept.{KeptTenant, state_in}
 use Rattle.tenant.specs.State.{TenantState}
 
--- of the tenants from this number on: the values of a tenant's maps lie in its part of the memory
+-- the states of the tenants from number t on; the values of a tenant's maps lie in its part of the memory
 unfoldable pub states_from : Memory → ℕ → List KeptTenant → List TenantState
 states_from m t [] = []
 states_from m t (k ∷ ks) = state_in (part_bytes m t) k ∷ states_from m (t + 1) ks

@@ -1,10 +1,10 @@
--- What a read or a write did: which bytes came, and whether it failed. This project's own.
+-- What a read or a write does: which bytes it moves, and whether it fails. This project's own.
 use Rattle.std.specs.Prelude.{ℕ, List, length, Option, ◌==◌, ◌&&◌, not, if◌then◌else◌}
 use Rattle.std.specs.Io.KnownBytes.{Consumes}
 use Rattle.std.specs.declared.result.Result.{Result}
 use Rattle.std.specs.declared.result.Result.TheVariants.{Ok, Err}
 
--- just these bytes came from a reader
+-- just these bytes were read from a reader
 abbrev pub Takes : {R : Type 0} → (R → Option (List ℕ)) → R → R → List ℕ → Type 0
 Takes remaining old new bytes = Consumes (remaining old) (remaining new) bytes
 
@@ -14,7 +14,7 @@ abbrev pub read_failures : {E : Type 0} → Result ℕ E → ℕ
 read_failures (Ok n) = 0
 read_failures (Err e) = 1
 
--- a write that takes no byte of some has failed too
+-- a write that takes none of at least one byte counts as failed too
 abbrev pub write_failures : {E : Type 0} → Result ℕ E → List ℕ → ℕ
 write_failures (Ok n) bytes = if n == 0 && not (length bytes == 0) then 1 else 0
 write_failures (Err e) bytes = 1

@@ -1,4 +1,4 @@
-//! What a caller can tell of a stream from the contracts alone.
+//! What a caller can prove of a stream from the contracts alone.
 
 ghost use Rattle.std.specs.Prelude.{◌≤◌, ◌<◌, ◌-◌, ◌^◌, List, [], replicate, IfSome};
 ghost use Rattle.tenant.specs.State.{TenantState, new_tenant};
@@ -10,7 +10,8 @@ use crate::server::serve;
 use crate::stream::{Sink, Source};
 use std::alloc::Global;
 
-/// A stream that a new host serves to its end: each tenant is told what the machine of a new tenant alone tells it.
+/// Where a new host serves a stream to its end, each tenant to which no memory was refused gets the replies that the machine
+/// of a new tenant alone gives.
 fn serve_from_the_beginning<R: Source, W: Sink>(
     alloc: Global,
     tenants: usize,

@@ -1,10 +1,9 @@
 //! The host of all tenants.
 
-ghost use Rattle.std.specs.Prelude.{◌≡◌, ◌≢◌, ℕ, ◌<◌, ◌≤◌, [], length, replicate, slice_get, IfOk, IfSome, None, true, false};
+ghost use Rattle.std.specs.Prelude.{◌≡◌, ◌≢◌, ℕ, ◌≤◌, length, replicate, slice_get, IfOk, true, false};
 ghost use Rattle.arena.specs.Memory.{Memory};
-ghost use Rattle.command_frames.specs.Frame.{head_length, owner, reply_to};
-ghost use Rattle.tenant.specs.Alone.{unserved_errno, MayReply, IsFault};
-ghost use Rattle.tenant.specs.Errno.{status_of};
+ghost use Rattle.command_frames.specs.Frame.{owner};
+ghost use Rattle.tenant.specs.Alone.{MayReply, IsFault};
 ghost use Rattle.tenant.specs.State.{new_tenant};
 ghost use Rattle.host_core.specs.Served.{IsUnrefused};
 ghost use Rattle.host_core.specs.States.{states_from};
@@ -26,7 +25,7 @@ const NO_HEAD: Head = Head {
 /// The most tenants of a host.
 pub const MOST_TENANTS: usize = 64;
 
-/// The states of 1 to `MOST_TENANTS` tenants. In contracts it is the list of them, by the tenants' numbers.
+/// A host of 1 to `MOST_TENANTS` tenants. Contracts see the list of their states, by tenant number.
 #[derive(Drop)]
 pub struct Host {
     tenants: Vec<Tenant>,
@@ -50,7 +49,7 @@ impl Model for Host {
         × (h.arena.parts ≡ vec_len h.tenants) × (h.arena.part ≡ PART) };
 }
 
-/// So many new tenants.
+/// `count` new tenants.
 fn new_tenants(alloc: Global, count: usize) -> Result<Vec<Tenant>, AllocError>
     ensures new { IfOk result (λ tenants. (m : Memory) (first : ℕ)
         → states_from m first tenants.items ≡ replicate count new_tenant) }
@@ -63,22 +62,12 @@ fn new_tenants(alloc: Global, count: usize) -> Result<Vec<Tenant>, AllocError>
     Ok(tenants)
 }
 
-/// The reply to a frame that belongs to no tenant that is served: it has no head, or it names another number.
-fn write_unserved(frame: &[u8], reply: &mut ReplyBuf)
-    ensures { reply.new ≡ reply_to frame.now (status_of (unserved_errno frame.now)) [] }
-{
-    match head(frame) {
-        Some(head) => write_reply(head, Errno::NotPermitted.status(), &[], reply),
-        None => write_reply(NO_HEAD, Errno::Invalid.status(), &[], reply),
-    }
-}
-
 impl Host {
-    /// A host for 1 to `MOST_TENANTS` tenants, of which none has anything open.
+    /// Creates a host for 1 to `MOST_TENANTS` tenants with nothing open.
     ///
     /// # Errors
     ///
-    /// `AllocError`: there is no memory for the tenants' parts.
+    /// `AllocError`: out of memory.
     pub fn new(alloc: Global, tenants: usize) -> Result<Host, AllocError>
         requires some { 1 ≤ tenants }
         requires few { tenants ≤ MOST_TENANTS }
@@ -91,19 +80,8 @@ impl Host {
         })
     }
 
-    /// The number of the tenant that a frame belongs to, if it is served.
-    fn served_tenant(&self, frame: &[u8]) -> Option<usize>
-        ensures served { IfSome result (λ tenant. (head_length ≤ length frame.now)
-            × (tenant ≡ owner frame.now) × (tenant < length self.now)) }
-        ensures none { result ≡ None → slice_get self.now (owner frame.now) ≡ None }
-    {
-        let served = self.tenants.len();
-        let tenant = usize::from(head(frame)?.tenant);
-        if tenant < served { Some(tenant) } else { None }
-    }
-
-    /// Whether memory was ever refused to a tenant, whose replies may then differ from those that it would be given
-    /// alone. A number that is not served takes no memory.
+    /// Whether memory was ever refused to `tenant`, so that its replies may differ from those of its machine alone. False
+    /// for a number that is not served.
     pub fn memory_was_refused(&self, tenant: usize) -> bool
         ensures refused { result ≡ true → ¬ IsUnrefused (slice_get self.now tenant) }
         ensures unrefused { result ≡ false → IsUnrefused (slice_get self.now tenant) }
@@ -114,8 +92,9 @@ impl Host {
         }
     }
 
-    /// Handles a frame, which is what follows the length field; every length is allowed. The reply is left in the room
-    /// for it, and the state of the frame's tenant goes on. Every other tenant stays as it is.
+    /// Handles a frame (what follows the length field) of any length: writes its reply to `reply` and updates the state of
+    /// its tenant. The states of all other tenants are unchanged. The reply is EINVAL if the frame has no head, and EPERM if its
+    /// tenant is not served.
     pub fn handle(&mut self, frame: &[u8], reply: &mut ReplyBuf)
         ensures own { MayReply frame.now reply.new
             (slice_get self.old (owner frame.now)) (slice_get self.new (owner frame.now)) }
@@ -125,12 +104,17 @@ impl Host {
         ensures no_fault { ¬ IsFault reply.new }
     {
         laws::faults_have_no_payload();
-        match self.served_tenant(frame) {
-            Some(tenant) => {
-                let arena = &mut self.arena;
-                self.tenants[tenant].handle(self.alloc, frame, tenant, arena, reply);
-            }
-            None => write_unserved(frame, reply),
+        let served = self.tenants.len();
+        let Some(head) = head(frame) else {
+            write_reply(NO_HEAD, Errno::Invalid.status(), &[], reply);
+            return;
+        };
+        let tenant = usize::from(head.tenant);
+        if tenant >= served {
+            write_reply(head, Errno::NotPermitted.status(), &[], reply);
+            return;
         }
+        let arena = &mut self.arena;
+        self.tenants[tenant].handle(self.alloc, head, frame, tenant, arena, reply);
     }
 }

@@ -3,21 +3,23 @@
 ghost use Rattle.host_core.specs.Handled.{CallsAreToldAlone};
 ghost use Rattle.host_core.specs.Laws.{UnrefusedAreToldAlone, SameFramesSameReplies};
 
-/// Each tenant to which no memory was refused is told what its machine alone tells it, whatever was refused to others.
+/// Each tenant to which no memory was refused gets the replies of its machine alone, whatever was refused to others.
 pub fn unrefused_are_told_alone()
     ensures { UnrefusedAreToldAlone }
 {
     tenant::laws::clear_flag_means_alone();
 }
 
-/// Calls of `Host::handle` one after another tell each tenant what its machine tells it.
+/// Over a sequence of calls of `Host::handle`, each tenant gets replies that its machine may give to its own frames, and where
+/// no memory was refused to it, those of its machine alone; and no test run faults.
 pub fn calls_are_told_alone()
     ensures { CallsAreToldAlone }
 {
     unrefused_are_told_alone();
 }
 
-/// Two streams that agree on a tenant's frames give it the same replies.
+/// Two streams that agree on a tenant's state at the start and on its frames give it the same replies, if neither refuses
+/// memory to it.
 pub fn same_frames_same_replies()
     ensures { SameFramesSameReplies }
 {

@@ -1,4 +1,4 @@
-//! Frames out of a reader.
+//! Reading frames from a reader.
 
 ghost use Rattle.std.specs.Prelude.{◌≡◌, ℕ, ◌+◌, ◌-◌, ◌<◌, ◌≤◌, ◌^◌, [], List, length, take, min, IfOk, IfErr, IfSome, IfNone, Ok, OnOk, OnErr};
 ghost use Rattle.std.specs.Io.KnownBytes.{IsAtEnd};
@@ -14,15 +14,15 @@ use byteorder::{ByteOrder, LittleEndian};
 use command_frames::LONGEST_FRAME;
 use std::alloc::{AllocError, Global};
 
-/// How many bytes of a frame are kept: one more than the longest frame that is looked at has.
+/// The most bytes that are kept of a frame: one more than the longest valid frame has.
 pub(crate) const KEPT: usize = LONGEST_FRAME + 1;
 
-/// Reads into the buffer until it is full or the input ends, and says how many bytes came. Of the reader's calls fewer than
-/// 2^64 - 1 have failed before.
+/// Reads until `buffer` is full or the input ends, and returns how many bytes were read. Fewer than 2^64 - 1 calls of the
+/// reader have failed before.
 ///
 /// # Errors
 ///
-/// `Read` where a call of the reader failed. What came before is in the front of the buffer, and does not fill it.
+/// `Read` if a call of the reader failed. The bytes read until then are at the front of `buffer`, and don't fill it.
 pub fn fill<S: Source>(reader: &mut S, buffer: &mut [u8]) -> Result<usize, ServeFaultKind>
     requires { S.failures reader.old < 2 ^ 64 - 1 }
     ensures bytes { IfOk result (λ n. Takes S.remaining reader.old reader.new (take n buffer.new)) }
@@ -45,7 +45,7 @@ pub fn fill<S: Source>(reader: &mut S, buffer: &mut [u8]) -> Result<usize, Serve
     Ok(at)
 }
 
-/// The number that four bytes spell.
+/// The little-endian number of four bytes.
 fn number_in(bytes: &[u8]) -> u32
     requires { length bytes.now ≡ 4 }
     ensures { little_bytes 4 result ≡ bytes.now }
@@ -53,7 +53,7 @@ fn number_in(bytes: &[u8]) -> u32
     LittleEndian::read_u32(bytes)
 }
 
-/// Reads the length of a frame: none where the input ends before it.
+/// Reads the length of a frame; `None` if the input ends before it.
 fn read_length<S: Source>(reader: &mut S) -> Result<Option<u32>, ServeFaultKind>
     requires { S.failures reader.old < 2 ^ 64 - 1 }
     ensures some { IfOk result (λ found.
@@ -78,7 +78,7 @@ fn read_length<S: Source>(reader: &mut S) -> Result<Option<u32>, ServeFaultKind>
     Ok(Some(number_in(&bytes)))
 }
 
-/// Reads so many bytes and keeps none of them.
+/// Reads and discards `count` bytes.
 fn skip<S: Source>(reader: &mut S, scratch: &mut [u8], count: usize) -> Result<(), ServeFaultKind>
     requires failures { S.failures reader.old < 2 ^ 64 - 1 }
     requires scratch { 0 < length scratch.old }
@@ -102,7 +102,7 @@ fn skip<S: Source>(reader: &mut S, scratch: &mut [u8], count: usize) -> Result<(
     Ok(())
 }
 
-/// Reads so many bytes into the front of the buffer.
+/// Reads `count` bytes into the front of `buffer`.
 fn read_whole<S: Source>(
     reader: &mut S,
     buffer: &mut [u8],
@@ -124,7 +124,7 @@ fn read_whole<S: Source>(
     Ok(())
 }
 
-/// Reads a frame that is longer than the buffer. The buffer is full then, and begins with the frame's head.
+/// Reads a frame of `total` bytes that is longer than `buffer`, which begins with the frame's head then.
 fn read_long<S: Source>(
     reader: &mut S,
     buffer: &mut [u8],
@@ -146,7 +146,7 @@ fn read_long<S: Source>(
     Ok(())
 }
 
-/// Reads the bytes of a frame of this length into the front of the buffer, and says how many it holds then.
+/// Reads a frame of `total` bytes into the front of `buffer`, and returns how many bytes the buffer holds of it.
 fn read_body<S: Source>(
     reader: &mut S,
     buffer: &mut [u8],
@@ -173,8 +173,8 @@ fn read_body<S: Source>(
     }
 }
 
-/// Reads a frame into the front of the buffer, and says how many bytes the buffer holds of it; nothing where the input
-/// ends before a frame.
+/// Reads a frame into the front of `buffer`, and returns how many bytes the buffer holds of it; `None` if the input ends
+/// before a frame.
 pub(crate) fn read_frame<S: Source>(
     reader: &mut S,
     buffer: &mut [u8],

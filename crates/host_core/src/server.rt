@@ -1,4 +1,4 @@
-//! A whole stream.
+//! Serving a whole stream.
 
 ghost use Rattle.std.specs.Prelude.{◌≡◌, ℕ, ◌-◌, ◌<◌, ◌≤◌, ◌^◌, [], length, IfOk, IfErr, OnOk, OnErr, true, false};
 ghost use Rattle.std.specs.Prelude.{◌∷◌};
@@ -17,7 +17,7 @@ use crate::writing::write_whole;
 use command_frames::ReplyBuf;
 use std::alloc::{AllocError, Global};
 
-/// The most frames that a call of `serve` may be allowed.
+/// The greatest limit on the frames of one call of `serve`.
 pub const MOST_FRAMES: u32 = 16_777_216;
 
 /// Why a stream was not served to its end.
@@ -29,20 +29,20 @@ pub enum ServeFaultKind {
     Write,
     /// The input ended inside a frame, which has no reply and no effect.
     Truncated,
-    /// As many frames as allowed are answered, and another byte follows.
+    /// As many frames as the limit allows are answered, and another byte follows.
     TooManyFrames,
-    /// The buffers could not be had. Nothing was read or written.
+    /// Out of memory for the buffers. Nothing was read or written.
     Memory,
 }
 
-/// Why a stream was not served to its end, and how many replies were written whole and sent on.
+/// Why a stream was not served to its end, and how many replies were written whole and flushed.
 #[derive(Clone, Copy, Debug, PartialEq, Eq)]
 pub struct ServeFault {
     pub kind: ServeFaultKind,
     pub frames: u32,
 }
 
-/// Room for a frame and for a reply.
+/// The buffers for a frame and for a reply.
 #[derive(Drop)]
 struct Rooms {
     frame: Vec<u8>,
@@ -59,7 +59,7 @@ impl Rooms {
     }
 }
 
-/// Reads a frame, handles it, and writes its reply; false where the input ends before a frame.
+/// Reads a frame, handles it, and writes its reply; false if the input ends before a frame.
 fn serve_frame<R: Source, W: Sink>(
     host: &mut Host,
     reader: &mut R,
@@ -83,7 +83,7 @@ fn serve_frame<R: Source, W: Sink>(
     Ok(true)
 }
 
-/// Whether the input is at its end. One byte more is taken from it where it isn't.
+/// Whether the input is at its end; if not, one more byte of it is read.
 fn is_at_end<R: Source>(reader: &mut R) -> Result<bool, ServeFaultKind>
     requires { R.failures reader.old < 2 ^ 64 - 1 }
     ensures end { IfOk result (λ end. end ≡ true → Takes R.remaining reader.old reader.new []
@@ -100,15 +100,15 @@ fn is_at_end<R: Source>(reader: &mut R) -> Result<bool, ServeFaultKind>
     Ok(count == 0)
 }
 
-/// Serves a stream: reads a frame, handles it, writes its reply, sends it on, and goes on, until the input ends or as
-/// many frames are answered as the limit allows, which is at most 16,777,216. It says how many. Of the reader's calls, and of the
-/// writer's, fewer than 2^64 - 1 have failed before.
+/// Serves a stream: reads a frame, handles it, writes and flushes its reply, and so on until the input ends or `limit` frames
+/// are answered. Returns how many were. `limit` is at most 16,777,216. Fewer than 2^64 - 1 calls of the reader, and of the
+/// writer, have failed before.
 ///
 /// # Errors
 ///
-/// `Read` and `Write` where a call of the reader or the writer failed; `Truncated` where the input ends inside a
-/// frame; `TooManyFrames` where another byte, which is taken, follows the last frame allowed; `Memory` where the buffers could
-/// not be had, before anything is read.
+/// `Read` or `Write` if a call of the reader or the writer failed; `Truncated` if the input ends inside a frame;
+/// `TooManyFrames` if another byte, which is read, follows the last frame allowed; `Memory` if out of memory for the
+/// buffers, before anything is read.
 pub fn serve<R: Source, W: Sink>(
     alloc: Global,
     host: &mut Host,

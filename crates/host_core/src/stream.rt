@@ -7,15 +7,15 @@ ghost use Rattle.host_core.specs.Stream.{read_failures, write_failures, flush_fa
 
 use std::io::{self, Read, Write};
 
-/// Where frames come from. A caller learns which bytes come, where they are known, and how many calls failed.
+/// A reader of frames. Contracts see the bytes that come, where they are known, and how many calls failed.
 pub trait Source {
-    // The bytes that reads will give from here on, where they are known.
+    // The bytes that are still to be read, where they are known.
     ghost remaining: { Self → Option (List ℕ) } = { λ _. None };
 
     // How many calls failed so far.
     ghost failures: { Self → ℕ };
 
-    /// Reads some bytes into the front of the buffer, and says how many; none only at the end, or where the buffer is
+    /// Reads bytes into the front of `buffer` and returns how many; 0 only at the end of the input, or if `buffer` is
     /// empty.
     fn read(&mut self, buffer: &mut [u8]) -> io::Result<usize>
         requires { failures self.old < 2 ^ 64 - 1 }
@@ -24,16 +24,16 @@ pub trait Source {
         ensures failures { failures self.new ≡ failures self.old + read_failures result };
 }
 
-/// Where replies go. A caller learns which bytes went out, where they are known, and how many calls failed; a write
-/// that takes no byte of some has failed.
+/// A writer of replies. Contracts see the bytes that were written, where they are known, and how many calls failed; a
+/// write that takes none of at least one byte counts as failed.
 pub trait Sink {
-    // The bytes that went out so far, where they are known.
+    // The bytes written so far, where they are known.
     ghost contents: { Self → Option (List ℕ) } = { λ _. None };
 
     // How many calls failed so far.
     ghost failures: { Self → ℕ };
 
-    /// Writes some bytes from the front of these, and says how many.
+    /// Writes bytes from the front of `bytes`, and returns how many.
     fn write(&mut self, bytes: &[u8]) -> io::Result<usize>
         requires { failures self.old < 2 ^ 64 - 1 }
         ensures bound { WritesAtMost result bytes.now }
@@ -41,7 +41,7 @@ pub trait Sink {
         ensures failures { failures self.new
             ≡ failures self.old + write_failures result bytes.now };
 
-    /// Sends on what was written.
+    /// Flushes what was written.
     fn flush(&mut self) -> io::Result<()>
         requires { failures self.old < 2 ^ 64 - 1 }
         ensures bytes { Keeps (contents self.old) (contents self.new) }
@@ -56,7 +56,7 @@ pub struct Counted<T> {
 }
 
 impl<T> Counted<T> {
-    /// No call has failed yet.
+    /// Wraps `inner`. No call has failed yet.
     pub fn new(inner: T) -> Counted<T>
         ensures inner { result.inner ≡ inner }
         ensures failures { result.failures ≡ 0 }
@@ -71,7 +71,7 @@ impl<T> Counted<T> {
         self.failures
     }
 
-    /// The reader or the writer.
+    /// Returns the reader or the writer.
     pub fn into_inner(self) -> T
         ensures { result ≡ self.inner }
     {

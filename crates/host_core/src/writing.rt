@@ -1,4 +1,4 @@
-//! Replies into a writer.
+//! Writing replies to a writer.
 
 ghost use Rattle.std.specs.Prelude.{◌≡◌, ℕ, ◌-◌, ◌<◌, ◌≤◌, ◌^◌, length, take, IfErr, OnOk, OnErr};
 ghost use Rattle.std.specs.Io.KnownBytes.{Appends};
@@ -6,11 +6,11 @@ ghost use Rattle.std.specs.Io.KnownBytes.{Appends};
 use crate::server::ServeFaultKind;
 use crate::stream::Sink;
 
-/// Writes all of the bytes, each once, and sends them on. Of the writer's calls fewer than 2^64 - 1 have failed before.
+/// Writes all of `bytes`, each byte once, and flushes. Fewer than 2^64 - 1 calls of the writer have failed before.
 ///
 /// # Errors
 ///
-/// `Write` where a call of the writer failed, or took no byte of some. What went out before is a front of the bytes.
+/// `Write` if a call of the writer failed, or took none of at least one byte. What was written until then is a prefix of `bytes`.
 pub fn write_whole<S: Sink>(writer: &mut S, bytes: &[u8]) -> Result<(), ServeFaultKind>
     requires { S.failures writer.old < 2 ^ 64 - 1 }
     ensures whole { OnOk result

@@ -110,7 +110,7 @@ one_kind bytes a Empty x y = absurd y
 one_kind bytes a TooLong x y = absurd y
 one_kind bytes a Memory x y = absurd y
 
--- ---- no fault is want of memory
+-- ---- no fault is `Memory`
 
 abbrev IsOther : Option CodecFault → Type 0
 IsOther o = (fault : CodecFault) → o ≡ Some fault → fault.kind ≡ Memory → ⊥

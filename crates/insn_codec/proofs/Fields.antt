@@ -4,13 +4,13 @@ use Rattle.std.specs.Prelude.{IsTrue, FitsSigned, ℤ, is_some}
 use Rattle.std.specs.Int.{w16, w32}
 use Rattle.std.proofs.lemmas.Int.{ints}
 use Rattle.insn_codec.specs.declared.slot.SlotFields.{SlotFields}
-use Rattle.insn_codec.specs.declared.insn.AluOp.{AluOp}
-use Rattle.insn_codec.specs.declared.insn.AluOp.TheVariants as op
-use Rattle.insn_codec.specs.declared.insn.ByteOrder.{ByteOrder}
-use Rattle.insn_codec.specs.declared.insn.Bits.{Bits}
-use Rattle.insn_codec.specs.declared.insn.Bits.TheVariants as bits
-use Rattle.insn_codec.specs.declared.insn.Narrow.{Narrow}
-use Rattle.insn_codec.specs.declared.insn.Narrow.TheVariants as narrow
+use Rattle.words.specs.declared.operator.AluOp.{AluOp}
+use Rattle.words.specs.declared.operator.AluOp.TheVariants as op
+use Rattle.words.specs.declared.operator.ByteOrder.{ByteOrder}
+use Rattle.words.specs.declared.operator.KeptBits.{KeptBits}
+use Rattle.words.specs.declared.operator.KeptBits.TheVariants as bits
+use Rattle.words.specs.declared.operator.ExtendedBits.{ExtendedBits}
+use Rattle.words.specs.declared.operator.ExtendedBits.TheVariants as narrow
 use Rattle.insn_codec.specs.declared.insn.AtomicOp.{AtomicOp}
 use Rattle.insn_codec.specs.declared.insn.AtomicOp.TheVariants as atomic
 use Rattle.insn_codec.specs.declared.insn.Operand.{Operand}
@@ -21,7 +21,8 @@ use Rattle.insn_codec.specs.declared.opcode.SourceBit.TheVariants as source
 use Rattle.insn_codec.specs.declared.opcode.AluCode.TheVariants as code
 use Rattle.insn_codec.specs.declared.form.OpcodeForm.TheVariants as form
 use Rattle.insn_codec.specs.Sizes.{is_short}
-use Rattle.insn_codec.specs.Numbers.{opcode, alu_class, jump_class, alu_number, alu_offset, condition_number, narrow_number, bits_number, end_opcode, memory_opcode, atomic_number, offset_bits, imm_bits}
+use Rattle.insn_codec.specs.Numbers.{opcode, alu_class, jump_class, alu_number, alu_offset, condition_number, end_opcode, memory_opcode, atomic_number, offset_bits, imm_bits}
+use Rattle.words.specs.Operate.{extended_bits, kept_bits}
 use Rattle.insn_codec.specs.inside.Form.{listed, one_operand, offset_listed}
 use Rattle.insn_codec.specs.Slot.{slot}
 use Rattle.insn_codec.proofs.Slots.{IsSlot}
@@ -47,7 +48,7 @@ offset_listed-alu wide op.Mov (operand.Imm n) = refl
 offset_listed-alu wide op.Mov (operand.Reg r) = refl
 offset_listed-alu wide op.SignedShiftRight src = refl
 
-offset_listed-movsx : (wide : Bool) (b : Narrow) → IsTrue (wide || is_short b) → offset_listed wide code.Mov source.Reg (narrow_number b) ≡ true
+offset_listed-movsx : (wide : Bool) (b : ExtendedBits) → IsTrue (wide || is_short b) → offset_listed wide code.Mov source.Reg (extended_bits b) ≡ true
 offset_listed-movsx wide narrow.Bits8 h = refl
 offset_listed-movsx wide narrow.Bits16 h = refl
 offset_listed-movsx true narrow.Bits32 h = refl
@@ -57,7 +58,7 @@ one_operand-fields : (o : Operand) (op dst offset : ℕ) → one_operand (source
 one_operand-fields (operand.Imm n) op dst offset = refl
 one_operand-fields (operand.Reg r) op dst offset = refl
 
-bits_listed : (b : Bits) (op dst : ℕ) (how : ByteOrder) → listed (form.End how) (slot op dst 0 0 (bits_number b)) ≡ true
+bits_listed : (b : KeptBits) (op dst : ℕ) (how : ByteOrder) → listed (form.End how) (slot op dst 0 0 (kept_bits b)) ≡ true
 bits_listed bits.Bits16 op dst how = refl
 bits_listed bits.Bits32 op dst how = refl
 bits_listed bits.Bits64 op dst how = refl
@@ -100,15 +101,15 @@ alu_offset_le op.Xor = lit≤ tt
 alu_offset_le op.Mov = lit≤ tt
 alu_offset_le op.SignedShiftRight = lit≤ tt
 
-narrow_number_le : (b : Narrow) → narrow_number b ≤ 32
-narrow_number_le narrow.Bits8 = lit≤ tt
-narrow_number_le narrow.Bits16 = lit≤ tt
-narrow_number_le narrow.Bits32 = lit≤ tt
+extended_bits_le : (b : ExtendedBits) → extended_bits b ≤ 32
+extended_bits_le narrow.Bits8 = lit≤ tt
+extended_bits_le narrow.Bits16 = lit≤ tt
+extended_bits_le narrow.Bits32 = lit≤ tt
 
-bits_number_le : (b : Bits) → bits_number b ≤ 64
-bits_number_le bits.Bits16 = lit≤ tt
-bits_number_le bits.Bits32 = lit≤ tt
-bits_number_le bits.Bits64 = lit≤ tt
+kept_bits_le : (b : KeptBits) → kept_bits b ≤ 64
+kept_bits_le bits.Bits16 = lit≤ tt
+kept_bits_le bits.Bits32 = lit≤ tt
+kept_bits_le bits.Bits64 = lit≤ tt
 
 atomic_number_lt : (o : AtomicOp) → atomic_number o < 2 ^ 32
 atomic_number_lt atomic.Add = lit< tt
@@ -139,9 +140,9 @@ pub record IsFront (top : ℕ) (s : SlotFields) : Type 0 where
 
 pub IsFront-first : (top : ℕ) (i : Insn) → 2 ≤ top → IsInsnUpTo top i → IsFront top (first i)
 IsFront-first top (Alu wide o dst src) some h = record { dst = h.0; src = src_field_le top src h.1; offset = omega (arith, alu_offset_le o); imm = imm_field_lt top src h.1 }
-IsFront-first top (Movsx m) some h = record { dst = h.0; src = h.1; offset = omega (arith, narrow_number_le m.bits); imm = lit< tt }
+IsFront-first top (Movsx m) some h = record { dst = h.0; src = h.1; offset = omega (arith, extended_bits_le m.bits); imm = lit< tt }
 IsFront-first top (Neg wide dst) some h = record { dst = h; src = zero_le top; offset = lit< tt; imm = lit< tt }
-IsFront-first top (End how width dst) some h = record { dst = h; src = zero_le top; offset = lit< tt; imm = omega (arith, bits_number_le width) }
+IsFront-first top (End how width dst) some h = record { dst = h; src = zero_le top; offset = lit< tt; imm = omega (arith, kept_bits_le width) }
 IsFront-first top (Ja off) some h = record { dst = zero_le top; src = zero_le top; offset = offset_bits_lt off h; imm = lit< tt }
 IsFront-first top (Jal off) some h = record { dst = zero_le top; src = zero_le top; offset = lit< tt; imm = imm_bits_lt off h }
 IsFront-first top (Jump wide condition dst src off) some h = record { dst = h.0; src = src_field_le top src h.1; offset = offset_bits_lt off h.2; imm = imm_field_lt top src h.1 }

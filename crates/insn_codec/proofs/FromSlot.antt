@@ -6,9 +6,9 @@ use Rattle.std.proofs.Math.Facts.{sfits_to_z}
 use Rattle.std.proofs.lemmas.Bool.{and_parts, or_cases, or_left, or_right, cond_both, eqb-true, eqb-false, leb-true, ltb-true, ltb-false}
 use Rattle.std.proofs.lemmas.Int.{of_z-to_z}
 use Rattle.insn_codec.specs.declared.slot.SlotFields.{SlotFields}
-use Rattle.insn_codec.specs.declared.insn.AluOp.TheVariants as op
-use Rattle.insn_codec.specs.declared.insn.Narrow.{Narrow}
-use Rattle.insn_codec.specs.declared.insn.Narrow.TheVariants as narrow
+use Rattle.words.specs.declared.operator.AluOp.TheVariants as op
+use Rattle.words.specs.declared.operator.ExtendedBits.{ExtendedBits}
+use Rattle.words.specs.declared.operator.ExtendedBits.TheVariants as narrow
 use Rattle.insn_codec.specs.declared.insn.Insn.TheVariants.{Alu}
 use Rattle.insn_codec.specs.declared.insn.AtomicOp.{AtomicOp}
 use Rattle.insn_codec.specs.declared.insn.AtomicOp.TheVariants as atomic
@@ -22,13 +22,16 @@ use Rattle.insn_codec.specs.declared.opcode.WideKind.{WideKind}
 use Rattle.insn_codec.specs.declared.opcode.WideKind.TheVariants.{Number, Map, MapValue}
 use Rattle.insn_codec.specs.declared.form.OpcodeForm.{OpcodeForm}
 use Rattle.insn_codec.specs.declared.form.OpcodeForm.TheVariants as form
-use Rattle.insn_codec.specs.Sizes.{is_short, access_size}
-use Rattle.insn_codec.specs.Numbers.{opcode, alu_class, jump_class, alu_number, alu_offset, condition_number, narrow_number, bits_number, end_opcode, memory_opcode, atomic_number, offset_bits, imm_bits}
-use Rattle.insn_codec.specs.inside.Opcodes.{code_number, source_number, load_opcode, opcode_of}
+use Rattle.insn_codec.specs.Sizes.{is_short}
+use Rattle.insn_codec.specs.Atomic.{access_size}
+use Rattle.insn_codec.specs.Numbers.{opcode, alu_class, jump_class, alu_number, alu_offset, condition_number, end_opcode, memory_opcode, atomic_number, offset_bits, imm_bits, source_number}
+use Rattle.words.specs.Operate.{extended_bits, kept_bits}
+use Rattle.insn_codec.specs.inside.Opcodes.{code_number, load_opcode, opcode_of}
 use Rattle.insn_codec.specs.inside.Form.{listed, one_operand, offset_listed, wide_at, atomic_at}
 use Rattle.insn_codec.specs.Slot.{slot}
 use Rattle.insn_codec.specs.Spelling.{first, source_bit, src_field, imm_field, IsOperandUpTo, IsInsnUpTo}
-use Rattle.insn_codec.proofs.ReadBack.{op_at, operand_at, narrow_at, bits_at, movsx_at, load_insn, atomic_insn, wide_insn, insn_at}
+use Rattle.insn_codec.proofs.ReadBack.{op_at, narrow_at, bits_at, movsx_at, load_insn, atomic_insn, wide_insn, insn_at}
+use Rattle.insn_codec.specs.Spelled.{operand_at}
 
 slot_same : (s : SlotFields) (op dst src offset imm : ℕ) → op ≡ s.opcode → dst ≡ s.dst → src ≡ s.src → offset ≡ s.offset → imm ≡ s.imm → slot op dst src offset imm ≡ s
 slot_same s op dst src offset imm a b c d e = rw (a, b, c, d, e) refl
@@ -115,7 +118,7 @@ alu_offset-op_at wide code.SignedShiftRight z offset h few = sym (eqb-true offse
 
 abbrev IsMovsx : Bool → AluCode → SourceBit → ℕ → Type 0
 IsMovsx wide c z offset =
-    (c ≡ code.Mov) × (z ≡ source.Reg) × (narrow_number (narrow_at offset) ≡ offset) × IsTrue (wide || is_short (narrow_at offset))
+    (c ≡ code.Mov) × (z ≡ source.Reg) × (extended_bits (narrow_at offset) ≡ offset) × IsTrue (wide || is_short (narrow_at offset))
 
 movsx_offset : (wide : Bool) (offset : ℕ) → offset_listed wide code.Mov source.Reg offset ≡ true → 8 ≤ offset → IsMovsx wide code.Mov source.Reg offset
 movsx_offset wide offset h many =
@@ -160,13 +163,13 @@ is_movsx wide code.Mov source.Imm offset h many = not_many offset h many
 is_movsx wide code.Mov source.Reg offset h many = movsx_offset wide offset h many
 is_movsx wide code.SignedShiftRight z offset h many = not_many offset h many
 
-first-movsx_at : (wide : Bool) (b : Narrow) (dst src : ℕ) → IsTrue (wide || is_short b) → first (movsx_at wide b dst src) ≡ slot (opcode 11 1 (alu_class wide)) dst src (narrow_number b) 0
+first-movsx_at : (wide : Bool) (b : ExtendedBits) (dst src : ℕ) → IsTrue (wide || is_short b) → first (movsx_at wide b dst src) ≡ slot (opcode 11 1 (alu_class wide)) dst src (extended_bits b) 0
 first-movsx_at true b dst src h = refl
 first-movsx_at false narrow.Bits8 dst src h = refl
 first-movsx_at false narrow.Bits16 dst src h = refl
 first-movsx_at false narrow.Bits32 dst src h = absurd cc
 
-movsx_up_to : (top : ℕ) (wide : Bool) (b : Narrow) (dst src : ℕ) → dst ≤ top → src ≤ top → IsInsnUpTo top (movsx_at wide b dst src)
+movsx_up_to : (top : ℕ) (wide : Bool) (b : ExtendedBits) (dst src : ℕ) → dst ≤ top → src ≤ top → IsInsnUpTo top (movsx_at wide b dst src)
 movsx_up_to top true b dst src d s = (d, s)
 movsx_up_to top false narrow.Bits8 dst src d s = (d, s)
 movsx_up_to top false narrow.Bits16 dst src d s = (d, s)
@@ -195,10 +198,10 @@ first-movsx wide c z s h many =
     let source_is : source_number z ≡ 1 = ap source_number m.1 in
     let imm : s.imm ≡ 0 = eqb-true s.imm 0 (rw m.1 at parts.0) in
     first-movsx_at wide (narrow_at s.offset) s.dst s.src m.3
-    ∙ slot_same s (opcode 11 1 (alu_class wide)) s.dst s.src (narrow_number (narrow_at s.offset)) 0 (omega (arith, h.opcode, code_is, source_is)) refl refl m.2 (sym imm)
+    ∙ slot_same s (opcode 11 1 (alu_class wide)) s.dst s.src (extended_bits (narrow_at s.offset)) 0 (omega (arith, h.opcode, code_is, source_is)) refl refl m.2 (sym imm)
 
-bits_number-bits_at : (imm : ℕ) → (eqb imm 16 || eqb imm 32 || eqb imm 64) ≡ true → bits_number (bits_at imm) ≡ imm
-bits_number-bits_at imm h =
+kept_bits-bits_at : (imm : ℕ) → (eqb imm 16 || eqb imm 32 || eqb imm 64) ≡ true → kept_bits (bits_at imm) ≡ imm
+kept_bits-bits_at imm h =
     elim (or_cases (eqb imm 16 || eqb imm 32) (eqb imm 64) h) [
       | inr is ↦ let e : imm ≡ 64 = eqb-true imm 64 is in rw e refl
       | inl low ↦
@@ -295,7 +298,7 @@ first-insn_at (form.Neg wide) s h =
 first-insn_at (form.End how) s h =
     let parts = and_parts (eqb s.src 0 && eqb s.offset 0) (eqb s.imm 16 || eqb s.imm 32 || eqb s.imm 64) h.listed in
     let fields = and_parts (eqb s.src 0) (eqb s.offset 0) parts.0 in
-    slot_same s (end_opcode how) s.dst 0 0 (bits_number (bits_at s.imm)) (sym h.opcode) refl (is_zero s.src fields.0) (is_zero s.offset fields.1) (bits_number-bits_at s.imm parts.1)
+    slot_same s (end_opcode how) s.dst 0 0 (kept_bits (bits_at s.imm)) (sym h.opcode) refl (is_zero s.src fields.0) (is_zero s.offset fields.1) (kept_bits-bits_at s.imm parts.1)
 first-insn_at form.Ja s h =
     let parts = and_parts (no_operands s) (eqb s.imm 0) h.listed in
     let fields = and_parts (eqb s.dst 0) (eqb s.src 0) parts.0 in

@@ -7,7 +7,7 @@ use Rattle.std.proofs.lemmas.Bool.{agree_below_at, eqb-true}
 use Rattle.std.proofs.lemmas.Int.{ints}
 use Rattle.std.proofs.lemmas.Option.{none-some}
 use Rattle.insn_codec.specs.declared.slot.SlotFields.{SlotFields}
-use Rattle.insn_codec.specs.declared.insn.Bits.TheVariants as bits
+use Rattle.words.specs.declared.operator.KeptBits.TheVariants as bits
 use Rattle.insn_codec.specs.declared.insn.AtomicOp.TheVariants as atomic
 use Rattle.insn_codec.specs.declared.insn.Insn.{Insn}
 use Rattle.insn_codec.specs.declared.insn.Insn.TheVariants.{Alu, Neg, End, Ja, Jal, Jump, Call, Exit, Store, Atomic, Const}
@@ -24,7 +24,8 @@ use Rattle.insn_codec.specs.Fault.{HasOpcode}
 use Rattle.insn_codec.specs.inside.Opcodes.{load_opcode, opcode_of}
 use Rattle.insn_codec.specs.inside.Form.{form_at}
 use Rattle.insn_codec.proofs.Opcodes.{form_of, form_at-first, opcode_of-form_of}
-use Rattle.insn_codec.proofs.ReadBack.{op_at, operand_at, load_insn}
+use Rattle.insn_codec.proofs.ReadBack.{op_at, load_insn}
+use Rattle.insn_codec.specs.Spelled.{operand_at}
 use Rattle.insn_codec.proofs.FromSlot.{alu_number-op_at, source_bit-operand_at}
 
 -- ---- an instruction of each form

@@ -1,13 +1,13 @@
 -- The form of each opcode, and of each instruction's first slot.
 use Rattle.std.proofs.Common.{◌≡◌, Bool, true, false, ◌&&◌, Some, refl, sym, ap, ◌∙◌}
 use Rattle.std.specs.Prelude.{IsTrue, not}
-use Rattle.insn_codec.specs.declared.insn.AluOp.{AluOp}
-use Rattle.insn_codec.specs.declared.insn.AluOp.TheVariants as op
-use Rattle.insn_codec.specs.declared.insn.ByteOrder.TheVariants.{Little, Big, Swap}
-use Rattle.insn_codec.specs.declared.insn.Condition.{Condition}
-use Rattle.insn_codec.specs.declared.insn.Condition.TheVariants as conditions
-use Rattle.insn_codec.specs.declared.insn.Size.{Size}
-use Rattle.insn_codec.specs.declared.insn.Size.TheVariants as size
+use Rattle.words.specs.declared.operator.AluOp.{AluOp}
+use Rattle.words.specs.declared.operator.AluOp.TheVariants as op
+use Rattle.words.specs.declared.operator.ByteOrder.TheVariants.{Little, Big, Swap}
+use Rattle.words.specs.declared.operator.Condition.{Condition}
+use Rattle.words.specs.declared.operator.Condition.TheVariants as conditions
+use Rattle.words.specs.declared.stack.AccessSize.{AccessSize}
+use Rattle.words.specs.declared.stack.AccessSize.TheVariants as size
 use Rattle.insn_codec.specs.declared.insn.AtomicSize.TheVariants as atomic_size
 use Rattle.insn_codec.specs.declared.insn.AtomicOp.{AtomicOp}
 use Rattle.insn_codec.specs.declared.insn.AtomicOp.TheVariants as atomic
@@ -23,9 +23,9 @@ use Rattle.insn_codec.specs.declared.opcode.LoadKind.{LoadKind}
 use Rattle.insn_codec.specs.declared.opcode.LoadKind.TheVariants as load
 use Rattle.insn_codec.specs.declared.form.OpcodeForm.{OpcodeForm}
 use Rattle.insn_codec.specs.declared.form.OpcodeForm.TheVariants as form
-use Rattle.insn_codec.specs.Sizes.{is_double}
-use Rattle.insn_codec.specs.Numbers.{alu_number, load_mode, memory_opcode, atomic_number}
-use Rattle.insn_codec.specs.inside.Opcodes.{source_number, code_number, load_opcode, opcode_of}
+use Rattle.words.specs.Stack.{is_double}
+use Rattle.insn_codec.specs.Numbers.{alu_number, load_mode, memory_opcode, atomic_number, source_number}
+use Rattle.insn_codec.specs.inside.Opcodes.{code_number, load_opcode, opcode_of}
 use Rattle.insn_codec.specs.inside.Form.{form_at, atomic_at}
 use Rattle.insn_codec.specs.Spelling.{first, source_bit}
 
@@ -51,7 +51,7 @@ abbrev pub source_of : Operand → SourceBit
 source_of (operand.Imm n) = source.Imm
 source_of (operand.Reg r) = source.Reg
 
-abbrev pub kind_of : Size → Bool → LoadKind
+abbrev pub kind_of : AccessSize → Bool → LoadKind
 kind_of size.Word false = load.Word
 kind_of size.Half false = load.Half
 kind_of size.Byte false = load.Byte
@@ -177,7 +177,7 @@ form_at-jump false conditions.SignedBelow source.Reg = refl
 form_at-jump false conditions.SignedBelowOrEqual source.Imm = refl
 form_at-jump false conditions.SignedBelowOrEqual source.Reg = refl
 
-pub form_at-store : (z : Size) (s : SourceBit) → form_at (opcode_of (form.Store z s)) ≡ Some (form.Store z s)
+pub form_at-store : (z : AccessSize) (s : SourceBit) → form_at (opcode_of (form.Store z s)) ≡ Some (form.Store z s)
 unfolding form_at
 form_at-store size.Word source.Imm = refl
 form_at-store size.Word source.Reg = refl
@@ -243,7 +243,7 @@ source_number-source_of : (o : Operand) → source_number (source_of o) ≡ sour
 source_number-source_of (operand.Imm n) = refl
 source_number-source_of (operand.Reg r) = refl
 
-pub opcode_of-load : (z : Size) (signed : Bool) → IsTrue (not (signed && is_double z)) → load_opcode (kind_of z signed) ≡ memory_opcode (load_mode signed) z 1
+pub opcode_of-load : (z : AccessSize) (signed : Bool) → IsTrue (not (signed && is_double z)) → load_opcode (kind_of z signed) ≡ memory_opcode (load_mode signed) z 1
 opcode_of-load size.Word true h = refl
 opcode_of-load size.Word false h = refl
 opcode_of-load size.Half true h = refl

@@ -1,4 +1,4 @@
--- The row of an instruction tells its slots.
+-- The number of slots in the row of an instruction is right.
 use Rattle.std.proofs.Common.{◌≡◌, length, refl}
 use Rattle.insn_codec.specs.declared.insn.Insn.{Insn}
 use Rattle.insn_codec.specs.declared.insn.Insn.TheVariants.{Alu, Movsx, Neg, End, Ja, Jal, Jump, Call, Exit, Load, Store, Atomic, Const, MapFd, MapValue}

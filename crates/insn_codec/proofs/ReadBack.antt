@@ -5,14 +5,14 @@ use Rattle.std.specs.Int.{w16, w32, cast_signed}
 use Rattle.std.proofs.Props.{props}
 use Rattle.std.proofs.lemmas.Int.{to_z-of_z}
 use Rattle.insn_codec.specs.declared.slot.SlotFields.{SlotFields}
-use Rattle.insn_codec.specs.declared.insn.AluOp.{AluOp}
-use Rattle.insn_codec.specs.declared.insn.AluOp.TheVariants as op
-use Rattle.insn_codec.specs.declared.insn.Bits.{Bits}
-use Rattle.insn_codec.specs.declared.insn.Bits.TheVariants as bits
-use Rattle.insn_codec.specs.declared.insn.Narrow.{Narrow}
-use Rattle.insn_codec.specs.declared.insn.Narrow.TheVariants as narrow
-use Rattle.insn_codec.specs.declared.insn.Size.{Size}
-use Rattle.insn_codec.specs.declared.insn.Size.TheVariants as size
+use Rattle.words.specs.declared.operator.AluOp.{AluOp}
+use Rattle.words.specs.declared.operator.AluOp.TheVariants as op
+use Rattle.words.specs.declared.operator.KeptBits.{KeptBits}
+use Rattle.words.specs.declared.operator.KeptBits.TheVariants as bits
+use Rattle.words.specs.declared.operator.ExtendedBits.{ExtendedBits}
+use Rattle.words.specs.declared.operator.ExtendedBits.TheVariants as narrow
+use Rattle.words.specs.declared.stack.AccessSize.{AccessSize}
+use Rattle.words.specs.declared.stack.AccessSize.TheVariants as size
 use Rattle.insn_codec.specs.declared.insn.AtomicSize.{AtomicSize}
 use Rattle.insn_codec.specs.declared.insn.AtomicOp.{AtomicOp}
 use Rattle.insn_codec.specs.declared.insn.Operand.{Operand}
@@ -27,8 +27,11 @@ use Rattle.insn_codec.specs.declared.opcode.LoadKind.{LoadKind}
 use Rattle.insn_codec.specs.declared.opcode.LoadKind.TheVariants as load
 use Rattle.insn_codec.specs.declared.form.OpcodeForm.{OpcodeForm}
 use Rattle.insn_codec.specs.declared.form.OpcodeForm.TheVariants as form
-use Rattle.insn_codec.specs.Sizes.{is_double, is_short}
-use Rattle.insn_codec.specs.Numbers.{opcode, alu_class, jump_class, alu_number, alu_offset, condition_number, narrow_number, bits_number, memory_opcode, offset_bits, imm_bits}
+use Rattle.insn_codec.specs.Sizes.{is_short}
+use Rattle.words.specs.Stack.{is_double}
+use Rattle.insn_codec.specs.Spelled.{operand_at}
+use Rattle.insn_codec.specs.Numbers.{opcode, alu_class, jump_class, alu_number, alu_offset, condition_number, memory_opcode, offset_bits, imm_bits}
+use Rattle.words.specs.Operate.{extended_bits, kept_bits}
 use Rattle.insn_codec.specs.inside.Form.{wide_at, atomic_at}
 use Rattle.insn_codec.specs.Slot.{slot}
 use Rattle.insn_codec.specs.Spelling.{first, source_bit, src_field, imm_field, IsOperand, IsInsn}
@@ -52,17 +55,13 @@ op_at code.Xor offset = op.Xor
 op_at code.Mov offset = op.Mov
 op_at code.SignedShiftRight offset = op.SignedShiftRight
 
-abbrev pub operand_at : SourceBit → SlotFields → Operand
-operand_at source.Imm s = operand.Imm (cast_signed w32 s.imm)
-operand_at source.Reg s = operand.Reg s.src
-
-abbrev pub narrow_at : ℕ → Narrow
+abbrev pub narrow_at : ℕ → ExtendedBits
 narrow_at offset = cond (offset == 8) narrow.Bits8 (cond (offset == 16) narrow.Bits16 narrow.Bits32)
 
-abbrev pub bits_at : ℕ → Bits
+abbrev pub bits_at : ℕ → KeptBits
 bits_at imm = cond (imm == 16) bits.Bits16 (cond (imm == 32) bits.Bits32 bits.Bits64)
 
-abbrev pub movsx_at : Bool → Narrow → ℕ → ℕ → Insn
+abbrev pub movsx_at : Bool → ExtendedBits → ℕ → ℕ → Insn
 movsx_at true b dst src = Movsx (record { wide = true; bits = b; dst = dst; src = src; listed = refl })
 movsx_at false narrow.Bits8 dst src = Movsx (record { wide = false; bits = narrow.Bits8; dst = dst; src = src; listed = refl })
 movsx_at false narrow.Bits16 dst src = Movsx (record { wide = false; bits = narrow.Bits16; dst = dst; src = src; listed = refl })
@@ -149,7 +148,7 @@ alu_offset_below op.Xor = refl
 alu_offset_below op.Mov = refl
 alu_offset_below op.SignedShiftRight = refl
 
-pub bits_again : (b : Bits) → bits_at (bits_number b) ≡ b
+pub bits_again : (b : KeptBits) → bits_at (kept_bits b) ≡ b
 bits_again bits.Bits16 = refl
 bits_again bits.Bits32 = refl
 bits_again bits.Bits64 = refl
@@ -157,11 +156,11 @@ bits_again bits.Bits64 = refl
 IsTrue-prop : (b : Bool) → IsProp (IsTrue b)
 IsTrue-prop b = hlevel props
 
-movsx_same : (wide : Bool) (b : Narrow) (dst src : ℕ) (p q : IsTrue (wide || is_short b)) → Movsx (record { wide = wide; bits = b; dst = dst; src = src; listed = p }) ≡ Movsx (record { wide = wide; bits = b; dst = dst; src = src; listed = q })
+movsx_same : (wide : Bool) (b : ExtendedBits) (dst src : ℕ) (p q : IsTrue (wide || is_short b)) → Movsx (record { wide = wide; bits = b; dst = dst; src = src; listed = p }) ≡ Movsx (record { wide = wide; bits = b; dst = dst; src = src; listed = q })
 movsx_same wide b dst src p q =
     ap (λ (h : IsTrue (wide || is_short b)). Movsx (record { wide = wide; bits = b; dst = dst; src = src; listed = h })) (IsTrue-prop (wide || is_short b) p q)
 
-pub movsx_again : (wide : Bool) (b : Narrow) (dst src : ℕ) (h : IsTrue (wide || is_short b)) (other : Insn) → cond (ltb (narrow_number b) 8) other (movsx_at wide (narrow_at (narrow_number b)) dst src) ≡ Movsx (record { wide = wide; bits = b; dst = dst; src = src; listed = h })
+pub movsx_again : (wide : Bool) (b : ExtendedBits) (dst src : ℕ) (h : IsTrue (wide || is_short b)) (other : Insn) → cond (ltb (extended_bits b) 8) other (movsx_at wide (narrow_at (extended_bits b)) dst src) ≡ Movsx (record { wide = wide; bits = b; dst = dst; src = src; listed = h })
 movsx_again true narrow.Bits8 dst src h other = movsx_same true narrow.Bits8 dst src refl h
 movsx_again true narrow.Bits16 dst src h other = movsx_same true narrow.Bits16 dst src refl h
 movsx_again true narrow.Bits32 dst src h other = movsx_same true narrow.Bits32 dst src refl h
@@ -169,11 +168,11 @@ movsx_again false narrow.Bits8 dst src h other = movsx_same false narrow.Bits8 d
 movsx_again false narrow.Bits16 dst src h other = movsx_same false narrow.Bits16 dst src refl h
 movsx_again false narrow.Bits32 dst src h other = absurd cc
 
-load_same : (z : Size) (signed : Bool) (dst src : ℕ) (off : ℤ) (p q : IsTrue (not (signed && is_double z))) → Load (record { size = z; signed = signed; dst = dst; src = src; off = off; listed = p }) ≡ Load (record { size = z; signed = signed; dst = dst; src = src; off = off; listed = q })
+load_same : (z : AccessSize) (signed : Bool) (dst src : ℕ) (off : ℤ) (p q : IsTrue (not (signed && is_double z))) → Load (record { size = z; signed = signed; dst = dst; src = src; off = off; listed = p }) ≡ Load (record { size = z; signed = signed; dst = dst; src = src; off = off; listed = q })
 load_same z signed dst src off p q =
     ap (λ (h : IsTrue (not (signed && is_double z))). Load (record { size = z; signed = signed; dst = dst; src = src; off = off; listed = h })) (IsTrue-prop (not (signed && is_double z)) p q)
 
-pub load_again : (z : Size) (signed : Bool) (dst src : ℕ) (off : ℤ) (h : IsTrue (not (signed && is_double z))) → load_insn (kind_of z signed) dst src off ≡ Load (record { size = z; signed = signed; dst = dst; src = src; off = off; listed = h })
+pub load_again : (z : AccessSize) (signed : Bool) (dst src : ℕ) (off : ℤ) (h : IsTrue (not (signed && is_double z))) → load_insn (kind_of z signed) dst src off ≡ Load (record { size = z; signed = signed; dst = dst; src = src; off = off; listed = h })
 load_again size.Word true dst src off h = load_same size.Word true dst src off refl h
 load_again size.Word false dst src off h = load_same size.Word false dst src off refl h
 load_again size.Half true dst src off h = load_same size.Half true dst src off refl h
@@ -185,7 +184,7 @@ load_again size.Double false dst src off h = load_same size.Double false dst src
 
 pub insn_at-first : (i : Insn) → IsInsn i → insn_at (form_of i) (first i) (next i) ≡ i
 insn_at-first (Alu wide o dst src) h = rw (alu_offset_below o, op_again o, operand_again src (opcode (alu_number o) (source_bit src) (alu_class wide)) dst (alu_offset o) h.1) refl
-insn_at-first (Movsx m) h = movsx_again m.wide m.bits m.dst m.src m.listed (Alu m.wide (op_at code.Mov (narrow_number m.bits)) m.dst (operand.Reg m.src))
+insn_at-first (Movsx m) h = movsx_again m.wide m.bits m.dst m.src m.listed (Alu m.wide (op_at code.Mov (extended_bits m.bits)) m.dst (operand.Reg m.src))
 insn_at-first (Neg wide dst) h = refl
 insn_at-first (End how width dst) h = rw (bits_again width) refl
 insn_at-first (Ja off) h = ap Ja (offset_again off h)

@@ -1,5 +1,5 @@
--- What is wrong with bytes that begin no instruction: the fault of the lowest kind, told by the grammar.
--- RFC 9669 leaves it open what a machine does with such bytes; the kinds and their order are this project's own.
+-- The fault of bytes that begin with no instruction: the lowest kind that applies, defined by the grammar. RFC 9669 leaves it open
+-- what a machine does with such bytes; the kinds and their order are this project's own.
 use Rattle.std.specs.Prelude.{◌≡◌, ℕ, ◌≤◌, ◌<◌, List, slice_index, length, take}
 use Rattle.insn_codec.specs.declared.fault.FaultKind.{FaultKind}
 use Rattle.insn_codec.specs.declared.fault.FaultKind.TheVariants.{Opcode, Reserved, Register, SecondSlot, Ragged, Empty, TooLong, Memory}
@@ -11,7 +11,7 @@ use Rattle.insn_codec.specs.Spelling.{first, spelling, IsInsn, IsInsnUpTo, Begin
 abbrev pub HasOpcode : List ℕ → Type 0
 HasOpcode bytes = (i : Insn) × IsInsn i × (slice_index bytes 0 ≡ slice_index (spelling i) 0)
 
--- the first eight bytes are the first slot of an instruction, with registers up to a number
+-- the first eight bytes are the first slot of an instruction, with registers from 0 to `top`
 abbrev pub HasFirstSlot : ℕ → List ℕ → Type 0
 HasFirstSlot top bytes = (i : Insn) × IsInsnUpTo top i × (take 8 bytes ≡ slot_bytes (first i))
 
@@ -19,7 +19,7 @@ HasFirstSlot top bytes = (i : Insn) × IsInsnUpTo top i × (take 8 bytes ≡ slo
 abbrev pub HasInsn : List ℕ → Type 0
 HasInsn bytes = (i : Insn) × IsInsn i × Begins i bytes
 
--- the fault at the front; the field of a register has room for 0 to 15, section 3.1, of which 10 is the last register
+-- the fault at the front; a register field has room for 0 to 15, section 3.1, of which 10 is the last register
 abbrev pub HasFault : List ℕ → FaultKind → Type 0
 HasFault bytes Ragged = length bytes < 8
 HasFault bytes Opcode = (8 ≤ length bytes) × ¬ HasOpcode bytes

@@ -1,5 +1,5 @@
--- Where an instruction leads: to the next one, or where it jumps (RFC 9669, section 4.3); the register that it gives a value; and
--- the map that it names. All are read from its row of the table.
+-- Where control passes after an instruction: to the next one, or to a jump's target (RFC 9669, section 4.3); the register that the
+-- instruction writes; and the map that it names. All are read from its row of the table.
 use Rattle.std.specs.Prelude.{ℕ, ℤ, pos, negsuc, Option, Some, None, ◌+◌, ◌+ℤ◌, length, Bool, true, false, if◌then◌else◌}
 use Rattle.insn_codec.specs.declared.insn.Insn.{Insn}
 use Rattle.insn_codec.specs.declared.profile.Successors.{Successors}
@@ -9,12 +9,12 @@ use Rattle.insn_codec.specs.declared.profile.Reference.TheVariants as names
 use Rattle.insn_codec.specs.Profile.{profile}
 use Rattle.insn_codec.specs.Spelling.{slots}
 
--- a whole number as a slot: none below 0
+-- an integer as a slot; None below 0
 abbrev pub natural : ℤ → Option ℕ
 natural (pos n) = Some n
 natural (negsuc n) = None
 
--- ---- where the edges lead
+-- ---- the targets of the edges
 
 -- the next instruction
 abbrev pub falls_to : Insn → ℕ → ℕ
@@ -29,11 +29,11 @@ offset_by Nothing = pos 0
 abbrev pub jump_offset : Insn → ℤ
 jump_offset i = offset_by (profile i).successors
 
--- so far from the next slot: none where that is below slot 0
+-- the slot at the jump's distance from the next one; None below slot 0
 abbrev pub jumps_to : Insn → ℕ → Option ℕ
 jumps_to i at = natural (pos (at + 1) +ℤ jump_offset i)
 
--- it may go on with the next one
+-- control may pass to the next instruction
 abbrev pub falls_by : Successors → Bool
 falls_by Next = true
 falls_by (Jump off) = false
@@ -43,7 +43,7 @@ falls_by Nothing = false
 abbrev pub falls : Insn → Bool
 falls i = falls_by (profile i).successors
 
--- it may jump
+-- control may pass to a jump's target
 abbrev pub jumps_by : Successors → Bool
 jumps_by Next = false
 jumps_by (Jump off) = true
@@ -53,7 +53,7 @@ jumps_by Nothing = false
 abbrev pub jumps : Insn → Bool
 jumps i = jumps_by (profile i).successors
 
--- the slot that it jumps to: none where it does not jump, or below slot 0
+-- the target of the jump; None if there is no jump, or the target is below slot 0
 abbrev pub target_by : Successors → ℕ → Option ℕ
 target_by next at = if jumps_by next then natural (pos (at + 1) +ℤ offset_by next) else None
 
@@ -62,11 +62,11 @@ jump_target i at = target_by (profile i).successors at
 
 -- ---- what it writes and names
 
--- the register that it gives a value
+-- the register that it writes, if any
 abbrev pub written_register : Insn → Option ℕ
 written_register i = (profile i).written
 
--- the descriptor of the map that it loads, or of which it loads a value
+-- the descriptor of the map that it loads, or of which it loads a value, if any
 abbrev pub descriptor_by : Reference → Option ℕ
 descriptor_by names.Nothing = None
 descriptor_by (names.Helper id) = None

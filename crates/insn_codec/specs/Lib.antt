@@ -1,4 +1,5 @@
 pub mod Sizes
+pub mod Atomic
 pub mod Numbers
 pub mod Slot
 pub mod Spelling

@@ -2,24 +2,27 @@
 -- is a sum of three of them.
 use Rattle.std.specs.Prelude.{ℕ, ◌+◌, ◌*◌, Bool, true, false, ℤ}
 use Rattle.std.specs.Int.{w16, w32, cast_unsigned}
-use Rattle.insn_codec.specs.declared.insn.AluOp.{AluOp}
-use Rattle.insn_codec.specs.declared.insn.AluOp.TheVariants.{Add, Sub, Mul, Div, SignedDiv, Or, And, ShiftLeft, ShiftRight, Mod, SignedMod, Xor, Mov, SignedShiftRight}
-use Rattle.insn_codec.specs.declared.insn.ByteOrder.{ByteOrder}
-use Rattle.insn_codec.specs.declared.insn.ByteOrder.TheVariants.{Little, Big, Swap}
-use Rattle.insn_codec.specs.declared.insn.Bits.{Bits}
-use Rattle.insn_codec.specs.declared.insn.Bits.TheVariants as bits
-use Rattle.insn_codec.specs.declared.insn.Narrow.{Narrow}
-use Rattle.insn_codec.specs.declared.insn.Narrow.TheVariants as narrow
-use Rattle.insn_codec.specs.declared.insn.Condition.{Condition}
-use Rattle.insn_codec.specs.declared.insn.Condition.TheVariants.{Equal, Above, AboveOrEqual, CommonBit, NotEqual, SignedAbove, SignedAboveOrEqual, Below, BelowOrEqual, SignedBelow, SignedBelowOrEqual}
-use Rattle.insn_codec.specs.declared.insn.Size.{Size}
-use Rattle.insn_codec.specs.declared.insn.Size.TheVariants as size
+use Rattle.words.specs.declared.operator.AluOp.{AluOp}
+use Rattle.words.specs.declared.operator.AluOp.TheVariants.{Add, Sub, Mul, Div, SignedDiv, Or, And, ShiftLeft, ShiftRight, Mod, SignedMod, Xor, Mov, SignedShiftRight}
+use Rattle.words.specs.declared.operator.ByteOrder.{ByteOrder}
+use Rattle.words.specs.declared.operator.ByteOrder.TheVariants.{Little, Big, Swap}
+use Rattle.words.specs.declared.operator.Condition.{Condition}
+use Rattle.words.specs.declared.operator.Condition.TheVariants.{Equal, Above, AboveOrEqual, CommonBit, NotEqual, SignedAbove, SignedAboveOrEqual, Below, BelowOrEqual, SignedBelow, SignedBelowOrEqual}
+use Rattle.words.specs.declared.stack.AccessSize.{AccessSize}
+use Rattle.words.specs.declared.stack.AccessSize.TheVariants as size
+use Rattle.insn_codec.specs.declared.opcode.SourceBit.{SourceBit}
+use Rattle.insn_codec.specs.declared.opcode.SourceBit.TheVariants as source
 use Rattle.insn_codec.specs.declared.insn.AtomicOp.{AtomicOp}
 use Rattle.insn_codec.specs.declared.insn.AtomicOp.TheVariants as atomic
 
 -- arithmetic and jumps, section 4: four bits of code, one of source, three of class
 abbrev pub opcode : ℕ → ℕ → ℕ → ℕ
 opcode code source class = 16 * code + 8 * source + class
+
+-- section 4: the source bit
+abbrev pub source_number : SourceBit → ℕ
+source_number source.Imm = 0
+source_number source.Reg = 1
 
 -- section 3.3: ALU64 or ALU
 abbrev pub alu_class : Bool → ℕ
@@ -69,23 +72,11 @@ condition_number SignedBelow = 12
 condition_number SignedBelowOrEqual = 13
 
 -- section 5, the sizes
-abbrev pub size_number : Size → ℕ
+abbrev pub size_number : AccessSize → ℕ
 size_number size.Word = 0
 size_number size.Half = 1
 size_number size.Byte = 2
 size_number size.Double = 3
-
--- section 4.1: the offset of a move with sign extension
-abbrev pub narrow_number : Narrow → ℕ
-narrow_number narrow.Bits8 = 8
-narrow_number narrow.Bits16 = 16
-narrow_number narrow.Bits32 = 32
-
--- section 4.2: the immediate of a byte-order change
-abbrev pub bits_number : Bits → ℕ
-bits_number bits.Bits16 = 16
-bits_number bits.Bits32 = 32
-bits_number bits.Bits64 = 64
 
 -- section 4.2: class ALU with source 0 or 1, and class ALU64
 abbrev pub end_opcode : ByteOrder → ℕ
@@ -99,17 +90,17 @@ load_mode false = 3
 load_mode true = 4
 
 -- loads and stores, section 5: three bits of mode, two of size, three of class
-abbrev pub memory_opcode : ℕ → Size → ℕ → ℕ
+abbrev pub memory_opcode : ℕ → AccessSize → ℕ → ℕ
 memory_opcode mode s class = 32 * mode + 8 * size_number s + class
 
--- section 5.3: the immediate of an atomic operation is its code in arithmetic, in the place that the code has in an opcode
+-- section 5.3: the immediate of an atomic operation is its arithmetic code, shifted as in an opcode
 abbrev pub atomic_number : AtomicOp → ℕ
 atomic_number atomic.Add = 0x00
 atomic_number atomic.Or = 0x40
 atomic_number atomic.And = 0x50
 atomic_number atomic.Xor = 0xa0
 
--- section 3.1: a signed field's bits
+-- section 3.1: the bits of a signed field
 abbrev pub offset_bits : ℤ → ℕ
 offset_bits z = cast_unsigned w16 z
 

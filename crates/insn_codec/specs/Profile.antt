@@ -1,11 +1,11 @@
--- What an instruction is, whatever the registers hold: a table with a row for each. RFC 9669, section 4 (arithmetic and jumps)
--- and section 5 (loads, stores, atomic operations); that it is one table is this project's own.
+-- The properties of an instruction that no register value affects: a table with a row for each. RFC 9669, section 4 (arithmetic and
+-- jumps) and section 5 (loads, stores, atomic operations); that it is one table is this project's own.
 use Rattle.std.specs.Prelude.{ℕ, Option, Some, None}
 use Rattle.words.specs.Words.{unsigned}
 use Rattle.insn_codec.specs.declared.insn.Operand.{Operand}
 use Rattle.insn_codec.specs.declared.insn.Operand.TheVariants.{Imm, Reg}
-use Rattle.insn_codec.specs.declared.insn.AluOp.{AluOp}
-use Rattle.insn_codec.specs.declared.insn.AluOp.TheVariants.{Mov}
+use Rattle.words.specs.declared.operator.AluOp.{AluOp}
+use Rattle.words.specs.declared.operator.AluOp.TheVariants.{Mov}
 use Rattle.insn_codec.specs.declared.insn.Insn.{Insn}
 use Rattle.insn_codec.specs.declared.insn.Insn.TheVariants.{Alu, Movsx, Neg, End, Ja, Jal, Jump, Call, Exit, Load, Store, Atomic, Const, MapFd, MapValue}
 use Rattle.insn_codec.specs.declared.profile.Successors.{Successors}
@@ -14,18 +14,18 @@ use Rattle.insn_codec.specs.declared.profile.Reference.{Reference}
 use Rattle.insn_codec.specs.declared.profile.Reference.TheVariants as names
 use Rattle.insn_codec.specs.declared.profile.Profile.{Profile}
 
--- the registers of its first and its second operand, that which it gives a value, what may follow it, what it names, and in how
--- many slots it is spelled
+-- the registers of its first and its second operand, the register that it writes, its successors, what it
+-- names, and the number of its slots
 abbrev pub row : Option ℕ → Option ℕ → Option ℕ → Successors → Reference → ℕ → Profile
 row first second written successors reference slots =
     record { first_read = first; second_read = second; written = written; successors = successors; reference = reference; slots = slots }
 
--- the register that an operand is
+-- the register of an operand, if it is one
 abbrev pub register_of : Operand → Option ℕ
 register_of (Imm n) = None
 register_of (Reg r) = Some r
 
--- the first operand of an operation: a move reads none, section 4.1
+-- the first operand of an operation, if it reads one: a move does not, section 4.1
 abbrev pub first_operand : AluOp → ℕ → Option ℕ
 first_operand Mov dst = None
 first_operand op dst = Some dst

@@ -1,4 +1,4 @@
--- What bytes spell an instruction: its one or two slots, RFC 9669, sections 3.1 and 3.2; its fields, sections 4 and 5.
+-- The bytes that spell an instruction: its one or two slots, RFC 9669, sections 3.1 and 3.2; its fields, sections 4 and 5.
 use Rattle.std.specs.Prelude.{◌≡◌, ℕ, ◌+◌, ◌/◌, ◌%◌, ◌^◌, ◌==◌, ◌<◌, ◌≤◌, Bool, List, [], ◌∷◌, length, take, FitsSigned}
 use Rattle.std.specs.List.{flat_map}
 use Rattle.std.specs.Int.{w16, w32}
@@ -8,8 +8,9 @@ use Rattle.insn_codec.specs.declared.insn.Operand.TheVariants.{Imm, Reg}
 use Rattle.insn_codec.specs.declared.insn.Insn.{Insn}
 use Rattle.insn_codec.specs.declared.insn.Insn.TheVariants.{Alu, Movsx, Neg, End, Ja, Jal, Jump, Call, Exit, Load, Store, Atomic, Const, MapFd, MapValue}
 use Rattle.insn_codec.specs.Slot.{slot, slot_bytes}
-use Rattle.insn_codec.specs.Sizes.{access_size}
-use Rattle.insn_codec.specs.Numbers.{opcode, alu_class, jump_class, alu_number, alu_offset, condition_number, narrow_number, bits_number, end_opcode, load_mode, memory_opcode, atomic_number, offset_bits, imm_bits}
+use Rattle.insn_codec.specs.Atomic.{access_size}
+use Rattle.insn_codec.specs.Numbers.{opcode, alu_class, jump_class, alu_number, alu_offset, condition_number, end_opcode, load_mode, memory_opcode, atomic_number, offset_bits, imm_bits}
+use Rattle.words.specs.Operate.{extended_bits, kept_bits}
 
 -- ---- the second operand, section 4: the source bit, and the field that it selects
 
@@ -30,9 +31,9 @@ imm_field (Reg r) = 0
 -- the first slot
 abbrev pub first : Insn → SlotFields
 first (Alu wide op dst src) = slot (opcode (alu_number op) (source_bit src) (alu_class wide)) dst (src_field src) (alu_offset op) (imm_field src)
-first (Movsx m) = slot (opcode 11 1 (alu_class m.wide)) m.dst m.src (narrow_number m.bits) 0
+first (Movsx m) = slot (opcode 11 1 (alu_class m.wide)) m.dst m.src (extended_bits m.bits) 0
 first (Neg wide dst) = slot (opcode 8 0 (alu_class wide)) dst 0 0 0
-first (End how width dst) = slot (end_opcode how) dst 0 0 (bits_number width)
+first (End how width dst) = slot (end_opcode how) dst 0 0 (kept_bits width)
 first (Ja off) = slot (opcode 0 0 5) 0 0 (offset_bits off) 0
 first (Jal off) = slot (opcode 0 0 6) 0 0 0 (imm_bits off)
 first (Jump wide cond dst src off) = slot (opcode (condition_number cond) (source_bit src) (jump_class wide)) dst (src_field src) (offset_bits off) (imm_field src)
@@ -45,7 +46,7 @@ first (Const dst value) = slot 0x18 dst 0 0 (value % 2 ^ 32)
 first (MapFd dst fd) = slot 0x18 dst 1 0 (imm_bits fd)
 first (MapValue dst fd off) = slot 0x18 dst 2 0 (imm_bits fd)
 
--- the second slot, which wide loads alone have: section 5.4
+-- the second slot, which only wide loads have: section 5.4
 abbrev pub second : Insn → List SlotFields
 second (Const dst value) = slot 0 0 0 0 (value / 2 ^ 32) ∷ []
 second (MapFd dst fd) = slot 0 0 0 0 0 ∷ []
@@ -65,7 +66,7 @@ spelling i = flat_map slot_bytes (slots i)
 
 -- ---- the values of the type: numbers in the ranges of their fields, section 3.1
 
--- with registers up to a number: there are eleven, and a field of four bits has room for sixteen
+-- with registers from 0 to `top`: there are eleven, and a field of four bits has room for sixteen
 abbrev pub IsOperandUpTo : ℕ → Operand → Type 0
 IsOperandUpTo top (Imm n) = FitsSigned w32 n
 IsOperandUpTo top (Reg r) = r ≤ top
@@ -87,13 +88,13 @@ IsInsnUpTo top (Const dst value) = (dst ≤ top) × (value < 2 ^ 64)
 IsInsnUpTo top (MapFd dst fd) = (dst ≤ top) × FitsSigned w32 fd
 IsInsnUpTo top (MapValue dst fd off) = (dst ≤ top) × FitsSigned w32 fd × (off < 2 ^ 32)
 
--- the registers that there are: 0 to 10, section 3.1
+-- with the registers that exist: 0 to 10, section 3.1
 abbrev pub IsOperand : Operand → Type 0
 IsOperand o = IsOperandUpTo 10 o
 
 abbrev pub IsInsn : Insn → Type 0
 IsInsn i = IsInsnUpTo 10 i
 
--- the bytes begin with the spelling
+-- the bytes begin with the instruction's spelling
 abbrev pub Begins : Insn → List ℕ → Type 0
 Begins i bytes = take (length (spelling i)) bytes ≡ spelling i

@@ -1,4 +1,4 @@
--- What private contracts and proofs cite. No public contract names it.
+-- Definitions for private contracts and proofs. No public contract names them.
 pub mod Opcodes
 pub mod Form
 pub mod FirstFault

@@ -1,19 +1,19 @@
-//! What is wrong with the bytes of a program.
+//! Faults of a program's bytes.
 
 ghost use Rattle.std.specs.Prelude.{◌≡◌};
 
 use std::alloc::{AllocError, AllocFailed};
 
-/// What is wrong, lowest first: of two faults of one slot the lower one is told.
+/// Kinds of faults, lowest first: of several faults of one slot the lowest is reported.
 #[derive(Clone, Copy, Debug, PartialEq, Eq)]
 pub enum FaultKind {
-    /// No instruction begins with this opcode.
+    /// No instruction has this opcode.
     Opcode = 1,
-    /// A field has a value that its form does not list: most often it is not used, and not zero.
+    /// A field has a value that its form does not allow: most often it is unused, and not zero.
     Reserved = 2,
     /// A register's number is above 10.
     Register = 3,
-    /// The second slot of a wide instruction is missing, or is not all zero but for its number.
+    /// The second slot of a wide instruction is missing, or is not all zero, except for a number that the instruction uses.
     SecondSlot = 4,
     /// The number of bytes is no multiple of eight.
     Ragged = 5,
@@ -21,14 +21,14 @@ pub enum FaultKind {
     Empty = 6,
     /// There are more slots than a program may have.
     TooLong = 7,
-    /// A growth was refused.
+    /// Out of memory: the allocator refused a growth.
     Memory = 8,
 }
 
 impl FaultKind {
     ghost use Rattle.insn_codec.specs.Fault.{fault_number};
 
-    /// Its number, 1 to 8.
+    /// The number of the kind, 1 to 8.
     pub fn number(self) -> u16
         ensures { result ≡ fault_number self }
     {
@@ -36,7 +36,7 @@ impl FaultKind {
     }
 }
 
-/// A fault, and the slot that has it: of a wide instruction the first one.
+/// A fault and its slot; for a wide instruction, its first slot.
 #[derive(Clone, Copy, Debug, PartialEq, Eq)]
 pub struct CodecFault {
     pub slot: usize,

@@ -1,14 +1,13 @@
-//! The form of an instruction: what its opcode says, and which fields it may have.
+//! The form of an instruction: what its opcode alone determines, and which fields it may have.
 
 ghost use Rattle.std.specs.Prelude.{◌≡◌, ◌≢◌, ◌+◌, ◌%◌, ◌≤◌, [], ◌∷◌, IfSome, IsTrue};
 
-use crate::insn::{
-    AtomicOp, AtomicSize, Bits, ByteOrder, Condition, Insn, Load, Movsx, Narrow, Reg, Size,
-};
-use crate::opcode::{AluCode, LoadKind, SourceBit, WideKind};
+use crate::insn::{AtomicOp, AtomicSize, Insn, Load, Movsx, Reg};
+use crate::opcode::{AluCode, LoadKind, SourceBit, WideKind, condition_at, size_at};
 use crate::slot::SlotFields;
+use words::{AccessSize, ByteOrder, Condition, ExtendedBits, KeptBits};
 
-/// The meaning of an opcode.
+/// The form of an opcode: what it alone determines of its instruction.
 #[derive(Clone, Copy, Debug, PartialEq, Eq)]
 pub enum OpcodeForm {
     Alu {
@@ -35,7 +34,7 @@ pub enum OpcodeForm {
         kind: LoadKind,
     },
     Store {
-        size: Size,
+        size: AccessSize,
         source: SourceBit,
     },
     Atomic {
@@ -46,8 +45,8 @@ pub enum OpcodeForm {
 
 impl OpcodeForm {
     ghost use Rattle.insn_codec.specs.inside.Form.{form_at, alu_at, jump_at, load_at, store_at, register_store_at, listed};
-    ghost use Rattle.insn_codec.specs.Numbers.{opcode as opcode_from, alu_class, jump_class};
-    ghost use Rattle.insn_codec.specs.inside.Opcodes.{opcode_of, source_number};
+    ghost use Rattle.insn_codec.specs.Numbers.{opcode as opcode_from, source_number, alu_class, jump_class};
+    ghost use Rattle.insn_codec.specs.inside.Opcodes.{opcode_of};
     ghost use Rattle.insn_codec.specs.Spelling.{slots, IsInsn};
     ghost use Rattle.insn_codec.specs.declared.form.OpcodeForm.TheVariants.{Wide, Alu, Jump, Load as LoadForm, Store, Atomic, End};
 
@@ -94,7 +93,7 @@ impl OpcodeForm {
             (8, SourceBit::Imm) if wide => Some(OpcodeForm::Call),
             (9, SourceBit::Imm) if wide => Some(OpcodeForm::Exit),
             _ => {
-                let cond = Condition::of(code)?;
+                let cond = condition_at(code)?;
                 Some(OpcodeForm::Jump { wide, cond, source })
             }
         }
@@ -124,7 +123,7 @@ impl OpcodeForm {
     {
         if opcode / 32 == 3 {
             Some(OpcodeForm::Store {
-                size: Size::of(opcode / 8 % 4),
+                size: size_at(opcode / 8 % 4),
                 source,
             })
         } else {
@@ -132,7 +131,7 @@ impl OpcodeForm {
         }
     }
 
-    /// An atomic operation, or a store of a register.
+    /// The form of an atomic operation or of a store of a register; `None` if no instruction has the opcode.
     fn register_store(opcode: u8) -> Option<OpcodeForm>
         requires { opcode % 8 ≡ 3 }
         ensures value { result ≡ register_store_at opcode }
@@ -149,7 +148,7 @@ impl OpcodeForm {
         }
     }
 
-    /// The form that an opcode begins.
+    /// The form of an opcode; `None` if no instruction has it.
     #[tactic(auto, unfolding(crate::specs::inside::Form::form_at))]
     pub fn of(opcode: u8) -> Option<OpcodeForm>
         ensures value { result ≡ form_at opcode }
@@ -173,7 +172,7 @@ impl OpcodeForm {
         }
     }
 
-    /// Whether each field that the form does not use is zero, and each other one has a value that it may have.
+    /// Whether each field that the form does not use is zero, and each other field has a value that the form allows.
     #[inline(always)]
     pub fn lists(self, slot: SlotFields) -> bool
         ensures { result ≡ listed self slot }
@@ -230,7 +229,7 @@ impl OpcodeForm {
         }
     }
 
-    /// A signed division or remainder, or a move with sign extension.
+    /// Writes a signed division or remainder, or a move with sign extension, to an entry.
     #[inline(always)]
     fn put_alu_by_offset(
         entry: &mut Insn,
@@ -254,9 +253,9 @@ impl OpcodeForm {
         match code {
             AluCode::Mov => {
                 let bits = match slot.offset {
-                    8 => Narrow::Bits8,
-                    16 => Narrow::Bits16,
-                    _ => Narrow::Bits32,
+                    8 => ExtendedBits::Bits8,
+                    16 => ExtendedBits::Bits16,
+                    _ => ExtendedBits::Bits32,
                 };
                 *entry = Insn::Movsx(Movsx {
                     wide,
@@ -298,7 +297,7 @@ impl OpcodeForm {
         };
     }
 
-    /// Puts the instruction of a slot that begins this form into an entry.
+    /// Writes the instruction of a slot of this form to an entry.
     #[inline(always)]
     pub fn put(self, entry: &mut Insn, slot: SlotFields, dst: Reg, src: Reg)
         requires single { self ≢ Wide }
@@ -320,9 +319,9 @@ impl OpcodeForm {
             OpcodeForm::Neg { wide } => *entry = Insn::Neg { wide, dst },
             OpcodeForm::End { how } => {
                 let bits = match slot.imm {
-                    16 => Bits::Bits16,
-                    32 => Bits::Bits32,
-                    _ => Bits::Bits64,
+                    16 => KeptBits::Bits16,
+                    32 => KeptBits::Bits32,
+                    _ => KeptBits::Bits64,
                 };
                 *entry = Insn::End { how, bits, dst };
             }

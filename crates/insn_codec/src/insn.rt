@@ -1,14 +1,16 @@
 //! Instructions, as RFC 9669 defines them: the groups base32, base64, divmul32 and divmul64,
 //! and the four atomic operations without FETCH.
 //!
-//! `wide` tells the two widths apart: 64 bits, or 32 bits where it is false (RFC 9669, section 3.3).
+//! `wide` is the width: 64 bits if true, 32 bits if false (RFC 9669, section 3.3).
 
 ghost use Rattle.std.specs.Prelude.{◌≡◌, ◌≤◌, ◌<◌, ◌^◌, ℕ, IsTrue, not, ◌&&◌, ◌||◌};
-ghost use Rattle.insn_codec.specs.Sizes.{is_double, is_short};
+ghost use Rattle.words.specs.Stack.{is_double};
+ghost use Rattle.insn_codec.specs.Sizes.{is_short};
 
 use std::marker::Model;
+use words::{AccessSize, AluOp, ByteOrder, Condition, ExtendedBits, KeptBits};
 
-/// A register, by its number: 0 to 10 (RFC 9669, section 3.1).
+/// A register number, 0 to 10 (RFC 9669, section 3.1).
 /// Register 10 is the frame pointer. Contracts see the number.
 #[derive(Clone, Copy, Debug, PartialEq, Eq)]
 pub struct Reg {
@@ -26,7 +28,7 @@ impl Model for Reg {
 }
 
 impl Reg {
-    /// The register with this number.
+    /// The register with this number, which is at most 10.
     pub fn new(number: u8) -> Reg
         requires { number ≤ 10 }
         ensures { result ≡ number }
@@ -34,7 +36,7 @@ impl Reg {
         Reg { number }
     }
 
-    /// Its number.
+    /// The register's number.
     pub fn number(self) -> u8
         ensures value { result ≡ self }
         ensures bound { result ≤ 10 }
@@ -43,95 +45,23 @@ impl Reg {
     }
 }
 
-/// The second operand of an operation, and what a store writes (RFC 9669, section 4, the source bit).
+/// The second operand of an operation, or the value that a store writes (RFC 9669, section 4, the source bit).
 #[derive(Clone, Copy, Debug, PartialEq, Eq)]
 pub enum Operand {
     /// The constant in the immediate field.
     Imm(i32),
-    /// What the source register holds.
+    /// The value of the source register.
     Reg(Reg),
 }
 
-/// An operation on two operands (RFC 9669, section 4.1).
-#[derive(Clone, Copy, Debug, PartialEq, Eq)]
-pub enum AluOp {
-    Add,
-    Sub,
-    Mul,
-    Div,
-    SignedDiv,
-    Or,
-    And,
-    ShiftLeft,
-    ShiftRight,
-    Mod,
-    SignedMod,
-    Xor,
-    Mov,
-    SignedShiftRight,
-}
-
-/// How a byte order is changed (RFC 9669, section 4.2).
-#[derive(Clone, Copy, Debug, PartialEq, Eq)]
-pub enum ByteOrder {
-    /// To little-endian, which cuts to the width.
-    Little,
-    /// To big-endian.
-    Big,
-    /// Bytes in reverse, whatever the machine's order.
-    Swap,
-}
-
-/// The width of a byte-order change, in bits.
-#[derive(Clone, Copy, Debug, PartialEq, Eq)]
-pub enum Bits {
-    Bits16,
-    Bits32,
-    Bits64,
-}
-
-/// The width that a sign extension starts from, in bits.
-#[derive(Clone, Copy, Debug, PartialEq, Eq)]
-pub enum Narrow {
-    Bits8,
-    Bits16,
-    Bits32,
-}
-
-/// When a conditional jump is taken (RFC 9669, section 4.3).
-#[derive(Clone, Copy, Debug, PartialEq, Eq)]
-pub enum Condition {
-    Equal,
-    Above,
-    AboveOrEqual,
-    /// The operands have a bit in common.
-    CommonBit,
-    NotEqual,
-    SignedAbove,
-    SignedAboveOrEqual,
-    Below,
-    BelowOrEqual,
-    SignedBelow,
-    SignedBelowOrEqual,
-}
-
-/// How many bytes a load or a store moves (RFC 9669, section 5): a word has four.
-#[derive(Clone, Copy, Debug, PartialEq, Eq)]
-pub enum Size {
-    Word,
-    Half,
-    Byte,
-    Double,
-}
-
-/// How many bytes an atomic operation changes (RFC 9669, section 5.3): a word has four.
+/// The number of bytes that an atomic operation changes (RFC 9669, section 5.3): a word has four.
 #[derive(Clone, Copy, Debug, PartialEq, Eq)]
 pub enum AtomicSize {
     Word,
     Double,
 }
 
-/// What an atomic operation does to the bytes at its place, without FETCH (RFC 9669, section 5.3).
+/// The effect of an atomic operation on the bytes in memory, without FETCH (RFC 9669, section 5.3).
 #[derive(Clone, Copy, Debug, PartialEq, Eq)]
 pub enum AtomicOp {
     Add,
@@ -140,22 +70,22 @@ pub enum AtomicOp {
     Xor,
 }
 
-/// A move with sign extension (RFC 9669, section 4.1). Only the wide one starts from 32 bits.
+/// A move with sign extension (RFC 9669, section 4.1). Only the wide one may start from 32 bits.
 ///
-/// It is a struct of its own, since the variants of an enum have no ghost fields to say so. So is `Load`.
+/// It is a struct of its own, as is `Load`, because enum variants have no ghost fields to state such restrictions.
 #[derive(Clone, Copy, Debug, PartialEq, Eq)]
 pub struct Movsx {
     pub wide: bool,
-    pub bits: Narrow,
+    pub bits: ExtendedBits,
     pub dst: Reg,
     pub src: Reg,
     pub ghost listed: { IsTrue (wide || is_short bits) },
 }
 
-/// A load of what stands at `src` plus `off` (RFC 9669, sections 5.1 and 5.2). A double word has no sign extension.
+/// A load from the address `src` plus `off` (RFC 9669, sections 5.1 and 5.2). A double word has no sign extension.
 #[derive(Clone, Copy, Debug, PartialEq, Eq)]
 pub struct Load {
-    pub size: Size,
+    pub size: AccessSize,
     pub signed: bool,
     pub dst: Reg,
     pub src: Reg,
@@ -163,7 +93,7 @@ pub struct Load {
     pub ghost listed: { IsTrue (not (signed && is_double size)) },
 }
 
-/// An instruction, of one slot or of two. Each value of the type has a spelling.
+/// An instruction, of one slot or two. Each value of the type has a spelling.
 #[derive(Clone, Copy, Debug, PartialEq, Eq)]
 pub enum Insn {
     /// `dst = dst op src`, or `dst = src` for a move (RFC 9669, section 4.1).
@@ -180,13 +110,13 @@ pub enum Insn {
         wide: bool,
         dst: Reg,
     },
-    /// A change of byte order, in place (RFC 9669, section 4.2).
+    /// A byte-order conversion of `dst`, in place (RFC 9669, section 4.2).
     End {
         how: ByteOrder,
-        bits: Bits,
+        bits: KeptBits,
         dst: Reg,
     },
-    /// A jump of class JMP: the distance counts slots from the next one (RFC 9669, section 4.3).
+    /// A jump of class JMP; its distance counts slots from the next one (RFC 9669, section 4.3).
     Ja {
         off: i16,
     },
@@ -194,7 +124,7 @@ pub enum Insn {
     Jal {
         off: i32,
     },
-    /// A jump where the comparison of `dst` with `src` holds (RFC 9669, section 4.3).
+    /// A jump that is taken if the condition holds for `dst` and `src` (RFC 9669, section 4.3).
     Jump {
         wide: bool,
         cond: Condition,
@@ -210,14 +140,14 @@ pub enum Insn {
     Exit,
     /// A load from memory (RFC 9669, sections 5.1 and 5.2).
     Load(Load),
-    /// A store of `src` at `dst` plus `off` (RFC 9669, section 5.1).
+    /// A store of `src` to the address `dst` plus `off` (RFC 9669, section 5.1).
     Store {
-        size: Size,
+        size: AccessSize,
         dst: Reg,
         src: Operand,
         off: i16,
     },
-    /// The bytes at `dst` plus `off` become the result of the operation on them and `src` (RFC 9669, section 5.3).
+    /// An atomic operation on the bytes at `dst` plus `off`, with `src` as second operand (RFC 9669, section 5.3).
     Atomic {
         size: AtomicSize,
         op: AtomicOp,
@@ -225,18 +155,18 @@ pub enum Insn {
         src: Reg,
         off: i16,
     },
-    /// `dst` becomes a number of 64 bits: two slots (RFC 9669, section 5.4).
+    /// Loads a 64-bit number into `dst`: two slots (RFC 9669, section 5.4).
     Const {
         dst: Reg,
         value: u64,
     },
-    /// `dst` becomes the map with this descriptor: two slots (RFC 9669, section 5.4.1).
+    /// Loads the map with this descriptor into `dst`: two slots (RFC 9669, section 5.4.1).
     MapFd {
         dst: Reg,
         fd: i32,
     },
-    /// `dst` becomes the address of the first value of the map with this descriptor, plus `off` bytes: two slots (RFC 9669,
-    /// section 5.4.1).
+    /// Loads into `dst` the address of the first value of the map with this descriptor, plus `off` bytes: two
+    /// slots (RFC 9669, section 5.4.1).
     MapValue {
         dst: Reg,
         fd: i32,
@@ -255,7 +185,7 @@ impl Insn {
         self.profile().slots == 2
     }
 
-    /// In how many slots it is spelled: one, or two for a wide instruction.
+    /// The number of its slots: one, or two for a wide instruction.
     pub fn slots(&self) -> usize
         ensures count { result ≡ length (slots self.now) }
         ensures some { 1 ≤ result }
@@ -264,7 +194,7 @@ impl Insn {
         self.profile().slots
     }
 
-    /// A law: each value of the type has its numbers in the ranges of its fields. It does nothing when it runs.
+    /// A law: the numbers of an instruction lie in the ranges of its fields. It does nothing when it runs.
     pub fn in_range(&self)
         ensures { IsInsn self.now }
     {
@@ -331,15 +261,27 @@ fn offset_in_range(offset: u32)
 }
 
 impl AtomicSize {
-    ghost use Rattle.insn_codec.specs.Sizes.{access_size};
+    ghost use Rattle.insn_codec.specs.Atomic.{access_size, is_wide_atomic};
 
-    /// The size of its load and of its store.
-    pub fn access(self) -> Size
+    /// The access size of its load and of its store.
+    #[inline(always)]
+    pub fn access(self) -> AccessSize
         ensures { result ≡ access_size self }
     {
         match self {
-            AtomicSize::Word => Size::Word,
-            AtomicSize::Double => Size::Double,
+            AtomicSize::Word => AccessSize::Word,
+            AtomicSize::Double => AccessSize::Double,
+        }
+    }
+
+    /// Whether it works on 64 bits.
+    #[inline(always)]
+    pub fn is_wide(self) -> bool
+        ensures { result ≡ is_wide_atomic self }
+    {
+        match self {
+            AtomicSize::Word => false,
+            AtomicSize::Double => true,
         }
     }
 }

@@ -63,7 +63,7 @@ fn read_instruction() {
     prove!(is_exit);
 }
 
-/// The kind of the fault at the front, by what `decode` promises.
+/// The kind of the fault at the front, by the contract of `decode`.
 fn kind_at_front(bytes: &[u8]) -> Option<FaultKind>
     ensures { (kind : AnyKind) → HasFault bytes.now kind → result ≡ Some kind }
 {

@@ -1,19 +1,22 @@
-//! The parts of an opcode, and the tables of their numbers.
+//! The parts of an opcode, and the tables of their codes.
 
 ghost use Rattle.std.specs.Prelude.{◌≡◌, ◌≢◌, ◌<◌, ◌≤◌, IfSome, IsTrue, not, ◌&&◌, false};
+ghost use Rattle.insn_codec.specs.inside.Form.{condition_at, size_at};
+ghost use Rattle.insn_codec.specs.Numbers.{condition_number, size_number};
 
-use crate::insn::{AluOp, AtomicOp, Condition, Insn, Operand, Reg, Size};
+use crate::insn::{AtomicOp, Insn, Operand, Reg};
 use crate::slot::SlotFields;
+use words::{AccessSize, AluOp, Condition};
 
-/// Where the second operand is: the source bit (RFC 9669, section 4).
+/// Which of the two operand fields is used: the source bit (RFC 9669, section 4).
 #[derive(Clone, Copy, Debug, PartialEq, Eq)]
 pub enum SourceBit {
     Imm,
     Reg,
 }
 
-/// The code of an operation (RFC 9669, section 4.1).
-/// Division and remainder have two operations each, which the offset tells apart.
+/// The code of an operation (RFC 9669, section 4.1). Division and remainder have two operations each,
+/// which the offset distinguishes.
 #[derive(Clone, Copy, Debug, PartialEq, Eq)]
 pub enum AluCode {
     Add,
@@ -30,7 +33,7 @@ pub enum AluCode {
     SignedShiftRight,
 }
 
-/// What is loaded, and how (RFC 9669, sections 5.1 and 5.2).
+/// The size of a load, and whether it extends the sign (RFC 9669, sections 5.1 and 5.2).
 #[derive(Clone, Copy, Debug, PartialEq, Eq)]
 pub enum LoadKind {
     Word,
@@ -42,7 +45,7 @@ pub enum LoadKind {
     SignedByte,
 }
 
-/// What the immediates of a wide load are, by its source field (RFC 9669, section 5.4).
+/// The meaning of a wide load's immediates, by its source field (RFC 9669, section 5.4).
 #[derive(Clone, Copy, Debug, PartialEq, Eq)]
 pub enum WideKind {
     /// The two halves of a number.
@@ -59,7 +62,7 @@ impl AluCode {
     ghost use Rattle.insn_codec.specs.Numbers.{alu_number, alu_offset};
     ghost use Rattle.insn_codec.specs.inside.Opcodes.{code_number};
 
-    /// The operation with this code.
+    /// The operation code with this number, if there is one.
     pub fn of(code: u8) -> Option<AluCode>
         ensures value { result ≡ alu_code_at code }
         ensures number { IfSome result (λ c. code_number c ≡ code) }
@@ -81,14 +84,14 @@ impl AluCode {
         }
     }
 
-    /// Whether the operation has this offset.
+    /// Whether the operation allows this offset.
     pub fn lists_offset(self, wide: bool, source: SourceBit, offset: u16) -> bool
         ensures { result ≡ offset_listed wide self source offset }
     {
         offset == 0 || self.lists_other_offset(wide, source, offset)
     }
 
-    /// Whether the operation has this offset, which is not 0.
+    /// Whether the operation allows this offset, which is not 0.
     fn lists_other_offset(self, wide: bool, source: SourceBit, offset: u16) -> bool
         requires { offset ≢ 0 }
         ensures { result ≡ offset_listed wide self source offset }
@@ -102,7 +105,7 @@ impl AluCode {
         }
     }
 
-    /// The operation of a code at offset 0.
+    /// The operation with this code, at offset 0.
     pub fn operation(self) -> AluOp
         ensures number { alu_number result ≡ code_number self }
         ensures offset { alu_offset result ≡ 0 }
@@ -123,7 +126,7 @@ impl AluCode {
         }
     }
 
-    /// The operation of a code at offset 1, which it lists.
+    /// The operation with this code at offset 1, which it allows.
     pub fn signed_operation(self) -> AluOp
         requires { IsTrue (offset_listed false self source_variant.Imm 1) }
         ensures number { alu_number result ≡ code_number self }
@@ -138,10 +141,10 @@ impl AluCode {
 
 impl SourceBit {
     ghost use Rattle.insn_codec.specs.inside.Form.{one_operand};
-    ghost use Rattle.insn_codec.specs.inside.Opcodes.{source_number};
+    ghost use Rattle.insn_codec.specs.Numbers.{source_number};
     ghost use Rattle.insn_codec.specs.Spelling.{source_bit, src_field, imm_field, IsOperand};
 
-    /// Whether the operand that is not used is zero.
+    /// Whether the unused operand field is zero.
     pub fn lists_operand(self, slot: SlotFields) -> bool
         ensures { result ≡ one_operand self slot }
     {
@@ -151,7 +154,7 @@ impl SourceBit {
         }
     }
 
-    /// The operand that a slot has.
+    /// The second operand of a slot.
     pub fn operand(self, slot: SlotFields, src: Reg) -> Operand
         requires listed { IsTrue (one_operand self slot) }
         requires src { slot.src ≡ src }
@@ -168,69 +171,59 @@ impl SourceBit {
     }
 }
 
-impl Condition {
-    ghost use Rattle.insn_codec.specs.inside.Form.{condition_at};
-    ghost use Rattle.insn_codec.specs.Numbers.{condition_number};
-
-    /// The condition with this code.
-    pub(crate) fn of(code: u8) -> Option<Condition>
-        ensures value { result ≡ condition_at code }
-        ensures number { IfSome result (λ c. condition_number c ≡ code) }
-    {
-        match code {
-            1 => Some(Condition::Equal),
-            2 => Some(Condition::Above),
-            3 => Some(Condition::AboveOrEqual),
-            4 => Some(Condition::CommonBit),
-            5 => Some(Condition::NotEqual),
-            6 => Some(Condition::SignedAbove),
-            7 => Some(Condition::SignedAboveOrEqual),
-            10 => Some(Condition::Below),
-            11 => Some(Condition::BelowOrEqual),
-            12 => Some(Condition::SignedBelow),
-            13 => Some(Condition::SignedBelowOrEqual),
-            _ => None,
-        }
+/// The condition with this code, if there is one (RFC 9669, section 4.3).
+pub fn condition_at(code: u8) -> Option<Condition>
+    ensures value { result ≡ condition_at code }
+    ensures number { IfSome result (λ c. condition_number c ≡ code) }
+{
+    match code {
+        1 => Some(Condition::Equal),
+        2 => Some(Condition::Above),
+        3 => Some(Condition::AboveOrEqual),
+        4 => Some(Condition::CommonBit),
+        5 => Some(Condition::NotEqual),
+        6 => Some(Condition::SignedAbove),
+        7 => Some(Condition::SignedAboveOrEqual),
+        10 => Some(Condition::Below),
+        11 => Some(Condition::BelowOrEqual),
+        12 => Some(Condition::SignedBelow),
+        13 => Some(Condition::SignedBelowOrEqual),
+        _ => None,
     }
 }
 
-impl Size {
-    ghost use Rattle.insn_codec.specs.inside.Form.{size_at};
-    ghost use Rattle.insn_codec.specs.Numbers.{size_number};
-
-    /// The size with this code.
-    pub(crate) fn of(code: u8) -> Size
-        requires { code < 4 }
-        ensures value { result ≡ size_at code }
-        ensures number { size_number result ≡ code }
-    {
-        match code {
-            0 => Size::Word,
-            1 => Size::Half,
-            2 => Size::Byte,
-            _ => Size::Double,
-        }
+/// The size with this code, which is below 4 (RFC 9669, section 5).
+pub fn size_at(code: u8) -> AccessSize
+    requires { code < 4 }
+    ensures value { result ≡ size_at code }
+    ensures number { size_number result ≡ code }
+{
+    match code {
+        0 => AccessSize::Word,
+        1 => AccessSize::Half,
+        2 => AccessSize::Byte,
+        _ => AccessSize::Double,
     }
 }
 
 impl LoadKind {
     ghost use Rattle.insn_codec.specs.Numbers.{load_mode, memory_opcode};
     ghost use Rattle.insn_codec.specs.inside.Opcodes.{load_opcode};
-    ghost use Rattle.insn_codec.specs.Sizes.{is_double};
+    ghost use Rattle.words.specs.Stack.{is_double};
 
-    /// How many bytes are loaded, and whether with sign extension.
-    pub fn size(self) -> (Size, bool)
+    /// The size of the load, and whether it extends the sign.
+    pub fn size(self) -> (AccessSize, bool)
         ensures opcode { load_opcode self ≡ memory_opcode (load_mode result.1) result.0 1 }
         ensures listed { IsTrue (not (result.1 && is_double result.0)) }
     {
         match self {
-            LoadKind::Word => (Size::Word, false),
-            LoadKind::Half => (Size::Half, false),
-            LoadKind::Byte => (Size::Byte, false),
-            LoadKind::Double => (Size::Double, false),
-            LoadKind::SignedWord => (Size::Word, true),
-            LoadKind::SignedHalf => (Size::Half, true),
-            LoadKind::SignedByte => (Size::Byte, true),
+            LoadKind::Word => (AccessSize::Word, false),
+            LoadKind::Half => (AccessSize::Half, false),
+            LoadKind::Byte => (AccessSize::Byte, false),
+            LoadKind::Double => (AccessSize::Double, false),
+            LoadKind::SignedWord => (AccessSize::Word, true),
+            LoadKind::SignedHalf => (AccessSize::Half, true),
+            LoadKind::SignedByte => (AccessSize::Byte, true),
         }
     }
 }
@@ -239,7 +232,7 @@ impl AtomicOp {
     ghost use Rattle.insn_codec.specs.inside.Form.{atomic_at};
     ghost use Rattle.insn_codec.specs.Numbers.{atomic_number};
 
-    /// The operation with this immediate.
+    /// The operation with this immediate, if there is one.
     pub(crate) fn of(imm: u32) -> Option<AtomicOp>
         ensures value { result ≡ atomic_at imm }
         ensures number { IfSome result (λ op. atomic_number op ≡ imm) }
@@ -258,7 +251,7 @@ impl WideKind {
     ghost use Rattle.insn_codec.specs.inside.Form.{wide_at};
     ghost use Rattle.insn_codec.specs.inside.FirstFault.{is_second};
 
-    /// The kind that the source field of the first slot names.
+    /// The kind with this source field in the first slot, if there is one.
     pub fn of(src: u8) -> Option<WideKind>
         ensures { result ≡ wide_at src }
     {
@@ -270,7 +263,7 @@ impl WideKind {
         }
     }
 
-    /// Whether a slot is a second slot of this kind: all zero, except for a number that the kind uses.
+    /// Whether a slot is a second slot of this kind: all fields are zero, except for a number that the kind uses.
     pub fn lists_second(self, next: SlotFields) -> bool
         ensures { result ≡ is_second self next }
     {

@@ -1,25 +1,26 @@
-//! What an instruction is, whatever the registers hold: a table with a row for each.
+//! The properties of an instruction that no register value affects: a table with a row for each.
 
 ghost use Rattle.std.specs.Prelude.{◌≡◌, ◌≤◌};
 ghost use Rattle.insn_codec.specs.Profile.{row, register_of, first_operand};
 
 use crate::MAX_SLOTS;
-use crate::insn::{AluOp, Insn, Load, Movsx, Operand, Reg};
+use crate::insn::{Insn, Load, Movsx, Operand, Reg};
+use words::AluOp;
 
-/// What may follow an instruction: its successors in the control flow graph (RFC 9669, section 4.3).
+/// The possible successors of an instruction in the control flow graph (RFC 9669, section 4.3).
 #[derive(Clone, Copy, Debug, PartialEq, Eq)]
 pub enum Successors {
     /// The next instruction alone.
     Next,
-    /// What begins so many slots behind the next one.
+    /// The instruction at this distance from the next one, in slots.
     Jump(i32),
-    /// Either.
+    /// The next instruction, or the one at this distance from it, in slots.
     NextOrJump(i32),
-    /// Nothing: the program ends.
+    /// None: the program ends.
     Nothing,
 }
 
-/// What an instruction names that is in no register.
+/// What an instruction names outside the registers.
 #[derive(Clone, Copy, Debug, PartialEq, Eq)]
 pub enum Reference {
     /// Nothing.
@@ -28,25 +29,25 @@ pub enum Reference {
     Helper(i32),
     /// A map, by its descriptor (RFC 9669, section 5.4.1).
     Map(u32),
-    /// The byte at an offset in the first value of the map with a descriptor (RFC 9669, section 5.4.1).
+    /// A byte in the first value of a map, by the map's descriptor and the byte's offset (RFC 9669, section 5.4.1).
     Value(u32, u32),
 }
 
-/// What an instruction is, whatever the registers hold.
+/// The properties of an instruction that no register value affects.
 #[derive(Clone, Copy, Debug, PartialEq, Eq)]
 pub struct Profile {
-    /// The register that is its first operand, if it reads one.
+    /// The register of its first operand, if it reads one.
     pub first_read: Option<Reg>,
-    /// The register that is its second operand, or the address of a load, if it reads one. A call reads its helper's
-    /// arguments, which are not told here.
+    /// The register of its second operand, or of the address of a load, if it reads one. A call also reads its helper's
+    /// arguments, which are not included here.
     pub second_read: Option<Reg>,
-    /// The register that it gives a value. What a call does to registers 0 to 5 is not told here.
+    /// The register that it writes. A call's effect on registers 0 to 5 is not included here.
     pub written: Option<Reg>,
-    /// What may follow it.
+    /// Its possible successors.
     pub successors: Successors,
     /// What it names.
     pub reference: Reference,
-    /// In how many slots it is spelled: one or two (RFC 9669, section 3.2).
+    /// The number of its slots: one or two (RFC 9669, section 3.2).
     pub slots: usize,
 }
 
@@ -72,7 +73,7 @@ fn row(
     }
 }
 
-/// The register that an operand is.
+/// The register of an operand, if it is one.
 #[inline(always)]
 fn register_of(operand: Operand) -> Option<Reg>
     ensures { result ≡ register_of operand }
@@ -83,7 +84,7 @@ fn register_of(operand: Operand) -> Option<Reg>
     }
 }
 
-/// The first operand of an operation: a move reads none (RFC 9669, section 4.1).
+/// The first operand of an operation, if it reads one: a move does not (RFC 9669, section 4.1).
 #[inline(always)]
 fn first_operand(op: AluOp, dst: Reg) -> Option<Reg>
     ensures { result ≡ first_operand op dst }
@@ -97,7 +98,7 @@ fn first_operand(op: AluOp, dst: Reg) -> Option<Reg>
 impl Insn {
     ghost use Rattle.insn_codec.specs.Profile.{profile};
 
-    /// Its row of the table.
+    /// The instruction's row of the table.
     #[inline(always)]
     pub fn profile(&self) -> Profile
         ensures { result ≡ profile self.now }
@@ -176,7 +177,7 @@ impl Insn {
 impl Successors {
     ghost use Rattle.insn_codec.specs.Flow.{falls_by, jumps_by, offset_by, target_by};
 
-    /// Whether the next instruction may follow.
+    /// Whether control may pass to the next instruction.
     #[inline(always)]
     pub fn falls(self) -> bool
         ensures { result ≡ falls_by self }
@@ -189,7 +190,7 @@ impl Successors {
         }
     }
 
-    /// Whether a jump may be taken.
+    /// Whether control may pass to a jump's target.
     #[inline(always)]
     pub fn jumps(self) -> bool
         ensures { result ≡ jumps_by self }
@@ -202,7 +203,7 @@ impl Successors {
         }
     }
 
-    /// How far the jump leads, in slots from the next one; 0 where there is none.
+    /// The distance of the jump, in slots from the next one; 0 if there is no jump.
     #[inline(always)]
     pub fn offset(self) -> i32
         ensures { result ≡ offset_by self }
@@ -215,7 +216,7 @@ impl Successors {
         }
     }
 
-    /// The slot that the jump leads to from an instruction at a slot: none where there is no jump, or below slot 0.
+    /// The target of the jump of an instruction at `slot`; `None` if there is no jump, or the target is below slot 0.
     #[inline(always)]
     pub fn target(self, slot: usize) -> Option<usize>
         requires { slot ≤ MAX_SLOTS }
@@ -232,7 +233,7 @@ impl Successors {
 impl Reference {
     ghost use Rattle.insn_codec.specs.Flow.{descriptor_by};
 
-    /// The descriptor of the map, if it names one or a value of one.
+    /// The descriptor of the map, if the instruction names one or a value of one.
     #[inline(always)]
     pub fn descriptor(self) -> Option<u32>
         ensures { result ≡ descriptor_by self }

@@ -1,4 +1,4 @@
-//! Bytes to instructions.
+//! Decoding of bytes.
 
 ghost use Rattle.std.specs.Prelude.{◌++◌, List, ℕ, ◌≡◌, ◌≢◌, ◌+◌, ◌*◌, ◌≤◌, [], ◌∷◌, length, drop, IfOk, OnOk, IfErr, IsErrAnd, Ok, Some, None, IsTrue};
 ghost use Rattle.insn_codec.specs.inside.Slots.{slot_of};
@@ -17,7 +17,8 @@ use crate::insn::{Insn, Reg};
 use crate::opcode::{SourceBit, WideKind};
 use crate::slot::SlotFields;
 
-/// Reads the wide instruction whose first slot is at the front of the bytes into an entry.
+/// Reads the wide instruction whose first slot is at the front of the bytes into an entry. `Err` with the kind of the fault if its
+/// second slot is missing or wrong.
 fn read_wide(entry: &mut Insn, dst: Reg, bytes: &[u8]) -> Result<(), FaultKind>
     requires long { 8 ≤ length bytes.now }
     requires opcode { (slot_of bytes.now).opcode ≡ 0x18 }
@@ -61,7 +62,7 @@ fn read_wide(entry: &mut Insn, dst: Reg, bytes: &[u8]) -> Result<(), FaultKind>
     Ok(())
 }
 
-/// Whether the fields of a slot have values that its form lists, and both registers exist.
+/// Checks that the fields of a slot have values that its form allows, and that both registers exist.
 #[inline(always)]
 #[tactic(auto, unfolding(crate::specs::inside::FirstFault::fault_in_form))]
 fn check_fields(form: OpcodeForm, slot: SlotFields) -> Result<(), FaultKind>
@@ -80,7 +81,7 @@ fn check_fields(form: OpcodeForm, slot: SlotFields) -> Result<(), FaultKind>
     Ok(())
 }
 
-/// Reads an instruction of one slot, which begins this form, into an entry.
+/// Reads an instruction of one slot, of this form, into an entry. Returns the number of its slots.
 #[inline(always)]
 fn read_as(form: OpcodeForm, entry: &mut Insn, bytes: &[u8]) -> Result<usize, FaultKind>
     requires single { form ≢ Wide }
@@ -97,8 +98,8 @@ fn read_as(form: OpcodeForm, entry: &mut Insn, bytes: &[u8]) -> Result<usize, Fa
     Ok(1)
 }
 
-/// Reads an instruction whose first slot, at the front of the bytes, begins this form. Each form stands by itself, and each
-/// source of the most frequent ones: where it is known, its own tests alone are left of the two functions above.
+/// Reads the instruction of this form at the front of the bytes into an entry. Each form has an arm of its own, and so has each
+/// source of the most frequent ones: with the form known, only its own tests remain of the two functions above.
 #[inline(always)]
 fn read_form(form: OpcodeForm, entry: &mut Insn, bytes: &[u8]) -> Result<usize, FaultKind>
     requires long { 8 ≤ length bytes.now }
@@ -156,8 +157,8 @@ fn read_form(form: OpcodeForm, entry: &mut Insn, bytes: &[u8]) -> Result<usize, 
     }
 }
 
-/// Reads the instruction at the front into an entry, in place: an instruction is as large as two slots. In how many slots it
-/// is spelled.
+/// Reads the instruction at the front of the bytes into an entry, in place, since an instruction is as large as two slots.
+/// Returns the number of its slots.
 #[tactic(auto, unfolding(crate::specs::inside::FirstFault::first_fault))]
 pub(crate) fn read_front(entry: &mut Insn, bytes: &[u8]) -> Result<usize, FaultKind>
     ensures found { OnOk result (IsInsn entry.new × Begins entry.new bytes.now) }
@@ -174,22 +175,22 @@ pub(crate) fn read_front(entry: &mut Insn, bytes: &[u8]) -> Result<usize, FaultK
     }
 }
 
-/// The instruction at the front, and in how many slots it is spelled, 1 or 2. Bytes may follow it.
+/// Decodes the instruction at the front of the bytes. Returns it and the number of its slots, 1 or 2. Bytes may follow it.
 ///
 /// # Errors
 ///
-/// Always at slot 0: `Ragged` below eight bytes, and else the lowest of `Opcode`, `Reserved`, `Register` and `SecondSlot`
-/// (RFC 9669, section 3: unused fields are zero).
+/// Always at slot 0: `Ragged` if there are fewer than eight bytes, else the lowest of `Opcode`, `Reserved`, `Register` and
+/// `SecondSlot` that applies (RFC 9669, section 3: unused fields are zero).
 pub fn decode(bytes: &[u8]) -> Result<(Insn, usize), CodecFault>
-    // What is answered is spelled at the front.
+    // What is returned is spelled at the front.
     ensures found { IfOk result (λ found. IsInsn found.0 × Begins found.0 bytes.now
         × (found.1 ≡ length (slots found.0))) }
-    // What is spelled at the front is answered.
+    // What is spelled at the front is returned.
     ensures only { (insn : Insn) → IsInsn insn → Begins insn bytes.now → result
         ≡ Ok (insn, length (slots insn)) }
-    // Else it is the fault at the front.
+    // An error is the fault at the front.
     ensures fault { IfErr result (λ e. (e.slot ≡ 0) × HasFault bytes.now e.kind) }
-    // The fault at the front is told.
+    // The fault at the front is reported.
     ensures faulty { (kind : AnyKind) → HasFault bytes.now kind → IsErrAnd result
         (λ e. e.kind ≡ kind) }
 {

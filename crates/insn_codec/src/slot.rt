@@ -2,7 +2,7 @@
 
 ghost use Rattle.std.specs.Prelude.{◌≡◌, ◌≤◌, ◌<◌, ◌++◌, length, drop};
 
-/// The fields of a slot, as bits: no field is read as signed here. The two numbers of registers have four bits each.
+/// The fields of a slot, as bits: no field is read as signed here. The two register numbers have four bits each.
 #[derive(Clone, Copy, Debug, PartialEq, Eq)]
 pub struct SlotFields {
     pub opcode: u8,
@@ -12,8 +12,8 @@ pub struct SlotFields {
     pub imm: u32,
 }
 
-/// A slot as a program keeps it, in eight bytes: the fields of [`SlotFields`], with both registers in one byte, the destination's
-/// in its low four bits (RFC 9669, section 3.1). The offset and the immediate are bits: neither is read as signed here.
+/// A slot of a program in eight bytes: the fields of [`SlotFields`], with both registers in one byte, the destination's in its low
+/// four bits (RFC 9669, section 3.1). The offset and the immediate are bits: neither is read as signed here.
 #[derive(Clone, Copy, Debug, PartialEq, Eq)]
 pub struct RawSlot {
     pub opcode: u8,
@@ -26,7 +26,7 @@ impl SlotFields {
     ghost use Rattle.insn_codec.specs.Slot.{slot_bytes};
     ghost use Rattle.insn_codec.specs.inside.Slots.{slot_of};
 
-    /// The slot at the front of the bytes.
+    /// Reads the slot at the front of the bytes, of which there are at least eight.
     #[tactic(auto, unfolding(crate::specs::inside::Slots::slot_of))]
     pub fn first(bytes: &[u8]) -> SlotFields
         requires { 8 ≤ length bytes.now }
@@ -41,7 +41,7 @@ impl SlotFields {
         }
     }
 
-    /// Its eight bytes.
+    /// The slot's eight bytes. Both register numbers are below 16.
     pub fn bytes(self) -> [u8; 8]
         requires dst { self.dst < 16 }
         requires src { self.src < 16 }
@@ -66,7 +66,7 @@ impl RawSlot {
     ghost use Rattle.insn_codec.specs.Slot.{fields};
     ghost use Rattle.insn_codec.specs.inside.Slots.{slot_of};
 
-    /// The slot at the front of the bytes.
+    /// Reads the slot at the front of the bytes, of which there are at least eight.
     #[tactic(auto, unfolding(crate::specs::inside::Slots::slot_of))]
     pub(crate) fn first(bytes: &[u8]) -> RawSlot
         requires { 8 ≤ length bytes.now }

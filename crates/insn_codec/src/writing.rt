@@ -1,77 +1,88 @@
-//! Instructions to bytes.
+//! Encoding of instructions.
 
 ghost use Rattle.std.specs.Prelude.{◌≡◌, ◌+◌, ◌*◌, ◌≤◌, ◌<◌, ◌^◌, ◌%◌, [], ◌∷◌, ◌++◌, length, drop, IfSome};
 ghost use Rattle.std.specs.Option.{option_to_list};
 ghost use Rattle.insn_codec.specs.Slot.{slot as slot_from};
 ghost use Rattle.insn_codec.specs.Spelling.{first as first_slot, second as second_slot, spelling, source_bit, src_field, imm_field};
-ghost use Rattle.insn_codec.specs.Numbers.{opcode as opcode_from, memory_opcode, alu_class, jump_class, alu_number, alu_offset, condition_number, size_number, narrow_number, bits_number, end_opcode, load_mode, atomic_number};
+ghost use Rattle.insn_codec.specs.Numbers.{opcode as opcode_from, memory_opcode, alu_class, jump_class, alu_number, alu_offset, condition_number, size_number, end_opcode, load_mode, atomic_number};
+ghost use Rattle.words.specs.Operate.{extended_bits, kept_bits};
 
-use crate::insn::{AluOp, AtomicOp, Bits, ByteOrder, Condition, Insn, Narrow, Operand, Size};
+use crate::insn::{AtomicOp, Insn, Operand};
 use crate::slot::SlotFields;
+use words::{AccessSize, AluOp, ByteOrder, Condition};
 
-impl AluOp {
-    fn number(self) -> u8
-        ensures value { result ≡ alu_number self }
-        ensures bound { result ≤ 12 }
-    {
-        match self {
-            AluOp::Add => 0,
-            AluOp::Sub => 1,
-            AluOp::Mul => 2,
-            AluOp::Div | AluOp::SignedDiv => 3,
-            AluOp::Or => 4,
-            AluOp::And => 5,
-            AluOp::ShiftLeft => 6,
-            AluOp::ShiftRight => 7,
-            AluOp::Mod | AluOp::SignedMod => 9,
-            AluOp::Xor => 10,
-            AluOp::Mov => 11,
-            AluOp::SignedShiftRight => 12,
-        }
-    }
-
-    fn offset(self) -> u16
-        ensures { result ≡ alu_offset self }
-    {
-        match self {
-            AluOp::SignedDiv | AluOp::SignedMod => 1,
-            _ => 0,
-        }
+/// The code of an operator (RFC 9669, section 4.1).
+fn alu_number(op: AluOp) -> u8
+    ensures value { result ≡ alu_number op }
+    ensures bound { result ≤ 12 }
+{
+    match op {
+        AluOp::Add => 0,
+        AluOp::Sub => 1,
+        AluOp::Mul => 2,
+        AluOp::Div | AluOp::SignedDiv => 3,
+        AluOp::Or => 4,
+        AluOp::And => 5,
+        AluOp::ShiftLeft => 6,
+        AluOp::ShiftRight => 7,
+        AluOp::Mod | AluOp::SignedMod => 9,
+        AluOp::Xor => 10,
+        AluOp::Mov => 11,
+        AluOp::SignedShiftRight => 12,
     }
 }
 
-impl Condition {
-    fn number(self) -> u8
-        ensures value { result ≡ condition_number self }
-        ensures bound { result ≤ 13 }
-    {
-        match self {
-            Condition::Equal => 1,
-            Condition::Above => 2,
-            Condition::AboveOrEqual => 3,
-            Condition::CommonBit => 4,
-            Condition::NotEqual => 5,
-            Condition::SignedAbove => 6,
-            Condition::SignedAboveOrEqual => 7,
-            Condition::Below => 10,
-            Condition::BelowOrEqual => 11,
-            Condition::SignedBelow => 12,
-            Condition::SignedBelowOrEqual => 13,
-        }
+/// The offset of an operator, which is 1 for signed division and remainder (RFC 9669, section 4.1).
+fn alu_offset(op: AluOp) -> u16
+    ensures { result ≡ alu_offset op }
+{
+    match op {
+        AluOp::SignedDiv | AluOp::SignedMod => 1,
+        _ => 0,
     }
 }
 
-impl Size {
-    fn number(self) -> u8
-        ensures value { result ≡ size_number self }
-        ensures bound { result ≤ 3 }
-    {
-        match self {
-            Size::Word => 0,
-            Size::Half => 1,
-            Size::Byte => 2,
-            Size::Double => 3,
-        }
+/// The code of a condition (RFC 9669, section 4.3).
+fn condition_number(condition: Condition) -> u8
+    ensures value { result ≡ condition_number condition }
+    ensures bound { result ≤ 13 }
+{
+    match condition {
+        Condition::Equal => 1,
+        Condition::Above => 2,
+        Condition::AboveOrEqual => 3,
+        Condition::CommonBit => 4,
+        Condition::NotEqual => 5,
+        Condition::SignedAbove => 6,
+        Condition::SignedAboveOrEqual => 7,
+        Condition::Below => 10,
+        Condition::BelowOrEqual => 11,
+        Condition::SignedBelow => 12,
+        Condition::SignedBelowOrEqual => 13,
+    }
+}
+
+/// The code of a size (RFC 9669, section 5).
+fn size_number(size: AccessSize) -> u8
+    ensures value { result ≡ size_number size }
+    ensures bound { result ≤ 3 }
+{
+    match size {
+        AccessSize::Word => 0,
+        AccessSize::Half => 1,
+        AccessSize::Byte => 2,
+        AccessSize::Double => 3,
+    }
+}
+
+/// The opcode of a byte-order conversion (RFC 9669, section 4.2).
+fn end_opcode(how: ByteOrder) -> u8
+    ensures { result ≡ end_opcode how }
+{
+    match how {
+        ByteOrder::Little => 0xd4,
+        ByteOrder::Big => 0xdc,
+        ByteOrder::Swap => 0xd7,
     }
 }
 
@@ -84,42 +95,6 @@ impl AtomicOp {
             AtomicOp::Or => 0x40,
             AtomicOp::And => 0x50,
             AtomicOp::Xor => 0xa0,
-        }
-    }
-}
-
-impl Narrow {
-    fn number(self) -> u16
-        ensures { result ≡ narrow_number self }
-    {
-        match self {
-            Narrow::Bits8 => 8,
-            Narrow::Bits16 => 16,
-            Narrow::Bits32 => 32,
-        }
-    }
-}
-
-impl Bits {
-    fn number(self) -> u32
-        ensures { result ≡ bits_number self }
-    {
-        match self {
-            Bits::Bits16 => 16,
-            Bits::Bits32 => 32,
-            Bits::Bits64 => 64,
-        }
-    }
-}
-
-impl ByteOrder {
-    fn opcode(self) -> u8
-        ensures { result ≡ end_opcode self }
-    {
-        match self {
-            ByteOrder::Little => 0xd4,
-            ByteOrder::Big => 0xdc,
-            ByteOrder::Swap => 0xd7,
         }
     }
 }
@@ -178,15 +153,15 @@ fn opcode(code: u8, source: u8, class: u8) -> u8
     16 * code + 8 * source + class
 }
 
-fn sized_opcode(mode: u8, size: Size, class: u8) -> u8
+fn sized_opcode(mode: u8, size: AccessSize, class: u8) -> u8
     requires mode { mode ≤ 6 }
     requires class { class < 8 }
     ensures { result ≡ memory_opcode mode size class }
 {
-    32 * mode + 8 * size.number() + class
+    32 * mode + 8 * size_number(size) + class
 }
 
-/// A slot of these fields.
+/// The slot with these fields.
 fn slot(opcode: u8, dst: u8, src: u8, offset: u16, imm: u32) -> SlotFields
     ensures { result ≡ slot_from opcode dst src offset imm }
 {
@@ -199,7 +174,7 @@ fn slot(opcode: u8, dst: u8, src: u8, offset: u16, imm: u32) -> SlotFields
     }
 }
 
-/// The first slot.
+/// The first slot of an instruction.
 fn first(insn: &Insn) -> SlotFields
     ensures value { result ≡ first_slot insn.now }
     ensures dst { result.dst < 16 }
@@ -207,17 +182,17 @@ fn first(insn: &Insn) -> SlotFields
 {
     match *insn {
         Insn::Alu { wide, op, dst, src } => {
-            let opcode = opcode(op.number(), src.source(), arithmetic_class(wide));
-            slot(opcode, dst.number(), src.src(), op.offset(), src.imm())
+            let opcode = opcode(alu_number(op), src.source(), arithmetic_class(wide));
+            slot(opcode, dst.number(), src.src(), alu_offset(op), src.imm())
         }
         Insn::Movsx(m) => {
             let opcode = opcode(11, 1, arithmetic_class(m.wide));
-            slot(opcode, m.dst.number(), m.src.number(), m.bits.number(), 0)
+            slot(opcode, m.dst.number(), m.src.number(), m.bits.count(), 0)
         }
         Insn::Neg { wide, dst } => {
             slot(opcode(8, 0, arithmetic_class(wide)), dst.number(), 0, 0, 0)
         }
-        Insn::End { how, bits, dst } => slot(how.opcode(), dst.number(), 0, 0, bits.number()),
+        Insn::End { how, bits, dst } => slot(end_opcode(how), dst.number(), 0, 0, bits.count()),
         Insn::Ja { off } => slot(0x05, 0, 0, off.cast_unsigned(), 0),
         Insn::Jal { off } => slot(0x06, 0, 0, 0, off.cast_unsigned()),
         Insn::Jump {
@@ -227,7 +202,7 @@ fn first(insn: &Insn) -> SlotFields
             src,
             off,
         } => {
-            let opcode = opcode(cond.number(), src.source(), jumping_class(wide));
+            let opcode = opcode(condition_number(cond), src.source(), jumping_class(wide));
             slot(
                 opcode,
                 dst.number(),
@@ -287,7 +262,7 @@ fn first(insn: &Insn) -> SlotFields
     }
 }
 
-/// The second slot of a wide instruction.
+/// The second slot of an instruction, if it is wide.
 fn second(insn: &Insn) -> Option<SlotFields>
     ensures value { second_slot insn.now ≡ option_to_list result }
     ensures fits { IfSome result (λ next. (next.dst < 16) × (next.src < 16)) }
@@ -300,8 +275,8 @@ fn second(insn: &Insn) -> Option<SlotFields>
     }
 }
 
-/// Writes the spelling at the front, 8 or 16 bytes, and answers its length. The bytes after it stay.
-/// Each instruction can be written: there is no error.
+/// Writes the instruction's spelling, 8 or 16 bytes, to the front of `out`, and returns its length. The bytes after it are
+/// unchanged. Every instruction can be written, so there is no error.
 pub fn encode(insn: &Insn, out: &mut [u8; 16]) -> usize
     ensures length { result ≡ length (spelling insn.now) }
     ensures room { result ≤ 16 }

@@ -6,8 +6,8 @@ use Rattle.std.proofs.lemmas.Bool.Decides.{nat_tests}
 use Rattle.interval.specs.declared.range.Range.{Range}
 use Rattle.interval.specs.Ranges.{IsMember}
 use Rattle.interval.specs.Refine.{RangePair, swapped, where_equal, where_different, where_above, where_at_most, IsPairOn, EdgePairs, edges, unchanged, refined}
-use Rattle.words.specs.declared.operator.Comparison.{Comparison}
-use Rattle.words.specs.declared.operator.Comparison.TheVariants.{Equal, NotEqual, Above, AboveOrEqual, Below, BelowOrEqual, SignedAbove, SignedAboveOrEqual, SignedBelow, SignedBelowOrEqual, CommonBit}
+use Rattle.words.specs.declared.operator.Condition.{Condition}
+use Rattle.words.specs.declared.operator.Condition.TheVariants.{Equal, NotEqual, Above, AboveOrEqual, Below, BelowOrEqual, SignedAbove, SignedAboveOrEqual, SignedBelow, SignedBelowOrEqual, CommonBit}
 use Rattle.words.specs.Operate.{operand_bits}
 use Rattle.words.specs.Compare.{holds, compares}
 use Rattle.interval.specs.Laws.{IsOfWords, IsPairOfWords}
@@ -29,14 +29,14 @@ turned_keeps None x y h = h
 turned_keeps (Some p) x y h = (h.1, h.0)
 
 -- both edges of a comparison whose operands are below 2 ^ n
-abbrev BothKeep : ℕ → Comparison → Range → Range → ℕ → ℕ → EdgePairs → Type 0
-BothKeep n comparison a b x y e =
-    (holds n comparison x y ≡ true → IsPairOn e.0 x y) × (holds n comparison x y ≡ false → IsPairOn e.1 x y)
+abbrev BothKeep : ℕ → Condition → Range → Range → ℕ → ℕ → EdgePairs → Type 0
+BothKeep n condition a b x y e =
+    (holds n condition x y ≡ true → IsPairOn e.0 x y) × (holds n condition x y ≡ false → IsPairOn e.1 x y)
 
-stay : (n : ℕ) (comparison : Comparison) (a b : Range) (x y : ℕ) → IsMember x a → IsMember y b → BothKeep n comparison a b x y (unchanged a b)
-stay n comparison a b x y h k = ((λ _. (h, k)), (λ _. (h, k)))
+stay : (n : ℕ) (condition : Condition) (a b : Range) (x y : ℕ) → IsMember x a → IsMember y b → BothKeep n condition a b x y (unchanged a b)
+stay n condition a b x y h k = ((λ _. (h, k)), (λ _. (h, k)))
 
-edges_keep : (n : ℕ) (comparison : Comparison) (a b : Range) (x y : ℕ) → IsMember x a → IsMember y b → BothKeep n comparison a b x y (edges comparison a b)
+edges_keep : (n : ℕ) (condition : Condition) (a b : Range) (x y : ℕ) → IsMember x a → IsMember y b → BothKeep n condition a b x y (edges condition a b)
 edges_keep n Equal a b x y h k = ((λ t. equal_keeps a b x y h k (eqb-true x y t)), (λ t. different_keeps a b x y h k (eqb-false x y t)))
 edges_keep n NotEqual a b x y h k =
     ((λ t. different_keeps a b x y h k (eqb-false x y (not-true (x == y) t))), (λ t. equal_keeps a b x y h k (eqb-true x y (not-false (x == y) t))))
@@ -56,16 +56,16 @@ edges_keep n CommonBit a b x y h k = stay n CommonBit a b x y h k
 seen_whole : (n x : ℕ) → x < 2 ^ n → operand_bits n x ≡ x
 seen_whole n x h = cond_both (nat_lt n 64) (x % 2 ^ n) x (λ v. v ≡ x) (λ _. mod-eq_of_lt h) (λ _. refl)
 
-pub refined_keep : (n : ℕ) (comparison : Comparison) (a b : Range) (x y : ℕ) → IsMember x a → IsMember y b → (IsTrue (compares n comparison x y) → IsPairOn (refined n comparison a b).0 x y) × (IsFalse (compares n comparison x y) → IsPairOn (refined n comparison a b).1 x y)
-refined_keep n comparison a b x y h k =
-    cond_both (nat_lt a.hi (2 ^ n) && nat_lt b.hi (2 ^ n)) (edges comparison a b) (unchanged a b)
-    (λ e. (IsTrue (compares n comparison x y) → IsPairOn e.0 x y) × (IsFalse (compares n comparison x y) → IsPairOn e.1 x y))
+pub refined_keep : (n : ℕ) (condition : Condition) (a b : Range) (x y : ℕ) → IsMember x a → IsMember y b → (IsTrue (compares n condition x y) → IsPairOn (refined n condition a b).0 x y) × (IsFalse (compares n condition x y) → IsPairOn (refined n condition a b).1 x y)
+refined_keep n condition a b x y h k =
+    cond_both (nat_lt a.hi (2 ^ n) && nat_lt b.hi (2 ^ n)) (edges condition a b) (unchanged a b)
+    (λ e. (IsTrue (compares n condition x y) → IsPairOn e.0 x y) × (IsFalse (compares n condition x y) → IsPairOn e.1 x y))
     (λ t.
     let parts = and_parts (nat_lt a.hi (2 ^ n)) (nat_lt b.hi (2 ^ n)) t in
     let seen_x : operand_bits n x ≡ x = seen_whole n x (omega (arith, ltb-true a.hi (2 ^ n) parts.0, h.to)) in
     let seen_y : operand_bits n y ≡ y = seen_whole n y (omega (arith, ltb-true b.hi (2 ^ n) parts.1, k.to)) in
-    let same : holds n comparison x y ≡ compares n comparison x y = sym (ap₂ (holds n comparison) seen_x seen_y) in
-    let keep = edges_keep n comparison a b x y h k in
+    let same : holds n condition x y ≡ compares n condition x y = sym (ap₂ (holds n condition) seen_x seen_y) in
+    let keep = edges_keep n condition a b x y h k in
     ((λ w. keep.0 (same ∙ w)), (λ w. keep.1 (same ∙ w))))
     (λ _. ((λ _. (h, k)), (λ _. (h, k))))
 
@@ -90,7 +90,7 @@ turned_words (Some p) h = (h.1, h.0)
 abbrev pub BothWords : EdgePairs → Type 0
 BothWords e = IsPairOfWords e.0 × IsPairOfWords e.1
 
-edges_words : (comparison : Comparison) (a b : Range) → IsOfWords a → IsOfWords b → BothWords (edges comparison a b)
+edges_words : (condition : Condition) (a b : Range) → IsOfWords a → IsOfWords b → BothWords (edges condition a b)
 edges_words Equal a b p q = (equal_words a b p q, different_words a b p q)
 edges_words NotEqual a b p q = (different_words a b p q, equal_words a b p q)
 edges_words Above a b p q = (above_words a b p q, at_most_words a b p q)
@@ -105,8 +105,8 @@ edges_words SignedBelow a b p q = ((p, q), (p, q))
 edges_words SignedBelowOrEqual a b p q = ((p, q), (p, q))
 edges_words CommonBit a b p q = ((p, q), (p, q))
 
-pub refined_words : (n : ℕ) (comparison : Comparison) (a b : Range) → IsOfWords a → IsOfWords b → BothWords (refined n comparison a b)
-refined_words n comparison a b p q =
-    cond_both (nat_lt a.hi (2 ^ n) && nat_lt b.hi (2 ^ n)) (edges comparison a b) (unchanged a b) BothWords
-    (λ _. edges_words comparison a b p q)
+pub refined_words : (n : ℕ) (condition : Condition) (a b : Range) → IsOfWords a → IsOfWords b → BothWords (refined n condition a b)
+refined_words n condition a b p q =
+    cond_both (nat_lt a.hi (2 ^ n) && nat_lt b.hi (2 ^ n)) (edges condition a b) (unchanged a b) BothWords
+    (λ _. edges_words condition a b p q)
     (λ _. ((p, q), (p, q)))

@@ -4,9 +4,9 @@ use Rattle.std.proofs.Math.Nat.{mod-eq_of_lt}
 use Rattle.std.proofs.lemmas.Bool.{cond-true, cond-false}
 use Rattle.interval.specs.declared.range.Range.{Range}
 use Rattle.words.specs.declared.operator.KeptBits.{KeptBits}
-use Rattle.words.specs.declared.operator.OrderChange.{OrderChange}
+use Rattle.words.specs.declared.operator.ByteOrder.{ByteOrder}
 use Rattle.words.specs.declared.operator.Operator.{Operator}
-use Rattle.words.specs.declared.operator.Operator.TheVariants.{Add, Sub, Mul, Div, SignedDiv, Or, And, ShiftLeft, ShiftRight, Mod, SignedMod, Xor, Mov, SignedShiftRight, Neg, SignExtend, End}
+use Rattle.words.specs.declared.operator.Operator.TheVariants.{Binary, Neg, SignExtend, End}
 use Rattle.words.specs.Operate.{combined, operate}
 use Rattle.interval.specs.Ranges.{IsMember, constant}
 use Rattle.interval.specs.Table.{are_constants, general_range, result_range, operand_range, range_of}
@@ -28,39 +28,13 @@ results_in n op a b r e w f g x y h k =
 -- ---- on 64 bits an operator sees all of a word
 
 pub wide_range : (op : Operator) (a b : Range) → result_range 64 op a b ≡ range_of 64 op a b
-wide_range Add a b = refl
-wide_range Sub a b = refl
-wide_range Mul a b = refl
-wide_range Div a b = refl
-wide_range SignedDiv a b = refl
-wide_range Or a b = refl
-wide_range And a b = refl
-wide_range ShiftLeft a b = refl
-wide_range ShiftRight a b = refl
-wide_range Mod a b = refl
-wide_range SignedMod a b = refl
-wide_range Xor a b = refl
-wide_range Mov a b = refl
-wide_range SignedShiftRight a b = refl
+wide_range (Binary op) a b = refl
 wide_range Neg a b = refl
 wide_range (SignExtend from) a b = refl
 wide_range (End how kept) a b = refl
 
 pub wide_result : (op : Operator) (x y : ℕ) → operate 64 op x y ≡ combined 64 op x y
-wide_result Add x y = refl
-wide_result Sub x y = refl
-wide_result Mul x y = refl
-wide_result Div x y = refl
-wide_result SignedDiv x y = refl
-wide_result Or x y = refl
-wide_result And x y = refl
-wide_result ShiftLeft x y = refl
-wide_result ShiftRight x y = refl
-wide_result Mod x y = refl
-wide_result SignedMod x y = refl
-wide_result Xor x y = refl
-wide_result Mov x y = refl
-wide_result SignedShiftRight x y = refl
+wide_result (Binary op) x y = refl
 wide_result Neg x y = refl
 wide_result (SignExtend from) x y = refl
 wide_result (End how kept) x y = refl
@@ -68,42 +42,16 @@ wide_result (End how kept) x y = refl
 -- ---- on 32 bits it sees low halves, but for a change of byte order
 
 abbrev pub IsNoEnd : Operator → Type 0
-IsNoEnd op = (how : OrderChange) (kept : KeptBits) → op ≡ End how kept → ⊥
+IsNoEnd op = (how : ByteOrder) (kept : KeptBits) → op ≡ End how kept → ⊥
 
 pub narrow_range : (op : Operator) (a b : Range) → IsNoEnd op → result_range 32 op (operand_range 32 a) (operand_range 32 b) ≡ range_of 32 op a b
-narrow_range Add a b f = refl
-narrow_range Sub a b f = refl
-narrow_range Mul a b f = refl
-narrow_range Div a b f = refl
-narrow_range SignedDiv a b f = refl
-narrow_range Or a b f = refl
-narrow_range And a b f = refl
-narrow_range ShiftLeft a b f = refl
-narrow_range ShiftRight a b f = refl
-narrow_range Mod a b f = refl
-narrow_range SignedMod a b f = refl
-narrow_range Xor a b f = refl
-narrow_range Mov a b f = refl
-narrow_range SignedShiftRight a b f = refl
+narrow_range (Binary op) a b f = refl
 narrow_range Neg a b f = refl
 narrow_range (SignExtend from) a b f = refl
 narrow_range (End how kept) a b f = absurd (f how kept refl)
 
 pub narrow_result : (op : Operator) (x y : ℕ) → IsNoEnd op → x < 2 ^ 32 → y < 2 ^ 32 → operate 32 op x y ≡ combined 32 op x y
-narrow_result Add x y f p q = ap₂ (combined 32 Add) (mod-eq_of_lt p) (mod-eq_of_lt q)
-narrow_result Sub x y f p q = ap₂ (combined 32 Sub) (mod-eq_of_lt p) (mod-eq_of_lt q)
-narrow_result Mul x y f p q = ap₂ (combined 32 Mul) (mod-eq_of_lt p) (mod-eq_of_lt q)
-narrow_result Div x y f p q = ap₂ (combined 32 Div) (mod-eq_of_lt p) (mod-eq_of_lt q)
-narrow_result SignedDiv x y f p q = ap₂ (combined 32 SignedDiv) (mod-eq_of_lt p) (mod-eq_of_lt q)
-narrow_result Or x y f p q = ap₂ (combined 32 Or) (mod-eq_of_lt p) (mod-eq_of_lt q)
-narrow_result And x y f p q = ap₂ (combined 32 And) (mod-eq_of_lt p) (mod-eq_of_lt q)
-narrow_result ShiftLeft x y f p q = ap₂ (combined 32 ShiftLeft) (mod-eq_of_lt p) (mod-eq_of_lt q)
-narrow_result ShiftRight x y f p q = ap₂ (combined 32 ShiftRight) (mod-eq_of_lt p) (mod-eq_of_lt q)
-narrow_result Mod x y f p q = ap₂ (combined 32 Mod) (mod-eq_of_lt p) (mod-eq_of_lt q)
-narrow_result SignedMod x y f p q = ap₂ (combined 32 SignedMod) (mod-eq_of_lt p) (mod-eq_of_lt q)
-narrow_result Xor x y f p q = ap₂ (combined 32 Xor) (mod-eq_of_lt p) (mod-eq_of_lt q)
-narrow_result Mov x y f p q = ap₂ (combined 32 Mov) (mod-eq_of_lt p) (mod-eq_of_lt q)
-narrow_result SignedShiftRight x y f p q = ap₂ (combined 32 SignedShiftRight) (mod-eq_of_lt p) (mod-eq_of_lt q)
+narrow_result (Binary op) x y f p q = ap₂ (combined 32 (Binary op)) (mod-eq_of_lt p) (mod-eq_of_lt q)
 narrow_result Neg x y f p q = ap₂ (combined 32 Neg) (mod-eq_of_lt p) (mod-eq_of_lt q)
 narrow_result (SignExtend from) x y f p q = ap₂ (combined 32 (SignExtend from)) (mod-eq_of_lt p) (mod-eq_of_lt q)
 narrow_result (End how kept) x y f p q = absurd (f how kept refl)

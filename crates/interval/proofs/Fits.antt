@@ -7,12 +7,14 @@ use Rattle.std.proofs.Math.Nat.{mul-le-mul_right}
 use Rattle.interval.specs.declared.range.Range.{Range}
 use Rattle.words.specs.declared.operator.KeptBits.{KeptBits}
 use Rattle.words.specs.declared.operator.KeptBits.TheVariants as bits
-use Rattle.words.specs.declared.operator.OrderChange.{OrderChange}
+use Rattle.words.specs.declared.operator.ByteOrder.{ByteOrder}
 use Rattle.words.specs.declared.operator.Operator.{Operator}
-use Rattle.words.specs.declared.operator.Operator.TheVariants.{Add, Sub, Mul, Div, SignedDiv, Or, And, ShiftLeft, ShiftRight, Mod, SignedMod, Xor, Mov, SignedShiftRight, Neg, SignExtend, End}
-use Rattle.words.specs.Operate.{kept_bits, narrow_bits, combined, byte_order}
+use Rattle.words.specs.declared.operator.AluOp.{AluOp}
+use Rattle.words.specs.declared.operator.AluOp.TheVariants.{Add, Sub, Mul, Div, SignedDiv, Or, And, ShiftLeft, ShiftRight, Mod, SignedMod, Xor, Mov, SignedShiftRight}
+use Rattle.words.specs.declared.operator.Operator.TheVariants.{Binary, Neg, SignExtend, End}
+use Rattle.words.specs.Operate.{kept_bits, extended_bits, combined, byte_order}
 use Rattle.interval.specs.Ranges.{IsMember, span, full, constant, is_constant}
-use Rattle.interval.specs.Table.{sum_range, difference_range, product_range, quotient_range, remainder_range, digits_end, binary_digits, scaled_range, shift_right_range, general_range, are_constants, result_range, operand_range, range_of}
+use Rattle.interval.specs.Table.{sum_range, difference_range, product_range, quotient_range, remainder_range, digits_end, binary_digits, scaled_range, shift_right_range, alu_range, general_range, are_constants, result_range, operand_range, range_of}
 use Rattle.interval.proofs.Sound.{general_range_sound, byte_order_below}
 
 span_below : (p lo hi : ℕ) → lo < p → hi < p → (span lo hi).hi < p
@@ -77,27 +79,30 @@ kept_below bits.Bits16 = omega arith
 kept_below bits.Bits32 = omega arith
 kept_below bits.Bits64 = omega arith
 
-general_range_fits : (n : ℕ) (op : Operator) (a b : Range) → 2 ^ n ≤ 2 ^ 64 → a.hi < 2 ^ n → b.hi < 2 ^ n → (general_range n op a b).hi < 2 ^ 64
-general_range_fits n Add a b w p q = omega (arith, sum_fits n a b p q)
-general_range_fits n Sub a b w p q = omega (arith, difference_fits n a b p q)
-general_range_fits n Mul a b w p q = omega (arith, product_fits n a b)
-general_range_fits n Div a b w p q = quotient_fits (2 ^ 64) a b (omega arith)
-general_range_fits n SignedDiv a b w p q = omega (arith, full_below n)
-general_range_fits n Or a b w p q = span_below _ _ _ (omega (arith, a.ordered, b.ordered)) (digits_below a b)
-general_range_fits n And a b w p q = span_below _ _ _ (omega arith) (omega arith)
-general_range_fits n ShiftLeft a b w p q = if_constant (2 ^ 64) b _ _ (omega (arith, scaled_fits n (b.lo % n) a)) (omega (arith, full_below n))
-general_range_fits n ShiftRight a b w p q = shift_right_fits n (2 ^ 64) a b (omega arith)
-general_range_fits n Mod a b w p q = remainder_fits (2 ^ 64) a b (omega arith)
-general_range_fits n SignedMod a b w p q = omega (arith, full_below n)
-general_range_fits n Xor a b w p q = span_below _ _ _ (omega arith) (digits_below a b)
-general_range_fits n Mov a b w p q = omega arith
-general_range_fits n SignedShiftRight a b w p q =
+alu_range_fits : (n : ℕ) (op : AluOp) (a b : Range) → 2 ^ n ≤ 2 ^ 64 → a.hi < 2 ^ n → b.hi < 2 ^ n → (alu_range n op a b).hi < 2 ^ 64
+alu_range_fits n Add a b w p q = omega (arith, sum_fits n a b p q)
+alu_range_fits n Sub a b w p q = omega (arith, difference_fits n a b p q)
+alu_range_fits n Mul a b w p q = omega (arith, product_fits n a b)
+alu_range_fits n Div a b w p q = quotient_fits (2 ^ 64) a b (omega arith)
+alu_range_fits n SignedDiv a b w p q = omega (arith, full_below n)
+alu_range_fits n Or a b w p q = span_below _ _ _ (omega (arith, a.ordered, b.ordered)) (digits_below a b)
+alu_range_fits n And a b w p q = span_below _ _ _ (omega arith) (omega arith)
+alu_range_fits n ShiftLeft a b w p q = if_constant (2 ^ 64) b _ _ (omega (arith, scaled_fits n (b.lo % n) a)) (omega (arith, full_below n))
+alu_range_fits n ShiftRight a b w p q = shift_right_fits n (2 ^ 64) a b (omega arith)
+alu_range_fits n Mod a b w p q = remainder_fits (2 ^ 64) a b (omega arith)
+alu_range_fits n SignedMod a b w p q = omega (arith, full_below n)
+alu_range_fits n Xor a b w p q = span_below _ _ _ (omega arith) (digits_below a b)
+alu_range_fits n Mov a b w p q = omega arith
+alu_range_fits n SignedShiftRight a b w p q =
     if_lt (2 ^ 64) a.hi (2 ^ (n - 1)) _ _ (λ _. shift_right_fits n (2 ^ 64) a b (omega arith)) (omega (arith, full_below n))
+
+general_range_fits : (n : ℕ) (op : Operator) (a b : Range) → 2 ^ n ≤ 2 ^ 64 → a.hi < 2 ^ n → b.hi < 2 ^ n → (general_range n op a b).hi < 2 ^ 64
+general_range_fits n (Binary op) a b w p q = alu_range_fits n op a b w p q
 general_range_fits n Neg a b w p q = omega (arith, full_below n)
-general_range_fits n (SignExtend from) a b w p q = if_lt (2 ^ 64) b.hi (2 ^ (narrow_bits from - 1)) _ _ (λ _. omega arith) (omega (arith, full_below n))
+general_range_fits n (SignExtend from) a b w p q = if_lt (2 ^ 64) b.hi (2 ^ (extended_bits from - 1)) _ _ (λ _. omega arith) (omega (arith, full_below n))
 general_range_fits n (End how kept) a b w p q = kept_below kept
 
-end_fits : (how : OrderChange) (kept : KeptBits) (v : ℕ) → byte_order how kept v < 2 ^ 64
+end_fits : (how : ByteOrder) (kept : KeptBits) (v : ℕ) → byte_order how kept v < 2 ^ 64
 end_fits how bits.Bits16 v = omega (arith, byte_order_below how bits.Bits16 v)
 end_fits how bits.Bits32 v = omega (arith, byte_order_below how bits.Bits32 v)
 end_fits how bits.Bits64 v = byte_order_below how bits.Bits64 v
@@ -114,20 +119,7 @@ result_fits n op a b w p q =
     (λ _. general_range_fits n op a b w p q)
 
 pub table_fits : (n : ℕ) (op : Operator) (a b : Range) → 2 ^ n ≤ 2 ^ 64 → (operand_range n a).hi < 2 ^ n → (operand_range n b).hi < 2 ^ n → (range_of n op a b).hi < 2 ^ 64
-table_fits n Add a b w p q = result_fits n Add (operand_range n a) (operand_range n b) w p q
-table_fits n Sub a b w p q = result_fits n Sub (operand_range n a) (operand_range n b) w p q
-table_fits n Mul a b w p q = result_fits n Mul (operand_range n a) (operand_range n b) w p q
-table_fits n Div a b w p q = result_fits n Div (operand_range n a) (operand_range n b) w p q
-table_fits n SignedDiv a b w p q = result_fits n SignedDiv (operand_range n a) (operand_range n b) w p q
-table_fits n Or a b w p q = result_fits n Or (operand_range n a) (operand_range n b) w p q
-table_fits n And a b w p q = result_fits n And (operand_range n a) (operand_range n b) w p q
-table_fits n ShiftLeft a b w p q = result_fits n ShiftLeft (operand_range n a) (operand_range n b) w p q
-table_fits n ShiftRight a b w p q = result_fits n ShiftRight (operand_range n a) (operand_range n b) w p q
-table_fits n Mod a b w p q = result_fits n Mod (operand_range n a) (operand_range n b) w p q
-table_fits n SignedMod a b w p q = result_fits n SignedMod (operand_range n a) (operand_range n b) w p q
-table_fits n Xor a b w p q = result_fits n Xor (operand_range n a) (operand_range n b) w p q
-table_fits n Mov a b w p q = result_fits n Mov (operand_range n a) (operand_range n b) w p q
-table_fits n SignedShiftRight a b w p q = result_fits n SignedShiftRight (operand_range n a) (operand_range n b) w p q
+table_fits n (Binary op) a b w p q = result_fits n (Binary op) (operand_range n a) (operand_range n b) w p q
 table_fits n Neg a b w p q = result_fits n Neg (operand_range n a) (operand_range n b) w p q
 table_fits n (SignExtend from) a b w p q = result_fits n (SignExtend from) (operand_range n a) (operand_range n b) w p q
 table_fits n (End how kept) a b w p q =

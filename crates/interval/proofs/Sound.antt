@@ -8,14 +8,16 @@ use Rattle.std.specs.Int.{w16, w32, w64, swap_bytes}
 use Rattle.interval.specs.declared.range.Range.{Range}
 use Rattle.words.specs.declared.operator.KeptBits.{KeptBits}
 use Rattle.words.specs.declared.operator.KeptBits.TheVariants as bits
-use Rattle.words.specs.declared.operator.OrderChange.{OrderChange}
-use Rattle.words.specs.declared.operator.OrderChange.TheVariants.{Little, Big, Swap}
+use Rattle.words.specs.declared.operator.ByteOrder.{ByteOrder}
+use Rattle.words.specs.declared.operator.ByteOrder.TheVariants.{Little, Big, Swap}
 use Rattle.words.specs.declared.operator.Operator.{Operator}
-use Rattle.words.specs.declared.operator.Operator.TheVariants.{Add, Sub, Mul, Div, SignedDiv, Or, And, ShiftLeft, ShiftRight, Mod, SignedMod, Xor, Mov, SignedShiftRight, Neg, SignExtend, End}
+use Rattle.words.specs.declared.operator.AluOp.{AluOp}
+use Rattle.words.specs.declared.operator.AluOp.TheVariants.{Add, Sub, Mul, Div, SignedDiv, Or, And, ShiftLeft, ShiftRight, Mod, SignedMod, Xor, Mov, SignedShiftRight}
+use Rattle.words.specs.declared.operator.Operator.TheVariants.{Binary, Neg, SignExtend, End}
 use Rattle.words.specs.Words.{signed, unsigned, negate, signed_divide, signed_remainder, sign_extend}
-use Rattle.words.specs.Operate.{operand_bits, combined, operate, byte_order, reversed_bytes, kept_bits, narrow_bits}
+use Rattle.words.specs.Operate.{operand_bits, alu_result, combined, operate, byte_order, reversed_bytes, kept_bits, extended_bits}
 use Rattle.interval.specs.Ranges.{IsMember, constant, is_constant, full}
-use Rattle.interval.specs.Table.{are_constants, general_range, result_range, range_modulo, operand_range, range_of}
+use Rattle.interval.specs.Table.{are_constants, alu_range, are_alu_constants, general_range, result_range, range_modulo, operand_range, range_of}
 use Rattle.interval.proofs.Members.{in_full, in_constant, only_member, where_lt, where_constant}
 use Rattle.interval.proofs.Numbers.{below_pow}
 use Rattle.interval.proofs.SoundSums.{sum_sound, difference_sound, product_sound, quotient_sound, remainder_sound, by_divisor}
@@ -37,7 +39,7 @@ reversed_below bits.Bits16 a = swapped_below_16 (a % 2 ^ 16)
 reversed_below bits.Bits32 a = swapped_below_32 (a % 2 ^ 32)
 reversed_below bits.Bits64 a = swapped_below_64 (a % 2 ^ 64)
 
-pub byte_order_below : (how : OrderChange) (kept : KeptBits) (a : ℕ) → byte_order how kept a < 2 ^ kept_bits kept
+pub byte_order_below : (how : ByteOrder) (kept : KeptBits) (a : ℕ) → byte_order how kept a < 2 ^ kept_bits kept
 byte_order_below Little kept a = below_pow (kept_bits kept) a
 byte_order_below Big kept a = reversed_below kept a
 byte_order_below Swap kept a = reversed_below kept a
@@ -52,23 +54,26 @@ signed_remainder_sound : (n x y : ℕ) → x < 2 ^ n → IsMember (signed_remain
 signed_remainder_sound n x y h =
     by_divisor y x (unsigned n (signed n x -ℤ signed n y *ℤ int_div (signed n x) (signed n y))) (full n) (λ _. in_full n _ h) (λ _. in_full n _ (unsigned_below n _))
 
+alu_range_sound : (n : ℕ) (op : AluOp) (a b : Range) (x y : ℕ) → 2 ^ n ≤ 2 ^ 64 → a.hi < 2 ^ n → b.hi < 2 ^ n → IsMember x a → IsMember y b → IsMember (alu_result n op x y) (alu_range n op a b)
+alu_range_sound n Add a b x y w p q h k = sum_sound n a b x y p q h k
+alu_range_sound n Sub a b x y w p q h k = difference_sound n a b x y p q h k
+alu_range_sound n Mul a b x y w p q h k = product_sound n a b x y h k
+alu_range_sound n Div a b x y w p q h k = quotient_sound a b x y h k
+alu_range_sound n SignedDiv a b x y w p q h k = signed_divide_sound n x y
+alu_range_sound n Or a b x y w p q h k = or_sound a b x y (omega arith) (omega arith) h k
+alu_range_sound n And a b x y w p q h k = and_sound a b x y h k
+alu_range_sound n ShiftLeft a b x y w p q h k = shift_left_sound n a b x y h k
+alu_range_sound n ShiftRight a b x y w p q h k = shift_right_sound n a b x y h k
+alu_range_sound n Mod a b x y w p q h k = remainder_sound a b x y h k
+alu_range_sound n SignedMod a b x y w p q h k = signed_remainder_sound n x y (omega arith)
+alu_range_sound n Xor a b x y w p q h k = xor_sound a b x y (omega arith) (omega arith) h k
+alu_range_sound n Mov a b x y w p q h k = k
+alu_range_sound n SignedShiftRight a b x y w p q h k = signed_shift_right_sound n a b x y p h k
+
 pub general_range_sound : (n : ℕ) (op : Operator) (a b : Range) (x y : ℕ) → 2 ^ n ≤ 2 ^ 64 → a.hi < 2 ^ n → b.hi < 2 ^ n → IsMember x a → IsMember y b → IsMember (combined n op x y) (general_range n op a b)
-general_range_sound n Add a b x y w p q h k = sum_sound n a b x y p q h k
-general_range_sound n Sub a b x y w p q h k = difference_sound n a b x y p q h k
-general_range_sound n Mul a b x y w p q h k = product_sound n a b x y h k
-general_range_sound n Div a b x y w p q h k = quotient_sound a b x y h k
-general_range_sound n SignedDiv a b x y w p q h k = signed_divide_sound n x y
-general_range_sound n Or a b x y w p q h k = or_sound a b x y (omega arith) (omega arith) h k
-general_range_sound n And a b x y w p q h k = and_sound a b x y h k
-general_range_sound n ShiftLeft a b x y w p q h k = shift_left_sound n a b x y h k
-general_range_sound n ShiftRight a b x y w p q h k = shift_right_sound n a b x y h k
-general_range_sound n Mod a b x y w p q h k = remainder_sound a b x y h k
-general_range_sound n SignedMod a b x y w p q h k = signed_remainder_sound n x y (omega arith)
-general_range_sound n Xor a b x y w p q h k = xor_sound a b x y (omega arith) (omega arith) h k
-general_range_sound n Mov a b x y w p q h k = k
-general_range_sound n SignedShiftRight a b x y w p q h k = signed_shift_right_sound n a b x y p h k
+general_range_sound n (Binary op) a b x y w p q h k = alu_range_sound n op a b x y w p q h k
 general_range_sound n Neg a b x y w p q h k = in_full n _ (below_pow n _)
-general_range_sound n (SignExtend from) a b x y w p q h k = sign_extend_sound n (narrow_bits from) b y q k
+general_range_sound n (SignExtend from) a b x y w p q h k = sign_extend_sound n (extended_bits from) b y q k
 general_range_sound n (End how kept) a b x y w p q h k = in_full (kept_bits kept) _ (byte_order_below how kept x)
 
 -- the members of constants are the constants
@@ -77,23 +82,26 @@ both n f a b x y h k t =
     let parts = and_parts (is_constant a) (is_constant b) t in
     ap₂ f (only_member a x parts.0 h) (only_member b y parts.1 k)
 
+alu_constants_agree : (n : ℕ) (op : AluOp) (a b : Range) (x y : ℕ) → IsMember x a → IsMember y b → are_alu_constants op a b ≡ true → alu_result n op x y ≡ alu_result n op a.lo b.lo
+alu_constants_agree n Add a b x y h k t = both n (alu_result n Add) a b x y h k t
+alu_constants_agree n Sub a b x y h k t = both n (alu_result n Sub) a b x y h k t
+alu_constants_agree n Mul a b x y h k t = both n (alu_result n Mul) a b x y h k t
+alu_constants_agree n Div a b x y h k t = both n (alu_result n Div) a b x y h k t
+alu_constants_agree n SignedDiv a b x y h k t = both n (alu_result n SignedDiv) a b x y h k t
+alu_constants_agree n Or a b x y h k t = both n (alu_result n Or) a b x y h k t
+alu_constants_agree n And a b x y h k t = both n (alu_result n And) a b x y h k t
+alu_constants_agree n ShiftLeft a b x y h k t = both n (alu_result n ShiftLeft) a b x y h k t
+alu_constants_agree n ShiftRight a b x y h k t = both n (alu_result n ShiftRight) a b x y h k t
+alu_constants_agree n Mod a b x y h k t = both n (alu_result n Mod) a b x y h k t
+alu_constants_agree n SignedMod a b x y h k t = both n (alu_result n SignedMod) a b x y h k t
+alu_constants_agree n Xor a b x y h k t = both n (alu_result n Xor) a b x y h k t
+alu_constants_agree n Mov a b x y h k t = only_member b y t k
+alu_constants_agree n SignedShiftRight a b x y h k t = both n (alu_result n SignedShiftRight) a b x y h k t
+
 constants_agree : (n : ℕ) (op : Operator) (a b : Range) (x y : ℕ) → IsMember x a → IsMember y b → are_constants op a b ≡ true → combined n op x y ≡ combined n op a.lo b.lo
-constants_agree n Add a b x y h k t = both n (combined n Add) a b x y h k t
-constants_agree n Sub a b x y h k t = both n (combined n Sub) a b x y h k t
-constants_agree n Mul a b x y h k t = both n (combined n Mul) a b x y h k t
-constants_agree n Div a b x y h k t = both n (combined n Div) a b x y h k t
-constants_agree n SignedDiv a b x y h k t = both n (combined n SignedDiv) a b x y h k t
-constants_agree n Or a b x y h k t = both n (combined n Or) a b x y h k t
-constants_agree n And a b x y h k t = both n (combined n And) a b x y h k t
-constants_agree n ShiftLeft a b x y h k t = both n (combined n ShiftLeft) a b x y h k t
-constants_agree n ShiftRight a b x y h k t = both n (combined n ShiftRight) a b x y h k t
-constants_agree n Mod a b x y h k t = both n (combined n Mod) a b x y h k t
-constants_agree n SignedMod a b x y h k t = both n (combined n SignedMod) a b x y h k t
-constants_agree n Xor a b x y h k t = both n (combined n Xor) a b x y h k t
-constants_agree n Mov a b x y h k t = only_member b y t k
-constants_agree n SignedShiftRight a b x y h k t = both n (combined n SignedShiftRight) a b x y h k t
+constants_agree n (Binary op) a b x y h k t = alu_constants_agree n op a b x y h k t
 constants_agree n Neg a b x y h k t = ap (negate n) (only_member a x t h)
-constants_agree n (SignExtend from) a b x y h k t = ap (sign_extend n (narrow_bits from)) (only_member b y t k)
+constants_agree n (SignExtend from) a b x y h k t = ap (sign_extend n (extended_bits from)) (only_member b y t k)
 constants_agree n (End how kept) a b x y h k t = ap (byte_order how kept) (only_member a x t h)
 
 in_result : (n : ℕ) (op : Operator) (a b : Range) (x y : ℕ) → IsMember x a → IsMember y b → IsMember (combined n op x y) (general_range n op a b) → IsMember (combined n op x y) (result_range n op a b)
@@ -113,20 +121,7 @@ pub record Sees (n : ℕ) (r : Range) (x : ℕ) : Type 0 where
   pub below : (operand_range n r).hi < 2 ^ n
 
 pub table_sound : (n : ℕ) (op : Operator) (a b : Range) (x y : ℕ) → 2 ^ n ≤ 2 ^ 64 → IsMember x a → IsMember y b → Sees n a x → Sees n b y → IsMember (operate n op x y) (range_of n op a b)
-table_sound n Add a b x y w h k s r = result_sound n Add (operand_range n a) (operand_range n b) (operand_bits n x) (operand_bits n y) w s.below r.below s.member r.member
-table_sound n Sub a b x y w h k s r = result_sound n Sub (operand_range n a) (operand_range n b) (operand_bits n x) (operand_bits n y) w s.below r.below s.member r.member
-table_sound n Mul a b x y w h k s r = result_sound n Mul (operand_range n a) (operand_range n b) (operand_bits n x) (operand_bits n y) w s.below r.below s.member r.member
-table_sound n Div a b x y w h k s r = result_sound n Div (operand_range n a) (operand_range n b) (operand_bits n x) (operand_bits n y) w s.below r.below s.member r.member
-table_sound n SignedDiv a b x y w h k s r = result_sound n SignedDiv (operand_range n a) (operand_range n b) (operand_bits n x) (operand_bits n y) w s.below r.below s.member r.member
-table_sound n Or a b x y w h k s r = result_sound n Or (operand_range n a) (operand_range n b) (operand_bits n x) (operand_bits n y) w s.below r.below s.member r.member
-table_sound n And a b x y w h k s r = result_sound n And (operand_range n a) (operand_range n b) (operand_bits n x) (operand_bits n y) w s.below r.below s.member r.member
-table_sound n ShiftLeft a b x y w h k s r = result_sound n ShiftLeft (operand_range n a) (operand_range n b) (operand_bits n x) (operand_bits n y) w s.below r.below s.member r.member
-table_sound n ShiftRight a b x y w h k s r = result_sound n ShiftRight (operand_range n a) (operand_range n b) (operand_bits n x) (operand_bits n y) w s.below r.below s.member r.member
-table_sound n Mod a b x y w h k s r = result_sound n Mod (operand_range n a) (operand_range n b) (operand_bits n x) (operand_bits n y) w s.below r.below s.member r.member
-table_sound n SignedMod a b x y w h k s r = result_sound n SignedMod (operand_range n a) (operand_range n b) (operand_bits n x) (operand_bits n y) w s.below r.below s.member r.member
-table_sound n Xor a b x y w h k s r = result_sound n Xor (operand_range n a) (operand_range n b) (operand_bits n x) (operand_bits n y) w s.below r.below s.member r.member
-table_sound n Mov a b x y w h k s r = result_sound n Mov (operand_range n a) (operand_range n b) (operand_bits n x) (operand_bits n y) w s.below r.below s.member r.member
-table_sound n SignedShiftRight a b x y w h k s r = result_sound n SignedShiftRight (operand_range n a) (operand_range n b) (operand_bits n x) (operand_bits n y) w s.below r.below s.member r.member
+table_sound n (Binary op) a b x y w h k s r = result_sound n (Binary op) (operand_range n a) (operand_range n b) (operand_bits n x) (operand_bits n y) w s.below r.below s.member r.member
 table_sound n Neg a b x y w h k s r = result_sound n Neg (operand_range n a) (operand_range n b) (operand_bits n x) (operand_bits n y) w s.below r.below s.member r.member
 table_sound n (SignExtend from) a b x y w h k s r = result_sound n (SignExtend from) (operand_range n a) (operand_range n b) (operand_bits n x) (operand_bits n y) w s.below r.below s.member r.member
 table_sound n (End how kept) a b x y w h k s r =

@@ -2,9 +2,10 @@
 use Rattle.std.proofs.Common.{◌≡◌, ℕ, Option, Some, None, List, [], ◌∷◌, refl}
 use Rattle.words.specs.declared.operator.KeptBits.TheVariants.{Bits64}
 use Rattle.words.specs.declared.operator.ExtendedBits.TheVariants.{Bits8}
-use Rattle.words.specs.declared.operator.OrderChange.TheVariants.{Big}
-use Rattle.words.specs.declared.operator.Operator.TheVariants.{Add, Sub, Mul, Div, SignedDiv, Or, And, ShiftLeft, ShiftRight, Mod, SignedMod, Xor, Mov, SignedShiftRight, Neg, SignExtend, End}
-use Rattle.words.specs.declared.operator.Comparison.TheVariants.{Equal, NotEqual, Above, AboveOrEqual, Below, BelowOrEqual, SignedAbove, CommonBit}
+use Rattle.words.specs.declared.operator.ByteOrder.TheVariants.{Big}
+use Rattle.words.specs.declared.operator.AluOp.TheVariants.{Add, Sub, Mul, Div, SignedDiv, Or, And, ShiftLeft, ShiftRight, Mod, SignedMod, Xor, Mov, SignedShiftRight}
+use Rattle.words.specs.declared.operator.Operator.TheVariants.{Binary, Neg, SignExtend, End}
+use Rattle.words.specs.declared.operator.Condition.TheVariants.{Equal, NotEqual, Above, AboveOrEqual, Below, BelowOrEqual, SignedAbove, CommonBit}
 use Rattle.interval.specs.declared.range.Range.{Range}
 use Rattle.interval.specs.Ranges.{span, constant, full, hull}
 use Rattle.interval.specs.Table.{range_of}
@@ -16,90 +17,90 @@ use Rattle.interval.specs.Refine.{RangePair, refined}
 abbrev ends : Range → ℕ × ℕ
 ends r = (r.lo, r.hi)
 
-range_of_sums : range_of 64 Add (span 0 7) (span 250 255) ≡ span 250 262
+range_of_sums : range_of 64 (Binary Add) (span 0 7) (span 250 255) ≡ span 250 262
 range_of_sums = refl
 
-range_of_sums_that_wrap : range_of 32 Add (constant 0xffff_ffff) (span 1 2) ≡ span 0 1
+range_of_sums_that_wrap : range_of 32 (Binary Add) (constant 0xffff_ffff) (span 1 2) ≡ span 0 1
 range_of_sums_that_wrap = refl
 
-range_of_differences_that_may_wrap : range_of 64 Sub (span 0 3) (constant 1) ≡ full 64
+range_of_differences_that_may_wrap : range_of 64 (Binary Sub) (span 0 3) (constant 1) ≡ full 64
 range_of_differences_that_may_wrap = refl
 
-range_of_quotients : range_of 64 Div (span 10 20) (span 0 3) ≡ span 0 20
+range_of_quotients : range_of 64 (Binary Div) (span 10 20) (span 0 3) ≡ span 0 20
 range_of_quotients = refl
 
-range_of_or : range_of 64 Or (span 4 5) (span 1 8) ≡ span 4 15
+range_of_or : range_of 64 (Binary Or) (span 4 5) (span 1 8) ≡ span 4 15
 unfolding lib.Count.count_leading_zeros
 range_of_or = refl
 
-differences : range_of 64 Sub (span 5 9) (span 1 3) ≡ span 2 8
+differences : range_of 64 (Binary Sub) (span 5 9) (span 1 3) ≡ span 2 8
 differences = refl
 
-differences_that_wrap : range_of 64 Sub (span 0 1) (span 2 3) ≡ span 0xffff_ffff_ffff_fffd 0xffff_ffff_ffff_ffff
+differences_that_wrap : range_of 64 (Binary Sub) (span 0 1) (span 2 3) ≡ span 0xffff_ffff_ffff_fffd 0xffff_ffff_ffff_ffff
 differences_that_wrap = refl
 
-products : range_of 64 Mul (span 2 3) (span 4 5) ≡ span 8 15
+products : range_of 64 (Binary Mul) (span 2 3) (span 4 5) ≡ span 8 15
 products = refl
 
-products_that_may_wrap : range_of 32 Mul (span 2 0x1_0000) (span 4 0x1_0000) ≡ full 32
+products_that_may_wrap : range_of 32 (Binary Mul) (span 2 0x1_0000) (span 4 0x1_0000) ≡ full 32
 products_that_may_wrap = refl
 
-quotients_by_more_than_one : range_of 64 Div (span 10 20) (span 2 5) ≡ span 2 10
+quotients_by_more_than_one : range_of 64 (Binary Div) (span 10 20) (span 2 5) ≡ span 2 10
 quotients_by_more_than_one = refl
 
-remainders : range_of 64 Mod (span 10 20) (span 1 8) ≡ span 0 7
+remainders : range_of 64 (Binary Mod) (span 10 20) (span 1 8) ≡ span 0 7
 remainders = refl
 
-remainders_of_less : range_of 64 Mod (span 3 5) (span 8 9) ≡ span 0 5
+remainders_of_less : range_of 64 (Binary Mod) (span 3 5) (span 8 9) ≡ span 0 5
 remainders_of_less = refl
 
-remainders_where_zero_divides : range_of 64 Mod (span 10 20) (span 0 8) ≡ span 0 20
+remainders_where_zero_divides : range_of 64 (Binary Mod) (span 10 20) (span 0 8) ≡ span 0 20
 remainders_where_zero_divides = refl
 
-digits_in_common : range_of 64 And (span 3 12) (span 5 9) ≡ span 0 9
+digits_in_common : range_of 64 (Binary And) (span 3 12) (span 5 9) ≡ span 0 9
 digits_in_common = refl
 
-digits_of_one : range_of 64 Xor (span 4 5) (span 1 8) ≡ span 0 15
+digits_of_one : range_of 64 (Binary Xor) (span 4 5) (span 1 8) ≡ span 0 15
 unfolding lib.Count.count_leading_zeros
 digits_of_one = refl
 
-shifts_left : range_of 64 ShiftLeft (span 1 3) (constant 4) ≡ span 16 48
+shifts_left : range_of 64 (Binary ShiftLeft) (span 1 3) (constant 4) ≡ span 16 48
 shifts_left = refl
 
-shifts_left_by_64_more : range_of 64 ShiftLeft (span 1 3) (constant 68) ≡ span 16 48
+shifts_left_by_64_more : range_of 64 (Binary ShiftLeft) (span 1 3) (constant 68) ≡ span 16 48
 shifts_left_by_64_more = refl
 
-shifts_left_that_lose_a_digit : range_of 32 ShiftLeft (span 1 3) (constant 31) ≡ full 32
+shifts_left_that_lose_a_digit : range_of 32 (Binary ShiftLeft) (span 1 3) (constant 31) ≡ full 32
 shifts_left_that_lose_a_digit = refl
 
-shifts_left_by_a_range : range_of 64 ShiftLeft (constant 1) (span 1 2) ≡ full 64
+shifts_left_by_a_range : range_of 64 (Binary ShiftLeft) (constant 1) (span 1 2) ≡ full 64
 shifts_left_by_a_range = refl
 
-shifts_right : range_of 64 ShiftRight (span 16 48) (constant 4) ≡ span 1 3
+shifts_right : range_of 64 (Binary ShiftRight) (span 16 48) (constant 4) ≡ span 1 3
 shifts_right = refl
 
-shifts_right_by_a_range : range_of 64 ShiftRight (span 16 48) (span 1 2) ≡ span 0 48
+shifts_right_by_a_range : range_of 64 (Binary ShiftRight) (span 16 48) (span 1 2) ≡ span 0 48
 shifts_right_by_a_range = refl
 
-signed_shifts : range_of 32 SignedShiftRight (span 16 0x7fff_ffff) (constant 4) ≡ span 1 0x07ff_ffff
+signed_shifts : range_of 32 (Binary SignedShiftRight) (span 16 0x7fff_ffff) (constant 4) ≡ span 1 0x07ff_ffff
 signed_shifts = refl
 
-signed_shifts_of_a_sign : range_of 32 SignedShiftRight (span 16 0x8000_0000) (constant 4) ≡ full 32
+signed_shifts_of_a_sign : range_of 32 (Binary SignedShiftRight) (span 16 0x8000_0000) (constant 4) ≡ full 32
 signed_shifts_of_a_sign = refl
 
-signed_quotients : range_of 64 SignedDiv (span 10 20) (constant 2) ≡ full 64
+signed_quotients : range_of 64 (Binary SignedDiv) (span 10 20) (constant 2) ≡ full 64
 signed_quotients = refl
 
-signed_remainders : range_of 32 SignedMod (span 10 20) (constant 2) ≡ full 32
+signed_remainders : range_of 32 (Binary SignedMod) (span 10 20) (constant 2) ≡ full 32
 signed_remainders = refl
 
 negations : range_of 64 Neg (span 1 2) (constant 0) ≡ full 64
 negations = refl
 
-moves : range_of 64 Mov (span 1 2) (span 3 9) ≡ span 3 9
+moves : range_of 64 (Binary Mov) (span 1 2) (span 3 9) ≡ span 3 9
 moves = refl
 
-low_moves_of_a_wide_range : range_of 32 Mov (span 1 2) (span 3 0x1_0000_0000) ≡ full 32
+low_moves_of_a_wide_range : range_of 32 (Binary Mov) (span 1 2) (span 3 0x1_0000_0000) ≡ full 32
 low_moves_of_a_wide_range = refl
 
 bytes_without_a_sign : range_of 64 (SignExtend Bits8) (constant 0) (span 3 127) ≡ span 3 127
@@ -111,7 +112,7 @@ bytes_with_a_sign = refl
 byte_orders_of_a_range : range_of 64 (End Big Bits64) (span 0 9) (constant 0) ≡ full 64
 byte_orders_of_a_range = refl
 
-low_sums_of_a_wide_range : range_of 32 Add (span 0 0x1_0000_0000) (constant 1) ≡ full 32
+low_sums_of_a_wide_range : range_of 32 (Binary Add) (span 0 0x1_0000_0000) (constant 1) ≡ full 32
 low_sums_of_a_wide_range = refl
 
 -- the second operand is not read, and all 64 bits of the first are, whatever the width
@@ -121,7 +122,7 @@ range_of_byte_order = refl
 low_range_of_byte_order : range_of 32 (End Big Bits64) (constant 0x1_0000_0001) (span 3 9) ≡ constant 0x0100_0000_0100_0000
 low_range_of_byte_order = refl
 
-low_range_of_move : range_of 32 Mov (span 3 9) (constant 0x1_0000_0001) ≡ constant 1
+low_range_of_move : range_of 32 (Binary Mov) (span 3 9) (constant 0x1_0000_0001) ≡ constant 1
 low_range_of_move = refl
 
 hull_of_ranges : ends (hull (span 1 4) (span 3 9)) ≡ (1, 9)

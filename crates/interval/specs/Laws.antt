@@ -1,15 +1,15 @@
--- What holds of the definitions, for all ranges of words. This project's own.
+-- Laws of the definitions, for all ranges of words. This project's own.
 use Rattle.std.specs.Prelude.{◌≡◌, ℕ, ◌^◌, ◌<◌, IsTrue, IsFalse, Option, Some, None}
 use Rattle.interval.specs.declared.range.Range.{Range}
 use Rattle.words.specs.declared.operator.Operator.{Operator}
-use Rattle.words.specs.declared.operator.Comparison.{Comparison}
+use Rattle.words.specs.declared.operator.Condition.{Condition}
 use Rattle.words.specs.Operate.{operate}
 use Rattle.words.specs.Compare.{compares}
 use Rattle.interval.specs.Ranges.{IsMember, hull}
 use Rattle.interval.specs.Table.{range_of}
 use Rattle.interval.specs.Refine.{RangePair, refined, IsPairOn}
 
--- its members are words
+-- the members of r are words
 abbrev pub IsOfWords : Range → Type 0
 IsOfWords r = r.hi < 2 ^ 64
 
@@ -18,31 +18,31 @@ abbrev pub ResultsAreMembers : ℕ → Type 0
 ResultsAreMembers n =
     (op : Operator) (a b : Range) (x y : ℕ) → IsOfWords a → IsOfWords b → IsMember x a → IsMember y b → IsMember (operate n op x y) (range_of n op a b)
 
--- and the table's range is one of words
+-- the table's range for ranges of words is a range of words
 abbrev pub ResultsAreWords : ℕ → Type 0
 ResultsAreWords n = (op : Operator) (a b : Range) → IsOfWords a → IsOfWords b → IsOfWords (range_of n op a b)
 
--- two members that take an edge are members of what the comparison leaves on it
+-- two members that take an edge are members of the ranges on it
 abbrev pub EdgesKeepMembers : ℕ → Type 0
 EdgesKeepMembers n =
-    (comparison : Comparison) (a b : Range) (x y : ℕ) → IsOfWords a → IsOfWords b → IsMember x a → IsMember y b →
-    (IsTrue (compares n comparison x y) → IsPairOn (refined n comparison a b).0 x y)
-    × (IsFalse (compares n comparison x y) → IsPairOn (refined n comparison a b).1 x y)
+    (condition : Condition) (a b : Range) (x y : ℕ) → IsOfWords a → IsOfWords b → IsMember x a → IsMember y b →
+    (IsTrue (compares n condition x y) → IsPairOn (refined n condition a b).0 x y)
+    × (IsFalse (compares n condition x y) → IsPairOn (refined n condition a b).1 x y)
 
 abbrev pub IsPairOfWords : Option RangePair → Type 0
 IsPairOfWords None = Unit {0}
 IsPairOfWords (Some p) = IsOfWords p.0 × IsOfWords p.1
 
--- and the ranges on both edges are ones of words
+-- the ranges on both edges are ranges of words
 abbrev pub EdgesAreWords : ℕ → Type 0
 EdgesAreWords n =
-    (comparison : Comparison) (a b : Range) → IsOfWords a → IsOfWords b → IsPairOfWords (refined n comparison a b).0 × IsPairOfWords (refined n comparison a b).1
+    (condition : Condition) (a b : Range) → IsOfWords a → IsOfWords b → IsPairOfWords (refined n condition a b).0 × IsPairOfWords (refined n condition a b).1
 
 -- the hull holds the members of both
 abbrev pub HullHoldsBoth : Type 0
 HullHoldsBoth = (a b : Range) (x : ℕ) → (IsMember x a → IsMember x (hull a b)) × (IsMember x b → IsMember x (hull a b))
 
--- and so does no smaller range
+-- every range that holds the members of both holds those of the hull
 abbrev pub HullIsLeast : Type 0
 HullIsLeast =
     (a b c : Range) → ((x : ℕ) → IsMember x a → IsMember x c) → ((x : ℕ) → IsMember x b → IsMember x c) →

@@ -1,9 +1,9 @@
--- Ranges of numbers, and where a number of one lies. This project's own.
+-- Ranges of numbers, their members and their join. This project's own.
 use Rattle.std.specs.Prelude.{ℕ, ◌-◌, ◌^◌, ◌≤◌, ◌==◌, min, max, Bool}
 use Rattle.interval.specs.declared.range.Range.{Range}
 use Rattle.interval.specs.inside.Ordered.{at_most_max, at_most_itself, at_least_zero, hull_ordered}
 
--- x is one of the numbers of r
+-- x is a member of r
 pub record IsMember (x : ℕ) (r : Range) : Type 0 where
   pub from : r.lo ≤ x
   pub to : x ≤ r.hi
@@ -12,7 +12,7 @@ pub record IsMember (x : ℕ) (r : Range) : Type 0 where
 abbrev pub span : ℕ → ℕ → Range
 span lo hi = record { lo = lo; hi = max lo hi; ordered = at_most_max lo hi }
 
--- one number
+-- the range of v alone
 abbrev pub constant : ℕ → Range
 constant v = record { lo = v; hi = v; ordered = at_most_itself v }
 
@@ -23,6 +23,6 @@ is_constant r = r.lo == r.hi
 abbrev pub full : ℕ → Range
 full n = record { lo = 0; hi = 2 ^ n - 1; ordered = at_least_zero (2 ^ n - 1) }
 
--- from the lesser low end to the greater high end
+-- the join: from the lesser low end to the greater high end
 abbrev pub hull : Range → Range → Range
 hull a b = record { lo = min a.lo b.lo; hi = max a.hi b.hi; ordered = hull_ordered a b }

@@ -1,10 +1,10 @@
--- What a conditional jump tells of its operands, on each of its two edges. None: the edge can't be taken. The
--- comparisons are those of RFC 9669, section 4.3; what is told is this project's own.
+-- How a conditional jump refines the ranges of its operands on each of its two edges. None: the edge can't be taken. The
+-- comparisons are those of RFC 9669, section 4.3; the refinement is this project's own.
 use Rattle.std.specs.Prelude.{ℕ, ◌+◌, ◌-◌, ◌^◌, ◌==◌, min, max, nat_lt, nat_le, ◌&&◌, if◌then◌else◌, Option, Some, None}
 use Rattle.std.specs.Option.{option_map}
 use Rattle.interval.specs.declared.range.Range.{Range}
-use Rattle.words.specs.declared.operator.Comparison.{Comparison}
-use Rattle.words.specs.declared.operator.Comparison.TheVariants.{Equal, NotEqual, Above, AboveOrEqual, Below, BelowOrEqual, SignedAbove, SignedAboveOrEqual, SignedBelow, SignedBelowOrEqual, CommonBit}
+use Rattle.words.specs.declared.operator.Condition.{Condition}
+use Rattle.words.specs.declared.operator.Condition.TheVariants.{Equal, NotEqual, Above, AboveOrEqual, Below, BelowOrEqual, SignedAbove, SignedAboveOrEqual, SignedBelow, SignedBelowOrEqual, CommonBit}
 use Rattle.interval.specs.Ranges.{span, is_constant, IsMember}
 
 -- the ranges of both operands
@@ -15,14 +15,14 @@ abbrev pub swapped : Option RangePair → Option RangePair
 swapped None = None
 swapped (Some p) = Some (p.1, p.0)
 
--- r and not v, where the numbers that are left are a range
+-- r without v, where the rest is still one range, else r; None if no member is left
 abbrev pub except : Range → ℕ → Option Range
 except r v =
     if (r.lo == v) && (r.hi == v) then None else
     (if r.lo == v then Some (span (r.lo + 1) r.hi) else
     (if r.hi == v then Some (span r.lo (r.hi - 1)) else Some r))
 
--- ---- what each comparison tells
+-- ---- one refinement for each comparison
 
 abbrev pub where_equal : Range → Range → Option RangePair
 where_equal a b =
@@ -51,7 +51,7 @@ EdgePairs = Option RangePair × Option RangePair
 abbrev pub unchanged : Range → Range → EdgePairs
 unchanged a b = (Some (a, b), Some (a, b))
 
-abbrev pub edges : Comparison → Range → Range → EdgePairs
+abbrev pub edges : Condition → Range → Range → EdgePairs
 edges Equal a b = (where_equal a b, where_different a b)
 edges NotEqual a b = (where_different a b, where_equal a b)
 edges Above a b = (where_above a b, where_at_most a b)
@@ -64,12 +64,12 @@ edges SignedBelow a b = unchanged a b
 edges SignedBelowOrEqual a b = unchanged a b
 edges CommonBit a b = unchanged a b
 
--- A comparison on n bits sees the low n bits alone, so nothing is told of words that may have more
-abbrev pub refined : ℕ → Comparison → Range → Range → EdgePairs
-refined n comparison a b =
-    if nat_lt a.hi (2 ^ n) && nat_lt b.hi (2 ^ n) then edges comparison a b else unchanged a b
+-- a comparison on n bits reads the low n bits alone, so ranges with greater members stay as they are
+abbrev pub refined : ℕ → Condition → Range → Range → EdgePairs
+refined n condition a b =
+    if nat_lt a.hi (2 ^ n) && nat_lt b.hi (2 ^ n) then edges condition a b else unchanged a b
 
--- x and y are members of the ranges on an edge that is taken
+-- x and y are members of the ranges on the edge; false for an edge that can't be taken
 abbrev pub IsPairOn : Option RangePair → ℕ → ℕ → Type 0
 IsPairOn None x y = ⊥
 IsPairOn (Some p) x y = IsMember x p.0 × IsMember y p.1

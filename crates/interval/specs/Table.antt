@@ -4,8 +4,10 @@ use Rattle.std.specs.Prelude.{ℕ, ◌+◌, ◌-◌, ◌*◌, ◌/◌, ◌%◌, 
 use Rattle.std.specs.Int.{w64, leading_zeros}
 use Rattle.interval.specs.declared.range.Range.{Range}
 use Rattle.words.specs.declared.operator.Operator.{Operator}
-use Rattle.words.specs.declared.operator.Operator.TheVariants.{Add, Sub, Mul, Div, SignedDiv, Or, And, ShiftLeft, ShiftRight, Mod, SignedMod, Xor, Mov, SignedShiftRight, Neg, SignExtend, End}
-use Rattle.words.specs.Operate.{bits_read, combined, kept_bits, narrow_bits}
+use Rattle.words.specs.declared.operator.AluOp.{AluOp}
+use Rattle.words.specs.declared.operator.AluOp.TheVariants.{Add, Sub, Mul, Div, SignedDiv, Or, And, ShiftLeft, ShiftRight, Mod, SignedMod, Xor, Mov, SignedShiftRight}
+use Rattle.words.specs.declared.operator.Operator.TheVariants.{Binary, Neg, SignExtend, End}
+use Rattle.words.specs.Operate.{bits_read, combined, kept_bits, extended_bits}
 use Rattle.interval.specs.Ranges.{span, constant, is_constant, full}
 
 -- ---- one row for each operator, on operands below 2 ^ n
@@ -36,7 +38,7 @@ and_range a b = span 0 (min a.hi b.hi)
 abbrev pub binary_digits : ℕ → ℕ
 binary_digits v = 64 - leading_zeros w64 v
 
--- the greatest number with the digits of the greater end
+-- the greatest number with as many binary digits as the greater high end
 abbrev pub digits_end : Range → Range → ℕ
 digits_end a b = 2 ^ binary_digits (max a.hi b.hi) - 1
 
@@ -62,40 +64,46 @@ signed_shift_right_range n a b = if nat_lt a.hi (2 ^ (n - 1)) then shift_right_r
 abbrev pub sign_extend_range : ℕ → ℕ → Range → Range
 sign_extend_range n k b = if nat_lt b.hi (2 ^ (k - 1)) then b else full n
 
+abbrev pub alu_range : ℕ → AluOp → Range → Range → Range
+alu_range n Add a b = sum_range n a b
+alu_range n Sub a b = difference_range n a b
+alu_range n Mul a b = product_range n a b
+alu_range n Div a b = quotient_range a b
+alu_range n SignedDiv a b = full n
+alu_range n Or a b = or_range a b
+alu_range n And a b = and_range a b
+alu_range n ShiftLeft a b = shift_left_range n a b
+alu_range n ShiftRight a b = shift_right_range n a b
+alu_range n Mod a b = remainder_range a b
+alu_range n SignedMod a b = full n
+alu_range n Xor a b = xor_range a b
+alu_range n Mov a b = b
+alu_range n SignedShiftRight a b = signed_shift_right_range n a b
+
 abbrev pub general_range : ℕ → Operator → Range → Range → Range
-general_range n Add a b = sum_range n a b
-general_range n Sub a b = difference_range n a b
-general_range n Mul a b = product_range n a b
-general_range n Div a b = quotient_range a b
-general_range n SignedDiv a b = full n
-general_range n Or a b = or_range a b
-general_range n And a b = and_range a b
-general_range n ShiftLeft a b = shift_left_range n a b
-general_range n ShiftRight a b = shift_right_range n a b
-general_range n Mod a b = remainder_range a b
-general_range n SignedMod a b = full n
-general_range n Xor a b = xor_range a b
-general_range n Mov a b = b
-general_range n SignedShiftRight a b = signed_shift_right_range n a b
+general_range n (Binary op) a b = alu_range n op a b
 general_range n Neg a b = full n
-general_range n (SignExtend from) a b = sign_extend_range n (narrow_bits from) b
+general_range n (SignExtend from) a b = sign_extend_range n (extended_bits from) b
 general_range n (End how kept) a b = full (kept_bits kept)
 
 -- ---- the table
 
--- each operand that the operator reads is one number
-abbrev pub are_constants : Operator → Range → Range → Bool
-are_constants Mov a b = is_constant b
-are_constants (SignExtend from) a b = is_constant b
-are_constants Neg a b = is_constant a
-are_constants (End how kept) a b = is_constant a
-are_constants op a b = is_constant a && is_constant b
+-- each operand that the operator reads is one number: a move reads the second alone
+abbrev pub are_alu_constants : AluOp → Range → Range → Bool
+are_alu_constants Mov a b = is_constant b
+are_alu_constants op a b = is_constant a && is_constant b
 
--- constants give a constant
+abbrev pub are_constants : Operator → Range → Range → Bool
+are_constants (Binary op) a b = are_alu_constants op a b
+are_constants Neg a b = is_constant a
+are_constants (SignExtend from) a b = is_constant b
+are_constants (End how kept) a b = is_constant a
+
+-- constant operands give a constant result
 abbrev pub result_range : ℕ → Operator → Range → Range → Range
 result_range n op a b = if are_constants op a b then constant (combined n op a.lo b.lo) else general_range n op a b
 
--- the numbers that an operator on n bits sees of a range of words
+-- the range of the members modulo 2 ^ n: all numbers of n bits where a member is truncated, unless there is only one member
 abbrev pub range_modulo : ℕ → Range → Range
 range_modulo n r = if nat_lt r.hi (2 ^ n) then r else (if is_constant r then constant (r.lo % 2 ^ n) else full n)
 

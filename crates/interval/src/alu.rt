@@ -1,20 +1,46 @@
 //! The range of an operator's results.
 
 ghost use Rattle.std.specs.Prelude.{◌≡◌, ℕ, ◌<◌, ◌^◌};
-ghost use Rattle.words.specs.Widths.{bits_of};
+ghost use Rattle.words.specs.declared.operator.Operator.TheVariants.{Binary};
+ghost use Rattle.words.specs.Widths.{width};
 ghost use Rattle.words.specs.Operate.{operate, combined, kept_bits};
 ghost use Rattle.interval.specs.Ranges.{IsMember, full};
-ghost use Rattle.interval.specs.Table.{are_constants, general_range, result_range, operand_range, range_of};
+ghost use Rattle.interval.specs.Table.{are_constants, are_alu_constants, alu_range, general_range, result_range, operand_range, range_of};
 
 use crate::arithmetic::{difference, product, quotient, remainder, sum};
 use crate::bitwise::{and, exclusive_or, or};
 use crate::range::{Range, greatest};
 use crate::shifts::{shift_left, shift_right, sign_extend, signed_shift_right};
-use words::{KeptBits, Operator, words32, words64};
+use words::{AluOp, KeptBits, Operator, words32, words64};
 
-/// The range of an operator's results on 64 bits: the one that the table of ranges gives, which holds the result of each
-/// two members. An operand that the operator does not read is ignored.
+/// The range of the results of `op` on 64 bits, as the table of ranges gives it: it holds the result of every two members.
+/// An operand that `op` does not read is ignored.
+#[inline(always)]
 pub fn alu64(op: Operator, a: Range, b: Range) -> Range
+    ensures exact { result ≡ range_of 64 op a b }
+    ensures sound { (x y : ℕ) → IsMember x a → IsMember y b → IsMember (operate 64 op x y) result }
+{
+    match op {
+        Operator::Binary(op) => binary64(op, a, b),
+        _ => any64(op, a, b),
+    }
+}
+
+/// The range on 64 bits of an operator with two operands. Most are, and have one dispatch.
+fn binary64(op: AluOp, a: Range, b: Range) -> Range
+    ensures exact { result ≡ range_of 64 (Binary op) a b }
+    ensures sound { (x y : ℕ) → IsMember x a → IsMember y b
+        → IsMember (operate 64 (Binary op) x y) result }
+{
+    if are_alu_constants(op, a, b) {
+        Range::constant(words64::alu(op, a.lo, b.lo))
+    } else {
+        alu_range(true, op, a, b)
+    }
+}
+
+/// The range on 64 bits of any operator.
+fn any64(op: Operator, a: Range, b: Range) -> Range
     ensures exact { result ≡ range_of 64 op a b }
     ensures sound { (x y : ℕ) → IsMember x a → IsMember y b → IsMember (operate 64 op x y) result }
 {
@@ -25,8 +51,8 @@ pub fn alu64(op: Operator, a: Range, b: Range) -> Range
     }
 }
 
-/// The range of an operator's results on 32 bits, as `alu64` gives it on 64. An operand that is not known to be below
-/// 2^32 is cut first. A change of byte order sees whole words, and gives what it gives on 64 bits.
+/// The range of the results of `op` on 32 bits, like `alu64` on 64. An operand that may be 2^32 or more is truncated first.
+/// A byte-order conversion reads all 64 bits of its operand, so its range is that on 64 bits.
 pub fn alu32(op: Operator, a: Range, b: Range) -> Range
     ensures exact { result ≡ range_of 32 op a b }
     ensures sound { (x y : ℕ) → IsMember x a → IsMember y b → IsMember (operate 32 op x y) result }
@@ -43,7 +69,7 @@ pub fn alu32(op: Operator, a: Range, b: Range) -> Range
     }
 }
 
-/// The low halves of members: all of them where some are cut and some differ.
+/// The range of the members' low 32 bits: all 32-bit numbers where a member is truncated, unless there is only one member.
 fn low_half(r: Range) -> Range
     ensures value { result ≡ operand_range 32 r }
     ensures bound { result.hi < 2 ^ 32 }
@@ -57,45 +83,66 @@ fn low_half(r: Range) -> Range
     }
 }
 
-/// Whether each operand that the operator reads is one number.
+/// Whether each operand that `op` reads is a constant.
 fn are_constants(op: Operator, a: Range, b: Range) -> bool
     ensures { result ≡ are_constants op a b }
 {
     match op {
-        Operator::Mov | Operator::SignExtend { .. } => b.is_constant(),
+        Operator::Binary(op) => are_alu_constants(op, a, b),
+        Operator::SignExtend { .. } => b.is_constant(),
         Operator::Neg | Operator::End { .. } => a.is_constant(),
+    }
+}
+
+/// The same of an operator with two operands: a move reads the second alone.
+fn are_alu_constants(op: AluOp, a: Range, b: Range) -> bool
+    ensures { result ≡ are_alu_constants op a b }
+{
+    match op {
+        AluOp::Mov => b.is_constant(),
         _ => a.is_constant() && b.is_constant(),
     }
 }
 
-/// The range of the results, of operands that are not all constants.
+/// The range of the results where the operands are not all constants.
 fn general_range(wide: bool, op: Operator, a: Range, b: Range) -> Range
-    requires first { a.hi < 2 ^ bits_of wide }
-    requires second { b.hi < 2 ^ bits_of wide }
-    ensures { result ≡ general_range (bits_of wide) op a b }
+    requires first { a.hi < 2 ^ width wide }
+    requires second { b.hi < 2 ^ width wide }
+    ensures { result ≡ general_range (width wide) op a b }
 {
     match op {
-        Operator::Add => sum(wide, a, b),
-        Operator::Sub => difference(wide, a, b),
-        Operator::Mul => product(wide, a, b),
-        Operator::Div => quotient(a, b),
-        Operator::Or => or(a, b),
-        Operator::And => and(a, b),
-        Operator::ShiftLeft => shift_left(wide, a, b),
-        Operator::ShiftRight => shift_right(wide, a, b),
-        Operator::Mod => remainder(a, b),
-        Operator::Xor => exclusive_or(a, b),
-        Operator::Mov => b,
-        Operator::SignedShiftRight => signed_shift_right(wide, a, b),
-        Operator::SignedDiv => Range::full(wide),
-        Operator::SignedMod => Range::full(wide),
+        Operator::Binary(op) => alu_range(wide, op, a, b),
         Operator::Neg => Range::full(wide),
         Operator::SignExtend { from } => sign_extend(wide, from, b),
         Operator::End { bits, .. } => full_of(bits),
     }
 }
 
-/// All numbers of so many bits.
+/// The range of the results of an operator with two operands.
+fn alu_range(wide: bool, op: AluOp, a: Range, b: Range) -> Range
+    requires first { a.hi < 2 ^ width wide }
+    requires second { b.hi < 2 ^ width wide }
+    ensures { result ≡ alu_range (width wide) op a b }
+{
+    match op {
+        AluOp::Add => sum(wide, a, b),
+        AluOp::Sub => difference(wide, a, b),
+        AluOp::Mul => product(wide, a, b),
+        AluOp::Div => quotient(a, b),
+        AluOp::Or => or(a, b),
+        AluOp::And => and(a, b),
+        AluOp::ShiftLeft => shift_left(wide, a, b),
+        AluOp::ShiftRight => shift_right(wide, a, b),
+        AluOp::Mod => remainder(a, b),
+        AluOp::Xor => exclusive_or(a, b),
+        AluOp::Mov => b,
+        AluOp::SignedShiftRight => signed_shift_right(wide, a, b),
+        AluOp::SignedDiv => Range::full(wide),
+        AluOp::SignedMod => Range::full(wide),
+    }
+}
+
+/// All numbers of `bits` bits.
 fn full_of(bits: KeptBits) -> Range
     ensures { result ≡ full (kept_bits bits) }
 {

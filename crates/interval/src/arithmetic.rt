@@ -1,16 +1,16 @@
 //! The ranges of sums, differences, products, quotients and remainders.
 
 ghost use Rattle.std.specs.Prelude.{◌≡◌, ◌<◌, ◌^◌};
-ghost use Rattle.words.specs.Widths.{bits_of};
+ghost use Rattle.words.specs.Widths.{width};
 ghost use Rattle.interval.specs.Table.{sum_range, difference_range, product_range, quotient_range, remainder_range};
 
 use crate::range::{Range, greatest};
 
 /// The sums of members: exact unless some wrap and some do not.
 pub(crate) fn sum(wide: bool, a: Range, b: Range) -> Range
-    requires first { a.hi < 2 ^ bits_of wide }
-    requires second { b.hi < 2 ^ bits_of wide }
-    ensures { result ≡ sum_range (bits_of wide) a b }
+    requires first { a.hi < 2 ^ width wide }
+    requires second { b.hi < 2 ^ width wide }
+    ensures { result ≡ sum_range (width wide) a b }
 {
     let greatest = greatest(wide);
     if a.hi <= greatest - b.hi {
@@ -24,9 +24,9 @@ pub(crate) fn sum(wide: bool, a: Range, b: Range) -> Range
 
 /// The differences of members: exact unless some wrap and some do not.
 pub(crate) fn difference(wide: bool, a: Range, b: Range) -> Range
-    requires first { a.hi < 2 ^ bits_of wide }
-    requires second { b.hi < 2 ^ bits_of wide }
-    ensures { result ≡ difference_range (bits_of wide) a b }
+    requires first { a.hi < 2 ^ width wide }
+    requires second { b.hi < 2 ^ width wide }
+    ensures { result ≡ difference_range (width wide) a b }
 {
     let greatest = greatest(wide);
     if b.hi <= a.lo {
@@ -38,11 +38,11 @@ pub(crate) fn difference(wide: bool, a: Range, b: Range) -> Range
     }
 }
 
-/// The products of members, unless one wraps.
+/// The products of members; all numbers where the greatest wraps.
 pub(crate) fn product(wide: bool, a: Range, b: Range) -> Range
-    requires first { a.hi < 2 ^ bits_of wide }
-    requires second { b.hi < 2 ^ bits_of wide }
-    ensures { result ≡ product_range (bits_of wide) a b }
+    requires first { a.hi < 2 ^ width wide }
+    requires second { b.hi < 2 ^ width wide }
+    ensures { result ≡ product_range (width wide) a b }
 {
     match a.hi.checked_mul(b.hi) {
         Some(hi) if hi <= greatest(wide) => Range::new(a.lo * b.lo, hi),
@@ -50,7 +50,7 @@ pub(crate) fn product(wide: bool, a: Range, b: Range) -> Range
     }
 }
 
-/// The quotients of members. A divisor that may be 0 gives quotients from 0.
+/// The quotients of members: from 0 to the greatest dividend where the divisor may be 0.
 pub(crate) fn quotient(a: Range, b: Range) -> Range
     ensures { result ≡ quotient_range a b }
 {
@@ -61,7 +61,7 @@ pub(crate) fn quotient(a: Range, b: Range) -> Range
     }
 }
 
-/// The remainders of members. A divisor that may be 0 leaves the dividend.
+/// The remainders of members: from 0 to the greatest dividend, and below the greatest divisor where no divisor is 0.
 pub(crate) fn remainder(a: Range, b: Range) -> Range
     ensures { result ≡ remainder_range a b }
 {

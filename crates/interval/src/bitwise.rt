@@ -1,25 +1,25 @@
-//! The ranges of the operators that work bit by bit.
+//! The ranges of the bitwise operators.
 
 ghost use Rattle.std.specs.Prelude.{◌≡◌, ◌≤◌};
 ghost use Rattle.interval.specs.Table.{and_range, or_range, xor_range, digits_end};
 
 use crate::range::Range;
 
-/// What is common to two members is at most either of them.
+/// Bitwise AND: from 0 to the lesser of the greatest members.
 pub(crate) fn and(a: Range, b: Range) -> Range
     ensures { result ≡ and_range a b }
 {
     Range::new(0, a.hi.min(b.hi))
 }
 
-/// The bits of either member: at least both members, with no more digits than the greatest.
+/// Bitwise OR: at least the least member of each range, with no more binary digits than the greatest member.
 pub(crate) fn or(a: Range, b: Range) -> Range
     ensures { result ≡ or_range a b }
 {
     Range::new(a.lo.max(b.lo), digits_end(a, b))
 }
 
-/// The bits of one member alone, with no more digits than the greatest.
+/// Bitwise XOR: from 0, with no more binary digits than the greatest member.
 pub(crate) fn exclusive_or(a: Range, b: Range) -> Range
     ensures { result ≡ xor_range a b }
 {

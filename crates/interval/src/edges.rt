@@ -1,48 +1,48 @@
-//! What a conditional jump tells of its operands.
+//! How a conditional jump refines the ranges of its operands.
 
 ghost use Rattle.std.specs.Prelude.{◌≡◌, ℕ, ◌+◌, ◌-◌, IsTrue, IsFalse, Option};
-ghost use Rattle.words.specs.Widths.{bits_of};
+ghost use Rattle.words.specs.Widths.{width};
 ghost use Rattle.words.specs.Compare.{compares};
 ghost use Rattle.interval.specs.Ranges.{IsMember};
 ghost use Rattle.interval.specs.Refine.{except, where_equal, where_different, where_above, where_at_most, refined, IsPairOn, swapped};
 
 use crate::range::{Range, greatest};
-use words::Comparison;
+use words::Condition;
 
-/// The ranges of both operands on an edge, and `None` where the edge can't be taken.
+/// The ranges of both operands on an edge; `None` where the edge can't be taken.
 pub type Edge = Option<(Range, Range)>;
 
-/// What a conditional jump tells of its operands, on the edge that is taken and on the one that is not: the ranges that
-/// the table gives, which hold each two members that take the edge. On 32 bits nothing is told of operands that may have
-/// more; nor is it by signed comparisons, and by tests of common bits.
-pub fn refine(comparison: Comparison, wide: bool, a: Range, b: Range) -> (Edge, Edge)
-    ensures exact { result ≡ refined (bits_of wide) comparison a b }
+/// Refines the ranges of both operands of a conditional jump, on the edge that jumps and on the one that falls through.
+/// The ranges on an edge hold every two members that take it. They stay as they are where the condition is signed or
+/// a test of common bits, and on 32 bits where an operand may be 2^32 or more.
+pub fn refine(condition: Condition, wide: bool, a: Range, b: Range) -> (Edge, Edge)
+    ensures exact { result ≡ refined (width wide) condition a b }
 
     ensures taken { (x y : ℕ) → IsMember x a → IsMember y b
-        → IsTrue (compares (bits_of wide) comparison x y) → IsPairOn result.0 x y }
+        → IsTrue (compares (width wide) condition x y) → IsPairOn result.0 x y }
 
     ensures not_taken { (x y : ℕ) → IsMember x a → IsMember y b
-        → IsFalse (compares (bits_of wide) comparison x y) → IsPairOn result.1 x y }
+        → IsFalse (compares (width wide) condition x y) → IsPairOn result.1 x y }
 {
     if a.hi > greatest(wide) || b.hi > greatest(wide) {
         return (Some((a, b)), Some((a, b)));
     }
-    match comparison {
-        Comparison::Equal => (where_equal(a, b), where_different(a, b)),
-        Comparison::NotEqual => (where_different(a, b), where_equal(a, b)),
-        Comparison::Above => (where_above(a, b), where_at_most(a, b)),
-        Comparison::BelowOrEqual => (where_at_most(a, b), where_above(a, b)),
-        Comparison::Below => (swapped(where_above(b, a)), swapped(where_at_most(b, a))),
-        Comparison::AboveOrEqual => (swapped(where_at_most(b, a)), swapped(where_above(b, a))),
-        Comparison::SignedAbove
-        | Comparison::SignedAboveOrEqual
-        | Comparison::SignedBelow
-        | Comparison::SignedBelowOrEqual
-        | Comparison::CommonBit => (Some((a, b)), Some((a, b))),
+    match condition {
+        Condition::Equal => (where_equal(a, b), where_different(a, b)),
+        Condition::NotEqual => (where_different(a, b), where_equal(a, b)),
+        Condition::Above => (where_above(a, b), where_at_most(a, b)),
+        Condition::BelowOrEqual => (where_at_most(a, b), where_above(a, b)),
+        Condition::Below => (swapped(where_above(b, a)), swapped(where_at_most(b, a))),
+        Condition::AboveOrEqual => (swapped(where_at_most(b, a)), swapped(where_above(b, a))),
+        Condition::SignedAbove
+        | Condition::SignedAboveOrEqual
+        | Condition::SignedBelow
+        | Condition::SignedBelowOrEqual
+        | Condition::CommonBit => (Some((a, b)), Some((a, b))),
     }
 }
 
-/// The operands in their other order.
+/// The edge with its operands swapped.
 fn swapped(edge: Edge) -> Edge
     ensures { result ≡ swapped edge }
 {
@@ -52,7 +52,7 @@ fn swapped(edge: Edge) -> Edge
     }
 }
 
-/// Where the operands are equal, both lie where the ranges overlap.
+/// Where the operands are equal: both are in the intersection of the ranges.
 fn where_equal(a: Range, b: Range) -> Edge
     ensures { result ≡ where_equal a b }
 {
@@ -65,7 +65,7 @@ fn where_equal(a: Range, b: Range) -> Edge
     Some((both, both))
 }
 
-/// Where the operands differ, a constant is no member of the other range.
+/// Where the operands differ: if one is a constant, the other's range loses that number at its ends.
 fn where_different(a: Range, b: Range) -> Edge
     ensures { result ≡ where_different a b }
 {
@@ -80,7 +80,7 @@ fn where_different(a: Range, b: Range) -> Edge
     }
 }
 
-/// The members other than one number, where they are a range.
+/// `r` without `value`, where the rest is still one range, else `r`; `None` if no member is left.
 fn except(r: Range, value: u64) -> Option<Range>
     ensures { result ≡ except r value }
 {

@@ -1,14 +1,18 @@
 //! Known answers, proved from the contracts alone.
 
 use crate::{Range, alu32, alu64, hull, refine};
-use words::{Comparison, Operator};
+use words::{AluOp, Condition, Operator};
 
 fn ranges_of_sums() {
-    let sum = alu64(Operator::Add, Range::new(0, 7), Range::new(250, 255));
+    let sum = alu64(
+        Operator::Binary(AluOp::Add),
+        Range::new(0, 7),
+        Range::new(250, 255),
+    );
     prove!(sum.lo == 250);
     prove!(sum.hi == 262);
     let wrapped = alu32(
-        Operator::Add,
+        Operator::Binary(AluOp::Add),
         Range::constant(0xffff_ffff),
         Range::new(1, 2),
     );
@@ -24,7 +28,7 @@ fn range_of_both() {
 
 fn edges_of_a_jump() {
     let (above, at_most) = refine(
-        Comparison::Above,
+        Condition::Above,
         true,
         Range::new(0, 255),
         Range::constant(7),
@@ -34,7 +38,7 @@ fn edges_of_a_jump() {
     let is_rest = matches!(at_most, Some((a, _)) if a.lo == 0 && a.hi == 7);
     prove!(is_rest);
     let (equal, _) = refine(
-        Comparison::Equal,
+        Condition::Equal,
         true,
         Range::constant(0),
         Range::constant(1),

@@ -8,7 +8,7 @@ pub fn results_are_members()
     ensures narrow { ResultsAreMembers 32 }
 {}
 
-/// The range that the table gives for ranges of words is one of words.
+/// The range that the table gives for ranges of words is a range of words.
 pub fn results_are_words()
     ensures wide { ResultsAreWords 64 }
     ensures narrow { ResultsAreWords 32 }
@@ -20,13 +20,13 @@ pub fn edges_keep_members()
     ensures narrow { EdgesKeepMembers 32 }
 {}
 
-/// The ranges on both edges of a comparison of words are ones of words.
+/// The ranges on both edges of a comparison of ranges of words are ranges of words.
 pub fn edges_are_words()
     ensures wide { EdgesAreWords 64 }
     ensures narrow { EdgesAreWords 32 }
 {}
 
-/// The hull is the least range that holds the members of both ranges, in whatever order they come.
+/// The hull is a join: it is the least range that holds the members of both, and it is commutative and associative.
 pub fn hull_is_a_join()
     ensures holds_both { HullHoldsBoth }
     ensures least { HullIsLeast }

@@ -1,4 +1,4 @@
-//! Ranges of unsigned numbers: what the operators and the comparisons on words make of them.
+//! The interval domain: ranges of unsigned numbers, and how operators and comparisons on words transform them.
 #![tactic(auto)]
 
 mod alu;

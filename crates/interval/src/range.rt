@@ -1,7 +1,7 @@
 //! A range of unsigned numbers.
 
 ghost use Rattle.std.specs.Prelude.{◌≡◌, ◌+◌, ◌^◌, ◌≤◌};
-ghost use Rattle.words.specs.Widths.{bits_of};
+ghost use Rattle.words.specs.Widths.{width};
 
 /// The whole numbers from `lo` to `hi`, both included. There is at least one.
 #[derive(Clone, Copy, Debug, PartialEq, Eq)]
@@ -25,7 +25,7 @@ impl Range {
         Range { lo, hi }
     }
 
-    /// One number.
+    /// The range of `value` alone.
     pub fn constant(value: u64) -> Range
         ensures { result ≡ constant value }
     {
@@ -37,7 +37,7 @@ impl Range {
 
     /// All numbers of 64 bits (`wide`), or of 32.
     pub fn full(wide: bool) -> Range
-        ensures { result ≡ full (bits_of wide) }
+        ensures { result ≡ full (width wide) }
     {
         Range {
             lo: 0,
@@ -45,7 +45,7 @@ impl Range {
         }
     }
 
-    /// Whether there is one member alone.
+    /// Whether there is exactly one member.
     pub fn is_constant(self) -> bool
         ensures { result ≡ is_constant self }
     {
@@ -55,7 +55,7 @@ impl Range {
 
 /// The greatest number of 64 bits (`wide`), or of 32.
 pub(crate) fn greatest(wide: bool) -> u64
-    ensures { result + 1 ≡ 2 ^ bits_of wide }
+    ensures { result + 1 ≡ 2 ^ width wide }
 {
     if wide { u64::MAX } else { 0xffff_ffff }
 }

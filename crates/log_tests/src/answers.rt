@@ -1,4 +1,4 @@
-//! What is written behind a line.
+//! The answers to lines.
 
 use crate::error::CaseError;
 use bpf_text::assemble;
@@ -24,7 +24,7 @@ fn logged(
     Ok(text)
 }
 
-/// What the program writes at arguments, with an input, and its status.
+/// What the program writes for these arguments and this input, and its status.
 fn ran(alloc: Global, arguments: &str, input: &[u8]) -> Result<String, CaseError> {
     let arguments: Vec<&str> = arguments.split_whitespace().collect(alloc)?;
     let mut output = Vec::new(alloc);
@@ -36,14 +36,14 @@ fn ran(alloc: Global, arguments: &str, input: &[u8]) -> Result<String, CaseError
     Ok(format!(in alloc; "{output}{faults}status {status}\n")?)
 }
 
-/// What the program writes of the lines of an input.
+/// What the program writes for the lines of an input.
 fn ran_on_text(alloc: Global, case: &str) -> Result<String, CaseError> {
     let (arguments, text) = case.split_once('<').ok_or(CaseError::UnknownLine)?;
     let lines = program_lines(alloc, text)?;
     ran(alloc, arguments, lines.as_bytes())
 }
 
-/// What the program writes of the bytes of an input.
+/// What the program writes for the bytes of an input.
 fn ran_on_bytes(alloc: Global, case: &str) -> Result<String, CaseError> {
     let (arguments, digits) = case.split_once('<').ok_or(CaseError::UnknownLine)?;
     let bytes = bytes_of(alloc, digits)?;
@@ -64,7 +64,7 @@ fn program_named(text: &str) -> Result<Named, CaseError> {
     })
 }
 
-/// What is written behind a line.
+/// The answer to a line.
 pub fn answer_to(alloc: Global, named: &mut Vec<Named>, line: &str) -> Result<String, CaseError> {
     let (word, rest) = first_word(line);
     match word {

@@ -1,17 +1,17 @@
-//! Plays worked cases of the verifier's log: writes the log of each program of standard input behind its line.
+//! Plays worked cases of the verifier's log: writes the log of each program of standard input after its line.
 //!
-//! | Line | What is written behind it |
+//! | Line | What is written after it |
 //! |---|---|
-//! | `log TEXT` | the log of a program's text, where `;` ends a line and `COUNT times LINE` is so many lines |
+//! | `log TEXT` | the log of a program's text, where `;` ends a line and `COUNT times LINE` is `COUNT` such lines |
 //! | `all TEXT` | the same, with all that is known before each instruction |
 //! | `dot TEXT` | its control flow, for Graphviz |
-//! | `run ARGUMENTS <TEXT` | what the program `verifier_log` writes of the lines of this input, and its status |
-//! | `bytes ARGUMENTS <HEX` | the same of these bytes |
-//! | `map FD:KIND:KEY:VALUE:MAX` | nothing: from here on this descriptor names a map, of two with one number the first |
+//! | `run ARGUMENTS <TEXT` | what the program `verifier_log` writes for the lines of this input, and its status |
+//! | `bytes ARGUMENTS <HEX` | the same for these bytes |
+//! | `map FD:KIND:KEY:VALUE:MAX` | nothing: from here on this descriptor names a map; the first of two with one number counts |
 //! | `program FD` | nothing: from here on this descriptor names a program |
 //! | `new` | nothing: from here on no descriptor is open |
 //!
-//! A line that is empty or begins with `#` is written as it stands.
+//! A line that is empty or begins with `#` is written unchanged.
 #![tactic(auto)]
 
 mod answers;

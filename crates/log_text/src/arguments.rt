@@ -4,7 +4,7 @@ use crate::log::LogStyle;
 use clap::{Arg, ArgAction, ArgMatches, Command};
 use std::alloc::{AllocError, Global};
 
-/// In which form the input has a program.
+/// The form of the input's program.
 #[derive(Clone, Copy, Debug, PartialEq, Eq)]
 pub(crate) enum ProgramForm {
     /// A slot on each line, as hex digits.
@@ -13,7 +13,7 @@ pub(crate) enum ProgramForm {
     Text,
 }
 
-/// An option that is given or not.
+/// An option without a value.
 fn flag<'a>(alloc: Global, name: &'a str, help: &'a str) -> Arg<'a> {
     Arg::new(alloc, name)
         .long(name)
@@ -21,7 +21,7 @@ fn flag<'a>(alloc: Global, name: &'a str, help: &'a str) -> Arg<'a> {
         .action(ArgAction::SetTrue)
 }
 
-/// What clap makes of the arguments.
+/// Parses the arguments with clap.
 pub(crate) fn parse_arguments<'a>(
     alloc: Global,
     arguments: &'a [&'a str],
@@ -60,7 +60,7 @@ pub(crate) fn parse_arguments<'a>(
     program.try_get_matches_from(arguments)
 }
 
-/// What the log shows.
+/// The style of the log that the options ask for.
 pub(crate) fn style_of(matches: &ArgMatches<'_>) -> LogStyle {
     if matches.get_flag("dot") {
         LogStyle::Graph
@@ -71,12 +71,12 @@ pub(crate) fn style_of(matches: &ArgMatches<'_>) -> LogStyle {
     }
 }
 
-/// Whether a line has hex digits alone, and some.
+/// Whether a line consists of hex digits, at least one.
 fn is_hex(line: &str) -> bool {
     !line.is_empty() && line.bytes().all(|byte| byte.is_ascii_hexdigit())
 }
 
-/// Whether the first line of an input that is not blank has hex digits alone. Where there is none, so it is.
+/// Whether the first line that is not blank consists of hex digits. True if there is no such line or the input is not UTF-8.
 fn begins_with_hex(input: &[u8]) -> bool {
     let Ok(text) = str::from_utf8(input) else {
         return true;
@@ -90,7 +90,7 @@ fn begins_with_hex(input: &[u8]) -> bool {
     true
 }
 
-/// The form in which an input has a program: the one that is asked for, or the one of its first line.
+/// The form of the input's program: the one that an option asks for, or else that of its first line.
 pub(crate) fn form_of(matches: &ArgMatches<'_>, input: &[u8]) -> ProgramForm {
     if matches.get_flag("hex") {
         ProgramForm::Hex

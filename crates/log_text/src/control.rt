@@ -1,17 +1,17 @@
-//! Where control goes: the jumps of a program, by where they lead.
+//! Control flow: the jumps of a program by their targets, and its basic blocks.
 
 use crate::recorder::Step;
 use insn_codec::{Insn, MAX_SLOTS, Program, Successors};
 use std::alloc::{AllocError, Global};
 
-/// The edge of a jump. Edges are in order by where they lead.
+/// The edge of a jump. Edges are ordered by their targets.
 #[derive(Clone, Copy, Debug, PartialEq, Eq, PartialOrd, Ord)]
 pub(crate) struct JumpEdge {
     pub to: usize,
     pub from: usize,
 }
 
-/// Where the instruction at a slot jumps to, if it does.
+/// The target of the jump at a slot; `None` if there is no jump.
 pub(crate) fn target_at(program: &Program, slot: usize) -> Option<usize> {
     let insn = program.get(slot)?;
     if slot > MAX_SLOTS {
@@ -20,7 +20,7 @@ pub(crate) fn target_at(program: &Program, slot: usize) -> Option<usize> {
     insn.profile().successors.target(slot)
 }
 
-/// The jumps that a run may take, as far as is known.
+/// The jumps that a run may take, as far as is known, by their targets.
 pub(crate) fn live_jumps(
     alloc: Global,
     program: &Program,
@@ -39,19 +39,19 @@ pub(crate) fn live_jumps(
     Ok(jumps)
 }
 
-/// Whether what stands behind an instruction begins a block of its own.
+/// Whether an instruction ends a basic block.
 fn ends_block(insn: &Insn) -> bool {
     insn.profile().successors != Successors::Next
 }
 
-/// Marks a slot, if it is one of these.
+/// Marks a slot, if it is in range.
 fn mark(flags: &mut [bool], slot: usize) {
     if let Some(flag) = flags.get_mut(slot) {
         *flag = true;
     }
 }
 
-/// For each slot whether a basic block begins there: at the first one, where a jump leads, and behind a jump or an exit.
+/// For each slot whether a basic block begins there: at slot 0, at the target of a jump, and after a jump or an exit.
 pub(crate) fn block_starts(alloc: Global, program: &Program) -> Result<Vec<bool>, AllocError> {
     let slots = program.slots();
     let mut starts = vec![in alloc; false; slots]?;

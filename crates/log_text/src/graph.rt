@@ -1,4 +1,4 @@
-//! The control flow as a graph, in the language of Graphviz.
+//! The control-flow graph, in the language of Graphviz.
 
 use crate::control::{block_starts, target_at};
 use crate::lines::Story;
@@ -9,21 +9,21 @@ use insn_codec::{Insn, Successors};
 use std::alloc::{AllocError, Global};
 use std::fmt::Write;
 
-/// How an edge is drawn that no run takes, and a block that none comes to.
+/// The style of an edge that no run takes, and of a block that no run reaches.
 const UNREACHED: &str = "style=dashed, color=gray50, fontcolor=gray50";
 
 /// What is known of an edge.
 #[derive(Clone, Copy)]
 enum Edge<'a> {
-    /// Nothing: the pass was not made.
+    /// Nothing: there was no pass.
     Untold,
-    /// A run may take it, and this is new on it.
+    /// A run may take it; the text is what is new on it.
     Taken(&'a str),
     /// No run takes it.
     Dead,
 }
 
-/// What the pass told of an edge.
+/// What is known of an edge from the pass.
 fn edge_of<'a>(story: &Story<'_>, told: Option<&'a String>) -> Edge<'a> {
     match told {
         Some(text) => Edge::Taken(text.as_str()),
@@ -32,12 +32,12 @@ fn edge_of<'a>(story: &Story<'_>, told: Option<&'a String>) -> Edge<'a> {
     }
 }
 
-/// A block, and what is written of it so far.
+/// The block that is being written.
 #[derive(Drop)]
 struct Block {
     /// Its first slot.
     first: usize,
-    /// Whether a run may come to it.
+    /// Whether a run may reach it.
     is_reached: bool,
     /// Whether its last instruction is refused.
     is_refused: bool,
@@ -63,7 +63,7 @@ fn write_edge(
     text.push_str(";\n")
 }
 
-/// Writes the edges out of a block, by its last instruction.
+/// Writes the edges out of a block, those of its last instruction.
 fn write_edges(
     text: &mut String,
     story: &Story<'_>,
@@ -92,7 +92,7 @@ fn write_edges(
     }
 }
 
-/// Writes the lines of a text into a label, each from its left end.
+/// Writes the lines of a text into a label, aligned to the left.
 fn write_label(text: &mut String, lines: &str) -> Result<(), AllocError> {
     for line in lines.lines() {
         write!(text, "{line}\\l")?;
@@ -100,7 +100,7 @@ fn write_label(text: &mut String, lines: &str) -> Result<(), AllocError> {
     Ok(())
 }
 
-/// The graph that is written.
+/// The graph that is being written.
 #[derive(Drop)]
 struct Graph<'a> {
     alloc: Global,
@@ -108,18 +108,18 @@ struct Graph<'a> {
     refusal: Option<&'a Refusal<'a>>,
     /// For each slot whether a block begins there.
     starts: Vec<bool>,
-    /// Which step is the next one.
+    /// The index of the next step.
     next: usize,
     block: Block,
 }
 
 impl<'a> Graph<'a> {
-    /// Whether a block begins at a slot. Behind the last one, one would.
+    /// Whether a block begins at a slot. True past the last slot.
     fn is_start(&self, slot: usize) -> bool {
         self.starts.get(slot).copied().unwrap_or(true)
     }
 
-    /// What was told of the instruction at a slot, and the next step is the one behind it.
+    /// The step of the instruction at a slot, if the pass reached it; advances to the step after it.
     fn step_at(&mut self, slot: usize) -> Option<&'a Step> {
         let step = self.story.steps.get(self.next)?;
         if step.slot != slot {
@@ -168,7 +168,7 @@ impl<'a> Graph<'a> {
         text.push_str("];\n")
     }
 
-    /// Writes the instruction at a slot, and what begins and ends there.
+    /// Writes the instruction at a slot, and the beginning and the end of a block there.
     fn write_slot(
         &mut self,
         text: &mut String,
@@ -192,8 +192,8 @@ impl<'a> Graph<'a> {
     }
 }
 
-/// Writes the graph of a program: its basic blocks with their instructions, and the edges between them with what is new there.
-/// Dashed are those that no run comes to, as far as the pass went; the block with the instruction that is refused is red.
+/// Writes the graph of a program: its basic blocks with their instructions, and the edges between them with what is new on each.
+/// Those that no run reaches, as far as the pass went, are dashed; the block with the refused instruction is red.
 pub(crate) fn write_graph(
     text: &mut String,
     alloc: Global,

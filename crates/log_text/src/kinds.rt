@@ -1,11 +1,11 @@
-//! How a kind is written: what is known of a value.
+//! Kinds as text.
 
 use interval::Range;
 use reg_kinds::{Kind, ValuePointer};
 use std::alloc::AllocError;
 use std::fmt::Write;
 
-/// Writes a number, and behind one of 2^63 or more the negative number that its bits are too.
+/// Writes a number, and after one of 2^63 or more its value as a signed number.
 pub(crate) fn write_number(text: &mut String, number: u64) -> Result<(), AllocError> {
     let signed = number.cast_signed();
     if signed < 0 {
@@ -27,7 +27,7 @@ pub(crate) fn write_range(text: &mut String, range: Range) -> Result<(), AllocEr
     }
 }
 
-/// Writes a place that lies so far from a named one.
+/// Writes an offset from a named place.
 fn write_place(text: &mut String, name: &str, offset: i32) -> Result<(), AllocError> {
     let distance = offset.unsigned_abs();
     if offset == 0 {
@@ -39,7 +39,7 @@ fn write_place(text: &mut String, name: &str, offset: i32) -> Result<(), AllocEr
     }
 }
 
-/// Writes a pointer into a value of a map.
+/// Writes a pointer into a map's value.
 fn write_value_pointer(text: &mut String, pointer: ValuePointer) -> Result<(), AllocError> {
     let (map, lo, hi) = (pointer.map, pointer.lo, pointer.hi);
     write!(text, "value of map {map}, offset {lo}")?;
@@ -50,7 +50,7 @@ fn write_value_pointer(text: &mut String, pointer: ValuePointer) -> Result<(), A
     }
 }
 
-/// Writes what is known of a value.
+/// Writes a kind.
 pub(crate) fn write_kind(text: &mut String, kind: Kind) -> Result<(), AllocError> {
     match kind {
         Kind::Unreadable => text.push_str("not readable"),
@@ -68,7 +68,7 @@ pub(crate) fn write_kind(text: &mut String, kind: Kind) -> Result<(), AllocError
     }
 }
 
-/// Writes the bytes from one to another, both included.
+/// Writes a range of bytes by its first and its last.
 pub(crate) fn write_bytes(text: &mut String, first: i64, last: i64) -> Result<(), AllocError> {
     if first == last {
         write!(text, "byte {first}")

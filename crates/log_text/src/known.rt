@@ -1,4 +1,4 @@
-//! How facts are written: what is known of registers and of the stack, as far as it differs from what was known before.
+//! Facts as text: what is known of registers and of the stack, as far as it differs from earlier facts.
 
 ghost use Rattle.std.specs.Prelude.{◌<◌};
 
@@ -16,7 +16,7 @@ pub(crate) fn nothing_known() -> Facts {
     }
 }
 
-/// Parts a note from what stands before it since a place in the text.
+/// Writes a semicolon before a note, if there is text from `start` on.
 pub(crate) fn part(text: &mut String, start: usize) -> Result<(), AllocError> {
     if text.len() > start {
         text.push_str("; ")
@@ -25,7 +25,7 @@ pub(crate) fn part(text: &mut String, start: usize) -> Result<(), AllocError> {
     }
 }
 
-/// Writes the registers of which something else is known.
+/// Writes the registers whose kind is new, and readable.
 fn write_registers(
     text: &mut String,
     start: usize,
@@ -43,7 +43,7 @@ fn write_registers(
     Ok(())
 }
 
-/// Writes the registers of which nothing is known any more.
+/// Writes the registers that are not readable any more.
 fn write_lost_registers(
     text: &mut String,
     start: usize,
@@ -69,7 +69,7 @@ fn write_lost_registers(
     }
 }
 
-/// The bytes of a slot that are written now and were not before, as a mask.
+/// The mask of the bytes of a slot that are newly written.
 fn written(old: Slot, new: Slot) -> u8 {
     match (old, new) {
         (Slot::Bytes(before), Slot::Bytes(after)) => after & !before,
@@ -78,7 +78,7 @@ fn written(old: Slot, new: Slot) -> u8 {
     }
 }
 
-/// The bytes of a slot that may not be read any more, as a mask.
+/// The mask of the bytes of a slot that are not readable any more.
 fn lost(old: Slot, new: Slot) -> u8 {
     match (old, new) {
         (Slot::Bytes(before), Slot::Bytes(after)) => before & !after,
@@ -94,19 +94,19 @@ fn lowest_byte(index: usize) -> i64
     8 * index as i64 - 8 * STACK_SLOTS as i64
 }
 
-/// Bytes of the stack in a row, which are not written yet.
+/// Consecutive bytes of the stack that are still to be written into the text.
 #[derive(Drop)]
 struct Row {
-    /// The place in the text where notes begin.
+    /// The offset in the text at which notes begin.
     start: usize,
     /// The first byte.
     first: i64,
-    /// The byte behind the last: there are none if it is the first.
+    /// The byte after the last; equal to the first if there is no byte.
     end: i64,
 }
 
 impl Row {
-    /// Writes the bytes, and what became of them.
+    /// Writes the bytes, and that they are written or lost.
     fn write(&self, text: &mut String, what: &str) -> Result<(), AllocError> {
         if self.first == self.end {
             return Ok(());
@@ -120,7 +120,7 @@ impl Row {
         }
     }
 
-    /// Takes one more byte. Where it does not follow the others, they are written.
+    /// Adds one more byte. If it does not follow the others, they are written first.
     fn take(&mut self, text: &mut String, what: &str, byte: i64) -> Result<(), AllocError> {
         if byte != self.end {
             self.write(text, what)?;
@@ -130,7 +130,7 @@ impl Row {
         Ok(())
     }
 
-    /// Takes the bytes of a slot that a mask has.
+    /// Adds the bytes of a slot that are in a mask.
     fn take_slot(
         &mut self,
         text: &mut String,
@@ -150,7 +150,7 @@ impl Row {
     }
 }
 
-/// Writes the stack's bytes that may be read now, or that may not be read any more.
+/// Writes the stack bytes that are newly written, or if `are_lost`, not readable any more.
 fn write_stack_bytes(
     text: &mut String,
     start: usize,
@@ -178,7 +178,7 @@ fn write_stack_bytes(
     row.write(text, what)
 }
 
-/// Writes the values that lie whole in the stack, where that is new.
+/// Writes the spills that are new.
 fn write_spills(
     text: &mut String,
     start: usize,
@@ -200,8 +200,7 @@ fn write_spills(
     Ok(())
 }
 
-/// Writes what is known and was not, and what was known and is not any more, behind the notes that begin at a place in the
-/// text.
+/// Writes what is known in `new` and was not in `old`, and what is not known any more, after the notes from `start` on.
 pub(crate) fn write_known(
     text: &mut String,
     start: usize,

@@ -1,4 +1,4 @@
-//! What the verifier knows, as text: a log of a program, line by line, and its control flow as a graph.
+//! The facts of the verifier as text: the log of a program, line by line, and its control flow as a graph.
 #![tactic(auto)]
 
 mod arguments;

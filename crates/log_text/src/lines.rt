@@ -7,39 +7,39 @@ use insn_codec::{Insn, Program, Successors};
 use std::alloc::AllocError;
 use std::fmt::Write;
 
-/// The column at which notes begin, where the instruction is no longer.
+/// The column at which notes begin, unless the instruction is longer.
 const COLUMN: usize = 40;
 
-/// What there is to write of a program.
+/// What is to be written of a program.
 #[derive(Clone, Copy)]
 pub(crate) struct Story<'a> {
     pub program: &'a Program,
-    /// What was told, by slot.
+    /// The steps of the pass, by slot.
     pub steps: &'a [Step],
-    /// The jumps that a run may take, by where they lead.
+    /// The jumps that a run may take, by their targets.
     pub jumps: &'a [JumpEdge],
-    /// Whether the pass over what is known was made: it is not where a program's shape has a fault.
+    /// Whether there was a pass over the program: not if its shape has a fault.
     pub is_told: bool,
 }
 
-/// How far the lines are written.
+/// How far the lines have been written.
 #[derive(Drop)]
 struct Place {
-    /// Which step is the next one, and which jump.
+    /// The indexes of the next step and of the next jump.
     step: usize,
     jump: usize,
-    /// The instruction before, if a run may go on from it to the next one.
+    /// The instruction before, if a run may fall through from it.
     falls_from: Option<usize>,
 }
 
-/// A line, by where it begins in the text and where its instruction ends.
+/// A line: the offsets in the text of its beginning and of the end of its instruction.
 #[derive(Clone, Copy)]
 struct Line {
     begin: usize,
     end: usize,
 }
 
-/// Begins a note: the first one in its column behind the instruction, and others behind a semicolon.
+/// Begins a note: the first one in its column after the instruction, others after a semicolon.
 fn begin_note(text: &mut String, line: Line) -> Result<(), AllocError> {
     if text.len() > line.end {
         return text.push_str("; ");
@@ -50,7 +50,7 @@ fn begin_note(text: &mut String, line: Line) -> Result<(), AllocError> {
     text.push_str(" // ")
 }
 
-/// Writes a note behind the instruction, unless it is empty.
+/// Writes a note after the instruction, unless it is empty.
 fn write_note(text: &mut String, line: Line, note: &str) -> Result<(), AllocError> {
     if note.is_empty() {
         return Ok(());
@@ -59,7 +59,7 @@ fn write_note(text: &mut String, line: Line, note: &str) -> Result<(), AllocErro
     text.push_str(note)
 }
 
-/// Writes where control comes from, if some of it comes by jumps.
+/// Writes the instructions from which control comes, if one of them is a jump.
 fn write_sources(
     text: &mut String,
     line: Line,
@@ -88,7 +88,7 @@ fn write_sources(
     }
 }
 
-/// Writes what a comparison tells on its edges. It has none where it is refused.
+/// Writes which edges of a conditional jump can be taken, and what is new on the jumping one. A refused one has no edges.
 fn write_edges(
     text: &mut String,
     line: Line,
@@ -111,7 +111,7 @@ fn write_edges(
     }
 }
 
-/// Writes the notes on an instruction that a run may come to.
+/// Writes the notes on an instruction that a run may reach.
 fn write_step(
     text: &mut String,
     line: Line,
@@ -155,7 +155,7 @@ fn write_notes(
     }
 }
 
-/// Writes the lines of the instructions that begin at a slot up to this one.
+/// Writes the lines of the instructions from slot 0 to slot `last`.
 pub(crate) fn write_lines(
     text: &mut String,
     story: &Story<'_>,

@@ -1,4 +1,4 @@
-//! The log of a program: its verdict, and why.
+//! The log of a program, with its verdict and why.
 
 use crate::control::live_jumps;
 use crate::graph::write_graph;
@@ -20,7 +20,7 @@ pub enum LogStyle {
     New,
     /// A line for each instruction, with all that is known before it.
     Whole,
-    /// The control flow, in the language of Graphviz.
+    /// The control-flow graph, in the language of Graphviz.
     Graph,
 }
 
@@ -33,7 +33,7 @@ pub struct Log {
     pub is_accepted: bool,
 }
 
-/// The fault of a program that is refused, if it is; else there was no memory.
+/// The fault of a refused program; `None` if it is accepted. `AllocError`: the verifier was out of memory.
 fn fault_of<T: Drop>(verdict: Result<T, VerifyFault>) -> Result<Option<VerifyFault>, AllocError> {
     match verdict {
         Ok(_) => Ok(None),
@@ -42,7 +42,7 @@ fn fault_of<T: Drop>(verdict: Result<T, VerifyFault>) -> Result<Option<VerifyFau
     }
 }
 
-/// Writes the verdict, with what was known against what was needed.
+/// Writes the verdict, and of a refusal what was known against what was needed.
 fn write_verdict(text: &mut String, refusal: Option<&Refusal<'_>>) -> Result<(), AllocError> {
     match refusal {
         None => text.push_str("accepted\n"),
@@ -50,7 +50,7 @@ fn write_verdict(text: &mut String, refusal: Option<&Refusal<'_>>) -> Result<(),
     }
 }
 
-/// Writes the log in a style: the graph, or lines up to the instruction that is refused, and the verdict.
+/// Writes the log in a style: the graph, or the lines up to the refused instruction and the verdict.
 fn write_log(
     text: &mut String,
     alloc: Global,
@@ -66,11 +66,11 @@ fn write_log(
     write_verdict(text, refusal)
 }
 
-/// The log of a program, where descriptors name these maps.
+/// The log of a program, where descriptors name these objects.
 ///
 /// # Errors
 ///
-/// `AllocError`: there is no memory for the verdict or for the text.
+/// `AllocError`: out of memory for the verdict or for the text.
 pub fn log_of(
     alloc: Global,
     program: &Program,

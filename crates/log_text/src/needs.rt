@@ -14,7 +14,7 @@ use std::fmt::Write;
 use tagged_model::Named;
 use verifier::VerifyFault;
 
-/// A program that is refused, with the facts before the last instruction that the pass came to.
+/// A refused program, with the facts before the last instruction that the pass reached.
 #[derive(Clone, Copy)]
 pub(crate) struct Refusal<'a> {
     pub alloc: Global,
@@ -24,7 +24,7 @@ pub(crate) struct Refusal<'a> {
     pub facts: &'a Facts,
 }
 
-/// Writes what was known of an access, a call or another instruction, against what it needs.
+/// Writes what was known at an instruction, against what it needs.
 fn write_need(text: &mut String, refusal: &Refusal<'_>, insn: &Insn) -> Result<(), AllocError> {
     if is_of_shape(refusal.fault.reason) {
         return shape::write_need(text, refusal, insn);
@@ -49,8 +49,8 @@ fn write_need(text: &mut String, refusal: &Refusal<'_>, insn: &Insn) -> Result<(
     }
 }
 
-/// Writes the slot and the reason of a refusal on a line, and behind it what the reason says, and what was known against what was
-/// needed, with this between the two.
+/// Writes a line with the slot and the reason of a refusal, and then the reason in words and what was known against what was
+/// needed, with `between` between the two.
 pub(crate) fn write_refusal(
     text: &mut String,
     refusal: &Refusal<'_>,

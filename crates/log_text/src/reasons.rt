@@ -1,13 +1,13 @@
-//! Reasons: their words, and which of them are of shape.
+//! Reasons: their words, and which of them concern a program's shape.
 
 use reg_kinds::Reason;
 
-/// Whether a reason is one of a program's shape, and not of its safety.
+/// Whether a reason concerns a program's shape, and not its safety.
 pub(crate) fn is_of_shape(reason: Reason) -> bool {
     reason.number() < 20
 }
 
-/// What a reason says, as the verifier's table of reasons has it.
+/// A reason in words.
 pub(crate) fn reason_words(reason: Reason) -> &'static str {
     match reason {
         Reason::JumpOutside => {

@@ -1,4 +1,4 @@
-//! What the pass tells, kept as text.
+//! The facts of the pass, kept as text.
 
 use crate::known::{nothing_known, write_known};
 use insn_codec::{Insn, Program, Successors};
@@ -8,38 +8,38 @@ use tagged_model::Named;
 use transfer::{Flow, apply};
 use verifier::Watcher;
 
-/// An instruction that a run may come to.
+/// An instruction that a run may reach.
 #[derive(Debug, Drop)]
 pub(crate) struct Step {
     pub slot: usize,
     /// What is known before it.
     pub known: String,
-    /// What is new on the edge to the next instruction, where a run may take it.
+    /// What is new on the edge to the next instruction, if a run may take it.
     pub falling: Option<String>,
-    /// What is new on the edge of its jump, where a run may take it.
+    /// What is new on the edge of its jump, if a run may take it.
     pub jumping: Option<String>,
 }
 
-/// Keeps a note of each instruction that the pass comes to, in order.
+/// Keeps a note of each instruction that the pass reaches, in order.
 #[derive(Drop)]
 pub(crate) struct Recorder<'a> {
     alloc: Global,
     program: &'a Program,
     named: &'a [Named],
-    /// Whether all that is known is noted, and not what is new alone.
+    /// Whether all that is known is noted, and not only what is new.
     is_whole: bool,
     steps: Vec<Step>,
-    /// The facts from which those before an instruction are told apart: those before the last one, or none.
+    /// The facts with which those before an instruction are compared: those before the last one, or nothing known.
     shown: Facts,
     /// The facts before the last instruction.
     last: Facts,
-    /// Room for the facts on its edges.
+    /// Buffers for the facts on its edges.
     falling: Facts,
     jumping: Facts,
 }
 
 impl<'a> Recorder<'a> {
-    /// Nothing is told yet of a program.
+    /// A recorder for a program, with no step yet.
     pub(crate) fn new(
         alloc: Global,
         program: &'a Program,
@@ -59,12 +59,12 @@ impl<'a> Recorder<'a> {
         }
     }
 
-    /// The facts before the last instruction that was told.
+    /// The facts before the last instruction that the pass reached.
     pub(crate) fn last(&self) -> &Facts {
         &self.last
     }
 
-    /// The notes.
+    /// The steps that were noted.
     pub(crate) fn into_steps(self) -> Vec<Step> {
         let Recorder {
             alloc: _,
@@ -87,7 +87,7 @@ impl<'a> Recorder<'a> {
         Ok(text)
     }
 
-    /// Notes the edges of a comparison.
+    /// Notes the edges of a conditional jump.
     fn branch(&mut self, step: &mut Step, insn: &Insn, facts: &Facts) -> Result<(), AllocError> {
         self.falling = *facts;
         let flow = apply(
@@ -97,13 +97,19 @@ impl<'a> Recorder<'a> {
             step.slot,
             insn,
         );
-        if let Ok(Flow::Branches { falls, jumps }) = flow {
-            if falls {
-                step.falling = Some(self.edge(facts, &self.falling)?);
+        match flow {
+            Ok(Flow::Falls) => step.falling = Some(self.edge(facts, &self.falling)?),
+            // The facts in hand are those of the one edge that can be taken.
+            Ok(Flow::Jumps) => step.jumping = Some(self.edge(facts, &self.falling)?),
+            Ok(Flow::Branches { falls, jumps }) => {
+                if falls {
+                    step.falling = Some(self.edge(facts, &self.falling)?);
+                }
+                if jumps {
+                    step.jumping = Some(self.edge(facts, &self.jumping)?);
+                }
             }
-            if jumps {
-                step.jumping = Some(self.edge(facts, &self.jumping)?);
-            }
+            Ok(Flow::Ends) | Err(_) => {}
         }
         Ok(())
     }

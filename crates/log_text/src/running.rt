@@ -1,4 +1,4 @@
-//! The program: a program on its input, and the log on its output.
+//! The command-line program: it reads a program and writes its log.
 
 use crate::arguments::{ProgramForm, form_of, parse_arguments, style_of};
 use crate::log::{Log, log_of};
@@ -9,7 +9,7 @@ use std::alloc::{AllocError, Global};
 use std::io::{Read, Write};
 use tagged_model::Named;
 
-/// What the program writes, and the status that it ends with.
+/// The program's output and its exit status.
 #[derive(Drop)]
 struct Answer {
     text: String,
@@ -24,7 +24,7 @@ fn maps_given(alloc: Global, matches: &ArgMatches<'_>) -> Result<Vec<Named>, Fai
     }
 }
 
-/// The program on an input.
+/// The program of an input.
 fn program_in(alloc: Global, matches: &ArgMatches<'_>, input: &[u8]) -> Result<Program, Failure> {
     match form_of(matches, input) {
         ProgramForm::Hex => hex_program(alloc, input),
@@ -41,7 +41,7 @@ fn no_program(alloc: Global, slot: usize, kind: u16) -> Result<Answer, Failure> 
     })
 }
 
-/// The log of the program on an input.
+/// The log of the program of an input.
 fn log_answer<I: Read + Drop>(
     alloc: Global,
     matches: &ArgMatches<'_>,
@@ -60,7 +60,7 @@ fn log_answer<I: Read + Drop>(
     }
 }
 
-/// What the arguments ask for: the log, or help, or the version.
+/// The answer to the arguments: the log, or help, or the version.
 fn answer_of<I: Read + Drop>(
     alloc: Global,
     arguments: &[&str],
@@ -76,7 +76,7 @@ fn answer_of<I: Read + Drop>(
     }
 }
 
-/// Writes a text, and sends it on.
+/// Writes a text and flushes it.
 fn write_out<O: Write>(output: &mut O, text: &str) -> Result<(), Failure> {
     if output.write_all(text.as_bytes()).is_err() || output.flush().is_err() {
         return Err(Failure::Write);
@@ -84,7 +84,7 @@ fn write_out<O: Write>(output: &mut O, text: &str) -> Result<(), Failure> {
     Ok(())
 }
 
-/// Answers the arguments, and says the status.
+/// Writes the answer to the arguments, and returns the exit status.
 fn run<I: Read + Drop, O: Write + Drop>(
     alloc: Global,
     arguments: &[&str],
@@ -96,10 +96,10 @@ fn run<I: Read + Drop, O: Write + Drop>(
     Ok(status)
 }
 
-/// Runs the program on its arguments, which are those after its name, and says the status that it ends with: 0 where the
-/// program on the input is accepted, 1 where it or the input is refused, 2 at wrong arguments, 3 where input or output failed,
-/// 4 at want of memory. A fault is one line on `faults`, that of `bpfhost verify`; where that line can't be written the status
-/// stays. The log is written when it is whole.
+/// Runs the program on its arguments, those after its name, and returns its exit status: 0 if the input's program is accepted,
+/// or help or the version is asked for, 1 if it or the input is refused, 2 if arguments are wrong, 3 if input or output failed,
+/// 4 if out of memory. A fault is one line on `faults`, that of `bpfhost verify`; if that line can't be written, the status is
+/// the same. The log is written only once it is complete.
 pub fn run_log_words<I: Read + Drop, O: Write + Drop, F: Write + Drop>(
     alloc: Global,
     arguments: &[&str],

@@ -1,4 +1,4 @@
-//! On which way to an instruction something is missing that it needs.
+//! The path on which something is missing that an instruction needs.
 
 use crate::needs::Refusal;
 use crate::needs::registers::kind_of;
@@ -11,12 +11,12 @@ use transfer::{Flow, apply};
 use verifier::{VerifyFault, Watcher, verify_watched};
 use words::STACK_SLOTS;
 
-/// What an instruction needs: a value that may be read.
+/// What an instruction needs: a readable value.
 #[derive(Clone, Copy, Debug, PartialEq, Eq)]
 pub(crate) enum Wanted {
     /// In the register of this number.
     Register(u8),
-    /// In these bytes of the stack, both included, from its upper end.
+    /// In these bytes of the stack, both included, by their offsets from its upper end.
     Stack { first: i64, last: i64 },
 }
 
@@ -35,7 +35,7 @@ pub(crate) fn is_written(facts: &Facts, byte: i64) -> bool {
 }
 
 impl Wanted {
-    /// Whether it is there.
+    /// Whether the facts have it.
     fn is_in(self, facts: &Facts) -> bool {
         match self {
             Wanted::Register(register) => kind_of(facts, register) != Kind::Unreadable,
@@ -54,22 +54,22 @@ impl Wanted {
 /// Why something is missing before an instruction.
 #[derive(Clone, Copy, Debug, PartialEq, Eq)]
 enum Cause {
-    /// It never was there.
+    /// It was never written.
     Never,
-    /// It is missing on the edge from this slot, and is there on another.
+    /// It is missing on the edge from this slot, and present on another.
     Way(usize),
-    /// The instruction at this slot takes it.
+    /// The instruction at this slot destroys it.
     Taken(usize),
-    /// It is there on each edge to this slot, and is not the same on all.
+    /// It is present on each edge to this slot, and the join of the edges loses it.
     Joined(usize),
 }
 
-/// What comes to a slot.
+/// Whether it is present on the edges to a slot.
 #[derive(Clone, Copy, Debug)]
 struct Arrival {
-    /// Whether it is there on an edge.
+    /// Whether it is present on some edge.
     is_there: bool,
-    /// The first edge on which it is missing, by its source, and why.
+    /// The source of the first edge on which it is missing, and why.
     lack: Option<(usize, Cause)>,
 }
 
@@ -107,7 +107,7 @@ impl Finder<'_> {
         }
     }
 
-    /// Notes what is on an edge.
+    /// Notes whether it is present on an edge.
     fn arrive(&mut self, from: usize, to: usize, facts: &Facts) {
         let is_there = self.wanted.is_in(facts);
         let cause = self.cause.unwrap_or(Cause::Taken(from));
@@ -120,7 +120,7 @@ impl Finder<'_> {
         }
     }
 
-    /// Notes what is on the edges out of an instruction.
+    /// Notes whether it is present on the edges out of an instruction.
     fn leave(&mut self, slot: usize, insn: &Insn, facts: &Facts) {
         let (mut falling, mut taken) = (*facts, *facts);
         let Ok(flow) = apply(&mut falling, &mut taken, self.named, slot, insn) else {
@@ -157,7 +157,7 @@ impl Watcher for Finder<'_> {
     }
 }
 
-/// What comes to each slot, when nothing is known but the facts at the start.
+/// The arrivals before the pass: it is missing at program entry, and no edge is known yet.
 fn first_arrivals(alloc: Global, slots: usize) -> Result<Vec<Arrival>, AllocError> {
     let nothing = Arrival {
         is_there: false,
@@ -170,7 +170,7 @@ fn first_arrivals(alloc: Global, slots: usize) -> Result<Vec<Arrival>, AllocErro
     Ok(arrivals)
 }
 
-/// Why something is missing before the instruction that is refused.
+/// Why something is missing before the refused instruction.
 fn cause_of(refusal: &Refusal<'_>, wanted: Wanted) -> Result<Option<Cause>, AllocError> {
     let (alloc, program, named) = (refusal.alloc, refusal.program, refusal.named);
     let mut finder = Finder {
@@ -191,7 +191,7 @@ fn cause_of(refusal: &Refusal<'_>, wanted: Wanted) -> Result<Option<Cause>, Allo
     }
 }
 
-/// Writes why a register may not be read.
+/// Writes why a register is not readable.
 fn write_register_cause(text: &mut String, cause: Cause) -> Result<(), AllocError> {
     match cause {
         Cause::Never => text.push_str("was never written"),
@@ -206,7 +206,7 @@ fn write_register_cause(text: &mut String, cause: Cause) -> Result<(), AllocErro
     }
 }
 
-/// Writes why bytes of the stack may not be read.
+/// Writes why bytes of the stack are not readable.
 fn write_stack_cause(text: &mut String, cause: Cause) -> Result<(), AllocError> {
     match cause {
         Cause::Never => text.push_str("were never written"),
@@ -221,7 +221,7 @@ fn write_stack_cause(text: &mut String, cause: Cause) -> Result<(), AllocError> 
     }
 }
 
-/// Writes why something is missing before the instruction that is refused.
+/// Writes why something is missing before the refused instruction.
 pub(crate) fn write_way(
     text: &mut String,
     refusal: &Refusal<'_>,

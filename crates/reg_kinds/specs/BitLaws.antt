@@ -1,5 +1,5 @@
--- What holds of the bits that stand for bytes of a slot: laws of the definition `bits_in` of `Many`, proved here for the proofs of the
--- crates above. This project's own. No contract cites them, so there is nothing in them to believe.
+-- Laws of the masks of bytes of a slot, of the definition `bits_in` of `Many`, proved here for the proofs of the crates above.
+-- This project's own. No contract cites them, so there is nothing in them to believe.
 use Rattle.std.proofs.Common.{◌≡◌, ℕ, zero, suc, ◌+◌, ◌-◌, ◌*◌, ◌^◌, ◌<◌, ◌≤◌, min, sym, ap, subst, ◌∙◌, ⊎_elim, arith}
 use Rattle.std.proofs.Math.Nat.{pow-le-pow_right}
 use Rattle.std.proofs.lemmas.Bool.{cases_lt}
@@ -13,7 +13,7 @@ less_one (suc x) y h = let back : suc x - 1 ≡ x = omega arith in ap (λ (k : �
     next : (x y : ℕ) → x * y + y ≡ suc x * y
     next x y = grind arith
 
--- so many ones from a bit on, within eight, are a byte
+-- a one bits from bit b on, within eight, are a byte
 pub ones_small : (a b : ℕ) → a + b ≤ 8 → (2 ^ a - 1) * 2 ^ b < 256
 ones_small a b h =
     let some : 0 < 2 = omega arith in
@@ -23,7 +23,7 @@ ones_small a b h =
     let one = pow_pos b in
     omega arith
 
--- the bits of the bytes that lie in a slot are a byte
+-- the mask of the bytes in a slot is a byte
 pub bits_in_small : (p n i : ℕ) → bits_in p n i < 256
 bits_in_small p n i =
     let a = min 8 (p + n - 8 * i) - (p - 8 * i) in

@@ -1,4 +1,4 @@
--- What is known where two edges meet. This project's own.
+-- The joins of kinds, stack slots and facts, for where two edges meet. This project's own.
 use Rattle.std.specs.Prelude.{◌==◌, ◌&&◌, bit_and, if◌then◌else◌}
 use Rattle.std.specs.Ordering.{int_eq}
 use Rattle.interval.specs.Ranges.{hull}
@@ -19,7 +19,7 @@ kind_join (Value p) (Value q) = if p.map == q.map then Value (offsets_hull p q) 
 kind_join (MaybeValue m s) (MaybeValue n t) = if (m == n) && (s == t) then MaybeValue m s else Unreadable
 kind_join _ _ = Unreadable
 
--- a spilled value, unless nothing is known of it
+-- the slot that holds a spilled value of this kind; no written byte if it is Unreadable
 abbrev pub spilled : Kind → Slot
 spilled Unreadable = Bytes 0
 spilled k = Spill k

@@ -1,4 +1,4 @@
--- Kinds of values, and facts as tables of them. What a program begins with is the kernel's (the kernel documentation of the
+-- Kinds of values, and facts as tables of them. The facts at program entry are the kernel's (the kernel documentation of the
 -- verifier); kinds are this project's own.
 use Rattle.std.specs.Prelude.{ℕ, pos, ◌==◌, if◌then◌else◌, Bool, true, false, List, map, slice_index_or, slice_set}
 use Rattle.std.specs.List.{range_with_len}
@@ -29,11 +29,11 @@ with_kind f r k = record { registers = slice_set f.registers r k; slots = f.slot
 abbrev pub with_slot : Facts → ℕ → Slot → Facts
 with_slot f i s = record { registers = f.registers; slots = slice_set f.slots i s }
 
--- the list of f's values at the first n numbers
+-- the list of f 0 to f (n - 1)
 unfoldable pub tabulate : {X : Type 0} → ℕ → (ℕ → X) → List X
 tabulate n f = map f (range_with_len 0 n)
 
--- the facts with these registers, with these slots, and with both
+-- facts with these registers, with these slots, and with both
 abbrev pub with_registers : Facts → (ℕ → Kind) → Facts
 with_registers f k = record { registers = tabulate 11 k; slots = f.slots }
 
@@ -43,7 +43,7 @@ with_slots f s = record { registers = f.registers; slots = tabulate stack_slots 
 abbrev pub facts_of : (ℕ → Kind) → (ℕ → Slot) → Facts
 facts_of k s = record { registers = tabulate 11 k; slots = tabulate stack_slots s }
 
--- at the start of a program: the context in register 1, the frame pointer in register 10, nothing written
+-- at program entry: the context in register 1, the frame pointer in register 10, no stack byte written
 abbrev pub entry_kind : ℕ → Kind
 entry_kind r = if r == 1 then Ctx else (if r == 10 then Stack (pos 0) else Unreadable)
 

@@ -1,4 +1,4 @@
--- What holds of the joins, for all kinds, slots and facts. This project's own.
+-- Laws of the joins, for all kinds, slots and facts. This project's own.
 use Rattle.std.specs.Prelude.{◌≡◌}
 use Rattle.reg_kinds.specs.declared.kind.Kind.{Kind}
 use Rattle.reg_kinds.specs.declared.kind.Slot.{Slot}

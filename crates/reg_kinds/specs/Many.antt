@@ -1,5 +1,5 @@
--- Ranges of bytes of the stack that reach over many slots: what a helper reads, and what it writes. Places count from
--- the lowest byte of the stack. The rules are this project's own.
+-- Byte ranges of the stack that may span many slots: what a helper reads and writes. Places count from the stack's lower
+-- end; a mask has bit k for byte k of a slot. The rules are this project's own.
 use Rattle.std.specs.Prelude.{ℕ, zero, suc, ◌+◌, ◌-◌, ◌*◌, ◌^◌, ◌==◌, ℤ, min, bit_and, nat_le, Bool, false, not, ◌||◌, if◌then◌else◌, Result, Ok, Err}
 use Rattle.words.specs.Stack.{stack_slots, is_in_stack, place, touches}
 use Rattle.reg_kinds.specs.declared.kind.Kind.{Kind}
@@ -12,11 +12,11 @@ use Rattle.reg_kinds.specs.declared.reason.Reason.TheVariants.{OutsideStack, Unw
 use Rattle.reg_kinds.specs.Kinds.{kind_at, slot_at, with_registers, with_slots}
 use Rattle.reg_kinds.specs.Stack.{bytes_over}
 
--- of n bytes from place p on, the bits of those that lie in slot i
+-- the mask of those of n bytes at place p that lie in slot i
 abbrev pub bits_in : ℕ → ℕ → ℕ → ℕ
 bits_in p n i = (2 ^ (min 8 (p + n - 8 * i) - (p - 8 * i)) - 1) * 2 ^ (p - 8 * i)
 
--- the test holds of a number below n
+-- the test holds of some number below n
 unfoldable pub any_below : ℕ → (ℕ → Bool) → Bool
 any_below zero test = false
 any_below (suc n) test = test n || any_below n test
@@ -29,21 +29,21 @@ abbrev pub lacks : Slot → ℕ → Bool
 lacks (Bytes mask) bits = not (bit_and mask bits == bits)
 lacks (Spill k) bits = false
 
--- n bytes are read: none of a spilled value, and none that may not be written
+-- a read of n bytes: all in the stack, none of a spill, none that may be unwritten
 abbrev pub stack_input : Facts → ℤ → ℕ → Result (Unit {0}) Reason
 stack_input f x n =
     if not (is_in_stack x n) then Err OutsideStack else
     (if any_below stack_slots (λ i. is_touched_spill (slot_at f i) (touches (place x) n i)) then Err PartOfSpill else
     (if any_below stack_slots (λ i. lacks (slot_at f i) (bits_in (place x) n i)) then Err UnwrittenStack else Ok tt))
 
--- lo to hi bytes are written: lo of them are there then, and of a spilled value that may be touched nothing else is left
+-- after a write of lo to hi bytes the first lo count as written, and of a spill that may be touched no other byte does
 abbrev pub filled : Facts → ℤ → ℕ → ℕ → Facts
 filled f x lo hi = with_slots f (λ i. if touches (place x) hi i then bytes_over (slot_at f i) (bits_in (place x) lo i) else slot_at f i)
 
 abbrev pub stack_filled : Facts → ℤ → ℕ → ℕ → Result Facts Reason
 stack_filled f x lo hi = if is_in_stack x hi then Ok (filled f x lo hi) else Err OutsideStack
 
--- after a call register 0 has what it gives, and registers 1 to 5 may not be read
+-- after a call register 0 has its result, and registers 1 to 5 are unreadable
 abbrev pub call_kind : Facts → Kind → ℕ → Kind
 call_kind f k r = if r == 0 then k else (if nat_le r 5 then Unreadable else kind_at f r)
 

@@ -32,7 +32,7 @@ number LengthUnbounded = 35
 number UnalignedAtomic = 36
 number Memory = 40
 
--- what follows from a value, unless there is none: then the reason stays
+-- f of the value; a reason stays as it is
 abbrev pub and_then_ok : {A B : Type 0} → Result A Reason → (A → Result B Reason) → Result B Reason
 and_then_ok (Ok a) f = f a
 and_then_ok (Err e) f = Err e

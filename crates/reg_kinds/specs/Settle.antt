@@ -1,4 +1,4 @@
--- What is known once a test has told whether a look-up gave null. The rule is this project's own.
+-- The facts after a null test of a look-up's result. The rule is this project's own.
 use Rattle.std.specs.Prelude.{ℕ, ◌==◌, pos, Bool, true, false, if◌then◌else◌}
 use Rattle.interval.specs.Ranges.{constant}
 use Rattle.reg_kinds.specs.declared.kind.Kind.{Kind}
@@ -9,7 +9,7 @@ use Rattle.reg_kinds.specs.declared.facts.Facts.{Facts}
 use Rattle.reg_kinds.specs.Kinds.{kind_at, slot_at, facts_of}
 use Rattle.reg_kinds.specs.Pointers.{value_span}
 
--- what was of the look-up is null, or the start of a value of its map
+-- a copy in a register is then the number 0, or a pointer to the start of a value of map m
 abbrev pub settled_value : Bool → ℕ → Kind
 settled_value true m = Scalar (constant 0)
 settled_value false m = Value (value_span m (pos 0) (pos 0))
@@ -18,7 +18,7 @@ abbrev pub kind_settled : ℕ → Bool → Kind → Kind
 kind_settled site null (MaybeValue m s) = if s == site then settled_value null m else MaybeValue m s
 kind_settled site null k = k
 
--- eight bytes of null are eight written bytes
+-- a spilled copy is then eight written bytes, or that pointer
 abbrev pub settled_spill : Bool → ℕ → Slot
 settled_spill true m = Bytes 0xff
 settled_spill false m = Spill (Value (value_span m (pos 0) (pos 0)))

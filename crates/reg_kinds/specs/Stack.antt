@@ -1,7 +1,7 @@
--- Loads from the stack, and stores into it. Offsets count from its upper end. The rules are this project's own.
+-- Loads from the stack, and stores to it. Offsets count from its upper end. The rules are this project's own.
 use Rattle.std.specs.Prelude.{ℕ, ◌-◌, ◌*◌, ◌/◌, ◌%◌, ◌^◌, ◌==◌, ℤ, bit_and, bit_or, Bool, true, false, not, if◌then◌else◌, Result, Ok, Err}
 use Rattle.words.specs.declared.stack.AccessSize.{AccessSize}
-use Rattle.words.specs.Stack.{bytes_of, is_whole, is_in_stack, place, is_aligned}
+use Rattle.words.specs.Stack.{bytes_of, is_double, is_in_stack, place, is_aligned}
 use Rattle.interval.specs.Ranges.{full}
 use Rattle.reg_kinds.specs.declared.kind.Kind.{Kind}
 use Rattle.reg_kinds.specs.declared.kind.Kind.TheVariants.{Unreadable, Scalar}
@@ -13,11 +13,11 @@ use Rattle.reg_kinds.specs.declared.reason.Reason.TheVariants.{UnreadableRegiste
 use Rattle.reg_kinds.specs.Reason.{and_then_ok}
 use Rattle.reg_kinds.specs.Kinds.{is_pointer, slot_at, with_slot}
 
--- the bits of n bytes of a slot, the first of which is at this place
+-- the mask, within their slot, of n bytes at a place
 abbrev pub byte_bits : ℕ → ℕ → ℕ
 byte_bits at n = (2 ^ n - 1) * 2 ^ (at % 8)
 
--- the slot that an access touches, and the bits of its bytes
+-- the slot of an access, and the mask of its bytes there
 abbrev pub touched : ℤ → AccessSize → Result (ℕ × ℕ) Reason
 touched offset size =
     if not (is_in_stack offset (bytes_of size)) then Err OutsideStack else
@@ -26,13 +26,13 @@ touched offset size =
 
 -- ---- loads
 
--- what a load of bytes gives
+-- the kind of a load of bytes that are no spill
 abbrev pub loaded : AccessSize → Bool → Kind
 loaded size true = Scalar (full 64)
 loaded size false = Scalar (full (8 * bytes_of size))
 
 abbrev pub read_slot : Slot → ℕ → AccessSize → Bool → Result Kind Reason
-read_slot (Spill k) bits size signed = if is_whole size then Ok k else Err PartOfSpill
+read_slot (Spill k) bits size signed = if is_double size then Ok k else Err PartOfSpill
 read_slot (Bytes mask) bits size signed = if bit_and mask bits == bits then Ok (loaded size signed) else Err UnwrittenStack
 
 abbrev pub stack_read : Facts → ℤ → AccessSize → Bool → Result Kind Reason
@@ -40,17 +40,17 @@ stack_read f offset size signed = and_then_ok (touched offset size) (λ t. read_
 
 -- ---- stores
 
--- bytes are written over bytes, or over a spilled value, of which no byte is left
+-- the slot after a write of these bytes: other written bytes stay written, a spill is lost
 abbrev pub bytes_over : Slot → ℕ → Slot
 bytes_over (Bytes mask) bits = Bytes (bit_or mask bits)
 bytes_over (Spill k) bits = Bytes bits
 
--- a pointer is kept whole or not at all
+-- the slot after a store; a pointer is spilled whole, or the store is refused
 abbrev pub slot_written : Slot → ℕ → AccessSize → Kind → Result Slot Reason
 slot_written s bits size k =
-    if is_pointer k then (if is_whole size then Ok (Spill k) else Err PartOfSpill) else Ok (bytes_over s bits)
+    if is_pointer k then (if is_double size then Ok (Spill k) else Err PartOfSpill) else Ok (bytes_over s bits)
 
--- facts after a store
+-- the facts after a store
 abbrev pub facts_written : Facts → AccessSize → Kind → ℕ × ℕ → Result Facts Reason
 facts_written f size k t = and_then_ok (slot_written (slot_at f t.0) t.1 size k) (λ s. Ok (with_slot f t.0 s))
 

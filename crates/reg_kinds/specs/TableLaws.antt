@@ -1,6 +1,6 @@
--- What holds of lists made of a function, and of lists in which one place is written: laws of `tabulate` of `Kinds`, and of the
--- lists of kinds and slots that facts have. Proved here for the proofs of the crates above; this project's own. No contract
--- cites them, so there is nothing in them to believe.
+-- Laws of lists made of a function (`tabulate` of `Kinds`), and of lists with one element written, as facts have them of kinds
+-- and slots. Proved here for the proofs of the crates above; this project's own. No contract cites them, so there is nothing in
+-- them to believe.
 use Rattle.std.proofs.Common.{◌≡◌, ℕ, ◌<◌, ◌≤◌, ◌==◌, if◌then◌else◌, List, length, get_or, set, sym, subst, ⊎_elim, arith, get_or-set_same, get_or-set_other}
 use Rattle.std.proofs.Math.ListN.{length-set}
 use Rattle.std.proofs.lemmas.Bool.{cases_lt, cond_both, eqb-true, eqb-false}
@@ -10,12 +10,12 @@ use Rattle.reg_kinds.specs.Kinds.{tabulate}
 
 -- ---- a list made of a function
 
--- a place has the function's value there
+-- the element at i is f i
 pub tabulate-at : {X : Type 0} (f : ℕ → X) (n i : ℕ) (d : X) → i < n → get_or (tabulate n f) i d ≡ f i
 unfolding tabulate
 tabulate-at f n i d h = get_or-map-range_with_len f 0 n i i d h (omega arith)
 
--- it has as many places as are asked for
+-- its length is n
 pub length-tabulate : {X : Type 0} (f : ℕ → X) (n : ℕ) → length (tabulate n f) ≡ n
 unfolding tabulate
 length-tabulate f n = length-map-range_with_len f 0 n
@@ -23,7 +23,7 @@ length-tabulate f n = length-map-range_with_len f 0 n
 tabulate-past : {X : Type 0} (f : ℕ → X) (n i : ℕ) (d : X) → n ≤ i → get_or (tabulate n f) i d ≡ d
 tabulate-past f n i d h = let l = length-tabulate f n in get_or_past (tabulate n f) i d (omega arith)
 
--- what holds of the function's value at i, and of what stands for the places past the end, holds of what is read at i
+-- what holds of f i, and of the default past the end, holds of the element read at i
 pub in_table : {X : Type 0} (P : X → Type 0) (f : ℕ → X) (n i : ℕ) (d : X) → P (f i) → P d → P (get_or (tabulate n f) i d)
 in_table P f n i d here past =
     ⊎_elim
@@ -31,7 +31,7 @@ in_table P f n i d here past =
     (λ le. subst P (sym (tabulate-past f n i d le)) past)
     (cases_lt i n)
 
--- ---- a list in which one place is written
+-- ---- a list with one element written
 
 set-at : {X : Type 0} (P : X → Type 0) (xs : List X) (i : ℕ) (x d : X) → P x → P d → P (get_or (set xs i x) i d)
 set-at P xs i x d here past =
@@ -40,13 +40,13 @@ set-at P xs i x d here past =
     (λ le. subst P (sym (get_or_past (set xs i x) i d (let l = length-set xs i x in omega arith))) past)
     (cases_lt i (length xs))
 
--- what holds of the elements of a list with a function's values, and of x with y, holds once x and y are written at i
+-- a relation between elements and a function's values, and between x and y, holds once x and y are written at i
 pub in_written : {X Y : Type 0} (P : X → Y → Type 0) (xs : List X) (g : ℕ → Y) (i : ℕ) (x d : X) (y : Y) → P x y → P d y → ((k : ℕ) → P (get_or xs k d) (g k)) → (k : ℕ) → P (get_or (set xs i x) k d) (if k == i then y else g k)
 in_written P xs g i x d y here past others k =
     cond_both (k == i) y (g k) (λ z. P (get_or (set xs i x) k d) z)
     (λ t. subst (λ j. P (get_or (set xs i x) j d) y) (sym (eqb-true k i t)) (set-at (λ z. P z y) xs i x d here past))
     (λ t. subst (λ z. P z (g k)) (sym (get_or-set_other xs i k x d (eqb-false k i t))) (others k))
 
--- what holds of the elements of a list, and of x, holds of the elements once x is written
+-- what holds of the elements of a list, and of x, holds of the elements once x is written at i
 pub in_set : {X : Type 0} (P : X → Type 0) (xs : List X) (i : ℕ) (x d : X) → P x → P d → ((k : ℕ) → P (get_or xs k d)) → (k : ℕ) → P (get_or (set xs i x) k d)
 in_set P xs i x d here past others k = in_written {Y = ℕ} (λ z _. P z) xs (λ _. 0) i x d 0 here past others k

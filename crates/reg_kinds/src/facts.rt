@@ -1,10 +1,10 @@
-//! What is known before an instruction.
+//! Facts: the abstract state before an instruction.
 
 use crate::kind::{Kind, Slot};
 use words::{REGISTERS, STACK_SLOTS};
 
-/// What is known of each register, and of each slot of the stack. Slot i is the eight bytes at 8 * i above the stack's
-/// lowest.
+/// The kind of each register, and what is known of each stack slot. Slot i is the eight bytes from 8 * i bytes above the
+/// stack's lower end.
 #[derive(Clone, Copy, Debug, PartialEq, Eq)]
 pub struct Facts {
     pub registers: [Kind; REGISTERS],
@@ -16,8 +16,8 @@ impl Facts {
     ghost use Rattle.words.specs.declared.stack.TheConstants.{REGISTERS, STACK_SLOTS};
     ghost use Rattle.reg_kinds.specs.Kinds.{entry, kind_at, slot_at, with_kind, with_slot};
 
-    /// At the start of a program: register 1 is the context, register 10 the upper end of the stack, and nothing else is
-    /// there.
+    /// The facts at program entry: register 1 holds the context, register 10 the upper end of the stack; no other register
+    /// is readable, and no stack byte is written.
     pub fn at_entry() -> Facts
         ensures { result ≡ entry }
     {
@@ -38,7 +38,7 @@ impl Facts {
         self.registers[register]
     }
 
-    /// Sets the kind of the register of a number.
+    /// Sets the kind of register `number`.
     pub fn set_kind(&mut self, number: usize, kind: Kind)
         requires { number < REGISTERS }
         ensures { self.new ≡ with_kind self.old number kind }
@@ -54,7 +54,7 @@ impl Facts {
         self.slots[index]
     }
 
-    /// Sets what is known of a stack slot.
+    /// Sets what is known of stack slot `number`.
     pub fn set_slot(&mut self, number: usize, slot: Slot)
         requires { number < STACK_SLOTS }
         ensures { self.new ≡ with_slot self.old number slot }

@@ -1,4 +1,4 @@
-//! What is known where two edges meet.
+//! The joins of kinds, stack slots and facts, for where two edges meet.
 
 ghost use Rattle.std.specs.Prelude.{◌≡◌};
 ghost use Rattle.reg_kinds.specs.Kinds.{kind_at, slot_at, with_registers, with_slots};
@@ -11,8 +11,8 @@ use interval::hull;
 use words::{REGISTERS, STACK_SLOTS};
 
 impl Kind {
-    /// The kind of a value that is of one of two kinds: the hull of two ranges, or of two ranges of offsets into values of
-    /// one map, else what both are, and otherwise `Unreadable`.
+    /// The join of two kinds: the hull of two ranges, or of two ranges of offsets into values of one map; else, if both are
+    /// the same, that kind; otherwise `Unreadable`.
     pub fn join(self, other: Kind) -> Kind
         ensures { result ≡ kind_join self other }
     {
@@ -30,8 +30,8 @@ impl Kind {
 }
 
 impl Slot {
-    /// What is known of eight bytes of which one of two things is: the bytes that both have, or a spilled value of both. Of a
-    /// spilled value that is not known on both sides no byte is left.
+    /// The join of two stack slots: the bytes that are written in both, or the join of two spilled values. Where that is
+    /// `Unreadable`, or only one side is a spill, no byte counts as written.
     pub fn join(self, other: Slot) -> Slot
         ensures { result ≡ slot_join self other }
     {
@@ -50,7 +50,7 @@ fn offsets_hull(p: ValuePointer, q: ValuePointer) -> ValuePointer
     ValuePointer::new(p.map, p.lo.min(q.lo), p.hi.max(q.hi))
 }
 
-/// A spilled value, unless nothing is known of it.
+/// The slot that holds a spilled value of this kind; no written byte if it is `Unreadable`.
 fn spilled(kind: Kind) -> Slot
     ensures { result ≡ spilled kind }
 {
@@ -60,7 +60,7 @@ fn spilled(kind: Kind) -> Slot
     }
 }
 
-/// What is known where two edges meet: the join of each register and of each slot.
+/// The join of two facts: that of each register and of each stack slot.
 pub fn join(a: &Facts, b: &Facts) -> Facts
     ensures { result ≡ facts_join a.now b.now }
 {
@@ -69,7 +69,7 @@ pub fn join(a: &Facts, b: &Facts) -> Facts
     both
 }
 
-/// Joins what is known on a further edge into what is known so far.
+/// Joins the facts of a further edge into `facts`.
 pub fn join_into(facts: &mut Facts, edge: &Facts)
     ensures { facts.new ≡ facts_join facts.old edge.now }
 {
@@ -85,8 +85,8 @@ fn join_other_kinds(known: &mut Kind, edge: &Kind)
     *known = known.join(*edge);
 }
 
-/// Joins what is known of a value on a further edge into what is known so far, in place: where both are the same, as most
-/// are, nothing is written.
+/// Joins the kind `edge` into `known` in place: where both are the context, the same stack offset or the same map, nothing
+/// is written.
 #[inline(always)]
 fn join_kind(known: &mut Kind, edge: &Kind)
     ensures { known.new ≡ kind_join known.old edge.now }
@@ -109,8 +109,8 @@ fn join_registers(facts: &mut Facts, edge: &Facts)
     }
 }
 
-/// Joins what is known of eight bytes on a further edge into what is known so far: in place where both are bytes, or values
-/// of which something is known on both sides.
+/// Joins the stack slot `edge` into `known`, in place where both are written bytes, or both are spills whose join is not
+/// `Unreadable`.
 fn join_slot(known: &mut Slot, edge: &Slot)
     ensures { known.new ≡ slot_join known.old edge.now }
 {

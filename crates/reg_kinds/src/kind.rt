@@ -1,10 +1,10 @@
-//! Kinds of values, and what is known of eight bytes of the stack.
+//! Kinds of values, and of stack slots.
 
 ghost use Rattle.std.specs.Prelude.{◌≤ℤ◌};
 
 use interval::Range;
 
-/// A pointer into a value of a map. Which offset it has is known to lie from `lo` to `hi`.
+/// A pointer into a value of a map, at an offset from `lo` to `hi`, both included.
 #[derive(Clone, Copy, Debug, PartialEq, Eq)]
 pub struct ValuePointer {
     /// The descriptor of the map.
@@ -32,7 +32,7 @@ impl ValuePointer {
 /// What is known of a value.
 #[derive(Clone, Copy, Debug, PartialEq, Eq)]
 pub enum Kind {
-    /// Nothing: there may be no value at all, and it may not be read.
+    /// Nothing is known: it may be uninitialized, and may not be read.
     Unreadable,
     /// A number of a range.
     Scalar(Range),
@@ -44,11 +44,11 @@ pub enum Kind {
     Ctx,
     /// A pointer into a value of a map.
     Value(ValuePointer),
-    /// What a look-up gave that no test has settled yet: 0, or a pointer to the start of a value.
+    /// The result of a look-up before its null test: 0, or a pointer to the start of a value.
     MaybeValue {
         /// The descriptor of the map.
         map: u32,
-        /// The slot of the look-up: all that carry it are one value.
+        /// The slot of the look-up. All copies of its result carry it.
         site: usize,
     },
 }
@@ -56,9 +56,9 @@ pub enum Kind {
 /// What is known of eight bytes of the stack.
 #[derive(Clone, Copy, Debug, PartialEq, Eq)]
 pub enum Slot {
-    /// Which bytes are written: bit 0 is the lowest byte's.
+    /// The mask of the bytes that are written: bit 0 is the lowest byte.
     Bytes(u8),
-    /// They hold a value that is no scalar, whole.
+    /// A spill: they hold a pointer or a map reference, whole.
     Spill(Kind),
 }
 

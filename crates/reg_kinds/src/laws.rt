@@ -2,7 +2,7 @@
 
 ghost use Rattle.reg_kinds.specs.Laws.{KindsCommute, KindsAssociate, SlotsCommute, SlotsAssociate, FactsCommute, FactsAssociate};
 
-/// In whatever order two edges come, what holds where they meet is the same.
+/// The joins of kinds, of stack slots and of facts are commutative.
 pub fn joins_commute()
     ensures kinds { KindsCommute }
     ensures slots { SlotsCommute }
@@ -11,7 +11,7 @@ pub fn joins_commute()
     interval::laws::hull_is_a_join();
 }
 
-/// In whatever groups three edges come, what holds where they meet is the same.
+/// The joins of kinds, of stack slots and of facts are associative.
 pub fn joins_associate()
     ensures kinds { KindsAssociate }
     ensures slots { SlotsAssociate }

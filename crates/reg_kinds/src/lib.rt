@@ -1,4 +1,4 @@
-//! What a verifier knows of a program's registers and of its stack before an instruction.
+//! The abstract domain of the verifier: what it knows of a program's registers and stack before an instruction.
 #![tactic(auto)]
 
 mod facts;

@@ -1,4 +1,5 @@
-//! Ranges of bytes of the stack that reach over many slots, and what is known after a call.
+//! Byte ranges of the stack that may span many slots, and the facts after a call. A place is an offset from the stack's lower
+//! end; a mask has bit k for byte k of a slot.
 
 ghost use Rattle.std.specs.Prelude.{◌≡◌, ◌+◌, ◌-◌, ◌*◌, ◌^◌, ◌<◌, ◌≤◌, ◌==◌, nat_le, if◌then◌else◌, IfSome, MatchResult, Ok, Err, Some, None};
 ghost use Rattle.words.specs.Stack.{stack_size, stack_slots, is_in_stack, place, touches};
@@ -13,7 +14,7 @@ use crate::reason::Reason;
 use crate::stack::{LOWEST, bytes_over};
 use words::{REGISTERS, STACK_SLOTS};
 
-/// Whether so many bytes from a place on touch a slot.
+/// Whether `count` bytes at `place` touch slot `index`.
 fn touches(place: usize, count: usize, index: usize) -> bool
     requires within { place + count ≤ stack_size }
     requires slot { index < stack_slots }
@@ -22,7 +23,7 @@ fn touches(place: usize, count: usize, index: usize) -> bool
     place < 8 * index + 8 && 8 * index < place + count
 }
 
-/// So many bits from one on.
+/// `count` one bits, from bit `from` on.
 fn ones(count: usize, from: usize) -> u8
     requires { count + from ≤ 8 }
     ensures { result ≡ (2 ^ count - 1) * 2 ^ from }
@@ -30,7 +31,7 @@ fn ones(count: usize, from: usize) -> u8
     (((1_u16 << count) - 1) << from) as u8
 }
 
-/// The bits of those that lie in a slot.
+/// The mask of those of `count` bytes at `place` that lie in slot `index`.
 fn bits_in(place: usize, count: usize, index: usize) -> u8
     requires place { place ≤ stack_size }
     requires count { count < 2 ^ 32 }
@@ -42,7 +43,7 @@ fn bits_in(place: usize, count: usize, index: usize) -> u8
     if from < to { ones(to - from, from) } else { 0 }
 }
 
-/// Where bytes of the stack begin, if all of them lie in it.
+/// The place of `count` bytes at `offset` from the stack's upper end; `None` if they don't all lie in the stack.
 fn place_of(offset: i32, count: u32) -> Option<usize>
     ensures value { result ≡ (if is_in_stack offset count then Some (place offset) else None) }
     ensures within { IfSome result (λ p. p + count ≤ stack_size) }
@@ -54,7 +55,7 @@ fn place_of(offset: i32, count: u32) -> Option<usize>
     }
 }
 
-/// Whether it is a spilled value that is touched.
+/// Whether the slot is a spill and is touched.
 fn is_touched_spill(slot: Slot, touched: bool) -> bool
     ensures { result ≡ is_touched_spill slot touched }
 {
@@ -64,7 +65,7 @@ fn is_touched_spill(slot: Slot, touched: bool) -> bool
     }
 }
 
-/// Whether one of these bytes may never have been written.
+/// Whether a byte of the mask `bits` may be unwritten. Those of a spill are written.
 fn lacks(slot: Slot, bits: u8) -> bool
     ensures { result ≡ lacks slot bits }
 {
@@ -74,7 +75,7 @@ fn lacks(slot: Slot, bits: u8) -> bool
     }
 }
 
-/// Whether bytes touch a spilled value.
+/// Whether `count` bytes at `place` touch a spill.
 fn touch_a_spill(facts: &Facts, place: usize, count: usize) -> bool
     requires { place + count ≤ stack_size }
     ensures { result ≡ any_below stack_slots
@@ -88,7 +89,7 @@ fn touch_a_spill(facts: &Facts, place: usize, count: usize) -> bool
     false
 }
 
-/// Whether one of some bytes may never have been written.
+/// Whether one of `count` bytes at `place` may be unwritten.
 fn are_missing(facts: &Facts, place: usize, count: usize) -> bool
     requires { place + count ≤ stack_size }
     ensures { result ≡ any_below stack_slots
@@ -102,9 +103,8 @@ fn are_missing(facts: &Facts, place: usize, count: usize) -> bool
     false
 }
 
-/// Whether so many bytes of the stack may be read. `offset` counts from the stack's upper end. The first of these that
-/// holds refuses it: they are not all in the stack (`OutsideStack`), they touch a spilled value (`PartOfSpill`), one may
-/// never have been written (`UnwrittenStack`).
+/// Checks a read of `count` stack bytes at `offset` from the stack's upper end. The error is the first that applies: they
+/// don't all lie in the stack (`OutsideStack`), they touch a spill (`PartOfSpill`), one may be unwritten (`UnwrittenStack`).
 pub fn read_many(facts: &Facts, offset: i32, count: u32) -> Result<(), Reason>
     ensures { result ≡ stack_input facts.now offset count }
 {
@@ -120,9 +120,9 @@ pub fn read_many(facts: &Facts, offset: i32, count: u32) -> Result<(), Reason>
     }
 }
 
-/// Writes from `least` to `most` bytes into the stack: `least` of them are there then, and of a spilled value that may be
-/// touched nothing else is left. Refused where `most` bytes are not all in the stack, and then nothing changes.
-/// Where `least` is above `most` there is no such number of bytes, and what is told then speaks of no run.
+/// The facts after a write of at least `least` and at most `most` bytes at `offset` of the stack: the first `least` count as
+/// written, and of a spill that may be touched no other byte does. `OutsideStack`, and nothing changes, if `most` bytes
+/// don't all lie in the stack. Where `least` is above `most`, no write has such a length, and the facts describe no run.
 pub fn fill_stack(facts: &mut Facts, offset: i32, least: u32, most: u32) -> Result<(), Reason>
     ensures { MatchResult (stack_filled facts.old offset least most)
         (λ after. (result ≡ Ok tt) × (facts.new ≡ after))
@@ -133,7 +133,7 @@ pub fn fill_stack(facts: &mut Facts, offset: i32, least: u32, most: u32) -> Resu
     Ok(())
 }
 
-/// What a slot becomes.
+/// Slot `index` after that write.
 fn filled_slot(slot: Slot, place: usize, least: usize, most: usize, index: usize) -> Slot
     requires least { least < 2 ^ 32 }
     requires within { place + most ≤ stack_size }
@@ -160,7 +160,7 @@ fn fill_slots(facts: &mut Facts, place: usize, least: usize, most: usize)
     }
 }
 
-/// What a call leaves in a register.
+/// The kind of `register` after a call.
 fn called_kind(kind: Kind, result_kind: Kind, register: usize) -> Kind
     ensures { result ≡ (if register == 0 then result_kind
         else (if nat_le register 5 then Unreadable else kind)) }
@@ -174,7 +174,7 @@ fn called_kind(kind: Kind, result_kind: Kind, register: usize) -> Kind
     }
 }
 
-/// What is known after a call that gives a value of a kind: register 0 has it, and registers 1 to 5 may not be read.
+/// The facts after a call whose result is of the kind `given`: register 0 has it, and registers 1 to 5 are unreadable.
 pub fn facts_after_call(facts: &mut Facts, given: Kind)
     ensures { facts.new ≡ called_facts facts.old given }
 {

@@ -1,4 +1,4 @@
-//! What is known once a test has told whether a look-up gave null.
+//! The facts after a null test of a look-up's result.
 
 ghost use Rattle.std.specs.Prelude.{◌≡◌};
 ghost use Rattle.reg_kinds.specs.Kinds.{kind_at, slot_at, with_registers, with_slots};
@@ -9,8 +9,8 @@ use crate::kind::{Kind, Slot, ValuePointer};
 use interval::Range;
 use words::{REGISTERS, STACK_SLOTS};
 
-/// Settles each copy of what a look-up gave, in registers and in the stack: where it is null, copies are the number 0, and
-/// eight written bytes; else they are pointers to the start of a value. `site` is the slot of the look-up.
+/// Settles all copies of the result of the look-up at slot `site`. If `null`, a register has the number 0, and a spill is
+/// eight written bytes; else each copy is a pointer to the start of a value.
 pub fn settle(facts: &mut Facts, site: usize, null: bool)
     ensures { facts.new ≡ facts_settled site null facts.old }
 {
@@ -35,7 +35,7 @@ fn settle_stack(facts: &mut Facts, site: usize, null: bool)
     }
 }
 
-/// What a register's kind becomes.
+/// The kind of a register after the test.
 fn settled_kind(kind: Kind, site: usize, null: bool) -> Kind
     ensures { result ≡ kind_settled site null kind }
 {
@@ -51,7 +51,7 @@ fn settled_kind(kind: Kind, site: usize, null: bool) -> Kind
     }
 }
 
-/// What becomes of eight bytes of the stack.
+/// A stack slot after the test.
 fn settled_slot(slot: Slot, site: usize, null: bool) -> Slot
     ensures { result ≡ slot_settled site null slot }
 {

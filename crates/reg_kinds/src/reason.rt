@@ -1,6 +1,6 @@
 //! Why a program is refused.
 
-/// The first rule that a program breaks. Each has a number, which a refusal tells.
+/// The first rule that a program breaks. Each has a number, which a refusal reports.
 #[derive(Clone, Copy, Debug, PartialEq, Eq)]
 pub enum Reason {
     /// A jump out of the program, or into the second half of a wide instruction.
@@ -17,11 +17,11 @@ pub enum Reason {
     FramePointerWritten,
     /// A map is named by a descriptor that is not open.
     DescriptorNotOpen,
-    /// A map is named by a descriptor of something else.
+    /// A map is named by a descriptor of something other than a map.
     DescriptorNotMap,
-    /// A value is loaded directly of a map that is not an array of one element, or at an offset that is not in it.
+    /// The address of a direct value is loaded for a map that is not an array of one element, or at an offset outside its value.
     NoDirectValue,
-    /// A register is read that may hold anything.
+    /// A read of a register that may be uninitialized or hold anything.
     UnreadableRegister,
     /// The result at the exit is not a scalar.
     ResultNotScalar,
@@ -35,9 +35,9 @@ pub enum Reason {
     OutsideStack,
     /// A load or a store in the stack that is not aligned to its size.
     UnalignedStack,
-    /// A read of a stack byte that may never have been written.
+    /// A read of a stack byte that may be unwritten.
     UnwrittenStack,
-    /// An access to a part of a pointer that was spilled.
+    /// An access to a part of a spilled pointer.
     PartOfSpill,
     /// An access outside a map's value.
     OutsideValue,
@@ -55,7 +55,7 @@ pub enum Reason {
     LengthUnbounded,
     /// An atomic operation in a map's value at an offset that is not known to be a multiple of its size.
     UnalignedAtomic,
-    /// The verifier got no memory.
+    /// The verifier is out of memory.
     Memory,
 }
 
@@ -63,7 +63,7 @@ impl Reason {
     ghost use Rattle.std.specs.Prelude.{◌≡◌};
     ghost use Rattle.reg_kinds.specs.Reason.{number};
 
-    /// The number that a refusal tells: 1 to 9 for the shape of a program, 20 to 36 for its safety, 40 for memory.
+    /// The number that a refusal reports: 1 to 9 for the shape of a program, 20 to 36 for its safety, 40 for memory.
     pub fn number(self) -> u16
         ensures { result ≡ number self }
     {

@@ -1,4 +1,4 @@
-//! Loads from the stack, and stores into it.
+//! Loads from the stack, and stores to it.
 
 ghost use Rattle.std.specs.Prelude.{◌≡◌, ◌<◌, ◌*◌, ◌%◌, MatchResult, IfOk};
 ghost use Rattle.interval.specs.Ranges.{full};
@@ -14,10 +14,9 @@ use words::{AccessSize, STACK_SIZE};
 /// The offset of the stack's lowest byte.
 pub(crate) const LOWEST: i32 = -(STACK_SIZE as i32);
 
-/// The kind that a load from the stack gives, `signed` one that extends the sign. `offset` counts from the stack's upper
-/// end. The first of these that holds refuses it: it is not in the stack (`OutsideStack`), it is not aligned to its size
-/// (`UnalignedStack`), it reads a part of a spilled value (`PartOfSpill`), a byte may never have been written
-/// (`UnwrittenStack`).
+/// The kind of a load at `offset` from the stack's upper end, sign-extending if `signed`. The error is the first that
+/// applies: it is not in the stack (`OutsideStack`), it is not aligned to its size (`UnalignedStack`), it reads a part of a
+/// spill (`PartOfSpill`), a byte may be unwritten (`UnwrittenStack`).
 pub fn read_stack(
     facts: &Facts,
     offset: i32,
@@ -30,21 +29,21 @@ pub fn read_stack(
     read_slot(facts.slot(index), bits, size, signed)
 }
 
-/// What a load gives of the slot that it touches.
+/// The kind of a load from `slot`, of the bytes of the mask `bits`.
 fn read_slot(slot: Slot, bits: u8, size: AccessSize, signed: bool) -> Result<Kind, Reason>
     ensures { result ≡ read_slot slot bits size signed }
 {
     match slot {
-        Slot::Spill(kind) if size.is_whole() => Ok(kind),
+        Slot::Spill(kind) if size.is_double() => Ok(kind),
         Slot::Spill(_) => Err(Reason::PartOfSpill),
         Slot::Bytes(mask) if mask & bits == bits => Ok(loaded(size, signed)),
         Slot::Bytes(_) => Err(Reason::UnwrittenStack),
     }
 }
 
-/// Stores a value of a kind into the stack. The first of these that holds refuses it: the value is unreadable
-/// (`UnreadableRegister`), the store is not in the stack (`OutsideStack`), it is not aligned to its size
-/// (`UnalignedStack`), it keeps a part of a pointer (`PartOfSpill`). A refusal changes nothing.
+/// The facts after a store of a value of this kind at `offset` from the stack's upper end. The error is the first that
+/// applies, and then nothing changes: the value is unreadable (`UnreadableRegister`), the store is not in the stack
+/// (`OutsideStack`), it is not aligned to its size (`UnalignedStack`), it stores a part of a pointer (`PartOfSpill`).
 pub fn write_stack(
     facts: &mut Facts,
     offset: i32,
@@ -64,7 +63,7 @@ pub fn write_stack(
     Ok(())
 }
 
-/// The slot that an access touches, and the bits of its bytes.
+/// The slot of an access, and the mask of its bytes there.
 fn touched(offset: i32, size: AccessSize) -> Result<(usize, u8), Reason>
     ensures value { result ≡ touched offset size }
     ensures bound { IfOk result (λ t. t.0 < stack_slots) }
@@ -80,7 +79,7 @@ fn touched(offset: i32, size: AccessSize) -> Result<(usize, u8), Reason>
     Ok((place / 8, byte_bits(place, size)))
 }
 
-/// The bits of the bytes of a slot that an access touches.
+/// The mask, within their slot, of `size` aligned bytes at `place`.
 fn byte_bits(place: usize, size: AccessSize) -> u8
     requires { place % bytes_of size ≡ 0 }
     ensures { result ≡ byte_bits place (bytes_of size) }
@@ -93,7 +92,7 @@ fn byte_bits(place: usize, size: AccessSize) -> u8
     }
 }
 
-/// What a load of bytes gives.
+/// The kind of a load of bytes that are no spill: a number of `size` bytes, or any 64-bit number if sign-extended.
 pub fn loaded(size: AccessSize, signed: bool) -> Kind
     ensures { result ≡ loaded size signed }
 {
@@ -104,7 +103,7 @@ pub fn loaded(size: AccessSize, signed: bool) -> Kind
     }
 }
 
-/// The numbers of so many bytes.
+/// The numbers of `size` bytes.
 fn zero_extended(size: AccessSize) -> Range
     ensures { result ≡ full (8 * bytes_of size) }
 {
@@ -116,20 +115,20 @@ fn zero_extended(size: AccessSize) -> Range
     }
 }
 
-/// What a store leaves in the slot that it touches.
+/// The slot after a store of `value` to the bytes of the mask `bits`.
 fn slot_written(slot: Slot, bits: u8, size: AccessSize, value: Kind) -> Result<Slot, Reason>
     ensures { result ≡ slot_written slot bits size value }
 {
     if !value.is_pointer() {
         Ok(bytes_over(slot, bits))
-    } else if size.is_whole() {
+    } else if size.is_double() {
         Ok(Slot::Spill(value))
     } else {
         Err(Reason::PartOfSpill)
     }
 }
 
-/// Bytes written over bytes stay beside them. Over a spilled value they stay alone.
+/// The slot after a write of the bytes of the mask `bits`: other written bytes stay written, a spill is lost.
 pub(crate) fn bytes_over(slot: Slot, bits: u8) -> Slot
     ensures { result ≡ bytes_over slot bits }
 {

@@ -15,7 +15,7 @@ const LOAD_AND_RUN: [u8; 80] = [
     0, 0, 0, 0, 0, 0, 0, 0, 0, 0, 0, 0, 0, 0, 0, 0, 0, 0, 0, 0, 0, 0,
 ];
 
-/// Where the first of these frames ends.
+/// The end of the first of these frames.
 const FIRST_FRAME: usize = 28;
 
 /// The replies to them: descriptor 3, and the result 1.
@@ -23,7 +23,7 @@ const REPLIES: [u8; 28] = [
     8, 0, 0, 0, 0, 0, 5, 0, 3, 0, 0, 0, 12, 0, 0, 0, 0, 0, 10, 0, 0, 0, 0, 0, 1, 0, 0, 0,
 ];
 
-/// Where the first of the replies ends.
+/// The end of the first of the replies.
 const FIRST_REPLY: usize = 12;
 
 /// A reader that gives these bytes one by one, and then fails.
@@ -65,7 +65,7 @@ impl Read for Endless {
     }
 }
 
-/// A writer that takes so many bytes, and then none; at each call it takes no more than another number.
+/// A writer that takes a number of bytes in all, and then no more; each call takes at most another number.
 #[derive(Drop)]
 struct NarrowWriter<'a> {
     room: usize,
@@ -103,7 +103,7 @@ impl Write for Stuck<'_> {
     }
 }
 
-/// The first of some bytes, so many.
+/// The first `count` bytes.
 fn front(bytes: &[u8], count: usize) -> &[u8] {
     bytes.get(..count).unwrap_or(bytes)
 }
@@ -123,7 +123,7 @@ fn served_from<R: Read + Drop>(
     Ok((end, writer.into_inner(), reader.failures()))
 }
 
-/// How `serve` ends on a load and a run, and how many calls of the writer failed, by what it writes to.
+/// How `serve` ends on a load and a run with this writer, and how many calls of the writer failed.
 fn served_to<W: Write + Drop>(
     alloc: Global,
     output: W,
@@ -135,12 +135,12 @@ fn served_to<W: Write + Drop>(
     Ok((end, writer.failures()))
 }
 
-/// A fault of one kind, after so many frames.
+/// A fault of this kind, after `frames` frames.
 fn fault(kind: ServeFaultKind, frames: u32) -> Result<u32, ServeFault> {
     Err(ServeFault { kind, frames })
 }
 
-/// How `serve` ends on so many bytes of a load and a run, and how many bytes it writes.
+/// How `serve` ends on the first `length` bytes of a load and a run, and how many bytes it writes.
 fn end_of_cut(length: usize) -> (Result<u32, ServeFault>, usize) {
     let frames = if length < FIRST_FRAME { 0 } else { 1 };
     match length {
@@ -256,7 +256,7 @@ fn a_writer_that_sends_nothing_on(rt: HostRuntime) -> Result<(), Fail> {
     Ok(())
 }
 
-/// The status and the fault line of `asm`, by what it reads from and writes to.
+/// The status and the fault line of `asm` with this reader and this writer.
 fn assembled<R: Read + Drop, W: Write + Drop>(
     alloc: Global,
     input: R,
@@ -300,7 +300,7 @@ fn a_text_that_is_not_written(rt: HostRuntime) -> Result<(), Fail> {
     Ok(())
 }
 
-/// The status and the fault line where the arguments can't be read for this reason.
+/// The status and the fault line if the arguments can't be read for this reason.
 fn unread(alloc: Global, kind: ErrorKind) -> Result<(u8, String), Fail> {
     let mut faults = Vec::new(alloc);
     let status = refuse_unread_words(&io::Error::from(kind), &mut faults);

@@ -36,7 +36,7 @@ fn key(number: u8) -> [u8; 4] {
     [number, 0, 0, 0]
 }
 
-/// The first byte of a key that is given.
+/// The first byte of a given key.
 fn first_byte(given: Option<GivenKey<'_>>) -> Option<u8> {
     let given = given?;
     given.bytes().first().copied()
@@ -71,7 +71,7 @@ impl<M: ValueMap + Drop> Small<M> {
         first_byte(self.map.key_after(&[]))
     }
 
-    /// The first byte of the key that follows a key.
+    /// The first byte of the key after a key.
     fn next(&self, number: u8) -> Option<u8> {
         first_byte(self.map.key_after(&key(number)))
     }

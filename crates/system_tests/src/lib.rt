@@ -1,5 +1,5 @@
-//! Tests of what no program of cases can show: readers and writers that fail, and the maps of a tenant, whose calls no
-//! frame asks for.
+//! Tests that no program of cases can make: readers and writers that fail, and calls of a tenant's maps that no frame
+//! makes.
 #![tactic(auto)]
 
 #[cfg(test)]

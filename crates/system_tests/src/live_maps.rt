@@ -30,7 +30,7 @@ fn create(maps: &mut Maps, shape: MapShape, part: &mut [u8]) -> Result<MapKey, M
     maps.create(shape, part)
 }
 
-/// Releases a map that one holds.
+/// Releases a map that is held once.
 fn release(maps: &mut Maps, map: MapKey, part: &mut [u8])
     requires live { IsSome (live_at maps.old map) }
     requires holds { holds_at maps.old map ≡ 1 }
@@ -70,7 +70,7 @@ fn end_run(maps: &mut Maps, map: MapKey)
     maps.end_run(map);
 }
 
-/// How many more maps there is room for, up to thirty.
+/// How many more maps fit, up to thirty.
 fn made(maps: &mut Maps, shape: MapShape, part: &mut [u8]) -> usize
     requires { length part.old ≡ PART }
     ensures length { length part.new ≡ PART }
@@ -85,7 +85,7 @@ fn made(maps: &mut Maps, shape: MapShape, part: &mut [u8]) -> usize
     30
 }
 
-/// One more holds the map, and then one less.
+/// Holds the map once more, and then releases it once.
 fn hold_and_release(maps: &mut Maps, map: MapKey, part: &mut [u8])
     requires live { IsSome (live_at maps.old map) }
     requires few { holds_at maps.old map ≡ 1 }
@@ -104,7 +104,7 @@ fn find(maps: &Maps, map: MapKey, number: u8) -> Option<u32>
     maps.find(map, &[number, 0, 0, 0])
 }
 
-/// The first byte of the key that follows a key.
+/// The first byte of the key after a key.
 fn next(maps: &Maps, map: MapKey, number: u8) -> Option<u8>
     requires live { IsSome (live_at maps.now map) }
     requires key_size { (shape_at maps.now map).key_size ≡ 4 }

@@ -60,7 +60,7 @@ call_admits witness f shapes s k v still is =
       maps = still.maps;
     }
 
--- ---- more is told
+-- ---- a witness with more objects, and a new look-up
 
 module _ (witness : Witness) (s : RunState) (site : ℕ) (v : Tagged) (objects : (m : ℕ) → witness.objects m ≤ objects_of (s.maps m)) where
   more : Witness

@@ -1,9 +1,9 @@
 -- Known answers of runs with maps and calls, worked out by hand from the kernel's documentation of helpers and maps and from
 -- this project's rules. The comments spell the programs.
 use Rattle.std.proofs.Common.{◌≡◌, ℕ, ◌==◌, pos, if◌then◌else◌, Bool, true, false, replicate, List, [], ◌∷◌, ◌++◌, Some, None, refl}
-use Rattle.insn_codec.specs.declared.insn.AluOp.TheVariants.{Add}
-use Rattle.insn_codec.specs.declared.insn.Condition.TheVariants.{Equal, NotEqual, Above}
-use Rattle.insn_codec.specs.declared.insn.Size.TheVariants.{Byte, Word, Double}
+use Rattle.words.specs.declared.operator.AluOp.TheVariants.{Add}
+use Rattle.words.specs.declared.operator.Condition.TheVariants.{Equal, NotEqual, Above}
+use Rattle.words.specs.declared.stack.AccessSize.TheVariants.{Byte, Word, Double}
 use Rattle.insn_codec.specs.declared.insn.Operand.TheVariants.{Imm, Reg}
 use Rattle.insn_codec.specs.declared.insn.Insn.{Insn}
 use Rattle.insn_codec.specs.declared.insn.Insn.TheVariants.{Alu, Jump, Call, Exit, Const, MapFd, MapValue}

@@ -13,7 +13,7 @@ AreBytes c = (i b : ℕ) → byte_at c i ≡ Some b → b < 256
 abbrev pub IsSmall : (ℕ → Option ℕ) → Type 0
 IsSmall byte = (i b : ℕ) → byte i ≡ Some b → b < 256
 
--- so many bytes from place p on are there, and make a small number
+-- the n bytes from place p on are present, and their number is small
 pub record AreRead (byte : ℕ → Option ℕ) (p n : ℕ) : Type 0 where
   pub list : List ℕ
   pub read : gathered byte p n ≡ Some list

@@ -46,7 +46,7 @@ may_read f x n e =
     passed true true c e = absurd (refused PartOfSpill tt e)
     passed false b c e = absurd (refused OutsideStack tt e)
 
--- a bit that is told, and the byte
+-- a bit that is set in the mask, and the byte
 set_there : (mask bits j : ℕ) → not (bit_and mask bits == bits) ≡ false → bit_at bits j ≡ 1 → bit_at mask j ≡ 1
 set_there mask bits j e one = each_in_mask mask bits j (eqb-true (bit_and mask bits) bits (not-false (bit_and mask bits == bits) e)) one
 

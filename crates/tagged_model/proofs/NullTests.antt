@@ -1,4 +1,4 @@
--- What a test for null tells of all that came from one look-up.
+-- The effect of a null test on all copies of the result of one look-up.
 use Rattle.std.proofs.Common.{◌≡◌, ◌≢◌, ℕ, ◌==◌, pos, Bool, true, false, Option, sym, ap, subst, ◌∙◌, inl, inr, arith}
 use Rattle.std.proofs.lemmas.Int.{ints, clamps}
 use Rattle.std.proofs.lemmas.Bool.{cond_both, eqb-true}
@@ -18,7 +18,7 @@ use Rattle.tagged_model.specs.State.{RunState}
 use Rattle.tagged_model.specs.Admits.{Witness, IsOfKind, IsLookup, IsKeptWhole, HasKind, HasSlot, AdmitsBy}
 use Rattle.tagged_model.proofs.Unknown.{has_kind, admitted_by}
 
--- what a test of a site tells of a value of it, and of a slot that keeps one
+-- what a null test of a site determines of its value, and of a slot that keeps it
 record Tells (witness : Witness) (site : ℕ) (null : Bool) : Type 0 where
   of_value : (m : ℕ) (v : Tagged) → v ≡ witness.gave site → IsLookup witness m v → IsOfKind witness (settled_value null m) v
   of_slot : (m : ℕ) (c : Cell) → HasSlot witness (Spill (kind.MaybeValue m site)) c → HasSlot witness (settled_spill null m) c

@@ -16,7 +16,7 @@ use Rattle.tagged_model.specs.declared.value.Tagged.{Tagged}
 use Rattle.tagged_model.specs.declared.value.Tagged.TheVariants.{Scalar, Pointer}
 use Rattle.insn_codec.specs.declared.insn.AtomicSize.{AtomicSize}
 use Rattle.insn_codec.specs.declared.insn.AtomicOp.{AtomicOp}
-use Rattle.tagged_model.specs.Operators.{size_of, atomic_operator, atomic_size, is_wide_atomic}
+use Rattle.insn_codec.specs.Atomic.{atomic_operator, is_wide_atomic, access_size}
 use Rattle.tagged_model.specs.Values.{of_numbers, arithmetic, first_operand, compared}
 use Rattle.tagged_model.specs.Table.{Verdict, Refused, Present, New, verdict, removal, direct_object}
 use Rattle.tagged_model.specs.Cells.{and_then, write_cell, cell_over}
@@ -102,7 +102,7 @@ module _ (refused : Bool) (s : RunState) where
   store_keeps size p off v = tt
 
   changed_keeps : (size : AtomicSize) (op : AtomicOp) (p : Tagged) (off : ℤ) (v : Tagged) → KeepsFlag (changed s size op p off v)
-  changed_keeps size op p off v = also_keeps (load s (atomic_size size) false p off) _ (λ old. also_keeps (of_numbers (is_wide_atomic size) (atomic_operator op) old v) _ (λ new. store_keeps (atomic_size size) p off new))
+  changed_keeps size op p off v = also_keeps (load s (access_size size) false p off) _ (λ old. also_keeps (of_numbers (is_wide_atomic size) (atomic_operator op) old v) _ (λ new. store_keeps (access_size size) p off new))
 
   output_keeps : (p : Tagged) (bs : List ℕ) → KeepsFlag (output s p bs)
   output_keeps (Pointer object.Stack x) bs = stack_written_keeps x bs
@@ -181,7 +181,7 @@ module _ (refused : Bool) (s : RunState) where
   act_tells (Call id) = need_tells (helper_of id) _ _ (λ h. next_tells (called refused h s) (called false h s) (called_tells h))
   act_tells Exit = need_tells (s.registers 0) _ _ ended_tells
   act_tells (Load l) = need_tells (s.registers l.src) _ _ (λ p. assigned_tells 1 l.dst _)
-  act_tells (Store size dst src off) = need_tells (s.registers dst) _ _ (λ p. need_tells (operand_value s true src) _ _ (λ v. next_kept (store s (size_of size) p off v) (store_keeps (size_of size) p off v)))
+  act_tells (Store size dst src off) = need_tells (s.registers dst) _ _ (λ p. need_tells (operand_value s true src) _ _ (λ v. next_kept (store s size p off v) (store_keeps size p off v)))
   act_tells (Atomic size op dst src off) = need_tells (s.registers dst) _ _ (λ p. need_tells (s.registers src) _ _ (λ v. next_kept (changed s size op p off v) (changed_keeps size op p off v)))
   act_tells (Const dst value) = kept _ _ refl refl
   act_tells (MapFd dst fd) = need_tells (s.maps (unsigned 32 fd)) _ _ (λ t. kept _ _ refl refl)

@@ -1,12 +1,12 @@
 -- Known answers of runs: what small programs answer, and where they fault (RFC 9669, sections 4 and 5). The comments spell
 -- the programs; each ends with `exit`, unless it says otherwise.
 use Rattle.std.proofs.Common.{◌≡◌, ℕ, ℤ, pos, neg_ℤ, true, false, List, [], ◌∷◌, None, refl}
-use Rattle.insn_codec.specs.declared.insn.AluOp.TheVariants.{Add, Sub, Div, SignedDiv, Mod, SignedMod, Mov, ShiftLeft, ShiftRight}
-use Rattle.insn_codec.specs.declared.insn.ByteOrder.TheVariants.{Big}
-use Rattle.insn_codec.specs.declared.insn.Bits.TheVariants.{Bits16}
-use Rattle.insn_codec.specs.declared.insn.Condition.TheVariants.{Equal, NotEqual}
-use Rattle.insn_codec.specs.declared.insn.Size.{Size}
-use Rattle.insn_codec.specs.declared.insn.Size.TheVariants.{Byte, Half, Word, Double}
+use Rattle.words.specs.declared.operator.AluOp.TheVariants.{Add, Sub, Div, SignedDiv, Mod, SignedMod, Mov, ShiftLeft, ShiftRight}
+use Rattle.words.specs.declared.operator.ByteOrder.TheVariants.{Big}
+use Rattle.words.specs.declared.operator.KeptBits.TheVariants.{Bits16}
+use Rattle.words.specs.declared.operator.Condition.TheVariants.{Equal, NotEqual}
+use Rattle.words.specs.declared.stack.AccessSize.{AccessSize}
+use Rattle.words.specs.declared.stack.AccessSize.TheVariants.{Byte, Half, Word, Double}
 use Rattle.insn_codec.specs.declared.insn.Operand.TheVariants.{Imm, Reg}
 use Rattle.insn_codec.specs.declared.insn.Insn.{Insn}
 use Rattle.insn_codec.specs.declared.insn.Insn.TheVariants.{Alu, End, Ja, Jump, Exit, Load, Store, Const}
@@ -40,14 +40,14 @@ abbrev pub copy : ℕ → ℕ → Insn
 copy dst src = Alu true Mov dst (Reg src)
 
 -- dst = *(size *)(src + off)
-abbrev pub get : Size → ℕ → ℕ → ℤ → Insn
+abbrev pub get : AccessSize → ℕ → ℕ → ℤ → Insn
 get size dst src off = Load (record { size = size; signed = false; dst = dst; src = src; off = off; listed = refl })
 
 -- *(size *)(dst + off) = n, and *(size *)(dst + off) = src
-abbrev pub put : Size → ℕ → ℤ → ℤ → Insn
+abbrev pub put : AccessSize → ℕ → ℤ → ℤ → Insn
 put size dst off n = Store size dst (Imm n) off
 
-abbrev pub put_register : Size → ℕ → ℤ → ℕ → Insn
+abbrev pub put_register : AccessSize → ℕ → ℤ → ℕ → Insn
 put_register size dst off src = Store size dst (Reg src) off
 
 -- ---- operators

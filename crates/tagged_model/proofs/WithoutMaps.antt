@@ -14,7 +14,7 @@ use Rattle.tagged_model.specs.declared.value.Tagged.{Tagged}
 use Rattle.tagged_model.specs.declared.value.Tagged.TheVariants.{Scalar, Pointer}
 use Rattle.insn_codec.specs.declared.insn.AtomicSize.{AtomicSize}
 use Rattle.insn_codec.specs.declared.insn.AtomicOp.{AtomicOp}
-use Rattle.tagged_model.specs.Operators.{size_of, atomic_operator, atomic_size, is_wide_atomic}
+use Rattle.insn_codec.specs.Atomic.{atomic_operator, is_wide_atomic, access_size}
 use Rattle.tagged_model.specs.Values.{of_numbers, arithmetic, first_operand, compared}
 use Rattle.tagged_model.specs.Cells.{and_then, write_cell, cell_over}
 use Rattle.tagged_model.specs.Table.{direct_object}
@@ -88,7 +88,7 @@ module _ (s : RunState) (bare : IsBare s) where
   store_bare size p off v = tt
 
   changed_bare : (size : AtomicSize) (op : AtomicOp) (p : Tagged) (off : ℤ) (v : Tagged) → AreBare (changed s size op p off v)
-  changed_bare size op p off v = also_bare (load s (atomic_size size) false p off) _ (λ old. also_bare (of_numbers (is_wide_atomic size) (atomic_operator op) old v) _ (λ new. store_bare (atomic_size size) p off new))
+  changed_bare size op p off v = also_bare (load s (access_size size) false p off) _ (λ old. also_bare (of_numbers (is_wide_atomic size) (atomic_operator op) old v) _ (λ new. store_bare (access_size size) p off new))
 
   output_bare : (p : Tagged) (bs : List ℕ) → AreBare (output s p bs)
   output_bare (Pointer object.Stack x) bs = stack_written_bare x bs
@@ -139,7 +139,7 @@ module _ (s : RunState) (bare : IsBare s) where
   act_bare refused (Call id) = need_bare (helper_of id) _ (λ h. next_bare (called refused h s) (called_bare refused h))
   act_bare refused Exit = need_bare (s.registers 0) _ ended_bare
   act_bare refused (Load l) = need_bare (s.registers l.src) _ (λ p. assigned_bare 1 l.dst _)
-  act_bare refused (Store size dst src off) = need_bare (s.registers dst) _ (λ p. need_bare (operand_value s true src) _ (λ v. next_bare (store s (size_of size) p off v) (store_bare (size_of size) p off v)))
+  act_bare refused (Store size dst src off) = need_bare (s.registers dst) _ (λ p. need_bare (operand_value s true src) _ (λ v. next_bare (store s size p off v) (store_bare size p off v)))
   act_bare refused (Atomic size op dst src off) = need_bare (s.registers dst) _ (λ p. need_bare (s.registers src) _ (λ v. next_bare (changed s size op p off v) (changed_bare size op p off v)))
   act_bare refused (Const dst value) = as_before _ refl refl
   act_bare refused (MapFd dst fd) = need_bare (s.maps (unsigned 32 fd)) _ (λ t. as_before _ refl refl)

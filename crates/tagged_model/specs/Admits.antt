@@ -1,4 +1,4 @@
--- What facts say of a state. This project's own.
+-- When facts admit a state. This project's own.
 use Rattle.std.specs.Prelude.{◌≡◌, ◌⊎◌, ℕ, ◌<◌, ◌≤◌, ◌^◌, ℤ, pos, ◌≤ℤ◌, Option, Some, None}
 use Rattle.std.specs.Int.{bit_at}
 use Rattle.interval.specs.declared.range.Range.{Range}
@@ -16,19 +16,19 @@ use Rattle.tagged_model.specs.declared.value.Tagged.TheVariants.{Scalar, Map, Po
 use Rattle.tagged_model.specs.Cells.{Cell, holds, byte_at}
 use Rattle.tagged_model.specs.State.{RunState, RunMap, set_at}
 
--- what is told beside the facts: of each site what the look-up there gave, so that all that carry it are one value; and of
--- each map how many objects it has had, or fewer
+-- what facts alone don't determine: for each site what the look-up there gave, so that all copies of it are one value; and for each
+-- map the number of objects that it has had, or fewer
 pub record Witness : Type 0 where
   pub gave : ℕ → Tagged
   pub objects : ℕ → ℕ
 
 -- ---- values
 
--- a word of the range
+-- a 64-bit number in the range
 abbrev pub IsScalarOf : Range → Tagged → Type 0
 IsScalarOf r v = (n : ℕ) × (v ≡ Scalar n) × IsMember n r × (n < 2 ^ 64)
 
--- a pointer into a value of the map, at an offset that is known
+-- a pointer into a value of the map, at an offset in the known range
 abbrev pub IsValueOf : Witness → ValuePointer → Tagged → Type 0
 IsValueOf witness p v = (number : ℕ) × (x : ℤ) × (v ≡ Pointer (object.Value p.map number) x) × (p.lo ≤ℤ x) × (x ≤ℤ p.hi) × (number < witness.objects p.map)
 
@@ -45,7 +45,7 @@ IsOfKind witness kind.Ctx v = v ≡ Pointer object.Context (pos 0)
 IsOfKind witness (kind.Value p) v = IsValueOf witness p v
 IsOfKind witness (kind.MaybeValue m site) v = (v ≡ witness.gave site) × IsLookup witness m v
 
--- ---- registers: of one that may not be read nothing is known
+-- ---- registers: nothing is known of one that may not be read
 
 abbrev pub HasKind : Witness → Kind → Option Tagged → Type 0
 HasKind witness kind.Unreadable o = Unit {0}
@@ -53,7 +53,7 @@ HasKind witness k o = (v : Tagged) × (o ≡ Some v) × IsOfKind witness k v
 
 -- ---- stack slots
 
--- a value that is kept whole
+-- a value that a slot keeps whole
 abbrev pub IsKeptWhole : Tagged → Type 0
 IsKeptWhole (Scalar n) = ⊥
 IsKeptWhole (Map m) = Unit {0}
@@ -62,12 +62,12 @@ IsKeptWhole (Pointer o x) = Unit {0}
 abbrev pub HoldsWhole : Witness → Kind → Cell → Type 0
 HoldsWhole witness k c = (v : Tagged) × (c ≡ holds v) × IsOfKind witness k v × IsKeptWhole v
 
--- eight zero bytes stand for the null of a look-up
+-- eight zero bytes represent the null of a look-up
 abbrev pub HoldsNull : Witness → Kind → Cell → Type 0
 HoldsNull witness (kind.MaybeValue m site) c = (witness.gave site ≡ Scalar 0) × ((j : ℕ) → j < 8 → byte_at c j ≡ Some 0)
 HoldsNull witness _ c = ⊥
 
--- the bytes of a mask are there
+-- the bytes of the mask are present
 abbrev pub HasBytes : ℕ → Cell → Type 0
 HasBytes mask c = (j : ℕ) → j < 8 → bit_at mask j ≡ 1 → (b : ℕ) × (byte_at c j ≡ Some b)
 
@@ -77,7 +77,7 @@ HasSlot witness (Spill k) c = HoldsWhole witness k c ⊎ HoldsNull witness k c
 
 -- ---- states
 
--- how many objects a map has had
+-- the number of objects that a map has had
 abbrev pub objects_of : Option RunMap → ℕ
 objects_of None = 0
 objects_of (Some t) = t.count
@@ -87,11 +87,11 @@ pub record AdmitsBy (witness : Witness) (f : Facts) (s : RunState) : Type 0 wher
   pub slots : (i : ℕ) → HasSlot witness (slot_at f i) (s.cells i)
   pub objects : (m : ℕ) → witness.objects m ≤ objects_of (s.maps m)
 
--- the facts admit the state: for each look-up there is one value
+-- the facts admit the state, with one value for each look-up
 abbrev pub Admits : Facts → RunState → Type 0
 Admits f s = (witness : Witness) × AdmitsBy witness f s
 
--- ---- the sites of facts are slots below n
+-- ---- all sites in the facts are slots below n
 
 abbrev pub IsKindBelow : ℕ → Kind → Type 0
 IsKindBelow n (kind.MaybeValue m site) = site < n
@@ -105,6 +105,6 @@ pub record AreBelow (n : ℕ) (f : Facts) : Type 0 where
   pub registers : (r : ℕ) → IsKindBelow n (kind_at f r)
   pub slots : (i : ℕ) → IsSlotBelow n (slot_at f i)
 
--- what is told once a look-up at a site has given a value
+-- the witness after a look-up at a site that gave v
 abbrev pub witness_at : Witness → RunState → ℕ → Tagged → Witness
 witness_at witness s site v = record { gave = set_at witness.gave site v; objects = λ m. objects_of (s.maps m) }

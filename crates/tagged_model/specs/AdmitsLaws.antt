@@ -1,10 +1,10 @@
--- What holds of cells of which no byte is told: a law of the definition `HasBytes` of `Admits`, proved here for the proofs of the crates
--- above. This project's own. No contract cites it, so there is nothing in it to believe.
+-- Every cell has the bytes of the empty mask: a law of the definition `HasBytes` of `Admits`, proved here for the proofs of the
+-- crates above. This project's own. No contract cites it, so there is nothing in it to believe.
 use Rattle.std.proofs.Common.{arith}
 use Rattle.std.proofs.lemmas.Nat.Bits.{bit_at-zero}
 use Rattle.tagged_model.specs.Cells.{Cell}
 use Rattle.tagged_model.specs.Admits.{HasBytes}
 
--- where it is told of no byte that it is there, any cell will do
+-- every cell has the bytes of the empty mask
 pub no_bytes : (c : Cell) → HasBytes 0 c
 no_bytes c j h e = absurd (omega (arith, bit_at-zero j, e))

@@ -1,5 +1,5 @@
--- Eight bytes of the stack, and how they are read and written. Loads and stores are those of RFC 9669, sections 5.1
--- and 5.2; that a pointer is kept whole is this project's own.
+-- Cells, eight bytes of the stack each, and their loads and stores. Loads and stores are those of RFC 9669, sections 5.1 and 5.2;
+-- that a pointer is kept whole is this project's own.
 use Rattle.std.specs.Prelude.{ℕ, zero, suc, ◌+◌, ◌-◌, ◌*◌, Bool, true, false, ◌&&◌, nat_lt, nat_le, if◌then◌else◌, List, [], ◌∷◌, length, slice_get, Option, Some, None, option_map}
 use Rattle.words.specs.declared.stack.AccessSize.{AccessSize}
 use Rattle.words.specs.declared.stack.AccessSize.TheVariants.{Double}
@@ -9,12 +9,12 @@ use Rattle.words.specs.Stack.{bytes_of, touches}
 use Rattle.tagged_model.specs.declared.value.Tagged.{Tagged}
 use Rattle.tagged_model.specs.declared.value.Tagged.TheVariants.{Scalar}
 
--- a pointer or a map that is kept whole, or bytes, of which any may be absent
+-- a pointer or a map kept whole, or bytes, any of which may be absent
 pub data Cell : Type 0 where
   holds : Tagged → Cell
   bytes : (ℕ → Option ℕ) → Cell
 
--- what is made of a thing that may be absent
+-- applies f if there is a value
 abbrev pub and_then : {A B : Type 0} → Option A → (A → Option B) → Option B
 and_then None f = None
 and_then (Some x) f = f x
@@ -23,12 +23,12 @@ abbrev pub byte_at : Cell → ℕ → Option ℕ
 byte_at (holds v) j = None
 byte_at (bytes b) j = b j
 
--- n bytes from place p on, if none of them is absent
+-- the n bytes at place p, if none of them is absent
 unfoldable pub gathered : (ℕ → Option ℕ) → ℕ → ℕ → Option (List ℕ)
 gathered byte p zero = Some []
 gathered byte p (suc n) = and_then (byte p) (λ b. and_then (gathered byte (suc p) n) (λ bs. Some (b ∷ bs)))
 
--- a number of so many bytes as a word: with its sign, or with zeros above
+-- a loaded number as a word: sign-extended, or zero-extended
 abbrev pub widened : AccessSize → Bool → ℕ → ℕ
 widened size true n = sign_extend 64 (8 * bytes_of size) n
 widened size false n = n
@@ -36,24 +36,23 @@ widened size false n = n
 abbrev pub number_from : AccessSize → Bool → Option (List ℕ) → Option Tagged
 number_from size signed o = option_map (λ bs. Scalar (widened size signed (number_of bs))) o
 
--- what a load gives; nothing of a part of what is kept whole
+-- the value of a load; None for a part of a value kept whole
 abbrev pub read_cell : Cell → ℕ → AccessSize → Bool → Option Tagged
 read_cell (holds v) j Double signed = Some v
 read_cell (holds v) j _ signed = None
 read_cell (bytes b) j size signed = number_from size signed (gathered b j (bytes_of size))
 
--- these bytes from the j-th on, over what was there; of what was kept whole nothing is left
+-- the cell with these bytes written over it at offset j; a value kept whole is lost
 abbrev pub written_over : Cell → ℕ → List ℕ → Cell
 written_over c j bs = bytes (λ k. if nat_le j k && nat_lt k (j + length bs) then slice_get bs (k - j) else byte_at c k)
 
--- what a store leaves; a pointer or a map is not cut
+-- the cell after a store; None for a store of a part of a pointer or map
 abbrev pub write_cell : Cell → ℕ → AccessSize → Tagged → Option Cell
 write_cell c j size (Scalar n) = Some (written_over c j (low_bytes (bytes_of size) n))
 write_cell c j Double v = Some (holds v)
 write_cell c j _ v = None
 
--- slot i of the stack after these bytes are written from place p of the stack on. Where they touch it, nothing is left of
--- what was kept whole
+-- slot i of the stack after these bytes are written at place p of the stack; if they touch it, a value kept whole is lost
 abbrev pub cell_over : ℕ → Cell → ℕ → List ℕ → Cell
 cell_over i c p bs =
     if touches p (length bs) i then bytes (λ j. if nat_le p (8 * i + j) && nat_lt (8 * i + j) (p + length bs) then slice_get bs (8 * i + j - p) else byte_at c j) else c

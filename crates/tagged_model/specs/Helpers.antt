@@ -1,7 +1,7 @@
--- The functions that a program may call: their numbers and arguments are the kernel's (linux/bpf.h, bpf_func_id); a call is
--- that of RFC 9669, section 4.3.1, and which registers it takes and leaves is the kernel documentation's calling convention
--- (bpf/standardization/abi.rst). What maps answer is the definition of a map. That a failed load of bytes writes zeros no
--- documentation says: it is this project's own, and as the kernel does.
+-- The helpers: their numbers and arguments are the kernel's (linux/bpf.h, bpf_func_id); a call is that of RFC 9669, section 4.3.1,
+-- and which registers it reads and clobbers is the kernel documentation's calling convention (bpf/standardization/abi.rst). The
+-- results of maps are in the definition of a map. No documentation says that a failed load of bytes writes zeros: it is this
+-- project's own, and as the kernel does.
 use Rattle.std.specs.Prelude.{ℕ, ◌+◌, ◌-◌, ◌%◌, ◌^◌, ◌==◌, ℤ, pos, Bool, true, false, ◌&&◌, nat_le, if◌then◌else◌, List, [], ◌∷◌, length, replicate, find, Option, Some, None, Result, Ok, Err}
 use Rattle.std.specs.Ordering.{int_eq}
 use Rattle.words.specs.Bytes.{bytes_at}
@@ -16,23 +16,23 @@ use Rattle.tagged_model.specs.Table.{Verdict, Refused, Present, New, look_up, ve
 use Rattle.tagged_model.specs.Cells.{and_then}
 use Rattle.tagged_model.specs.State.{RunState, RunMap, set_at, with_value, input, output, with_map, with_refusal}
 
--- its number in bpf_func_id
+-- the helper's number in bpf_func_id
 abbrev pub id_of : Helper → ℕ
 id_of LookUp = 1
 id_of Update = 2
 id_of Delete = 3
 id_of LoadBytes = 26
 
--- the functions that a program may call
+-- the helpers
 unfoldable pub known_helpers : List Helper
 known_helpers = LookUp ∷ Update ∷ Delete ∷ LoadBytes ∷ []
 
 abbrev pub helper_of : ℤ → Option Helper
 helper_of id = find (λ h. int_eq id (pos (id_of h))) known_helpers
 
--- ---- answers
+-- ---- results
 
--- the errors of bpf(2); a negative one is a number of 64 bits
+-- the errors of bpf(2); a helper returns them negated, modulo 2 ^ 64
 abbrev pub errno : MapFault → ℕ
 errno NoEntry = 2
 errno TooBig = 7
@@ -48,7 +48,7 @@ outside = 14
 abbrev pub negative : ℕ → ℕ
 negative n = 2 ^ 64 - n
 
--- what a call gives, the map that it leaves, and whether memory was refused to a new key
+-- the result of a call of a map, the map after it, and whether memory was refused to a new key
 pub record MapReply : Type 0 where
   pub answer : ℕ
   pub map : RunMap
@@ -60,7 +60,7 @@ fails_by fault t = record { answer = negative (errno fault); map = t; refused = 
 abbrev pub succeeds : RunMap → MapReply
 succeeds t = record { answer = 0; map = t; refused = false }
 
--- memory is refused, and the map stays
+-- memory is refused, and the map is unchanged
 abbrev pub has_no_memory : RunMap → MapReply
 has_no_memory t = record { answer = negative (errno Memory); map = t; refused = true }
 
@@ -71,15 +71,15 @@ abbrev pub looked_up : ℕ → Option ℕ → Tagged
 looked_up m None = Scalar 0
 looked_up m (Some number) = Pointer (object.Value m number) (pos 0)
 
--- a new key has a new object
+-- the map with a new key and a new object
 abbrev pub with_object : RunMap → List ℕ → List ℕ → RunMap
 with_object t key value = record { table = with_new t.table key t.count; count = t.count + 1; values = set_at t.values t.count value }
 
--- a deleted object keeps its bytes
+-- the map without a key; the deleted object keeps its bytes
 abbrev pub without_key : RunMap → List ℕ → RunMap
 without_key t key = record t { table = with_deleted t.table key }
 
--- a present key's value is written in place; a new key may be refused for memory
+-- the value of a present key is written in place; a new key may be refused memory
 abbrev pub put : Bool → RunMap → List ℕ → List ℕ → Verdict ℕ → MapReply
 put refused t key value (Refused fault) = fails_by fault t
 put refused t key value (Present number) = succeeds (with_value t number value)
@@ -98,7 +98,7 @@ removed t key = taken_out t key (removal t.table key)
 
 -- ---- bytes of the packet
 
--- the offset is read in 32 bits and may not be negative
+-- the offset is read as 32 bits and may not be negative
 abbrev pub is_in_packet : List ℕ → ℕ → ℕ → Bool
 is_in_packet packet offset n = nat_le (offset % 2 ^ 32) (2 ^ 31 - 1) && nat_le (offset % 2 ^ 32 + n) (length packet)
 
@@ -108,7 +108,7 @@ packet_bytes packet offset n = if is_in_packet packet offset n then bytes_at pac
 abbrev pub packet_answer : List ℕ → ℕ → ℕ → ℕ
 packet_answer packet offset n = if is_in_packet packet offset n then 0 else negative outside
 
--- ---- arguments: what is in a register, if it is of the kind that is wanted
+-- ---- arguments: a register's value, if it has the kind that is required
 
 abbrev pub number_given : Tagged → Option ℕ
 number_given (Scalar n) = Some n
@@ -126,11 +126,11 @@ abbrev pub context_given : Tagged → Option (Unit {0})
 context_given (Pointer object.Context x) = if int_eq x (pos 0) then Some tt else None
 context_given _ = None
 
--- the argument in a register
+-- the argument in register r
 abbrev pub argument : {A : Type 0} → RunState → ℕ → (Tagged → Option A) → Option A
 argument s r given = and_then (s.registers r) given
 
--- a map by its descriptor
+-- a map, and its descriptor
 pub record GivenMap : Type 0 where
   pub descriptor : ℕ
   pub map : RunMap
@@ -140,14 +140,14 @@ map_argument s r = and_then (argument s r map_given) (λ m. and_then (s.maps m) 
 
 -- ---- the calls
 
--- after a call register 0 has what it gives, and registers 1 to 5 are empty
+-- after a call register 0 has its result, and registers 1 to 5 are empty
 abbrev pub after_call : (ℕ → Option Tagged) → Tagged → ℕ → Option Tagged
 after_call registers v r = if r == 0 then Some v else (if nat_le r 5 then None else registers r)
 
 abbrev pub returns : RunState → Tagged → RunState
 returns s v = record s { registers = after_call s.registers v }
 
--- what a call of map m leaves: another map, and that memory was refused, if it was
+-- the state after a call of map m: it has the map of the reply, and records if memory was refused
 abbrev pub with_reply : RunState → ℕ → MapReply → RunState
 with_reply s m reply = with_refusal (with_map s m reply.map) reply.refused
 

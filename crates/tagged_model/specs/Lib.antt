@@ -1,4 +1,3 @@
-pub mod Operators
 pub mod Values
 pub mod Shape
 pub mod Named

@@ -5,8 +5,8 @@ use Rattle.tagged_model.specs.declared.shape.MapShape.{MapShape}
 use Rattle.tagged_model.specs.declared.fault.MapFault.TheVariants.{Memory}
 use Rattle.tagged_model.specs.Table as map
 
--- whatever the objects stand for, as their places or the bytes there: the replies are those of the map of what they stand for,
--- and that map changes as the definition says
+-- whatever values the objects represent, such as places or bytes: the results are those of the map of these values, and that map
+-- changes as the definition says
 pub record CallsRefineValues (A B : Type 0) : Type 0 where
   pub new : (value : A → B) (object : ℕ → A) (shape : MapShape) → map.with_values value (map.new_table object shape) ≡ map.new_table (λ i. value (object i)) shape
   pub found : (value : A → B) (t : map.Table A) (key : List ℕ) → map.look_up (map.with_values value t) key ≡ option_map value (map.look_up t key)
@@ -17,7 +17,7 @@ pub record CallsRefineValues (A B : Type 0) : Type 0 where
   pub delete : (value : A → B) (t : map.Table A) (key : List ℕ) → map.with_values value (map.with_deleted t key) ≡ map.with_deleted (map.with_values value t) key
   pub end : (value : A → B) (t : map.Table A) → map.with_values value (map.after_run t) ≡ map.after_run (map.with_values value t)
 
--- a key that is present is found, and a new one is not; no verdict is want of memory
+-- a present key is found, and a new one is not; no verdict is out of memory
 pub record MapVerdictsMatchLookUps (A : Type 0) : Type 0 where
   pub present : (t : map.Table A) (key : List ℕ) (flags : ℕ) (object : A) → map.verdict t key flags ≡ map.Present object → map.look_up t key ≡ Some object
   pub new : (t : map.Table A) (key : List ℕ) (flags : ℕ) → map.verdict t key flags ≡ map.New → map.look_up t key ≡ None

@@ -1,11 +1,11 @@
--- What descriptors name. This project's own.
+-- The objects that descriptors name. This project's own.
 use Rattle.std.specs.Prelude.{ℕ, ◌==◌, if◌then◌else◌, List, [], ◌∷◌, Option, Some, None}
 use Rattle.tagged_model.specs.declared.shape.MapShape.{MapShape}
 use Rattle.tagged_model.specs.declared.shape.Target.{Target}
 use Rattle.tagged_model.specs.declared.shape.Target.TheVariants as target
 use Rattle.tagged_model.specs.declared.shape.Named.{Named}
 
--- the first entry of a descriptor counts
+-- the object of the first entry with the descriptor
 unfoldable pub target_of : List Named → ℕ → Option Target
 target_of [] fd = None
 target_of (n ∷ ns) fd = if n.fd == fd then Some n.target else target_of ns fd

@@ -5,7 +5,7 @@ use Rattle.tagged_model.specs.declared.shape.MapKind.TheVariants.{Hash, Array}
 use Rattle.tagged_model.specs.declared.shape.ShapeFault.{ShapeFault}
 use Rattle.tagged_model.specs.declared.shape.ShapeFault.TheVariants.{Invalid, TooBig}
 
--- the bytes of the longest key and of the longest value, the most entries, and the bytes of the largest area
+-- the length in bytes of the longest key and of the longest value, the most entries, and the size in bytes of the largest area
 abbrev pub longest_key : ℕ
 longest_key = 512
 
@@ -26,11 +26,11 @@ abbrev pub has_key : MapKind → ℕ → Bool
 has_key Array key = key == 4
 has_key Hash key = is_from_to 1 longest_key key
 
--- the bytes that the values take, each rounded up to a multiple of eight
+-- the number of bytes that the values take, each rounded up to a multiple of eight
 abbrev pub area : ℕ → ℕ → ℕ
 area value max = max * ((value + 7) / 8 * 8)
 
--- each field is in its limits
+-- each field is within its limits, and no flag is set
 abbrev pub is_valid : MapKind → ℕ → ℕ → ℕ → ℕ → Bool
 is_valid kind key value max flags = has_key kind key && is_from_to 1 longest_value value && is_from_to 1 most_entries max && (flags == 0)
 
@@ -40,7 +40,7 @@ fits value max = nat_le (area value max) largest_area
 abbrev pub is_shape : MapKind → ℕ → ℕ → ℕ → Bool
 is_shape kind key value max = is_valid kind key value max 0 && fits value max
 
--- what is wrong with the fields
+-- the fault of the fields; None if a map may have them
 abbrev pub shape_fault : MapKind → ℕ → ℕ → ℕ → ℕ → Option ShapeFault
 shape_fault kind key value max flags =
     if is_valid kind key value max flags then (if fits value max then None else Some TooBig) else Some Invalid

@@ -1,5 +1,5 @@
--- The invariant of a run's states, which each step keeps: bytes are bytes, the context has its words, and each map is one of its
--- shape. This project's own.
+-- The invariant of a run's states, which each step keeps: bytes are below 256, the context has its words, and each map has
+-- its shape. This project's own.
 use Rattle.std.specs.Prelude.{◌≡◌, ℕ, ◌<◌, ◌^◌, List, [], ◌∷◌, length, Option, Some}
 use Rattle.std.specs.List.{All}
 use Rattle.std.specs.Map.{keys_of}
@@ -9,7 +9,7 @@ use Rattle.tagged_model.specs.Table.{indexed}
 use Rattle.tagged_model.specs.Cells.{byte_at}
 use Rattle.tagged_model.specs.State.{RunState, RunMap, context_words}
 
--- bytes are bytes, and the context has its words of 32 bits
+-- bytes are below 256, and the context has its words of 32 bits
 abbrev pub AreBytes : List ℕ → Type 0
 AreBytes bs = All (λ b. b < 256) bs
 
@@ -22,18 +22,18 @@ pub record IsInRange (s : RunState) : Type 0 where
 
 -- ---- maps
 
--- each key has one of so many objects
+-- the object of each key is numbered below count
 abbrev pub KeysHaveObjects : ℕ → List (List ℕ × ℕ) → Type 0
 KeysHaveObjects count [] = Unit {0}
 KeysHaveObjects count (e ∷ es) = (e.1 < count) × KeysHaveObjects count es
 
--- a map of this shape: an array has all its indices, and each object, a deleted one too, has the size of a value
+-- t is a map of this shape: an array has all its indices, and each object, also a deleted one, has the size of a value
 pub record IsMapOf (shape : MapShape) (t : RunMap) : Type 0 where
   pub shaped : t.table.shape ≡ shape
   pub indices : shape.kind ≡ Array → keys_of t.table.entries ≡ keys_of (indexed (λ i. i) 0 shape.max_entries)
   pub owns : KeysHaveObjects t.count t.table.entries
   pub sized : (number : ℕ) → number < t.count → length (t.values number) ≡ shape.value_size
 
--- for each descriptor that has a shape there is a map of it
+-- for each descriptor with a shape there is a map of that shape
 abbrev pub HasMaps : (ℕ → Option MapShape) → RunState → Type 0
 HasMaps shapes s = (m : ℕ) (shape : MapShape) → shapes m ≡ Some shape → (t : RunMap) × (s.maps m ≡ Some t) × IsMapOf shape t

@@ -1,6 +1,6 @@
--- What holds of offsets that are near, of the objects that the keys of a map have, and of the value that is loaded directly: laws of
--- the definitions of `Values`, `StateInvariant` and `Table`, proved here for the proofs of the crates above. This project's own. No contract
--- cites them, so there is nothing in them to believe.
+-- Laws of near offsets, of the objects of a map's keys, and of the value that is loaded directly, of the definitions of `Values`,
+-- `StateInvariant` and `Table`, proved here for the proofs of the crates above. This project's own. No contract cites them, so
+-- there is nothing in them to believe.
 use Rattle.std.proofs.Common.{◌≡◌, ℕ, ◌^◌, ◌<◌, ◌≤◌, ◌==◌, ◌&&◌, nat_lt, ℤ, pos, neg_ℤ, ◌≤ℤ◌, int_le, Bool, true, false, cond, List, [], ◌∷◌, Some, None, refl, arith}
 use Rattle.std.specs.Prelude.{nat_le}
 use Rattle.std.proofs.lemmas.Bool.{and_parts, eqb-true, ltb-true, leb-true, le-leb}
@@ -14,7 +14,7 @@ use Rattle.tagged_model.specs.StateInvariant.{KeysHaveObjects}
 
 -- ---- offsets
 
--- an offset that is near is at most 2 ^ 29 away
+-- a near offset is at most 2 ^ 29 away
 pub near_parts : (x : ℤ) → is_near x ≡ true → (neg_ℤ (pos (2 ^ 29)) ≤ℤ x) × (x ≤ℤ pos (2 ^ 29))
 near_parts x e =
     let h = and_parts (int_le (neg_ℤ (pos (2 ^ 29))) x) (int_le x (pos (2 ^ 29))) e in
@@ -24,9 +24,9 @@ near_parts x e =
 pub near_from : (offset : ℕ) → offset < 4096 → is_near (pos offset) ≡ true
 near_from offset lt = le-leb offset (2 ^ 29) (omega arith)
 
--- ---- keys, each of which has one of so many objects
+-- ---- keys with objects numbered below a count
 
--- the object of a key that is found is one of them
+-- the object of a key that is found is numbered below the count
 pub found_owned : (count : ℕ) (key : List ℕ) (es : List (List ℕ × ℕ)) (number : ℕ) → KeysHaveObjects count es → found key es ≡ Some number → number < count
 found_owned count key [] number owns e = absurd (none-some number e)
 found_owned count key (x ∷ es) number owns e = by (λ f. found_owned count key es number owns.1 f) (is_key key x.0) e
@@ -35,17 +35,17 @@ found_owned count key (x ∷ es) number owns e = by (λ f. found_owned count key
     by rest true e = let same : x.1 ≡ number = same_Some x.1 number e in let lt = owns.0 in omega arith
     by rest false e = rest e
 
--- they have objects of more too
+-- the same for a greater count
 pub owns_more : (n m : ℕ) (es : List (List ℕ × ℕ)) → n ≤ m → KeysHaveObjects n es → KeysHaveObjects m es
 owns_more n m [] le h = tt
 owns_more n m (e ∷ es) le h = let lt = h.0 in (omega arith, owns_more n m es le h.1)
 
--- so do those after a key gets one of these objects
+-- the same after a new key with such an object
 pub owns_with : (n : ℕ) (key : List ℕ) (number : ℕ) (es : List (List ℕ × ℕ)) → number < n → KeysHaveObjects n es → KeysHaveObjects n (with_key key number es)
 owns_with n key number [] lt h = (lt, tt)
 owns_with n key number (e ∷ es) lt h = (h.0, owns_with n key number es lt h.1)
 
--- and those after a key goes
+-- the same after a key is removed
 pub owns_without : (n : ℕ) (key : List ℕ) (es : List (List ℕ × ℕ)) → KeysHaveObjects n es → KeysHaveObjects n (without key es)
 owns_without n key [] h = tt
 owns_without n key (e ∷ es) h = by (is_key key e.0) (owns_without n key es h.1)
@@ -54,9 +54,9 @@ owns_without n key (e ∷ es) h = by (is_key key e.0) (owns_without n key es h.1
     by true g = h.1
     by false g = (h.0, g)
 
--- ---- the value that is loaded directly
+-- ---- the direct value
 
--- each value is short
+-- a value has at most 4,096 bytes
 pub value_short : (shape : MapShape) → shape.value_size ≤ 4096
 value_short shape =
     let valid = (and_parts (is_valid shape.kind shape.key_size shape.value_size shape.max_entries 0) (fits shape.value_size shape.max_entries) shape.listed).0 in
@@ -65,7 +65,7 @@ value_short shape =
     let value = and_parts (has_key shape.kind shape.key_size) (is_from_to 1 longest_value shape.value_size) sized.0 in
     leb-true shape.value_size longest_value (and_parts (nat_le 1 shape.value_size) (nat_le shape.value_size longest_value) value.1).1
 
--- its map has one entry, and its offset is near
+-- its map has one entry, and its offset is below 4,096
 pub record IsDirect (shape : MapShape) (offset : ℕ) : Type 0 where
   pub one : shape.max_entries ≡ 1
   pub near : offset < 4096

@@ -1,7 +1,6 @@
--- What a map is (bpf(2); the kernel documentation of BPF_MAP_TYPE_ARRAY and BPF_MAP_TYPE_HASH): a list of keys with their
--- objects, in order. An object is anything that stands for a value: its number in a run, its place in an area, its bytes.
--- The order of the refusals, the order of a hash map's keys, and that what a run deletes counts until the run ends are this
--- project's own.
+-- What a map is (bpf(2); the kernel documentation of BPF_MAP_TYPE_ARRAY and BPF_MAP_TYPE_HASH): a list of keys with their objects,
+-- in order. An object is anything that represents a value: its number in a run, its place in an area, its bytes. The order of the
+-- refusals, the order of a hash map's keys, and that objects deleted in a run count until the run ends are this project's own.
 use Rattle.std.specs.Prelude.{ℕ, zero, suc, ◌+◌, ◌==◌, ◌&&◌, nat_eq, nat_le, nat_lt, Bool, true, false, if◌then◌else◌, List, [], ◌∷◌, ◌++◌, length, map, Option, Some, None, is_some, Result, Ok, Err}
 use Rattle.std.specs.Map.{lookup, remove_entry, set_value}
 use Rattle.std.specs.Cmp.Lexicographic.{pointwise}
@@ -12,7 +11,7 @@ use Rattle.tagged_model.specs.declared.shape.MapShape.{MapShape}
 use Rattle.tagged_model.specs.declared.fault.MapFault.{MapFault}
 use Rattle.tagged_model.specs.declared.fault.MapFault.TheVariants.{NoEntry, TooBig, Exists, Invalid}
 
--- what it is, its keys with their objects in order, and how many objects were deleted in this run
+-- its shape, its keys with their objects in order, and the number of objects deleted in this run
 pub record Table (A : Type 0) : Type 0 where
   pub shape : MapShape
   pub entries : List (List ℕ × A)
@@ -20,7 +19,7 @@ pub record Table (A : Type 0) : Type 0 where
 
 -- ---- lists of keys with their objects
 
--- whether a key is this one
+-- whether the two keys are equal
 abbrev pub is_key : List ℕ → List ℕ → Bool
 is_key key other = pointwise nat_eq key other
 
@@ -29,11 +28,11 @@ module _ {A : Type 0} where
   abbrev pub found : List ℕ → List (List ℕ × A) → Option A
   found key es = lookup (is_key key) es
 
-  -- without a key. The others keep their order
+  -- without a key; the others keep their order
   abbrev pub without : List ℕ → List (List ℕ × A) → List (List ℕ × A)
   without key es = remove_entry (is_key key) es
 
-  -- with a new key, which goes last
+  -- with a new key at the end
   abbrev pub with_key : List ℕ → A → List (List ℕ × A) → List (List ℕ × A)
   with_key key a es = es ++ (key, a) ∷ []
 
@@ -41,20 +40,20 @@ module _ {A : Type 0} where
   first_key [] = None
   first_key (e ∷ es) = Some e.0
 
-  -- the key behind one that is there
+  -- the key after a present one
   abbrev pub key_behind : List ℕ → List (List ℕ × A) → Option (List ℕ)
   key_behind key [] = None
   key_behind key (e ∷ es) = if is_key key e.0 then first_key es else key_behind key es
 
-  -- the key that follows. An empty or unknown key is followed by the first
+  -- the next key; that of an empty or absent key is the first
   abbrev pub key_after : List ℕ → List (List ℕ × A) → Option (List ℕ)
   key_after key es = if is_some (found key es) then key_behind key es else first_key es
 
--- the key of an index: its four bytes, the lowest first
+-- the key of an index: its four bytes, little-endian
 unfoldable pub index_key : ℕ → List ℕ
 index_key i = low_bytes 4 i
 
--- so many indices from one on, each with its object
+-- n indices from `first` on, each with its object
 unfoldable pub indexed : {A : Type 0} → (ℕ → A) → ℕ → ℕ → List (List ℕ × A)
 indexed object first zero = []
 indexed object first (suc n) = (index_key first, object first) ∷ indexed object (first + 1) n
@@ -64,19 +63,19 @@ abbrev pub new_entries : {A : Type 0} → (ℕ → A) → MapKind → ℕ → Li
 new_entries object Array max = indexed object 0 max
 new_entries object Hash max = []
 
--- ---- the flags of an update (bpf(2), BPF_MAP_UPDATE_ELEM): 0 is any update
+-- ---- the flags of an update (bpf(2), BPF_MAP_UPDATE_ELEM): 0 allows any update
 
--- the key must be new
+-- the key must be absent
 abbrev pub no_exist : ℕ
 no_exist = 1
 
--- the key must be there
+-- the key must be present
 abbrev pub exist : ℕ
 exist = 2
 
 -- ---- the calls
 
--- what an update comes to: a refusal, the object of a present key, or a new key, which needs a new object
+-- the verdict on an update: a refusal, the object of a present key, or a new key, which needs a new object
 pub data Verdict (A : Type 0) : Type 0 where
   Refused : (fault : MapFault) → Verdict A
   Present : (object : A) → Verdict A
@@ -87,14 +86,14 @@ module _ {A : Type 0} where
   abbrev pub look_up : Table A → List ℕ → Option A
   look_up t key = found key t.entries
 
-  -- a hash map is full where its keys and the objects deleted in this run are as many as it may have
+  -- a hash map is full if its keys and the objects deleted in this run are as many as its most entries
   abbrev pub is_full : Table A → Bool
   is_full t = (length t.entries + t.deleted) == t.shape.max_entries
 
   abbrev pub of_present : ℕ → A → Verdict A
   of_present flags a = if flags == no_exist then Refused Exists else Present a
 
-  -- of an array, an absent key is an index out of range
+  -- in an array, an absent key is an index out of range
   abbrev pub of_absent : MapKind → Bool → ℕ → Verdict A
   of_absent Array full flags = Refused TooBig
   of_absent Hash full flags = if flags == exist then Refused NoEntry else (if full then Refused TooBig else New)
@@ -107,11 +106,11 @@ module _ {A : Type 0} where
   abbrev pub verdict : Table A → List ℕ → ℕ → Verdict A
   verdict t key flags = if nat_le flags exist then of_found t flags (look_up t key) else Refused Invalid
 
-  -- a new key goes last, with a new object
+  -- the map with a new key, at the end, and a new object
   abbrev pub with_new : Table A → List ℕ → A → Table A
   with_new t key a = record { shape = t.shape; entries = with_key key a t.entries; deleted = t.deleted }
 
-  -- a present key stays where it is, with another object
+  -- the map with another object for a present key, which keeps its position
   abbrev pub with_object : Table A → List ℕ → A → Table A
   with_object t key a = record { shape = t.shape; entries = set_value (is_key key) t.entries a; deleted = t.deleted }
 
@@ -120,19 +119,19 @@ module _ {A : Type 0} where
   removal_of Hash None = Err NoEntry
   removal_of Hash (Some a) = Ok a
 
-  -- BPF_MAP_DELETE_ELEM: a refusal, or the object that goes
+  -- BPF_MAP_DELETE_ELEM: a refusal, or the object to delete
   abbrev pub removal : Table A → List ℕ → Result A MapFault
   removal t key = removal_of t.shape.kind (look_up t key)
 
-  -- the object counts until the run ends
+  -- the map without the key; the object counts until the run ends
   abbrev pub with_deleted : Table A → List ℕ → Table A
   with_deleted t key = record { shape = t.shape; entries = without key t.entries; deleted = t.deleted + 1 }
 
-  -- BPF_MAP_GET_NEXT_KEY: nothing after the last key, or where there is none
+  -- BPF_MAP_GET_NEXT_KEY: None after the last key, and in a map without keys
   abbrev pub next_of : Table A → List ℕ → Option (List ℕ)
   next_of t key = key_after key t.entries
 
-  -- the run has ended
+  -- the map after the run
   abbrev pub after_run : Table A → Table A
   after_run t = record { shape = t.shape; entries = t.entries; deleted = 0 }
 
@@ -154,10 +153,10 @@ has_direct_value shape offset = is_array shape.kind && (shape.max_entries == 1) 
 abbrev pub direct_object : {A : Type 0} → Table A → ℕ → Option A
 direct_object t offset = if has_direct_value t.shape offset then look_up t (index_key 0) else None
 
--- ---- what the objects stand for
+-- ---- the values that objects represent
 
 module _ {A B : Type 0} (value : A → B) where
-  -- the same keys in the same order, each with what its object stands for
+  -- the same keys in the same order, each with the value that its object represents
   abbrev pub with_values : Table A → Table B
   with_values t = record { shape = t.shape; entries = map (λ e. (e.0, value e.1)) t.entries; deleted = t.deleted }
 

@@ -1,16 +1,16 @@
-//! The functions that a program may call (the kernel's bpf_func_id).
+//! The helpers, functions that a program may call (the kernel's bpf_func_id).
 
 ghost use Rattle.std.specs.Prelude.{◌≡◌, pos};
 ghost use Rattle.tagged_model.specs.Helpers.{helper_of};
 
-/// A function that a program may call.
+/// A helper.
 #[derive(Clone, Copy, Debug, PartialEq, Eq)]
 pub enum Helper {
-    /// 1, bpf_map_lookup_elem: a pointer to the value of a key, or null.
+    /// 1, bpf_map_lookup_elem: returns a pointer to the value of a key, or null.
     LookUp,
-    /// 2, bpf_map_update_elem: puts a value under a key.
+    /// 2, bpf_map_update_elem: stores a value under a key.
     Update,
-    /// 3, bpf_map_delete_elem: takes a key out.
+    /// 3, bpf_map_delete_elem: deletes a key.
     Delete,
     /// 26, bpf_skb_load_bytes: copies bytes of the packet.
     LoadBytes,
@@ -19,7 +19,7 @@ pub enum Helper {
 impl Helper {
     ghost use Rattle.tagged_model.specs.Helpers.{id_of};
 
-    /// Its number in bpf_func_id.
+    /// The helper's number in bpf_func_id.
     pub fn id(self) -> i32
         ensures { result ≡ pos (id_of self) }
     {
@@ -32,7 +32,7 @@ impl Helper {
     }
 }
 
-/// The function with a number, if there is one.
+/// The helper with this number, if there is one.
 #[tactic(auto, unfolding(crate::specs::Helpers::known_helpers))]
 #[inline(always)]
 pub fn known_helper(id: i32) -> Option<Helper>

@@ -1,11 +1,11 @@
-//! Laws of maps, of facts, and of the states that facts admit. Each is the contract of a function that does nothing.
+//! Laws of maps, of facts, and of the states that facts admit. Each law is the contract of a function that does nothing.
 
 ghost use Rattle.std.specs.Prelude.{ℕ, List};
 ghost use Rattle.tagged_model.specs.MapLaws.{CallsRefineValues, MapVerdictsMatchLookUps};
 ghost use Rattle.tagged_model.specs.RunLaws.{RefusalsAreTold};
 ghost use Rattle.tagged_model.specs.Laws.{JoinAdmits, StackReadAdmits, StackWriteAdmits, StackInputAdmits, StackOutputAdmits, ObjectReadAdmits, ObjectWriteAdmits, ValueLoadAdmits, ValueStoreAdmits, MapCallsKeep, MapChangeAdmits, CallAdmits, SiteAdmits, NullTestAdmits};
 
-/// Where two edges meet, the joined facts admit what the facts on either edge admit.
+/// The join of two facts admits every state that one of them admits.
 pub fn join_admits()
     ensures { JoinAdmits }
 {
@@ -13,37 +13,37 @@ pub fn join_admits()
     reg_kinds::laws::joins_commute();
 }
 
-/// A load from the stack gives a value of the kind that the facts tell.
+/// If the facts allow a load from the stack, it gives a value of the kind that they predict.
 pub fn stack_read_admits()
     ensures { StackReadAdmits }
 {}
 
-/// A store into the stack leaves a state that the facts after it admit.
+/// If the facts allow a store into the stack, the facts after it admit the state after it.
 pub fn stack_write_admits()
     ensures { StackWriteAdmits }
 {}
 
-/// Bytes that a helper may read across slots of the stack are there.
+/// If the facts allow a helper to read bytes across slots of the stack, these bytes are present.
 pub fn stack_input_admits()
     ensures { StackInputAdmits }
 {}
 
-/// Bytes that a helper writes across slots of the stack leave a state that the facts after it admit.
+/// If the facts allow a helper to write bytes across slots of the stack, the facts after it admit the state after it.
 pub fn stack_output_admits()
     ensures { StackOutputAdmits }
 {}
 
-/// Bytes of a map's value that are read within it are there.
+/// Bytes at offsets within a map's value are present.
 pub fn object_read_admits()
     ensures { ObjectReadAdmits }
 {}
 
-/// Bytes of a map's value that are written within it change no fact.
+/// A write of bytes within a map's value changes no fact.
 pub fn object_write_admits()
     ensures { ObjectWriteAdmits }
 {}
 
-/// A load within a map's value gives a value of the kind that the facts tell.
+/// A load within a map's value gives a value of the kind that the facts predict.
 pub fn value_load_admits()
     ensures { ValueLoadAdmits }
 {}
@@ -53,47 +53,47 @@ pub fn value_store_admits()
     ensures { ValueStoreAdmits }
 {}
 
-/// A map of objects, and the map of what they stand for, answer the same and change alike: where numbers stand for numbers, as
-/// objects for places, and where they stand for bytes.
+/// A map of objects refines the map of the values that they represent: both give the same results and change alike. The objects are
+/// numbers; the values are numbers, such as places, or bytes.
 pub fn calls_refine_values()
     ensures numbers { CallsRefineValues ℕ ℕ }
     ensures bytes { CallsRefineValues ℕ (List ℕ) }
 {}
 
-/// What the verdict on an update tells of its key: where it is present it is found, where it is new it is not. No verdict is
-/// want of memory.
+/// A verdict on an update agrees with the look-up of its key: a present key is found, a new one is
+/// not. No verdict is out of memory.
 pub fn map_verdicts_match_look_ups()
     ensures numbers { MapVerdictsMatchLookUps ℕ }
     ensures bytes { MapVerdictsMatchLookUps (List ℕ) }
 {}
 
-/// What the calls of a map keep.
+/// The calls of a map keep its shape and its objects; a look-up, or a load of the direct value, gives one of its objects.
 pub fn map_calls_keep()
     ensures { MapCallsKeep }
 {}
 
-/// Where a map changes, all that was known still is.
+/// A change of a map that keeps its shape and its objects changes no fact.
 pub fn map_change_admits()
     ensures { MapChangeAdmits }
 {}
 
-/// What is known after a call.
+/// The facts after a call admit the state after it.
 pub fn call_admits()
     ensures { CallAdmits }
 {}
 
-/// What is told of a new look-up.
+/// The witness may record a new look-up at a site that no fact mentions.
 pub fn site_admits()
     ensures { SiteAdmits }
 {}
 
-/// After a test of a look-up for null the settled facts admit the state, on both edges.
+/// After a null test of a look-up, the settled facts admit the state, on both edges.
 pub fn null_test_admits()
     ensures { NullTestAdmits }
 {}
 
-/// A run in which no new key was refused memory is the run without refusals, and in that one none is. A run without maps is
-/// refused nothing.
+/// A run in which memory was refused to no new key equals the run without refusals, in which none is refused either. A run
+/// without maps is refused no memory.
 pub fn refusals_are_told()
     ensures { RefusalsAreTold }
 {}

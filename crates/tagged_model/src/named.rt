@@ -1,11 +1,11 @@
-//! What descriptors name.
+//! The objects that descriptors name.
 
 ghost use Rattle.std.specs.Prelude.{◌≡◌};
 ghost use Rattle.tagged_model.specs.Named.{target_of, shapes_named};
 
 use crate::shape::{MapShape, Named, Target};
 
-/// What a descriptor names, if it is open. The first entry of a descriptor counts.
+/// The object that a descriptor names, if it is open: that of the first entry with this descriptor.
 pub fn target_of(named: &[Named], fd: u32) -> Option<Target>
     ensures { result ≡ target_of named.now fd }
 {
@@ -17,7 +17,7 @@ pub fn target_of(named: &[Named], fd: u32) -> Option<Target>
     None
 }
 
-/// The shape of the map that a descriptor names, if it names one.
+/// The shape of the map that a descriptor names; `None` if it names no map.
 pub fn shape_of(named: &[Named], fd: u32) -> Option<MapShape>
     ensures { result ≡ shapes_named named.now fd }
 {

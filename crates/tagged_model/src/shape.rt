@@ -1,43 +1,43 @@
-//! The shapes of maps, and what a descriptor names.
+//! The shapes of maps, and the objects that descriptors name.
 
 ghost use Rattle.std.specs.Prelude.{◌≡◌, ◌<◌, ◌≤◌, true, IsTrue, IfOk, OnOk, IfErr, Some, None};
 ghost use Rattle.tagged_model.specs.Shape.{area, is_shape, largest_area, longest_value, shape_fault};
 
-/// The bytes of the longest key of a hash map, a limit of this project.
+/// The length of the longest key of a hash map in bytes, a limit of this project.
 pub const LONGEST_KEY: u32 = 512;
 
-/// The bytes of the longest value, a limit of this project.
+/// The length of the longest value in bytes, a limit of this project.
 pub const LONGEST_VALUE: u32 = 4096;
 
 /// The most entries that a map may have, a limit of this project.
 pub const MOST_ENTRIES: u32 = 4096;
 
-/// The bytes of the largest area, which the values of one map take. A limit of this project.
+/// The size of the largest area, which holds the values of one map, in bytes. A limit of this project.
 pub const LARGEST_AREA: u32 = 65_536;
 
-/// How a map finds its values.
+/// How a map finds the value of a key.
 #[derive(Clone, Copy, Debug, PartialEq, Eq)]
 pub enum MapKind {
-    /// By keys of any bytes.
+    /// By keys of any bytes: a hash map.
     Hash,
-    /// By an index.
+    /// By an index: an array.
     Array,
 }
 
-/// Why there is no map of a shape.
+/// Why no map may have a shape.
 #[derive(Clone, Copy, Debug, PartialEq, Eq)]
 pub enum ShapeFault {
-    /// A field is out of its limits.
+    /// A field is outside its limits.
     Invalid,
     /// The values take more than `LARGEST_AREA` bytes.
     TooBig,
 }
 
-/// The shape of a map: its fields are within their limits, and its values take at most `LARGEST_AREA` bytes.
+/// The shape of a map. Its fields are within their limits, and its values take at most `LARGEST_AREA` bytes.
 #[derive(Clone, Copy, Debug, PartialEq, Eq)]
 pub struct MapShape {
     pub kind: MapKind,
-    /// In bytes: 4 of an array, and 1 to `LONGEST_KEY` of a hash map.
+    /// In bytes: 4 for an array, 1 to `LONGEST_KEY` for a hash map.
     pub key_size: u32,
     /// In bytes, 1 to `LONGEST_VALUE`.
     pub value_size: u32,
@@ -46,14 +46,14 @@ pub struct MapShape {
     pub ghost listed: { IsTrue (is_shape kind key_size value_size max_entries) },
 }
 
-/// What a descriptor names.
+/// The object that a descriptor names.
 #[derive(Clone, Copy, Debug, PartialEq, Eq)]
 pub enum Target {
     Map(MapShape),
     Program,
 }
 
-/// An open descriptor, and what it names.
+/// An open descriptor, and the object that it names.
 #[derive(Clone, Copy, Debug, PartialEq, Eq)]
 pub struct Named {
     pub fd: u32,
@@ -63,12 +63,12 @@ pub struct Named {
 impl MapShape {
     ghost use Rattle.tagged_model.specs.Table.{has_direct_value};
 
-    /// The shape of these fields, which are those of bpf(2), BPF_MAP_CREATE. The sizes are in bytes.
+    /// Makes the shape with these fields, which are those of bpf(2), BPF_MAP_CREATE. The sizes are in bytes.
     ///
     /// # Errors
     ///
-    /// `Invalid` where a field is out of its limits or a flag is set, and else `TooBig` where the values, each rounded up
-    /// to a multiple of eight bytes, take more than `LARGEST_AREA` bytes.
+    /// `Invalid` if a field is outside its limits or a flag is set, else `TooBig` if the values, each rounded up to a multiple of
+    /// eight bytes, take more than `LARGEST_AREA` bytes.
     pub fn new(
         kind: MapKind,
         key_size: u32,
@@ -105,8 +105,8 @@ impl MapShape {
         })
     }
 
-    /// Whether a program may load the address of a value without a call, at an offset in bytes: the map is an array of one element,
-    /// and the offset lies in its value (linux/bpf.h, BPF_PSEUDO_MAP_VALUE).
+    /// Whether a program may load the address of a value without a call, at an offset in bytes: true if the map is an array of one
+    /// element, and the offset lies in its value (linux/bpf.h, BPF_PSEUDO_MAP_VALUE).
     pub fn has_direct_value(&self, offset: u32) -> bool
         ensures value { result ≡ has_direct_value self.now offset }
         ensures bound { result ≡ true → offset < longest_value }
@@ -114,7 +114,7 @@ impl MapShape {
         self.kind == MapKind::Array && self.max_entries == 1 && offset < self.value_size
     }
 
-    /// The bytes that the values take, each rounded up to a multiple of eight: at most `LARGEST_AREA`.
+    /// The number of bytes that the values take, each rounded up to a multiple of eight: at most `LARGEST_AREA`.
     pub fn area(&self) -> u32
         ensures value { result ≡ area self.now.value_size self.now.max_entries }
         ensures bound { result ≤ largest_area }

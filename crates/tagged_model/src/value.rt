@@ -1,35 +1,35 @@
-//! Values that know what they are, and how a run on them ends.
+//! Tagged values, and the outcomes of a run on them.
 
-/// How many words the context of a run has, the first ones of `__sk_buff` (linux/bpf.h).
+/// The number of words in the context of a run, the first ones of `__sk_buff` (linux/bpf.h).
 pub const CONTEXT_WORDS: usize = 11;
 
-/// What a pointer points into.
+/// The object that a pointer points into.
 #[derive(Clone, Copy, Debug, PartialEq, Eq)]
 pub enum Object {
     /// The bytes of the stack. Offsets count from its upper end.
     Stack,
     /// The context of the run.
     Context,
-    /// A value of a map, by the descriptor of the map and a number that is given once in a run.
+    /// A value of a map, by the map's descriptor and a number that is never given twice in a run.
     Value { map: u32, number: u64 },
 }
 
-/// What a register may hold.
+/// A tagged value, which a register may hold.
 #[derive(Clone, Copy, Debug, PartialEq, Eq)]
 pub enum Tagged {
     /// A 64-bit word.
     Scalar(u64),
     /// A map, by its descriptor.
     Map(u32),
-    /// A pointer, so many bytes from where the object's offsets begin.
+    /// A pointer, by its object and its distance in bytes from where the object's offsets begin.
     Pointer { object: Object, offset: i64 },
 }
 
 /// How a run ends.
 #[derive(Clone, Copy, Debug, PartialEq, Eq)]
 pub enum Outcome {
-    /// With a result: the low 32 bits of register 0.
+    /// A result: the low 32 bits of register 0.
     Value(u32),
-    /// With what has no meaning.
+    /// A fault: the machine of tagged values has no step.
     Fault,
 }

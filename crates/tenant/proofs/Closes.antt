@@ -1,24 +1,24 @@
 -- What closing a descriptor leaves.
-use Rattle.std.proofs.Common.{◌≡◌, ℕ, zero, suc, ◌+◌, ◌-◌, ◌≤◌, Bool, true, false, List, [], ◌∷◌, length, set, get_or, Option, Some, None, refl, sym, ap, ap₂, subst, ◌∙◌, inl, inr, arith, length-set}
-use Rattle.std.specs.Prelude.{◌==◌, ◌||◌, ◌⊎◌, nat_lt, slice_get, option_map, if◌then◌else◌}
+use Rattle.std.proofs.Common.{◌≡◌, ℕ, zero, suc, ◌+◌, ◌-◌, ◌≤◌, ◌<◌, IsSome, map, Bool, true, false, List, [], ◌∷◌, length, set, get_or, Option, Some, None, refl, sym, ap, ap₂, subst, ◌∙◌, inl, inr, arith, length-set}
+use Rattle.std.specs.Prelude.{◌==◌, ◌||◌, ◌⊎◌, nat_lt, slice_get, if◌then◌else◌}
 use Rattle.std.specs.Map.{lookup}
 use Rattle.std.specs.List.{list_any}
 use Rattle.std.specs.Option.{option_map_or}
 use Rattle.std.proofs.lemmas.Bool.{eq-eqb}
 use Rattle.std.proofs.lemmas.List.{ext_get_or}
 use Rattle.std.proofs.lemmas.Option.{none-some, get_or_from_slice_get}
-use Rattle.bpf_maps.specs.Live.{LiveMaps, holds_at, shape_at, map_in}
+use Rattle.bpf_maps.specs.Live.{LiveMaps, LiveMap, live_or, live_at, holds_at}
 use Rattle.fd_table.specs.Table.{first_descriptor, named, with_closed, flattened}
 use Rattle.tenant.specs.declared.object.OpenObject.{OpenObject}
 use Rattle.tenant.specs.declared.object.OpenObject.TheVariants as object
 use Rattle.tenant.specs.Loaded.{LoadedProgram}
 use Rattle.bpf_maps.specs.Sum.{total}
-use Rattle.tenant.specs.State.{Map, names, is_named, named_from, with_objects}
-use Rattle.tenant.specs.Kept.{KeptTenant, IsWellFormedTenant, MapsAreAtPlaces, IsBound, holds_in, times_listed, times_named, by_descriptor, holders, maps_in, state_in}
+use Rattle.tenant.specs.State.{Map, most_maps, names, is_named, named_from, with_objects}
+use Rattle.tenant.specs.Kept.{KeptTenant, IsWellFormedTenant, IsBound, times_listed, times_named, by_descriptor, holders, at_places, map_at, state_in}
+use Rattle.tenant.proofs.AtPlaces.{length-at, at-within, live_or_not, none_there, same_map_at}
 use Rattle.tenant.specs.inside.Leaves.{LeavesHeldMaps}
 use Rattle.tenant.proofs.Sums.{total-unset, total-part}
 use Rattle.tenant.proofs.Opened.{unset_cases}
-use Rattle.tenant.proofs.LookUps.{get_or-map_some}
 
 -- ---- a test that is true where a number is not 0
 
@@ -38,11 +38,11 @@ tells_or a b m n (inl (a_is, some)) h = inl (ap (λ (x : Bool). x || b) a_is ∙
 tells_or a b m n (inr (a_is, none)) (inl (b_is, some)) = inl (ap₂ (λ (x y : Bool). x || y) a_is b_is, omega arith)
 tells_or a b m n (inr (a_is, none)) (inr (b_is, too)) = inr (ap₂ (λ (x y : Bool). x || y) a_is b_is, omega arith)
 
-tells_times : (place : ℕ) (ms : List (ℕ × ℕ)) → Tells (list_any (λ m. m.1 == place) ms) (times_listed place ms)
+tells_times : (place : ℕ) (ms : List (ℕ × ℕ)) → Tells (list_any (λ m. m.1 == place) ms) (times_listed place (map (λ m. m.1) ms))
 unfolding times_listed
 tells_times place [] = inr (refl, refl)
 tells_times place (m ∷ ms) =
-    tells_or (m.1 == place) (list_any (λ m. m.1 == place) ms) (if m.1 == place then 1 else 0) (times_listed place ms) (tells_if (m.1 == place)) (tells_times place ms)
+    tells_or (m.1 == place) (list_any (λ m. m.1 == place) ms) (if m.1 == place then 1 else 0) (times_listed place (map (λ m. m.1) ms)) (tells_if (m.1 == place)) (tells_times place ms)
 
 tells_names : (place : ℕ) (o : OpenObject) → Tells (names place o) (times_named place o)
 tells_names place (object.Map p) = tells_if (p == place)
@@ -78,49 +78,32 @@ get_or-named objects place (suc i) (m ∷ ms) =
     let e : place + 1 + i ≡ place + suc i = omega arith in
     get_or-named objects (place + 1) i ms ∙ ap (λ (p : ℕ). if is_named objects p then get_or ms i None else None) e
 
-length-maps : (part : List ℕ) (live : LiveMaps) (keys : List (Option ℕ)) → length (maps_in part live keys) ≡ length keys
-length-maps part live [] = refl
-length-maps part live (k ∷ ks) = let rest = length-maps part live ks in omega arith
-
 -- what is left are the maps that something names
-still_named : (objects : List (Option OpenObject)) (keys after : List (Option ℕ)) (live t : LiveMaps) (part later : List ℕ) → MapsAreAtPlaces keys live
-    → LeavesHeldMaps (record { keys = keys; live = live; part = part }) (record { keys = after; live = t; part = later }) → ((q : ℕ) → holds_in after t q ≡ holders q objects)
-    → maps_in later t after ≡ named_from objects 0 (maps_in part live keys)
-still_named objects keys after live t part later is left held =
-    ext_get_or None (maps_in later t after) (named_from objects 0 (maps_in part live keys))
-    (length-maps later t after ∙ left.placed.all ∙ sym is.all ∙ sym (length-maps part live keys) ∙ sym (length-named objects 0 (maps_in part live keys)))
-    (λ i within. get_or-map_some (map_in later t) after i ∙ at_place i (get_or after i None) refl ∙ sym (named_at i))
+still_named : (objects : List (Option OpenObject)) (old t : LiveMaps) (part later : List ℕ) → LeavesHeldMaps (record { live = old; part = part }) (record { live = t; part = later })
+    → ((q : ℕ) → holds_at t q ≡ holders q objects) → at_places (map_at later t) ≡ named_from objects 0 (at_places (map_at part old))
+still_named objects old t part later left held =
+    ext_get_or None (at_places (map_at later t)) (named_from objects 0 (at_places (map_at part old)))
+    (length-at (map_at later t) ∙ sym (length-at (map_at part old)) ∙ sym (length-named objects 0 (at_places (map_at part old))))
+    (λ i lt. let within : i < most_maps = (let long = length-at (map_at later t) in omega arith) in at-within (map_at later t) i within ∙ at_place i (live_or_not (live_at t i)) (tells_named i objects) ∙ sym (named_at i within))
   where
-    named_at : (i : ℕ) → get_or (named_from objects 0 (maps_in part live keys)) i None ≡ (if is_named objects i then option_map (map_in part live) (get_or keys i None) else None)
-    named_at i =
+    named_at : (i : ℕ) → i < most_maps → get_or (named_from objects 0 (at_places (map_at part old))) i None ≡ (if is_named objects i then map_at part old i else None)
+    named_at i within =
         let e : 0 + i ≡ i = omega arith in
-        get_or-named objects 0 i (maps_in part live keys)
-        ∙ ap₂ (λ (p : ℕ) (o : Option Map). if is_named objects p then o else None) e (get_or-map_some (map_in part live) keys i)
+        get_or-named objects 0 i (at_places (map_at part old))
+        ∙ ap₂ (λ (p : ℕ) (o : Option Map). if is_named objects p then o else None) e (at-within (map_at part old) i within)
 
-    at_place : (i : ℕ) (o : Option ℕ) → get_or after i None ≡ o → option_map (map_in later t) o ≡ (if is_named objects i then option_map (map_in part live) (get_or keys i None) else None)
-    at_place i None e = by_name (tells_named i objects)
-      where
-        none_hold : holders i objects ≡ 0
-        none_hold = sym (held i) ∙ ap (λ (o : Option ℕ). option_map_or (holds_at t) o 0) e
-
-        by_name : Tells (is_named objects i) (holders i objects) → None ≡ (if is_named objects i then option_map (map_in part live) (get_or keys i None) else None)
-        by_name (inl (is, some)) = absurd (let none = none_hold in omega arith)
-        by_name (inr (isnt, none)) = sym (ap (λ (b : Bool). if b then option_map (map_in part live) (get_or keys i None) else None) isnt)
-    at_place i (Some key) e = by_name (tells_named i objects)
-      where
-        some_hold : 1 ≤ holders i objects
-        some_hold = subst (λ (n : ℕ). 1 ≤ n) (sym (ap (λ (o : Option ℕ). option_map_or (holds_at t) o 0) e) ∙ held i) (left.placed.each i key e).some
-
-        by_name : Tells (is_named objects i) (holders i objects) → Some (map_in later t key) ≡ (if is_named objects i then option_map (map_in part live) (get_or keys i None) else None)
-        by_name (inl (is_named_so, some)) =
-            let (was, same) = left.stays i key e in
-            ap Some same ∙ sym (ap (option_map (map_in part live)) was) ∙ sym (ap (λ (b : Bool). if b then option_map (map_in part live) (get_or keys i None) else None) is_named_so)
-        by_name (inr (isnt, none)) = absurd (let some = some_hold in omega arith)
+    at_place : (i : ℕ) → IsSome (live_at t i) ⊎ (live_at t i ≡ None) → Tells (is_named objects i) (holders i objects) → map_at later t i ≡ (if is_named objects i then map_at part old i else None)
+    at_place i (inl live) (inl (is_named_so, some)) =
+        let (was, same) = left.stays i live in
+        same_map_at part later old t i was live same ∙ sym (ap (λ (b : Bool). if b then map_at part old i else None) is_named_so)
+    at_place i (inl live) (inr (isnt, none)) = absurd (let some = left.held.some i live in let all = held i in omega arith)
+    at_place i (inr gone) (inl (is_named_so, some)) = absurd (let none : holds_at t i ≡ 0 = ap (λ (o : Option LiveMap). (live_or o).holds) gone in let all = held i in omega arith)
+    at_place i (inr gone) (inr (isnt, none)) = none_there later t i gone ∙ sym (ap (λ (b : Bool). if b then map_at part old i else None) isnt)
 
 -- ---- a descriptor that is closed
 
-abbrev pub kept_closed : KeptTenant → LiveMaps → List (Option ℕ) → ℕ → KeptTenant
-kept_closed k t after fd = record { objects = with_closed k.objects fd; keys = after; live = t; refused = k.refused }
+abbrev pub kept_closed : KeptTenant → LiveMaps → ℕ → KeptTenant
+kept_closed k t fd = record { objects = with_closed k.objects fd; live = t; refused = k.refused }
 
 -- what it named stood at its place
 pub closed_at : (objects : List (Option OpenObject)) (fd : ℕ) (o : OpenObject) → named objects fd ≡ Some o → (with_closed objects fd ≡ set objects (fd - first_descriptor) None) × (get_or objects (fd - first_descriptor) None ≡ Some o)
@@ -135,7 +118,7 @@ closed_at objects fd o opened = by_test (nat_lt fd first_descriptor) opened
     by_test true e = absurd (none-some o e)
     by_test false e = (refl, at (slice_get objects (fd - first_descriptor)) refl e)
 
-bound_times : (ms : List (ℕ × ℕ)) (fd p : ℕ) → lookup (λ m. m == fd) ms ≡ Some p → 1 ≤ times_listed p ms
+pub bound_times : (ms : List (ℕ × ℕ)) (fd p : ℕ) → lookup (λ m. m == fd) ms ≡ Some p → 1 ≤ times_listed p (map (λ m. m.1) ms)
 unfolding times_listed
 bound_times [] fd p e = absurd (none-some p e)
 bound_times (m ∷ ms) fd p e = by_test (m.0 == fd) (λ found. bound_times ms fd p found) e
@@ -153,60 +136,56 @@ bound_times (m ∷ ms) fd p e = by_test (m.0 == fd) (λ found. bound_times ms fd
     begins : (a b : ℕ) → 1 ≤ a → 1 ≤ a + b
     begins a b h = omega arith
 
-    by_test : (here : Bool) → (lookup (λ m. m == fd) ms ≡ Some p → 1 ≤ times_listed p ms) → (if here then Some m.1 else lookup (λ m. m == fd) ms) ≡ Some p → 1 ≤ (if m.1 == p then 1 else 0) + times_listed p ms
-    by_test true later e = begins (if m.1 == p then 1 else 0) (times_listed p ms) (one_if (m.1 == p) (eq-eqb m.1 p (inside m.1 p e)))
-    by_test false later e = rest (if m.1 == p then 1 else 0) (times_listed p ms) (later e)
+    by_test : (here : Bool) → (lookup (λ m. m == fd) ms ≡ Some p → 1 ≤ times_listed p (map (λ m. m.1) ms)) → (if here then Some m.1 else lookup (λ m. m == fd) ms) ≡ Some p
+        → 1 ≤ (if m.1 == p then 1 else 0) + times_listed p (map (λ m. m.1) ms)
+    by_test true later e = begins (if m.1 == p then 1 else 0) (times_listed p (map (λ m. m.1) ms)) (one_if (m.1 == p) (eq-eqb m.1 p (inside m.1 p e)))
+    by_test false later e = rest (if m.1 == p then 1 else 0) (times_listed p (map (λ m. m.1) ms)) (later e)
 
-pub closed_kept : (k : KeptTenant) (t : LiveMaps) (after : List (Option ℕ)) (part later : List ℕ) (fd : ℕ) (o : OpenObject) → IsWellFormedTenant k → named k.objects fd ≡ Some o
-    → LeavesHeldMaps (record { keys = k.keys; live = k.live; part = part }) (record { keys = after; live = t; part = later }) → ((q : ℕ) → holds_in after t q + times_named q o ≡ holds_in k.keys k.live q)
-    → IsWellFormedTenant (kept_closed k t after fd)
-closed_kept k t after part later fd o is opened left fewer =
+pub closed_kept : (k : KeptTenant) (t : LiveMaps) (part later : List ℕ) (fd : ℕ) (o : OpenObject) → IsWellFormedTenant k → named k.objects fd ≡ Some o
+    → LeavesHeldMaps (record { live = k.live; part = part }) (record { live = t; part = later }) → ((q : ℕ) → holds_at t q + times_named q o ≡ holds_at k.live q)
+    → IsWellFormedTenant (kept_closed k t fd)
+closed_kept k t part later fd o is opened left fewer =
     let (gone, there) = closed_at k.objects fd o opened in
     let n = fd - first_descriptor in
     let objects = set k.objects n None in
-    let held : (q : ℕ) → holds_in after t q ≡ holders q objects = λ q.
+    let held : (q : ℕ) → holds_at t q ≡ holders q objects = λ q.
     let now = fewer q in
     let was = is.held q in
     let sum = total-unset (times_named q) k.objects n o there in
     omega arith in
-    let kept : IsWellFormedTenant (record { objects = objects; keys = after; live = t; refused = k.refused }) = record {
+    let kept : IsWellFormedTenant (record { objects = objects; live = t; refused = k.refused }) = record {
       all = length-set {A = Option OpenObject} k.objects n None ∙ is.all;
-      placed = left.placed;
+      maps = left.held;
       held = held;
       single = λ q. let was = is.single q in let sum = total-unset (by_descriptor q) k.objects n o there in omega arith;
       bound = λ i l at. still_bound objects held i l at (unset_cases k.objects n i (object.Program l) at).1;
     } in
-    subst (λ (os : List (Option OpenObject)). IsWellFormedTenant (record { objects = os; keys = after; live = t; refused = k.refused })) (sym gone) kept
+    subst (λ (os : List (Option OpenObject)). IsWellFormedTenant (record { objects = os; live = t; refused = k.refused })) (sym gone) kept
   where
-    inside : (a b : ℕ) → Some a ≡ Some b → a ≡ b
-    inside a b e = cc
+    live_of : (p : ℕ) → 1 ≤ holds_at t p → IsSome (live_at t p) ⊎ (live_at t p ≡ None) → IsSome (live_at t p)
+    live_of p some (inl live) = live
+    live_of p some (inr none) = absurd (let no : holds_at t p ≡ 0 = ap (λ (o : Option LiveMap). (live_or o).holds) none in omega arith)
 
-    key_of : (q : ℕ) (o : Option ℕ) → get_or after q None ≡ o → 1 ≤ holds_in after t q → (key : ℕ) × (get_or after q None ≡ Some key)
-    key_of q None e some = absurd (let none : holds_in after t q ≡ 0 = ap (λ (o : Option ℕ). option_map_or (holds_at t) o 0) e in omega arith)
-    key_of q (Some key) e some = (key, e)
-
-    still_bound : (objects : List (Option OpenObject)) → ((q : ℕ) → holds_in after t q ≡ holders q objects) → (i : ℕ) (l : LoadedProgram) → get_or objects i None ≡ Some (object.Program l) → get_or k.objects i None ≡ Some (object.Program l)
-        → IsBound (record { objects = objects; keys = after; live = t; refused = k.refused }) l
+    still_bound : (objects : List (Option OpenObject)) → ((q : ℕ) → holds_at t q ≡ holders q objects) → (i : ℕ) (l : LoadedProgram) → get_or objects i None ≡ Some (object.Program l) → get_or k.objects i None ≡ Some (object.Program l)
+        → IsBound t l
     still_bound objects held i l at stood = let was = is.bound i l stood in record {
       each = was.each;
       once = was.once;
       shaped = λ f p found.
-          let (key, key_is, shaped) = was.shaped f p found in
+          let (was_live, shaped) = was.shaped f p found in
           let some = bound_times l.maps f p found in
           let most = total-part (times_named p) objects i (object.Program l) at in
           let all = held p in
-          let (now, there) = key_of p (get_or after p None) refl (omega arith) in
-          let (was_there, same) = left.stays p now there in
-          let one : key ≡ now = inside key now (sym key_is ∙ was_there) in
-          (now, there, shaped ∙ ap Some (ap (λ (n : ℕ). shape_at k.live n) one ∙ sym (ap (λ (m : Map). m.shape) same)));
+          let now = live_of p (omega arith) (live_or_not (live_at t p)) in
+          let (live, same) = left.stays p now in
+          (now, shaped ∙ ap (λ (m : Map). Some m.shape) (sym same));
     }
 
-pub closed_state : (k : KeptTenant) (t : LiveMaps) (after : List (Option ℕ)) (part later : List ℕ) (fd : ℕ) (o : OpenObject) → IsWellFormedTenant k → named k.objects fd ≡ Some o
-    → LeavesHeldMaps (record { keys = k.keys; live = k.live; part = part }) (record { keys = after; live = t; part = later }) → IsWellFormedTenant (kept_closed k t after fd)
-    → state_in later (kept_closed k t after fd) ≡ with_objects (state_in part k) (with_closed k.objects fd)
-closed_state k t after part later fd o is opened left now =
+pub closed_state : (k : KeptTenant) (t : LiveMaps) (part later : List ℕ) (fd : ℕ) → LeavesHeldMaps (record { live = k.live; part = part }) (record { live = t; part = later }) → IsWellFormedTenant (kept_closed k t fd)
+    → state_in later (kept_closed k t fd) ≡ with_objects (state_in part k) (with_closed k.objects fd)
+closed_state k t part later fd left now =
     ap₂ (λ (ms : List (Option Map)) (refused : Bool). record { objects = with_closed k.objects fd; maps = ms; refused = k.refused || refused })
-    (still_named (with_closed k.objects fd) k.keys after k.live t part later is.placed left now.held) left.refused
+    (still_named (with_closed k.objects fd) k.live t part later left now.held) left.refused
 
 -- a descriptor that is not open
 pub nothing_closed : (objects : List (Option OpenObject)) (fd : ℕ) → named objects fd ≡ None → with_closed objects fd ≡ objects

@@ -1,5 +1,5 @@
 -- What a delete leaves.
-use Rattle.std.proofs.Common.{◌≡◌, ◌≢◌, ℕ, Bool, true, List, length, take, drop, Some, Result, Ok, Err, refl, sym, ap, ap₂, ◌∙◌}
+use Rattle.std.proofs.Common.{◌≡◌, ◌≢◌, ℕ, Bool, true, false, List, length, take, drop, Result, Ok, Err, refl, sym, ap, ap₂, ◌∙◌}
 use Rattle.std.specs.Prelude.{◌==◌, if◌then◌else◌}
 use Rattle.std.specs.Result.{result_map_both}
 use Rattle.std.proofs.Math.Path.{fun_ext}
@@ -7,32 +7,38 @@ use Rattle.std.proofs.lemmas.Bool.{eq-eqb}
 use Rattle.bpf_maps.specs.Live.{LiveMaps, places_at, shape_at, map_in, value_in, OnlyKeysChange}
 use Rattle.bpf_maps.specs.Places.{PlaceTable, table_of, Removes, with_kept, after_run}
 use Rattle.bpf_maps.specs.Laws.{CallsAreThoseOfAMap, AreasKeepPlaces}
-use Rattle.fd_table.specs.Table.{named}
 use Rattle.tagged_model.specs.MapLaws.{CallsRefineValues}
 use Rattle.tagged_model.specs.declared.fault.MapFault.{MapFault}
 use Rattle.tagged_model.specs.declared.shape.MapShape.{MapShape}
 use Rattle.tagged_model.specs.Table as call
 use Rattle.tagged_model.specs.Table.{removal, with_deleted, with_values}
 use Rattle.tenant.specs.declared.errno.Errno.TheVariants.{Invalid}
-use Rattle.tenant.specs.declared.object.OpenObject.TheVariants as object
 use Rattle.tenant.specs.State.{Map, TenantState}
 use Rattle.tenant.specs.Machine.{Answer, refuses, element_taken_out, element_deleted}
-use Rattle.tenant.specs.Kept.{KeptTenant, key_at, state_in}
+use Rattle.tenant.specs.Kept.{KeptTenant, state_in}
+use Rattle.tenant.specs.inside.Named.{IsMapOf}
 use Rattle.tenant.proofs.LookUps.{on_map_is}
 
 abbrev answer_to : TenantState → List ℕ → ℕ → Map → Answer
 answer_to s key place t = if length key == t.shape.key_size then element_taken_out s place t key (removal t key) else refuses Invalid s
 
 -- the answer is what becomes of the map
-pub delete_is : CallsRefineValues ℕ (List ℕ) → (part : List ℕ) (k : KeptTenant) (fd place m : ℕ) (key : List ℕ) → named k.objects fd ≡ Some (object.Map place) → key_at k place ≡ Some m
-    → length key ≡ (shape_at k.live m).key_size
-    → element_deleted (state_in part k) fd key ≡ element_taken_out (state_in part k) place (map_in part k.live m) key (result_map_both (value_in part k.live m) (λ fault. fault) (removal (table_of (places_at k.live m)) key))
-delete_is along part k fd place m key opened there size =
+pub delete_is : CallsRefineValues ℕ (List ℕ) → (part : List ℕ) (k : KeptTenant) (fd place : ℕ) (key : List ℕ) → IsMapOf k fd place → length key ≡ (shape_at k.live place).key_size
+    → element_deleted (state_in part k) fd key ≡ element_taken_out (state_in part k) place (map_in part k.live place) key (result_map_both (value_in part k.live place) (λ fault. fault) (removal (table_of (places_at k.live place)) key))
+delete_is along part k fd place key found size =
     let s = state_in part k in
-    let right : (length key == (shape_at k.live m).key_size) ≡ true = eq-eqb (length key) (shape_at k.live m).key_size size in
-    on_map_is part k fd place m (λ p t. answer_to s key p t) opened there
-    ∙ ap (λ (b : Bool). if b then element_taken_out s place (map_in part k.live m) key (removal (map_in part k.live m) key) else refuses Invalid s) right
-    ∙ ap (element_taken_out s place (map_in part k.live m) key) (along.removal (value_in part k.live m) (table_of (places_at k.live m)) key)
+    let right : (length key == (shape_at k.live place).key_size) ≡ true = eq-eqb (length key) (shape_at k.live place).key_size size in
+    on_map_is part k fd place (λ p t. answer_to s key p t) found
+    ∙ ap (λ (b : Bool). if b then element_taken_out s place (map_in part k.live place) key (removal (map_in part k.live place) key) else refuses Invalid s) right
+    ∙ ap (element_taken_out s place (map_in part k.live place) key) (along.removal (value_in part k.live place) (table_of (places_at k.live place)) key)
+
+-- a key of another size
+pub other_size : (part : List ℕ) (k : KeptTenant) (fd place : ℕ) (key : List ℕ) → IsMapOf k fd place → (length key == (shape_at k.live place).key_size) ≡ false
+    → refuses Invalid (state_in part k) ≡ element_deleted (state_in part k) fd key
+other_size part k fd place key found other =
+    let s = state_in part k in
+    sym (on_map_is part k fd place (λ p t. answer_to s key p t) found
+    ∙ ap (λ (b : Bool). if b then element_taken_out s place (map_in part k.live place) key (removal (map_in part k.live place) key) else refuses Invalid s) other)
 
 -- the values lie where they lay
 pub same_values : AreasKeepPlaces → (part : List ℕ) (old new : LiveMaps) (m : ℕ) → OnlyKeysChange m old new → value_in part new m ≡ value_in part old m

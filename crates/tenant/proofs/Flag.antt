@@ -82,7 +82,7 @@ ended_after Fault s = refl
 abbrev with_run : TenantState → List (Option Map) → Bool → TenantState
 with_run s maps refused = record s { maps = maps; refused = s.refused || refused }
 
--- the answer to a run that came to this
+-- the answer to a run that ends so
 abbrev came_to : TenantState → LoadedProgram → Ending → Answer
 came_to s l e =
     outcome_answer e.outcome (with_run s (maps_left (λ m. option_map last_map (e.state.maps m)) l.maps s.maps) e.state.refused)
@@ -214,7 +214,7 @@ clear_both tell before after (frame ∷ frames) (reply ∷ replies) (between, to
     let here = clear_told tell frame reply before between told later.1 in
     ((between, here.0, later.0), here.1)
 
--- a tenant whose flag is clear in the end is told what its machine tells it without refusals
+-- if a tenant's flag is clear at the end, its replies are those of its machine without refusals
 pub clear_flag_means_alone : RefusalsAreTold → (before : Option TenantState) (after : TenantState) (frames replies : List (List ℕ)) → AloneWithRefusals before frames replies (Some after) → after.refused ≡ false
     → IsToldAlone before frames replies (Some after)
 clear_flag_means_alone tell before after frames replies h e = (clear_both tell before (Some after) frames replies h e).0

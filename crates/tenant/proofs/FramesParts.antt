@@ -18,7 +18,7 @@ lent_changes law m t new parts lt part whole = record {
   others = λ other apart. law.others m t other new (parts, lt) (whole ∙ sym part) apart;
 }
 
--- what a reply tells of the bytes that were lent, it tells of the part
+-- what a reply is for the borrowed bytes, it is for the part
 pub lent_told : PartsAreApart → (m : Memory) (t : ℕ) (old new : List ℕ) (command : Command) (h : Head) (reply : List ℕ) (k l : KeptTenant)
     → size_of m ≡ m.parts * m.part → t < m.parts → m.part ≡ PART → old ≡ part_bytes m t → length new ≡ PART
     → AnswersCommand command h reply (state_in old k) (state_in new l) → AnswersCommand command h reply (state_in (part_bytes m t) k) (state_in (part_bytes (with_part m t new) t) l)

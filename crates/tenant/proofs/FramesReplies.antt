@@ -3,7 +3,6 @@ use Rattle.std.proofs.Common.{Result, Ok, Err, ◌≡◌, ◌≢◌, ℕ, List, 
 use Rattle.std.specs.Prelude.{ℤ, nat_lt}
 use Rattle.byteorder.specs.Endian.{little_number}
 use Rattle.command_frames.specs.declared.command.BadFrame.{BadFrame}
-use Rattle.command_frames.specs.declared.command.BadFrame.TheVariants as bad
 use Rattle.command_frames.specs.declared.command.Head.{Head}
 use Rattle.command_frames.specs.Command.{Command, parsed}
 use Rattle.command_frames.specs.Frame.{head_of, owner, reply_bytes, reply_to}
@@ -13,9 +12,9 @@ use Rattle.tenant.specs.Alone.{AnswersFrame, MayReply, frame_errno}
 use Rattle.tenant.specs.Errno.{status_of}
 use Rattle.tenant.specs.Machine.{refuses}
 use Rattle.tenant.specs.State.{TenantState}
-use Rattle.tenant.specs.inside.Frames.{AnswersCommand}
+use Rattle.tenant.specs.inside.Frames.{Writes, AnswersCommand}
 use Rattle.tenant.proofs.Replies.{heads}
-use Rattle.tenant.proofs.FramesStatuses.{IsOther, invalid, too_big, no_fault_written}
+use Rattle.tenant.proofs.FramesStatuses.{no_fault_written}
 
 pub by_head : (frame : List ℕ) (h : Head) → head_of frame ≡ Some h → (status : ℤ) (payload : List ℕ) → reply_bytes h.tenant h.command status payload ≡ reply_to frame status payload
 by_head frame h headed status payload =
@@ -34,11 +33,6 @@ no_fault_told frame h reply headed apart e = apart (e ∙ sym (by_head frame h h
 
 -- ---- a frame that carries no command
 
-other_frame : (fault : BadFrame) → IsOther (status_of (frame_errno fault))
-other_frame bad.TooLong = too_big
-other_frame bad.Unknown = invalid
-other_frame bad.Body = invalid
-
 pub refused_frame : (frame reply : List ℕ) (s : TenantState) (fault : BadFrame) (errno : Errno) (h : Head) → head_of frame ≡ Some h → parsed frame ≡ Err fault → errno ≡ frame_errno fault
     → reply ≡ reply_bytes h.tenant h.command (status_of errno) [] → MayReply frame reply (Some s) (Some s)
 refused_frame frame reply s fault errno h headed is same written = (
@@ -46,8 +40,6 @@ refused_frame frame reply s fault errno h headed is same written = (
   (refuses errno s, subst (λ (r : Result Command BadFrame). AnswersFrame [] s r (refuses errno s)) (sym is) (ap (λ (x : Errno). refuses x s) same), written ∙ by_head frame h headed (status_of errno) [], refl),
 )
 
-pub refused_no_fault : (frame reply : List ℕ) (s : TenantState) (fault : BadFrame) (errno : Errno) (h : Head) → head_of frame ≡ Some h → errno ≡ frame_errno fault
-    → reply ≡ reply_bytes h.tenant h.command (status_of errno) [] → reply ≢ reply_to frame (status_of BadAddress) []
-refused_no_fault frame reply s fault errno h headed same written =
-    no_fault_told frame h reply headed
-    (no_fault_written h reply (refuses errno s) written (subst (λ (x : Errno). IsOther (status_of x)) (sym same) (other_frame fault)))
+pub refused_no_fault : (frame bytes : List ℕ) (s : TenantState) (errno : Errno) (h : Head) → head_of frame ≡ Some h → errno ≢ BadAddress → Writes h bytes (refuses errno s)
+    → bytes ≢ reply_to frame (status_of BadAddress) []
+refused_no_fault frame bytes s errno h headed other written = no_fault_told frame h bytes headed (no_fault_written h bytes (Err errno) s other written)

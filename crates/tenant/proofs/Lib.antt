@@ -1,10 +1,9 @@
 mod Sums
 mod OneAnswer
 mod Named
-mod Changes
+mod AtPlaces
 mod New
 mod Shapes
-mod Places
 mod LookUps
 mod NextKeys
 mod StillKept

@@ -1,20 +1,21 @@
 -- What a load that opens a program leaves.
-use Rattle.std.proofs.Common.{◌≡◌, ◌≢◌, ℕ, ◌+◌, ◌-◌, ◌≤◌, ◌<◌, Bool, true, false, List, [], get_or, Option, Some, None, sym, ap, ap₂, subst, ◌∙◌, inl, inr, arith, length-set}
+use Rattle.std.proofs.Common.{◌≡◌, ◌≢◌, ℕ, ◌+◌, ◌-◌, ◌≤◌, ◌<◌, Bool, true, false, List, get_or, Option, Some, None, sym, ap, ap₂, subst, ◌∙◌, inl, inr, arith, length-set}
 use Rattle.std.specs.Prelude.{◌==◌, ◌||◌, ◌⊎◌, if◌then◌else◌}
-use Rattle.bpf_maps.specs.Live.{LiveMaps, map_in}
+use Rattle.bpf_maps.specs.Live.{LiveMaps, holds_at}
 use Rattle.fd_table.specs.Table.{first_descriptor, lowest, with_open}
 use Rattle.tenant.specs.declared.object.OpenObject.{OpenObject}
 use Rattle.tenant.specs.declared.object.OpenObject.TheVariants as object
-use Rattle.tenant.specs.Kept.{KeptTenant, IsWellFormedTenant, IsBound, holds_in, times_listed, times_named, by_descriptor, state_in}
-use Rattle.tenant.specs.Loaded.{LoadedProgram}
+use Rattle.tenant.specs.Kept.{KeptTenant, IsWellFormedTenant, IsBound, times_listed, times_named, by_descriptor, map_at, state_in}
+use Rattle.tenant.specs.Loaded.{LoadedProgram, map_places}
 use Rattle.tenant.specs.inside.Loading.{IsHeldMore, with_program}
 use Rattle.tenant.specs.State.{Map}
-use Rattle.tenant.proofs.Changes.{all_same}
+use Rattle.tenant.proofs.AtPlaces.{same_at}
+use Rattle.tenant.proofs.StillKept.{bound_along}
 use Rattle.tenant.proofs.Opened.{set_cases, descriptor_free, opened_sum}
 use Rattle.tenant.proofs.Sums.{total-most}
 
 abbrev pub kept_opened : KeptTenant → LiveMaps → ℕ → LoadedProgram → KeptTenant
-kept_opened k t fd l = record { objects = with_open k.objects fd (object.Program l); keys = k.keys; live = t; refused = k.refused }
+kept_opened k t fd l = record { objects = with_open k.objects fd (object.Program l); live = t; refused = k.refused }
 
 -- ---- no more hold a map than there are descriptors
 
@@ -26,7 +27,7 @@ weight-most : (k : KeptTenant) → IsWellFormedTenant k → (q i : ℕ) (o : Ope
 weight-most k is q i (object.Map p) there = one_at_most (p == q)
 weight-most k is q i (object.Program l) there = (is.bound i l there).once q
 
-pub few_hold : (k : KeptTenant) (l : LoadedProgram) → IsWellFormedTenant k → IsBound k l → (q : ℕ) → holds_in k.keys k.live q + times_listed q l.maps < 4294967296
+pub few_hold : (k : KeptTenant) (l : LoadedProgram) → IsWellFormedTenant k → IsBound k.live l → (q : ℕ) → holds_at k.live q + times_listed q (map_places l) < 4294967296
 few_hold k l is bound q =
     let held = is.held q in
     let most = total-most (times_named q) k.objects (λ i o there. weight-most k is q i o there) in
@@ -36,42 +37,32 @@ few_hold k l is bound q =
 
 -- ---- what is kept
 
-still_bound : (k : KeptTenant) (t : LiveMaps) (fd : ℕ) (l m : LoadedProgram) → IsHeldMore k.keys k.live t → IsBound k m → IsBound (kept_opened k t fd l) m
-still_bound k t fd l m more was = record {
-  each = was.each;
-  once = was.once;
-  shaped = λ f p found. let (key, at, shaped) = was.shaped f p found in (key, at, shaped ∙ ap (λ (u : Map). Some u.shape) (sym (more.same [] p key at)));
-}
+still_bound : (old t : LiveMaps) (m : LoadedProgram) → IsHeldMore old t → IsBound old m → IsBound t m
+still_bound old t m more was = bound_along old t m more.live (λ place live. more.shape place) was
 
 same_program : (l m : LoadedProgram) → object.Program m ≡ object.Program l → l ≡ m
 same_program l m e = cc
 
-pub opened_kept : (k : KeptTenant) (t : LiveMaps) (fd : ℕ) (l : LoadedProgram) → IsWellFormedTenant k → lowest k.objects ≡ Some fd → IsBound k l → IsHeldMore k.keys k.live t
-    → ((q : ℕ) → holds_in k.keys t q ≡ holds_in k.keys k.live q + times_listed q l.maps) → IsWellFormedTenant (kept_opened k t fd l)
+pub opened_kept : (k : KeptTenant) (t : LiveMaps) (fd : ℕ) (l : LoadedProgram) → IsWellFormedTenant k → lowest k.objects ≡ Some fd → IsBound k.live l → IsHeldMore k.live t
+    → ((q : ℕ) → holds_at t q ≡ holds_at k.live q + times_listed q (map_places l)) → IsWellFormedTenant (kept_opened k t fd l)
 opened_kept k t fd l is low bound more holds = record {
   all = length-set {A = Option OpenObject} k.objects (fd - first_descriptor) (Some (object.Program l)) ∙ is.all;
-  placed = more.placed;
-  held = λ q. holds q ∙ ap (λ (n : ℕ). n + times_listed q l.maps) (is.held q) ∙ sym (opened_sum (times_named q) k.objects fd (object.Program l) low);
+  maps = more.held;
+  held = λ q. holds q ∙ ap (λ (n : ℕ). n + times_listed q (map_places l)) (is.held q) ∙ sym (opened_sum (times_named q) k.objects fd (object.Program l) low);
   single = λ q. let was = is.single q in let sum = opened_sum (by_descriptor q) k.objects fd (object.Program l) low in omega arith;
   bound = λ n m there. bound_of m n (set_cases k.objects (fd - first_descriptor) n (object.Program l) (object.Program m) (descriptor_free k.objects fd low).0 there);
 }
   where
-    bound_of : (m : LoadedProgram) (n : ℕ) → ((n ≡ fd - first_descriptor) × (object.Program m ≡ object.Program l)) ⊎ ((n ≢ fd - first_descriptor) × (get_or k.objects n None ≡ Some (object.Program m))) → IsBound (kept_opened k t fd l) m
-    bound_of m n (inl (here, same)) = subst (IsBound (kept_opened k t fd l)) (same_program l m same) (still_bound k t fd l l more bound)
-    bound_of m n (inr (other, there)) = still_bound k t fd l m more (is.bound n m there)
+    bound_of : (m : LoadedProgram) (n : ℕ) → ((n ≡ fd - first_descriptor) × (object.Program m ≡ object.Program l)) ⊎ ((n ≢ fd - first_descriptor) × (get_or k.objects n None ≡ Some (object.Program m))) → IsBound t m
+    bound_of m n (inl (here, same)) = subst (IsBound t) (same_program l m same) (still_bound k.live t l more bound)
+    bound_of m n (inr (other, there)) = still_bound k.live t m more (is.bound n m there)
 
 -- the state after it
-pub state_opened : (part : List ℕ) (k : KeptTenant) (t : LiveMaps) (fd : ℕ) (l : LoadedProgram) → IsHeldMore k.keys k.live t → state_in part (kept_opened k t fd l) ≡ with_program (state_in part k) fd l
+pub state_opened : (part : List ℕ) (k : KeptTenant) (t : LiveMaps) (fd : ℕ) (l : LoadedProgram) → IsHeldMore k.live t → state_in part (kept_opened k t fd l) ≡ with_program (state_in part k) fd l
 state_opened part k t fd l more =
     ap₂ (λ (ms : List (Option Map)) (b : Bool). record { objects = with_open k.objects fd (object.Program l); maps = ms; refused = k.refused || b })
-    (all_same (map_in part t) (map_in part k.live) k.keys (λ i key at. more.same part i key at)) more.refused
+    (same_at (map_at part t) (map_at part k.live) (more.same part)) more.refused
 
 -- what is kept where memory was refused
-pub flagged_kept : (k : KeptTenant) → IsWellFormedTenant k → IsWellFormedTenant (record { objects = k.objects; keys = k.keys; live = k.live; refused = true })
-flagged_kept k is = record {
-  all = is.all;
-  placed = is.placed;
-  held = is.held;
-  single = is.single;
-  bound = λ n l there. let was = is.bound n l there in record { each = was.each; once = was.once; shaped = was.shaped };
-}
+pub flagged_kept : (k : KeptTenant) → IsWellFormedTenant k → IsWellFormedTenant (record { objects = k.objects; live = k.live; refused = true })
+flagged_kept k is = record { all = is.all; maps = is.maps; held = is.held; single = is.single; bound = is.bound }

@@ -1,7 +1,8 @@
 -- The places of the maps that descriptors name.
-use Rattle.std.proofs.Common.{◌≡◌, ◌≢◌, ℕ, zero, suc, ◌+◌, ◌-◌, ◌≤◌, ◌<◌, Bool, true, false, List, [], ◌∷◌, ◌++◌, length, take, set, get_or, Option, Some, None, refl, sym, ap, subst, ◌∙◌, inl, inr, arith}
+use Rattle.std.proofs.Common.{◌≡◌, ◌≢◌, ℕ, zero, suc, ◌+◌, ◌-◌, ◌≤◌, ◌<◌, Bool, true, false, List, [], ◌∷◌, ◌++◌, length, take, set, map, get_or, Option, Some, None, refl, sym, ap, subst, ◌∙◌, inl, inr, arith}
 use Rattle.std.specs.Prelude.{◌==◌, ◌⊎◌, nat_lt, slice_get, if◌then◌else◌}
 use Rattle.std.specs.Map.{lookup, keys_of}
+use Rattle.std.specs.List.{zip}
 use Rattle.std.proofs.lemmas.Bool.{eqb-true, eq-eqb, cases_eq}
 use Rattle.std.proofs.lemmas.Bool.Decides.{nat_tests}
 use Rattle.std.proofs.lemmas.Option.{none-some}
@@ -107,6 +108,13 @@ lookup_named objects (x ∷ fds) fd place found = by_object (λ e. lookup_named 
     by_object rest (Some (object.Program l)) is = later (rest (sym (ap (lookup (λ m. m == fd)) (places_cons objects x fds (Some (object.Program l)) is)) ∙ found))
     by_object rest (Some (object.Map p)) is = by_test p (x == fd) refl is rest (sym (ap (lookup (λ m. m == fd)) (places_cons objects x fds (Some (object.Map p)) is)) ∙ found)
 
+-- the places of entries
+abbrev pub seconds : List (ℕ × ℕ) → List ℕ
+seconds ms = map (λ m. m.1) ms
+
+abbrev places : List (Option OpenObject) → List ℕ → List ℕ
+places objects fds = seconds (places_from objects fds)
+
 abbrev IsAmong : List (Option OpenObject) → List ℕ → ℕ → Type 0
 IsAmong objects fds place = (i fd : ℕ) × (slice_get fds i ≡ Some fd) × (named objects fd ≡ Some (object.Map place))
 
@@ -114,21 +122,21 @@ among_later : (objects : List (Option OpenObject)) (x : ℕ) (fds : List ℕ) (p
 among_later objects x fds place (i, fd, at, is) = (suc i, fd, at, is)
 
 -- a place that stands among them is that of a map that one of them names
-pub times_named : (objects : List (Option OpenObject)) (fds : List ℕ) (place : ℕ) → 1 ≤ times_listed place (places_from objects fds)
+pub times_named : (objects : List (Option OpenObject)) (fds : List ℕ) (place : ℕ) → 1 ≤ times_listed place (seconds (places_from objects fds))
     → (i fd : ℕ) × (slice_get fds i ≡ Some fd) × (named objects fd ≡ Some (object.Map place))
 unfolding times_listed
-times_named objects [] place some = absurd (let none : times_listed place (places_from objects []) ≡ 0 = ap (times_listed place) (places_none objects) in omega arith)
+times_named objects [] place some = absurd (let none : times_listed place (places objects []) ≡ 0 = ap (λ (ms : List (ℕ × ℕ)). times_listed place (seconds ms)) (places_none objects) in omega arith)
 times_named objects (x ∷ fds) place some = by_object (λ more. among_later objects x fds place (times_named objects fds place more)) (named objects x) refl
   where
-    by_test : (1 ≤ times_listed place (places_from objects fds) → IsAmong objects (x ∷ fds) place) → (p : ℕ) (here : Bool) → (p == place) ≡ here → named objects x ≡ Some (object.Map p)
-        → 1 ≤ (if here then 1 else 0) + times_listed place (places_from objects fds) → IsAmong objects (x ∷ fds) place
+    by_test : (1 ≤ times_listed place (places objects fds) → IsAmong objects (x ∷ fds) place) → (p : ℕ) (here : Bool) → (p == place) ≡ here → named objects x ≡ Some (object.Map p)
+        → 1 ≤ (if here then 1 else 0) + times_listed place (places objects fds) → IsAmong objects (x ∷ fds) place
     by_test rest p true same is e = (0, x, refl, is ∙ ap (λ (q : ℕ). Some (object.Map q)) (eqb-true p place same))
     by_test rest p false same is e = rest (omega arith)
 
-    by_object : (1 ≤ times_listed place (places_from objects fds) → IsAmong objects (x ∷ fds) place) → (o : Option OpenObject) → named objects x ≡ o → IsAmong objects (x ∷ fds) place
-    by_object rest None is = rest (subst (λ (ms : List (ℕ × ℕ)). 1 ≤ times_listed place ms) (places_cons objects x fds None is) some)
-    by_object rest (Some (object.Program l)) is = rest (subst (λ (ms : List (ℕ × ℕ)). 1 ≤ times_listed place ms) (places_cons objects x fds (Some (object.Program l)) is) some)
-    by_object rest (Some (object.Map p)) is = by_test rest p (p == place) refl is (subst (λ (ms : List (ℕ × ℕ)). 1 ≤ times_listed place ms) (places_cons objects x fds (Some (object.Map p)) is) some)
+    by_object : (1 ≤ times_listed place (places objects fds) → IsAmong objects (x ∷ fds) place) → (o : Option OpenObject) → named objects x ≡ o → IsAmong objects (x ∷ fds) place
+    by_object rest None is = rest (subst (λ (ms : List (ℕ × ℕ)). 1 ≤ times_listed place (seconds ms)) (places_cons objects x fds None is) some)
+    by_object rest (Some (object.Program l)) is = rest (subst (λ (ms : List (ℕ × ℕ)). 1 ≤ times_listed place (seconds ms)) (places_cons objects x fds (Some (object.Program l)) is) some)
+    by_object rest (Some (object.Map p)) is = by_test rest p (p == place) refl is (subst (λ (ms : List (ℕ × ℕ)). 1 ≤ times_listed place (seconds ms)) (places_cons objects x fds (Some (object.Map p)) is) some)
 
 -- ---- no place stands twice
 
@@ -172,9 +180,9 @@ times_zero : (n : ℕ) → (1 ≤ n → ⊥) → n ≡ 0
 times_zero zero h = refl
 times_zero (suc n) h = absurd (h (omega arith))
 
-pub times_once : (objects : List (Option OpenObject)) (fds : List ℕ) → ((place : ℕ) → descriptors place objects ≤ 1) → AreApart fds → (place : ℕ) → times_listed place (places_from objects fds) ≤ 1
+pub times_once : (objects : List (Option OpenObject)) (fds : List ℕ) → ((place : ℕ) → descriptors place objects ≤ 1) → AreApart fds → (place : ℕ) → times_listed place (seconds (places_from objects fds)) ≤ 1
 unfolding times_listed
-times_once objects [] single apart place = let none : times_listed place (places_from objects []) ≡ 0 = ap (times_listed place) (places_none objects) in omega arith
+times_once objects [] single apart place = let none : times_listed place (places objects []) ≡ 0 = ap (λ (ms : List (ℕ × ℕ)). times_listed place (seconds ms)) (places_none objects) in omega arith
 times_once objects (x ∷ fds) single apart place =
     by_object (times_once objects fds single (λ i j fd a b. let same = apart (suc i) (suc j) fd a b in omega arith) place) (named objects x) refl
   where
@@ -185,14 +193,33 @@ times_once objects (x ∷ fds) single apart place =
         let wrong : 0 ≡ suc i = apart 0 (suc i) x refl (at ∙ ap Some same) in
         omega arith
 
-    by_test : times_listed place (places_from objects fds) ≤ 1 → (p : ℕ) (here : Bool) → (p == place) ≡ here → named objects x ≡ Some (object.Map p) → (if here then 1 else 0) + times_listed place (places_from objects fds) ≤ 1
+    by_test : times_listed place (places objects fds) ≤ 1 → (p : ℕ) (here : Bool) → (p == place) ≡ here → named objects x ≡ Some (object.Map p) → (if here then 1 else 0) + times_listed place (places objects fds) ≤ 1
     by_test few p true same is =
         let here : named objects x ≡ Some (object.Map place) = is ∙ ap (λ (q : ℕ). Some (object.Map q)) (eqb-true p place same) in
-        let none : times_listed place (places_from objects fds) ≡ 0 = times_zero (times_listed place (places_from objects fds)) (λ some. not_there (times_named objects fds place some) here) in
+        let none : times_listed place (places objects fds) ≡ 0 = times_zero (times_listed place (places objects fds)) (λ some. not_there (times_named objects fds place some) here) in
         omega arith
     by_test few p false same is = omega arith
 
-    by_object : times_listed place (places_from objects fds) ≤ 1 → (o : Option OpenObject) → named objects x ≡ o → times_listed place (places_from objects (x ∷ fds)) ≤ 1
-    by_object few None is = subst (λ (ms : List (ℕ × ℕ)). times_listed place ms ≤ 1) (sym (places_cons objects x fds None is)) few
-    by_object few (Some (object.Program l)) is = subst (λ (ms : List (ℕ × ℕ)). times_listed place ms ≤ 1) (sym (places_cons objects x fds (Some (object.Program l)) is)) few
-    by_object few (Some (object.Map p)) is = subst (λ (ms : List (ℕ × ℕ)). times_listed place ms ≤ 1) (sym (places_cons objects x fds (Some (object.Map p)) is)) (by_test few p (p == place) refl is)
+    by_object : times_listed place (places objects fds) ≤ 1 → (o : Option OpenObject) → named objects x ≡ o → times_listed place (places objects (x ∷ fds)) ≤ 1
+    by_object few None is = subst (λ (ms : List (ℕ × ℕ)). times_listed place (seconds ms) ≤ 1) (sym (places_cons objects x fds None is)) few
+    by_object few (Some (object.Program l)) is = subst (λ (ms : List (ℕ × ℕ)). times_listed place (seconds ms) ≤ 1) (sym (places_cons objects x fds (Some (object.Program l)) is)) few
+    by_object few (Some (object.Map p)) is = subst (λ (ms : List (ℕ × ℕ)). times_listed place (seconds ms) ≤ 1) (sym (places_cons objects x fds (Some (object.Map p)) is)) (by_test few p (p == place) refl is)
+
+-- ---- the places of all of them
+
+pub seconds_with : (ms ns : List (ℕ × ℕ)) → seconds (ms ++ ns) ≡ seconds ms ++ seconds ns
+seconds_with [] ns = refl
+seconds_with (m ∷ ms) ns = ap (λ (ps : List ℕ). m.1 ∷ ps) (seconds_with ms ns)
+
+pub length-seconds : (ms : List (ℕ × ℕ)) → length (seconds ms) ≡ length ms
+length-seconds [] = refl
+length-seconds (m ∷ ms) = let rest = length-seconds ms in omega arith
+
+pub length-firsts : (ms : List (ℕ × ℕ)) → length (keys_of ms) ≡ length ms
+length-firsts [] = refl
+length-firsts (m ∷ ms) = let rest = length-firsts ms in omega arith
+
+-- descriptors with the places of the maps that they name
+pub paired : (ms : List (ℕ × ℕ)) → zip (keys_of ms) (seconds ms) ≡ ms
+paired [] = refl
+paired (m ∷ ms) = ap (λ (ns : List (ℕ × ℕ)). m ∷ ns) (paired ms)

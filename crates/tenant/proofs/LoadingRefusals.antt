@@ -10,11 +10,11 @@ use Rattle.reg_kinds.specs.declared.facts.Facts.{Facts}
 use Rattle.reg_kinds.specs.declared.reason.Reason.{Reason}
 use Rattle.tagged_model.specs.declared.shape.Named.{Named}
 use Rattle.tagged_model.specs.Cells.{and_then}
-use Rattle.verdict.specs.declared.fault.VerifyFault.{VerifyFault}
-use Rattle.verdict.specs.Before.{facts_before}
-use Rattle.verdict.specs.Maps.{shapes_of}
-use Rattle.verdict.specs.Shape.{structure_fault, shape_of}
-use Rattle.verdict.specs.Verdict.{IsRefused, memory_fault, safety_fault}
+use Rattle.verifier.specs.declared.fault.VerifyFault.{VerifyFault}
+use Rattle.verifier.specs.Before.{facts_before}
+use Rattle.verifier.specs.Maps.{shapes_of}
+use Rattle.verifier.specs.Shape.{structure_fault, shape_of}
+use Rattle.verifier.specs.Verdict.{IsRefused, memory_fault, safety_fault}
 use Rattle.tenant.specs.declared.errno.Errno.{Errno}
 use Rattle.tenant.specs.declared.errno.Errno.TheVariants.{Invalid}
 use Rattle.tenant.specs.Loaded.{LoadedProgram}

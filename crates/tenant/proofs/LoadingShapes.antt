@@ -13,7 +13,7 @@ use Rattle.tagged_model.specs.declared.shape.MapShape.{MapShape}
 use Rattle.tagged_model.specs.declared.shape.Named.{Named}
 use Rattle.tagged_model.specs.declared.shape.Target.{Target}
 use Rattle.tagged_model.specs.declared.shape.Target.TheVariants as target
-use Rattle.verdict.specs.Maps.{is_among, entries_of}
+use Rattle.verifier.specs.Maps.{is_among, entries_of}
 use Rattle.tenant.specs.declared.object.OpenObject.{OpenObject}
 use Rattle.tenant.specs.declared.object.OpenObject.TheVariants as object
 use Rattle.tenant.specs.Machine.{object_target, entry_of, targets_from, targets}

@@ -1,5 +1,5 @@
 -- What an open descriptor names.
-use Rattle.std.proofs.Common.{◌≡◌, ℕ, zero, suc, ◌+◌, ◌-◌, ◌≤◌, Bool, true, false, List, [], ◌∷◌, Option, Some, None, IsSome, refl, sym, ap, subst, ◌∙◌, arith, rules}
+use Rattle.std.proofs.Common.{◌≡◌, ℕ, zero, suc, ◌+◌, ◌-◌, ◌≤◌, Bool, true, false, List, [], ◌∷◌, Option, Some, None, IsSome, is_some, refl, sym, ap, subst, ◌∙◌, arith}
 use Rattle.std.specs.Prelude.{◌==◌, nat_lt, slice_get, if◌then◌else◌}
 use Rattle.std.specs.Option.{option_map_or}
 use Rattle.std.proofs.lemmas.Bool.{eq-eqb}
@@ -7,8 +7,9 @@ use Rattle.std.proofs.lemmas.Option.{none-some}
 use Rattle.fd_table.specs.Table.{named, flattened}
 use Rattle.tenant.specs.declared.object.OpenObject.{OpenObject}
 use Rattle.tenant.specs.declared.object.OpenObject.TheVariants as object
-use Rattle.tenant.specs.Kept.{KeptTenant, IsWellFormedTenant, key_at, times_named, holders}
-use Rattle.bpf_maps.specs.Live.{holds_at}
+use Rattle.tenant.specs.Kept.{KeptTenant, IsWellFormedTenant, times_named, holders}
+use Rattle.tenant.specs.inside.Named.{IsMapOf}
+use Rattle.bpf_maps.specs.Live.{LiveMap, live_or, live_at, holds_at}
 use Rattle.bpf_maps.specs.Sum.{total}
 
 names_once : (place : ℕ) → times_named place (object.Map place) ≡ 1
@@ -40,15 +41,15 @@ holds_named : (objects : List (Option OpenObject)) (fd place : ℕ) (o : OpenObj
 holds_named objects fd place o e is = held_by (nat_lt fd 3) objects (fd - 3) place (sym e ∙ ap Some is)
 
 -- so a map is there
-pub named_has_key : (k : KeptTenant) → IsWellFormedTenant k → (fd place : ℕ) (o : OpenObject) → Some o ≡ named k.objects fd → o ≡ object.Map place → IsSome (key_at k place)
-named_has_key k is fd place o opened map =
-    some_key (key_at k place) (subst (λ (n : ℕ). 1 ≤ n) (sym (is.held place)) (holds_named k.objects fd place o opened map))
+pub named_is_live : (k : KeptTenant) → IsWellFormedTenant k → (fd place : ℕ) (o : OpenObject) → Some o ≡ named k.objects fd → o ≡ object.Map place → IsMapOf k fd place
+named_is_live k is fd place o opened map =
+    let live = some_live (live_at k.live place) refl (subst (λ (n : ℕ). 1 ≤ n) (sym (is.held place)) (holds_named k.objects fd place o opened map)) in
+    record { opened = sym opened ∙ ap Some map; live = live; within = is.maps.within place live }
   where
-    some_key : (key : Option ℕ) → 1 ≤ option_map_or (holds_at k.live) key 0 → IsSome key
-    some_key None some = absurd (let none : 1 ≤ 0 = some in omega arith)
-    some_key (Some key) some = search rules
+    some_live : (l : Option LiveMap) → live_at k.live place ≡ l → 1 ≤ holds_at k.live place → IsSome (live_at k.live place)
+    some_live None e some = absurd (let none : holds_at k.live place ≡ 0 = ap (λ (o : Option LiveMap). (live_or o).holds) e in omega arith)
+    some_live (Some l) e some = ap (λ (o : Option LiveMap). is_some o) e
 
 -- what was found is in the same state
-pub named_in : (old k : KeptTenant) (fd m : ℕ) → k ≡ old → (place : ℕ) × (named old.objects fd ≡ Some (object.Map place)) × (key_at old place ≡ Some m)
-    → (place : ℕ) × (named k.objects fd ≡ Some (object.Map place)) × (key_at k place ≡ Some m)
-named_in old k fd m same (place, opened, there) = (place, ap (λ (x : KeptTenant). named x.objects fd) same ∙ opened, ap (λ (x : KeptTenant). key_at x place) same ∙ there)
+pub map_in_state : (old k : KeptTenant) (fd place : ℕ) → k ≡ old → IsMapOf old fd place → IsMapOf k fd place
+map_in_state old k fd place same found = subst (λ (x : KeptTenant). IsMapOf x fd place) (sym same) found

@@ -1,13 +1,15 @@
 -- A new tenant.
-use Rattle.std.proofs.Common.{◌≡◌, ℕ, zero, suc, false, List, replicate, get_or, Option, Some, None, refl, sym, ◌∙◌, arith, subst}
-use Rattle.std.specs.Option.{option_map_or}
+use Rattle.std.proofs.Common.{◌≡◌, ℕ, zero, suc, false, List, replicate, get_or, Option, None, refl, sym, ap, ap₂, ◌∙◌, arith, subst}
+use Rattle.std.specs.Prelude.{◌||◌, Bool}
 use Rattle.std.proofs.lemmas.Option.{none-some}
-use Rattle.bpf_maps.specs.Live.{LiveMaps, holds_at, shape_at, count, areas}
+use Rattle.bpf_maps.specs.declared.part.TheConstants.{MAPS}
+use Rattle.bpf_maps.specs.Live.{LiveMaps, LiveMap, live_or, live_at}
 use Rattle.fd_table.specs.Table.{nothing_open, most}
 use Rattle.tenant.specs.declared.object.OpenObject.{OpenObject}
 use Rattle.tenant.specs.declared.object.OpenObject.TheVariants as object
-use Rattle.tenant.specs.State.{most_maps, shape_area}
-use Rattle.tenant.specs.Kept.{KeptTenant, IsWellFormedTenant, times_named, by_descriptor, descriptors}
+use Rattle.tenant.specs.State.{Map, most_maps, new_tenant}
+use Rattle.tenant.specs.Kept.{KeptTenant, IsWellFormedTenant, times_named, by_descriptor, descriptors, at_places, map_at, state_in}
+use Rattle.tenant.proofs.AtPlaces.{same_at, none_there, not_live}
 use Rattle.tenant.proofs.Sums.{total-none}
 
 get_or-none : {A : Type 0} (n i : ℕ) → get_or (replicate {A = Option A} n None) i None ≡ None
@@ -16,28 +18,36 @@ get_or-none (suc n) zero = refl
 get_or-none (suc n) (suc i) = get_or-none n i
 
 abbrev kept_new : LiveMaps → KeptTenant
-kept_new live = record { objects = nothing_open; keys = replicate most_maps None; live = live; refused = false }
+kept_new live = record { objects = nothing_open; live = live; refused = false }
 
-holds_nothing : (live : LiveMaps) (o : Option ℕ) → o ≡ None → option_map_or (holds_at live) o 0 ≡ 0
-holds_nothing live None e = refl
-holds_nothing live (Some key) e = absurd (none-some key (sym e))
+-- no map is live
+none_live : (live : LiveMaps) → live.maps ≡ replicate MAPS None → (place : ℕ) → live_at live place ≡ None
+none_live live none place = ap (λ (ms : List (Option LiveMap)). get_or ms place None) none ∙ get_or-none MAPS place
 
-new_is_kept : (live : LiveMaps) → count live ≡ 0 → areas live ≡ 0 → IsWellFormedTenant (kept_new live)
-new_is_kept live none_live no_bytes = record {
+new_is_kept : (live : LiveMaps) → live.maps ≡ replicate MAPS None → IsWellFormedTenant (kept_new live)
+new_is_kept live none = record {
   all = refl;
-  placed = record {
-    all = refl;
-    each = λ place key there. absurd (none-some key (sym (get_or-none most_maps place) ∙ there));
-    apart = λ p q key there too. absurd (none-some key (sym (get_or-none most_maps p) ∙ there));
-    counted = none_live ∙ sym (total-none (λ key. 1) most_maps);
-    summed = no_bytes ∙ sym (total-none (λ key. shape_area (shape_at live key)) most_maps);
+  maps = record {
+    within = λ place there. absurd (not_live (live_at live place) there (none_live live none place));
+    some = λ place there. absurd (not_live (live_at live place) there (none_live live none place));
+    ended = λ place. ap (λ (o : Option LiveMap). (live_or o).places.kept) (none_live live none place);
   };
-  held = λ place. holds_nothing live _ (get_or-none most_maps place) ∙ sym (total-none (times_named place) most);
-  single = λ place. let none : descriptors place nothing_open ≡ 0 = total-none (by_descriptor place) most in omega arith;
+  held = λ place. ap (λ (o : Option LiveMap). (live_or o).holds) (none_live live none place) ∙ sym (total-none (times_named place) most);
+  single = λ place. let nothing : descriptors place nothing_open ≡ 0 = total-none (by_descriptor place) most in omega arith;
   bound = λ n l there. absurd (none-some (object.Program l) (sym (get_or-none most n) ∙ there));
 }
 
-pub empty_is_kept : (objects : List (Option OpenObject)) (live : LiveMaps) → objects ≡ nothing_open → count live ≡ 0 → areas live ≡ 0
-    → IsWellFormedTenant (record { objects = objects; keys = replicate most_maps None; live = live; refused = false })
-empty_is_kept objects live none none_live no_bytes =
-    subst (λ (os : List (Option OpenObject)). IsWellFormedTenant (record { objects = os; keys = replicate most_maps None; live = live; refused = false })) (sym none) (new_is_kept live none_live no_bytes)
+pub empty_is_kept : (objects : List (Option OpenObject)) (live : LiveMaps) → objects ≡ nothing_open → live.maps ≡ replicate MAPS None → IsWellFormedTenant (record { objects = objects; live = live; refused = false })
+empty_is_kept objects live nothing none = subst (λ (os : List (Option OpenObject)). IsWellFormedTenant (record { objects = os; live = live; refused = false })) (sym nothing) (new_is_kept live none)
+
+no_maps : at_places (λ i. None) ≡ replicate most_maps None
+unfolding at_places
+no_maps = refl
+
+-- and it is the machine's
+pub empty_is_new : (part : List ℕ) (objects : List (Option OpenObject)) (live : LiveMaps) → objects ≡ nothing_open → live.maps ≡ replicate MAPS None → live.refused ≡ false
+    → state_in part (record { objects = objects; live = live; refused = false }) ≡ new_tenant
+empty_is_new part objects live nothing none clear =
+    ap (λ (os : List (Option OpenObject)). state_in part (record { objects = os; live = live; refused = false })) nothing
+    ∙ ap₂ (λ (ms : List (Option Map)) (b : Bool). record { objects = nothing_open; maps = ms; refused = false || b })
+    (same_at (map_at part live) (λ i. None) (λ i. none_there part live i (none_live live none i)) ∙ no_maps) clear

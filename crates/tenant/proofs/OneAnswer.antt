@@ -1,4 +1,4 @@
--- What the machine answers is one thing.
+-- The answer of the machine is unique.
 use Rattle.std.proofs.Common.{◌≡◌, ℕ, ◌+◌, Bool, true, false, List, [], ◌∷◌, Option, Some, None, Result, Ok, Err, refl, sym, ap, ap₂, subst, ◌∙◌, inl, inr}
 use Rattle.std.specs.Prelude.{◌==◌, MatchBool}
 use Rattle.command_frames.specs.declared.command.BadFrame.{BadFrame}
@@ -13,7 +13,7 @@ use Rattle.reg_kinds.specs.declared.reason.Reason.{Reason}
 use Rattle.reg_kinds.specs.Reason.{number as reason_number}
 use Rattle.tagged_model.specs.declared.shape.Named.{Named}
 use Rattle.tagged_model.specs.Step.{refused_at_first}
-use Rattle.verdict.specs.Verdict.{IsAccepted, IsRefused}
+use Rattle.verifier.specs.Verdict.{IsAccepted, IsRefused}
 use Rattle.tenant.specs.declared.errno.Errno.{Errno}
 use Rattle.tenant.specs.State.{TenantState}
 use Rattle.tenant.specs.Machine.{Answer, LoadJudgement, accepted, rejected, Judges, IsNoProgram, IsRefusedProgram, codec_errno, verdict_errno, answer_of_judgement, targets, LoadsAs, LoadsUnder, Answers}

@@ -1,8 +1,10 @@
 -- The head of a frame.
-use Rattle.std.proofs.Common.{◌≡◌, ℕ, Bool, true, false, Some, None, ap}
-use Rattle.std.specs.Prelude.{if◌then◌else◌}
+use Rattle.std.proofs.Common.{◌≡◌, ℕ, ◌≤◌, Bool, true, false, List, length, Some, None, refl, ap}
+use Rattle.std.specs.Prelude.{nat_lt, if◌then◌else◌}
+use Rattle.std.proofs.lemmas.Bool.{ltb-false}
 use Rattle.std.proofs.lemmas.Option.{none-some}
 use Rattle.command_frames.specs.declared.command.Head.{Head}
+use Rattle.command_frames.specs.Frame.{head_of}
 
 same_head : (g h : Head) → Some g ≡ Some h → g ≡ h
 same_head g h e = cc
@@ -13,3 +15,11 @@ heads true m n h e = absurd (none-some h e)
 heads false m n h e =
     let same : record { tenant = m; command = n } ≡ h = same_head (record { tenant = m; command = n }) h e in
     (ap (λ (x : Head). x.tenant) same, ap (λ (x : Head). x.command) same)
+
+-- a frame with a head has at least its bytes
+pub headed_length : (frame : List ℕ) (h : Head) → head_of frame ≡ Some h → 4 ≤ length frame
+headed_length frame h e = by_length (nat_lt (length frame) 4) refl e
+  where
+    by_length : (short : Bool) → nat_lt (length frame) 4 ≡ short → head_of frame ≡ Some h → 4 ≤ length frame
+    by_length true is e = absurd (none-some h (let wrong = rw is at e in wrong))
+    by_length false is e = ltb-false (length frame) 4 is

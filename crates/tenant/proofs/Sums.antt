@@ -1,32 +1,21 @@
 -- Sums of a number over those that are there.
-use Rattle.std.proofs.Common.{◌≡◌, ℕ, zero, suc, ◌+◌, ◌≤◌, ◌<◌, List, [], ◌∷◌, length, map, set, get_or, replicate, Option, Some, None, refl, ap, ap₂, arith}
-use Rattle.std.specs.Prelude.{option_map}
+use Rattle.std.proofs.Common.{◌≡◌, ℕ, zero, suc, ◌+◌, ◌≤◌, ◌<◌, List, [], ◌∷◌, length, set, get_or, replicate, Option, Some, None, refl, ap, ap₂, arith}
 use Rattle.std.specs.Option.{option_map_or}
 use Rattle.std.proofs.lemmas.Option.{none-some}
-use Rattle.bpf_maps.specs.Sum.{total}
+use Rattle.bpf_maps.specs.Sum.{weight, total}
 
 pub total-none : {A : Type 0} (f : A → ℕ) (n : ℕ) → total f (replicate n None) ≡ 0
 unfolding total
 total-none f zero = refl
 total-none f (suc n) = let rest = total-none f n in omega arith
 
-same_first : {A : Type 0} (f g : A → ℕ) (o : Option A) → ((x : A) → o ≡ Some x → f x ≡ g x) → option_map_or f o 0 ≡ option_map_or g o 0
-same_first f g None h = refl
-same_first f g (Some x) h = h x refl
-
-pub total-same : {A : Type 0} (f g : A → ℕ) (xs : List (Option A)) → ((i : ℕ) (x : A) → get_or xs i None ≡ Some x → f x ≡ g x) → total f xs ≡ total g xs
+-- where each place counts the same
+pub total-each : {A B : Type 0} (f : A → ℕ) (g : B → ℕ) (xs : List (Option A)) (ys : List (Option B)) → ((j : ℕ) → weight f (get_or xs j None) ≡ weight g (get_or ys j None)) → total f xs ≡ total g ys
 unfolding total
-total-same f g [] h = refl
-total-same f g (o ∷ os) h = ap₂ (λ (m n : ℕ). m + n) (same_first f g o (λ x is. h 0 x is)) (total-same f g os (λ i x is. h (suc i) x is))
-
-mapped_first : {A B : Type 0} (f : B → ℕ) (g : A → B) (o : Option A) → option_map_or f (option_map g o) 0 ≡ option_map_or (λ x. f (g x)) o 0
-mapped_first f g None = refl
-mapped_first f g (Some x) = refl
-
-pub total-map : {A B : Type 0} (f : B → ℕ) (g : A → B) (xs : List (Option A)) → total f (map (λ o. option_map g o) xs) ≡ total (λ x. f (g x)) xs
-unfolding total
-total-map f g [] = refl
-total-map f g (o ∷ os) = ap₂ (λ (m n : ℕ). m + n) (mapped_first f g o) (total-map f g os)
+total-each f g [] [] h = refl
+total-each f g [] (y ∷ ys) h = let rest = total-each f g [] ys (λ j. h (suc j)) in let here = h 0 in omega arith
+total-each f g (x ∷ xs) [] h = let rest = total-each f g xs [] (λ j. h (suc j)) in let here = h 0 in omega arith
+total-each f g (x ∷ xs) (y ∷ ys) h = ap₂ (λ (m n : ℕ). m + n) (h 0) (total-each f g xs ys (λ j. h (suc j)))
 
 -- a place that was free
 pub total-set : {A : Type 0} (f : A → ℕ) (xs : List (Option A)) (n : ℕ) (x : A) → n < length xs → get_or xs n None ≡ None → total f (set xs n (Some x)) ≡ total f xs + f x

@@ -1,29 +1,29 @@
 -- The maps that a run is given, and those that it leaves.
-use Rattle.std.proofs.Common.{◌≡◌, ℕ, suc, ◌+◌, ◌<◌, Bool, true, false, cond, not, List, [], ◌∷◌, length, set, get_or, Option, Some, None, IsSome, refl, sym, ap, subst, ◌∙◌, inl, inr, arith, length-set, get_or-set_same, get_or-set_other}
+use Rattle.std.proofs.Common.{◌≡◌, ℕ, suc, ◌+◌, ◌<◌, ◌≤◌, Bool, true, false, cond, not, List, [], ◌∷◌, length, set, get_or, Option, Some, None, IsSome, refl, sym, ap, subst, ◌∙◌, inl, inr, arith, length-set, get_or-set_same, get_or-set_other}
 use Rattle.std.specs.Prelude.{◌⊎◌, ◌==◌, nat_lt, option_map, slice_index, if◌then◌else◌}
 use Rattle.std.specs.List.{position, position_or_len}
 use Rattle.std.specs.Map.{lookup, keys_of}
 use Rattle.std.proofs.Math.Path.{fun_ext}
-use Rattle.std.proofs.lemmas.Bool.{cases_eq, ne_eqb, lt-ltb, ltb-true, ltb-false}
+use Rattle.std.proofs.lemmas.Bool.{cases_eq, cases_lt, ne_eqb, lt-ltb, ltb-true, ltb-false}
 use Rattle.std.proofs.lemmas.List.{ext_get_or}
 use Rattle.std.proofs.lemmas.List.Quantifiers.{position-Some}
-use Rattle.bpf_maps.specs.declared.part.TheConstants.{MAPS}
 use Rattle.bpf_maps.specs.Live.{LiveMaps, live_at, map_in}
-use Rattle.flat_machine.specs.Runs.{given_maps, bound_key, RunKeepsMaps, KeepsValues}
+use Rattle.flat_machine.specs.Runs.{Standing, given_maps, bound_key, RunKeepsMaps, KeepsValues}
 use Rattle.tagged_model.specs.Cells.{and_then}
 use Rattle.tagged_model.specs.Step.{MapsByDescriptor}
-use Rattle.verdict.specs.Maps.{maps_of}
-use Rattle.tenant.specs.Kept.{KeptTenant, IsWellFormedTenant, IsBound, key_at, times_listed, maps_in, state_in}
-use Rattle.tenant.specs.Loaded.{LoadedProgram}
+use Rattle.verifier.specs.Maps.{maps_of}
+use Rattle.tenant.specs.Kept.{KeptTenant, IsWellFormedTenant, IsBound, times_listed, at_places, map_at, state_in}
+use Rattle.tenant.specs.Loaded.{LoadedProgram, map_places}
+use Rattle.verifier.specs.Laws.{MapsAreListed}
 use Rattle.tenant.specs.Machine.{maps_given, maps_left}
-use Rattle.tenant.specs.State.{Map, live}
-use Rattle.tenant.specs.inside.TestRun.{listed_place, HasKeys}
-use Rattle.tenant.proofs.LookUps.{get_or-map_some, live_is}
+use Rattle.tenant.specs.State.{Map, live, most_maps}
+use Rattle.tenant.proofs.AtPlaces.{length-at, at-within, at-past, map_there, other_at}
+use Rattle.tenant.proofs.LookUps.{live_is}
+use Rattle.tenant.proofs.LoadingPlaces.{seconds, length-seconds, length-firsts}
 use Rattle.tenant.proofs.Releases.{one_at}
-use Rattle.tenant.proofs.TestRunPlaces.{times_here}
+use Rattle.tenant.proofs.TestRunPlaces.{listed_place, place_at, times_here}
 use Rattle.tenant.proofs.TestRunKept.{IsElsewhere}
-use Rattle.tenant.proofs.TestRunKeys.{descriptor_at, length-keys}
-use Rattle.tenant.proofs.Places.{length-mapped}
+use Rattle.tenant.proofs.TestRunKeys.{descriptor_at, entry, place_within}
 
 -- ---- the maps that it is given
 
@@ -66,19 +66,24 @@ lookup_is (m ∷ ms) fd = by (m.0 == fd) refl (lookup_is ms fd)
         ∙ later (position (λ k. k == fd) (keys_of ms))
         ∙ sym (ap (option_map (λ i. listed_place (m ∷ ms) i)) (found_later (λ k. k == fd) m.0 (keys_of ms) e))
 
-module _ (part : List ℕ) (k : KeptTenant) (l : LoadedProgram) (bind : List ℕ) (each : keys_of l.maps ≡ maps_of l.insns) (count : length bind ≡ length l.maps) (keys : HasKeys k.keys l.maps bind) where
+module _ (part : List ℕ) (k : KeptTenant) (l : LoadedProgram) (is : IsWellFormedTenant k) (bound : IsBound k.live l) (listed : MapsAreListed) where
   given_at : (o : Option ℕ) → ((i : ℕ) → o ≡ Some i → i < length l.maps)
-      → option_map (map_in part k.live) (option_map (λ i. slice_index bind i) o) ≡ and_then (option_map (λ i. listed_place l.maps i) o) (λ place. live (state_in part k) place)
+      → option_map (map_in part k.live) (option_map (λ i. slice_index (map_places l) i) o) ≡ and_then (option_map (λ i. listed_place l.maps i) o) (λ place. live (state_in part k) place)
   given_at None within = refl
-  given_at (Some i) within = sym (live_is part k (listed_place l.maps i) (slice_index bind i) (keys i (within i refl)))
+  given_at (Some i) within =
+      let lt = within i refl in
+      let place = listed_place l.maps i in
+      ap (λ (n : ℕ). Some (map_in part k.live n)) (place_at l.maps i)
+      ∙ sym (map_there part k.live place (entry k l is bound listed i lt).0)
+      ∙ sym (live_is part k place (place_within k l is bound listed i lt))
 
   stands_within : (fd i : ℕ) → position (λ m. m == fd) (keys_of l.maps) ≡ Some i → i < length l.maps
-  stands_within fd i e = let there = position-Some (λ m. m == fd) (keys_of l.maps) i 0 e in let long = length-keys l.maps in let within = there.0 in omega arith
+  stands_within fd i e = let there = position-Some (λ m. m == fd) (keys_of l.maps) i 0 e in let long = length-firsts l.maps in let within = there.0 in omega arith
 
   -- the run is given the machine's
-  pub given_is : given_maps l.insns bind k.live part ≡ maps_given (state_in part k) l
+  pub given_is : given_maps l.insns (map_places l) k.live part ≡ maps_given (state_in part k) l
   given_is = fun_ext (λ fd.
-      ap (λ (fds : List ℕ). option_map (λ key. map_in part k.live key) (bound_key fds bind fd)) (sym each)
+      ap (λ (fds : List ℕ). option_map (λ key. map_in part k.live key) (bound_key fds (map_places l) fd)) (sym bound.each)
       ∙ given_at (position (λ m. m == fd) (keys_of l.maps)) (stands_within fd)
       ∙ ap (λ (o : Option ℕ). and_then o (λ place. live (state_in part k) place)) (sym (lookup_is l.maps fd)))
 
@@ -87,14 +92,14 @@ module _ (part : List ℕ) (k : KeptTenant) (l : LoadedProgram) (bind : List ℕ
 -- where each map that is left is another list's at its place, and the other places are that list's, all are
 left_all : (left : MapsByDescriptor) (target : List (Option Map)) (ms : List (ℕ × ℕ)) (maps : List (Option Map)) → length maps ≡ length target
     → ((i : ℕ) → i < length ms → (listed_place ms i < length target) × (left (descriptor_at ms i) ≡ get_or target (listed_place ms i) None))
-    → ((place : ℕ) → times_listed place ms ≡ 0 → get_or maps place None ≡ get_or target place None)
+    → ((place : ℕ) → times_listed place (seconds ms) ≡ 0 → get_or maps place None ≡ get_or target place None)
     → maps_left left ms maps ≡ target
 unfolding maps_left times_listed
 left_all left target [] maps long h rest = ext_get_or None maps target long (λ i lt. rest i refl)
 left_all left target (m ∷ ms) maps long h rest =
     left_all left target ms (set maps m.1 (left m.0)) (length-set maps m.1 (left m.0) ∙ long) (λ i lt. h (suc i) (omega arith)) (λ place none. by place none (cases_eq place m.1))
   where
-    by : (place : ℕ) → times_listed place ms ≡ 0 → (place ≡ m.1) ⊎ (place ≡ m.1 → ⊥) → get_or (set maps m.1 (left m.0)) place None ≡ get_or target place None
+    by : (place : ℕ) → times_listed place (seconds ms) ≡ 0 → (place ≡ m.1) ⊎ (place ≡ m.1 → ⊥) → get_or (set maps m.1 (left m.0)) place None ≡ get_or target place None
     by place none (inl same) =
         let (within, is) = h 0 (omega arith) in
         ap (λ (p : ℕ). get_or (set maps m.1 (left m.0)) p None) same
@@ -105,36 +110,39 @@ left_all left target (m ∷ ms) maps long h rest =
         let apart : one_at m.1 place ≡ 0 = ap (λ (b : Bool). if b then 1 else 0) (ne_eqb m.1 place (λ e. other (sym e))) in
         get_or-set_other maps m.1 place (left m.0) None other ∙ rest place (omega arith)
 
-module _ (part later : List ℕ) (k : KeptTenant) (new : LiveMaps) (l : LoadedProgram) (bind : List ℕ) (is : IsWellFormedTenant k) (bound : IsBound k l) (count : length bind ≡ length l.maps) (keys : HasKeys k.keys l.maps bind)
-    (kept : RunKeepsMaps bind k.live new) (values : KeepsValues bind k.live part new later) where
-  -- a map that is not bound is what it was
-  other_map : (place key : ℕ) → key_at k place ≡ Some key → times_listed place l.maps ≡ 0 → map_in part k.live key ≡ map_in later new key
-  other_map place key there none =
-      let away : IsElsewhere bind key = λ i lt same.
-      let at : place ≡ listed_place l.maps i = is.placed.apart place (listed_place l.maps i) key there (keys i (omega arith) ∙ ap (λ (n : ℕ). Some n) same) in
-      let here = times_here l.maps i (omega arith) in
-      let same_times : times_listed (listed_place l.maps i) l.maps ≡ 0 = subst (λ (p : ℕ). times_listed p l.maps ≡ 0) at none in
-      omega arith in
-      let stays : IsSome (live_at new key) = subst IsSome (sym (kept.others key away)) (is.placed.each place key there).there in
-      sym (values.pairs key away stays)
+-- what stands round a run
+abbrev pub stood : LiveMaps → List ℕ → ℕ → Standing
+stood maps part steps = record { maps = maps; part = part; steps = steps }
 
-  other_place : (place : ℕ) (o : Option ℕ) → key_at k place ≡ o → times_listed place l.maps ≡ 0 → option_map (map_in part k.live) o ≡ option_map (map_in later new) o
-  other_place place None there none = refl
-  other_place place (Some key) there none = ap (λ (t : Map). Some t) (other_map place key there none)
+module _ (part later : List ℕ) (k : KeptTenant) (new : LiveMaps) (l : LoadedProgram) (is : IsWellFormedTenant k) (bound : IsBound k.live l) (listed : MapsAreListed)
+    (kept : RunKeepsMaps (map_places l) k.live new) (first last : ℕ) (values : KeepsValues (map_places l) (stood k.live part first) (stood new later last)) where
+  -- a place that is not the program's
+  away : (place : ℕ) → times_listed place (map_places l) ≡ 0 → IsElsewhere (map_places l) place
+  away place none i lt same =
+      let here = times_here (map_places l) i lt in
+      let same_times : times_listed (slice_index (map_places l) i) (map_places l) ≡ 0 = subst (λ (p : ℕ). times_listed p (map_places l) ≡ 0) (sym same) none in
+      omega arith
 
-  pub left_is : (left : MapsByDescriptor) → ((i : ℕ) → i < length bind → left (slice_index (maps_of l.insns) i) ≡ Some (map_in later new (slice_index bind i)))
-      → ((i : ℕ) → i < length l.maps → listed_place l.maps i < MAPS) → maps_left left l.maps (maps_in part k.live k.keys) ≡ maps_in later new k.keys
-  left_is left each within =
-      let long = length-mapped (map_in later new) k.keys in
-      let all = is.placed.all in
-      left_all left (maps_in later new k.keys) l.maps (maps_in part k.live k.keys) (length-mapped (map_in part k.live) k.keys ∙ sym long)
-      (λ i lt. let here = within i lt in (
+  -- has the map that it had
+  other_map : (place : ℕ) → times_listed place (map_places l) ≡ 0 → map_at later new place ≡ map_at part k.live place
+  other_map place none = other_at part later k.live new place (kept.others place (away place none)) (λ now. values.pairs place (away place none) now)
+
+  other_place : (place : ℕ) → times_listed place (map_places l) ≡ 0 → (place < most_maps) ⊎ (most_maps ≤ place) → get_or (at_places (map_at part k.live)) place None ≡ get_or (at_places (map_at later new)) place None
+  other_place place none (inl within) = at-within (map_at part k.live) place within ∙ sym (other_map place none) ∙ sym (at-within (map_at later new) place within)
+  other_place place none (inr past) = at-past (map_at part k.live) place past ∙ sym (at-past (map_at later new) place past)
+
+  pub left_is : (left : MapsByDescriptor) → ((i : ℕ) → i < length (map_places l) → left (slice_index (maps_of l.insns) i) ≡ Some (map_in later new (slice_index (map_places l) i)))
+      → maps_left left l.maps (at_places (map_at part k.live)) ≡ at_places (map_at later new)
+  left_is left each =
+      let all = length-at (map_at later new) in
+      let long = length-seconds l.maps in
+      left_all left (at_places (map_at later new)) l.maps (at_places (map_at part k.live)) (length-at (map_at part k.live) ∙ sym all)
+      (λ i lt. let here = place_within k l is bound listed i lt in (
         omega arith,
         ap (λ (fds : List ℕ). left (slice_index fds i)) bound.each
             ∙ each i (omega arith)
-            ∙ sym (get_or-map_some (map_in later new) k.keys (listed_place l.maps i) ∙ ap (option_map (map_in later new)) (keys i lt)),
+            ∙ ap (λ (n : ℕ). Some (map_in later new n)) (place_at l.maps i)
+            ∙ sym (map_there later new (listed_place l.maps i) (subst (λ (n : ℕ). IsSome (live_at new n)) (place_at l.maps i) (kept.live i (omega arith))))
+            ∙ sym (at-within (map_at later new) (listed_place l.maps i) here),
       ))
-      (λ place none.
-      get_or-map_some (map_in part k.live) k.keys place
-      ∙ other_place place (key_at k place) refl none
-      ∙ sym (get_or-map_some (map_in later new) k.keys place))
+      (λ place none. other_place place none (cases_lt place most_maps))

@@ -1,24 +1,24 @@
 -- What an update leaves.
-use Rattle.std.proofs.Common.{◌≡◌, ◌≢◌, ℕ, ◌+◌, Bool, true, false, List, [], length, take, drop, Option, Some, IsSome, Result, Ok, Err, refl, sym, ap, subst, ◌∙◌}
+use Rattle.std.proofs.Common.{◌≡◌, ◌≢◌, ℕ, ◌+◌, Bool, true, false, List, [], length, take, drop, Option, IsSome, Result, Ok, Err, refl, sym, ap, subst, ◌∙◌}
 use Rattle.std.specs.Prelude.{◌==◌, ◌||◌, if◌then◌else◌}
 use Rattle.std.proofs.lemmas.Bool.{eq-eqb}
-use Rattle.bpf_maps.specs.Live.{LiveMaps, places_at, shape_at, map_in, value_in, OnlyKeysChange, is_memory}
+use Rattle.bpf_maps.specs.Live.{LiveMaps, live_at, places_at, shape_at, map_in, value_in, OnlyKeysChange, is_memory}
 use Rattle.bpf_maps.specs.Places.{PlaceTable, table_of, Claims}
 use Rattle.bpf_maps.specs.InPart.{updated as change, IsValueAt, with_value, ValuesAreWritten, LiveMapsRefineValues}
-use Rattle.fd_table.specs.Table.{named}
 use Rattle.tagged_model.specs.MapLaws.{CallsRefineValues, MapVerdictsMatchLookUps}
 use Rattle.tagged_model.specs.declared.fault.MapFault.{MapFault}
 use Rattle.tagged_model.specs.declared.fault.MapFault.TheVariants as fault
 use Rattle.tagged_model.specs.Table.{Verdict, Refused, Present, New, verdict, verdict_with}
 use Rattle.tenant.specs.declared.errno.Errno.TheVariants.{Invalid}
-use Rattle.tenant.specs.declared.object.OpenObject.TheVariants as object
 use Rattle.tenant.specs.Errno.{map_errno}
 use Rattle.tenant.specs.State.{Map, TenantState, with_map_at}
 use Rattle.tenant.specs.Machine.{Answer, refuses, gives, element_put, element_updated}
-use Rattle.tenant.specs.Kept.{KeptTenant, IsWellFormedTenant, key_at, state_in}
+use Rattle.tenant.specs.Kept.{KeptTenant, IsWellFormedTenant, map_at, state_in}
+use Rattle.tenant.specs.inside.Named.{IsMapOf}
+use Rattle.tenant.proofs.AtPlaces.{other_at, same_at, map_of}
 use Rattle.tenant.proofs.LookUps.{on_map_is}
 use Rattle.tenant.proofs.StillKept.{with_live, keys_kept}
-use Rattle.tenant.proofs.OneMap.{one_map, all_maps, each_same, others_keep}
+use Rattle.tenant.proofs.OneMap.{one_map, each_same}
 
 abbrev put_of : Bool → TenantState → ℕ → Map → List ℕ → ℕ → Answer
 put_of refused s place t bytes flags =
@@ -29,29 +29,27 @@ answer_to refused s flags bytes place t =
     if length bytes == t.shape.key_size + t.shape.value_size then put_of refused s place t bytes flags else refuses Invalid s
 
 -- the answer is what the verdict comes to
-pub update_is : (refused : Bool) (part : List ℕ) (k : KeptTenant) (fd place m flags : ℕ) (bytes : List ℕ) → named k.objects fd ≡ Some (object.Map place) → key_at k place ≡ Some m
-    → length bytes ≡ (shape_at k.live m).key_size + (shape_at k.live m).value_size
-    → let key = take (shape_at k.live m).key_size bytes in
+pub update_is : (refused : Bool) (part : List ℕ) (k : KeptTenant) (fd place flags : ℕ) (bytes : List ℕ) → IsMapOf k fd place → length bytes ≡ (shape_at k.live place).key_size + (shape_at k.live place).value_size
+    → let key = take (shape_at k.live place).key_size bytes in
     element_updated refused (state_in part k) fd flags bytes
-    ≡ element_put refused (state_in part k) place (map_in part k.live m) key (drop (shape_at k.live m).key_size bytes) (verdict (map_in part k.live m) key flags)
-update_is refused part k fd place m flags bytes opened there size =
+    ≡ element_put refused (state_in part k) place (map_in part k.live place) key (drop (shape_at k.live place).key_size bytes) (verdict (map_in part k.live place) key flags)
+update_is refused part k fd place flags bytes found size =
     let s = state_in part k in
-    let T = map_in part k.live m in
-    let key = take (shape_at k.live m).key_size bytes in
-    let right : (length bytes == (shape_at k.live m).key_size + (shape_at k.live m).value_size) ≡ true = eq-eqb (length bytes) ((shape_at k.live m).key_size + (shape_at k.live m).value_size) size in
-    on_map_is part k fd place m (λ p t. answer_to refused s flags bytes p t) opened there
+    let T = map_in part k.live place in
+    let right : (length bytes == (shape_at k.live place).key_size + (shape_at k.live place).value_size) ≡ true = eq-eqb (length bytes) ((shape_at k.live place).key_size + (shape_at k.live place).value_size) size in
+    on_map_is part k fd place (λ p t. answer_to refused s flags bytes p t) found
     ∙ ap (λ (b : Bool). if b then put_of refused s place T bytes flags else refuses Invalid s) right
 
 -- a key and a value of other sizes
-pub refused_sizes : (part : List ℕ) (k : KeptTenant) (fd place m flags : ℕ) (bytes : List ℕ) → named k.objects fd ≡ Some (object.Map place) → key_at k place ≡ Some m
-    → (length bytes == (shape_at k.live m).key_size + (shape_at k.live m).value_size) ≡ false → element_updated false (state_in part k) fd flags bytes ≡ refuses Invalid (state_in part k)
-refused_sizes part k fd place m flags bytes opened there other =
+pub refused_sizes : (part : List ℕ) (k : KeptTenant) (fd place flags : ℕ) (bytes : List ℕ) → IsMapOf k fd place → (length bytes == (shape_at k.live place).key_size + (shape_at k.live place).value_size) ≡ false
+    → refuses Invalid (state_in part k) ≡ element_updated false (state_in part k) fd flags bytes
+refused_sizes part k fd place flags bytes found other =
     let s = state_in part k in
-    let T = map_in part k.live m in
-    on_map_is part k fd place m (λ p t. answer_to false s flags bytes p t) opened there
-    ∙ ap (λ (b : Bool). if b then put_of false s place T bytes flags else refuses Invalid s) other
+    let T = map_in part k.live place in
+    sym (on_map_is part k fd place (λ p t. answer_to false s flags bytes p t) found
+    ∙ ap (λ (b : Bool). if b then put_of false s place T bytes flags else refuses Invalid s) other)
 
--- ---- what a claim answers
+-- ---- the answer to a claim
 
 abbrev Claim : Type 0
 Claim = Result ℕ MapFault
@@ -158,17 +156,17 @@ pub record IsClaimed (k : KeptTenant) (t : LiveMaps) (m flags : ℕ) (key : List
   pub rest : OnlyKeysChange m k.live t
   pub refused : t.refused ≡ (k.live.refused || is_memory r)
 
-pub still_claimed : (k : KeptTenant) (t : LiveMaps) (place m flags : ℕ) (key : List ℕ) (r : Claim) → IsWellFormedTenant k → key_at k place ≡ Some m → IsClaimed k t m flags key r → IsWellFormedTenant (with_live k t)
-still_claimed k t place m flags key r is there c =
-    keys_kept k t m is c.rest (claimed_kept (verdict (table_of (places_at k.live m)) key flags) key (places_at k.live m) r (places_at t m) c.claimed ∙ (is.placed.each place m there).ended)
+pub still_claimed : (k : KeptTenant) (t : LiveMaps) (m flags : ℕ) (key : List ℕ) (r : Claim) → IsWellFormedTenant k → IsSome (live_at k.live m) → IsClaimed k t m flags key r → IsWellFormedTenant (with_live k t)
+still_claimed k t m flags key r is live c =
+    keys_kept k t m is live c.rest (claimed_kept (verdict (table_of (places_at k.live m)) key flags) key (places_at k.live m) r (places_at t m) c.claimed ∙ is.maps.ended m)
 
-pub updated_at : LiveMapsRefineValues → ValuesAreWritten → CallsRefineValues ℕ (List ℕ) → (part : List ℕ) (k : KeptTenant) (t : LiveMaps) (fd place m flags p : ℕ) (bytes : List ℕ) → IsWellFormedTenant k
-    → named k.objects fd ≡ Some (object.Map place) → key_at k place ≡ Some m → length bytes ≡ (shape_at k.live m).key_size + (shape_at k.live m).value_size
+pub updated_at : LiveMapsRefineValues → ValuesAreWritten → CallsRefineValues ℕ (List ℕ) → (part : List ℕ) (k : KeptTenant) (t : LiveMaps) (fd m flags p : ℕ) (bytes : List ℕ) → IsMapOf k fd m
+    → length bytes ≡ (shape_at k.live m).key_size + (shape_at k.live m).value_size
     → let key = take (shape_at k.live m).key_size bytes in
     let value = drop (shape_at k.live m).key_size bytes in
     IsClaimed k t m flags key (Ok p) → IsValueAt part t m p value
     → gives [] (state_in (with_value part t m p value) (with_live k t)) ≡ element_updated false (state_in part k) fd flags bytes
-updated_at along written calls part k t fd place m flags p bytes is opened there size c at =
+updated_at along written calls part k t fd m flags p bytes found size c at =
     let key = take (shape_at k.live m).key_size bytes in
     let value = drop (shape_at k.live m).key_size bytes in
     let s = state_in part k in
@@ -177,20 +175,19 @@ updated_at along written calls part k t fd place m flags p bytes is opened there
     let v = verdict (table_of (places_at k.live m)) key flags in
     let w = verdict T key flags in
     let whole = written part t m p value at in
-    let others : (i other : ℕ) → key_at k i ≡ Some other → other ≢ m → map_in later t other ≡ map_in part k.live other =
-    λ i other stands apart.
-    whole.others other apart (subst IsSome (sym (c.rest.others other apart)) (is.placed.each i other stands).there) ∙ others_keep part k.live t m c.rest.others other apart in
-    let state : state_in later (with_live k t) ≡ with_map_at s place (change w T key value) =
-    one_map part later k t place m (change w T key value) is there others ((along part k.live t m c.rest.areas c.rest.live).update flags p key value at c.claimed) (c.refused ∙ or_false k.live.refused) in
+    let others : (other : ℕ) → other ≢ m → map_at later t other ≡ map_at part k.live other =
+    λ other apart. other_at part later k.live t other (c.rest.others other apart) (λ now. whole.others other apart now ∙ ap (map_of part) (c.rest.others other apart)) in
+    let state : state_in later (with_live k t) ≡ with_map_at s m (change w T key value) =
+    one_map part later k t m (change w T key value) found.within c.rest.live others ((along part k.live t m c.rest.areas c.rest.live).update flags p key value at c.claimed) (c.refused ∙ or_false k.live.refused) in
     ap (gives []) state
-    ∙ sym (done_put v w key (places_at k.live m) p (places_at t m) c.claimed (value_in part k.live m) (calls.verdict (value_in part k.live m) (table_of (places_at k.live m)) key flags) s place T value)
-    ∙ sym (update_is false part k fd place m flags bytes opened there size)
+    ∙ sym (done_put v w key (places_at k.live m) p (places_at t m) c.claimed (value_in part k.live m) (calls.verdict (value_in part k.live m) (table_of (places_at k.live m)) key flags) s m T value)
+    ∙ sym (update_is false part k fd m flags bytes found size)
 
-pub update_refused : LiveMapsRefineValues → CallsRefineValues ℕ (List ℕ) → MapVerdictsMatchLookUps ℕ → (part : List ℕ) (k : KeptTenant) (t : LiveMaps) (fd place m flags : ℕ) (f : MapFault) (bytes : List ℕ) → IsWellFormedTenant k
-    → named k.objects fd ≡ Some (object.Map place) → key_at k place ≡ Some m → length bytes ≡ (shape_at k.live m).key_size + (shape_at k.live m).value_size
+pub update_refused : LiveMapsRefineValues → CallsRefineValues ℕ (List ℕ) → MapVerdictsMatchLookUps ℕ → (part : List ℕ) (k : KeptTenant) (t : LiveMaps) (fd m flags : ℕ) (f : MapFault) (bytes : List ℕ) → IsMapOf k fd m
+    → length bytes ≡ (shape_at k.live m).key_size + (shape_at k.live m).value_size
     → IsClaimed k t m flags (take (shape_at k.live m).key_size bytes) (Err f)
     → (refused : Bool) × (refuses (map_errno f) (state_in part (with_live k t)) ≡ element_updated refused (state_in part k) fd flags bytes)
-update_refused along calls tell part k t fd place m flags f bytes is opened there size c =
+update_refused along calls tell part k t fd m flags f bytes found size c =
     let key = take (shape_at k.live m).key_size bytes in
     let value = drop (shape_at k.live m).key_size bytes in
     let s = state_in part k in
@@ -199,9 +196,9 @@ update_refused along calls tell part k t fd place m flags f bytes is opened ther
     let w = verdict T key flags in
     let same = refused_claim v key (places_at k.live m) f (places_at t m) c.claimed in
     let here : map_in part t m ≡ T = (along part k.live t m c.rest.areas c.rest.live).same same in
-    let maps = all_maps part part k t (λ i other stands. each_same part part k.live t m here (others_keep part k.live t m c.rest.others) other) in
-    let (refused, memory, put_is) = failed_put v w key (places_at k.live m) f (places_at t m) (tell.memory (table_of (places_at k.live m)) key flags) c.claimed (value_in part k.live m) (calls.verdict (value_in part k.live m) (table_of (places_at k.live m)) key flags) s place T value in
+    let maps = same_at (map_at part t) (map_at part k.live) (each_same part k.live t m found.live c.rest.live here c.rest.others) in
+    let (refused, memory, put_is) = failed_put v w key (places_at k.live m) f (places_at t m) (tell.memory (table_of (places_at k.live m)) key flags) c.claimed (value_in part k.live m) (calls.verdict (value_in part k.live m) (table_of (places_at k.live m)) key flags) s m T value in
     let state : state_in part (with_live k t) ≡ flagged refused s =
     ap (λ (ms : List (Option Map)). record { objects = k.objects; maps = ms; refused = k.refused || t.refused }) maps
     ∙ flag_of k.refused k.live.refused (is_memory (Err f)) t.refused c.refused s refused memory refl in
-    (refused, ap (refuses (map_errno f)) state ∙ sym put_is ∙ sym (update_is refused part k fd place m flags bytes opened there size))
+    (refused, ap (refuses (map_errno f)) state ∙ sym put_is ∙ sym (update_is refused part k fd m flags bytes found size))

@@ -1,4 +1,4 @@
--- What one tenant is told: the machine of its own, on its own frames. This project's own.
+-- The replies to one tenant: those of its own machine, on its own frames. This project's own.
 use Rattle.std.specs.Prelude.{◌≡◌, ℕ, Bool, List, [], ◌∷◌, length, take, drop, filter, Option, Some, None, Result, Ok, Err, nat_lt, ◌==◌, if◌then◌else◌}
 use Rattle.std.specs.Int.{w32, cast_unsigned}
 use Rattle.byteorder.specs.Endian.{little_bytes}
@@ -12,7 +12,7 @@ use Rattle.tenant.specs.Errno.{status_of}
 use Rattle.tenant.specs.State.{TenantState}
 use Rattle.tenant.specs.Machine.{Answer, refuses, Answers}
 
--- a frame that carries no command
+-- the error for a frame that carries no command
 abbrev pub frame_errno : BadFrame → Errno
 frame_errno bad.TooLong = TooBig
 frame_errno bad.Unknown = Invalid
@@ -22,29 +22,29 @@ abbrev pub AnswersFrame : List Bool → TenantState → Result Command BadFrame 
 AnswersFrame refusals s (Err fault) a = a ≡ refuses (frame_errno fault) s
 AnswersFrame refusals s (Ok command) a = Answers refusals s command a
 
--- a frame of a tenant that is not served, and one that has no head
+-- the error for a frame of a tenant that is not served, or for one that has no head
 abbrev pub unserved_errno : List ℕ → Errno
 unserved_errno frame = if nat_lt (length frame) head_length then Invalid else NotPermitted
 
--- a frame, its reply, and the state of the tenant that it belongs to before and after it, with these refusals of memory; a
--- tenant that is not served has no state, and its reply tells it so, or that the frame has no head
+-- a frame, its reply, and the state of its tenant before and after it, with these refusals of memory; a tenant that is not served
+-- has no state, and the reply reports that, or that the frame has no head
 abbrev pub RepliesUnder : List Bool → List ℕ → List ℕ → Option TenantState → Option TenantState → Type 0
 RepliesUnder refusals frame reply None after =
     (after ≡ None) × (reply ≡ reply_to frame (status_of (unserved_errno frame)) [])
 RepliesUnder refusals frame reply (Some s) after =
     (a : Answer) × AnswersFrame refusals s (parsed frame) a × (reply ≡ reply_to frame a.status a.payload) × (after ≡ Some a.after)
 
--- with whatever refusals
+-- with some refusals of memory
 abbrev pub MayReply : List ℕ → List ℕ → Option TenantState → Option TenantState → Type 0
 MayReply frame reply before after = (refusals : List Bool) × RepliesUnder refusals frame reply before after
 
--- the status of a reply is that of a test run which faults (EFAULT)
+-- the status of a reply is that of a faulting test run (EFAULT)
 abbrev pub IsFault : List ℕ → Type 0
 IsFault reply = take 4 (drop 8 reply) ≡ little_bytes 4 (cast_unsigned w32 (status_of BadAddress))
 
 -- ---- a list of frames
 
--- a tenant's own frames, and the replies to them
+-- the frames of tenant t, and the replies to them
 abbrev pub frames_of : ℕ → List (List ℕ) → List (List ℕ)
 frames_of t frames = filter (λ frame. owner frame == t) frames
 
@@ -54,7 +54,7 @@ replies_of t (frame ∷ frames) [] = []
 replies_of t (frame ∷ frames) (reply ∷ replies) =
     if owner frame == t then reply ∷ replies_of t frames replies else replies_of t frames replies
 
--- a tenant's frames one after another, each told in this way, with their replies and the state that they lead to
+-- a tenant's frames in order, each with its reply in this relation, and the states before and after them
 abbrev pub RepliesInOrder : (List ℕ → List ℕ → Option TenantState → Option TenantState → Type 0) → Option TenantState → List (List ℕ) → List (List ℕ) → Option TenantState → Type 0
 RepliesInOrder tells before [] [] after = after ≡ before
 RepliesInOrder tells before (frame ∷ frames) (reply ∷ replies) after =
@@ -62,7 +62,7 @@ RepliesInOrder tells before (frame ∷ frames) (reply ∷ replies) after =
 RepliesInOrder tells before [] (reply ∷ replies) after = ⊥
 RepliesInOrder tells before (frame ∷ frames) [] after = ⊥
 
--- the tenant's machine where no memory is refused, and where some may be
+-- the tenant's machine if no memory is refused, and if some may be
 abbrev pub IsToldAlone : Option TenantState → List (List ℕ) → List (List ℕ) → Option TenantState → Type 0
 IsToldAlone before frames replies after = RepliesInOrder (RepliesUnder []) before frames replies after
 

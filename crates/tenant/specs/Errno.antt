@@ -23,7 +23,7 @@ errno_number NoSpace = 28
 abbrev pub status_of : Errno → ℤ
 status_of errno = pos 0 -ℤ pos (errno_number errno)
 
--- the error of a call of a map
+-- the error for a failed call of a map
 abbrev pub map_errno : MapFault → Errno
 map_errno map.NoEntry = NoEntry
 map_errno map.TooBig = TooBig

@@ -1,5 +1,5 @@
--- The machine has no choice: with the same refusals of memory there is one answer to a command, and one list of replies to a
--- list of frames. This project's own.
+-- The machine is deterministic: with the same refusals of memory a command has one answer, and a list of frames has one list
+-- of replies. This project's own.
 use Rattle.std.specs.Prelude.{◌≡◌, ℕ, Bool, false, [], List, Option, Some}
 use Rattle.tagged_model.specs.declared.shape.Named.{Named}
 use Rattle.command_frames.specs.Command.{Command}
@@ -21,25 +21,25 @@ OneReply =
     (refusals : List Bool) (frame x y : List ℕ) (before a b : Option TenantState) → RepliesUnder refusals frame x before a → RepliesUnder refusals frame y before b
     → (x ≡ y) × (a ≡ b)
 
--- while no memory is refused
+-- if no memory is refused
 abbrev pub OneAlone : Type 0
 OneAlone =
     (before a b : Option TenantState) (frames xs ys : List (List ℕ)) → IsToldAlone before frames xs a → IsToldAlone before frames ys b
     → (xs ≡ ys) × (a ≡ b)
 
--- where a tenant's flag is clear after a command, it answered as if no memory might be refused
+-- if a tenant's flag is clear after a command, the answer is that without refusals of memory
 abbrev pub ClearFlagMeansNoRefusal : Type 0
 ClearFlagMeansNoRefusal =
     (refusals : List Bool) (s : TenantState) (command : Command) (a : Answer) → Answers refusals s command a → a.after.refused ≡ false
     → Answers [] s command a
 
--- a tenant whose flag is clear in the end is told what its machine tells it without refusals
+-- if a tenant's flag is clear at the end, its replies are those of its machine without refusals
 abbrev pub ClearFlagMeansAlone : Type 0
 ClearFlagMeansAlone =
     (before : Option TenantState) (after : TenantState) (frames replies : List (List ℕ)) → AloneWithRefusals before frames replies (Some after)
     → after.refused ≡ false → IsToldAlone before frames replies (Some after)
 
--- a reply with the status of a fault carries nothing else
+-- a reply with the status of a fault has no payload
 abbrev pub FaultsHaveNoPayload : Type 0
 FaultsHaveNoPayload =
     (frame reply : List ℕ) (before after : Option TenantState) → MayReply frame reply before after → IsFault reply

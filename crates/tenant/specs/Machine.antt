@@ -1,5 +1,5 @@
--- The machine of one tenant: what each command answers, and what is open and in the maps after it (bpf(2); for a test
--- run linux/bpf.h, BPF_PROG_TEST_RUN). The order of the refusals is this project's own.
+-- The machine of one tenant: the answer to each command, and the open objects and the maps after it (bpf(2); for a test run
+-- linux/bpf.h, BPF_PROG_TEST_RUN). The order of the refusals is this project's own.
 use Rattle.std.specs.Prelude.{◌≡◌, ℕ, ◌+◌, ℤ, pos, Bool, true, false, ◌||◌, ◌==◌, nat_lt, List, [], ◌∷◌, ◌++◌, length, take, drop, replicate, Option, Some, None, option_map, slice_set, Result, Ok, Err, if◌then◌else◌, MatchBool, ◌⊎◌, refl}
 use Rattle.std.specs.Map.{lookup}
 use Rattle.byteorder.specs.Endian.{little_bytes}
@@ -28,8 +28,8 @@ use Rattle.tagged_model.specs.Shape.{is_shape, is_valid}
 use Rattle.tagged_model.specs.Step.{refused_at_first, MapsByDescriptor, result_with, left_with, was_refused}
 use Rattle.tagged_model.specs.Table as call
 use Rattle.tagged_model.specs.Table.{look_up, verdict, removal, next_of, with_new, with_object, with_deleted, after_run, new_table}
-use Rattle.verdict.specs.Verdict.{IsAccepted, IsRefused}
-use Rattle.verdict.specs.Maps.{maps_of, entries_of}
+use Rattle.verifier.specs.Verdict.{IsAccepted, IsRefused}
+use Rattle.verifier.specs.Maps.{maps_of, entries_of}
 use Rattle.tenant.specs.declared.errno.Errno.{Errno}
 use Rattle.tenant.specs.declared.errno.Errno.TheVariants.{NoEntry, TooBig, BadDescriptor, NoMemory, AccessDenied, BadAddress, Invalid, TooManyOpen, NoSpace}
 use Rattle.tenant.specs.declared.object.OpenObject.{OpenObject}
@@ -49,11 +49,11 @@ pub record Answer : Type 0 where
 abbrev pub refuses : Errno → TenantState → Answer
 refuses errno s = record { status = status_of errno; payload = []; after = s }
 
--- where memory is refused, that alone is noted
+-- a refusal of memory sets the flag, and changes nothing else
 abbrev pub refuses_for_memory : TenantState → Answer
 refuses_for_memory s = record { status = status_of NoMemory; payload = []; after = record s { refused = true } }
 
--- a refused load tells the slot and the reason
+-- a refused load reports the slot and the reason
 abbrev pub refuses_at : Errno → ℕ → ℕ → TenantState → Answer
 refuses_at errno slot number s = record { status = status_of errno; payload = little_bytes 4 slot ++ little_bytes 2 number; after = s }
 
@@ -69,12 +69,12 @@ opens fd s = record { status = pos fd; payload = []; after = s }
 abbrev pub kind_of : ℕ → Option MapKind
 kind_of n = if n == 1 then Some Hash else (if n == 2 then Some Array else None)
 
--- fields within their limits can have too large an area
+-- fields within their limits may still make too large an area
 abbrev pub shape_where : (fits : Bool) → (fits ≡ true → MapShape) → Result MapShape Errno
 shape_where true shape = Ok (shape refl)
 shape_where false shape = Err TooBig
 
--- the shape of these fields, or why no map has it
+-- the shape with these fields, or why no map may have it
 abbrev pub asked_shape : Option MapKind → ℕ → ℕ → ℕ → ℕ → Result MapShape Errno
 asked_shape None key value max flags = Err Invalid
 asked_shape (Some kind) key value max flags =
@@ -82,11 +82,11 @@ asked_shape (Some kind) key value max flags =
     then shape_where (is_shape kind key value max) (λ listed. record { kind = kind; key_size = key; value_size = value; max_entries = max; listed = listed })
     else Err Invalid
 
--- a new array holds zeros, and a new hash map nothing
+-- a new array contains zeros, and a new hash map no key
 abbrev pub new_map : MapShape → Map
 new_map shape = new_table (λ i. replicate shape.value_size 0) shape
 
--- the place of one more map with so large an area
+-- the place for a new map with an area of this size, if there is room
 abbrev pub room_for : TenantState → ℕ → Option ℕ
 room_for s size = if nat_lt most_bytes (maps_area s.maps + size) then None else free_place s
 
@@ -108,7 +108,7 @@ created refused s (Ok shape) = created_under refused s shape (table.lowest s.obj
 
 -- ---- the calls of a map
 
--- the map that a descriptor names
+-- the map at the place that a descriptor names
 abbrev pub of_place : TenantState → ℕ → (ℕ → Map → Answer) → Option Map → Answer
 of_place s place f None = refuses BadDescriptor s
 of_place s place f (Some t) = f place t
@@ -129,7 +129,7 @@ gives_if_found s (Some value) = gives value s
 abbrev pub element_looked_up : TenantState → ℕ → List ℕ → Answer
 element_looked_up s fd key = on_map s fd (λ place t. if length key == t.shape.key_size then gives_if_found s (look_up t key) else refuses Invalid s)
 
--- MAP_UPDATE_ELEM: a present key keeps its place in the order, and a new one goes last
+-- MAP_UPDATE_ELEM: a present key keeps its position, and a new one goes to the end
 abbrev pub element_put : Bool → TenantState → ℕ → Map → List ℕ → List ℕ → call.Verdict (List ℕ) → Answer
 element_put refused s place t key value (call.Refused fault) = refuses (map_errno fault) s
 element_put refused s place t key value (call.Present old) = gives [] (with_map_at s place (with_object t key value))
@@ -142,7 +142,7 @@ element_updated refused s fd flags bytes =
     then element_put refused s place t (take t.shape.key_size bytes) (drop t.shape.key_size bytes) (verdict t (take t.shape.key_size bytes) flags)
     else refuses Invalid s)
 
--- MAP_DELETE_ELEM: no run goes on, so what is deleted is gone
+-- MAP_DELETE_ELEM: no run is in progress, so the deleted value is gone
 abbrev pub element_taken_out : TenantState → ℕ → Map → List ℕ → Result (List ℕ) MapFault → Answer
 element_taken_out s place t key (Err fault) = refuses (map_errno fault) s
 element_taken_out s place t key (Ok value) = gives [] (with_map_at s place (after_run (with_deleted t key)))
@@ -150,14 +150,14 @@ element_taken_out s place t key (Ok value) = gives [] (with_map_at s place (afte
 abbrev pub element_deleted : TenantState → ℕ → List ℕ → Answer
 element_deleted s fd key = on_map s fd (λ place t. if length key == t.shape.key_size then element_taken_out s place t key (removal t key) else refuses Invalid s)
 
--- MAP_GET_NEXT_KEY: of no bytes, the first key
+-- MAP_GET_NEXT_KEY: after an empty key, the first key
 abbrev pub given_next : TenantState → ℕ → List ℕ → Answer
 given_next s fd key =
     on_map s fd (λ place t. if length key == 0 || length key == t.shape.key_size then gives_if_found s (next_of t key) else refuses Invalid s)
 
 -- ---- PROG_LOAD
 
--- the wrong number of slots is told apart from slots that are no program's
+-- a wrong number of slots has another error than slots that are no program
 abbrev pub codec_errno : FaultKind → Errno
 codec_errno kind.Opcode = Invalid
 codec_errno kind.Reserved = Invalid
@@ -168,8 +168,8 @@ codec_errno kind.Empty = TooBig
 codec_errno kind.TooLong = TooBig
 codec_errno kind.Memory = NoMemory
 
--- a program of a wrong shape is invalid, or names a descriptor that is not open; one that is unsafe, or writes the frame pointer,
--- is denied
+-- a program of a wrong shape is invalid, or names a descriptor that is not open; access is denied to one that is
+-- unsafe, or writes the frame pointer
 abbrev pub verdict_errno : Reason → Errno
 verdict_errno reason.JumpOutside = Invalid
 verdict_errno reason.JumpBackward = Invalid
@@ -199,7 +199,7 @@ verdict_errno reason.LengthUnbounded = AccessDenied
 verdict_errno reason.UnalignedAtomic = AccessDenied
 verdict_errno reason.Memory = NoMemory
 
--- what slots come to: a program, or why they are none that may run
+-- the judgement of slots: a program, or why they are none that may run
 pub data LoadJudgement : Type 0 where
   accepted : (insns : List Insn) → LoadJudgement
   rejected : (errno : Errno) (slot number : ℕ) → LoadJudgement
@@ -214,12 +214,12 @@ IsRefusedProgram named slots errno slot number =
     (insns : List Insn) × (why : Reason) × IsProgram insns × (slots ≡ program_bytes insns) × IsRefused insns named slot why
     × (errno ≡ verdict_errno why) × (number ≡ reason_number why)
 
--- there is at most one
+-- there is at most one judgement
 abbrev pub Judges : List Named → List ℕ → LoadJudgement → Type 0
 Judges named slots (accepted insns) = IsProgram insns × (slots ≡ program_bytes insns) × IsAccepted insns named
 Judges named slots (rejected errno slot number) = IsNoProgram slots errno slot number ⊎ IsRefusedProgram named slots errno slot number
 
--- what an open object is for the verdict: a map of its shape, or a program
+-- an open object as the verifier sees it: a map of its shape, or a program
 abbrev pub object_target : TenantState → OpenObject → Option Target
 object_target s (object.Map place) = option_map (λ t. target.Map t.shape) (live s place)
 object_target s (object.Program l) = Some target.Program
@@ -228,7 +228,7 @@ abbrev pub entry_of : ℕ → Option Target → List Named
 entry_of fd None = []
 entry_of fd (Some t) = record { fd = fd; target = t } ∷ []
 
--- what each open descriptor names, from this one on
+-- the open descriptors from fd on, with their objects
 unfoldable pub targets_from : TenantState → ℕ → List (Option OpenObject) → List Named
 targets_from s fd [] = []
 targets_from s fd (o ∷ os) = entry_of fd (and_then o (object_target s)) ++ targets_from s (fd + 1) os
@@ -236,7 +236,7 @@ targets_from s fd (o ∷ os) = entry_of fd (and_then o (object_target s)) ++ tar
 abbrev pub targets : TenantState → List Named
 targets s = targets_from s table.first_descriptor s.objects
 
--- the place of the map that a descriptor names
+-- the place of the map that a descriptor names, if it names one
 abbrev pub named_place : Option OpenObject → Option ℕ
 named_place (Some (object.Map place)) = Some place
 named_place (Some (object.Program l)) = None
@@ -262,7 +262,7 @@ abbrev pub answer_of_judgement : TenantState → ℕ → LoadJudgement → Answe
 answer_of_judgement s fd (rejected errno slot number) = refuses_at errno slot number s
 answer_of_judgement s fd (accepted insns) = opens fd (record s { objects = table.with_open s.objects fd (object.Program (loaded_program s insns)) })
 
--- where memory is refused, that is the answer whatever the slots are
+-- if memory is refused, that is the answer whatever the slots are
 abbrev pub LoadsAs : Bool → TenantState → ℕ → List ℕ → Answer → Type 0
 LoadsAs true s fd slots answer = answer ≡ refuses_for_memory s
 LoadsAs false s fd slots answer = (j : LoadJudgement) × Judges (targets s) slots j × (answer ≡ answer_of_judgement s fd j)
@@ -271,13 +271,13 @@ abbrev pub LoadsUnder : Bool → TenantState → Option ℕ → List ℕ → Ans
 LoadsUnder refused s None slots answer = answer ≡ refuses TooManyOpen s
 LoadsUnder refused s (Some fd) slots answer = LoadsAs refused s fd slots answer
 
--- socket filters alone are loaded (BPF_PROG_TYPE_SOCKET_FILTER)
+-- only socket filters can be loaded (BPF_PROG_TYPE_SOCKET_FILTER)
 abbrev pub Loads : Bool → TenantState → ℕ → List ℕ → Answer → Type 0
 Loads refused s kind slots answer = MatchBool (kind == 1) (LoadsUnder refused s (table.lowest s.objects) slots answer) (answer ≡ refuses Invalid s)
 
 -- ---- PROG_TEST_RUN
 
--- the bytes of the longest packet
+-- the length of the longest packet in bytes
 abbrev pub longest_packet : ℕ
 longest_packet = 65536
 
@@ -285,7 +285,7 @@ longest_packet = 65536
 abbrev pub maps_given : TenantState → LoadedProgram → MapsByDescriptor
 maps_given s l fd = and_then (lookup (λ m. m == fd) l.maps) (λ place. live s place)
 
--- each of these maps as a run left it
+-- the maps after a run, at their places
 unfoldable pub maps_left : MapsByDescriptor → List (ℕ × ℕ) → List (Option Map) → List (Option Map)
 maps_left left [] maps = maps
 maps_left left (m ∷ ms) maps = maps_left left ms (slice_set maps m.1 (left m.0))
@@ -316,8 +316,8 @@ closed s fd (Some o) = gives [] (with_objects s (table.with_closed s.objects fd)
 
 -- ---- every command
 
--- What a command may answer. Memory may be refused to it: where the first of the refusals says so, and in a test run at the
--- steps that they say.
+-- The answers that a command may have. Memory may be refused to it: if the first of the refusals says so, and in a test
+-- run at the steps that they say.
 abbrev pub Answers : List Bool → TenantState → Command → Answer → Type 0
 Answers refusals s (map_create kind key value max flags) a = a ≡ created (refused_at_first refusals) s (asked_shape (kind_of kind) key value max flags)
 Answers refusals s (map_lookup fd key) a = a ≡ element_looked_up s fd key

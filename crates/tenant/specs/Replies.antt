@@ -1,28 +1,32 @@
--- What the code's answers stand for. This project's own.
-use Rattle.std.specs.Prelude.{ℕ, List, [], Result, Ok, Err}
-use Rattle.std.specs.Borrow.{Bor}
-use Rattle.bpf_maps.specs.declared.given_key.GivenKey.{GivenKey}
+-- The machine's answers that the code's replies represent. This project's own.
+use Rattle.std.specs.Prelude.{◌≢◌, ◌+◌, ◌<◌, ◌≤◌, [], length, Result, Ok, Err}
+use Rattle.byteorder.specs.Endian.{little_bytes}
 use Rattle.bpf_maps.specs.Given.{given_bytes}
+use Rattle.command_frames.specs.Frame.{longest_payload}
+use Rattle.fd_table.specs.Table.{first_descriptor, most}
 use Rattle.tenant.specs.declared.errno.Errno.{Errno}
+use Rattle.tenant.specs.declared.errno.Errno.TheVariants.{BadAddress}
+use Rattle.tenant.specs.declared.reply.Reply.{Reply}
+use Rattle.tenant.specs.declared.reply.Reply.TheVariants as reply
 use Rattle.tenant.specs.State.{TenantState}
-use Rattle.tenant.specs.Machine.{Answer, gives, opens, refuses}
+use Rattle.tenant.specs.Machine.{Answer, gives, opens, refuses, refuses_at}
 
--- bytes that are lent, or a refusal
-abbrev pub lent_answer : Result (Bor (List ℕ)) Errno → TenantState → Answer
-lent_answer (Ok bytes) s = gives bytes.now s
-lent_answer (Err errno) s = refuses errno s
+-- the answer that a reply or an error represents, with the state after the command
+abbrev pub shown_answer : Result Reply Errno → TenantState → Answer
+shown_answer (Ok reply.Done) s = gives [] s
+shown_answer (Ok (reply.Opened fd)) s = opens fd s
+shown_answer (Ok (reply.Value value)) s = gives value.now s
+shown_answer (Ok (reply.Key key)) s = gives (given_bytes key) s
+shown_answer (Ok (reply.Number number)) s = gives (little_bytes 4 number) s
+shown_answer (Ok (reply.RefusedAt errno slot reason)) s = refuses_at errno slot reason s
+shown_answer (Err errno) s = refuses errno s
 
--- a key that is given, or a refusal
-abbrev pub given_answer : Result GivenKey Errno → TenantState → Answer
-given_answer (Ok key) s = gives (given_bytes key) s
-given_answer (Err errno) s = refuses errno s
-
--- nothing but that it was done, or a refusal
-abbrev pub done_answer : Result (Unit {0}) Errno → TenantState → Answer
-done_answer (Ok done) s = gives [] s
-done_answer (Err errno) s = refuses errno s
-
--- a new descriptor, or a refusal
-abbrev pub opened_answer : Result ℕ Errno → TenantState → Answer
-opened_answer (Ok fd) s = opens fd s
-opened_answer (Err errno) s = refuses errno s
+-- a descriptor is one of the table's, a payload is no longer than the longest, and the error is not that of a run that faults
+abbrev pub IsWritable : Result Reply Errno → Type 0
+IsWritable (Ok reply.Done) = Unit {0}
+IsWritable (Ok (reply.Opened fd)) = fd < first_descriptor + most
+IsWritable (Ok (reply.Value value)) = length value.now ≤ longest_payload
+IsWritable (Ok (reply.Key key)) = length (given_bytes key) ≤ longest_payload
+IsWritable (Ok (reply.Number number)) = Unit {0}
+IsWritable (Ok (reply.RefusedAt errno slot reason)) = Unit {0}
+IsWritable (Err errno) = errno ≢ BadAddress

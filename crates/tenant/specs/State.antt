@@ -1,5 +1,5 @@
--- What a tenant has: what is open, the live maps, and whether memory was ever refused to it. Descriptors and maps are
--- those of bpf(2); the limits are this project's own.
+-- The state of a tenant: its open objects, its live maps, and whether memory was ever refused to it. Descriptors and maps are those
+-- of bpf(2); the limits are this project's own.
 use Rattle.std.specs.Prelude.{ℕ, ◌+◌, ◌==◌, Bool, false, if◌then◌else◌, List, [], ◌∷◌, replicate, Option, Some, None, is_none, position, slice_index_or, slice_set}
 use Rattle.std.specs.List.{list_any}
 use Rattle.std.specs.Option.{option_map_or}
@@ -16,21 +16,21 @@ use Rattle.fd_table.specs.Table.{nothing_open}
 abbrev pub Map : Type 0
 Map = Table (List ℕ)
 
--- what is open by descriptors, and the live maps by their places. A place is given to no other map while its map is live.
+-- the open objects by descriptors, and the live maps by their places; while a map is live, no other gets its place
 pub record TenantState : Type 0 where
   pub objects : List (Option OpenObject)
   pub maps : List (Option Map)
   pub refused : Bool
 
--- so many maps may be live
+-- the most maps that may be live
 abbrev pub most_maps : ℕ
 most_maps = MAPS
 
--- and their values may take so many bytes
+-- the most bytes that the values of all live maps may take
 abbrev pub most_bytes : ℕ
 most_bytes = LARGEST_SUM
 
--- of a new tenant
+-- the state of a new tenant
 abbrev pub new_tenant : TenantState
 new_tenant = record { objects = nothing_open; maps = replicate most_maps None; refused = false }
 
@@ -39,27 +39,27 @@ new_tenant = record { objects = nothing_open; maps = replicate most_maps None; r
 abbrev pub live : TenantState → ℕ → Option Map
 live s place = slice_index_or s.maps place None
 
--- the lowest place where no map is
+-- the lowest place without a map
 abbrev pub free_place : TenantState → Option ℕ
 free_place s = position is_none s.maps
 
--- the bytes that the values of a map of this shape take
+-- the number of bytes that the values of a map of this shape take
 abbrev pub shape_area : MapShape → ℕ
 shape_area shape = area shape.value_size shape.max_entries
 
 abbrev pub map_area : Map → ℕ
 map_area t = shape_area t.shape
 
--- and those that the values of the live maps take
+-- the number of bytes that the values of all live maps take
 abbrev pub maps_area : List (Option Map) → ℕ
 maps_area maps = total map_area maps
 
 abbrev pub with_map_at : TenantState → ℕ → Map → TenantState
 with_map_at s place t = record s { maps = slice_set s.maps place (Some t) }
 
--- ---- what names a map
+-- ---- the names of a map
 
--- an object names the map at a place: a descriptor of it, or a program that was loaded with it
+-- an object names the map at a place: it is a descriptor of the map, or a program that was loaded with it
 abbrev pub names : ℕ → OpenObject → Bool
 names place (object.Map p) = p == place
 names place (object.Program l) = list_any (λ m. m.1 == place) l.maps
@@ -67,11 +67,11 @@ names place (object.Program l) = list_any (λ m. m.1 == place) l.maps
 abbrev pub is_named : List (Option OpenObject) → ℕ → Bool
 is_named objects place = list_any (λ o. option_map_or (names place) o false) objects
 
--- of the maps from a place on those that something open names; the others are gone
+-- the maps, at a place and after it, that an open object names; the others are gone
 unfoldable pub named_from : List (Option OpenObject) → ℕ → List (Option Map) → List (Option Map)
 named_from objects place [] = []
 named_from objects place (m ∷ ms) = (if is_named objects place then m else None) ∷ named_from objects (place + 1) ms
 
--- with these descriptors open a map that none of them and no program names is gone
+-- the state with these open objects; a map that none of them names is gone
 abbrev pub with_objects : TenantState → List (Option OpenObject) → TenantState
 with_objects s objects = record s { objects = objects; maps = named_from objects 0 s.maps }

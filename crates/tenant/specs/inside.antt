@@ -1,5 +1,4 @@
 pub mod Frames
 pub mod Leaves
 pub mod Loading
-pub mod TestRun
-pub mod Answers
+pub mod Named

@@ -1,10 +1,10 @@
 //! Error numbers.
 
-ghost use Rattle.std.specs.Prelude.{◌≡◌};
+ghost use Rattle.std.specs.Prelude.{◌≡◌, ◌≢◌};
 
 use tagged_model::MapFault;
 
-/// Why a command is refused, by the errors of bpf(2).
+/// Why a command is refused: the errors of bpf(2).
 #[derive(Clone, Copy, Debug, PartialEq, Eq)]
 pub enum Errno {
     /// EPERM
@@ -33,10 +33,12 @@ pub enum Errno {
 
 impl Errno {
     ghost use Rattle.tenant.specs.Errno.{status_of, map_errno};
+    ghost use Rattle.tenant.specs.declared.errno.Errno.TheVariants.{BadAddress};
 
     /// The error of a call of a map.
     pub(crate) fn of_map(fault: MapFault) -> Errno
-        ensures { result ≡ map_errno fault }
+        ensures errno { result ≡ map_errno fault }
+        ensures no_fault { result ≢ BadAddress }
     {
         match fault {
             MapFault::NoEntry => Errno::NoEntry,
@@ -48,7 +50,7 @@ impl Errno {
         }
     }
 
-    /// The status of a reply: the negative error number.
+    /// The status of a reply: the negated error number.
     pub fn status(self) -> i32
         ensures { result ≡ status_of self }
     {

@@ -1,4 +1,4 @@
-//! One tenant: what is open, the live maps, and what its commands do.
+//! One tenant: its open objects, its live maps, and the effects of its commands.
 #![tactic(auto)]
 
 mod errno;
@@ -6,10 +6,12 @@ mod frames;
 pub mod laws;
 mod loading;
 mod object;
+mod reply;
 mod shape;
 mod tenant;
 mod test_run;
 
 pub use errno::Errno;
 pub use object::{LoadedProgram, OpenObject};
+pub use reply::Reply;
 pub use tenant::Tenant;

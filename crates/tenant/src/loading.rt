@@ -1,49 +1,36 @@
 //! PROG_LOAD.
 
-ghost use Rattle.std.specs.Prelude.{◌≡◌, ◌+◌, ◌<◌, ◌==◌, ◌^◌, ℕ, Bool, false, List, IfOk, IfErr, IsSome, None, Some, length, is_none, slice_index_or, if◌then◌else◌};
-ghost use Rattle.fd_table.specs.Table.{named, lowest};
-ghost use Rattle.verdict.specs.Maps.{maps_of, entries_of};
-ghost use Rattle.tenant.specs.Kept.{times_listed, holds_in, MapsAreAtPlaces, IsBound, state_in};
-ghost use Rattle.tenant.specs.inside.Loading.{codec_told, verdict_told, with_program, ProgramMapsAreThere, IsHeldMore, IsLoadFault};
+ghost use Rattle.std.specs.Prelude.{◌≡◌, ◌+◌, ◌<◌, ◌^◌, ℕ, Bool, false, List, IfOk, IfErr, Some, length, is_none, map};
+ghost use Rattle.bpf_maps.specs.Live.{holds_at};
+ghost use Rattle.fd_table.specs.Table.{first_descriptor, most, named, lowest};
+ghost use Rattle.verifier.specs.Maps.{maps_of, entries_of};
+ghost use Rattle.tenant.specs.Kept.{times_listed, AreHeld, IsBound, state_in};
+ghost use Rattle.tenant.specs.Loaded.{map_places};
+ghost use Rattle.tenant.specs.inside.Loading.{codec_told, verdict_told, with_program, AreLive, IsHeldMore, IsLoadFault};
 ghost use Rattle.tenant.specs.Machine.{accepted, codec_errno, verdict_errno, loaded_program, named_place, places_from, targets, Judges, Loads};
-ghost use Rattle.tenant.specs.inside.Answers.{load_answer};
+ghost use Rattle.tenant.specs.Replies.{shown_answer, IsWritable};
 
 use crate::errno::Errno;
 use crate::object::{LoadedProgram, OpenObject};
+use crate::reply::Reply;
 use crate::tenant::{Tenant, open};
-use bpf_maps::{MAPS, MapKey, Maps};
+use bpf_maps::{MapKey, Maps};
 use fd_table::FdTable;
 use insn_codec::{CodecFault, FaultKind, read_program};
 use reg_kinds::Reason;
 use std::alloc::{AllocError, Global};
 use tagged_model::Named;
-use verdict::{VerifyFault, laws};
-use verifier::{Verified, verify};
+use verifier::{Verified, VerifyFault, laws, verify_owned};
 
-/// The type of socket filters, the only one that is loaded (BPF_PROG_TYPE_SOCKET_FILTER).
+/// The type of socket filters, the only one that can be loaded (BPF_PROG_TYPE_SOCKET_FILTER).
 const SOCKET_FILTER: u32 = 1;
-
-/// The reply to PROG_LOAD.
-#[derive(Clone, Copy, Debug, PartialEq, Eq)]
-pub(crate) enum LoadReply {
-    /// The program is open under a new descriptor.
-    Opened(u32),
-    /// A refusal.
-    Refused(Errno),
-    /// A refusal for what stands at a slot.
-    RefusedAt {
-        errno: Errno,
-        slot: u32,
-        reason: u16,
-    },
-}
 
 /// Why slots are not loaded.
 #[derive(Clone, Copy, Debug, PartialEq, Eq)]
 enum LoadFault {
-    /// A growth was refused.
+    /// Out of memory.
     Memory,
-    /// What stands at a slot.
+    /// Because of a slot.
     At {
         errno: Errno,
         slot: u32,
@@ -97,7 +84,7 @@ fn errno_of_verdict(reason: Reason) -> Errno
     }
 }
 
-/// What is told of slots that are no program's.
+/// The load fault for slots that are no program.
 fn of_codec(fault: CodecFault) -> LoadFault
     requires { fault.slot < 2 ^ 32 }
     ensures { result ≡ codec_told fault.kind fault.slot }
@@ -112,7 +99,7 @@ fn of_codec(fault: CodecFault) -> LoadFault
     }
 }
 
-/// What is told of a program that is not accepted.
+/// The load fault for a program that is not accepted.
 fn of_verdict(fault: VerifyFault) -> LoadFault
     requires { fault.slot < 2 ^ 32 }
     ensures { result ≡ verdict_told fault.reason fault.slot }
@@ -127,7 +114,7 @@ fn of_verdict(fault: VerifyFault) -> LoadFault
     }
 }
 
-/// The program that the slots spell, where it is accepted with these descriptors open.
+/// The program that the slots spell, if it is accepted with these open descriptors.
 fn verdict_of_slots(
     alloc: Global,
     slots: &[u8],
@@ -144,81 +131,66 @@ fn verdict_of_slots(
         Ok(program) => program,
         Err(fault) => return Err(of_codec(fault)),
     };
-    // By this law a fault's slot is one of the program's.
+    // By this law the slot of a fault is one of the program's.
     program.code();
-    match verify(alloc, &program, descriptors) {
+    match verify_owned(alloc, program, descriptors) {
         Ok(verified) => Ok(verified),
         Err(fault) => Err(of_verdict(fault)),
     }
 }
 
-/// One more holds the map at a place.
-fn hold(keys: &[Option<MapKey>; MAPS], maps: &mut Maps, place: u8)
-    requires placed { MapsAreAtPlaces keys.now maps.old }
-    requires there { IsSome (slice_index_or keys.now place None) }
-    requires few { holds_in keys.now maps.old place + 1 < 2 ^ 32 }
-    ensures held { IsHeldMore keys.now maps.old maps.new }
-    ensures holds { (other : ℕ) → holds_in keys.now maps.new other
-        ≡ holds_in keys.now maps.old other + (if place == other then 1 else 0) }
-{
-    let Some(key) = keys[usize::from(place)] else {
-        unreachable!();
-    };
-    maps.hold(key);
-}
-
-/// One more holds each of these maps, which are told by their places.
-fn hold_all(keys: &[Option<MapKey>; MAPS], maps: &mut Maps, held: &[(u32, u8)])
-    requires placed { MapsAreAtPlaces keys.now maps.old }
-    requires there { ProgramMapsAreThere keys.now held.now }
-    requires few { (place : ℕ) →
-        holds_in keys.now maps.old place + times_listed place held.now < 2 ^ 32 }
-    ensures held { IsHeldMore keys.now maps.old maps.new }
-    ensures holds { (place : ℕ) → holds_in keys.now maps.new place
-        ≡ holds_in keys.now maps.old place + times_listed place held.now }
+/// Adds one reference to each of these maps.
+fn hold_all(maps: &mut Maps, held: &[MapKey])
+    requires live { AreHeld maps.old }
+    requires there { AreLive maps.old held.now }
+    requires few { (place : ℕ) → holds_at maps.old place + times_listed place held.now < 2 ^ 32 }
+    ensures held { IsHeldMore maps.old maps.new }
+    ensures holds { (place : ℕ) → holds_at maps.new place
+        ≡ holds_at maps.old place + times_listed place held.now }
 {
     for map in held {
-        hold(keys, maps, map.1);
+        maps.hold(*map);
     }
 }
 
-/// The place of the map that a descriptor names.
-fn place_named(objects: &FdTable<OpenObject>, fd: u32) -> Option<u8>
+/// The key of the map that a descriptor names; `None` if it names none.
+fn map_named(objects: &FdTable<OpenObject>, fd: u32) -> Option<MapKey>
     ensures { result ≡ named_place (named objects.now fd) }
 {
     match objects.get(fd)? {
-        OpenObject::Map(place) => Some(*place),
+        OpenObject::Map(map) => Some(*map),
         OpenObject::Program(_) => None,
     }
 }
 
-/// The maps that descriptors name, by their places. What names no map is left out.
-fn places(
+/// The keys of the maps that descriptors name. Descriptors that name no map are left out.
+fn maps_named(
     alloc: Global,
     objects: &FdTable<OpenObject>,
     fds: &[u32],
-) -> Result<Vec<(u32, u8)>, AllocError>
-    ensures { IfOk result (λ found. found.items ≡ places_from objects.now fds.now) }
+) -> Result<Vec<MapKey>, AllocError>
+    ensures { IfOk result (λ found.
+        found.items ≡ map (λ m. m.1) (places_from objects.now fds.now)) }
 {
     let mut found = Vec::new(alloc);
     for fd in fds {
-        if let Some(place) = place_named(objects, *fd) {
-            found.push((*fd, place))?;
+        if let Some(map) = map_named(objects, *fd) {
+            found.push(map)?;
         }
     }
     Ok(found)
 }
 
 impl Tenant {
-    /// The program that the slots spell, with the places of its maps, where it is accepted.
+    /// The program that the slots spell, with the keys of its maps, if it is accepted.
     fn program_of(&self, alloc: Global, slots: &[u8]) -> Result<LoadedProgram, LoadFault>
         requires { length slots.now < 2 ^ 32 }
         ensures judges { IfOk result (λ l. (part : List ℕ) →
             Judges (targets (state_in part self.now)) slots.now (accepted l.insns)) }
         ensures found { IfOk result (λ l. (part : List ℕ) →
             l ≡ loaded_program (state_in part self.now) l.insns) }
-        ensures bound { IfOk result (λ l. IsBound self.now l) }
-        ensures there { IfOk result (λ l. ProgramMapsAreThere self.now.keys l.maps) }
+        ensures bound { IfOk result (λ l. IsBound self.now.live l) }
+        ensures there { IfOk result (λ l. AreLive self.now.live (map_places l)) }
         ensures refused { IfErr result (λ fault. (part : List ℕ) →
             IsLoadFault (targets (state_in part self.now)) slots.now fault) }
     {
@@ -228,49 +200,60 @@ impl Tenant {
             return Err(LoadFault::Memory);
         };
         let program = verdict_of_slots(alloc, slots, &descriptors)?;
-        match places(alloc, &self.objects, program.maps()) {
+        match maps_named(alloc, &self.objects, program.maps()) {
             Ok(maps) => Ok(LoadedProgram::new(program, maps)),
             Err(_) => Err(LoadFault::Memory),
         }
     }
 
-    /// Opens a program under the lowest descriptor that is free, where one is. It holds its maps.
+    /// Opens a program under the lowest free descriptor, of which there is at least one. The program has a
+    /// reference to each of its maps.
     fn open_program(&mut self, program: LoadedProgram) -> u32
         requires free { is_none (lowest self.old.objects) ≡ false }
-        requires bound { IsBound self.old program }
-        requires there { ProgramMapsAreThere self.old.keys program.maps }
+        requires bound { IsBound self.old.live program }
+        requires there { AreLive self.old.live (map_places program) }
         ensures lowest { lowest self.old.objects ≡ Some result }
+        ensures within { result < first_descriptor + most }
         ensures opened { (part : List ℕ) →
             state_in part self.new ≡ with_program (state_in part self.old) result program }
     {
-        hold_all(&self.keys, &mut self.maps, program.maps());
+        hold_all(&mut self.maps, program.maps());
         open(&mut self.objects, OpenObject::Program(program))
     }
 
-    /// PROG_LOAD: opens the program that the slots spell, where it is accepted with what is open. It keeps its maps
+    /// PROG_LOAD: opens the program that the slots spell, if it is accepted with the open descriptors. It keeps its maps
     /// when their descriptors are closed.
     ///
-    /// It is refused in this order: `Invalid` where `kind` is not that of a socket filter; `TooManyOpen` where no
-    /// descriptor is free; `NoMemory` where memory was refused, which is noted. Slots that are no program, or whose
-    /// program is not accepted, are refused with the slot and the reason: 100 and the number of the codec's fault, or
-    /// the number of the verdict's reason.
-    pub(crate) fn load(&mut self, alloc: Global, kind: u32, slots: &[u8]) -> LoadReply
+    /// Slots that are no program, or whose program is not accepted, are refused with the slot and the reason: 100 plus the
+    /// number of the codec's fault, or the number of the verdict's reason.
+    ///
+    /// # Errors
+    ///
+    /// The first that applies: `Invalid` if `kind` is not the type of socket filters; `TooManyOpen` if no descriptor is free;
+    /// `NoMemory` if out of memory, which sets the tenant's flag.
+    pub(crate) fn load(
+        &mut self,
+        alloc: Global,
+        kind: u32,
+        slots: &[u8],
+    ) -> Result<Reply<'static>, Errno>
         requires { length slots.now < 2 ^ 32 }
-        ensures { (part : List ℕ) → (refused : Bool)
+        ensures answer { (part : List ℕ) → (refused : Bool)
             × Loads refused (state_in part self.old) kind slots.now
-            (load_answer result (state_in part self.new)) }
+            (shown_answer result (state_in part self.new)) }
+        ensures writable { IsWritable result }
     {
         if kind != SOCKET_FILTER {
-            return LoadReply::Refused(Errno::Invalid);
+            return Err(Errno::Invalid);
         }
         if self.objects.is_full() {
-            return LoadReply::Refused(Errno::TooManyOpen);
+            return Err(Errno::TooManyOpen);
         }
         match self.program_of(alloc, slots) {
-            Ok(program) => LoadReply::Opened(self.open_program(program)),
+            Ok(program) => Ok(Reply::Opened(self.open_program(program))),
             Err(LoadFault::Memory) => {
                 self.refused = true;
-                LoadReply::Refused(Errno::NoMemory)
+                Err(Errno::NoMemory)
             }
             Err(
                 LoadFault::At {
@@ -278,11 +261,11 @@ impl Tenant {
                     slot,
                     reason,
                 },
-            ) => LoadReply::RefusedAt {
+            ) => Ok(Reply::RefusedAt {
                 errno,
                 slot,
                 reason,
-            },
+            }),
         }
     }
 }

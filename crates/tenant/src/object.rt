@@ -1,45 +1,58 @@
-//! What a descriptor names.
+//! The objects that descriptors name.
 
-ghost use Rattle.std.specs.Prelude.{◌≡◌};
+ghost use Rattle.std.specs.Prelude.{◌≡◌, length};
+ghost use Rattle.std.specs.List.{zip};
+ghost use Rattle.verifier.specs.Maps.{maps_of};
+ghost use Rattle.tenant.specs.Loaded.{map_places};
 
+use bpf_maps::MapKey;
 use std::marker::Model;
 use verifier::Verified;
 
-/// A program that was loaded, and the places of its maps.
+/// A program that was loaded, and the keys of its maps. Contracts see each key with its descriptor.
 #[derive(Drop)]
 pub struct LoadedProgram {
     program: Verified,
-    /// For each descriptor of a map in the program's text, the place of the map.
-    maps: Vec<(u32, u8)>,
+    /// The key of the map for each descriptor of a map in the program's text, in the order of first use.
+    maps: Vec<MapKey>,
 }
 
 impl Model for LoadedProgram {
+    ghost use Rattle.std.specs.Prelude.{◌≡◌, length};
+    ghost use Rattle.std.specs.List.{zip};
+    ghost use Rattle.verifier.specs.Maps.{maps_of};
     ghost use Rattle.tenant.specs.Loaded.{LoadedProgram as AnyLoaded};
 
     ghost Value = { AnyLoaded };
 
-    ghost view = { λ l.
-        record { insns = l.program.code; named = l.program.entries; maps = l.maps.items } };
+    ghost view = { λ l. record {
+      insns = l.program.code;
+      named = l.program.entries;
+      maps = zip (maps_of l.program.code) l.maps.items;
+    } };
+
+    ghost invariant = { λ l. length l.maps.items ≡ length (maps_of l.program.code) };
 }
 
 impl LoadedProgram {
-    /// A program with the places of its maps.
-    pub(crate) fn new(program: Verified, maps: Vec<(u32, u8)>) -> LoadedProgram
+    /// A program with the keys of its maps, one for each descriptor of a map in its text.
+    pub(crate) fn new(program: Verified, maps: Vec<MapKey>) -> LoadedProgram
+        requires { length maps.items ≡ length (maps_of program.code) }
         ensures insns { result.insns ≡ program.code }
         ensures named { result.named ≡ program.entries }
-        ensures maps { result.maps ≡ maps.items }
+        ensures maps { result.maps ≡ zip (maps_of program.code) maps.items }
     {
         LoadedProgram { program, maps }
     }
 
-    /// For each descriptor of a map in the program's text, the place of the map.
-    pub(crate) fn maps(&self) -> &[(u32, u8)]
-        ensures { result.now ≡ self.now.maps }
+    /// The keys of its maps, in the order of their descriptors.
+    pub(crate) fn maps(&self) -> &[MapKey]
+        ensures { result.now ≡ map_places self.now }
     {
         &self.maps
     }
 
-    /// The program that was accepted.
+    /// The accepted program.
     pub(crate) fn program(&self) -> &Verified
         ensures code { result.now.code ≡ self.now.insns }
         ensures entries { result.now.entries ≡ self.now.named }
@@ -51,7 +64,6 @@ impl LoadedProgram {
 /// An open object.
 #[derive(Drop)]
 pub enum OpenObject {
-    /// The map at a place.
-    Map(u8),
+    Map(MapKey),
     Program(LoadedProgram),
 }

@@ -1,12 +1,13 @@
-//! The shape of a map that a command asks for.
+//! The shape of a map in MAP_CREATE.
 
-ghost use Rattle.std.specs.Prelude.{◌≡◌};
+ghost use Rattle.std.specs.Prelude.{◌≡◌, ◌≢◌, IfErr};
 ghost use Rattle.tenant.specs.Machine.{kind_of, asked_shape};
+ghost use Rattle.tenant.specs.declared.errno.Errno.TheVariants.{BadAddress};
 
 use crate::errno::Errno;
 use tagged_model::{MapKind, MapShape, ShapeFault};
 
-/// The kind of maps of a type, by its number in bpf(2).
+/// The kind of maps of a type, by its number in bpf(2); `None` if there is no such kind.
 fn map_kind(number: u32) -> Option<MapKind>
     ensures { result ≡ kind_of number }
 {
@@ -17,11 +18,11 @@ fn map_kind(number: u32) -> Option<MapKind>
     }
 }
 
-/// The shape of these fields of MAP_CREATE.
+/// The shape with these fields of MAP_CREATE.
 ///
 /// # Errors
 ///
-/// `Invalid` where a field is out of its limits or a flag is set, and else `TooBig` where the values take too many bytes.
+/// `Invalid` if a field is outside its limits or a flag is set, else `TooBig` if the values take too many bytes.
 pub(crate) fn asked_shape(
     kind: u32,
     key_size: u32,
@@ -29,7 +30,8 @@ pub(crate) fn asked_shape(
     max_entries: u32,
     flags: u32,
 ) -> Result<MapShape, Errno>
-    ensures { result ≡ asked_shape (kind_of kind) key_size value_size max_entries flags }
+    ensures shape { result ≡ asked_shape (kind_of kind) key_size value_size max_entries flags }
+    ensures no_fault { IfErr result (λ errno. errno ≢ BadAddress) }
 {
     let Some(kind) = map_kind(kind) else {
         return Err(Errno::Invalid);

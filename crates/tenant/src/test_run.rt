@@ -1,67 +1,43 @@
-//! Test runs of programs that are loaded.
+//! Test runs of loaded programs.
 
-ghost use Rattle.std.specs.Prelude.{◌≡◌, ◌≢◌, ℕ, ◌<◌, ◌≤◌, Bool, List, ◌∷◌, length, Err};
+ghost use Rattle.std.specs.Prelude.{◌≡◌, ◌≢◌, ℕ, ◌<◌, Bool, List, ◌∷◌, length};
 ghost use Rattle.arena.specs.Memory.{part_bytes};
-ghost use Rattle.bpf_maps.specs.declared.part.TheConstants.{MAPS, PART};
+ghost use Rattle.bpf_helpers.specs.Parts.{IsPartOf};
 ghost use Rattle.fd_table.specs.Table.{named};
-ghost use Rattle.tenant.specs.declared.errno.Errno.TheVariants.{BadAddress};
 ghost use Rattle.tenant.specs.Kept.{state_in};
 ghost use Rattle.tenant.specs.Machine.{run_of};
-ghost use Rattle.tenant.specs.inside.Answers.{run_answer};
-ghost use Rattle.tenant.specs.inside.TestRun.{HasKeys, AreThere};
+ghost use Rattle.tenant.specs.Replies.{shown_answer, IsWritable};
 
 use crate::errno::Errno;
 use crate::object::OpenObject;
+use crate::reply::Reply;
 use crate::tenant::Tenant;
 use arena::{Arena, Trace};
-use bpf_maps::{MAPS, MapKey};
 use command_frames::GIVEN_WORDS;
 use flat_machine::run;
 use tagged_model::{CONTEXT_WORDS, Outcome};
-use verdict::laws;
+use verifier::laws;
 
-/// The bytes of the longest packet of a test run.
+/// The length of the longest packet of a test run, in bytes.
 const LONGEST_PACKET: usize = 65_536;
 
 /// The words of the context: the packet's length, and the ten that are given.
 fn context_words(length: u32, words: &[u32; GIVEN_WORDS]) -> [u32; CONTEXT_WORDS]
     ensures { result ≡ length ∷ words.now }
 {
-    let mut context = [length; CONTEXT_WORDS];
-    context[1..].copy_from_slice(words);
-    context
-}
-
-/// The keys of the maps at these places, of which there are some, stand first, in their order.
-fn keys_at(keys: &[Option<MapKey>; MAPS], maps: &[(u32, u8)]) -> [MapKey; MAPS]
-    requires some { 0 < length maps.now }
-    requires few { length maps.now ≤ MAPS }
-    requires there { AreThere keys.now maps.now }
-    ensures keys { HasKeys keys.now maps.now result }
-    ensures long { length result ≡ MAPS }
-{
-    let Some(first) = keys[usize::from(maps[0].1)] else {
-        unreachable!();
-    };
-    let mut found = [first; MAPS];
-    for (i, map) in maps.iter().enumerate() {
-        let Some(key) = keys[usize::from(map.1)] else {
-            unreachable!();
-        };
-        found[i] = key;
-    }
-    found
+    let [a, b, c, d, e, f, g, h, i, j] = *words;
+    [length, a, b, c, d, e, f, g, h, i, j]
 }
 
 impl Tenant {
-    /// PROG_TEST_RUN: runs a program on ten words of context and a packet, with the maps that it was loaded with. The
-    /// answer is the program's. It runs in this tenant's part of the memory, and every other part stays as it is. No memory
-    /// is taken but for new keys of hash maps.
+    /// PROG_TEST_RUN: runs a program on ten words of context and a packet, with the maps with which it was loaded, and
+    /// returns the program's result. It runs in this tenant's part of the memory, and every other part is unchanged. Only new
+    /// keys of hash maps take memory.
     ///
     /// # Errors
     ///
-    /// `BadDescriptor` where the descriptor is not open, `Invalid` where it names a map, and `TooBig` where the packet has more
-    /// than `LONGEST_PACKET` bytes. Nothing has changed then. A run never faults.
+    /// `BadDescriptor` if the descriptor is not open, `Invalid` if it names a map, `TooBig` if the packet has more than
+    /// `LONGEST_PACKET` bytes. Then nothing has changed. A run never faults.
     pub(crate) fn test_run(
         &mut self,
         fd: u32,
@@ -69,14 +45,13 @@ impl Tenant {
         packet: &[u8],
         tenant: usize,
         arena: &mut Arena,
-    ) -> Result<u32, Errno>
-        requires tenant { tenant < arena.old.parts }
-        requires part { arena.old.part ≡ PART }
+    ) -> Result<Reply<'static>, Errno>
+        requires part { IsPartOf tenant arena.old }
         ensures answer { (refusals : List Bool)
-            × (run_answer result (state_in (part_bytes arena.new tenant) self.new)
+            × (shown_answer result (state_in (part_bytes arena.new tenant) self.new)
             ≡ run_of refusals (state_in (part_bytes arena.old tenant) self.old)
             words.now packet.now (named self.old.objects fd)) }
-        ensures no_fault { result ≢ Err BadAddress }
+        ensures writable { IsWritable result }
         ensures parts { arena.new.parts ≡ arena.old.parts }
         ensures part { arena.new.part ≡ arena.old.part }
         ensures others { (other : ℕ) → other ≢ tenant
@@ -93,32 +68,18 @@ impl Tenant {
         }
         let context = context_words(packet.len() as u32, words);
         let mut trace = Trace::new();
-        let outcome = if program.maps().is_empty() {
-            run(
-                program.program(),
-                &[],
-                tenant,
-                arena,
-                &mut self.maps,
-                &context,
-                packet,
-                &mut trace,
-            )
-        } else {
-            let keys = keys_at(&self.keys, program.maps());
-            run(
-                program.program(),
-                &keys[..program.maps().len()],
-                tenant,
-                arena,
-                &mut self.maps,
-                &context,
-                packet,
-                &mut trace,
-            )
-        };
+        let outcome = run(
+            program.program(),
+            program.maps(),
+            tenant,
+            arena,
+            &mut self.maps,
+            &context,
+            packet,
+            &mut trace,
+        );
         match outcome {
-            Outcome::Value(value) => Ok(value),
+            Outcome::Value(value) => Ok(Reply::Number(value)),
             Outcome::Fault => Err(Errno::BadAddress),
         }
     }

@@ -6,18 +6,20 @@ use Rattle.std.specs.Str.{bytes_eq}
 use Rattle.std.proofs.lemmas.Slice.Eq.{bytes_eq-Decides}
 use Rattle.std.proofs.lemmas.Bool.{false≢true}
 use Rattle.std.proofs.lemmas.Bool.Decides.{nat_tests}
-use Rattle.insn_codec.specs.declared.insn.AluOp.{AluOp}
-use Rattle.insn_codec.specs.declared.insn.AluOp.TheVariants.{Mov}
-use Rattle.insn_codec.specs.declared.insn.Condition.{Condition}
-use Rattle.insn_codec.specs.declared.insn.ByteOrder.{ByteOrder}
-use Rattle.insn_codec.specs.declared.insn.Bits.{Bits}
-use Rattle.insn_codec.specs.declared.insn.Narrow.{Narrow}
-use Rattle.insn_codec.specs.declared.insn.Size.{Size}
-use Rattle.insn_codec.specs.declared.insn.Size.TheVariants as size
+use Rattle.words.specs.declared.operator.AluOp.{AluOp}
+use Rattle.words.specs.declared.operator.AluOp.TheVariants.{Mov}
+use Rattle.words.specs.declared.operator.Condition.{Condition}
+use Rattle.words.specs.declared.operator.ByteOrder.{ByteOrder}
+use Rattle.words.specs.declared.operator.KeptBits.{KeptBits}
+use Rattle.words.specs.declared.operator.ExtendedBits.{ExtendedBits}
+use Rattle.words.specs.declared.stack.AccessSize.{AccessSize}
+use Rattle.words.specs.declared.stack.AccessSize.TheVariants as size
 use Rattle.insn_codec.specs.declared.insn.AtomicSize.{AtomicSize}
 use Rattle.insn_codec.specs.declared.insn.AtomicSize.TheVariants as atomic_size
 use Rattle.insn_codec.specs.declared.insn.AtomicOp.{AtomicOp}
-use Rattle.insn_codec.specs.Sizes.{is_double, is_short, access_size}
+use Rattle.insn_codec.specs.Sizes.{is_short}
+use Rattle.insn_codec.specs.Atomic.{access_size}
+use Rattle.words.specs.Stack.{is_double}
 use Rattle.text_line.specs.declared.form.Number.{Number}
 use Rattle.text_line.specs.declared.form.SourceOperand.{SourceOperand}
 use Rattle.text_line.specs.declared.form.SourceOperand.TheVariants as source
@@ -69,13 +71,13 @@ operator_is n op e = named_is operator_name operators n op (search rules) e
 pub condition_is : (n : List ℕ) (c : Condition) → named conditions n ≡ Some c → n ≡ condition_name c
 condition_is n c e = named_is condition_name conditions n c (search rules) e
 
-pub order_is : (n : List ℕ) (o : ByteOrder × Bits) → named orders n ≡ Some o → n ≡ order_name o.0 o.1
+pub order_is : (n : List ℕ) (o : ByteOrder × KeptBits) → named orders n ≡ Some o → n ≡ order_name o.0 o.1
 order_is n o e = named_is (λ o. order_name o.0 o.1) orders n o (search rules) e
 
-pub narrow_is : (n : List ℕ) (b : Narrow) → named narrows n ≡ Some b → n ≡ narrow_name b
+pub narrow_is : (n : List ℕ) (b : ExtendedBits) → named narrows n ≡ Some b → n ≡ narrow_name b
 narrow_is n b e = named_is narrow_name narrows n b (search rules) e
 
-pub size_is : (n : List ℕ) (s : Bool × Size) → named sizes n ≡ Some s → n ≡ size_name s.0 s.1
+pub size_is : (n : List ℕ) (s : Bool × AccessSize) → named sizes n ≡ Some s → n ≡ size_name s.0 s.1
 size_is n s e = named_is (λ s. size_name s.0 s.1) sizes n s (search rules) e
 
 pub atomic_operator_is : (n : List ℕ) (op : AtomicOp) → named atomic_operators n ≡ Some op → n ≡ atomic_name op
@@ -96,7 +98,7 @@ named_has Q (m ∷ table) n v each e = property_step Q m.1 (named table n) v (by
 pub register_bound : (n : List ℕ) (r : Bool × ℕ) → named registers n ≡ Some r → r.1 ≤ 10
 register_bound n r e = named_has (λ r. r.1 ≤ 10) registers n r (search rules) e
 
-pub size_listed : (n : List ℕ) (s : Bool × Size) → named sizes n ≡ Some s → IsTrue (not (s.0 && is_double s.1))
+pub size_listed : (n : List ℕ) (s : Bool × AccessSize) → named sizes n ≡ Some s → IsTrue (not (s.0 && is_double s.1))
 size_listed n s e = named_has (λ s. IsTrue (not (s.0 && is_double s.1))) sizes n s (search rules) e
 
 -- ---- tokens
@@ -236,25 +238,25 @@ destination_is ts p e =
     ]
 
 -- the steps of an address, last first
-abbrev address_made : Bool × Size → ℕ → Number → List Token → Address × List Token
+abbrev address_made : Bool × AccessSize → ℕ → Number → List Token → Address × List Token
 address_made s base offset ts = (record { signed = s.0; size = s.1; base = base; offset = offset }, ts)
 
-abbrev address_9 : Bool × Size → ℕ → Number × List Token → Option (Address × List Token)
+abbrev address_9 : Bool × AccessSize → ℕ → Number × List Token → Option (Address × List Token)
 address_9 s base o = after_symbol (codes ")") o.1 >>= λ ts. Some (address_made s base o.0 ts)
 
-abbrev address_8 : Bool × Size → ℕ × List Token → Option (Address × List Token)
+abbrev address_8 : Bool × AccessSize → ℕ × List Token → Option (Address × List Token)
 address_8 s r = leading_signed_number r.1 >>= λ o. address_9 s r.0 o
 
-abbrev address_7 : Bool × Size → List Token → Option (Address × List Token)
+abbrev address_7 : Bool × AccessSize → List Token → Option (Address × List Token)
 address_7 s ts = leading_register true ts >>= λ r. address_8 s r
 
-abbrev address_6 : Bool × Size → List Token → Option (Address × List Token)
+abbrev address_6 : Bool × AccessSize → List Token → Option (Address × List Token)
 address_6 s ts = after_symbol (codes "(") ts >>= λ ts. address_7 s ts
 
-abbrev address_5 : Bool × Size → List Token → Option (Address × List Token)
+abbrev address_5 : Bool × AccessSize → List Token → Option (Address × List Token)
 address_5 s ts = after_symbol (codes ")") ts >>= λ ts. address_6 s ts
 
-abbrev address_4 : List ℕ × List Token → Bool × Size → Option (Address × List Token)
+abbrev address_4 : List ℕ × List Token → Bool × AccessSize → Option (Address × List Token)
 address_4 n s = after_symbol (codes "*") n.1 >>= λ ts. address_5 s ts
 
 abbrev address_3 : List ℕ × List Token → Option (Address × List Token)
@@ -368,7 +370,7 @@ store_is ts f e =
     )
 
 -- the size that is written is that of the operation's load and store
-atomic_size_is : (signed : Bool) (s : Size) (z : AtomicSize) → atomic_size_of signed s ≡ Some z → size_name signed s ≡ size_name false (access_size z)
+atomic_size_is : (signed : Bool) (s : AccessSize) (z : AtomicSize) → atomic_size_of signed s ≡ Some z → size_name signed s ≡ size_name false (access_size z)
 atomic_size_is false size.Word z e = ap (λ (x : AtomicSize). size_name false (access_size x)) (made_is atomic_size.Word z e)
 atomic_size_is false size.Double z e = ap (λ (x : AtomicSize). size_name false (access_size x)) (made_is atomic_size.Double z e)
 atomic_size_is _ _ z e = absurd (let no : Some z ≡ None = sym e in cc no)
@@ -462,13 +464,13 @@ jump_is ts f e =
       subst (λ (x : Form × List ℕ). NoLabel (names_label x.0) x.1) made d.1,
     )
 
-abbrev movsx_3 : Bool → ℕ → Narrow → ℕ × List Token → Option Form
+abbrev movsx_3 : Bool → ℕ → ExtendedBits → ℕ × List Token → Option Form
 movsx_3 wide dst b src = cond (wide || is_short b) (at_end (form.Movsx wide b dst src.0) src.1) None
 
-abbrev movsx_2 : Bool → ℕ → Narrow → List Token → Option Form
+abbrev movsx_2 : Bool → ℕ → ExtendedBits → List Token → Option Form
 movsx_2 wide dst b ts = leading_register wide ts >>= λ src. movsx_3 wide dst b src
 
-abbrev movsx_1 : Bool → ℕ → List ℕ × List Token → Narrow → Option Form
+abbrev movsx_1 : Bool → ℕ → List ℕ × List Token → ExtendedBits → Option Form
 movsx_1 wide dst n b = after_symbol (codes ")") n.1 >>= λ ts. movsx_2 wide dst b ts
 
 abbrev movsx_0 : Bool → ℕ → List ℕ × List Token → Option Form
@@ -518,10 +520,10 @@ neg_is wide dst ts f fits e =
       subst IsForm d.1 fits,
     )
 
-abbrev end_2 : ℕ → ByteOrder × Bits → ℕ × List Token → Option Form
+abbrev end_2 : ℕ → ByteOrder × KeptBits → ℕ × List Token → Option Form
 end_2 dst o r = cond (eqb r.0 dst) (at_end (form.End o.0 o.1 dst) r.1) None
 
-abbrev end_1 : ℕ → List ℕ × List Token → ByteOrder × Bits → Option Form
+abbrev end_1 : ℕ → List ℕ × List Token → ByteOrder × KeptBits → Option Form
 end_1 dst n o = leading_register true n.1 >>= λ r. end_2 dst o r
 
 abbrev end_0 : ℕ → List ℕ × List Token → Option Form

@@ -1,18 +1,18 @@
 -- The printed text of an instruction is read as this instruction.
 use Rattle.std.proofs.Common.{◌≡◌, ◌≤◌, ◌<◌, ◌^◌, ℕ, suc, Bool, true, false, ℤ, pos, negsuc, [], ◌∷◌, codes, Some, FitsSigned, refl, arith, w16, w32}
 use Rattle.std.proofs.lemmas.Int.{ints}
-use Rattle.insn_codec.specs.declared.insn.AluOp.{AluOp}
-use Rattle.insn_codec.specs.declared.insn.AluOp.TheVariants.{Add, Sub, Mul, Div, SignedDiv, Or, And, ShiftLeft, ShiftRight, Mod, SignedMod, Xor, Mov, SignedShiftRight}
-use Rattle.insn_codec.specs.declared.insn.Condition.{Condition}
-use Rattle.insn_codec.specs.declared.insn.Condition.TheVariants.{Equal, Above, AboveOrEqual, CommonBit, NotEqual, SignedAbove, SignedAboveOrEqual, Below, BelowOrEqual, SignedBelow, SignedBelowOrEqual}
-use Rattle.insn_codec.specs.declared.insn.ByteOrder.{ByteOrder}
-use Rattle.insn_codec.specs.declared.insn.ByteOrder.TheVariants.{Little, Big, Swap}
-use Rattle.insn_codec.specs.declared.insn.Bits.{Bits}
-use Rattle.insn_codec.specs.declared.insn.Bits.TheVariants as bits
-use Rattle.insn_codec.specs.declared.insn.Narrow.{Narrow}
-use Rattle.insn_codec.specs.declared.insn.Narrow.TheVariants as narrow
-use Rattle.insn_codec.specs.declared.insn.Size.{Size}
-use Rattle.insn_codec.specs.declared.insn.Size.TheVariants as size
+use Rattle.words.specs.declared.operator.AluOp.{AluOp}
+use Rattle.words.specs.declared.operator.AluOp.TheVariants.{Add, Sub, Mul, Div, SignedDiv, Or, And, ShiftLeft, ShiftRight, Mod, SignedMod, Xor, Mov, SignedShiftRight}
+use Rattle.words.specs.declared.operator.Condition.{Condition}
+use Rattle.words.specs.declared.operator.Condition.TheVariants.{Equal, Above, AboveOrEqual, CommonBit, NotEqual, SignedAbove, SignedAboveOrEqual, Below, BelowOrEqual, SignedBelow, SignedBelowOrEqual}
+use Rattle.words.specs.declared.operator.ByteOrder.{ByteOrder}
+use Rattle.words.specs.declared.operator.ByteOrder.TheVariants.{Little, Big, Swap}
+use Rattle.words.specs.declared.operator.KeptBits.{KeptBits}
+use Rattle.words.specs.declared.operator.KeptBits.TheVariants as bits
+use Rattle.words.specs.declared.operator.ExtendedBits.{ExtendedBits}
+use Rattle.words.specs.declared.operator.ExtendedBits.TheVariants as narrow
+use Rattle.words.specs.declared.stack.AccessSize.{AccessSize}
+use Rattle.words.specs.declared.stack.AccessSize.TheVariants as size
 use Rattle.insn_codec.specs.declared.insn.AtomicOp.{AtomicOp}
 use Rattle.insn_codec.specs.declared.insn.AtomicOp.TheVariants as atomic
 use Rattle.insn_codec.specs.declared.insn.Operand.{Operand}
@@ -20,7 +20,7 @@ use Rattle.insn_codec.specs.declared.insn.Operand.TheVariants.{Imm, Reg}
 use Rattle.insn_codec.specs.declared.insn.Insn.{Insn}
 use Rattle.insn_codec.specs.declared.insn.Insn.TheVariants.{Alu, Movsx, Neg, End, Ja, Jal, Jump, Call, Exit, Load, Store, Atomic, Const, MapFd, MapValue}
 use Rattle.insn_codec.specs.Spelling.{IsInsn, IsOperand}
-use Rattle.insn_codec.specs.Sizes.{access_size}
+use Rattle.insn_codec.specs.Atomic.{access_size}
 use Rattle.text_line.specs.declared.form.JumpTarget.TheVariants as target
 use Rattle.text_line.specs.Names.{operator_name, condition_name, order_name, narrow_name, size_name, atomic_name, register_name, sign_name}
 use Rattle.text_line.specs.Form.{TokenLayout, layout, sign, word, reg, space, constant, operand_layout, destination, address, IsSource}
@@ -73,7 +73,7 @@ sign_sign : (negative : Bool) → is_sign (sign_name negative) ≡ true
 sign_sign true = refl
 sign_sign false = refl
 
-order_word : (how : ByteOrder) (b : Bits) → is_long_name (order_name how b) ≡ true
+order_word : (how : ByteOrder) (b : KeptBits) → is_long_name (order_name how b) ≡ true
 order_word Little bits.Bits16 = refl
 order_word Little bits.Bits32 = refl
 order_word Little bits.Bits64 = refl
@@ -84,12 +84,12 @@ order_word Swap bits.Bits16 = refl
 order_word Swap bits.Bits32 = refl
 order_word Swap bits.Bits64 = refl
 
-narrow_word : (b : Narrow) → is_long_name (narrow_name b) ≡ true
+narrow_word : (b : ExtendedBits) → is_long_name (narrow_name b) ≡ true
 narrow_word narrow.Bits8 = refl
 narrow_word narrow.Bits16 = refl
 narrow_word narrow.Bits32 = refl
 
-size_word : (signed : Bool) (s : Size) → is_long_name (size_name signed s) ≡ true
+size_word : (signed : Bool) (s : AccessSize) → is_long_name (size_name signed s) ≡ true
 size_word false size.Byte = refl
 size_word false size.Half = refl
 size_word false size.Word = refl
@@ -145,7 +145,7 @@ spaced_apart (negsuc n) rest fits h = (refl, refl, (fits, h.0, h.1))
 destination_apart : (z : ℤ) → Fits z → IsApart (destination (target.Number (number_of z)) [])
 destination_apart z fits = signed_apart z [] fits (refl, tt)
 
-address_apart : (signed : Bool) (s : Size) (base : ℕ) (z : ℤ) (rest : TokenLayout) → base ≤ 10 → Fits z → ends_sign rest ≡ true → IsApart rest → IsApart (address (size_name signed s) base (number_of z) rest)
+address_apart : (signed : Bool) (s : AccessSize) (base : ℕ) (z : ℤ) (rest : TokenLayout) → base ≤ 10 → Fits z → ends_sign rest ≡ true → IsApart rest → IsApart (address (size_name signed s) base (number_of z) rest)
 address_apart signed s base z rest base_fits fits ends h =
     let offset : IsApart (sign (sign_name (number_of z).negative) ∷ space ∷ Some (number (number_of z).magnitude) ∷ sign (codes ")") ∷ rest) = spaced_apart z (sign (codes ")") ∷ rest) fits (refl, (refl, ends, h)) in
     let place : IsApart (reg true base ∷ space ∷ sign (sign_name (number_of z).negative) ∷ space ∷ Some (number (number_of z).magnitude) ∷ sign (codes ")") ∷ rest) = (register_word true base base_fits, refl, offset) in

@@ -4,23 +4,25 @@ use Rattle.std.specs.Prelude.{codes, IsTrue, ◌||◌, ◌&&◌, not}
 use Rattle.std.specs.Str.{bytes_eq}
 use Rattle.std.proofs.lemmas.Bool.{false≢true}
 use Rattle.std.proofs.lemmas.Bool.Decides.{nat_tests}
-use Rattle.insn_codec.specs.declared.insn.AluOp.{AluOp}
-use Rattle.insn_codec.specs.declared.insn.AluOp.TheVariants.{Add, Sub, Mul, Div, SignedDiv, Or, And, ShiftLeft, ShiftRight, Mod, SignedMod, Xor, Mov, SignedShiftRight}
-use Rattle.insn_codec.specs.declared.insn.Condition.{Condition}
-use Rattle.insn_codec.specs.declared.insn.Condition.TheVariants.{Equal, Above, AboveOrEqual, CommonBit, NotEqual, SignedAbove, SignedAboveOrEqual, Below, BelowOrEqual, SignedBelow, SignedBelowOrEqual}
-use Rattle.insn_codec.specs.declared.insn.ByteOrder.{ByteOrder}
-use Rattle.insn_codec.specs.declared.insn.ByteOrder.TheVariants.{Little, Big, Swap}
-use Rattle.insn_codec.specs.declared.insn.Bits.{Bits}
-use Rattle.insn_codec.specs.declared.insn.Bits.TheVariants as bits
-use Rattle.insn_codec.specs.declared.insn.Narrow.{Narrow}
-use Rattle.insn_codec.specs.declared.insn.Narrow.TheVariants as narrow
-use Rattle.insn_codec.specs.declared.insn.Size.{Size}
-use Rattle.insn_codec.specs.declared.insn.Size.TheVariants as size
+use Rattle.words.specs.declared.operator.AluOp.{AluOp}
+use Rattle.words.specs.declared.operator.AluOp.TheVariants.{Add, Sub, Mul, Div, SignedDiv, Or, And, ShiftLeft, ShiftRight, Mod, SignedMod, Xor, Mov, SignedShiftRight}
+use Rattle.words.specs.declared.operator.Condition.{Condition}
+use Rattle.words.specs.declared.operator.Condition.TheVariants.{Equal, Above, AboveOrEqual, CommonBit, NotEqual, SignedAbove, SignedAboveOrEqual, Below, BelowOrEqual, SignedBelow, SignedBelowOrEqual}
+use Rattle.words.specs.declared.operator.ByteOrder.{ByteOrder}
+use Rattle.words.specs.declared.operator.ByteOrder.TheVariants.{Little, Big, Swap}
+use Rattle.words.specs.declared.operator.KeptBits.{KeptBits}
+use Rattle.words.specs.declared.operator.KeptBits.TheVariants as bits
+use Rattle.words.specs.declared.operator.ExtendedBits.{ExtendedBits}
+use Rattle.words.specs.declared.operator.ExtendedBits.TheVariants as narrow
+use Rattle.words.specs.declared.stack.AccessSize.{AccessSize}
+use Rattle.words.specs.declared.stack.AccessSize.TheVariants as size
 use Rattle.insn_codec.specs.declared.insn.AtomicSize.{AtomicSize}
 use Rattle.insn_codec.specs.declared.insn.AtomicSize.TheVariants as atomic_size
 use Rattle.insn_codec.specs.declared.insn.AtomicOp.{AtomicOp}
 use Rattle.insn_codec.specs.declared.insn.AtomicOp.TheVariants as atomic
-use Rattle.insn_codec.specs.Sizes.{is_double, is_short, access_size}
+use Rattle.insn_codec.specs.Sizes.{is_short}
+use Rattle.insn_codec.specs.Atomic.{access_size}
+use Rattle.words.specs.Stack.{is_double}
 use Rattle.text_line.specs.declared.form.Number.{Number}
 use Rattle.text_line.specs.declared.form.SourceOperand.{SourceOperand}
 use Rattle.text_line.specs.declared.form.SourceOperand.TheVariants as source
@@ -65,7 +67,7 @@ named_condition BelowOrEqual = refl
 named_condition SignedBelow = refl
 named_condition SignedBelowOrEqual = refl
 
-named_order : (how : ByteOrder) (b : Bits) → named orders (order_name how b) ≡ Some (how, b)
+named_order : (how : ByteOrder) (b : KeptBits) → named orders (order_name how b) ≡ Some (how, b)
 named_order Little bits.Bits16 = refl
 named_order Little bits.Bits32 = refl
 named_order Little bits.Bits64 = refl
@@ -76,12 +78,12 @@ named_order Swap bits.Bits16 = refl
 named_order Swap bits.Bits32 = refl
 named_order Swap bits.Bits64 = refl
 
-named_narrow : (b : Narrow) → named narrows (narrow_name b) ≡ Some b
+named_narrow : (b : ExtendedBits) → named narrows (narrow_name b) ≡ Some b
 named_narrow narrow.Bits8 = refl
 named_narrow narrow.Bits16 = refl
 named_narrow narrow.Bits32 = refl
 
-named_size : (signed : Bool) (s : Size) → IsTrue (not (signed && is_double s)) → named sizes (size_name signed s) ≡ Some (signed, s)
+named_size : (signed : Bool) (s : AccessSize) → IsTrue (not (signed && is_double s)) → named sizes (size_name signed s) ≡ Some (signed, s)
 named_size false size.Byte h = refl
 named_size false size.Half h = refl
 named_size false size.Word h = refl
@@ -174,7 +176,7 @@ unfolding parsed_destination
 destination_read (target.Number m) n none = rw (signed_read m []) (ap (λ (l : List ℕ). Some (destination_made (target.Number m) l)) (sym none))
 destination_read target.Label n none = rw (signed_name n []) refl
 
-address_read : (signed : Bool) (s : Size) (base : ℕ) (offset : Number) (rest : TokenLayout) → IsTrue (not (signed && is_double s)) → base ≤ 10 → leading_address (tokens_of (address (size_name signed s) base offset rest)) ≡ Some (record { signed = signed; size = s; base = base; offset = offset }, tokens_of rest)
+address_read : (signed : Bool) (s : AccessSize) (base : ℕ) (offset : Number) (rest : TokenLayout) → IsTrue (not (signed && is_double s)) → base ≤ 10 → leading_address (tokens_of (address (size_name signed s) base offset rest)) ≡ Some (record { signed = signed; size = s; base = base; offset = offset }, tokens_of rest)
 unfolding leading_address after_symbol
 address_read signed s base offset rest listed fits = rw (named_size signed s listed, register_read true base (symbol (sign_name offset.negative) ∷ number offset.magnitude ∷ symbol (codes ")") ∷ tokens_of rest) fits, signed_read offset (symbol (codes ")") ∷ tokens_of rest)) refl
 
@@ -200,11 +202,11 @@ jump_read : (wide : Bool) (c : Condition) (dst : ℕ) (src : SourceOperand) (to 
 unfolding parsed_jump after_word
 jump_read wide c dst src to n fits s none = rw (named_register wide dst fits, named_condition c, operand_read wide src (space ∷ word (codes "goto") ∷ space ∷ destination to n) s, destination_read to n none) refl
 
-load_read : (size : Size) (signed : Bool) (dst src : ℕ) (offset : Number) → src ≤ 10 → IsTrue (not (signed && is_double size)) → parsed_load dst (tokens_of (address (size_name signed size) src offset [])) ≡ Some (form.Load size signed dst src offset)
+load_read : (size : AccessSize) (signed : Bool) (dst src : ℕ) (offset : Number) → src ≤ 10 → IsTrue (not (signed && is_double size)) → parsed_load dst (tokens_of (address (size_name signed size) src offset [])) ≡ Some (form.Load size signed dst src offset)
 unfolding parsed_load
 load_read size signed dst src offset fits listed = rw (address_read signed size src offset [] listed fits) refl
 
-store_read : (size : Size) (dst : ℕ) (src : SourceOperand) (offset : Number) → dst ≤ 10 → IsSource src → parsed_store (tokens_of (address (size_name false size) dst offset (space ∷ sign (codes "=") ∷ space ∷ operand_layout true src []))) ≡ Some (form.Store size dst src offset)
+store_read : (size : AccessSize) (dst : ℕ) (src : SourceOperand) (offset : Number) → dst ≤ 10 → IsSource src → parsed_store (tokens_of (address (size_name false size) dst offset (space ∷ sign (codes "=") ∷ space ∷ operand_layout true src []))) ≡ Some (form.Store size dst src offset)
 unfolding parsed_store after_symbol
 store_read size dst src offset fits s = rw (address_read false size dst offset (space ∷ sign (codes "=") ∷ space ∷ operand_layout true src []) refl fits, operand_read true src [] s) refl
 
@@ -214,7 +216,7 @@ unfolding parsed_atomic
 atomic_read z op dst src offset dst_fits src_fits =
     rw (address_read false (access_size z) dst offset (space ∷ sign (atomic_name op) ∷ space ∷ reg true src ∷ []) refl dst_fits, size_of_access z, named_atomic op, register_read true src [] src_fits) refl
 
-movsx_read : (wide : Bool) (b : Narrow) (dst src : ℕ) → src ≤ 10 → IsTrue (wide || is_short b) → parsed_movsx wide dst (name (narrow_name b) ∷ symbol (codes ")") ∷ name (register_name wide src) ∷ []) ≡ Some (form.Movsx wide b dst src)
+movsx_read : (wide : Bool) (b : ExtendedBits) (dst src : ℕ) → src ≤ 10 → IsTrue (wide || is_short b) → parsed_movsx wide dst (name (narrow_name b) ∷ symbol (codes ")") ∷ name (register_name wide src) ∷ []) ≡ Some (form.Movsx wide b dst src)
 unfolding parsed_movsx after_symbol
 movsx_read wide b dst src fits listed = rw (named_narrow b, register_read wide src [] fits, listed) refl
 
@@ -222,7 +224,7 @@ neg_read : (wide : Bool) (dst : ℕ) → dst ≤ 10 → parsed_neg wide dst (nam
 unfolding parsed_neg
 neg_read wide dst fits = rw (register_read wide dst [] fits, same_eq dst) refl
 
-end_read : (how : ByteOrder) (b : Bits) (dst : ℕ) → dst ≤ 10 → parsed_end dst (name (order_name how b) ∷ name (register_name true dst) ∷ []) ≡ Some (form.End how b dst)
+end_read : (how : ByteOrder) (b : KeptBits) (dst : ℕ) → dst ≤ 10 → parsed_end dst (name (order_name how b) ∷ name (register_name true dst) ∷ []) ≡ Some (form.End how b dst)
 unfolding parsed_end
 end_read how b dst fits = rw (named_order how b, register_read true dst [] fits, same_eq dst) refl
 
@@ -248,7 +250,7 @@ assign_move : (wide : Bool) (dst : ℕ) (ts : List Token) (f : Form) → parsed_
 unfolding parsed_assignment
 assign_move wide dst ts f none some = rw (none, some) refl
 
-order_no_register : (how : ByteOrder) (b : Bits) → named registers (order_name how b) ≡ None
+order_no_register : (how : ByteOrder) (b : KeptBits) → named registers (order_name how b) ≡ None
 order_no_register Little bits.Bits16 = refl
 order_no_register Little bits.Bits32 = refl
 order_no_register Little bits.Bits64 = refl
@@ -259,7 +261,7 @@ order_no_register Swap bits.Bits16 = refl
 order_no_register Swap bits.Bits32 = refl
 order_no_register Swap bits.Bits64 = refl
 
-order_no_map : (how : ByteOrder) (b : Bits) → (bytes_eq (order_name how b) (codes "map_fd") ≡ false) × (bytes_eq (order_name how b) (codes "map_value") ≡ false)
+order_no_map : (how : ByteOrder) (b : KeptBits) → (bytes_eq (order_name how b) (codes "map_fd") ≡ false) × (bytes_eq (order_name how b) (codes "map_value") ≡ false)
 order_no_map Little bits.Bits16 = (refl, refl)
 order_no_map Little bits.Bits32 = (refl, refl)
 order_no_map Little bits.Bits64 = (refl, refl)
@@ -294,7 +296,7 @@ moved_neg : (wide : Bool) (dst : ℕ) (ts : List Token) (f : Form) → parsed_ne
 unfolding parsed_special_move after_symbol
 moved_neg wide dst ts f e = e
 
-moved_end : (dst : ℕ) (how : ByteOrder) (b : Bits) (ts : List Token) (f : Form) → parsed_end dst (name (order_name how b) ∷ ts) ≡ Some f → parsed_special_move true dst (name (order_name how b) ∷ ts) ≡ Some f
+moved_end : (dst : ℕ) (how : ByteOrder) (b : KeptBits) (ts : List Token) (f : Form) → parsed_end dst (name (order_name how b) ∷ ts) ≡ Some f → parsed_special_move true dst (name (order_name how b) ∷ ts) ≡ Some f
 unfolding parsed_special_move parsed_wide_move after_symbol after_word
 moved_end dst how b ts f e = let no_map = order_no_map how b in rw (no_map.0, no_map.1, e) refl
 

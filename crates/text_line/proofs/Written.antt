@@ -1,15 +1,16 @@
 -- Instructions as they are written.
 use Rattle.std.proofs.Common.{◌≡◌, ℕ, zero, suc, Bool, true, false, ◌&&◌, ◌||◌, not, ℤ, pos, negsuc, Option, Some, None, IsTrue, refl, sym, ap, ◌∙◌}
 use Rattle.std.proofs.Props.{props}
-use Rattle.insn_codec.specs.declared.insn.Narrow.{Narrow}
-use Rattle.insn_codec.specs.declared.insn.Narrow.TheVariants as narrow
-use Rattle.insn_codec.specs.declared.insn.Size.{Size}
-use Rattle.insn_codec.specs.declared.insn.Size.TheVariants as size
+use Rattle.words.specs.declared.operator.ExtendedBits.{ExtendedBits}
+use Rattle.words.specs.declared.operator.ExtendedBits.TheVariants as narrow
+use Rattle.words.specs.declared.stack.AccessSize.{AccessSize}
+use Rattle.words.specs.declared.stack.AccessSize.TheVariants as size
 use Rattle.insn_codec.specs.declared.insn.Operand.{Operand}
 use Rattle.insn_codec.specs.declared.insn.Operand.TheVariants as operand
 use Rattle.insn_codec.specs.declared.insn.Insn.{Insn}
 use Rattle.insn_codec.specs.declared.insn.Insn.TheVariants.{Alu, Movsx, Neg, End, Ja, Jal, Jump, Call, Exit, Load, Store, Atomic, Const, MapFd, MapValue}
-use Rattle.insn_codec.specs.Sizes.{is_double, is_short}
+use Rattle.insn_codec.specs.Sizes.{is_short}
+use Rattle.words.specs.Stack.{is_double}
 use Rattle.text_line.specs.declared.form.Number.{Number}
 use Rattle.text_line.specs.declared.form.SourceOperand.{SourceOperand}
 use Rattle.text_line.specs.declared.form.SourceOperand.TheVariants as source
@@ -54,13 +55,13 @@ target_again : (z : ℤ) → target_of (target.Number (number_of z)) ≡ z
 unfolding target_of
 target_again z = integer_again z
 
-movsx_of : Bool → Narrow → ℕ → ℕ → Option Insn
+movsx_of : Bool → ExtendedBits → ℕ → ℕ → Option Insn
 movsx_of true bits dst src = Some (Movsx (record { wide = true; bits = bits; dst = dst; src = src; listed = refl }))
 movsx_of false narrow.Bits8 dst src = Some (Movsx (record { wide = false; bits = narrow.Bits8; dst = dst; src = src; listed = refl }))
 movsx_of false narrow.Bits16 dst src = Some (Movsx (record { wide = false; bits = narrow.Bits16; dst = dst; src = src; listed = refl }))
 movsx_of false narrow.Bits32 dst src = None
 
-load_of : Size → Bool → ℕ → ℕ → ℤ → Option Insn
+load_of : AccessSize → Bool → ℕ → ℕ → ℤ → Option Insn
 load_of s false dst src off = Some (Load (record { size = s; signed = false; dst = dst; src = src; off = off; listed = refl }))
 load_of size.Byte true dst src off = Some (Load (record { size = size.Byte; signed = true; dst = dst; src = src; off = off; listed = refl }))
 load_of size.Half true dst src off = Some (Load (record { size = size.Half; signed = true; dst = dst; src = src; off = off; listed = refl }))
@@ -70,22 +71,22 @@ load_of size.Double true dst src off = None
 IsTrue-prop : (b : Bool) → IsProp (IsTrue b)
 IsTrue-prop b = hlevel props
 
-movsx_same : (wide : Bool) (b : Narrow) (dst src : ℕ) (p q : IsTrue (wide || is_short b)) → Some (Movsx (record { wide = wide; bits = b; dst = dst; src = src; listed = p })) ≡ Some (Movsx (record { wide = wide; bits = b; dst = dst; src = src; listed = q }))
+movsx_same : (wide : Bool) (b : ExtendedBits) (dst src : ℕ) (p q : IsTrue (wide || is_short b)) → Some (Movsx (record { wide = wide; bits = b; dst = dst; src = src; listed = p })) ≡ Some (Movsx (record { wide = wide; bits = b; dst = dst; src = src; listed = q }))
 movsx_same wide b dst src p q =
     ap (λ (h : IsTrue (wide || is_short b)). Some (Movsx (record { wide = wide; bits = b; dst = dst; src = src; listed = h }))) (IsTrue-prop (wide || is_short b) p q)
 
-movsx_again : (wide : Bool) (b : Narrow) (dst src : ℕ) (h : IsTrue (wide || is_short b)) → movsx_of wide b dst src ≡ Some (Movsx (record { wide = wide; bits = b; dst = dst; src = src; listed = h }))
+movsx_again : (wide : Bool) (b : ExtendedBits) (dst src : ℕ) (h : IsTrue (wide || is_short b)) → movsx_of wide b dst src ≡ Some (Movsx (record { wide = wide; bits = b; dst = dst; src = src; listed = h }))
 unfolding movsx_of
 movsx_again true b dst src h = movsx_same true b dst src refl h
 movsx_again false narrow.Bits8 dst src h = movsx_same false narrow.Bits8 dst src refl h
 movsx_again false narrow.Bits16 dst src h = movsx_same false narrow.Bits16 dst src refl h
 movsx_again false narrow.Bits32 dst src h = absurd cc
 
-load_same : (z : Size) (signed : Bool) (dst src : ℕ) (off : ℤ) (p q : IsTrue (not (signed && is_double z))) → Some (Load (record { size = z; signed = signed; dst = dst; src = src; off = off; listed = p })) ≡ Some (Load (record { size = z; signed = signed; dst = dst; src = src; off = off; listed = q }))
+load_same : (z : AccessSize) (signed : Bool) (dst src : ℕ) (off : ℤ) (p q : IsTrue (not (signed && is_double z))) → Some (Load (record { size = z; signed = signed; dst = dst; src = src; off = off; listed = p })) ≡ Some (Load (record { size = z; signed = signed; dst = dst; src = src; off = off; listed = q }))
 load_same z signed dst src off p q =
     ap (λ (h : IsTrue (not (signed && is_double z))). Some (Load (record { size = z; signed = signed; dst = dst; src = src; off = off; listed = h }))) (IsTrue-prop (not (signed && is_double z)) p q)
 
-load_again : (z : Size) (signed : Bool) (dst src : ℕ) (off : ℤ) (h : IsTrue (not (signed && is_double z))) → load_of z signed dst src off ≡ Some (Load (record { size = z; signed = signed; dst = dst; src = src; off = off; listed = h }))
+load_again : (z : AccessSize) (signed : Bool) (dst src : ℕ) (off : ℤ) (h : IsTrue (not (signed && is_double z))) → load_of z signed dst src off ≡ Some (Load (record { size = z; signed = signed; dst = dst; src = src; off = off; listed = h }))
 unfolding load_of
 load_again z false dst src off h = load_same z false dst src off refl h
 load_again size.Byte true dst src off h = load_same size.Byte true dst src off refl h

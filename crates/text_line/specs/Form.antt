@@ -1,6 +1,8 @@
--- The forms of a line: the table of the grammar, and of what is printed. It is this project's own.
+-- The forms of a line: the table of the grammar, for reading and for printing. It is this project's own.
 use Rattle.std.specs.Prelude.{ℕ, ◌≤◌, Bool, true, false, ◌&&◌, ◌||◌, not, IsTrue, List, [], ◌∷◌, codes, Option, Some, None}
-use Rattle.insn_codec.specs.Sizes.{is_double, is_short, access_size}
+use Rattle.insn_codec.specs.Sizes.{is_short}
+use Rattle.insn_codec.specs.Atomic.{access_size}
+use Rattle.words.specs.Stack.{is_double}
 use Rattle.text_line.specs.declared.form.Number.{Number}
 use Rattle.text_line.specs.declared.form.SourceOperand.{SourceOperand}
 use Rattle.text_line.specs.declared.form.SourceOperand.TheVariants as source
@@ -11,7 +13,7 @@ use Rattle.text_line.specs.declared.form.Form.TheVariants.{Alu, Movsx, Neg, End,
 use Rattle.text_line.specs.Token.{Token, name, number, symbol}
 use Rattle.text_line.specs.Names.{operator_name, condition_name, order_name, narrow_name, size_name, atomic_name, register_name, sign_name}
 
--- A line is laid out as tokens and single spaces, which are `None`. Any other blanks may stand between tokens.
+-- A line is laid out as tokens and single spaces (`None`). On reading, any blanks may stand between tokens.
 abbrev pub TokenLayout : Type 0
 TokenLayout = List (Option Token)
 
@@ -29,7 +31,7 @@ reg wide r = word (register_name wide r)
 
 -- Each part of a line is laid out before what follows it.
 
--- a minus where there is one, and the number
+-- a number, after a minus if it has one
 abbrev pub minus : Bool → TokenLayout → TokenLayout
 minus true rest = sign (codes "-") ∷ rest
 minus false rest = rest
@@ -41,7 +43,7 @@ abbrev pub operand_layout : Bool → SourceOperand → TokenLayout → TokenLayo
 operand_layout wide (source.Number n) rest = constant n rest
 operand_layout wide (source.Reg r) rest = reg wide r ∷ rest
 
--- a number whose sign stands, or the name of a label
+-- a number with its sign, + or -, or the name of a label
 abbrev pub destination : JumpTarget → List ℕ → TokenLayout
 destination (target.Number n) label = sign (sign_name n.negative) ∷ Some (number n.magnitude) ∷ []
 destination target.Label label = word label ∷ []
@@ -75,7 +77,7 @@ tokens_of [] = []
 tokens_of (None ∷ rest) = tokens_of rest
 tokens_of (Some t ∷ rest) = t ∷ tokens_of rest
 
--- the values of the type that are forms: registers up to 10, sign extension of a part only
+-- the values of the type that are forms: registers up to 10, sign extension from fewer bits than the register has
 abbrev pub IsSource : SourceOperand → Type 0
 IsSource (source.Number n) = Unit {0}
 IsSource (source.Reg r) = r ≤ 10

@@ -1,4 +1,4 @@
--- What the laws of lines say. This project's own.
+-- The statements of the laws of lines. This project's own.
 use Rattle.std.specs.Prelude.{◌≡◌, ◌≢◌, ℕ, true, false, ℤ, List, [], length, Option}
 use Rattle.std.specs.List.{AllByRecursion}
 use Rattle.insn_codec.specs.declared.insn.Insn.{Insn}
@@ -8,22 +8,22 @@ use Rattle.text_line.specs.Line.{Line, code, ReadAs, IsLine}
 use Rattle.text_line.specs.Ranges.{form_fits, form_slots, resolved}
 use Rattle.text_line.specs.Written.{written, printed_insn}
 
--- what a line is read as is one
+-- a line has one reading
 abbrev pub OneReading : Type 0
 OneReading = (bytes : List ℕ) (a b : Option Line) → ReadAs bytes a → ReadAs bytes b → a ≡ b
 
--- instructions that are written alike are the same
+-- instructions with the same written form are the same
 abbrev pub OneInsn : Type 0
 OneInsn = (a b : Insn) → written a ≡ written b → a ≡ b
 
--- an instruction as it is written: its numbers are in their ranges, no label is named, its slots are counted, and nothing is left to resolve
+-- the written form of an instruction has its numbers in range, no label, the instruction's slots, and nothing left to resolve
 pub record IsWrittenInRange (insn : Insn) : Type 0 where
   pub fits : form_fits (written insn) ≡ true
   pub no_label : names_label (written insn) ≡ false
   pub slots_are : form_slots (written insn) ≡ length (slots insn)
   pub resolved_is : (distance : ℤ) → resolved distance (written insn) ≡ written insn
 
--- the text of an instruction is one line, which is read as this instruction
+-- the printed text of an instruction is one line, which is read as this instruction
 pub record IsPrinted (insn : Insn) : Type 0 where
   pub one_line : AllByRecursion (λ b. b ≢ 10) (printed_insn insn)
   pub read : IsLine (printed_insn insn) (code (written insn) [])

@@ -24,11 +24,11 @@ abbrev pub IsWellFormed : Line → Type 0
 IsWellFormed (code form n) = IsForm form × NoLabel (names_label form) n
 IsWellFormed _ = Unit {0}
 
--- the bytes of a line are read so
+-- the bytes are read as this line
 abbrev pub IsLine : List ℕ → Line → Type 0
 IsLine bytes line = IsWellFormed line × IsTokens bytes (spelled line)
 
--- what the bytes of a line are read as: none of the forms where it is `None`
+-- the reading of the bytes: `None` where they have none of the forms
 abbrev pub ReadAs : List ℕ → Option Line → Type 0
 ReadAs bytes (Some line) = IsLine bytes line
 ReadAs bytes None = (line : Line) → ¬ IsLine bytes line

@@ -1,17 +1,17 @@
 -- How operators, sizes and registers are written. This project's own.
 use Rattle.std.specs.Prelude.{ℕ, ◌+◌, ◌==◌, Bool, true, false, List, [], ◌∷◌, codes, if◌then◌else◌}
-use Rattle.insn_codec.specs.declared.insn.AluOp.{AluOp}
-use Rattle.insn_codec.specs.declared.insn.AluOp.TheVariants.{Add, Sub, Mul, Div, SignedDiv, Or, And, ShiftLeft, ShiftRight, Mod, SignedMod, Xor, Mov, SignedShiftRight}
-use Rattle.insn_codec.specs.declared.insn.Condition.{Condition}
-use Rattle.insn_codec.specs.declared.insn.Condition.TheVariants.{Equal, Above, AboveOrEqual, CommonBit, NotEqual, SignedAbove, SignedAboveOrEqual, Below, BelowOrEqual, SignedBelow, SignedBelowOrEqual}
-use Rattle.insn_codec.specs.declared.insn.ByteOrder.{ByteOrder}
-use Rattle.insn_codec.specs.declared.insn.ByteOrder.TheVariants.{Little, Big, Swap}
-use Rattle.insn_codec.specs.declared.insn.Bits.{Bits}
-use Rattle.insn_codec.specs.declared.insn.Bits.TheVariants as bits
-use Rattle.insn_codec.specs.declared.insn.Narrow.{Narrow}
-use Rattle.insn_codec.specs.declared.insn.Narrow.TheVariants as narrow
-use Rattle.insn_codec.specs.declared.insn.Size.{Size}
-use Rattle.insn_codec.specs.declared.insn.Size.TheVariants as size
+use Rattle.words.specs.declared.operator.AluOp.{AluOp}
+use Rattle.words.specs.declared.operator.AluOp.TheVariants.{Add, Sub, Mul, Div, SignedDiv, Or, And, ShiftLeft, ShiftRight, Mod, SignedMod, Xor, Mov, SignedShiftRight}
+use Rattle.words.specs.declared.operator.Condition.{Condition}
+use Rattle.words.specs.declared.operator.Condition.TheVariants.{Equal, Above, AboveOrEqual, CommonBit, NotEqual, SignedAbove, SignedAboveOrEqual, Below, BelowOrEqual, SignedBelow, SignedBelowOrEqual}
+use Rattle.words.specs.declared.operator.ByteOrder.{ByteOrder}
+use Rattle.words.specs.declared.operator.ByteOrder.TheVariants.{Little, Big, Swap}
+use Rattle.words.specs.declared.operator.KeptBits.{KeptBits}
+use Rattle.words.specs.declared.operator.KeptBits.TheVariants as bits
+use Rattle.words.specs.declared.operator.ExtendedBits.{ExtendedBits}
+use Rattle.words.specs.declared.operator.ExtendedBits.TheVariants as narrow
+use Rattle.words.specs.declared.stack.AccessSize.{AccessSize}
+use Rattle.words.specs.declared.stack.AccessSize.TheVariants as size
 use Rattle.insn_codec.specs.declared.insn.AtomicOp.{AtomicOp}
 use Rattle.insn_codec.specs.declared.insn.AtomicOp.TheVariants as atomic
 
@@ -45,7 +45,7 @@ condition_name SignedBelow = codes "s<"
 condition_name SignedBelowOrEqual = codes "s<="
 
 -- `le16` and its like
-abbrev pub order_name : ByteOrder → Bits → List ℕ
+abbrev pub order_name : ByteOrder → KeptBits → List ℕ
 order_name Little bits.Bits16 = codes "le16"
 order_name Little bits.Bits32 = codes "le32"
 order_name Little bits.Bits64 = codes "le64"
@@ -56,12 +56,12 @@ order_name Swap bits.Bits16 = codes "bswap16"
 order_name Swap bits.Bits32 = codes "bswap32"
 order_name Swap bits.Bits64 = codes "bswap64"
 
-abbrev pub narrow_name : Narrow → List ℕ
+abbrev pub narrow_name : ExtendedBits → List ℕ
 narrow_name narrow.Bits8 = codes "s8"
 narrow_name narrow.Bits16 = codes "s16"
 narrow_name narrow.Bits32 = codes "s32"
 
-abbrev pub size_name : Bool → Size → List ℕ
+abbrev pub size_name : Bool → AccessSize → List ℕ
 size_name false size.Byte = codes "u8"
 size_name false size.Half = codes "u16"
 size_name false size.Word = codes "u32"

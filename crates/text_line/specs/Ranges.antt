@@ -68,12 +68,12 @@ abbrev pub normal_source : SourceOperand → SourceOperand
 normal_source (source.Number n) = source.Number (normal n)
 normal_source (source.Reg r) = source.Reg r
 
--- a label is a second spelling of a number: how far it is
+-- a label is replaced by its distance
 abbrev pub placed : ℤ → JumpTarget → JumpTarget
 placed distance (target.Number n) = target.Number (normal n)
 placed distance target.Label = target.Number (number_of distance)
 
--- the form as it is printed
+-- the form with its label replaced, and with a minus before negative numbers alone
 abbrev pub resolved : ℤ → Form → Form
 resolved distance (Alu wide op dst src) = Alu wide op dst (normal_source src)
 resolved distance (Ja to) = Ja (placed distance to)
@@ -87,7 +87,7 @@ resolved distance (MapFd dst fd) = MapFd dst (normal fd)
 resolved distance (MapValue dst fd off) = MapValue dst (normal fd) off
 resolved distance form = form
 
--- in how many slots a form is spelled
+-- the number of slots of a form's instruction
 abbrev pub form_slots : Form → ℕ
 form_slots (Const dst value) = 2
 form_slots (MapFd dst fd) = 2

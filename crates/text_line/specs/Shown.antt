@@ -1,4 +1,4 @@
--- What the code's lines stand for. This project's own.
+-- The line that each line of the code represents. This project's own.
 use Rattle.std.specs.Prelude.{List, map, Option, option_map}
 use Rattle.text_line.specs.declared.form.Line.{Line as CodeLine}
 use Rattle.text_line.specs.declared.form.Line.TheVariants as written

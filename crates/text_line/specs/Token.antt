@@ -1,4 +1,4 @@
--- The tokens of a line: the text begins with each in turn, and with none that is longer. This project's own.
+-- The tokens of a line: each in turn is the longest with which the text begins. This project's own.
 use Rattle.std.specs.Prelude.{◌≡◌, ℕ, ◌≤◌, ◌^◌, ◌==◌, Bool, ◌&&◌, ◌||◌, ◌⊎◌, List, [], ◌∷◌, ◌++◌, length, slice_index, codes, nat_eq, nat_lt, Option, Some, None, if◌then◌else◌, IsTrue}
 use Rattle.std.specs.List.{starts_with, list_all, Contains}
 use Rattle.std.specs.Char.{is_ascii_alphabetic, is_ascii_digit}
@@ -6,7 +6,7 @@ use Rattle.std.specs.Str.{IsAscii}
 use Rattle.std.specs.Str.Parse.{digits_value}
 use Rattle.text_line.specs.Blanks.{skip_blanks}
 
--- A name, a number by its value (none from 2 ^ 64 on, where no field has room for it), or a symbol.
+-- A name, a number by its value (`None` from 2 ^ 64 on, which no field can hold), or a symbol.
 pub data Token : Type 0 where
   name : List ℕ → Token
   number : Option ℕ → Token
@@ -28,7 +28,7 @@ is_name_byte b = is_name_start b || is_ascii_digit b
 abbrev pub is_hex_digit : ℕ → Bool
 is_hex_digit b = is_ascii_digit b || (nat_lt 64 b && nat_lt b 71) || (nat_lt 96 b && nat_lt b 103)
 
--- a number's value
+-- a number's value, `None` from 2 ^ 64 on
 abbrev pub value_of : ℕ → Option ℕ
 value_of n = if nat_lt n (2 ^ 64) then Some n else None
 
@@ -59,7 +59,7 @@ pub record BeginsWith (text : List ℕ) (token : Token) (rest : List ℕ) : Type
   pub is_token : IsToken bytes token
   pub longest : (other : Token) (front back : List ℕ) → text ≡ front ++ back → IsToken front other → length front ≤ length bytes
 
--- nothing but a comment
+-- the text is empty or a comment
 abbrev pub is_over : List ℕ → Bool
 is_over text = length text == 0 || starts_with nat_eq text (codes "//")
 

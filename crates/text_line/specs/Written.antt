@@ -24,7 +24,7 @@ abbrev pub source_of : Operand → SourceOperand
 source_of (Imm z) = source.Number (number_of z)
 source_of (Reg r) = source.Reg r
 
--- how an instruction is written, without labels
+-- the written form of an instruction, without labels
 abbrev pub written : Insn → Form
 written (Alu wide op dst src) = form.Alu wide op dst (source_of src)
 written (Movsx m) = form.Movsx m.wide m.bits m.dst m.src

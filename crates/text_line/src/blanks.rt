@@ -1,9 +1,9 @@
-//! Blanks.
+//! Blanks: spaces, tabs and carriage returns.
 
 ghost use Rattle.std.specs.Prelude.{◌≡◌, reverse};
 ghost use Rattle.text_line.specs.Blanks.{is_blank, skip_blanks, stripped};
 
-/// Whether it is a space, a tab or a carriage return.
+/// Whether the byte is a space, a tab or a carriage return.
 pub(crate) fn is_blank(byte: u8) -> bool
     ensures { result ≡ is_blank byte }
 {

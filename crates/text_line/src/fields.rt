@@ -1,4 +1,4 @@
-//! Numbers as they are written, for the fields of an instruction.
+//! Written numbers as the fields of an instruction.
 
 ghost use Rattle.std.specs.Prelude.{◌≡◌, IfSome, IfNone, Some, true, false};
 ghost use Rattle.text_line.specs.Ranges.{next_imm_fits};
@@ -10,7 +10,7 @@ impl Number {
     ghost use Rattle.text_line.specs.Ranges.{imm_fits, offset_fits, normal};
     ghost use Rattle.text_line.specs.Written.{number_of};
 
-    /// The number, if it fits 32 bits.
+    /// The number as a signed 32-bit field; `None` if it is out of range.
     pub(crate) fn imm(self) -> Option<i32>
         ensures found { IfSome result (λ n. number_of n ≡ normal self) }
         ensures fits { IfSome result (λ _. imm_fits self ≡ true) }
@@ -30,7 +30,7 @@ impl Number {
         }
     }
 
-    /// The number, if it fits 16 bits.
+    /// The number as a signed 16-bit field; `None` if it is out of range.
     pub(crate) fn offset(self) -> Option<i16>
         ensures found { IfSome result (λ n. number_of n ≡ normal self) }
         ensures fits { IfSome result (λ _. offset_fits self ≡ true) }
@@ -51,7 +51,7 @@ impl Number {
     }
 }
 
-/// A number without a sign, if it fits 32 bits.
+/// A number without a sign as an unsigned 32-bit field; `None` if it is out of range.
 pub(crate) fn next_imm(magnitude: Option<u64>) -> Option<u32>
     ensures found { IfSome result (λ n. Some n ≡ magnitude) }
     ensures fits { IfSome result (λ _. next_imm_fits magnitude ≡ true) }
@@ -64,7 +64,7 @@ impl SourceOperand {
     ghost use Rattle.text_line.specs.Ranges.{source_fits, normal_source};
     ghost use Rattle.text_line.specs.Written.{source_of};
 
-    /// The operand, if its number fits.
+    /// The operand; `None` if its number is out of range.
     pub(crate) fn operand(self) -> Option<Operand>
         ensures found { IfSome result (λ src. source_of src ≡ normal_source self) }
         ensures fits { IfSome result (λ _. source_fits self ≡ true) }
@@ -85,7 +85,7 @@ impl JumpTarget {
     ghost use Rattle.text_line.specs.Written.{number_of};
     ghost use Rattle.text_line.specs.declared.form.JumpTarget.TheVariants as target;
 
-    /// How far a jump goes, if its number fits 16 bits. A label is so far.
+    /// The offset of a jump in slots: its number, or `distance` for a label. `None` if the number doesn't fit 16 bits.
     pub(crate) fn offset(self, distance: i16) -> Option<i16>
         ensures found { IfSome result (λ n. target.Number (number_of n) ≡ placed distance self) }
         ensures fits { IfSome result (λ _. target_fits self ≡ true) }
@@ -97,7 +97,7 @@ impl JumpTarget {
         }
     }
 
-    /// How far a long jump goes, if its number fits 32 bits. A label is so far.
+    /// The offset of a long jump in slots: its number, or `distance` for a label. `None` if the number doesn't fit 32 bits.
     pub(crate) fn long_offset(self, distance: i16) -> Option<i32>
         ensures found { IfSome result (λ n. target.Number (number_of n) ≡ placed distance self) }
         ensures fits { IfSome result (λ _. long_target_fits self ≡ true) }

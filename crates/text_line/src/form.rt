@@ -4,24 +4,25 @@ ghost use Rattle.std.specs.Prelude.{◌≡◌, ◌≤◌, IfSome, IfNone, true, 
 
 use crate::fields::next_imm;
 use insn_codec::{
-    AluOp, AtomicOp, AtomicSize, Bits, ByteOrder, Condition, Insn, Load, Movsx, Narrow, Reg, Size,
+    AccessSize, AluOp, AtomicOp, AtomicSize, ByteOrder, Condition, ExtendedBits, Insn, KeptBits,
+    Load, Movsx, Reg,
 };
 
 /// A number as it is written: its sign, and its digits in decimal or hexadecimal.
 ///
-/// It may be out of its field's range: `Form::insn` tells whether it is.
+/// It may be out of its field's range, which `Form::insn` checks.
 #[derive(Clone, Copy, Debug, PartialEq, Eq)]
 pub struct Number {
     /// Whether a minus stands before the digits, also before a 0.
     pub negative: bool,
-    /// What the digits say: 0 to 2 ^ 64 - 1. None from 2 ^ 64 on, where no field has room for it.
+    /// The value of the digits, 0 to 2 ^ 64 - 1; `None` from 2 ^ 64 on, which no field can hold.
     pub magnitude: Option<u64>,
 }
 
 /// The second operand as it is written.
 #[derive(Clone, Copy, Debug, PartialEq, Eq)]
 pub enum SourceOperand {
-    /// A constant. An instruction has room for -2 ^ 31 to 2 ^ 31 - 1.
+    /// A constant. Its range in an instruction is -2 ^ 31 to 2 ^ 31 - 1.
     Number(Number),
     /// A register, as wide as the instruction.
     Reg(Reg),
@@ -30,16 +31,16 @@ pub enum SourceOperand {
 /// Where a jump leads, as it is written.
 #[derive(Clone, Copy, Debug, PartialEq, Eq)]
 pub enum JumpTarget {
-    /// How many slots from the next one. A jump has room for -2 ^ 15 to 2 ^ 15 - 1, a long jump for -2 ^ 31 to 2 ^ 31 - 1.
+    /// An offset in slots from the next slot. The range is -2 ^ 15 to 2 ^ 15 - 1, and of a long jump -2 ^ 31 to 2 ^ 31 - 1.
     Number(Number),
-    /// A label. Its name stands beside the form, in `Line::Code`.
+    /// A label. `Line::Code` has its name beside the form.
     Label,
 }
 
 /// An instruction as it is written: its numbers may be out of range, and its label unknown.
 ///
-/// `wide` tells `r` registers, of 64 bits, from `w` registers, their low halves. No line is read as a sign extension of
-/// 32 bits to a `w` register, or as a load that sign-extends a double word.
+/// `wide` is true of `r` registers (64 bits), false of `w` registers (their low 32 bits). No line is read as a sign
+/// extension of 32 bits to a `w` register, or as a load that sign-extends a double word.
 #[derive(Clone, Copy, Debug, PartialEq, Eq)]
 pub enum Form {
     /// An operator or a move, as `r0 += r10` or `w1 = -2`.
@@ -52,7 +53,7 @@ pub enum Form {
     /// A move with sign extension, as `r1 = (s32)r2`.
     Movsx {
         wide: bool,
-        bits: Narrow,
+        bits: ExtendedBits,
         dst: Reg,
         src: Reg,
     },
@@ -61,10 +62,10 @@ pub enum Form {
         wide: bool,
         dst: Reg,
     },
-    /// A change of byte order, as `r8 = le64 r8`.
+    /// A byte-order conversion, as `r8 = le64 r8`.
     End {
         how: ByteOrder,
-        bits: Bits,
+        bits: KeptBits,
         dst: Reg,
     },
     /// A jump, as `goto -1` or `goto done`.
@@ -83,28 +84,28 @@ pub enum Form {
         src: SourceOperand,
         to: JumpTarget,
     },
-    /// A call, as `call 26`. The number has room for -2 ^ 31 to 2 ^ 31 - 1.
+    /// A call, as `call 26`. The range of the number is -2 ^ 31 to 2 ^ 31 - 1.
     Call {
         id: Number,
     },
     /// `exit`.
     Exit,
-    /// A load, as `r1 = *(u32 *)(r6 + 0)`. The offset has room for -2 ^ 15 to 2 ^ 15 - 1.
+    /// A load, as `r1 = *(u32 *)(r6 + 0)`. The range of the offset is -2 ^ 15 to 2 ^ 15 - 1.
     Load {
-        size: Size,
+        size: AccessSize,
         signed: bool,
         dst: Reg,
         src: Reg,
         offset: Number,
     },
-    /// A store, as `*(u8 *)(r10 - 4) = 5`. The offset has room for -2 ^ 15 to 2 ^ 15 - 1.
+    /// A store, as `*(u8 *)(r10 - 4) = 5`. The range of the offset is -2 ^ 15 to 2 ^ 15 - 1.
     Store {
-        size: Size,
+        size: AccessSize,
         dst: Reg,
         src: SourceOperand,
         offset: Number,
     },
-    /// An atomic operation, as `lock *(u64 *)(r10 - 8) += r1`. The offset has room for -2 ^ 15 to 2 ^ 15 - 1.
+    /// An atomic operation, as `lock *(u64 *)(r10 - 8) += r1`. The range of the offset is -2 ^ 15 to 2 ^ 15 - 1.
     Atomic {
         size: AtomicSize,
         op: AtomicOp,
@@ -112,18 +113,18 @@ pub enum Form {
         src: Reg,
         offset: Number,
     },
-    /// A constant of 64 bits, as `r2 = 5 ll`: none from 2 ^ 64 on.
+    /// A 64-bit constant, as `r2 = 5 ll`; `None` from 2 ^ 64 on.
     Const {
         dst: Reg,
         value: Option<u64>,
     },
-    /// A map by its descriptor, as `r1 = map_fd 3 ll`. The number has room for -2 ^ 31 to 2 ^ 31 - 1.
+    /// A map by its descriptor, as `r1 = map_fd 3 ll`. The range of the descriptor is -2 ^ 31 to 2 ^ 31 - 1.
     MapFd {
         dst: Reg,
         fd: Number,
     },
-    /// An address in a map's value, as `r1 = map_value 3 + 4 ll`. The descriptor has room for -2 ^ 31 to 2 ^ 31 - 1, the offset
-    /// for 0 to 2 ^ 32 - 1.
+    /// An address in a map's value, as `r1 = map_value 3 + 4 ll`. The range of the descriptor is -2 ^ 31 to 2 ^ 31 - 1, that of
+    /// the offset 0 to 2 ^ 32 - 1.
     MapValue {
         dst: Reg,
         fd: Number,
@@ -131,21 +132,21 @@ pub enum Form {
     },
 }
 
-/// A place in memory, and what is moved there.
+/// A memory operand: the size of the access and whether it is written as signed, the base register, and the offset.
 #[derive(Clone, Copy, Debug, PartialEq, Eq)]
 pub(crate) struct Address {
     pub signed: bool,
-    pub size: Size,
+    pub size: AccessSize,
     pub base: Reg,
     pub offset: Number,
 }
 
-/// What a line of a text says. Names are lent from the line.
+/// A line of a text, parsed. Names are borrowed from the line.
 #[derive(Clone, Copy, Debug)]
 pub enum Line<'a> {
     /// Nothing but blanks and a comment.
     Blank,
-    /// It defines the label of this name, as `done:`.
+    /// A definition of the label of this name, as `done:`.
     Label(&'a str),
     /// An instruction, and the label that its jump names: the empty text if it names none.
     Code(Form, &'a str),
@@ -156,9 +157,9 @@ impl Form {
     ghost use Rattle.text_line.specs.Ranges.{form_fits, form_slots, resolved};
     ghost use Rattle.text_line.specs.Written.{written};
 
-    /// The instruction that is written so. Where its jump names a label, the label is `distance` slots from the next one.
+    /// The instruction of this form. A label that its jump names is taken to be `distance` slots from the next slot.
     ///
-    /// None where a number is out of its field's range.
+    /// `None` if a number is out of its field's range.
     pub fn insn(self, distance: i16) -> Option<Insn>
         requires { IsForm self }
         ensures found { IfSome result (λ insn. written insn ≡ resolved distance self) }
@@ -278,7 +279,7 @@ impl Form {
         }
     }
 
-    /// In how many slots its instruction is spelled: 2 for `Const`, `MapFd` and `MapValue`, else 1. Numbers out of range change nothing.
+    /// The number of slots of its instruction: 2 for `Const`, `MapFd` and `MapValue`, else 1, also where a number is out of range.
     pub fn slots(self) -> usize
         ensures value { result ≡ form_slots self }
         ensures bound { result ≤ 2 }
@@ -290,7 +291,7 @@ impl Form {
         }
     }
 
-    /// Whether it is a jump that names a label, and so needs the label's place.
+    /// Whether it is a jump that names a label.
     pub fn names_label(self) -> bool
         ensures { result ≡ names_label self }
     {

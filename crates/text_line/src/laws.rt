@@ -4,23 +4,23 @@ ghost use Rattle.insn_codec.specs.declared.insn.Insn.{Insn};
 ghost use Rattle.insn_codec.specs.Spelling.{IsInsn};
 ghost use Rattle.text_line.specs.Law.{OneReading, OneInsn, IsWrittenInRange, IsPrinted};
 
-/// A line is read in one way: what `read_line` says of it is the only thing that it can say.
+/// A line has one reading: that of `read_line` is the only one that the definition allows.
 pub fn one_reading()
     ensures { OneReading }
 {}
 
-/// Instructions that are written alike are the same.
+/// Instructions with the same written form are the same.
 pub fn one_instruction()
     ensures { OneInsn }
 {}
 
-/// An instruction as it is written has its numbers in their ranges, names no label, and has as many slots as its
-/// spelling. With a minus only before a negative number it is as it is printed.
+/// The written form of an instruction has its numbers in range, names no label, and has as many slots as the instruction
+/// is spelled in. To resolve labels, at any distance, leaves it unchanged.
 pub fn written_in_range()
     ensures { (insn : Insn) → IsInsn insn → IsWrittenInRange insn }
 {}
 
-/// The printed text of an instruction is one line, and this line is read as the instruction.
+/// The printed text of an instruction is one line, and that line is read as the instruction.
 pub fn printed_is_read()
     ensures { (insn : Insn) → IsInsn insn → IsPrinted insn }
 {}

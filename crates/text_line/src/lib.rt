@@ -1,4 +1,4 @@
-//! One line of a program's text: its tokens, the forms that it may have, and the instruction that it stands for.
+//! One line of a program's text: its tokens, the forms that it may have, and the instruction that it represents.
 #![tactic(auto)]
 
 mod blanks;

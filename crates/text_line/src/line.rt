@@ -1,4 +1,4 @@
-//! A line: its tokens as one of the forms.
+//! Parsing a line: its tokens as one of the forms.
 
 ghost use Rattle.std.specs.Prelude.{◌≡◌, option_map};
 ghost use Rattle.text_line.specs.inside.Shown.{shown_tokens};
@@ -14,7 +14,7 @@ use crate::parts::{
     register, symbol,
 };
 use crate::token::Token;
-use insn_codec::{AluOp, Narrow, Reg};
+use insn_codec::{AluOp, ExtendedBits, Reg};
 
 /// A conditional jump, after `if`.
 #[tactic(auto, unfolding(crate::specs::inside::Reading::parsed_jump))]
@@ -122,7 +122,7 @@ fn movsx(wide: bool, dst: Reg, tokens: &[Token<'_>]) -> Option<Form>
     let Some((src, rest)) = register(wide, rest) else {
         return None;
     };
-    if !wide && bits == Narrow::Bits32 {
+    if !wide && bits == ExtendedBits::Bits32 {
         return None;
     }
     if !ended(rest) {
@@ -154,7 +154,7 @@ fn neg(wide: bool, dst: Reg, tokens: &[Token<'_>]) -> Option<Form>
     }
 }
 
-/// A change of byte order, after `=`.
+/// A byte-order conversion, after `=`.
 #[tactic(auto, unfolding(crate::specs::inside::Reading::parsed_end))]
 fn end(dst: Reg, tokens: &[Token<'_>]) -> Option<Form>
     ensures { result ≡ parsed_end dst (shown_tokens tokens.now) }
@@ -218,7 +218,7 @@ fn map_value(dst: Reg, tokens: &[Token<'_>]) -> Option<Form>
     }
 }
 
-/// What only a wide register can be given, after `=`.
+/// What only an `r` register can be assigned, after `=`.
 #[tactic(auto, unfolding(crate::specs::inside::Reading::parsed_wide_move))]
 fn wide_move(dst: Reg, tokens: &[Token<'_>]) -> Option<Form>
     ensures { result ≡ parsed_wide_move dst (shown_tokens tokens.now) }
@@ -238,7 +238,7 @@ fn wide_move(dst: Reg, tokens: &[Token<'_>]) -> Option<Form>
     load(dst, tokens)
 }
 
-/// What is no plain operand, after `=`.
+/// A move of something other than a plain operand, after `=`.
 #[tactic(auto, unfolding(crate::specs::inside::Reading::parsed_special_move))]
 fn special_move(wide: bool, dst: Reg, tokens: &[Token<'_>]) -> Option<Form>
     ensures { result ≡ parsed_special_move wide dst (shown_tokens tokens.now) }
@@ -252,7 +252,7 @@ fn special_move(wide: bool, dst: Reg, tokens: &[Token<'_>]) -> Option<Form>
     if wide { wide_move(dst, tokens) } else { None }
 }
 
-/// An operator and one operand.
+/// The operand of an operator, with nothing after it.
 #[tactic(auto, unfolding(crate::specs::inside::Reading::parsed_alu))]
 fn alu(wide: bool, op: AluOp, dst: Reg, tokens: &[Token<'_>]) -> Option<Form>
     ensures { result ≡ parsed_alu wide op dst (shown_tokens tokens.now) }
@@ -273,7 +273,7 @@ fn is_move(op: AluOp) -> bool
     matches!(op, AluOp::Mov)
 }
 
-/// What follows the register that is written.
+/// An operator and what follows it, after the destination register.
 #[tactic(auto, unfolding(crate::specs::inside::Reading::parsed_assignment))]
 fn assignment(wide: bool, dst: Reg, tokens: &[Token<'_>]) -> Option<Form>
     ensures { result ≡ parsed_assignment wide dst (shown_tokens tokens.now) }
@@ -376,7 +376,7 @@ fn label<'a>(tokens: &[Token<'a>]) -> Option<&'a str>
     if ended(rest) { Some(name) } else { None }
 }
 
-/// The line of these tokens, if they are one of the forms.
+/// The line of these tokens; `None` if they have none of the forms.
 #[tactic(auto, unfolding(crate::specs::inside::Reading::line_of))]
 pub(crate) fn line_of<'a>(tokens: &[Token<'a>]) -> Option<Line<'a>>
     ensures { option_map seen_line result ≡ line_of (shown_tokens tokens.now) }

@@ -1,9 +1,11 @@
-//! Names and symbols, as they are read.
+//! The meanings of names and symbols.
 
 ghost use Rattle.std.specs.Prelude.{◌≡◌};
 ghost use Rattle.text_line.specs.inside.Reading.{named, operators, conditions, orders, narrows, sizes, atomic_operators, atomic_size_of, registers};
 
-use insn_codec::{AluOp, AtomicOp, AtomicSize, Bits, ByteOrder, Condition, Narrow, Reg, Size};
+use insn_codec::{
+    AccessSize, AluOp, AtomicOp, AtomicSize, ByteOrder, Condition, ExtendedBits, KeptBits, Reg,
+};
 
 pub(crate) fn operator(symbol: &str) -> Option<AluOp>
     ensures { result ≡ named operators symbol.now }
@@ -46,46 +48,46 @@ pub(crate) fn condition(symbol: &str) -> Option<Condition>
     }
 }
 
-pub(crate) fn byte_order(name: &str) -> Option<(ByteOrder, Bits)>
+pub(crate) fn byte_order(name: &str) -> Option<(ByteOrder, KeptBits)>
     ensures { result ≡ named orders name.now }
 {
     match name {
-        "le16" => Some((ByteOrder::Little, Bits::Bits16)),
-        "le32" => Some((ByteOrder::Little, Bits::Bits32)),
-        "le64" => Some((ByteOrder::Little, Bits::Bits64)),
-        "be16" => Some((ByteOrder::Big, Bits::Bits16)),
-        "be32" => Some((ByteOrder::Big, Bits::Bits32)),
-        "be64" => Some((ByteOrder::Big, Bits::Bits64)),
-        "bswap16" => Some((ByteOrder::Swap, Bits::Bits16)),
-        "bswap32" => Some((ByteOrder::Swap, Bits::Bits32)),
-        "bswap64" => Some((ByteOrder::Swap, Bits::Bits64)),
+        "le16" => Some((ByteOrder::Little, KeptBits::Bits16)),
+        "le32" => Some((ByteOrder::Little, KeptBits::Bits32)),
+        "le64" => Some((ByteOrder::Little, KeptBits::Bits64)),
+        "be16" => Some((ByteOrder::Big, KeptBits::Bits16)),
+        "be32" => Some((ByteOrder::Big, KeptBits::Bits32)),
+        "be64" => Some((ByteOrder::Big, KeptBits::Bits64)),
+        "bswap16" => Some((ByteOrder::Swap, KeptBits::Bits16)),
+        "bswap32" => Some((ByteOrder::Swap, KeptBits::Bits32)),
+        "bswap64" => Some((ByteOrder::Swap, KeptBits::Bits64)),
         _ => None,
     }
 }
 
-pub(crate) fn narrow(name: &str) -> Option<Narrow>
+pub(crate) fn narrow(name: &str) -> Option<ExtendedBits>
     ensures { result ≡ named narrows name.now }
 {
     match name {
-        "s8" => Some(Narrow::Bits8),
-        "s16" => Some(Narrow::Bits16),
-        "s32" => Some(Narrow::Bits32),
+        "s8" => Some(ExtendedBits::Bits8),
+        "s16" => Some(ExtendedBits::Bits16),
+        "s32" => Some(ExtendedBits::Bits32),
         _ => None,
     }
 }
 
-/// Whether it is signed, and the size.
-pub(crate) fn size(name: &str) -> Option<(bool, Size)>
+/// Whether the size is signed, and the size.
+pub(crate) fn size(name: &str) -> Option<(bool, AccessSize)>
     ensures { result ≡ named sizes name.now }
 {
     match name {
-        "u8" => Some((false, Size::Byte)),
-        "u16" => Some((false, Size::Half)),
-        "u32" => Some((false, Size::Word)),
-        "u64" => Some((false, Size::Double)),
-        "s8" => Some((true, Size::Byte)),
-        "s16" => Some((true, Size::Half)),
-        "s32" => Some((true, Size::Word)),
+        "u8" => Some((false, AccessSize::Byte)),
+        "u16" => Some((false, AccessSize::Half)),
+        "u32" => Some((false, AccessSize::Word)),
+        "u64" => Some((false, AccessSize::Double)),
+        "s8" => Some((true, AccessSize::Byte)),
+        "s16" => Some((true, AccessSize::Half)),
+        "s32" => Some((true, AccessSize::Word)),
         _ => None,
     }
 }
@@ -102,18 +104,19 @@ pub(crate) fn atomic_operator(symbol: &str) -> Option<AtomicOp>
     }
 }
 
-/// The size of an atomic operation at a place that is written so: none is signed or narrow (RFC 9669, section 5.3).
-pub(crate) fn atomic_size(signed: bool, size: Size) -> Option<AtomicSize>
+/// The size of an atomic operation whose memory operand has this size; `None` if it is signed or below 4 bytes (RFC 9669,
+/// section 5.3).
+pub(crate) fn atomic_size(signed: bool, size: AccessSize) -> Option<AtomicSize>
     ensures { result ≡ atomic_size_of signed size }
 {
     match (signed, size) {
-        (false, Size::Word) => Some(AtomicSize::Word),
-        (false, Size::Double) => Some(AtomicSize::Double),
+        (false, AccessSize::Word) => Some(AtomicSize::Word),
+        (false, AccessSize::Double) => Some(AtomicSize::Double),
         _ => None,
     }
 }
 
-/// Whether it is a register's 64 bits, and the register.
+/// Whether the name is that of all 64 bits (`r`) or of the low 32 (`w`), and the register.
 pub(crate) fn register_named(name: &str) -> Option<(bool, Reg)>
     ensures { result ≡ named registers name.now }
 {

@@ -1,4 +1,4 @@
-//! Parts of a line: what the tokens at the front are, and the tokens after it.
+//! Parsers of parts of a line. Each returns the part at the front of the tokens, and the tokens after it.
 
 ghost use Rattle.std.specs.Prelude.{◌≡◌};
 ghost use Rattle.text_line.specs.inside.Shown.{shown_tokens};
@@ -38,7 +38,7 @@ pub(crate) fn number<'t, 'a>(tokens: &'t [Token<'a>]) -> Option<(Option<u64>, &'
     }
 }
 
-/// The tokens after this symbol.
+/// The tokens after the symbol `expected`.
 #[tactic(auto, unfolding(crate::specs::inside::Reading::after_symbol))]
 pub(crate) fn after_symbol<'t, 'a>(
     tokens: &'t [Token<'a>],
@@ -50,7 +50,7 @@ pub(crate) fn after_symbol<'t, 'a>(
     if found == expected { Some(rest) } else { None }
 }
 
-/// The tokens after this name.
+/// The tokens after the name `expected`.
 #[tactic(auto, unfolding(crate::specs::inside::Reading::after_word))]
 pub(crate) fn after_word<'t, 'a>(tokens: &'t [Token<'a>], expected: &str) -> Option<&'t [Token<'a>]>
     ensures { seen result ≡ after_word expected.now (shown_tokens tokens.now) }
@@ -61,7 +61,7 @@ pub(crate) fn after_word<'t, 'a>(tokens: &'t [Token<'a>], expected: &str) -> Opt
 
 // ---- parts of a line
 
-/// A register, 64 bits wide or its low half.
+/// A register: `r` if `wide`, else `w`.
 #[tactic(auto, unfolding(crate::specs::inside::Reading::leading_register))]
 pub(crate) fn register<'t, 'a>(
     wide: bool,
@@ -78,7 +78,7 @@ pub(crate) fn register<'t, 'a>(
     }
 }
 
-/// A number, behind a minus where there is one.
+/// A number with an optional minus.
 #[tactic(auto, unfolding(crate::specs::inside::Reading::leading_constant))]
 pub(crate) fn constant<'t, 'a>(tokens: &'t [Token<'a>]) -> Option<(Number, &'t [Token<'a>])>
     ensures { seen_pair result ≡ leading_constant (shown_tokens tokens.now) }
@@ -107,7 +107,7 @@ pub(crate) fn constant<'t, 'a>(tokens: &'t [Token<'a>]) -> Option<(Number, &'t [
     }
 }
 
-/// A number behind its sign.
+/// A number with its sign, `+` or `-`.
 #[tactic(auto, unfolding(crate::specs::inside::Reading::leading_signed_number))]
 pub(crate) fn signed<'t, 'a>(tokens: &'t [Token<'a>]) -> Option<(Number, &'t [Token<'a>])>
     ensures { seen_pair result ≡ leading_signed_number (shown_tokens tokens.now) }
@@ -164,7 +164,7 @@ pub(crate) fn ended(tokens: &[Token<'_>]) -> bool
     }
 }
 
-/// Where a jump leads, and the label's name if it names one. Nothing follows it.
+/// The target of a jump, and the label's name, empty if it names no label. No token may follow.
 #[tactic(auto, unfolding(crate::specs::inside::Reading::parsed_destination))]
 pub(crate) fn destination<'a>(tokens: &[Token<'a>]) -> Option<(JumpTarget, &'a str)>
     ensures { seen_destination result ≡ parsed_destination (shown_tokens tokens.now) }
@@ -184,7 +184,7 @@ pub(crate) fn destination<'a>(tokens: &[Token<'a>]) -> Option<(JumpTarget, &'a s
     }
 }
 
-/// A place in memory.
+/// A memory operand, as `*(u32 *)(r6 + 0)`.
 #[tactic(auto, unfolding(crate::specs::inside::Reading::leading_address))]
 pub(crate) fn address<'t, 'a>(tokens: &'t [Token<'a>]) -> Option<(Address, &'t [Token<'a>])>
     ensures { seen_pair result ≡ leading_address (shown_tokens tokens.now) }

@@ -1,4 +1,4 @@
-//! Lines, as they are read.
+//! Reading a line.
 
 ghost use Rattle.std.specs.Prelude.{option_map, IfOk};
 ghost use Rattle.text_line.specs.Line.{ReadAs};
@@ -9,14 +9,14 @@ use crate::line::line_of;
 use crate::token::tokens;
 use std::alloc::{AllocError, Global};
 
-/// What one line of a text says. The line is given without its line feed.
+/// Parses one line of a text, given without its line feed.
 ///
-/// `None` where the line is none of the forms, where something before its comment is no token, or where a byte is not
-/// ASCII, in its comment too. A number out of its field's range is no such case: the form keeps it.
+/// `None` if the line has none of the forms, if something before its comment is no token, or if a byte is not ASCII, even in
+/// its comment. A number out of its field's range is no reason for `None`: the form keeps it.
 ///
 /// # Errors
 ///
-/// `AllocError` where memory for the line's tokens was refused. Nothing is kept then.
+/// `AllocError`: out of memory for the line's tokens. Nothing is kept then.
 pub fn read_line<'a>(alloc: Global, line: &'a str) -> Result<Option<Line<'a>>, AllocError>
     ensures { IfOk result (λ found. ReadAs line.now (option_map seen_line found)) }
 {

@@ -18,7 +18,7 @@ use std::alloc::{AllocError, Global};
 #[derive(Clone, Copy, Debug)]
 pub(crate) enum Token<'a> {
     Name(&'a str),
-    /// A number's value: none from 2 ^ 64 on.
+    /// A number's value; `None` from 2 ^ 64 on.
     Number(Option<u64>),
     Symbol(&'a str),
 }
@@ -29,7 +29,7 @@ const SYMBOLS: [&str; 31] = [
     "&=", "%=", "^=", "==", ">=", "!=", "<=", "=", ">", "<", "&", "+", "-", "*", "(", ")", ":",
 ];
 
-/// How many bytes the longest symbol at the front has, or 0.
+/// The length of the longest symbol at the front, or 0.
 #[tactic(auto, unfolding(crate::specs::inside::Tokens::symbol_at))]
 fn symbol_len(text: &[u8]) -> usize
     ensures bound { result ≤ length text.now }
@@ -38,7 +38,7 @@ fn symbol_len(text: &[u8]) -> usize
     first_len(text, &SYMBOLS)
 }
 
-/// How many bytes the first of the symbols has with which the text begins, or 0.
+/// The length of the first of `symbols` with which `text` begins, or 0.
 fn first_len(text: &[u8], symbols: &[&str]) -> usize
     ensures bound { result ≤ length text.now }
     ensures value { result ≡ option_map_or length
@@ -52,7 +52,7 @@ fn first_len(text: &[u8], symbols: &[&str]) -> usize
     0
 }
 
-/// The bytes that a name or a number is made of.
+/// The classes of bytes in blanks, names and numbers.
 #[derive(Clone, Copy, Debug)]
 enum ByteClass {
     Blank,
@@ -75,7 +75,7 @@ impl ByteClass {
         }
     }
 
-    /// How many bytes at the front are of this class.
+    /// The number of bytes at the front that are of this class.
     fn run_len(self, text: &[u8]) -> usize
         ensures value { result ≡ prefix_len (in_class self) text.now }
         ensures bound { result ≤ length text.now }
@@ -170,7 +170,7 @@ fn number(text: &str) -> Option<(Token<'_>, &str)>
     None
 }
 
-/// The number that the digits at the front write, and the text after them.
+/// The number whose digits, of this class and radix, stand at the front, and the text after them.
 fn value(text: &str, class: ByteClass, radix: u32) -> (Token<'_>, &str)
     requires ascii { IsAscii text.now }
     requires digits { IsDigits class radix }
@@ -202,14 +202,15 @@ fn first_token(text: &str) -> Option<(Token<'_>, &str)>
     number(text)
 }
 
-/// Whether nothing but a comment is left.
+/// Whether the rest of the line is empty or a comment.
 fn is_over(text: &[u8]) -> bool
     ensures { result ≡ is_over text.now }
 {
     text.is_empty() || text.starts_with(b"//")
 }
 
-/// The tokens of a line, or none where something on it is no token.
+/// The tokens of a line; `None` if something before its comment is no token, or a byte is not ASCII. `AllocError`: out of
+/// memory.
 pub(crate) fn tokens<'a>(alloc: Global, line: &'a str) -> Result<Option<Vec<Token<'a>>>, AllocError>
     ensures found { IfOk result (λ o. IfSome o (λ ts. IsTokens line.now (shown_tokens ts.items))) }
     ensures none { IfOk result (λ o. IfNone o ((ts : List AnyToken) → ¬ IsTokens line.now ts)) }

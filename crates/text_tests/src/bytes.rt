@@ -1,4 +1,4 @@
-//! Cases whose text is bytes: hex digits, which blanks may part.
+//! Cases whose text is bytes: hex digits, which blanks may separate.
 
 use crate::notation::{shown, text_of, times, written};
 use crate::refusal::Refusal;
@@ -8,7 +8,7 @@ use insn_codec::{FaultKind, Insn, Program, decode, encode, read_program};
 use std::alloc::{AllocError, Global};
 use std::fmt::Write;
 
-/// The bytes of a slot.
+/// The length of a slot in bytes.
 const SLOT: usize = 8;
 
 /// The bytes of hex digits.
@@ -25,7 +25,7 @@ pub fn grouped(alloc: Global, bytes: &[u8]) -> Result<String, AllocError> {
     hex_groups(alloc, bytes, SLOT)
 }
 
-/// An instruction, in how many slots it is spelled, and how it is written.
+/// An instruction, the number of its slots, and its bytes as they are encoded.
 fn encoded(alloc: Global, insn: &Insn, slots: usize) -> Result<String, AllocError> {
     let mut out = [0; 16];
     let length = encode(insn, &mut out);
@@ -33,7 +33,7 @@ fn encoded(alloc: Global, insn: &Insn, slots: usize) -> Result<String, AllocErro
     format!(in alloc; "{insn:?} in {slots}: {written}")
 }
 
-/// `codec`: the instruction at the front, and how it is written.
+/// `codec`: the instruction at the front, and its bytes as they are encoded.
 pub fn decoded(alloc: Global, text: &str) -> Result<String, Refusal> {
     let bytes = bytes_of(alloc, text)?;
     match &decode(&bytes) {
@@ -62,7 +62,7 @@ fn insns_of(alloc: Global, program: &Program) -> Result<Vec<Insn>, AllocError> {
     Ok(insns)
 }
 
-/// Adds what begins at a slot.
+/// Appends what begins at a slot.
 fn append_place(text: &mut String, program: &Program, slot: usize) -> Result<(), AllocError> {
     if slot != 0 {
         text.push_str("; ")?;
@@ -73,7 +73,7 @@ fn append_place(text: &mut String, program: &Program, slot: usize) -> Result<(),
     }
 }
 
-/// `places`: what begins at each slot and behind the last one, in a copy of the program that is made of the instructions.
+/// `places`: what begins at each slot and after the last one, in a copy of the program that is made of the instructions.
 pub fn places(alloc: Global, text: &str) -> Result<String, Refusal> {
     let bytes = bytes_of(alloc, text)?;
     let program = read_program(alloc, &bytes)?;
@@ -86,7 +86,7 @@ pub fn places(alloc: Global, text: &str) -> Result<String, Refusal> {
     Ok(answer)
 }
 
-/// `exits`: how many slots a program of so many exits has.
+/// `exits`: the number of slots of a program of this number of exits.
 pub fn made_of_exits(alloc: Global, digits: &str) -> Result<String, Refusal> {
     let exits = vec![in alloc; Insn::Exit; times(digits)? as usize]?;
     let program = Program::new(alloc, &exits)?;
@@ -95,7 +95,7 @@ pub fn made_of_exits(alloc: Global, digits: &str) -> Result<String, Refusal> {
     Ok(answer)
 }
 
-/// Whether a slot of this opcode and zeros has another fault than its opcode, or none.
+/// Whether a slot of this opcode and zeros has no fault, or another one than its opcode.
 fn is_known(opcode: u8) -> bool {
     let mut bytes = [0; 16];
     bytes[0] = opcode;

@@ -7,7 +7,7 @@ use crate::texts::{assembled, printed, read_hex_lines};
 use case_lines::{first_word, is_remark};
 use std::alloc::{AllocError, Global};
 
-/// What a case gives: its first word says what is done with the rest of the line.
+/// The outcome of a case: its first word says what is done with the rest of the line.
 fn outcome(alloc: Global, case: &str) -> Result<String, Refusal> {
     let (word, rest) = first_word(case);
     match word {

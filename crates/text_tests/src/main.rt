@@ -1,5 +1,5 @@
 //! Worked cases of instructions and programs, as bytes and as text. Each line of the input is a case, and a line of the
-//! output answers it. An empty line and one that begins with `#` are written as they stand.
+//! output answers it. An empty line and one that begins with `#` are written unchanged.
 #![tactic(auto)]
 
 mod arguments;

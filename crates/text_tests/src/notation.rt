@@ -1,15 +1,15 @@
-//! How the lines of a case write texts: `;` is a line feed, `\xHH` the byte with these two hex digits, and `{COUNT*PART}`
-//! the part so many times, where each `#` in the part is how many times came before.
+//! The notation of texts in a case: `;` is a line feed, `\xHH` the byte with these two hex digits, and `{COUNT*PART}` the
+//! part `COUNT` times, where each `#` in the part is the number of times before.
 
 use crate::refusal::Refusal;
 use hex::FromHex;
 use std::alloc::{AllocError, Global};
 use std::fmt::Write;
 
-/// The most times that a part is written.
+/// The greatest number of times that a part is repeated.
 const MOST_TIMES: u32 = 1_048_576;
 
-/// How many times a part is written, from decimal digits.
+/// The number of times that a part is repeated, from decimal digits.
 pub fn times(digits: &str) -> Result<u32, Refusal> {
     match digits.parse::<u32>() {
         Ok(times) if times <= MOST_TIMES => Ok(times),
@@ -17,7 +17,7 @@ pub fn times(digits: &str) -> Result<u32, Refusal> {
     }
 }
 
-/// Adds the characters of a text without escapes.
+/// Appends the characters of a text without escapes.
 fn append_characters(bytes: &mut Vec<u8>, text: &str) -> Result<(), AllocError> {
     for byte in text.bytes() {
         bytes.push(if byte == b';' { b'\n' } else { byte })?;
@@ -25,7 +25,7 @@ fn append_characters(bytes: &mut Vec<u8>, text: &str) -> Result<(), AllocError> 
     Ok(())
 }
 
-/// Adds the byte with the two hex digits at the front, and the characters after them.
+/// Appends the byte with the two hex digits at the front, and the characters after them.
 fn append_escaped(bytes: &mut Vec<u8>, text: &str) -> Result<(), Refusal> {
     let (digits, rest) = text.split_at_checked(2).ok_or(Refusal::Notation)?;
     let byte = <[u8; 1] as FromHex>::from_hex(digits)?;
@@ -34,7 +34,7 @@ fn append_escaped(bytes: &mut Vec<u8>, text: &str) -> Result<(), Refusal> {
     Ok(())
 }
 
-/// Adds what a text without repetitions writes.
+/// Appends the bytes of a text without repetitions.
 fn append_text(bytes: &mut Vec<u8>, text: &str) -> Result<(), Refusal> {
     for (index, piece) in text.split("\\x").enumerate() {
         if index == 0 {
@@ -46,7 +46,7 @@ fn append_text(bytes: &mut Vec<u8>, text: &str) -> Result<(), Refusal> {
     Ok(())
 }
 
-/// Adds a part once, with a number in place of each `#`.
+/// Appends a part once, with a number in place of each `#`.
 fn append_numbered(bytes: &mut Vec<u8>, part: &[u8], digits: &str) -> Result<(), AllocError> {
     for byte in part {
         if *byte == b'#' {
@@ -58,7 +58,7 @@ fn append_numbered(bytes: &mut Vec<u8>, part: &[u8], digits: &str) -> Result<(),
     Ok(())
 }
 
-/// Adds a part so many times.
+/// Appends a part a number of times.
 fn append_times(
     alloc: Global,
     bytes: &mut Vec<u8>,
@@ -72,7 +72,7 @@ fn append_times(
     Ok(())
 }
 
-/// Adds what a repetition and the text after it write; the repetition's first brace is left out.
+/// Appends the bytes of a repetition, given without its first brace, and of the text after it.
 fn append_repeated(alloc: Global, bytes: &mut Vec<u8>, text: &str) -> Result<(), Refusal> {
     let (repetition, rest) = text.split_once('}').ok_or(Refusal::Notation)?;
     let (digits, part) = repetition.split_once('*').ok_or(Refusal::Notation)?;
@@ -82,7 +82,7 @@ fn append_repeated(alloc: Global, bytes: &mut Vec<u8>, text: &str) -> Result<(),
     append_text(bytes, rest)
 }
 
-/// The bytes that a text writes.
+/// The bytes of a text in this notation.
 pub fn written(alloc: Global, text: &str) -> Result<Vec<u8>, Refusal> {
     let mut bytes = Vec::new(alloc);
     for (index, piece) in text.split('{').enumerate() {
@@ -95,12 +95,12 @@ pub fn written(alloc: Global, text: &str) -> Result<Vec<u8>, Refusal> {
     Ok(bytes)
 }
 
-/// The text that the bytes are.
+/// The bytes as text.
 pub fn text_of(bytes: &[u8]) -> Result<&str, Refusal> {
     str::from_utf8(bytes).map_err(|_| Refusal::NoText)
 }
 
-/// Adds lines that are equal: one as it stands, more as a repetition.
+/// Appends equal lines: one unchanged, more as a repetition.
 fn append_lines(alloc: Global, shown: &mut String, lines: &[&str]) -> Result<(), AllocError> {
     let line = lines.first().copied().unwrap_or("");
     let line = line.replace(alloc, '\n', ";")?;
@@ -110,7 +110,7 @@ fn append_lines(alloc: Global, shown: &mut String, lines: &[&str]) -> Result<(),
     }
 }
 
-/// How a text is written on one line.
+/// A text in this notation, on one line.
 pub fn shown(alloc: Global, text: &str) -> Result<String, AllocError> {
     let lines: Vec<&str> = text.split_inclusive('\n').collect(alloc)?;
     let mut shown = String::new(alloc);

@@ -19,13 +19,13 @@ pub enum Refusal {
     /// The bytes are not UTF-8.
     #[error("no text")]
     NoText,
-    /// What is printed of a program is read as another one.
+    /// The printed text of a program is read as another program.
     #[error("another program")]
     AnotherProgram,
     /// The word names no map.
     #[error(transparent)]
     Shape(#[from] BadShape),
-    /// The case is not written as it has to be.
+    /// The notation of the case is wrong.
     #[error("wrong notation")]
     Notation,
     /// No case begins with this word.

@@ -7,7 +7,7 @@ use bpf_text::{assemble, disassemble, from_hex_lines, hex_lines};
 use insn_codec::{Program, write_program};
 use std::alloc::Global;
 
-/// The program that a text is.
+/// Assembles the program of a text.
 fn program_of(alloc: Global, text: &str) -> Result<Program, Refusal> {
     let text = written(alloc, text)?;
     let program = assemble(alloc, text_of(&text)?)?;
@@ -22,7 +22,7 @@ pub fn assembled(alloc: Global, text: &str) -> Result<String, Refusal> {
     Ok(answer)
 }
 
-/// `round`: how the program is printed, where it is read again as the same program.
+/// `round`: the printed text of the program, if it is read again as the same program.
 pub fn printed(alloc: Global, text: &str) -> Result<String, Refusal> {
     let program = program_of(alloc, text)?;
     let text = disassemble(alloc, &program)?;

@@ -6,9 +6,9 @@ use Rattle.words.specs.declared.operator.Operator.TheVariants as on_words
 use Rattle.words.specs.declared.operator.Operator.{Operator}
 use Rattle.interval.specs.Ranges.{constant}
 use Rattle.words.specs.Operate.{operate, byte_order}
-use Rattle.insn_codec.specs.declared.insn.AluOp.{AluOp}
-use Rattle.insn_codec.specs.declared.insn.Condition.{Condition}
-use Rattle.insn_codec.specs.declared.insn.Size.{Size}
+use Rattle.words.specs.declared.operator.AluOp.{AluOp}
+use Rattle.words.specs.declared.operator.Condition.{Condition}
+use Rattle.words.specs.declared.stack.AccessSize.{AccessSize}
 use Rattle.insn_codec.specs.declared.insn.Operand.{Operand}
 use Rattle.insn_codec.specs.declared.insn.Load.{Load as LoadInsn}
 use Rattle.insn_codec.specs.declared.insn.AtomicSize.{AtomicSize}
@@ -35,7 +35,8 @@ use Rattle.tagged_model.specs.declared.value.Tagged.{Tagged}
 use Rattle.tagged_model.specs.declared.value.Object.TheVariants as object
 use Rattle.tagged_model.specs.declared.value.Tagged.TheVariants.{Scalar, Map, Pointer}
 use Rattle.tagged_model.specs.Table.{has_direct_value, direct_object}
-use Rattle.tagged_model.specs.Operators.{width, narrow_of, order_of, kept_of, size_of, atomic_size}
+use Rattle.words.specs.Widths.{width}
+use Rattle.insn_codec.specs.Atomic.{access_size}
 use Rattle.tagged_model.specs.Cells.{and_then}
 use Rattle.tagged_model.specs.Values.{arithmetic, first_operand, of_number, compared}
 use Rattle.tagged_model.specs.State.{RunState, load, store}
@@ -97,22 +98,22 @@ module _ (laws : Laws) (here : Here) (refused : Bool) (f : Facts) (s : RunState)
   load_covered : (l : LoadInsn) → Covered (Load l)
   load_covered l =
       then_covered Next (IsFound here (s.registers l.src)) _ _ _ _ (register_found here f s is_known l.src)
-      (λ k v h. left_in l.dst (load_kind here.shapes f (size_of l.size) l.signed l.off k) (load s (size_of l.size) l.signed v l.off) (load_agrees here f s is_known laws.accesses (size_of l.size) l.signed l.off k v h.kind))
+      (λ k v h. left_in l.dst (load_kind here.shapes f l.size l.signed l.off k) (load s l.size l.signed v l.off) (load_agrees here f s is_known laws.accesses l.size l.signed l.off k v h.kind))
 
   stored_covered : (g : Facts) (t : RunState) → IsStored here s g t → IsCoveredIf Next (falls g) (goes (advanced 1 t))
   stored_covered g t h = subst (λ n. IsCoveredIf (OnFalling here (n + 1)) (falls g) (goes (advanced 1 t))) h.at (goes_to here g t (t.at + 1) h.known)
 
-  store_covered : (size : Size) (dst : ℕ) (src : Operand) (off : ℤ) → Covered (Store size dst src off)
+  store_covered : (size : AccessSize) (dst : ℕ) (src : Operand) (off : ℤ) → Covered (Store size dst src off)
   store_covered size dst src off =
       then_covered Next (IsFound here (s.registers dst)) _ _ _ _ (register_found here f s is_known dst)
       (λ k p h. then_covered Next (IsFound here (operand_value s true src)) _ _ _ _ (source_found here f s is_known true src)
-      (λ l v g. then_covered Next (IsStored here s) (store_facts here.shapes f (size_of size) off k l) (store s (size_of size) p off v) falls (λ t. goes (advanced 1 t)) (store_agrees here f s is_known laws.accesses (size_of size) off k l p v h.kind g.kind g.readable) stored_covered))
+      (λ l v g. then_covered Next (IsStored here s) (store_facts here.shapes f size off k l) (store s size p off v) falls (λ t. goes (advanced 1 t)) (store_agrees here f s is_known laws.accesses size off k l p v h.kind g.kind g.readable) stored_covered))
 
   change_covered : (size : AtomicSize) (op : AtomicOp) (dst src : ℕ) (off : ℤ) → Covered (Atomic size op dst src off)
   change_covered size op dst src off =
       then_covered Next (IsFound here (s.registers dst)) _ _ _ _ (register_found here f s is_known dst)
       (λ k p h. then_covered Next (IsFound here (s.registers src)) _ _ _ _ (register_found here f s is_known src)
-      (λ l v g. then_covered Next (IsStored here s) (changed_facts here.shapes f (atomic_size size) off k l) (changed s size op p off v) falls (λ t. goes (advanced 1 t)) (changed_agrees here f s is_known laws.accesses laws.results size op off k l p v h.kind g.kind) stored_covered))
+      (λ l v g. then_covered Next (IsStored here s) (changed_facts here.shapes f (access_size size) off k l) (changed s size op p off v) falls (λ t. goes (advanced 1 t)) (changed_agrees here f s is_known laws.accesses laws.results size op off k l p v h.kind g.kind) stored_covered))
 
   -- ---- jumps, and the end
 
@@ -147,7 +148,7 @@ module _ (laws : Laws) (here : Here) (refused : Bool) (f : Facts) (s : RunState)
       subst (λ o. IsCoveredIf (OnFalling here (s.at + 2)) (assigns f dst (Ok (kind.MapRef m))) (or_fault o (λ t. assigned 2 s dst (Map m)))) (sym h.1)
       (assigned_covered here f s 2 dst (kind.MapRef m) (Map m) is_known (record { is = refl; words = tt }))
 
-  -- a value that is loaded directly: of each map so many objects are told as it has had
+  -- a load of a direct value, where the witness has the number of objects of each map
   value_covered : (dst m offset : ℕ) (o : Option MapShape) → here.shapes m ≡ o → IsCoveredIf (OnFalling here (s.at + 2)) (assigns f dst (value_of m offset o)) (or_fault (s.maps m) (λ t. or_fault (direct_object t.table offset) (λ number. assigned 2 s dst (Pointer (object.Value m number) (pos offset)))))
   unfolding value_of
   value_covered dst m offset None e = tt
@@ -183,9 +184,9 @@ module _ (laws : Laws) (here : Here) (refused : Bool) (f : Facts) (s : RunState)
 
   insn_covered : (i : Insn) → IsInsn i → IsSome (jumps_to i s.at) → Covered i
   insn_covered (Alu wide op dst src) is there = alu_covered wide op dst src
-  insn_covered (Movsx m) is there = one_covered m.wide (on_words.SignExtend (narrow_of m.bits)) m.dst m.src (λ n. operate (width m.wide) (on_words.SignExtend (narrow_of m.bits)) 0 n) (λ n. refl)
+  insn_covered (Movsx m) is there = one_covered m.wide (on_words.SignExtend m.bits) m.dst m.src (λ n. operate (width m.wide) (on_words.SignExtend m.bits) 0 n) (λ n. refl)
   insn_covered (Neg wide dst) is there = one_covered wide on_words.Neg dst dst (λ n. operate (width wide) on_words.Neg n 0) (λ n. refl)
-  insn_covered (End how kept dst) is there = one_covered true (on_words.End (order_of how) (kept_of kept)) dst dst (byte_order (order_of how) (kept_of kept)) (λ n. refl)
+  insn_covered (End how kept dst) is there = one_covered true (on_words.End how kept) dst dst (byte_order how kept) (λ n. refl)
   insn_covered (Ja off) is there = jump_covered here (natural (pos (s.at + 1) +ℤ off)) (record { falling = None; jumping = Some f }) s there is_known
   insn_covered (Jal off) is there = jump_covered here (natural (pos (s.at + 1) +ℤ off)) (record { falling = None; jumping = Some f }) s there is_known
   insn_covered (Jump wide cond dst src off) is there = branches_covered wide cond dst src off there

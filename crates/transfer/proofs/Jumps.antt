@@ -11,8 +11,8 @@ use Rattle.words.specs.Words.{unsigned}
 use Rattle.words.specs.Compare.{compares}
 use Rattle.interval.specs.Refine.{RangePair, refined, IsPairOn}
 use Rattle.interval.specs.Laws.{EdgesKeepMembers, EdgesAreWords, IsPairOfWords}
-use Rattle.insn_codec.specs.declared.insn.Condition.{Condition}
-use Rattle.insn_codec.specs.declared.insn.Condition.TheVariants as condition
+use Rattle.words.specs.declared.operator.Condition.{Condition}
+use Rattle.words.specs.declared.operator.Condition.TheVariants as condition
 use Rattle.insn_codec.specs.declared.insn.Operand.{Operand}
 use Rattle.insn_codec.specs.declared.insn.Operand.TheVariants.{Imm, Reg}
 use Rattle.reg_kinds.specs.declared.kind.Kind.{Kind}
@@ -24,7 +24,7 @@ use Rattle.reg_kinds.specs.Settle.{facts_settled}
 use Rattle.tagged_model.specs.declared.value.Object.TheVariants as object
 use Rattle.tagged_model.specs.declared.value.Tagged.{Tagged}
 use Rattle.tagged_model.specs.declared.value.Tagged.TheVariants.{Scalar, Pointer}
-use Rattle.tagged_model.specs.Operators.{width, comparison_of}
+use Rattle.words.specs.Widths.{width}
 use Rattle.tagged_model.specs.Values.{is_null_test, holds_of_pointers, compared}
 use Rattle.tagged_model.specs.State.{RunState, at_slot}
 use Rattle.tagged_model.specs.Step.{goes, or_fault, operand_value, branched}
@@ -38,7 +38,7 @@ use Rattle.transfer.proofs.States.{scalar_of, known_more, goes_to}
 use Rattle.transfer.proofs.Values.{by_number}
 use Rattle.transfer.proofs.Words.{settled_words}
 
--- what is told of comparisons of words, and of tests of look-ups
+-- laws of comparisons of words, and of tests of look-ups
 pub record Comparisons : Type 0 where
   pub members_wide : EdgesKeepMembers 64
   pub members_narrow : EdgesKeepMembers 32
@@ -96,12 +96,12 @@ module _ (here : Here) (laws : Comparisons) (f : Facts) (s : RunState) (known : 
     pair_known None m h = m
     pair_known (Some p) m h = source_known _ src p.1 second m.1 h.1 (known_more here f s known dst (kind.Scalar p.0) (Scalar x) first (scalar_of here p.0 x m.0 h.0))
 
-    numbers_covered : (a b : Range) → a.hi < 2 ^ 64 → b.hi < 2 ^ 64 → IsMember x a → IsMember y b → Covered (number_edges wide cond f dst src a b) (compares (width wide) (comparison_of cond) x y)
+    numbers_covered : (a b : Range) → a.hi < 2 ^ 64 → b.hi < 2 ^ 64 → IsMember x a → IsMember y b → Covered (number_edges wide cond f dst src a b) (compares (width wide) cond x y)
     numbers_covered a b ah bh m n =
-        let taken = compares (width wide) (comparison_of cond) x y in
-        let edges = refined (width wide) (comparison_of cond) a b in
-        let keep = members laws wide (comparison_of cond) a b x y ah bh m n in
-        let are = words laws wide (comparison_of cond) a b ah bh in
+        let taken = compares (width wide) cond x y in
+        let edges = refined (width wide) cond a b in
+        let keep = members laws wide cond a b x y ah bh m n in
+        let are = words laws wide cond a b ah bh in
         let both : Edges = record { falling = Some f; jumping = Some f } in
         let each : Edges = record { falling = option_map (with_pair f dst src) edges.1; jumping = option_map (with_pair f dst src) edges.0 } in
         cond_both (is_same dst src) both each (λ e. Covered e taken)

@@ -27,7 +27,7 @@ use Rattle.tagged_model.specs.declared.value.Tagged.{Tagged}
 use Rattle.tagged_model.specs.declared.value.Tagged.TheVariants.{Scalar}
 use Rattle.tagged_model.specs.Cells.{and_then, number_from, write_cell}
 use Rattle.tagged_model.specs.State.{RunState, with_cell, stack_place, stack_load, stack_store, word_at, context_load, object_bytes, object_stored, load, store}
-use Rattle.tagged_model.specs.Operators.{atomic_operator, atomic_size, is_wide_atomic}
+use Rattle.insn_codec.specs.Atomic.{atomic_operator, is_wide_atomic, access_size}
 use Rattle.tagged_model.specs.Values.{of_numbers}
 use Rattle.tagged_model.specs.Step.{changed}
 use Rattle.tagged_model.specs.Laws.{StackReadAdmits, StackWriteAdmits, ValueLoadAdmits, ValueStoreAdmits}
@@ -220,11 +220,11 @@ module _ (here : Here) (f : Facts) (s : RunState) (known : IsKnown here f s) whe
             cond_both (is_known_multiple p off size) (Ok f) (Err UnalignedAtomic) (λ q. Agree (IsStored here s) q (and_then found (made_from put))) (λ _. in_room r found loads) (λ _. tt)
 
   pub changed_agrees : Accesses → Results → (size : AtomicSize) (op : AtomicOp) (off : ℤ) (k l : Kind) (p v : Tagged) → IsKindOf here k p → IsKindOf here l v
-      → Agree (IsStored here s) (changed_facts here.shapes f (atomic_size size) off k l) (changed s size op p off v)
+      → Agree (IsStored here s) (changed_facts here.shapes f (access_size size) off k l) (changed s size op p off v)
   changed_agrees laws results size op off (kind.Stack x) (kind.Scalar b) p v h is =
-      subst (λ p. Agree (IsStored here s) (stack_changed f (x +ℤ off) (atomic_size size)) (changed s size op p off v)) (sym h.is)
-      (stack_changed_agrees laws results (is_wide_atomic size) (atomic_operator op) (atomic_size size) b v is (x +ℤ off))
+      subst (λ p. Agree (IsStored here s) (stack_changed f (x +ℤ off) (access_size size)) (changed s size op p off v)) (sym h.is)
+      (stack_changed_agrees laws results (is_wide_atomic size) (atomic_operator op) (access_size size) b v is (x +ℤ off))
   changed_agrees laws results size op off (kind.Value q) (kind.Scalar b) p v h is =
-      subst (λ p. Agree (IsStored here s) (value_changed f q off (atomic_size size) (here.shapes q.map)) (changed s size op p off v)) (sym h.is.2)
-      (value_changed_agrees laws results (is_wide_atomic size) (atomic_operator op) (atomic_size size) b v is off q h.is.0 h.is.1 (here.shapes q.map) refl h.is.3 h.is.4 h.is.5)
+      subst (λ p. Agree (IsStored here s) (value_changed f q off (access_size size) (here.shapes q.map)) (changed s size op p off v)) (sym h.is.2)
+      (value_changed_agrees laws results (is_wide_atomic size) (atomic_operator op) (access_size size) b v is off q h.is.0 h.is.1 (here.shapes q.map) refl h.is.3 h.is.4 h.is.5)
   changed_agrees laws results size op off k l p v h is = tt

@@ -53,7 +53,7 @@ pub by_law : {A B : Type 0} (P : A → B → Type 0) (r : Result A Reason) (o : 
 by_law P (Err e) o h = tt
 by_law P (Ok x) o h = let found = h x refl in subst (Agree P (Ok x)) (sym found.1) found.2
 
--- ---- what holds where an instruction begins: the shapes of the maps, what is told beside the facts, and the slot
+-- ---- what holds where an instruction begins: the shapes of the maps, the witness, and the slot
 pub record Here : Type 0 where
   pub shapes : Shapes
   pub witness : Witness
@@ -66,7 +66,7 @@ pub record IsKindOf (here : Here) (k : Kind) (v : Tagged) : Type 0 where
   pub is : IsOfKind here.witness k v
   pub words : IsKindAt here.slot k
 
--- where the kind is told, the value is there, and of it
+-- if there is a kind, there is a value of it
 abbrev pub Gives : Here → Result Kind Reason → Option Tagged → Type 0
 Gives here r o = Agree (IsKindOf here) r o
 

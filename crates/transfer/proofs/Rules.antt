@@ -8,9 +8,9 @@ use Rattle.words.specs.declared.operator.Operator.TheVariants as on_words
 use Rattle.words.specs.declared.stack.AccessSize.{AccessSize}
 use Rattle.words.specs.declared.stack.AccessSize.TheVariants.{Word}
 use Rattle.interval.specs.Ranges.{is_constant, full}
-use Rattle.insn_codec.specs.declared.insn.AluOp.{AluOp}
-use Rattle.insn_codec.specs.declared.insn.AluOp.TheVariants as alu
-use Rattle.insn_codec.specs.declared.insn.Condition.{Condition}
+use Rattle.words.specs.declared.operator.AluOp.{AluOp}
+use Rattle.words.specs.declared.operator.AluOp.TheVariants as alu
+use Rattle.words.specs.declared.operator.Condition.{Condition}
 use Rattle.insn_codec.specs.declared.insn.Operand.{Operand}
 use Rattle.insn_codec.specs.declared.insn.Insn.{Insn}
 use Rattle.insn_codec.specs.declared.insn.Insn.TheVariants.{Alu, Movsx, Neg, End, Ja, Jal, Jump, Call, Exit, Load, Store, Atomic, Const, MapFd, MapValue}
@@ -25,7 +25,8 @@ use Rattle.reg_kinds.specs.Reason.{and_then_ok}
 use Rattle.reg_kinds.specs.Pointers.{value_span}
 use Rattle.reg_kinds.specs.Kinds.{is_pointer, kind_at, slot_at, with_kind, with_slot}
 use Rattle.reg_kinds.specs.Stack.{touched, loaded, read_slot, stack_read, slot_written, facts_written, stack_write}
-use Rattle.tagged_model.specs.Operators.{operator_of, narrow_of, order_of, kept_of, size_of, atomic_size}
+use Rattle.words.specs.declared.operator.Operator.TheVariants.{Binary}
+use Rattle.insn_codec.specs.Atomic.{access_size}
 use Rattle.tagged_model.specs.Values.{is_null_test}
 use Rattle.tagged_model.specs.Cells.{and_then}
 use Rattle.transfer.specs.declared.arithmetic.Direction.{Direction}
@@ -36,7 +37,7 @@ use Rattle.transfer.specs.Effects.{source_kind, first_kind, assigns, is_word, co
 use Rattle.transfer.specs.Reasons.{IsSafetyReason, IsReasonOf, TransferReasons}
 use Rattle.transfer.specs.Calls.{shaped, map_kind, room_of, input_kind, output_facts, number_kind, length_kind, context_kind, any_number, call_facts}
 use Rattle.words.specs.Words.{unsigned}
-use Rattle.words.specs.Stack.{bytes_of, is_whole, is_in_stack, place, is_aligned, touches}
+use Rattle.words.specs.Stack.{bytes_of, is_double, is_in_stack, place, is_aligned, touches}
 use Rattle.reg_kinds.specs.declared.kind.ValuePointer.{ValuePointer}
 use Rattle.reg_kinds.specs.Many.{bits_in, any_below, is_touched_spill, lacks, stack_input, filled}
 use Rattle.tagged_model.specs.declared.helper.Helper.{Helper}
@@ -102,7 +103,7 @@ arithmetic_rule : (wide : Bool) (op : AluOp) (k l : Kind) → ByRule (arithmetic
 arithmetic_rule true alu.Mov k l = tt
 arithmetic_rule true alu.Add k l = unless_rule k l (sum_kind k l) (sum_rule k l)
 arithmetic_rule true alu.Sub k l = unless_rule k l (difference_kind k l) (difference_rule k l)
-arithmetic_rule wide op k l = numbers_rule wide (operator_of op) k l
+arithmetic_rule wide op k l = numbers_rule wide (Binary op) k l
 
 -- ---- memory
 
@@ -116,7 +117,7 @@ touched_rule offset size =
     (λ _. cond_both (not (is_aligned offset (bytes_of size))) _ _ ByRule (λ _. tt) (λ _. tt))
 
 read_slot_rule : (s : Slot) (bits : ℕ) (size : AccessSize) (signed : Bool) → ByRule (read_slot s bits size signed)
-read_slot_rule (Spill k) bits size signed = cond_both (is_whole size) (Ok k) (Err PartOfSpill) ByRule (λ _. tt) (λ _. tt)
+read_slot_rule (Spill k) bits size signed = cond_both (is_double size) (Ok k) (Err PartOfSpill) ByRule (λ _. tt) (λ _. tt)
 read_slot_rule (Bytes mask) bits size signed = cond_both (bit_and mask bits == bits) (Ok (loaded size signed)) (Err UnwrittenStack) ByRule (λ _. tt) (λ _. tt)
 
 read_rule : (f : Facts) (offset : ℤ) (size : AccessSize) (signed : Bool) → ByRule (stack_read f offset size signed)
@@ -136,7 +137,7 @@ load_rule shapes f size signed off k = tt
 slot_rule : (s : Slot) (bits : ℕ) (size : AccessSize) (k : Kind) → ByRule (slot_written s bits size k)
 slot_rule s bits size k =
     cond_both (is_pointer k) _ _ ByRule
-    (λ _. cond_both (is_whole size) (Ok (Spill k)) (Err PartOfSpill) ByRule (λ _. tt) (λ _. tt))
+    (λ _. cond_both (is_double size) (Ok (Spill k)) (Err PartOfSpill) ByRule (λ _. tt) (λ _. tt))
     (λ _. tt)
 
 facts_rule : (f : Facts) (size : AccessSize) (k : Kind) (t : ℕ × ℕ) → ByRule (facts_written f size k t)
@@ -262,21 +263,21 @@ module _ (shapes : Shapes) (at : ℕ) (f : Facts) where
   insn_rule (Alu wide op dst src) _ =
       then_rule (first_kind op (kind_at f dst)) _ (first_rule op (kind_at f dst))
       (λ a. operand_rule wide src _ (λ b. assigns_rule dst (arithmetic_kind wide op a b) (arithmetic_rule wide op a b)))
-  insn_rule (Movsx m) _ = one_rule m.wide (on_words.SignExtend (narrow_of m.bits)) m.dst m.src
+  insn_rule (Movsx m) _ = one_rule m.wide (on_words.SignExtend m.bits) m.dst m.src
   insn_rule (Neg wide dst) _ = one_rule wide on_words.Neg dst dst
-  insn_rule (End how kept dst) _ = one_rule true (on_words.End (order_of how) (kept_of kept)) dst dst
+  insn_rule (End how kept dst) _ = one_rule true (on_words.End how kept) dst dst
   insn_rule (Ja off) _ = tt
   insn_rule (Jal off) _ = tt
   insn_rule (Jump wide cond dst src off) _ = register_rule dst _ (λ a. operand_rule wide src _ (λ b. branch_rule wide cond f dst src a b))
   insn_rule (Call id) none = absurd none
   insn_rule Exit _ = register_rule 0 exits_with ends_rule
-  insn_rule (Load l) _ = register_rule l.src _ (λ k. assigns_rule l.dst (load_kind shapes f (size_of l.size) l.signed l.off k) (load_rule shapes f (size_of l.size) l.signed l.off k))
+  insn_rule (Load l) _ = register_rule l.src _ (λ k. assigns_rule l.dst (load_kind shapes f l.size l.signed l.off k) (load_rule shapes f l.size l.signed l.off k))
   insn_rule (Store size dst src off) _ =
       register_rule dst _ (λ k. operand_rule true src _
-      (λ v. then_rule (store_facts shapes f (size_of size) off k v) falls (store_rule shapes f (size_of size) off k v) (λ g. tt)))
+      (λ v. then_rule (store_facts shapes f size off k v) falls (store_rule shapes f size off k v) (λ g. tt)))
   insn_rule (Atomic size op dst src off) _ =
       register_rule dst _ (λ k. register_rule src _
-      (λ v. then_rule (changed_facts shapes f (atomic_size size) off k v) falls (changed_rule shapes f (atomic_size size) off k v) (λ g. tt)))
+      (λ v. then_rule (changed_facts shapes f (access_size size) off k v) falls (changed_rule shapes f (access_size size) off k v) (λ g. tt)))
   insn_rule (Const dst value) _ = tt
   insn_rule (MapFd dst fd) none = absurd none
   insn_rule (MapValue dst fd off) none = absurd none

@@ -5,8 +5,8 @@ use Rattle.std.proofs.lemmas.Bool.{cases_Bool, cond-true, cond-false, eqb-true}
 use Rattle.interval.specs.declared.range.Range.{Range}
 use Rattle.interval.specs.Ranges.{constant, IsMember}
 use Rattle.words.specs.Words.{unsigned}
-use Rattle.insn_codec.specs.declared.insn.AluOp.{AluOp}
-use Rattle.insn_codec.specs.declared.insn.AluOp.TheVariants as alu
+use Rattle.words.specs.declared.operator.AluOp.{AluOp}
+use Rattle.words.specs.declared.operator.AluOp.TheVariants as alu
 use Rattle.insn_codec.specs.declared.insn.Operand.{Operand}
 use Rattle.insn_codec.specs.declared.insn.Operand.TheVariants.{Imm, Reg}
 use Rattle.reg_kinds.specs.declared.kind.Kind.{Kind}
@@ -16,7 +16,7 @@ use Rattle.reg_kinds.specs.Kinds.{kind_at, with_kind}
 use Rattle.reg_kinds.specs.TableLaws.{in_written}
 use Rattle.tagged_model.specs.declared.value.Tagged.{Tagged}
 use Rattle.tagged_model.specs.declared.value.Tagged.TheVariants.{Scalar}
-use Rattle.tagged_model.specs.Operators.{width}
+use Rattle.words.specs.Widths.{width}
 use Rattle.tagged_model.specs.Values.{first_operand}
 use Rattle.tagged_model.specs.State.{RunState, set_at, at_slot, with_register}
 use Rattle.tagged_model.specs.Step.{operand_value, assigned}

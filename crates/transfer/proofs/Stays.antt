@@ -11,10 +11,10 @@ use Rattle.words.specs.declared.stack.AccessSize.TheVariants.{Word}
 use Rattle.interval.specs.Ranges.{is_constant, full}
 use Rattle.interval.specs.Refine.{RangePair, refined}
 use Rattle.interval.specs.Laws.{ResultsAreWords, EdgesAreWords, IsPairOfWords}
-use Rattle.insn_codec.specs.declared.insn.AluOp.{AluOp}
-use Rattle.insn_codec.specs.declared.insn.AluOp.TheVariants as alu
-use Rattle.insn_codec.specs.declared.insn.Condition.{Condition}
-use Rattle.insn_codec.specs.declared.insn.Size.{Size}
+use Rattle.words.specs.declared.operator.AluOp.{AluOp}
+use Rattle.words.specs.declared.operator.AluOp.TheVariants as alu
+use Rattle.words.specs.declared.operator.Condition.{Condition}
+use Rattle.words.specs.declared.stack.AccessSize.{AccessSize}
 use Rattle.insn_codec.specs.declared.insn.Operand.{Operand}
 use Rattle.insn_codec.specs.declared.insn.Operand.TheVariants.{Imm, Reg}
 use Rattle.insn_codec.specs.declared.insn.Load.{Load as LoadInsn}
@@ -40,7 +40,9 @@ use Rattle.tagged_model.specs.declared.shape.MapShape.{MapShape}
 use Rattle.tagged_model.specs.Named.{Shapes}
 use Rattle.tagged_model.specs.Table.{has_direct_value}
 use Rattle.tagged_model.specs.Helpers.{helper_of}
-use Rattle.tagged_model.specs.Operators.{width, operator_of, narrow_of, order_of, kept_of, comparison_of, size_of, atomic_size}
+use Rattle.words.specs.declared.operator.Operator.TheVariants.{Binary}
+use Rattle.words.specs.Widths.{width}
+use Rattle.insn_codec.specs.Atomic.{access_size}
 use Rattle.tagged_model.specs.Values.{is_null_test, holds_of_pointers}
 use Rattle.tagged_model.specs.Cells.{and_then}
 use Rattle.transfer.specs.declared.arithmetic.Direction.{Direction}
@@ -55,7 +57,7 @@ use Rattle.transfer.proofs.Parts.{OkIs, then_ok, ok_is}
 use Rattle.transfer.proofs.Words.{kind_words, loaded_words, read_words, written_words, settled_words, filled_words, called_words}
 use Rattle.transfer.proofs.States.{word_of}
 
--- what is told of the results of operators, and of the edges of comparisons
+-- laws of the results of operators, and of the edges of comparisons
 pub record WordLaws : Type 0 where
   pub results_wide : ResultsAreWords 64
   pub results_narrow : ResultsAreWords 32
@@ -114,13 +116,13 @@ module _ (bound : ℕ) (shapes : Shapes) (at : ℕ) (lt : at < bound) where
     numbers_words wide op k l h g = tt
 
     sum_words : (k l : Kind) → IsKindAt bound k → IsKindAt bound l → OkIs (IsKindAt bound) (sum_kind k l)
-    sum_words (kind.Scalar a) (kind.Scalar b) h g = numbers_words true (operator_of alu.Add) (kind.Scalar a) (kind.Scalar b) h g
+    sum_words (kind.Scalar a) (kind.Scalar b) h g = numbers_words true (Binary alu.Add) (kind.Scalar a) (kind.Scalar b) h g
     sum_words (kind.Scalar a) l h g = moved_words Forwards l a
     sum_words k (kind.Scalar b) h g = moved_words Forwards k b
     sum_words k l h g = tt
 
     difference_words : (k l : Kind) → IsKindAt bound k → IsKindAt bound l → OkIs (IsKindAt bound) (difference_kind k l)
-    difference_words (kind.Scalar a) (kind.Scalar b) h g = numbers_words true (operator_of alu.Sub) (kind.Scalar a) (kind.Scalar b) h g
+    difference_words (kind.Scalar a) (kind.Scalar b) h g = numbers_words true (Binary alu.Sub) (kind.Scalar a) (kind.Scalar b) h g
     difference_words (kind.Scalar a) l h g = tt
     difference_words k (kind.Scalar b) h g = moved_words Backwards k b
     difference_words k l h g = tt
@@ -132,7 +134,7 @@ module _ (bound : ℕ) (shapes : Shapes) (at : ℕ) (lt : at < bound) where
     arithmetic_words true alu.Mov k l h g = g
     arithmetic_words true alu.Add k l h g = unless_words k l (sum_kind k l) (sum_words k l h g)
     arithmetic_words true alu.Sub k l h g = unless_words k l (difference_kind k l) (difference_words k l h g)
-    arithmetic_words wide op k l h g = numbers_words wide (operator_of op) k l h g
+    arithmetic_words wide op k l h g = numbers_words wide (Binary op) k l h g
 
   -- ---- memory
 
@@ -224,8 +226,8 @@ module _ (bound : ℕ) (shapes : Shapes) (at : ℕ) (lt : at < bound) where
 
     number_words : (wide : Bool) (cond : Condition) (dst : ℕ) (src : Operand) (a b : Range) → a.hi < 2 ^ 64 → b.hi < 2 ^ 64 → AreFactsBoth (number_edges wide cond f dst src a b)
     number_words wide cond dst src a b small too =
-        let edges = refined (width wide) (comparison_of cond) a b in
-        let are = refined_words laws wide (comparison_of cond) a b small too in
+        let edges = refined (width wide) cond a b in
+        let are = refined_words laws wide cond a b small too in
         let both : Edges = record { falling = Some f; jumping = Some f } in
         let each : Edges = record { falling = option_map (with_pair f dst src) edges.1; jumping = option_map (with_pair f dst src) edges.0 } in
         cond_both (is_same dst src) both each AreFactsBoth (λ _. (h, h)) (λ _. (pair_words dst src edges.1 are.1, pair_words dst src edges.0 are.0))
@@ -274,23 +276,23 @@ module _ (bound : ℕ) (shapes : Shapes) (at : ℕ) (lt : at < bound) where
         register_words dst _ (λ a small. operand_words wide src _ (λ b too. branch_words wide cond dst src a b small too))
 
     loads_words : (l : LoadInsn) → OkIs AreFactsBoth (effect shapes at (Load l) f)
-    loads_words l = register_words l.src _ (λ k _. assigns_words l.dst (load_kind shapes f (size_of l.size) l.signed l.off k) (load_words f (size_of l.size) l.signed l.off k h))
+    loads_words l = register_words l.src _ (λ k _. assigns_words l.dst (load_kind shapes f l.size l.signed l.off k) (load_words f l.size l.signed l.off k h))
 
-    stores_words : (size : Size) (dst : ℕ) (src : Operand) (off : ℤ) → OkIs AreFactsBoth (effect shapes at (Store size dst src off) f)
+    stores_words : (size : AccessSize) (dst : ℕ) (src : Operand) (off : ℤ) → OkIs AreFactsBoth (effect shapes at (Store size dst src off) f)
     stores_words size dst src off =
         register_words dst _ (λ k _. operand_words true src _
-        (λ v small. then_ok (AreWellFormedAt bound) AreFactsBoth (store_facts shapes f (size_of size) off k v) falls (store_words f (size_of size) off k v h small) falls_words))
+        (λ v small. then_ok (AreWellFormedAt bound) AreFactsBoth (store_facts shapes f size off k v) falls (store_words f size off k v h small) falls_words))
 
     changes_words : (size : AtomicSize) (op : AtomicOp) (dst src : ℕ) (off : ℤ) → OkIs AreFactsBoth (effect shapes at (Atomic size op dst src off) f)
     changes_words size op dst src off =
         register_words dst _ (λ k _. register_words src _
-        (λ v _. then_ok (AreWellFormedAt bound) AreFactsBoth (changed_facts shapes f (atomic_size size) off k v) falls (changed_words f (atomic_size size) off k v h) falls_words))
+        (λ v _. then_ok (AreWellFormedAt bound) AreFactsBoth (changed_facts shapes f (access_size size) off k v) falls (changed_words f (access_size size) off k v h) falls_words))
 
     insn_words : (i : Insn) → IsInsn i → OkIs AreFactsBoth (effect shapes at i f)
     insn_words (Alu wide op dst src) is = alu_words wide op dst src
-    insn_words (Movsx m) is = one_words m.wide (on_words.SignExtend (narrow_of m.bits)) m.dst m.src
+    insn_words (Movsx m) is = one_words m.wide (on_words.SignExtend m.bits) m.dst m.src
     insn_words (Neg wide dst) is = one_words wide on_words.Neg dst dst
-    insn_words (End how kept dst) is = one_words true (on_words.End (order_of how) (kept_of kept)) dst dst
+    insn_words (End how kept dst) is = one_words true (on_words.End how kept) dst dst
     insn_words (Ja off) is = (tt, h)
     insn_words (Jal off) is = (tt, h)
     insn_words (Jump wide cond dst src off) is = jump_words wide cond dst src off

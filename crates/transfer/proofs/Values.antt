@@ -1,23 +1,23 @@
--- Operators: where the kind of the result is told, the machine gives a value of it.
+-- Operators: if the result has a kind, the machine gives a value of that kind.
 use Rattle.std.proofs.Common.{◌≡◌, ℕ, ◌<◌, ◌^◌, Bool, true, false, Option, Some, Result, Err, refl, sym, subst, arith}
 use Rattle.std.specs.Prelude.{◌||◌}
 use Rattle.std.proofs.lemmas.Bool.{cond_both}
 use Rattle.interval.specs.declared.range.Range.{Range}
 use Rattle.words.specs.declared.operator.Operator.{Operator}
-use Rattle.words.specs.declared.operator.Operator.TheVariants.{Add, Sub}
+use Rattle.words.specs.declared.operator.Operator.TheVariants.{Binary}
 use Rattle.interval.specs.Ranges.{full, IsMember}
 use Rattle.words.specs.Operate.{operate}
 use Rattle.interval.specs.Table.{range_of}
 use Rattle.interval.specs.Laws.{ResultsAreMembers, ResultsAreWords}
-use Rattle.insn_codec.specs.declared.insn.AluOp.{AluOp}
-use Rattle.insn_codec.specs.declared.insn.AluOp.TheVariants as alu
+use Rattle.words.specs.declared.operator.AluOp.{AluOp}
+use Rattle.words.specs.declared.operator.AluOp.TheVariants as alu
 use Rattle.reg_kinds.specs.declared.kind.Kind.{Kind}
 use Rattle.reg_kinds.specs.declared.kind.Kind.TheVariants as kind
 use Rattle.reg_kinds.specs.declared.reason.Reason.{Reason}
 use Rattle.reg_kinds.specs.declared.reason.Reason.TheVariants.{MaybeNull}
 use Rattle.tagged_model.specs.declared.value.Tagged.{Tagged}
 use Rattle.tagged_model.specs.declared.value.Tagged.TheVariants.{Scalar}
-use Rattle.tagged_model.specs.Operators.{width, operator_of}
+use Rattle.words.specs.Widths.{width}
 use Rattle.tagged_model.specs.Values.{of_numbers, sum, difference, arithmetic, of_number}
 use Rattle.tagged_model.specs.Admits.{IsOfKind}
 use Rattle.transfer.specs.declared.arithmetic.Direction.TheVariants.{Forwards, Backwards}
@@ -26,7 +26,7 @@ use Rattle.transfer.proofs.Parts.{Here, Gives, IsKindOf}
 use Rattle.transfer.proofs.States.{scalar_of}
 use Rattle.transfer.proofs.Pointers.{stack_agrees, value_agrees}
 
--- what is told of the results of operators on words
+-- laws of the results of operators on words
 pub record Results : Type 0 where
   pub members_wide : ResultsAreMembers 64
   pub members_narrow : ResultsAreMembers 32
@@ -82,7 +82,7 @@ module _ (here : Here) (laws : Results) where
 
   sum_agrees : (k l : Kind) (v w : Tagged) → IsKindOf here k v → IsKindOf here l w → Gives here (sum_kind k l) (sum v w)
   sum_agrees (kind.Scalar a) (kind.Scalar b) v w h g =
-      by_numbers here a b v w (λ v w. Gives here (sum_kind (kind.Scalar a) (kind.Scalar b)) (sum v w)) h.is g.is (λ m n x y. result_of true Add a b m n h.words g.words x y)
+      by_numbers here a b v w (λ v w. Gives here (sum_kind (kind.Scalar a) (kind.Scalar b)) (sum v w)) h.is g.is (λ m n x y. result_of true (Binary alu.Add) a b m n h.words g.words x y)
   sum_agrees (kind.Scalar a) (kind.Stack x) v w h g =
       by_number here a v (λ v. Gives here (sum_kind (kind.Scalar a) (kind.Stack x)) (sum v w)) h.is
       (λ n m. subst (λ w. Gives here (sum_kind (kind.Scalar a) (kind.Stack x)) (sum (Scalar n) w)) (sym g.is) (stack_agrees here Forwards x a n m))
@@ -103,7 +103,7 @@ module _ (here : Here) (laws : Results) where
 
   difference_agrees : (k l : Kind) (v w : Tagged) → IsKindOf here k v → IsKindOf here l w → Gives here (difference_kind k l) (difference v w)
   difference_agrees (kind.Scalar a) (kind.Scalar b) v w h g =
-      by_numbers here a b v w (λ v w. Gives here (difference_kind (kind.Scalar a) (kind.Scalar b)) (difference v w)) h.is g.is (λ m n x y. result_of true Sub a b m n h.words g.words x y)
+      by_numbers here a b v w (λ v w. Gives here (difference_kind (kind.Scalar a) (kind.Scalar b)) (difference v w)) h.is g.is (λ m n x y. result_of true (Binary alu.Sub) a b m n h.words g.words x y)
   difference_agrees (kind.Stack x) (kind.Scalar b) v w h g =
       by_number here b w (λ w. Gives here (difference_kind (kind.Stack x) (kind.Scalar b)) (difference v w)) g.is
       (λ n m. subst (λ v. Gives here (difference_kind (kind.Stack x) (kind.Scalar b)) (difference v (Scalar n))) (sym h.is) (stack_agrees here Backwards x b n m))
@@ -125,4 +125,4 @@ module _ (here : Here) (laws : Results) where
   arithmetic_agrees true alu.Mov k l v w h g = g
   arithmetic_agrees true alu.Add k l v w h g = unless_agrees k l (sum_kind k l) (sum v w) (sum_agrees k l v w h g)
   arithmetic_agrees true alu.Sub k l v w h g = unless_agrees k l (difference_kind k l) (difference v w) (difference_agrees k l v w h g)
-  arithmetic_agrees wide op k l v w h g = numbers_agree wide (operator_of op) k l v w h g
+  arithmetic_agrees wide op k l v w h g = numbers_agree wide (Binary op) k l v w h g

@@ -11,7 +11,7 @@ use Rattle.reg_kinds.specs.declared.kind.Slot.TheVariants.{Bytes, Spill}
 use Rattle.reg_kinds.specs.declared.facts.Facts.{Facts}
 use Rattle.words.specs.declared.stack.AccessSize.{AccessSize}
 use Rattle.words.specs.declared.stack.AccessSize.TheVariants.{Byte, Half, Word, Double}
-use Rattle.words.specs.Stack.{bytes_of, is_whole, is_in_stack, place, is_aligned, touches}
+use Rattle.words.specs.Stack.{bytes_of, is_double, is_in_stack, place, is_aligned, touches}
 use Rattle.reg_kinds.specs.declared.reason.Reason.TheVariants.{OutsideStack, UnwrittenStack, PartOfSpill}
 use Rattle.reg_kinds.specs.Kinds.{is_pointer, kind_at, slot_at, with_kind, with_slot}
 use Rattle.reg_kinds.specs.Stack.{byte_bits, touched, loaded, read_slot, stack_read, bytes_over, slot_written, facts_written, stack_write}
@@ -63,7 +63,7 @@ module _ (bound : ℕ) where
   loaded_words Double false = omega arith
 
   slot_read : (t : Slot) (bits : ℕ) (size : AccessSize) (signed : Bool) → IsSlotAt bound t → OkIs (IsKindAt bound) (read_slot t bits size signed)
-  slot_read (Spill k) bits size signed h = cond_both (is_whole size) (Ok k) (Err PartOfSpill) (OkIs (IsKindAt bound)) (λ _. h) (λ _. tt)
+  slot_read (Spill k) bits size signed h = cond_both (is_double size) (Ok k) (Err PartOfSpill) (OkIs (IsKindAt bound)) (λ _. h) (λ _. tt)
   slot_read (Bytes mask) bits size signed h =
       cond_both (bit_and mask bits == bits) (Ok (loaded size signed)) (Err UnwrittenStack) (OkIs (IsKindAt bound)) (λ _. loaded_words size signed) (λ _. tt)
 
@@ -80,7 +80,7 @@ module _ (bound : ℕ) where
   written_slot : (t : Slot) (bits : ℕ) (size : AccessSize) (k : Kind) → bits < 256 → IsSlotAt bound t → IsKindAt bound k → OkIs (IsSlotAt bound) (slot_written t bits size k)
   written_slot t bits size k small h is =
       cond_both (is_pointer k) _ _ (OkIs (IsSlotAt bound))
-      (λ _. cond_both (is_whole size) (Ok (Spill k)) (Err PartOfSpill) (OkIs (IsSlotAt bound)) (λ _. is) (λ _. tt))
+      (λ _. cond_both (is_double size) (Ok (Spill k)) (Err PartOfSpill) (OkIs (IsSlotAt bound)) (λ _. is) (λ _. tt))
       (λ _. over_words t bits small h)
 
   module _ (f : Facts) (h : AreWellFormedAt bound f) where

@@ -1,12 +1,12 @@
--- What an operator leaves in its destination: a number in the range of its results, or a pointer that is moved. The
--- operators are those of RFC 9669, section 4.1; the rules are this project's own.
+-- The kind that an operator leaves in its destination: a number in the range of its results, or a moved pointer. The operators are
+-- those of RFC 9669, section 4.1; the rules are this project's own.
 use Rattle.std.specs.Prelude.{ℕ, ◌^◌, ℤ, pos, ◌+ℤ◌, ◌-ℤ◌, Bool, true, false, ◌||◌, nat_lt, nat_le, if◌then◌else◌, Option, Some, None, Result, Ok, Err}
 use Rattle.interval.specs.declared.range.Range.{Range}
 use Rattle.words.specs.declared.operator.Operator.{Operator}
 use Rattle.interval.specs.Ranges.{is_constant}
 use Rattle.interval.specs.Table.{range_of}
-use Rattle.insn_codec.specs.declared.insn.AluOp.{AluOp}
-use Rattle.insn_codec.specs.declared.insn.AluOp.TheVariants as alu
+use Rattle.words.specs.declared.operator.AluOp.{AluOp}
+use Rattle.words.specs.declared.operator.AluOp.TheVariants as alu
 use Rattle.reg_kinds.specs.declared.kind.ValuePointer.{ValuePointer}
 use Rattle.reg_kinds.specs.declared.kind.Kind.{Kind}
 use Rattle.reg_kinds.specs.declared.kind.Kind.TheVariants.{Unreadable, Scalar, Stack, Value, MaybeValue}
@@ -16,16 +16,17 @@ use Rattle.reg_kinds.specs.declared.reason.Reason.{Reason}
 use Rattle.reg_kinds.specs.declared.reason.Reason.TheVariants.{UnreadableRegister, PointerArithmetic, OffsetTooLarge, MaybeNull}
 use Rattle.reg_kinds.specs.Reason.{and_then_ok}
 use Rattle.reg_kinds.specs.Pointers.{value_span}
-use Rattle.tagged_model.specs.Operators.{width, operator_of}
+use Rattle.words.specs.declared.operator.Operator.TheVariants.{Binary}
+use Rattle.words.specs.Widths.{width}
 use Rattle.tagged_model.specs.Values.{is_near}
 use Rattle.tagged_model.specs.Cells.{and_then}
 
--- a value that may be read
+-- a kind that may be read
 abbrev pub check_readable : Kind → Result Kind Reason
 check_readable Unreadable = Err UnreadableRegister
 check_readable k = Ok k
 
--- ---- how far a number moves a pointer: its range, read as signed, if all of it has one sign
+-- ---- the distance by which a number moves a pointer: its range, read as signed; None unless all of it has one sign
 
 abbrev pub Distance : Type 0
 Distance = ℤ × ℤ
@@ -35,7 +36,7 @@ distance r =
     if nat_lt r.hi (2 ^ 63) then Some (pos r.lo, pos r.hi) else
     (if nat_le (2 ^ 63) r.lo then Some (pos r.lo -ℤ pos (2 ^ 64), pos r.hi -ℤ pos (2 ^ 64)) else None)
 
--- ---- pointers that are moved, forwards by a sum and backwards by a difference
+-- ---- moved pointers: forwards by a sum, backwards by a difference
 
 abbrev pub near_offset : ℤ → Option ℤ
 near_offset x = if is_near x then Some x else None
@@ -44,7 +45,7 @@ abbrev pub moved_offset : Direction → ℤ → ℤ → Option ℤ
 moved_offset Forwards x d = near_offset (x +ℤ d)
 moved_offset Backwards x d = near_offset (x -ℤ d)
 
--- what may be absent, and then is too far
+-- the result if there is one; else it is too far
 abbrev pub near : {A : Type 0} → Option A → Result A Reason
 near None = Err OffsetTooLarge
 near (Some x) = Ok x
@@ -63,7 +64,7 @@ value_by Backwards p d = spanned p.map (moved_offset Backwards p.lo d.1) (moved_
 abbrev pub value_moved : Direction → ValuePointer → Range → Result Kind Reason
 value_moved way p r = and_then_ok (near (and_then (distance r) (value_by way p))) (λ q. Ok (Value q))
 
--- a pointer into the stack is moved by a constant, one into a value by any number; no other pointer is moved
+-- a stack pointer is moved by a constant, a pointer into a value by any number, no other pointer
 abbrev pub pointer_moved : Direction → Kind → Range → Result Kind Reason
 pointer_moved way (Stack x) r = if is_constant r then stack_moved way x r else Err PointerArithmetic
 pointer_moved way (Value p) r = value_moved way p r
@@ -75,19 +76,19 @@ abbrev pub is_maybe : Kind → Bool
 is_maybe (MaybeValue m site) = true
 is_maybe k = false
 
--- two numbers
+-- an operator of two numbers
 abbrev pub of_scalars : Bool → Operator → Kind → Kind → Result Kind Reason
 of_scalars wide op (Scalar a) (Scalar b) = Ok (Scalar (range_of (width wide) op a b))
 of_scalars wide op a b = Err PointerArithmetic
 
 abbrev pub sum_kind : Kind → Kind → Result Kind Reason
-sum_kind (Scalar a) (Scalar b) = of_scalars true (operator_of alu.Add) (Scalar a) (Scalar b)
+sum_kind (Scalar a) (Scalar b) = of_scalars true (Binary alu.Add) (Scalar a) (Scalar b)
 sum_kind (Scalar a) b = pointer_moved Forwards b a
 sum_kind a (Scalar b) = pointer_moved Forwards a b
 sum_kind a b = Err PointerArithmetic
 
 abbrev pub difference_kind : Kind → Kind → Result Kind Reason
-difference_kind (Scalar a) (Scalar b) = of_scalars true (operator_of alu.Sub) (Scalar a) (Scalar b)
+difference_kind (Scalar a) (Scalar b) = of_scalars true (Binary alu.Sub) (Scalar a) (Scalar b)
 difference_kind (Scalar a) b = Err PointerArithmetic
 difference_kind a (Scalar b) = pointer_moved Backwards a b
 difference_kind a b = Err PointerArithmetic
@@ -96,12 +97,12 @@ difference_kind a b = Err PointerArithmetic
 abbrev pub unless_maybe : Kind → Kind → Result Kind Reason → Result Kind Reason
 unless_maybe a b r = if is_maybe a || is_maybe b then Err MaybeNull else r
 
--- a move of 64 bits copies any value; sums and differences of 64 bits move pointers; all else is done with numbers
+-- a 64-bit move copies any value; 64-bit sums and differences move pointers; all else is for numbers alone
 abbrev pub arithmetic_kind : Bool → AluOp → Kind → Kind → Result Kind Reason
 arithmetic_kind true alu.Mov a b = Ok b
 arithmetic_kind true alu.Add a b = unless_maybe a b (sum_kind a b)
 arithmetic_kind true alu.Sub a b = unless_maybe a b (difference_kind a b)
-arithmetic_kind wide op a b = of_scalars wide (operator_of op) a b
+arithmetic_kind wide op a b = of_scalars wide (Binary op) a b
 
 -- an operator of one number
 abbrev pub of_scalar : Bool → Operator → Kind → Result Kind Reason

@@ -1,9 +1,9 @@
--- What is known on the two edges of a conditional jump. The comparisons are those of RFC 9669, section 4.3; the rules
--- are this project's own.
+-- The facts on the two edges of a conditional jump. The comparisons are those of RFC 9669, section 4.3;
+-- the rules are this project's own.
 use Rattle.std.specs.Prelude.{ℕ, ◌==◌, Bool, true, false, not, if◌then◌else◌, Option, Some, None, option_map, Result, Ok, Err}
 use Rattle.interval.specs.declared.range.Range.{Range}
 use Rattle.interval.specs.Refine.{RangePair, refined}
-use Rattle.insn_codec.specs.declared.insn.Condition.{Condition}
+use Rattle.words.specs.declared.operator.Condition.{Condition}
 use Rattle.insn_codec.specs.declared.insn.Operand.{Operand}
 use Rattle.insn_codec.specs.declared.insn.Operand.TheVariants.{Imm, Reg}
 use Rattle.reg_kinds.specs.declared.kind.Kind.{Kind}
@@ -13,10 +13,10 @@ use Rattle.reg_kinds.specs.declared.reason.Reason.{Reason}
 use Rattle.reg_kinds.specs.declared.reason.Reason.TheVariants.{PointerComparison}
 use Rattle.reg_kinds.specs.Kinds.{with_kind}
 use Rattle.reg_kinds.specs.Settle.{facts_settled}
-use Rattle.tagged_model.specs.Operators.{width, comparison_of}
+use Rattle.words.specs.Widths.{width}
 use Rattle.tagged_model.specs.Values.{is_null_test, holds_of_pointers}
 
--- the facts on each edge out of an instruction, where the edge is there and can be taken
+-- the facts on each edge out of an instruction; None if there is no such edge, or it can't be taken
 pub record Edges : Type 0 where
   pub falling : Option Facts
   pub jumping : Option Facts
@@ -29,7 +29,7 @@ ends = Ok (record { falling = None; jumping = None })
 
 -- ---- numbers
 
--- the constant has no register
+-- the facts with a range for the second operand, if that is a register
 abbrev pub with_source : Facts → Operand → Range → Facts
 with_source f (Imm z) r = f
 with_source f (Reg n) r = with_kind f n (Scalar r)
@@ -37,7 +37,7 @@ with_source f (Reg n) r = with_kind f n (Scalar r)
 abbrev pub with_pair : Facts → ℕ → Operand → RangePair → Facts
 with_pair f dst src p = with_source (with_kind f dst (Scalar p.0)) src p.1
 
--- a register that is compared with itself tells nothing
+-- a comparison of a register with itself refines nothing
 abbrev pub is_same : ℕ → Operand → Bool
 is_same dst (Imm z) = false
 is_same dst (Reg n) = n == dst
@@ -46,13 +46,13 @@ abbrev pub number_edges : Bool → Condition → Facts → ℕ → Operand → R
 number_edges wide cond f dst src a b =
     if is_same dst src then record { falling = Some f; jumping = Some f } else
     record {
-      falling = option_map (with_pair f dst src) (refined (width wide) (comparison_of cond) a b).1;
-      jumping = option_map (with_pair f dst src) (refined (width wide) (comparison_of cond) a b).0;
+      falling = option_map (with_pair f dst src) (refined (width wide) cond a b).1;
+      jumping = option_map (with_pair f dst src) (refined (width wide) cond a b).0;
     }
 
 -- ---- tests of pointers for null
 
--- the edges by whether the test jumps on null, with the facts where the pointer is null, and where it is not
+-- the edges of a test that jumps on null, or on not null, from the facts for each case
 abbrev pub null_edges : Bool → Option Facts → Option Facts → Edges
 null_edges true null value = record { falling = value; jumping = null }
 null_edges false null value = record { falling = null; jumping = value }
@@ -66,7 +66,7 @@ abbrev pub pointer_edges : Condition → Facts → Kind → Edges
 pointer_edges cond f (MaybeValue m site) = settled_edges (not (holds_of_pointers cond)) site f
 pointer_edges cond f k = null_edges (not (holds_of_pointers cond)) None (Some f)
 
--- ---- both
+-- ---- numbers and pointers
 
 abbrev pub branch_edges : Bool → Condition → Facts → ℕ → Operand → Kind → Kind → Result Edges Reason
 branch_edges wide cond f dst src (Scalar a) (Scalar b) = Ok (number_edges wide cond f dst src a b)

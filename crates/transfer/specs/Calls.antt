@@ -1,5 +1,5 @@
--- What a call asks of the facts, and what it leaves. The conditions are tried in the order in which they stand. The
--- arguments are those of linux/bpf.h (bpf_func_id); the rules are this project's own.
+-- The conditions of a call on the facts, and the facts after it. The conditions are tried in the order in which they are written.
+-- The arguments are those of linux/bpf.h (bpf_func_id); the rules are this project's own.
 use Rattle.std.specs.Prelude.{ℕ, ◌^◌, ◌==◌, ℤ, pos, ◌+ℤ◌, int_le, nat_le, ◌&&◌, ◌||◌, if◌then◌else◌, Option, Some, None, Result, Ok, Err}
 use Rattle.interval.specs.declared.range.Range.{Range}
 use Rattle.interval.specs.Ranges.{full}
@@ -27,7 +27,7 @@ abbrev pub map_kind : Shapes → Kind → Result ShapedMap Reason
 map_kind shapes (kind.MapRef m) = shaped m (shapes m)
 map_kind shapes k = Err HelperArgument
 
--- n bytes from so far behind each offset of a pointer lie in a value
+-- n bytes, `off` bytes from each offset of a pointer, lie in the value
 abbrev pub room_of : ValuePointer → ℤ → ℕ → Option MapShape → Result (Unit {0}) Reason
 room_of p off n None = Err OutsideValue
 room_of p off n (Some shape) = if int_le (pos 0) (p.lo +ℤ off) && int_le ((p.hi +ℤ off) +ℤ pos n) (pos shape.value_size) then Ok tt else Err OutsideValue
@@ -38,7 +38,7 @@ input_kind shapes f n (kind.Value p) = room_of p (pos 0) n (shapes p.map)
 input_kind shapes f n (kind.MaybeValue m site) = Err MaybeNull
 input_kind shapes f n k = Err HelperArgument
 
--- lo to hi bytes are written
+-- the facts after a write of r.lo to r.hi bytes
 abbrev pub output_facts : Shapes → Facts → Range → Kind → Result Facts Reason
 output_facts shapes f r (kind.Stack x) = stack_filled f x r.lo r.hi
 output_facts shapes f r (kind.Value p) = and_then_ok (room_of p (pos 0) r.hi (shapes p.map)) (λ _. Ok f)
@@ -57,7 +57,7 @@ abbrev pub context_kind : Kind → Result (Unit {0}) Reason
 context_kind kind.Ctx = Ok tt
 context_kind k = Err HelperArgument
 
--- registers from 1 on that may be read
+-- the kinds of the first registers from 1 on, if all may be read
 abbrev pub readable_two : Facts → (Kind → Kind → Result Facts Reason) → Result Facts Reason
 readable_two f go = and_then_ok (check_readable (kind_at f 1)) (λ a. and_then_ok (check_readable (kind_at f 2)) (λ b. go a b))
 
@@ -67,7 +67,7 @@ readable_four f go = readable_two f (λ a b. and_then_ok (check_readable (kind_a
 abbrev pub any_number : Kind
 any_number = kind.Scalar (full 64)
 
--- a call at a slot
+-- the facts after a call at a slot
 abbrev pub call_facts : Shapes → ℕ → Helper → Facts → Result Facts Reason
 call_facts shapes at LookUp f =
     readable_two f (λ a b. and_then_ok (map_kind shapes a) (λ m. and_then_ok (input_kind shapes f m.shape.key_size b) (λ _.

@@ -1,5 +1,5 @@
--- The facts on the edges out of an instruction, from those before it; or why the instruction may not be run. The
--- conditions are tried in the order in which they stand. The rules and their order are this project's own.
+-- The transfer function: the facts on the edges out of an instruction, from those before it; or why the instruction may not be run.
+-- The conditions are tried in the order in which they are written. The rules and their order are this project's own.
 use Rattle.std.specs.Prelude.{ℕ, ◌*◌, ◌%◌, ℤ, pos, negsuc, ◌+ℤ◌, ◌==◌, unsigned_abs, Bool, true, false, ◌&&◌, nat_lt, if◌then◌else◌, Option, Some, None, Result, Ok, Err}
 use Rattle.std.specs.Ordering.{int_eq}
 use Rattle.words.specs.declared.operator.Operator.TheVariants as on_words
@@ -8,8 +8,8 @@ use Rattle.words.specs.declared.stack.AccessSize.TheVariants.{Word}
 use Rattle.interval.specs.Ranges.{constant, full}
 use Rattle.words.specs.Words.{unsigned}
 use Rattle.words.specs.Stack.{bytes_of}
-use Rattle.insn_codec.specs.declared.insn.AluOp.{AluOp}
-use Rattle.insn_codec.specs.declared.insn.AluOp.TheVariants as alu
+use Rattle.words.specs.declared.operator.AluOp.{AluOp}
+use Rattle.words.specs.declared.operator.AluOp.TheVariants as alu
 use Rattle.insn_codec.specs.declared.insn.Operand.{Operand}
 use Rattle.insn_codec.specs.declared.insn.Operand.TheVariants.{Imm, Reg}
 use Rattle.insn_codec.specs.declared.insn.Insn.{Insn}
@@ -29,7 +29,8 @@ use Rattle.tagged_model.specs.declared.shape.MapShape.{MapShape}
 use Rattle.tagged_model.specs.Helpers.{helper_of}
 use Rattle.tagged_model.specs.Named.{Shapes}
 use Rattle.tagged_model.specs.Table.{has_direct_value}
-use Rattle.tagged_model.specs.Operators.{width, narrow_of, order_of, kept_of, size_of, atomic_size}
+use Rattle.words.specs.Widths.{width}
+use Rattle.insn_codec.specs.Atomic.{access_size}
 use Rattle.tagged_model.specs.State.{context_words}
 use Rattle.transfer.specs.Arithmetic.{check_readable, arithmetic_kind, of_scalar}
 use Rattle.transfer.specs.Branches.{Edges, falls, ends, branch_edges}
@@ -37,17 +38,17 @@ use Rattle.transfer.specs.Calls.{room_of, any_number, call_facts}
 
 -- ---- operands
 
--- a constant is read modulo 2 ^ n
+-- the second operand: a constant, modulo 2 ^ n, or a register
 abbrev pub source_kind : Facts → Bool → Operand → Kind
 source_kind f wide (Imm z) = kind.Scalar (constant (unsigned (width wide) z))
 source_kind f wide (Reg r) = kind_at f r
 
--- a move does not read its destination
+-- the first operand, which a move does not read
 abbrev pub first_kind : AluOp → Kind → Result Kind Reason
 first_kind alu.Mov k = Ok (kind.Scalar (constant 0))
 first_kind op k = check_readable k
 
--- the register is given a value of this kind
+-- the edge to the next instruction, after the register is assigned a value of this kind
 abbrev pub assigns : Facts → ℕ → Result Kind Reason → Result Edges Reason
 assigns f dst r = and_then_ok r (λ k. falls (with_kind f dst k))
 
@@ -69,7 +70,7 @@ load_kind shapes f size signed off (kind.Value p) = and_then_ok (room_of p off (
 load_kind shapes f size signed off (kind.MaybeValue m site) = Err MaybeNull
 load_kind shapes f size signed off k = Err NotPointer
 
--- no pointer is stored outside the stack, and a store there changes no fact
+-- only numbers are stored outside the stack, and a store there changes no fact
 abbrev pub stored_outside : Facts → Kind → Result Facts Reason
 stored_outside f v = if is_pointer v then Err PointerStored else Ok f
 
@@ -80,7 +81,7 @@ store_facts shapes f size off (kind.Value p) v = and_then_ok (room_of p off (byt
 store_facts shapes f size off (kind.MaybeValue m site) v = Err MaybeNull
 store_facts shapes f size off k v = Err NotPointer
 
--- ---- atomic operations: a number is loaded, and one is stored at the same place, so no other fact changes
+-- ---- atomic operations: they load a number and store one at the same place, so no other fact changes
 
 abbrev pub number_or : Reason → Kind → Result (Unit {0}) Reason
 number_or reason (kind.Scalar r) = Ok tt
@@ -89,7 +90,7 @@ number_or reason k = Err reason
 abbrev pub stack_changed : Facts → ℤ → AccessSize → Result Facts Reason
 stack_changed f y size = and_then_ok (stack_read f y size false) (λ k. and_then_ok (number_or PartOfSpill k) (λ _. stack_write f y size any_number))
 
--- a place in a value is known, and a multiple of the size
+-- the offset of an access within a value is known, and a multiple of the size
 abbrev pub is_known_multiple : ValuePointer → ℤ → AccessSize → Bool
 is_known_multiple p off size = int_eq p.lo p.hi && (unsigned_abs (p.lo +ℤ off) % bytes_of size == 0)
 
@@ -103,14 +104,14 @@ changed_facts shapes f size off (kind.Value p) v = and_then_ok (number_or Pointe
 changed_facts shapes f size off (kind.MaybeValue m site) v = Err MaybeNull
 changed_facts shapes f size off k v = Err NotPointer
 
--- ---- maps and calls: where the descriptor names no map, or one without such a value, the shape of the program has a fault, as it
--- has where a helper is not known
+-- ---- maps and calls: it is a fault of the program's shape if a descriptor names no map, or one without this direct value, or if
+-- a helper is unknown
 
 abbrev pub map_of : ℕ → Option MapShape → Result Kind Reason
 map_of m None = Err DescriptorNotMap
 map_of m (Some shape) = Ok (kind.MapRef m)
 
--- a pointer into the value that a program may load directly
+-- a pointer to a direct value of a map, at an offset in it
 unfoldable pub value_of : ℕ → ℕ → Option MapShape → Result Kind Reason
 value_of m offset None = Err DescriptorNotMap
 value_of m offset (Some shape) = if has_direct_value shape offset then Ok (kind.Value (value_span m (pos offset) (pos offset))) else Err NoDirectValue
@@ -119,7 +120,7 @@ abbrev pub known : Option Helper → Result Helper Reason
 known None = Err UnknownHelper
 known (Some h) = Ok h
 
--- ---- the end
+-- ---- the end of a run
 
 abbrev pub exits_with : Kind → Result Edges Reason
 exits_with (kind.Scalar r) = ends
@@ -133,21 +134,21 @@ exit_edges f = and_then_ok (check_readable (kind_at f 0)) exits_with
 abbrev pub operator_edges : Bool → AluOp → ℕ → Operand → Facts → Result Edges Reason
 operator_edges wide op dst src f = and_then_ok (first_kind op (kind_at f dst)) (λ a. and_then_ok (check_readable (source_kind f wide src)) (λ b. assigns f dst (arithmetic_kind wide op a b)))
 
--- ---- each instruction, at a slot
+-- ---- the transfer function of each instruction, at a slot
 
 abbrev pub effect : Shapes → ℕ → Insn → Facts → Result Edges Reason
 effect shapes at (Alu wide op dst src) f = operator_edges wide op dst src f
-effect shapes at (Movsx m) f = and_then_ok (check_readable (kind_at f m.src)) (λ k. assigns f m.dst (of_scalar m.wide (on_words.SignExtend (narrow_of m.bits)) k))
+effect shapes at (Movsx m) f = and_then_ok (check_readable (kind_at f m.src)) (λ k. assigns f m.dst (of_scalar m.wide (on_words.SignExtend m.bits) k))
 effect shapes at (Neg wide dst) f = and_then_ok (check_readable (kind_at f dst)) (λ k. assigns f dst (of_scalar wide on_words.Neg k))
-effect shapes at (End how kept dst) f = and_then_ok (check_readable (kind_at f dst)) (λ k. assigns f dst (of_scalar true (on_words.End (order_of how) (kept_of kept)) k))
+effect shapes at (End how kept dst) f = and_then_ok (check_readable (kind_at f dst)) (λ k. assigns f dst (of_scalar true (on_words.End how kept) k))
 effect shapes at (Ja off) f = Ok (record { falling = None; jumping = Some f })
 effect shapes at (Jal off) f = Ok (record { falling = None; jumping = Some f })
 effect shapes at (Jump wide cond dst src off) f = and_then_ok (check_readable (kind_at f dst)) (λ a. and_then_ok (check_readable (source_kind f wide src)) (λ b. branch_edges wide cond f dst src a b))
 effect shapes at (Call id) f = and_then_ok (known (helper_of id)) (λ h. and_then_ok (call_facts shapes at h f) falls)
 effect shapes at Exit f = exit_edges f
-effect shapes at (Load l) f = and_then_ok (check_readable (kind_at f l.src)) (λ k. assigns f l.dst (load_kind shapes f (size_of l.size) l.signed l.off k))
-effect shapes at (Store size dst src off) f = and_then_ok (check_readable (kind_at f dst)) (λ k. and_then_ok (check_readable (source_kind f true src)) (λ v. and_then_ok (store_facts shapes f (size_of size) off k v) falls))
-effect shapes at (Atomic size op dst src off) f = and_then_ok (check_readable (kind_at f dst)) (λ k. and_then_ok (check_readable (kind_at f src)) (λ v. and_then_ok (changed_facts shapes f (atomic_size size) off k v) falls))
+effect shapes at (Load l) f = and_then_ok (check_readable (kind_at f l.src)) (λ k. assigns f l.dst (load_kind shapes f l.size l.signed l.off k))
+effect shapes at (Store size dst src off) f = and_then_ok (check_readable (kind_at f dst)) (λ k. and_then_ok (check_readable (source_kind f true src)) (λ v. and_then_ok (store_facts shapes f size off k v) falls))
+effect shapes at (Atomic size op dst src off) f = and_then_ok (check_readable (kind_at f dst)) (λ k. and_then_ok (check_readable (kind_at f src)) (λ v. and_then_ok (changed_facts shapes f (access_size size) off k v) falls))
 effect shapes at (Const dst value) f = falls (with_kind f dst (kind.Scalar (constant value)))
 effect shapes at (MapFd dst fd) f = assigns f dst (map_of (unsigned 32 fd) (shapes (unsigned 32 fd)))
 effect shapes at (MapValue dst fd off) f = assigns f dst (value_of (unsigned 32 fd) off (shapes (unsigned 32 fd)))

@@ -1,4 +1,4 @@
--- What holds of facts before a slot: laws of the definitions of `Sound`, proved here for the proofs of the crates above. This
+-- Laws of facts that are well formed at a slot, of the definitions of `Sound`, proved here for the proofs of the crates above. This
 -- project's own. No contract cites them, so there is nothing in them to believe.
 use Rattle.std.proofs.Common.{ℕ, ◌<◌, arith}
 use Rattle.reg_kinds.specs.declared.kind.Kind.{Kind}
@@ -18,6 +18,6 @@ slot_raised : (at n : ℕ) (s : Slot) → at < n → IsSlotAt at s → IsSlotAt 
 slot_raised at n (Bytes mask) lt h = h
 slot_raised at n (Spill k) lt h = kind_raised at n k lt h
 
--- facts before a slot are facts before each later one
+-- facts that are well formed at a slot are well formed at each later one
 pub facts_of_later_slots : (at n : ℕ) (f : Facts) → at < n → AreWellFormedAt at f → AreWellFormedAt n f
 facts_of_later_slots at n f lt h = record { registers = λ r. kind_raised at n (kind_at f r) lt (h.registers r); slots = λ i. slot_raised at n (slot_at f i) lt (h.slots i) }

@@ -1,11 +1,11 @@
--- Where control goes after an instruction, and with which facts. This project's own.
+-- The edges out of an instruction, with their facts, from the result of the code. This project's own.
 use Rattle.std.specs.Prelude.{if◌then◌else◌, Some, None}
 use Rattle.reg_kinds.specs.declared.facts.Facts.{Facts}
 use Rattle.transfer.specs.declared.branches.Flow.{Flow}
 use Rattle.transfer.specs.declared.branches.Flow.TheVariants.{Ends, Falls, Jumps, Branches}
 use Rattle.transfer.specs.Branches.{Edges}
 
--- the edges, where these facts are left in hand, and those of the taken edge
+-- the edges, if the code leaves facts f, and facts `taken` on the jumping edge
 abbrev pub edges_of : Flow → Facts → Facts → Edges
 edges_of Ends f taken = record { falling = None; jumping = None }
 edges_of Falls f taken = record { falling = Some f; jumping = None }

@@ -1,4 +1,4 @@
--- Why an instruction may be refused. This project's own.
+-- The reasons for which the transfer function refuses an instruction. This project's own.
 use Rattle.std.specs.Prelude.{◌≡◌, ℕ, false, None, Some, Err}
 use Rattle.insn_codec.specs.declared.insn.Insn.{Insn}
 use Rattle.insn_codec.specs.declared.profile.Reference.{Reference}
@@ -13,7 +13,7 @@ use Rattle.tagged_model.specs.Named.{Shapes}
 use Rattle.tagged_model.specs.Table.{has_direct_value}
 use Rattle.transfer.specs.Effects.{effect}
 
--- a reason that what is known of the operands gives: neither the shape of the program nor memory
+-- a reason from the kinds of the operands: not from the shape of the program, and not from memory
 abbrev pub IsSafetyReason : Reason → Type 0
 IsSafetyReason JumpOutside = ⊥
 IsSafetyReason JumpBackward = ⊥
@@ -27,34 +27,34 @@ IsSafetyReason NoDirectValue = ⊥
 IsSafetyReason Memory = ⊥
 IsSafetyReason reason = Unit {0}
 
--- what an instruction names is a function that is not known
+-- the instruction names a helper that is unknown
 abbrev pub IsUnknownHelper : Reference → Type 0
 IsUnknownHelper names.Nothing = ⊥
 IsUnknownHelper (names.Helper id) = helper_of id ≡ None
 IsUnknownHelper (names.Map fd) = ⊥
 IsUnknownHelper (names.Value fd off) = ⊥
 
--- a map, or a value of one, by a descriptor that has no shape
+-- it names a map, or a value of one, by a descriptor that has no shape
 abbrev pub IsUnshapedMap : Shapes → Reference → Type 0
 IsUnshapedMap shapes names.Nothing = ⊥
 IsUnshapedMap shapes (names.Helper id) = ⊥
 IsUnshapedMap shapes (names.Map fd) = shapes fd ≡ None
 IsUnshapedMap shapes (names.Value fd off) = shapes fd ≡ None
 
--- a value that the map does not have
+-- it names a direct value that its map does not have
 abbrev pub IsNoValue : Shapes → Reference → Type 0
 IsNoValue shapes names.Nothing = ⊥
 IsNoValue shapes (names.Helper id) = ⊥
 IsNoValue shapes (names.Map fd) = ⊥
 IsNoValue shapes (names.Value fd off) = (shape : MapShape) × (shapes fd ≡ Some shape) × (has_direct_value shape off ≡ false)
 
--- what an instruction names is not there, or what is known of its operands gives the reason
+-- the reason is one of these, and applies to the instruction, or it is from the kinds of the operands
 abbrev pub IsReasonOf : Shapes → Insn → Reason → Type 0
 IsReasonOf shapes i UnknownHelper = IsUnknownHelper (profile i).reference
 IsReasonOf shapes i DescriptorNotMap = IsUnshapedMap shapes (profile i).reference
 IsReasonOf shapes i NoDirectValue = IsNoValue shapes (profile i).reference
 IsReasonOf shapes i reason = IsSafetyReason reason
 
--- an instruction is refused for such a reason
+-- an instruction is refused only for such a reason
 abbrev pub TransferReasons : Type 0
 TransferReasons = (shapes : Shapes) (at : ℕ) (i : Insn) (f : Facts) (reason : Reason) → effect shapes at i f ≡ Err reason → IsReasonOf shapes i reason

@@ -1,5 +1,5 @@
--- Why the facts on the edges are right: what the machine of tagged values does is on the edge that it takes. Which edge
--- a jump takes, and where it leads, is RFC 9669, section 4.3; the rest is this project's own.
+-- Soundness: the facts on the edge that a step takes admit the state after it. Which edge a jump takes, and where it leads, is RFC
+-- 9669, section 4.3; the rest is this project's own.
 use Rattle.std.specs.Prelude.{◌≡◌, ℕ, ◌<◌, ◌^◌, Bool, true, false, Option, Some, None, IsSome, unwrap_or, Ok}
 use Rattle.insn_codec.specs.declared.insn.Insn.{Insn}
 use Rattle.insn_codec.specs.declared.insn.Insn.TheVariants.{Ja, Jal, Jump}
@@ -24,7 +24,7 @@ use Rattle.transfer.specs.Calls.{call_facts}
 use Rattle.transfer.specs.Effects.{effect}
 use Rattle.insn_codec.specs.Flow.{falls_to, jumps_to}
 
--- ---- facts before slot n: a range ends below 2 ^ 64, a mask has eight bits, and a look-up was at a slot below
+-- ---- facts well formed at slot n: a range ends below 2 ^ 64, a mask has eight bits, and a look-up was at a slot below
 
 abbrev pub IsKindAt : ℕ → Kind → Type 0
 IsKindAt n (Scalar r) = r.hi < 2 ^ 64
@@ -41,7 +41,7 @@ pub record AreWellFormedAt (n : ℕ) (f : Facts) : Type 0 where
 
 -- ---- the edge that a step takes
 
--- whether an instruction jumps in this state: a conditional jump does where its comparison holds
+-- whether an instruction jumps in this state: a conditional jump does if its condition holds
 abbrev pub takes_jump : Insn → RunState → Bool
 takes_jump (Ja off) s = true
 takes_jump (Jal off) s = true
@@ -50,30 +50,30 @@ takes_jump i s = false
 
 -- ---- the state after a step
 
--- the edge is there and leads to the state's slot, and its facts describe the state, by some witness
+-- the edge exists and leads to the state's slot, and its facts describe the state, by some witness
 abbrev pub EdgeAdmits : Shapes → Option Facts → Option ℕ → RunState → Type 0
 EdgeAdmits shapes None slot t = ⊥
 EdgeAdmits shapes (Some f) slot t = (slot ≡ Some t.at) × (witness : Witness) × Describes witness f shapes t
 
--- the edge that is taken admits the state: where the step jumps the one to `target`, and else the one to `next`
+-- the edge that is taken admits the state: if the step jumps, the edge to `target`, else the edge to `next`
 abbrev pub TakenEdgeAdmits : Bool → Shapes → ℕ → Option ℕ → Edges → RunState → Type 0
 TakenEdgeAdmits true shapes next target edges t = EdgeAdmits shapes edges.jumping target t
 TakenEdgeAdmits false shapes next target edges t = EdgeAdmits shapes edges.falling (Some next) t
 
--- the step is no fault, and the state after it is on the edge that it takes
+-- the step is no fault, and the state after it is admitted on the edge that it takes
 abbrev pub CoversStep : Shapes → Insn → RunState → Edges → Step → Type 0
 CoversStep shapes i s edges (goes t) = TakenEdgeAdmits (takes_jump i s) shapes (falls_to i s.at) (jumps_to i s.at) edges t
 CoversStep shapes i s edges (ends n) = n < 2 ^ 32
 CoversStep shapes i s edges faults = ⊥
 
--- where facts admit a state and let an instruction be run, its step is on the edge that it takes, whether or not memory is
--- refused at it. The state has a map of each shape, and so has the next one
+-- soundness: if facts describe a state and let an instruction be run, its step is no fault, and the edge that it takes admits the
+-- state after it, whether or not memory is refused at it; the state has a map of each shape, and so has the next one
 abbrev pub TransferIsSound : Type 0
 TransferIsSound =
     (witness : Witness) (shapes : Shapes) (refused : Bool) (i : Insn) (f : Facts) (s : RunState) (edges : Edges) → IsInsn i → IsSome (jumps_to i s.at) → AreWellFormedAt s.at f → Describes witness f shapes s → effect shapes s.at i f ≡ Ok edges
     → CoversStep shapes i s edges (act refused i s)
 
--- ---- the facts on the edges are facts before each later slot
+-- ---- the facts on the edges are well formed at each later slot
 
 abbrev pub AreWellFormedOn : ℕ → Option Facts → Type 0
 AreWellFormedOn n None = Unit {0}
@@ -84,14 +84,14 @@ TransferKeepsWellFormed = (shapes : Shapes) (at n : ℕ) (i : Insn) (f : Facts) 
 
 -- ---- calls
 
--- after a call the state is at the slot where it was, and these facts describe it, by a witness that may be another one: a
--- look-up has given something
+-- after a call the state is at the same slot, and these facts describe it, by a witness that may be another
+-- one: a look-up has given something
 pub record CallIsAdmitted (g : Facts) (shapes : Shapes) (s u : RunState) : Type 0 where
   pub witness : Witness
   pub still : Describes witness g shapes u
   pub at : u.at ≡ s.at
 
--- where facts admit a state and let a call go ahead, the machine has one, and the facts after it admit the state after it
+-- if facts describe a state and allow a call, the machine has a step for it, and the facts after it describe the state after it
 abbrev pub CallsAreSound : Type 0
 CallsAreSound =
     (witness : Witness) (refused : Bool) (shapes : Shapes) (h : Helper) (f g : Facts) (s : RunState) → AreBelow s.at f → Describes witness f shapes s → call_facts shapes s.at h f ≡ Ok g

@@ -1,28 +1,26 @@
-//! What an operator leaves in its destination.
+//! The kind that an operator leaves in its destination.
 
 ghost use Rattle.std.specs.Prelude.{◌≡◌, ◌≤ℤ◌, ◌+ℤ◌, ◌-ℤ◌, IfSome, true};
 ghost use Rattle.transfer.specs.declared.arithmetic.Direction.TheVariants.{Forwards, Backwards};
 ghost use Rattle.interval.specs.Table.{range_of};
-ghost use Rattle.tagged_model.specs.Operators.{width};
+ghost use Rattle.words.specs.Widths.{width};
 ghost use Rattle.transfer.specs.Arithmetic.{check_readable, distance, moved_offset, stack_moved, value_by, value_moved, pointer_moved, is_maybe, of_scalars, sum_kind, difference_kind, arithmetic_kind, of_scalar};
 
-use insn_codec::AluOp;
 use interval::{Range, alu32, alu64};
 use reg_kinds::{Kind, Reason, ValuePointer};
-use tagged_model::operator;
-use words::Operator;
+use words::{AluOp, Operator};
 
-/// The farthest that an offset may lie, in bytes.
+/// The farthest that an offset may be, in bytes: 2^29.
 const FARTHEST: i64 = 0x2000_0000;
 
-/// Which way a number moves a pointer.
+/// The direction in which a number moves a pointer.
 #[derive(Clone, Copy, Debug, PartialEq, Eq)]
 pub(crate) enum Direction {
     Forwards,
     Backwards,
 }
 
-/// A value that may be read.
+/// Returns a kind that may be read. `UnreadableRegister` if it may not.
 #[inline(always)]
 pub(crate) fn check_readable(kind: Kind) -> Result<Kind, Reason>
     ensures { result ≡ check_readable kind }
@@ -33,7 +31,7 @@ pub(crate) fn check_readable(kind: Kind) -> Result<Kind, Reason>
     }
 }
 
-/// The least and the greatest number of a range, read as signed, if all have one sign.
+/// The least and the greatest number of a range, read as signed; `None` unless all its numbers have the same sign.
 fn distance(range: Range) -> Option<(i64, i64)>
     ensures value { result ≡ distance range }
     ensures ordered { IfSome result (λ d. d.0 ≤ℤ d.1) }
@@ -45,7 +43,7 @@ fn distance(range: Range) -> Option<(i64, i64)>
     }
 }
 
-/// An offset that is moved forwards, if it stays near.
+/// The offset moved forwards by `by` bytes; `None` if it is then farther than `FARTHEST`.
 fn moved_forwards(offset: i32, by: i64) -> Option<i32>
     ensures value { result ≡ moved_offset Forwards offset by }
     ensures moved { IfSome result (λ to. to ≡ offset +ℤ by) }
@@ -58,7 +56,7 @@ fn moved_forwards(offset: i32, by: i64) -> Option<i32>
     }
 }
 
-/// An offset that is moved backwards, if it stays near.
+/// The offset moved backwards by `by` bytes; `None` if it is then farther than `FARTHEST`.
 fn moved_backwards(offset: i32, by: i64) -> Option<i32>
     ensures value { result ≡ moved_offset Backwards offset by }
     ensures moved { IfSome result (λ to. to ≡ offset -ℤ by) }
@@ -71,7 +69,7 @@ fn moved_backwards(offset: i32, by: i64) -> Option<i32>
     }
 }
 
-/// A pointer into the stack that is moved by a constant.
+/// The kind of a stack pointer that is moved by the constant in `range`. `OffsetTooLarge` if it is then too far.
 fn stack_moved(way: Direction, offset: i32, range: Range) -> Result<Kind, Reason>
     ensures { result ≡ stack_moved way offset range }
 {
@@ -88,7 +86,7 @@ fn stack_moved(way: Direction, offset: i32, range: Range) -> Result<Kind, Reason
     }
 }
 
-/// A pointer into a value, moved forwards by a number from `least` to `greatest`, if it stays near.
+/// A pointer into a value, moved forwards by a number from `least` to `greatest`; `None` if it may be too far then.
 fn value_forwards(pointer: ValuePointer, least: i64, greatest: i64) -> Option<ValuePointer>
     requires { least ≤ℤ greatest }
     ensures { result ≡ value_by Forwards pointer (least, greatest) }
@@ -98,7 +96,7 @@ fn value_forwards(pointer: ValuePointer, least: i64, greatest: i64) -> Option<Va
     Some(ValuePointer::new(pointer.map, lo, hi))
 }
 
-/// A pointer into a value, moved backwards by a number from `least` to `greatest`, if it stays near.
+/// A pointer into a value, moved backwards by a number from `least` to `greatest`; `None` if it may be too far then.
 fn value_backwards(pointer: ValuePointer, least: i64, greatest: i64) -> Option<ValuePointer>
     requires { least ≤ℤ greatest }
     ensures { result ≡ value_by Backwards pointer (least, greatest) }
@@ -108,7 +106,7 @@ fn value_backwards(pointer: ValuePointer, least: i64, greatest: i64) -> Option<V
     Some(ValuePointer::new(pointer.map, lo, hi))
 }
 
-/// A pointer into a value that is moved by a number of a range.
+/// The kind of a pointer into a value that is moved by a number in `range`. `OffsetTooLarge` if it may be too far then.
 fn value_moved(way: Direction, pointer: ValuePointer, range: Range) -> Result<Kind, Reason>
     ensures { result ≡ value_moved way pointer range }
 {
@@ -125,7 +123,8 @@ fn value_moved(way: Direction, pointer: ValuePointer, range: Range) -> Result<Ki
     }
 }
 
-/// A pointer that is moved by a number of a range.
+/// The kind of a pointer that is moved by a number in `range`. `PointerArithmetic` if it may not be moved so,
+/// `OffsetTooLarge` if it may be too far then.
 fn pointer_moved(way: Direction, pointer: Kind, range: Range) -> Result<Kind, Reason>
     ensures { result ≡ pointer_moved way pointer range }
 {
@@ -148,7 +147,7 @@ pub(crate) fn result_range(wide: bool, op: Operator, a: Range, b: Range) -> Rang
     }
 }
 
-/// An operator on two numbers.
+/// The kind of an operator's result on two numbers. `PointerArithmetic` if one of them is no number.
 fn of_scalars(wide: bool, op: Operator, a: Kind, b: Kind) -> Result<Kind, Reason>
     ensures { result ≡ of_scalars wide op a b }
 {
@@ -158,45 +157,45 @@ fn of_scalars(wide: bool, op: Operator, a: Kind, b: Kind) -> Result<Kind, Reason
     }
 }
 
-/// An operator on one number.
+/// The kind of an operator's result on one number. `PointerArithmetic` if it is no number.
 pub(crate) fn of_scalar(wide: bool, op: Operator, kind: Kind) -> Result<Kind, Reason>
     ensures { result ≡ of_scalar wide op kind }
 {
     of_scalars(wide, op, kind, kind)
 }
 
-/// A sum of 64 bits.
+/// The kind of a 64-bit sum, of numbers or of a pointer and a number.
 fn sum(a: Kind, b: Kind) -> Result<Kind, Reason>
     ensures { result ≡ sum_kind a b }
 {
     match (a, b) {
-        (Kind::Scalar(_), Kind::Scalar(_)) => of_scalars(true, Operator::Add, a, b),
+        (Kind::Scalar(_), Kind::Scalar(_)) => of_scalars(true, Operator::Binary(AluOp::Add), a, b),
         (Kind::Scalar(range), pointer) => pointer_moved(Direction::Forwards, pointer, range),
         (pointer, Kind::Scalar(range)) => pointer_moved(Direction::Forwards, pointer, range),
         _ => Err(Reason::PointerArithmetic),
     }
 }
 
-/// A difference of 64 bits.
+/// The kind of a 64-bit difference, of numbers or of a pointer and a number.
 fn difference(a: Kind, b: Kind) -> Result<Kind, Reason>
     ensures { result ≡ difference_kind a b }
 {
     match (a, b) {
-        (Kind::Scalar(_), Kind::Scalar(_)) => of_scalars(true, Operator::Sub, a, b),
+        (Kind::Scalar(_), Kind::Scalar(_)) => of_scalars(true, Operator::Binary(AluOp::Sub), a, b),
         (Kind::Scalar(_), _) => Err(Reason::PointerArithmetic),
         (pointer, Kind::Scalar(range)) => pointer_moved(Direction::Backwards, pointer, range),
         _ => Err(Reason::PointerArithmetic),
     }
 }
 
-/// Whether it is a look-up that may be null.
+/// Whether a value is the result of a look-up that may be null.
 fn is_maybe(kind: Kind) -> bool
     ensures { result ≡ is_maybe kind }
 {
     matches!(kind, Kind::MaybeValue { .. })
 }
 
-/// What an operator of two operands leaves in its destination.
+/// The kind of the result of an operator of two operands.
 pub(crate) fn arithmetic(wide: bool, op: AluOp, a: Kind, b: Kind) -> Result<Kind, Reason>
     ensures { result ≡ arithmetic_kind wide op a b }
 {
@@ -205,6 +204,6 @@ pub(crate) fn arithmetic(wide: bool, op: AluOp, a: Kind, b: Kind) -> Result<Kind
         (true, AluOp::Add | AluOp::Sub) if is_maybe(a) || is_maybe(b) => Err(Reason::MaybeNull),
         (true, AluOp::Add) => sum(a, b),
         (true, AluOp::Sub) => difference(a, b),
-        _ => of_scalars(wide, operator(op), a, b),
+        _ => of_scalars(wide, Operator::Binary(op), a, b),
     }
 }

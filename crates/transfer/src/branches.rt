@@ -1,37 +1,36 @@
-//! What is known on the two edges of a conditional jump.
+//! The facts on the two edges of a conditional jump.
 
 ghost use Rattle.std.specs.Prelude.{◌≡◌, ◌<◌, ◌≤◌, if◌then◌else◌, option_map, Some, None, IfOk, IfErr, OnErr, Ok, Err};
 ghost use Rattle.transfer.specs.Branches.{with_pair, is_same, number_edges, pointer_edges, settled_edges, branch_edges};
 ghost use Rattle.tagged_model.specs.Values.{is_null_test};
 ghost use Rattle.transfer.specs.Flows.{edges_of};
 
-use insn_codec::{Condition, Operand, Reg};
+use insn_codec::{Operand, Reg};
 use interval::{Range, refine};
 use reg_kinds::{Facts, Kind, Reason, settle};
-use tagged_model::comparison;
+use words::Condition;
 
-/// Where control goes after an instruction.
+/// The edges that control may take after an instruction.
 #[derive(Clone, Copy, Debug, PartialEq, Eq)]
 pub enum Flow {
-    /// Nowhere: the run ends.
+    /// None: the run ends.
     Ends,
-    /// To the next instruction, with the facts in hand.
+    /// The falling edge, with the facts in `facts`.
     Falls,
-    /// To the jump's target, with the facts in hand.
+    /// The jumping edge, with the facts in `facts`.
     Jumps,
-    /// To the next instruction with the facts in hand, and to the jump's target with those of the taken edge: to each
-    /// where its edge can be taken.
+    /// The falling edge with the facts in `facts`, and the jumping edge with those in `taken`: each if it can be taken.
     Branches { falls: bool, jumps: bool },
 }
 
-/// Lets the taken edge begin with the same facts.
+/// Copies the facts for the jumping edge.
 fn copy_facts(facts: &Facts, taken: &mut Facts)
     ensures { taken.new ≡ facts.now }
 {
     *taken = *facts;
 }
 
-/// Puts the ranges of both operands into the facts of an edge.
+/// Sets the ranges of both operands in the facts of an edge.
 fn put_pair(facts: &mut Facts, dst: Reg, src: &Operand, pair: (Range, Range))
     ensures { facts.new ≡ with_pair facts.old dst src.now pair }
 {
@@ -41,7 +40,7 @@ fn put_pair(facts: &mut Facts, dst: Reg, src: &Operand, pair: (Range, Range))
     }
 }
 
-/// Puts into the facts of an edge what a comparison tells there. Whether the edge can be taken at all.
+/// Refines the facts of an edge by the ranges of both operands there. Returns whether the edge can be taken.
 fn learn(facts: &mut Facts, dst: Reg, src: &Operand, told: Option<(Range, Range)>) -> bool
     ensures { (if result then Some facts.new else None)
         ≡ option_map (with_pair facts.old dst src.now) told }
@@ -86,14 +85,14 @@ fn compare_numbers(
             jumps: true,
         };
     }
-    let (where_taken, where_not) = refine(comparison(condition), wide, a, b);
+    let (where_taken, where_not) = refine(condition, wide, a, b);
     Flow::Branches {
         jumps: learn(taken, dst, &src, where_taken),
         falls: learn(facts, dst, &src, where_not),
     }
 }
 
-/// The edges of a test of a look-up for null, which `site` made.
+/// The edges of a null test of the look-up at `site`.
 fn settle_edges(facts: &mut Facts, taken: &mut Facts, site: usize, jumps_on_null: bool) -> Flow
     ensures { edges_of result facts.new taken.new ≡ settled_edges jumps_on_null site facts.old }
 {
@@ -106,7 +105,7 @@ fn settle_edges(facts: &mut Facts, taken: &mut Facts, site: usize, jumps_on_null
     }
 }
 
-/// The edges of a test of a pointer for null: a look-up is settled on both, any other pointer is not null.
+/// The edges of a null test of a pointer: a look-up is settled on both, any other pointer is not null.
 fn test_pointer(facts: &mut Facts, taken: &mut Facts, condition: Condition, pointer: Kind) -> Flow
     ensures { edges_of result facts.new taken.new ≡ pointer_edges condition facts.old pointer }
 {
@@ -120,7 +119,7 @@ fn test_pointer(facts: &mut Facts, taken: &mut Facts, condition: Condition, poin
     }
 }
 
-/// Whether it is a comparison of 64 bits with the constant 0, for equality or difference.
+/// Whether it is a 64-bit comparison with the constant 0, for equality or difference.
 fn is_null_test(wide: bool, condition: Condition, src: Operand) -> bool
     ensures { result ≡ is_null_test wide condition src }
 {
@@ -128,7 +127,7 @@ fn is_null_test(wide: bool, condition: Condition, src: Operand) -> bool
     wide && tests_equality && src == Operand::Imm(0)
 }
 
-/// The edges of a conditional jump.
+/// The edges of a conditional jump. `PointerComparison` if the operands are not both numbers, and it is not a null test.
 pub(crate) fn branch(
     facts: &mut Facts,
     taken: &mut Facts,

@@ -1,4 +1,4 @@
-//! Accesses of maps' values, and calls.
+//! Accesses to the values of maps, and calls.
 
 ghost use Rattle.std.specs.Prelude.{◌≡◌, ◌<◌, ◌≤◌, ◌^◌, ◌+ℤ◌, pos, int_le, ◌&&◌, if◌then◌else◌, IfOk, IfErr, OnErr, OnOk, Ok, Err};
 ghost use Rattle.tagged_model.specs.Named.{shapes_named};
@@ -11,17 +11,17 @@ use interval::Range;
 use reg_kinds::{Facts, Kind, Reason, ValuePointer, fill_stack, read_many};
 use tagged_model::{Helper, MapShape, Named, shape_of};
 
-/// A length that is handed to a helper lies below this: 2^29 bytes.
+/// A length argument of a helper is below this: 2^29 bytes.
 const LENGTHS_END: u64 = 0x2000_0000;
 
-/// A map by its descriptor.
+/// The shape of a map, and its descriptor.
 #[derive(Clone, Copy, Debug, PartialEq, Eq)]
 pub(crate) struct ShapedMap {
     descriptor: u32,
     shape: MapShape,
 }
 
-/// The map that an argument is.
+/// The map of an argument. `HelperArgument` if it is no map.
 fn map_kind(named: &[Named], kind: Kind) -> Result<ShapedMap, Reason>
     ensures { result ≡ map_kind (shapes_named named.now) kind }
 {
@@ -34,14 +34,14 @@ fn map_kind(named: &[Named], kind: Kind) -> Result<ShapedMap, Reason>
     }
 }
 
-/// An offset that is so far behind another.
+/// The offset moved forwards by `by` bytes.
 pub(crate) fn behind(offset: i32, by: i16) -> i64
     ensures { result ≡ offset +ℤ by }
 {
     i64::from(offset) + i64::from(by)
 }
 
-/// Whether so many bytes, from each offset of a range, are among so many.
+/// Checks that `count` bytes, at each offset from `low` to `last`, lie in a value of `size` bytes. `OutsideValue` if not.
 fn room_in(low: i64, last: i64, count: u32, size: u32) -> Result<(), Reason>
     ensures { result ≡ (if int_le (pos 0) low && int_le (last +ℤ pos count) (pos size) then Ok tt
         else Err OutsideValue) }
@@ -55,7 +55,7 @@ fn room_in(low: i64, last: i64, count: u32, size: u32) -> Result<(), Reason>
     Ok(())
 }
 
-/// Whether so many bytes, from so far behind each offset of a pointer, lie in a value.
+/// Checks that `count` bytes, `offset` bytes from each offset of a pointer, lie in the value. `OutsideValue` if not.
 pub(crate) fn room_of(
     named: &[Named],
     pointer: ValuePointer,
@@ -72,7 +72,7 @@ pub(crate) fn room_of(
     room_in(low, last, count, shape.value_size)
 }
 
-/// Whether an argument points to so many bytes that may be read.
+/// Checks that an argument points to `count` bytes that may be read.
 fn input(named: &[Named], facts: &Facts, count: u32, kind: Kind) -> Result<(), Reason>
     ensures { result ≡ input_kind (shapes_named named.now) facts.now count kind }
 {
@@ -84,7 +84,7 @@ fn input(named: &[Named], facts: &Facts, count: u32, kind: Kind) -> Result<(), R
     }
 }
 
-/// Writes a number of bytes of a range to where an argument points.
+/// Updates the facts for a write, at an argument's address, of a number of bytes in the range `length`.
 fn output(facts: &mut Facts, named: &[Named], length: Range, kind: Kind) -> Result<(), Reason>
     requires { length.hi < 2 ^ 29 }
     ensures ok { OnOk result (output_facts (shapes_named named.now) facts.old length kind
@@ -101,7 +101,7 @@ fn output(facts: &mut Facts, named: &[Named], length: Range, kind: Kind) -> Resu
     }
 }
 
-/// The range of an argument that is a number.
+/// The range of an argument. `HelperArgument` if it is no number.
 fn check_number(kind: Kind) -> Result<Range, Reason>
     ensures { result ≡ number_kind kind }
 {
@@ -111,7 +111,7 @@ fn check_number(kind: Kind) -> Result<Range, Reason>
     }
 }
 
-/// The range of an argument that is a length: it is not 0, and below 2^29.
+/// The range of a length argument. `LengthUnbounded` unless it is above 0 and below 2^29; `HelperArgument` if it is no number.
 fn check_length(kind: Kind) -> Result<Range, Reason>
     ensures value { result ≡ length_kind kind }
     ensures bound { IfOk result (λ r. r.hi < 2 ^ 29) }
@@ -126,7 +126,7 @@ fn check_length(kind: Kind) -> Result<Range, Reason>
     }
 }
 
-/// Whether an argument is the context.
+/// Checks that an argument is the context. `HelperArgument` if not.
 fn check_context(kind: Kind) -> Result<(), Reason>
     ensures { result ≡ context_kind kind }
 {
@@ -136,14 +136,14 @@ fn check_context(kind: Kind) -> Result<(), Reason>
     }
 }
 
-/// Any number of 64 bits.
+/// The kind of all 64-bit numbers.
 fn any_number() -> Kind
     ensures { result ≡ any_number }
 {
     Kind::Scalar(Range::full(true))
 }
 
-/// A look-up, at a slot.
+/// Updates the facts for a look-up at `slot`.
 fn look_up(facts: &mut Facts, named: &[Named], slot: usize) -> Result<(), Reason>
     ensures ok { OnOk result (call_facts (shapes_named named.now) slot LookUp facts.old
         ≡ Ok facts.new) }
@@ -163,7 +163,7 @@ fn look_up(facts: &mut Facts, named: &[Named], slot: usize) -> Result<(), Reason
     Ok(())
 }
 
-/// An update, at a slot.
+/// Updates the facts for an update at `slot`.
 fn update(facts: &mut Facts, named: &[Named], slot: usize) -> Result<(), Reason>
     ensures ok { OnOk result (call_facts (shapes_named named.now) slot Update facts.old
         ≡ Ok facts.new) }
@@ -183,7 +183,7 @@ fn update(facts: &mut Facts, named: &[Named], slot: usize) -> Result<(), Reason>
     Ok(())
 }
 
-/// A deletion, at a slot.
+/// Updates the facts for a deletion at `slot`.
 fn delete(facts: &mut Facts, named: &[Named], slot: usize) -> Result<(), Reason>
     ensures ok { OnOk result (call_facts (shapes_named named.now) slot Delete facts.old
         ≡ Ok facts.new) }
@@ -199,7 +199,7 @@ fn delete(facts: &mut Facts, named: &[Named], slot: usize) -> Result<(), Reason>
     Ok(())
 }
 
-/// A copy of bytes of the packet, at a slot.
+/// Updates the facts for a load of packet bytes at `slot`.
 fn load_bytes(facts: &mut Facts, named: &[Named], slot: usize) -> Result<(), Reason>
     ensures ok { OnOk result (call_facts (shapes_named named.now) slot LoadBytes facts.old
         ≡ Ok facts.new) }
@@ -219,7 +219,7 @@ fn load_bytes(facts: &mut Facts, named: &[Named], slot: usize) -> Result<(), Rea
     Ok(())
 }
 
-/// A call at a slot, if its arguments are right.
+/// Updates the facts for a call at `slot`, if its arguments are right. Else the reason.
 pub(crate) fn call(
     facts: &mut Facts,
     named: &[Named],

@@ -1,9 +1,10 @@
-//! What each instruction does to what is known.
+//! The transfer function.
 
 ghost use Rattle.std.specs.Prelude.{◌≡◌, ◌<◌, ℕ, pos, IfSome, Some, None, if◌then◌else◌, ◌+ℤ◌, ◌%◌, ◌==◌, unsigned_abs, false, IfOk, IfErr, OnErr, OnOk, Ok, Err};
 ghost use Rattle.words.specs.Words.{unsigned};
 ghost use Rattle.words.specs.Stack.{bytes_of, is_in_stack};
-ghost use Rattle.tagged_model.specs.Operators.{width, size_of, atomic_size};
+ghost use Rattle.words.specs.Widths.{width};
+ghost use Rattle.insn_codec.specs.Atomic.{access_size};
 ghost use Rattle.tagged_model.specs.Shape.{longest_value};
 ghost use Rattle.transfer.specs.Arithmetic.{arithmetic_kind, of_scalar};
 ghost use Rattle.transfer.specs.Branches.{branch_edges, ends, falls};
@@ -18,19 +19,16 @@ ghost use Rattle.transfer.specs.declared.branches.Flow.TheVariants.{Falls};
 use crate::arithmetic::{arithmetic, check_readable, of_scalar, result_range};
 use crate::branches::{Flow, branch};
 use crate::calls::{behind, call, room_of};
-use insn_codec::{AluOp, AtomicSize, Insn, Load, Movsx, Operand, Reg, Size};
+use insn_codec::{AtomicSize, Insn, Load, Movsx, Operand, Reg};
 use interval::Range;
 use reg_kinds::{Facts, Kind, Reason, ValuePointer, loaded, read_stack, write_stack};
-use tagged_model::{
-    CONTEXT_WORDS, Named, access_size, byte_order, kept_bits, known_helper, narrow, operator,
-    shape_of,
-};
-use words::{AccessSize, Operator};
+use tagged_model::{CONTEXT_WORDS, Named, known_helper, shape_of};
+use words::{AccessSize, AluOp, Operator};
 
-/// The bytes of the context.
+/// The size of the context in bytes.
 const CONTEXT_SIZE: i16 = 4 * CONTEXT_WORDS as i16;
 
-/// A constant as a word: of 32 bits it is read modulo 2^32.
+/// A constant as a machine word; on 32 bits it is read modulo 2^32.
 fn constant_word(wide: bool, imm: i32) -> u64
     ensures { result ≡ unsigned (width wide) imm }
 {
@@ -52,7 +50,7 @@ fn source(facts: &Facts, wide: bool, src: &Operand) -> Kind
     }
 }
 
-/// The kind of the first operand, which a move does not read.
+/// The kind of the first operand, which a move does not read. `UnreadableRegister` if it may not be read.
 #[inline(always)]
 fn first(op: AluOp, kind: Kind) -> Result<Kind, Reason>
     ensures { result ≡ first_kind op kind }
@@ -63,18 +61,23 @@ fn first(op: AluOp, kind: Kind) -> Result<Kind, Reason>
     }
 }
 
-/// What a load from the context gives.
-fn context_read(offset: i16, size: Size, signed: bool) -> Result<Kind, Reason>
-    ensures { result ≡ context_read offset (size_of size) signed }
+/// The kind of a number that is loaded from the context. `ContextAccess` unless it is a whole aligned word.
+fn context_read(offset: i16, size: AccessSize, signed: bool) -> Result<Kind, Reason>
+    ensures { result ≡ context_read offset size signed }
 {
-    if size == Size::Word && !signed && offset >= 0 && offset < CONTEXT_SIZE && offset % 4 == 0 {
+    if size == AccessSize::Word
+        && !signed
+        && offset >= 0
+        && offset < CONTEXT_SIZE
+        && offset % 4 == 0
+    {
         Ok(Kind::Scalar(Range::full(false)))
     } else {
         Err(Reason::ContextAccess)
     }
 }
 
-/// Where an access of the stack is. One that is too far for the type is outside.
+/// The offset of a stack access. `OutsideStack` if it does not fit in the type, since it is outside the stack then.
 fn stack_offset(from: i32, offset: i16) -> Result<i32, Reason>
     ensures ok { IfOk result (λ at. at ≡ from +ℤ offset) }
     ensures outside { IfErr result (λ reason. (reason ≡ OutsideStack)
@@ -84,35 +87,34 @@ fn stack_offset(from: i32, offset: i16) -> Result<i32, Reason>
         .ok_or(Reason::OutsideStack)
 }
 
-/// What a load gives.
+/// The kind of a loaded value.
 fn load(
     facts: &Facts,
     named: &[Named],
-    size: Size,
+    size: AccessSize,
     signed: bool,
     offset: i16,
     base: Kind,
 ) -> Result<Kind, Reason>
-    ensures { result ≡ load_kind (shapes_named named.now) facts.now (size_of size) signed offset
+    ensures { result ≡ load_kind (shapes_named named.now) facts.now size signed offset
         base }
 {
     match base {
         Kind::Stack(from) => {
             let at = stack_offset(from, offset)?;
-            read_stack(facts, at, access_size(size), signed)
+            read_stack(facts, at, size, signed)
         }
         Kind::Ctx => context_read(offset, size, signed),
         Kind::Value(pointer) => {
-            let access = access_size(size);
-            room_of(named, pointer, offset, u32::from(access.bytes()))?;
-            Ok(loaded(access, signed))
+            room_of(named, pointer, offset, u32::from(size.bytes()))?;
+            Ok(loaded(size, signed))
         }
         Kind::MaybeValue { .. } => Err(Reason::MaybeNull),
         _ => Err(Reason::NotPointer),
     }
 }
 
-/// Whether a value may be stored outside the stack.
+/// Checks that a value may be stored outside the stack. `PointerStored` if it may not.
 fn store_outside(value: Kind) -> Result<(), Reason>
     ensures { result ≡ (if is_pointer value then Err PointerStored else Ok tt) }
 {
@@ -123,19 +125,19 @@ fn store_outside(value: Kind) -> Result<(), Reason>
     }
 }
 
-/// What a store leaves.
+/// Updates the facts for a store.
 fn store(
     facts: &mut Facts,
     named: &[Named],
-    size: Size,
+    size: AccessSize,
     offset: i16,
     base: Kind,
     value: Kind,
 ) -> Result<(), Reason>
-    ensures ok { OnOk result (store_facts (shapes_named named.now) facts.old (size_of size) offset
+    ensures ok { OnOk result (store_facts (shapes_named named.now) facts.old size offset
         base value ≡ Ok facts.new) }
     ensures refused { IfErr result (λ reason. store_facts (shapes_named named.now) facts.old
-        (size_of size) offset base value ≡ Err reason) }
+        size offset base value ≡ Err reason) }
     ensures stays { OnErr result (facts.new ≡ facts.old) }
 {
     match base {
@@ -144,12 +146,11 @@ fn store(
                 return Err(Reason::UnreadableRegister);
             }
             let at = stack_offset(from, offset)?;
-            write_stack(facts, at, access_size(size), value)
+            write_stack(facts, at, size, value)
         }
         Kind::Ctx => Err(Reason::ContextAccess),
         Kind::Value(pointer) => {
-            let access = access_size(size);
-            room_of(named, pointer, offset, u32::from(access.bytes()))?;
+            room_of(named, pointer, offset, u32::from(size.bytes()))?;
             store_outside(value)
         }
         Kind::MaybeValue { .. } => Err(Reason::MaybeNull),
@@ -157,7 +158,7 @@ fn store(
     }
 }
 
-/// Refuses a value that is no number, for this reason.
+/// Checks that a value is a number. `reason` if not.
 fn number_or(reason: Reason, value: Kind) -> Result<(), Reason>
     ensures { result ≡ number_or reason value }
 {
@@ -167,7 +168,7 @@ fn number_or(reason: Reason, value: Kind) -> Result<(), Reason>
     }
 }
 
-/// What an atomic operation in the stack leaves.
+/// Updates the facts for an atomic operation in the stack.
 fn change_stack(facts: &mut Facts, offset: i32, size: AccessSize) -> Result<(), Reason>
     ensures ok { OnOk result (stack_changed facts.old offset size ≡ Ok facts.new) }
     ensures refused { IfErr result (λ reason. stack_changed facts.old offset size ≡ Err reason) }
@@ -185,14 +186,14 @@ fn is_multiple(offset: i64, size: AccessSize) -> bool
     offset.unsigned_abs() % u64::from(size.bytes()) == 0
 }
 
-/// Whether a place in a value is known, and a multiple of a size.
+/// Whether the offset of an access within a value is known, and a multiple of the size.
 fn is_known_multiple(pointer: ValuePointer, offset: i16, size: AccessSize) -> bool
     ensures { result ≡ is_known_multiple pointer offset size }
 {
     pointer.lo == pointer.hi && is_multiple(behind(pointer.lo, offset), size)
 }
 
-/// What an atomic operation leaves.
+/// Updates the facts for an atomic operation.
 fn change(
     facts: &mut Facts,
     named: &[Named],
@@ -201,13 +202,13 @@ fn change(
     base: Kind,
     value: Kind,
 ) -> Result<(), Reason>
-    ensures ok { OnOk result (changed_facts (shapes_named named.now) facts.old (atomic_size size)
+    ensures ok { OnOk result (changed_facts (shapes_named named.now) facts.old (access_size size)
         offset base value ≡ Ok facts.new) }
     ensures refused { IfErr result (λ reason. changed_facts (shapes_named named.now) facts.old
-        (atomic_size size) offset base value ≡ Err reason) }
+        (access_size size) offset base value ≡ Err reason) }
     ensures stays { OnErr result (facts.new ≡ facts.old) }
 {
-    let access = access_size(size.access());
+    let access = size.access();
     match base {
         Kind::Stack(from) => {
             number_or(Reason::PointerArithmetic, value)?;
@@ -229,7 +230,7 @@ fn change(
     }
 }
 
-/// A map by its descriptor.
+/// The kind of the map that a descriptor names. `DescriptorNotMap` if it names none.
 fn map_of(named: &[Named], descriptor: u32) -> Result<Kind, Reason>
     ensures { result ≡ map_of descriptor (shapes_named named.now descriptor) }
 {
@@ -239,7 +240,7 @@ fn map_of(named: &[Named], descriptor: u32) -> Result<Kind, Reason>
     }
 }
 
-/// An offset in a value, as pointers have it.
+/// An offset in a value, as signed number.
 fn signed_offset(offset: u32) -> i32
     requires { offset < longest_value }
     ensures { result ≡ pos offset }
@@ -247,7 +248,8 @@ fn signed_offset(offset: u32) -> i32
     offset as i32
 }
 
-/// A pointer into the value that a program may load directly, at an offset in it.
+/// The kind of a pointer to a direct value, at an offset in it. `DescriptorNotMap` if the descriptor names no map, `NoDirectValue`
+/// if the map has no direct value at this offset.
 #[tactic(auto, unfolding(crate::specs::Effects::value_of))]
 fn value_of(named: &[Named], descriptor: u32, offset: u32) -> Result<Kind, Reason>
     ensures { result ≡ value_of descriptor offset (shapes_named named.now descriptor) }
@@ -262,7 +264,7 @@ fn value_of(named: &[Named], descriptor: u32, offset: u32) -> Result<Kind, Reaso
     Ok(Kind::Value(ValuePointer::new(descriptor, at, at)))
 }
 
-/// Gives a register the kind that an instruction leaves in it.
+/// Sets the kind of the destination register.
 #[inline(always)]
 fn assign(facts: &mut Facts, dst: Reg, kind: Kind) -> Flow
     ensures flow { result ≡ Falls }
@@ -290,7 +292,7 @@ fn numbers(facts: &Facts, wide: bool, dst: Reg, src: &Operand) -> Option<(Range,
     }
 }
 
-/// An operator of two operands, of which one may be a pointer, or a move.
+/// An operator of two operands, one of which may be a pointer, or a move.
 #[inline(never)]
 fn operate_on_any(
     facts: &mut Facts,
@@ -326,7 +328,7 @@ fn operate(facts: &mut Facts, wide: bool, op: AluOp, dst: Reg, src: Operand) -> 
     }
     match numbers(facts, wide, dst, &src) {
         Some((a, b)) if op != AluOp::Mov => {
-            let kind = Kind::Scalar(result_range(wide, operator(op), a, b));
+            let kind = Kind::Scalar(result_range(wide, Operator::Binary(op), a, b));
             facts.set_kind(usize::from(dst.number()), kind);
             Ok(())
         }
@@ -334,7 +336,7 @@ fn operate(facts: &mut Facts, wide: bool, op: AluOp, dst: Reg, src: Operand) -> 
     }
 }
 
-/// The end of a run.
+/// Checks the result at the end of a run: `UnreadableRegister` if register 0 may not be read, `ResultNotScalar` if it is no number.
 fn exit(facts: &Facts) -> Result<(), Reason>
     ensures ok { OnOk result (exit_edges facts.now ≡ ends) }
     ensures refused { IfErr result (λ reason. exit_edges facts.now ≡ Err reason) }
@@ -345,14 +347,14 @@ fn exit(facts: &Facts) -> Result<(), Reason>
     }
 }
 
-/// The facts on the edges out of an instruction at a slot, where `named` says what the descriptors name: see `Flow`. Those of
-/// the falling edge, and of a jump that is always taken, are left in `facts`. Where a conditional jump can be taken, the
-/// facts on that edge are written over `taken`, whatever stood there; else what is left there is of no meaning.
+/// Applies the transfer function of the instruction at `slot`, and returns the edges out of it (see `Flow`). `named` lists the
+/// objects that descriptors name. The facts on the falling edge, or on the edge of a jump that is always taken, replace `facts`. If
+/// a conditional jump can be taken, the facts on its edge overwrite `taken`; else the contents of `taken` mean nothing afterwards.
 ///
 /// # Errors
 ///
-/// Why the instruction may not be run, and then `facts` and `taken` stay: the first of its conditions that fails, in the order
-/// that the definition of `effect` has.
+/// Why the instruction may not be run: the first of its conditions that fails, in the order of the definition of `effect`. Then
+/// `facts` and `taken` are unchanged.
 pub fn apply(
     facts: &mut Facts,
     taken: &mut Facts,
@@ -380,7 +382,7 @@ pub fn apply(
             },
         ) => {
             let from = check_readable(facts.kind(usize::from(src.number())))?;
-            let kind = of_scalar(wide, Operator::SignExtend { from: narrow(bits) }, from)?;
+            let kind = of_scalar(wide, Operator::SignExtend { from: bits }, from)?;
             Ok(assign(facts, dst, kind))
         }
         Insn::Neg { wide, dst } => {
@@ -390,11 +392,7 @@ pub fn apply(
         }
         Insn::End { how, bits, dst } => {
             let from = check_readable(facts.kind(usize::from(dst.number())))?;
-            let op = Operator::End {
-                how: byte_order(how),
-                bits: kept_bits(bits),
-            };
-            let kind = of_scalar(true, op, from)?;
+            let kind = of_scalar(true, Operator::End { how, bits }, from)?;
             Ok(assign(facts, dst, kind))
         }
         Insn::Ja { .. } | Insn::Jal { .. } => Ok(Flow::Jumps),

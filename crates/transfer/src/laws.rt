@@ -1,4 +1,4 @@
-//! Laws of the effects. Each is the contract of a function that does nothing.
+//! Laws of the transfer function. Each law is the contract of a function that does nothing.
 
 ghost use Rattle.std.specs.Prelude.{◌≡◌, ◌≢◌, ℕ, Err};
 ghost use Rattle.tagged_model.specs.Named.{Shapes};
@@ -10,8 +10,8 @@ ghost use Rattle.transfer.specs.Effects.{effect};
 ghost use Rattle.transfer.specs.Reasons.{TransferReasons};
 ghost use Rattle.transfer.specs.Sound.{TransferIsSound, TransferKeepsWellFormed, CallsAreSound};
 
-/// Where facts admit a state and let an instruction be run, its step on tagged values is no fault, and the facts on the edge
-/// that it takes admit the state after it.
+/// Soundness: if facts admit a state and let an instruction be run, its step on tagged values is no fault, and the facts on the
+/// edge that it takes admit the state after it.
 pub fn transfer_is_sound()
     ensures { TransferIsSound }
 {
@@ -34,8 +34,8 @@ pub fn transfer_is_sound()
     tagged_model::laws::site_admits();
 }
 
-/// The facts that an instruction leaves are facts before each later slot, where those before it are facts before its own:
-/// ranges end below 2^64, and look-ups were at slots below.
+/// The facts after an instruction are well formed for each later slot, if those before it are well formed for its own: ranges end
+/// below 2^64, and look-ups were at slots below.
 pub fn transfer_keeps_well_formed()
     ensures { TransferKeepsWellFormed }
 {
@@ -43,14 +43,14 @@ pub fn transfer_keeps_well_formed()
     interval::laws::results_are_words();
 }
 
-/// An instruction is refused for an unknown function only where it calls one, for what is no map only where it loads one
-/// whose descriptor has no shape, for a value that it may not load directly only where it loads one that the map does not have,
-/// and for no other reason of a program's shape.
+/// An instruction is refused because of an unknown helper only if it calls one, because a descriptor names no map only if it
+/// loads one whose descriptor has no shape, because of a direct value only if it loads one that the map does not have, and for no
+/// other reason of a program's shape.
 pub fn transfer_reasons()
     ensures { TransferReasons }
 {}
 
-/// No instruction is refused for want of memory.
+/// No instruction is refused because memory runs out.
 pub fn effects_need_no_memory()
     ensures { (shapes : Shapes) (at : ℕ) (i : Insn) (f : Facts) (reason : Reason)
         → effect shapes at i f ≡ Err reason → reason ≢ Memory }
@@ -58,7 +58,7 @@ pub fn effects_need_no_memory()
     transfer_reasons();
 }
 
-/// Where facts admit a state and let a call go ahead, it is no fault, and the facts after it admit the state after it.
+/// If facts admit a state and allow a call, it is no fault, and the facts after it admit the state after it.
 pub fn calls_are_sound()
     ensures { CallsAreSound }
 {

@@ -1,5 +1,5 @@
-//! What an instruction does to what is known: from the facts before it, those on the edges out of it, or why it may not
-//! be run.
+//! The transfer function of each instruction: from the facts before it, those on the edges out of it, or
+//! the reason why it may not be run.
 #![tactic(auto)]
 
 mod arithmetic;

@@ -16,9 +16,9 @@ use Rattle.tagged_model.specs.Admits.{Witness, AdmitsBy}
 use Rattle.tagged_model.specs.Laws.{JoinAdmits}
 use Rattle.transfer.specs.Branches.{Edges}
 use Rattle.transfer.specs.Effects.{effect}
-use Rattle.verdict.specs.Shape.{falls_into, jumps_into, structure_fault}
-use Rattle.verdict.specs.Before.{joined, only_if, edges_into, facts_sent, facts_from_below, facts_before}
-use Rattle.verdict.specs.Verdict.{HasNoFault}
+use Rattle.verifier.specs.Shape.{falls_into, jumps_into, structure_fault}
+use Rattle.verifier.specs.Before.{joined, only_if, edges_into, facts_sent, facts_from_below, facts_before}
+use Rattle.verifier.specs.Verdict.{HasNoFault}
 use Rattle.verifier.proofs.Edges.{AreThere}
 use Rattle.verifier.proofs.Leads.{IsShaped, shaped, falls_begins, jumps_begins}
 

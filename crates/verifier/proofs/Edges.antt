@@ -2,8 +2,8 @@
 use Rattle.std.proofs.Common.{◌≡◌, ℕ, ℤ, Bool, true, Option, Some, None, Result, Ok, Err, refl, subst}
 use Rattle.words.specs.declared.operator.Operator.TheVariants as on_words
 use Rattle.interval.specs.Ranges.{constant}
-use Rattle.insn_codec.specs.declared.insn.AluOp.{AluOp}
-use Rattle.insn_codec.specs.declared.insn.Size.{Size}
+use Rattle.words.specs.declared.operator.AluOp.{AluOp}
+use Rattle.words.specs.declared.stack.AccessSize.{AccessSize}
 use Rattle.insn_codec.specs.declared.insn.Operand.{Operand}
 use Rattle.insn_codec.specs.declared.insn.AtomicSize.{AtomicSize}
 use Rattle.insn_codec.specs.declared.insn.AtomicOp.{AtomicOp}
@@ -15,7 +15,7 @@ use Rattle.reg_kinds.specs.declared.facts.Facts.{Facts}
 use Rattle.reg_kinds.specs.declared.reason.Reason.{Reason}
 use Rattle.reg_kinds.specs.Reason.{and_then_ok}
 use Rattle.reg_kinds.specs.Kinds.{kind_at, with_kind}
-use Rattle.tagged_model.specs.Operators.{narrow_of, order_of, kept_of, size_of, atomic_size}
+use Rattle.insn_codec.specs.Atomic.{access_size}
 use Rattle.transfer.specs.Branches.{Edges}
 use Rattle.transfer.specs.Branches.{falls as falls_on}
 use Rattle.transfer.specs.Arithmetic.{check_readable, arithmetic_kind, of_scalar}
@@ -78,29 +78,29 @@ module _ (shapes : Shapes) (at : ℕ) where
       (λ a. after_given (LeadOnly (Alu wide op dst src)) (check_readable (source_kind f wide src)) _
       (λ b. assigned_alone (Alu wide op dst src) f dst (arithmetic_kind wide op a b) refl))
 
-  store_leads : (size : Size) (dst : ℕ) (src : Operand) (off : ℤ) (f : Facts) → IfOk (LeadOnly (Store size dst src off)) (effect shapes at (Store size dst src off) f)
+  store_leads : (size : AccessSize) (dst : ℕ) (src : Operand) (off : ℤ) (f : Facts) → IfOk (LeadOnly (Store size dst src off)) (effect shapes at (Store size dst src off) f)
   store_leads size dst src off f =
       after_given (LeadOnly (Store size dst src off)) (check_readable (kind_at f dst)) _
       (λ k. after_given (LeadOnly (Store size dst src off)) (check_readable (source_kind f true src)) _
-      (λ v. after_given (LeadOnly (Store size dst src off)) (store_facts shapes f (size_of size) off k v) _ (λ g. falls_alone (Store size dst src off) g refl)))
+      (λ v. after_given (LeadOnly (Store size dst src off)) (store_facts shapes f size off k v) _ (λ g. falls_alone (Store size dst src off) g refl)))
 
   change_leads : (size : AtomicSize) (op : AtomicOp) (dst src : ℕ) (off : ℤ) (f : Facts) → IfOk (LeadOnly (Atomic size op dst src off)) (effect shapes at (Atomic size op dst src off) f)
   change_leads size op dst src off f =
       after_given (LeadOnly (Atomic size op dst src off)) (check_readable (kind_at f dst)) _
       (λ k. after_given (LeadOnly (Atomic size op dst src off)) (check_readable (kind_at f src)) _
-      (λ v. after_given (LeadOnly (Atomic size op dst src off)) (changed_facts shapes f (atomic_size size) off k v) _ (λ g. falls_alone (Atomic size op dst src off) g refl)))
+      (λ v. after_given (LeadOnly (Atomic size op dst src off)) (changed_facts shapes f (access_size size) off k v) _ (λ g. falls_alone (Atomic size op dst src off) g refl)))
 
   effect_leads : (i : Insn) (f : Facts) → IfOk (LeadOnly i) (effect shapes at i f)
   effect_leads (Alu wide op dst src) f = alu_leads wide op dst src f
-  effect_leads (Movsx m) f = one_leads (Movsx m) f m.dst m.src (of_scalar m.wide (on_words.SignExtend (narrow_of m.bits))) refl
+  effect_leads (Movsx m) f = one_leads (Movsx m) f m.dst m.src (of_scalar m.wide (on_words.SignExtend m.bits)) refl
   effect_leads (Neg wide dst) f = one_leads (Neg wide dst) f dst dst (of_scalar wide on_words.Neg) refl
-  effect_leads (End how kept dst) f = one_leads (End how kept dst) f dst dst (of_scalar true (on_words.End (order_of how) (kept_of kept))) refl
+  effect_leads (End how kept dst) f = one_leads (End how kept dst) f dst dst (of_scalar true (on_words.End how kept)) refl
   effect_leads (Ja off) f = jumps_alone (Ja off) f refl
   effect_leads (Jal off) f = jumps_alone (Jal off) f refl
   effect_leads (Jump wide cond dst src off) f = either_way (Jump wide cond dst src off) (effect shapes at (Jump wide cond dst src off) f) refl refl
   effect_leads (Call id) f = after_given (LeadOnly (Call id)) (known (helper_of id)) _ (λ h. after_given (LeadOnly (Call id)) (call_facts shapes at h f) falls_on (λ g. falls_alone (Call id) g refl))
   effect_leads Exit f = after_given (LeadOnly Exit) (check_readable (kind_at f 0)) exits_with ends_nowhere
-  effect_leads (Load l) f = one_leads (Load l) f l.dst l.src (load_kind shapes f (size_of l.size) l.signed l.off) refl
+  effect_leads (Load l) f = one_leads (Load l) f l.dst l.src (load_kind shapes f l.size l.signed l.off) refl
   effect_leads (Store size dst src off) f = store_leads size dst src off f
   effect_leads (Atomic size op dst src off) f = change_leads size op dst src off f
   effect_leads (Const dst value) f = falls_alone (Const dst value) (with_kind f dst (kind.Scalar (constant value))) refl

@@ -2,8 +2,8 @@
 use Rattle.std.proofs.Common.{◌≡◌, ℕ, List, subst, sym, ap, ◌∙◌}
 use Rattle.insn_codec.specs.declared.insn.Insn.{Insn}
 use Rattle.tagged_model.specs.declared.shape.Named.{Named}
-use Rattle.verdict.specs.Maps.{maps_of, entries_of}
-use Rattle.verdict.specs.Verdict.{IsAccepted}
+use Rattle.verifier.specs.Maps.{maps_of, entries_of}
+use Rattle.verifier.specs.Verdict.{IsAccepted}
 use Rattle.verifier.specs.Verified.{IsVerified}
 
 -- a copy of it, with its maps

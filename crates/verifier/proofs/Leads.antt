@@ -9,9 +9,9 @@ use Rattle.insn_codec.specs.Program.{slot_count, begins_at}
 use Rattle.insn_codec.specs.BeginLaws.{next_begins}
 use Rattle.tagged_model.specs.declared.shape.Named.{Named}
 use Rattle.insn_codec.specs.Flow.{falls_to, jumps_to, falls, jumps}
-use Rattle.verdict.specs.Shape.{is_slot, falls_into, jumps_into, leads_outside, leads_backward, structure_fault}
-use Rattle.verdict.specs.Verdict.{HasNoFault}
-use Rattle.verdict.specs.ShapeLaws.{each_is_fine}
+use Rattle.verifier.specs.Shape.{is_slot, falls_into, jumps_into, leads_outside, leads_backward, structure_fault}
+use Rattle.verifier.specs.Verdict.{HasNoFault}
+use Rattle.verifier.specs.ShapeLaws.{each_is_fine}
 use Rattle.verifier.specs.Verified.{GoesAhead}
 
 -- ---- the shape of an instruction

@@ -1,3 +1,12 @@
+pub mod EntryLists
+pub mod Inflow
+pub mod Telling
+pub mod OneVerdict
+pub mod Reached
+pub mod Rules
+pub mod Loads
+pub mod LoadedShapes
+pub mod Listed
 pub mod KeptPrograms
 pub mod Edges
 pub mod Leads

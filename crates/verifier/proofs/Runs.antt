@@ -20,16 +20,16 @@ use Rattle.tagged_model.specs.State.{RunState}
 use Rattle.tagged_model.specs.Step.{Step, goes, ends, faults, step, Ending, ending_after, refused_at_first, refused_later, run, begins_with, MapsByDescriptor, start_of_run}
 use Rattle.tagged_model.specs.Admits.{Witness, objects_of, HasKind, HasSlot, AdmitsBy}
 use Rattle.tagged_model.specs.AdmitsLaws.{no_bytes}
-use Rattle.verdict.specs.Maps.{shapes_of}
-use Rattle.verdict.specs.Before.{facts_from_below, facts_before}
-use Rattle.verdict.specs.Verdict.{IsAccepted}
+use Rattle.verifier.specs.Maps.{shapes_of}
+use Rattle.verifier.specs.Before.{facts_from_below, facts_before}
+use Rattle.verifier.specs.Verdict.{IsAccepted}
 use Rattle.verifier.specs.Sound.{IsAdmitted, NextIsAdmitted, StepsGoOn, AreRunInputs, NeverFaults}
 use Rattle.verifier.proofs.FirstMaps.{first_values, first_maps}
 use Rattle.verifier.proofs.Arrivals.{begins_before}
 
 -- ---- at the beginning
 
--- nothing is told: no look-up has been, and no object
+-- the empty witness: no look-up, and no object
 abbrev nothing : Witness
 nothing = record { gave = λ site. Scalar 0; objects = λ m. 0 }
 

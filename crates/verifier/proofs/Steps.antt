@@ -21,9 +21,9 @@ use Rattle.transfer.specs.Effects.{effect}
 use Rattle.transfer.specs.Sound.{AreWellFormedAt, AreWellFormedOn, TransferKeepsWellFormed, EdgeAdmits, takes_jump, TakenEdgeAdmits, CoversStep, TransferIsSound}
 use Rattle.insn_codec.specs.Flow.{falls_to, jumps_to}
 use Rattle.insn_codec.specs.BeginLaws.{some_slots, begun_is_insn}
-use Rattle.verdict.specs.Maps.{shapes_of}
-use Rattle.verdict.specs.Before.{facts_before}
-use Rattle.verdict.specs.Verdict.{reason_of, safety_fault, IsAccepted}
+use Rattle.verifier.specs.Maps.{shapes_of}
+use Rattle.verifier.specs.Before.{facts_before}
+use Rattle.verifier.specs.Verdict.{reason_of, safety_fault, IsAccepted}
 use Rattle.verifier.specs.Sound.{StepIsSound, IsAdmitted, NextIsAdmitted, StepsGoOn}
 use Rattle.verifier.proofs.Edges.{leads_only}
 use Rattle.verifier.proofs.Leads.{IsShaped, target_is, falls_lead, jump_at, jumps_lead}

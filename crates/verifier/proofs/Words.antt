@@ -24,8 +24,8 @@ use Rattle.transfer.specs.Branches.{Edges}
 use Rattle.transfer.specs.Effects.{effect}
 use Rattle.transfer.specs.Sound.{IsKindAt, IsSlotAt, AreWellFormedAt, AreWellFormedOn, TransferKeepsWellFormed}
 use Rattle.transfer.specs.FactLaws.{facts_of_later_slots}
-use Rattle.verdict.specs.Shape.{falls_into, jumps_into}
-use Rattle.verdict.specs.Before.{joined, only_if, edges_into, facts_sent, facts_from_below}
+use Rattle.verifier.specs.Shape.{falls_into, jumps_into}
+use Rattle.verifier.specs.Before.{joined, only_if, edges_into, facts_sent, facts_from_below}
 
 -- above the slots of the look-ups
 module _ (bound : ℕ) where

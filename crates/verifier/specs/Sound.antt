@@ -1,4 +1,4 @@
--- Why an accepted program never faults. This project's own.
+-- Soundness of the verifier: no run of an accepted program faults. This project's own.
 use Rattle.std.specs.Prelude.{◌≡◌, ◌≢◌, ℕ, ◌<◌, ◌^◌, Bool, List, length, Some, Ok}
 use Rattle.std.specs.List.{All}
 use Rattle.std.specs.Map.{keys_of, values_of}
@@ -19,36 +19,36 @@ use Rattle.tagged_model.specs.Laws.{Describes}
 use Rattle.transfer.specs.Branches.{Edges}
 use Rattle.transfer.specs.Effects.{effect}
 use Rattle.transfer.specs.Sound.{CoversStep}
-use Rattle.verdict.specs.Shape.{structure_fault}
-use Rattle.verdict.specs.Maps.{shapes_of}
-use Rattle.verdict.specs.Before.{facts_before}
-use Rattle.verdict.specs.Verdict.{HasNoFault, IsAccepted}
+use Rattle.verifier.specs.Shape.{structure_fault}
+use Rattle.verifier.specs.Maps.{shapes_of}
+use Rattle.verifier.specs.Before.{facts_before}
+use Rattle.verifier.specs.Verdict.{HasNoFault, IsAccepted}
 
 -- ---- one step
 
--- in a program without a fault of its shape: where the facts before a slot admit a state at it that has a map of each shape,
--- and let the instruction there be run, the machine has a step, whether or not memory is refused at it. The next state has a
--- map of each shape again, and the facts on the edge that the step takes admit it
+-- in a program without a fault of its shape: if the facts before a slot describe a state there, and let the instruction be run, the
+-- machine has a step, whether or not memory is refused at it; the next state has a map of each shape again, and the facts on the
+-- edge that the step takes admit it
 abbrev pub StepIsSound : Type 0
 StepIsSound =
     (code : List Insn) (named : List Named) (witness : Witness) (refused : Bool) (s : RunState) (i : Insn) (f : Facts) (edges : Edges) → IsProgram code → HasNoFault (structure_fault code named) → begins_at code s.at ≡ Some i
     → facts_before (shapes_of code named) code s.at ≡ Some f → Describes witness f (shapes_of code named) s → effect (shapes_of code named) s.at i f ≡ Ok edges
     → CoversStep (shapes_of code named) i s edges (act refused i s)
 
--- the facts before the state's slot admit it, and it has a map of each shape
+-- the facts before the state's slot describe it
 pub record IsAdmitted (shapes : Shapes) (code : List Insn) (s : RunState) : Type 0 where
   pub witness : Witness
   pub facts : Facts
   pub known : facts_before shapes code s.at ≡ Some facts
   pub still : Describes witness facts shapes s
 
--- a step that is no fault: the state after it lies farther on, and the facts before its slot admit it
+-- the step is no fault; a state after it is at a later slot, and the facts before that slot describe it
 abbrev pub NextIsAdmitted : Shapes → List Insn → ℕ → Step → Type 0
 NextIsAdmitted shapes code at (goes t) = (at < t.at) × IsAdmitted shapes code t
 NextIsAdmitted shapes code at (ends n) = n < 2 ^ 32
 NextIsAdmitted shapes code at faults = ⊥
 
--- each step of an accepted program goes on, whatever memory is refused
+-- no step of an accepted program from an admitted state faults, whatever memory is refused, and the state after it is admitted
 abbrev pub StepsGoOn : Type 0
 StepsGoOn =
     (code : List Insn) (named : List Named) (refused : Bool) (s : RunState) → IsProgram code → IsAccepted code named → IsAdmitted (shapes_of code named) code s
@@ -56,13 +56,13 @@ StepsGoOn =
 
 -- ---- runs
 
--- a map of this shape: an array has all its indices, and each value has its size
+-- a map of this shape: an array has all its indices, and each value has the size of the shape
 pub record IsTableOf (shape : MapShape) (t : Table (List ℕ)) : Type 0 where
   pub shaped : t.shape ≡ shape
   pub indices : shape.kind ≡ Array → keys_of t.entries ≡ keys_of (indexed (λ i. i) 0 shape.max_entries)
   pub sized : All (λ value. length value ≡ shape.value_size) (values_of t.entries)
 
--- what a run may be given: a map of each shape, the words of a context, and bytes
+-- the inputs of a run: a map of each shape, the words of a context, and a packet of bytes
 pub record AreRunInputs (shapes : Shapes) (maps : MapsByDescriptor) (words packet : List ℕ) : Type 0 where
   pub has : (m : ℕ) (shape : MapShape) → shapes m ≡ Some shape → (t : Table (List ℕ)) × (maps m ≡ Some t) × IsTableOf shape t
   pub values : (m : ℕ) (t : Table (List ℕ)) → maps m ≡ Some t → All AreBytes (values_of t.entries)

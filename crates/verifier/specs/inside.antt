@@ -1,2 +1,7 @@
--- What private contracts and proofs cite. No public contract names it.
+-- Definitions for private contracts and proofs. No public contract names them.
+pub mod Edges
+pub mod Descriptors
+pub mod Jumps
+pub mod Arriving
+pub mod Telling
 pub mod Kept

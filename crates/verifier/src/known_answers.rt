@@ -1,18 +1,31 @@
-//! What a watcher is told, proved from the public contract alone. Nothing calls these functions.
+//! Known answers of the watched verdict and of the private types, proved from their contracts alone. Nothing calls these functions.
 
-ghost use Rattle.std.specs.Prelude.{◌≡◌, IfOk};
+ghost use Rattle.std.specs.Prelude.{◌≡◌, ◌≢◌, ◌<◌, ℕ, length, slice_index_or, None, IfOk, OnOk};
 ghost use Rattle.insn_codec.specs.Program.{slot_count};
-ghost use Rattle.verdict.specs.Maps.{shapes_of};
-ghost use Rattle.verdict.specs.Told.{reached};
+ghost use Rattle.verifier.specs.Maps.{shapes_of};
+ghost use Rattle.verifier.specs.Told.{reached};
 
+use crate::fault::VerifyFault;
+use crate::target_facts::TargetFacts;
 use crate::verified::verify_watched;
+use crate::watcher::Watcher;
 use insn_codec::Program;
 use reg_kinds::Facts;
 use std::alloc::{AllocError, Global};
 use tagged_model::Named;
-use verdict::{VerifyFault, Watcher};
 
-/// Keeps all that it is told, in order.
+/// If only one slot has an entry, a jump to this slot adds no entry for another: a target has one entry,
+/// however many jumps lead to it.
+fn one_entry(entries: &mut TargetFacts, slot: usize, facts: &Facts) -> Result<(), AllocError>
+    requires within { slot < length entries.old }
+    requires alone { (i : ℕ) → i ≢ slot → slice_index_or entries.old i None ≡ None }
+    ensures alone { OnOk result ((i : ℕ) → i ≢ slot → slice_index_or entries.new i None ≡ None) }
+    ensures long { OnOk result (length entries.new ≡ length entries.old) }
+{
+    entries.send(Some(slot), Some(facts))
+}
+
+/// A watcher that keeps all that it receives, in order.
 #[derive(Drop)]
 struct Notes {
     notes: Vec<(usize, Facts)>,
@@ -29,7 +42,7 @@ impl Watcher for Notes {
     }
 }
 
-/// Of an accepted program it has each slot that a run may come to, once and in order, with the facts of the definition.
+/// For an accepted program, the notes have each slot that a run may reach, once and in order, with the facts of the definition.
 fn all_notes(
     alloc: Global,
     program: &Program,

@@ -1,9 +1,55 @@
-//! Laws of accepted programs. A law does nothing when it runs.
+//! Laws of the verdict and of accepted programs, for the proofs that use them. Each law is the contract
+//! of a function that does nothing.
 
+ghost use Rattle.std.specs.Prelude.{◌≡◌, ◌≢◌, ℕ, List};
+ghost use Rattle.insn_codec.specs.declared.insn.Insn.{Insn};
+ghost use Rattle.reg_kinds.specs.declared.reason.Reason.{Reason};
+ghost use Rattle.reg_kinds.specs.declared.reason.Reason.TheVariants.{Memory};
+ghost use Rattle.tagged_model.specs.declared.shape.Named.{Named};
+ghost use Rattle.verifier.specs.Laws.{LoadedMapsHaveShapes, MapsAreListed, SafetyFollowsShape};
 ghost use Rattle.verifier.specs.Sound.{StepIsSound, StepsGoOn, NeverFaults};
+ghost use Rattle.verifier.specs.Verdict.{IsAccepted, IsRefused};
 
-/// In a program without a fault of its shape: where the facts before a slot admit a state at it, and let the instruction
-/// there be run, the machine has a step, and the facts on the edge that it takes admit the next state.
+/// A refusal is unique: one slot and one reason.
+pub fn one_refusal()
+    ensures { (code : List Insn) (named : List Named) (m n : ℕ) (a b : Reason)
+        → IsRefused code named m a → IsRefused code named n b → (m ≡ n) × (a ≡ b) }
+{}
+
+/// An accepted program is not refused.
+pub fn accepted_is_not_refused()
+    ensures { (code : List Insn) (named : List Named) (slot : ℕ) (reason : Reason)
+        → IsAccepted code named → ¬ IsRefused code named slot reason }
+{}
+
+/// A program is refused by a rule, never for `Memory`, which `verify` reports only if it is out of memory.
+pub fn refused_by_a_rule()
+    ensures { (code : List Insn) (named : List Named) (slot : ℕ) (reason : Reason)
+        → IsRefused code named slot reason → reason ≢ Memory }
+{
+    transfer::laws::effects_need_no_memory();
+}
+
+/// If the shape of a program has no fault, no instruction is refused for safety because it calls an unknown helper, loads something
+/// other than a map, or loads a direct value that the map does not have: the check of the shape has excluded these.
+pub fn safety_follows_shape()
+    ensures { SafetyFollowsShape }
+{
+    transfer::laws::transfer_reasons();
+}
+
+/// Each map that an accepted program loads has a shape.
+pub fn loaded_maps_have_shapes()
+    ensures { LoadedMapsHaveShapes }
+{}
+
+/// The maps of a program are those that its instructions load, each listed once.
+pub fn maps_are_listed()
+    ensures { MapsAreListed }
+{}
+
+/// If the shape of a program has no fault, and the facts before a slot admit a state there and let the instruction be run, the
+/// machine has a step, and the facts on the edge that it takes admit the next state.
 pub fn step_is_sound()
     ensures { StepIsSound }
 {
@@ -11,8 +57,8 @@ pub fn step_is_sound()
     transfer::laws::transfer_keeps_well_formed();
 }
 
-/// Where the facts before a slot admit a state at it, the step of an accepted program is no fault, and the facts before the
-/// next slot admit the state after it.
+/// If the facts before a slot admit a state there, the step of an accepted program is no fault, and the facts before the next
+/// slot admit the state after it.
 pub fn steps_go_on()
     ensures { StepsGoOn }
 {

@@ -1,24 +1,26 @@
-//! Programs that were accepted.
+//! Accepted programs.
 
-ghost use Rattle.std.specs.Prelude.{◌≡◌, ◌≢◌, ◌⊎◌, ℕ, Bool, List, IfErr, IfOk, OnOk};
+ghost use Rattle.std.specs.Prelude.{◌≡◌, ◌≢◌, ℕ, Bool, List, IfErr, IfOk, OnOk};
 ghost use Rattle.tagged_model.specs.declared.value.Outcome.TheVariants.{Fault};
 ghost use Rattle.tagged_model.specs.Step.{MapsByDescriptor, result_with};
-ghost use Rattle.verdict.specs.Told.{IsToldRefused, IsToldWhole};
-ghost use Rattle.verdict.specs.Verdict.{IsAccepted, IsRefused, memory_fault};
-ghost use Rattle.verdict.specs.Maps.{maps_of, entries_of};
+ghost use Rattle.verifier.specs.Maps.{maps_of};
 ghost use Rattle.verifier.specs.Sound.{AreRunInputs};
-ghost use Rattle.verifier.specs.Verified.{IsVerified, GoesAhead, shapes_in};
+ghost use Rattle.verifier.specs.Told.{IsToldRefused, IsToldWhole};
+ghost use Rattle.verifier.specs.Verdict.{IsFaultOf};
+ghost use Rattle.verifier.specs.Verified.{IsAcceptedAs, IsVerified, GoesAhead, shapes_in};
 
+use crate::fault::VerifyFault;
+use crate::judging::{LoadedMaps, judge};
 use crate::laws;
+use crate::watcher::{Unwatched, Watcher};
 use insn_codec::Program;
 use std::alloc::Global;
 use std::marker::Model;
 use tagged_model::Named;
-use verdict::{LoadedMaps, VerifyFault, Watcher, judge, judge_watched};
 
-/// A program that was accepted: no run of it faults.
+/// An accepted program: no run of it faults.
 ///
-/// Contracts see the list of its instructions, and what the descriptors named that it loads.
+/// Contracts see the list of its instructions, and the objects that its descriptors named when it was accepted.
 #[derive(Debug, Drop)]
 pub struct Verified {
     program: Program,
@@ -38,7 +40,7 @@ impl Model for Verified {
 }
 
 impl Verified {
-    /// The program that was judged.
+    /// The program that was verified.
     pub fn program(&self) -> &Program
         ensures value { result.now ≡ self.now.code }
         ensures verified { IsVerified self.now }
@@ -46,14 +48,15 @@ impl Verified {
         &self.program
     }
 
-    /// The descriptors of the maps that it loads, each once, in the order of the first load of each.
+    /// The descriptors of the maps that it loads, each once, in the order of their first loads.
     pub fn maps(&self) -> &[u32]
         ensures { result.now ≡ maps_of self.now.code }
     {
         &self.loaded.maps
     }
 
-    /// A law: no run of the program faults that is given maps of these shapes, whatever memory is refused in it. It does nothing when it runs.
+    /// A law: no run of the program faults that is given maps of the shapes with which it was accepted, whatever memory is refused
+    /// in it. It does nothing when it runs.
     pub fn never_faults(&self)
         ensures { (refusals : List Bool) (maps : MapsByDescriptor) (words packet : List ℕ)
             → AreRunInputs (shapes_in self.now) maps words packet
@@ -63,7 +66,8 @@ impl Verified {
         laws::accepted_programs_never_fault();
     }
 
-    /// A law: wherever an instruction of the program may lead another one begins, and farther on. It does nothing when it runs.
+    /// A law: each edge out of an instruction of the program leads to another instruction, at a later
+    /// slot. It does nothing when it runs.
     pub fn goes_ahead(&self)
         ensures { GoesAhead self.now.code }
     {
@@ -71,51 +75,60 @@ impl Verified {
     }
 }
 
-/// Accepts a program, or refuses it. `named` says what each open descriptor names.
+/// Verifies a program. `named` lists the open descriptors and the objects that they name; the first entry of a descriptor counts.
+/// The result has a copy of the program.
 ///
 /// # Errors
 ///
-/// Those of `verdict::judge`; `Memory` at slot 0 also where there was no memory for the program's copy
-/// or for the lists of its maps.
+/// The first fault of the program's shape; if there is none, the first instruction that may not be run with the facts before
+/// it; each with its slot and its first reason. `Memory` at slot 0 if out of memory for the verdict, for the lists of the
+/// program's maps or for the copy.
 pub fn verify(alloc: Global, program: &Program, named: &[Named]) -> Result<Verified, VerifyFault>
-    ensures accepted { IfOk result (λ verified. (verified.code ≡ program.now)
-        × (verified.entries ≡ entries_of (maps_of program.now) named.now)
-        × IsAccepted program.now named.now) }
-    ensures refused { IfErr result (λ e. (e ≡ memory_fault)
-        ⊎ IsRefused program.now named.now e.slot e.reason) }
+    ensures accepted { IfOk result (IsAcceptedAs program.now named.now) }
+    ensures refused { IfErr result (IsFaultOf program.now named.now) }
 {
-    let loaded = judge(alloc, program, named)?;
+    let loaded = judge(alloc, program, named, &mut Unwatched)?;
     let program = program.clone()?;
     Ok(Verified { program, loaded })
 }
 
-/// `verify`, and a watcher is told what is known before each instruction that a run may come to: each slot once and in order,
-/// with the facts before it. Where the program is refused for its safety that ends with the slot of the fault, and at a fault of
-/// its shape nothing is told.
+/// Verifies a program like `verify`, but takes it over, so no copy is made.
 ///
 /// # Errors
 ///
-/// Those of `verify`; `Memory` at slot 0 also where the watcher got no memory. Then it was told so up to some slot.
+/// Those of `verify`; then the program is dropped.
+pub fn verify_owned(
+    alloc: Global,
+    program: Program,
+    named: &[Named],
+) -> Result<Verified, VerifyFault>
+    ensures accepted { IfOk result (IsAcceptedAs program named.now) }
+    ensures refused { IfErr result (IsFaultOf program named.now) }
+{
+    let loaded = judge(alloc, &program, named, &mut Unwatched)?;
+    Ok(Verified { program, loaded })
+}
+
+/// Verifies a program like `verify`, and passes the facts before each instruction that a run may reach to `watcher`: each slot once
+/// and in order. If the program is refused for its safety, the last slot is that of the fault; if for its shape, nothing is passed.
+///
+/// # Errors
+///
+/// Those of `verify`; `Memory` at slot 0 also if the watcher is out of memory. Then it has received the facts up to some slot.
 pub fn verify_watched<W: Watcher>(
     alloc: Global,
     program: &Program,
     named: &[Named],
     watcher: &mut W,
 ) -> Result<Verified, VerifyFault>
-    ensures accepted { IfOk result (λ verified. (verified.code ≡ program.now)
-        × (verified.entries ≡ entries_of (maps_of program.now) named.now)
-        × IsAccepted program.now named.now) }
-    ensures refused { IfErr result (λ e. (e ≡ memory_fault)
-        ⊎ IsRefused program.now named.now e.slot e.reason) }
+    ensures accepted { IfOk result (IsAcceptedAs program.now named.now) }
+    ensures refused { IfErr result (IsFaultOf program.now named.now) }
     ensures told { OnOk result
         (IsToldWhole program.now named.now (W.told watcher.old) (W.told watcher.new)) }
     ensures told_refused { IfErr result
         (IsToldRefused program.now named.now (W.told watcher.old) (W.told watcher.new)) }
 {
-    let loaded = judge_watched(alloc, program, named, watcher)?;
-    let copy = program.clone()?;
-    Ok(Verified {
-        program: copy,
-        loaded,
-    })
+    let loaded = judge(alloc, program, named, watcher)?;
+    let program = program.clone()?;
+    Ok(Verified { program, loaded })
 }

@@ -1,4 +1,4 @@
-//! verifier_log: what the verifier knows before each instruction of a program, and why a program is refused. See the README.
+//! verifier_log: the facts of the verifier before each instruction of a program, and why a program is refused. See the README.
 #![tactic(auto)]
 
 use host::refuse_unread_words;
@@ -6,7 +6,7 @@ use log_text::run_log_words;
 use std::process::ExitCode;
 use std::{env, io};
 
-/// Runs the program on its arguments. An error is one of reading them.
+/// Runs the program on its arguments. An error means that the arguments could not be read.
 fn run(rt: &HostRuntime) -> io::Result<u8> {
     let alloc = rt.alloc();
     let given: Vec<String> = env::args(rt)?.skip(1).collect(alloc)?;

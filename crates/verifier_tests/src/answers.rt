@@ -1,4 +1,4 @@
-//! What is answered to a line.
+//! The answers to lines.
 
 use crate::descriptors::{named_map, named_program};
 use crate::error::CaseError;
@@ -8,7 +8,7 @@ use case_lines::{first_word, program_lines};
 use std::alloc::Global;
 use verifier::{Named, Verified, verify};
 
-/// The program of a text once it is accepted.
+/// The program of a text, accepted.
 fn accepted(alloc: Global, text: &str, named: &[Named]) -> Result<Verified, CaseError> {
     let lines = program_lines(alloc, text)?;
     let program = assemble(alloc, lines.as_str())?;
@@ -21,7 +21,7 @@ fn verdict_of(alloc: Global, text: &str, named: &[Named]) -> Result<String, Case
     Ok("accepted".to_string(alloc)?)
 }
 
-/// The verdict on a program that begins so, and then ends with 0.
+/// The verdict on a program that begins with `text` and then returns 0.
 fn verdict_of_start(alloc: Global, text: &str, named: &[Named]) -> Result<String, CaseError> {
     let whole = format!(in alloc; "{text}; r0 = 0; exit")?;
     verdict_of(alloc, whole.as_str(), named)
@@ -35,14 +35,14 @@ fn maps(alloc: Global, text: &str, named: &[Named]) -> Result<String, CaseError>
     Ok(format!(in alloc; "maps {maps:?} slots {slots}")?)
 }
 
-/// The verdict on a program of jumps, of `AHEAD END`.
+/// The verdict on a program of jumps, given `AHEAD END`.
 fn verdict_of_jumps(alloc: Global, text: &str, named: &[Named]) -> Result<String, CaseError> {
     let (ahead, end) = text.split_once(' ').ok_or(CaseError::UnknownLine)?;
     let whole = jumping(alloc, ahead.parse()?, end)?;
     verdict_of(alloc, whole.as_str(), named)
 }
 
-/// Opens a descriptor. Of two with one number the first counts.
+/// Opens a descriptor. Of two with the same number the first counts.
 fn open(alloc: Global, named: &mut Vec<Named>, new: Named) -> Result<String, CaseError> {
     named.push(new)?;
     Ok("open".to_string(alloc)?)

@@ -1,4 +1,4 @@
-//! Open descriptors, as words name them.
+//! Open descriptors, from the words of a line.
 
 use crate::error::CaseError;
 use std::alloc::Global;

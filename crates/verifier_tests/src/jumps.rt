@@ -2,10 +2,10 @@
 
 use std::alloc::{AllocError, Global};
 
-/// How many jumps a program of 4,096 slots has, one in each second slot.
+/// The number of jumps of a program of 4,096 slots, one in every second slot.
 const JUMPS: usize = 2047;
 
-/// The text of a program of 4,096 slots with a jump in each second one, which goes so many slots ahead, or to the end.
+/// The text of a program of 4,096 slots with a jump in every second one, which goes `ahead` slots ahead, or to the end.
 pub fn jumping(alloc: Global, ahead: usize, end: &str) -> Result<String, AllocError> {
     let mut lines = String::new(alloc);
     lines.push_str("r0 = *(u32 *)(r1 + 0)")?;

@@ -2,15 +2,15 @@
 //!
 //! | Line | Answer |
 //! |---|---|
-//! | `verify TEXT` | the verdict on a program's text, where `;` ends a line and `COUNT times LINE` is so many lines |
-//! | `start TEXT` | the verdict on a program that begins so, and then ends with `r0 = 0; exit` |
+//! | `verify TEXT` | the verdict on a program's text, where `;` ends a line and `COUNT times LINE` is `COUNT` such lines |
+//! | `start TEXT` | the verdict on a program that begins with this text, and then ends with `r0 = 0; exit` |
 //! | `map FD KIND KEY_SIZE VALUE_SIZE MAX_ENTRIES` | from here on this descriptor names a map |
 //! | `program FD` | from here on this descriptor names a program |
 //! | `new` | from here on no descriptor is open |
 //! | `maps TEXT` | the maps that an accepted program loads, and its number of slots |
-//! | `jumps AHEAD END` | the verdict on a program of 4,096 slots with a jump in each second one |
+//! | `jumps AHEAD END` | the verdict on a program of 4,096 slots with a jump in every second one |
 //!
-//! A line that is empty or begins with `#` is written as it stands.
+//! A line that is empty or begins with `#` is written unchanged.
 #![tactic(auto)]
 
 mod answers;

@@ -2,82 +2,83 @@
 use Rattle.std.proofs.Common.{◌≡◌, pos, neg_ℤ, true, false, refl}
 use Rattle.words.specs.declared.operator.KeptBits.TheVariants.{Bits16, Bits32, Bits64}
 use Rattle.words.specs.declared.operator.ExtendedBits.TheVariants as narrow
-use Rattle.words.specs.declared.operator.OrderChange.TheVariants.{Little, Big, Swap}
-use Rattle.words.specs.declared.operator.Operator.TheVariants.{Add, Sub, Mul, Div, SignedDiv, Or, And, ShiftLeft, ShiftRight, Mod, SignedMod, Xor, Mov, SignedShiftRight, Neg, SignExtend}
-use Rattle.words.specs.declared.operator.Comparison.TheVariants.{Equal, NotEqual, Above, AboveOrEqual, Below, BelowOrEqual, SignedAbove, SignedAboveOrEqual, SignedBelow, SignedBelowOrEqual, CommonBit}
+use Rattle.words.specs.declared.operator.ByteOrder.TheVariants.{Little, Big, Swap}
+use Rattle.words.specs.declared.operator.AluOp.TheVariants.{Add, Sub, Mul, Div, SignedDiv, Or, And, ShiftLeft, ShiftRight, Mod, SignedMod, Xor, Mov, SignedShiftRight}
+use Rattle.words.specs.declared.operator.Operator.TheVariants.{Binary, Neg, SignExtend}
+use Rattle.words.specs.declared.operator.Condition.TheVariants.{Equal, NotEqual, Above, AboveOrEqual, Below, BelowOrEqual, SignedAbove, SignedAboveOrEqual, SignedBelow, SignedBelowOrEqual, CommonBit}
 use Rattle.words.specs.Operate.{operate, byte_order}
 use Rattle.words.specs.Compare.{compares}
 use Rattle.words.specs.Stack.{is_in_stack, place, is_aligned, touches}
 
 -- ---- words of 64 bits (RFC 9669, sections 4.1 to 4.3)
 
-divide_by_zero : operate 64 Div 7 0 ≡ 0
+divide_by_zero : operate 64 (Binary Div) 7 0 ≡ 0
 divide_by_zero = refl
 
-remainder_by_zero : operate 64 Mod 7 0 ≡ 7
+remainder_by_zero : operate 64 (Binary Mod) 7 0 ≡ 7
 remainder_by_zero = refl
 
-signed_divide_by_zero : operate 64 SignedDiv 0xffff_ffff_ffff_fff9 0 ≡ 0
+signed_divide_by_zero : operate 64 (Binary SignedDiv) 0xffff_ffff_ffff_fff9 0 ≡ 0
 signed_divide_by_zero = refl
 
-signed_remainder_by_zero : operate 64 SignedMod 0xffff_ffff_ffff_fff9 0 ≡ 0xffff_ffff_ffff_fff9
+signed_remainder_by_zero : operate 64 (Binary SignedMod) 0xffff_ffff_ffff_fff9 0 ≡ 0xffff_ffff_ffff_fff9
 signed_remainder_by_zero = refl
 
-divide_unsigned : operate 64 Div 0xffff_ffff_ffff_ffff 2 ≡ 0x7fff_ffff_ffff_ffff
+divide_unsigned : operate 64 (Binary Div) 0xffff_ffff_ffff_ffff 2 ≡ 0x7fff_ffff_ffff_ffff
 divide_unsigned = refl
 
-least_divided_by_minus_one : operate 64 SignedDiv 0x8000_0000_0000_0000 0xffff_ffff_ffff_ffff ≡ 0x8000_0000_0000_0000
+least_divided_by_minus_one : operate 64 (Binary SignedDiv) 0x8000_0000_0000_0000 0xffff_ffff_ffff_ffff ≡ 0x8000_0000_0000_0000
 least_divided_by_minus_one = refl
 
-least_modulo_minus_one : operate 64 SignedMod 0x8000_0000_0000_0000 0xffff_ffff_ffff_ffff ≡ 0
+least_modulo_minus_one : operate 64 (Binary SignedMod) 0x8000_0000_0000_0000 0xffff_ffff_ffff_ffff ≡ 0
 least_modulo_minus_one = refl
 
-signed_quotient_rounds_toward_zero : operate 64 SignedDiv 7 0xffff_ffff_ffff_fffe ≡ 0xffff_ffff_ffff_fffd
+signed_quotient_rounds_toward_zero : operate 64 (Binary SignedDiv) 7 0xffff_ffff_ffff_fffe ≡ 0xffff_ffff_ffff_fffd
 signed_quotient_rounds_toward_zero = refl
 
-signed_remainder_as_the_dividend : operate 64 SignedMod 0xffff_ffff_ffff_fff9 2 ≡ 0xffff_ffff_ffff_ffff
+signed_remainder_as_the_dividend : operate 64 (Binary SignedMod) 0xffff_ffff_ffff_fff9 2 ≡ 0xffff_ffff_ffff_ffff
 signed_remainder_as_the_dividend = refl
 
-difference_wraps : operate 64 Sub 0 1 ≡ 0xffff_ffff_ffff_ffff
+difference_wraps : operate 64 (Binary Sub) 0 1 ≡ 0xffff_ffff_ffff_ffff
 difference_wraps = refl
 
-shift_left_modulo_64 : operate 64 ShiftLeft 5 64 ≡ 5
+shift_left_modulo_64 : operate 64 (Binary ShiftLeft) 5 64 ≡ 5
 shift_left_modulo_64 = refl
 
-shift_right_modulo_64 : operate 64 ShiftRight 0x8000_0000_0000_0000 127 ≡ 1
+shift_right_modulo_64 : operate 64 (Binary ShiftRight) 0x8000_0000_0000_0000 127 ≡ 1
 shift_right_modulo_64 = refl
 
-signed_shift_copies_the_sign : operate 64 SignedShiftRight 0x8000_0000_0000_0000 63 ≡ 0xffff_ffff_ffff_ffff
+signed_shift_copies_the_sign : operate 64 (Binary SignedShiftRight) 0x8000_0000_0000_0000 63 ≡ 0xffff_ffff_ffff_ffff
 signed_shift_copies_the_sign = refl
 
-sum_wraps : operate 64 Add 0xffff_ffff_ffff_ffff 2 ≡ 1
+sum_wraps : operate 64 (Binary Add) 0xffff_ffff_ffff_ffff 2 ≡ 1
 sum_wraps = refl
 
-product_wraps : operate 64 Mul 0x1_0000_0001 0x1_0000_0003 ≡ 0x4_0000_0003
+product_wraps : operate 64 (Binary Mul) 0x1_0000_0001 0x1_0000_0003 ≡ 0x4_0000_0003
 product_wraps = refl
 
-common_digits : operate 64 And 0xf0f0_1234_0000_000c 0x0ff0_4321_0000_000a ≡ 0xf0_0220_0000_0008
+common_digits : operate 64 (Binary And) 0xf0f0_1234_0000_000c 0x0ff0_4321_0000_000a ≡ 0xf0_0220_0000_0008
 common_digits = refl
 
-digits_of_either : operate 64 Or 0xf0f0_1234_0000_000c 0x0ff0_4321_0000_000a ≡ 0xfff0_5335_0000_000e
+digits_of_either : operate 64 (Binary Or) 0xf0f0_1234_0000_000c 0x0ff0_4321_0000_000a ≡ 0xfff0_5335_0000_000e
 digits_of_either = refl
 
-digits_of_one : operate 64 Xor 0xf0f0_1234_0000_000c 0x0ff0_4321_0000_000a ≡ 0xff00_5115_0000_0006
+digits_of_one : operate 64 (Binary Xor) 0xf0f0_1234_0000_000c 0x0ff0_4321_0000_000a ≡ 0xff00_5115_0000_0006
 digits_of_one = refl
 
-remainder_unsigned : operate 64 Mod 0xffff_ffff_ffff_ffff 10 ≡ 5
+remainder_unsigned : operate 64 (Binary Mod) 0xffff_ffff_ffff_ffff 10 ≡ 5
 remainder_unsigned = refl
 
-shift_right_brings_zeros : operate 64 ShiftRight 0x8000_0000_0000_0000 4 ≡ 0x0800_0000_0000_0000
+shift_right_brings_zeros : operate 64 (Binary ShiftRight) 0x8000_0000_0000_0000 4 ≡ 0x0800_0000_0000_0000
 shift_right_brings_zeros = refl
 
-signed_shift_of_a_number : operate 64 SignedShiftRight 0x4000_0000_0000_0000 66 ≡ 0x1000_0000_0000_0000
+signed_shift_of_a_number : operate 64 (Binary SignedShiftRight) 0x4000_0000_0000_0000 66 ≡ 0x1000_0000_0000_0000
 signed_shift_of_a_number = refl
 
 negation : operate 64 Neg 1 0 ≡ 0xffff_ffff_ffff_ffff
 negation = refl
 
-move : operate 64 Mov 7 0xffff_ffff_0000_0001 ≡ 0xffff_ffff_0000_0001
+move : operate 64 (Binary Mov) 7 0xffff_ffff_0000_0001 ≡ 0xffff_ffff_0000_0001
 move = refl
 
 sign_of_a_word : operate 64 (SignExtend narrow.Bits32) 0 0x8000_0000 ≡ 0xffff_ffff_8000_0000
@@ -178,22 +179,22 @@ six_and_three_meet = refl
 
 -- ---- words of 32 bits, on low halves, with zeros above
 
-low_remainder_by_zero : operate 32 Mod 0xffff_ffff_0000_0007 0 ≡ 7
+low_remainder_by_zero : operate 32 (Binary Mod) 0xffff_ffff_0000_0007 0 ≡ 7
 low_remainder_by_zero = refl
 
-low_difference_wraps : operate 32 Sub 0 1 ≡ 0xffff_ffff
+low_difference_wraps : operate 32 (Binary Sub) 0 1 ≡ 0xffff_ffff
 low_difference_wraps = refl
 
-low_least_divided_by_minus_one : operate 32 SignedDiv 0x8000_0000 0xffff_ffff ≡ 0x8000_0000
+low_least_divided_by_minus_one : operate 32 (Binary SignedDiv) 0x8000_0000 0xffff_ffff ≡ 0x8000_0000
 low_least_divided_by_minus_one = refl
 
-low_least_modulo_minus_one : operate 32 SignedMod 0x8000_0000 0xffff_ffff ≡ 0
+low_least_modulo_minus_one : operate 32 (Binary SignedMod) 0x8000_0000 0xffff_ffff ≡ 0
 low_least_modulo_minus_one = refl
 
-shift_left_modulo_32 : operate 32 ShiftLeft 1 33 ≡ 2
+shift_left_modulo_32 : operate 32 (Binary ShiftLeft) 1 33 ≡ 2
 shift_left_modulo_32 = refl
 
-low_signed_shift_copies_the_sign : operate 32 SignedShiftRight 0x8000_0000 31 ≡ 0xffff_ffff
+low_signed_shift_copies_the_sign : operate 32 (Binary SignedShiftRight) 0x8000_0000 31 ≡ 0xffff_ffff
 low_signed_shift_copies_the_sign = refl
 
 low_negation : operate 32 Neg 1 0 ≡ 0xffff_ffff
@@ -208,37 +209,37 @@ low_halves_equal = refl
 minus_one_below_zero : compares 32 SignedBelow 0xffff_ffff 0 ≡ true
 minus_one_below_zero = refl
 
-low_sum_wraps : operate 32 Add 0xffff_ffff_ffff_ffff 0x1_0000_0002 ≡ 1
+low_sum_wraps : operate 32 (Binary Add) 0xffff_ffff_ffff_ffff 0x1_0000_0002 ≡ 1
 low_sum_wraps = refl
 
-low_product_wraps : operate 32 Mul 0x5_0001_0001 0x7_0001_0003 ≡ 0x4_0003
+low_product_wraps : operate 32 (Binary Mul) 0x5_0001_0001 0x7_0001_0003 ≡ 0x4_0003
 low_product_wraps = refl
 
-low_quotient : operate 32 Div 0x5_ffff_fffe 2 ≡ 0x7fff_ffff
+low_quotient : operate 32 (Binary Div) 0x5_ffff_fffe 2 ≡ 0x7fff_ffff
 low_quotient = refl
 
-low_remainder : operate 32 Mod 0x5_ffff_ffff 10 ≡ 5
+low_remainder : operate 32 (Binary Mod) 0x5_ffff_ffff 10 ≡ 5
 low_remainder = refl
 
-low_signed_quotient : operate 32 SignedDiv 0xffff_fff9 2 ≡ 0xffff_fffd
+low_signed_quotient : operate 32 (Binary SignedDiv) 0xffff_fff9 2 ≡ 0xffff_fffd
 low_signed_quotient = refl
 
-low_signed_remainder : operate 32 SignedMod 0xffff_fff9 2 ≡ 0xffff_ffff
+low_signed_remainder : operate 32 (Binary SignedMod) 0xffff_fff9 2 ≡ 0xffff_ffff
 low_signed_remainder = refl
 
-low_common_digits : operate 32 And 0xf0f0_1234_0000_000c 0x0ff0_4321_0000_000a ≡ 8
+low_common_digits : operate 32 (Binary And) 0xf0f0_1234_0000_000c 0x0ff0_4321_0000_000a ≡ 8
 low_common_digits = refl
 
-low_digits_of_either : operate 32 Or 0xf0f0_1234_0000_000c 0x0ff0_4321_0000_000a ≡ 0xe
+low_digits_of_either : operate 32 (Binary Or) 0xf0f0_1234_0000_000c 0x0ff0_4321_0000_000a ≡ 0xe
 low_digits_of_either = refl
 
-low_digits_of_one : operate 32 Xor 0xf0f0_1234_0000_000c 0x0ff0_4321_0000_000a ≡ 6
+low_digits_of_one : operate 32 (Binary Xor) 0xf0f0_1234_0000_000c 0x0ff0_4321_0000_000a ≡ 6
 low_digits_of_one = refl
 
-low_shift_right_brings_zeros : operate 32 ShiftRight 0x1_8000_0000 33 ≡ 0x4000_0000
+low_shift_right_brings_zeros : operate 32 (Binary ShiftRight) 0x1_8000_0000 33 ≡ 0x4000_0000
 low_shift_right_brings_zeros = refl
 
-low_move : operate 32 Mov 7 0xffff_ffff_0000_0001 ≡ 1
+low_move : operate 32 (Binary Mov) 7 0xffff_ffff_0000_0001 ≡ 1
 low_move = refl
 
 low_sign_of_a_byte : operate 32 (SignExtend narrow.Bits8) 0 0x80 ≡ 0xffff_ff80

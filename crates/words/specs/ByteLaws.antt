@@ -1,6 +1,5 @@
--- What holds of bytes that are written into a list and read from it, and of the bytes of a number: laws of the definitions
--- of `Bytes`, proved here for the proofs of the crates above. This project's own. No contract cites them, so there is nothing
--- in them to believe.
+-- Laws of bytes that are written into a list and read from it, and of the bytes of a number, of the definitions of `Bytes`, proved
+-- here for the proofs of the crates above. This project's own. No contract cites them, so there is nothing in them to believe.
 use Rattle.std.proofs.Common.{◌≡◌, ◌⊎◌, inl, inr, ℕ, zero, suc, ◌+◌, ◌-◌, ◌*◌, ◌/◌, ◌%◌, ◌<◌, ◌≤◌, ◌^◌, List, [], ◌∷◌, ◌++◌, length, get_or, take, drop, slice_range, refl, sym, ap, ◌∙◌, ⊎_elim, arith}
 use Rattle.std.proofs.Math.Nat.{pow-suc}
 use Rattle.std.proofs.Math.Seq.{take-take, drop-append-add, take-append_seam, drop-append_seam}
@@ -10,21 +9,21 @@ use Rattle.words.specs.Bytes.{number_of, low_bytes, bytes_at, written_at}
 
 -- ---- bytes of a list
 
--- a byte of those from a place on is the list's
+-- byte k of the n bytes at a place is byte place + k of the list
 pub byte_of : (bytes : List ℕ) (place n k : ℕ) → k < n → get_or (bytes_at bytes place n) k 0 ≡ get_or bytes (place + k) 0
 byte_of bytes place n k lt = get_or-take n (drop place bytes) k 0 lt ∙ get_or-drop place bytes k 0
 
--- n bytes from a place on are n where the list is that long
+-- the n bytes at a place of a list that is long enough are n
 pub length-bytes_at : (bytes : List ℕ) (place n : ℕ) → place + n ≤ length bytes → length (bytes_at bytes place n) ≡ n
 length-bytes_at bytes place n h = omega (arith, length-take n (drop place bytes), length-drop place bytes)
 
--- they are a list where each is that list's
+-- the n bytes at a place are those of new, if each of them is
 pub bytes_are : (bytes new : List ℕ) (place n : ℕ) → length new ≡ n → place + n ≤ length bytes → ((k : ℕ) → k < n → get_or bytes (place + k) 0 ≡ get_or new k 0) → bytes_at bytes place n ≡ new
 bytes_are bytes new place n count h same =
     let long = length-bytes_at bytes place n h in
     ext_get_or 0 (bytes_at bytes place n) new (long ∙ sym count) (λ k lt. byte_of bytes place n k (omega arith) ∙ same k (omega arith))
 
--- bytes of some of its bytes are bytes of the list
+-- bytes at an offset within the bytes at a place are bytes of the list
 pub bytes_within : (bytes : List ℕ) (place size at n : ℕ) → at + n ≤ size → bytes_at (bytes_at bytes place size) at n ≡ bytes_at bytes (place + at) n
 bytes_within bytes place size at n room =
     let split : size ≡ at + (size - at) = omega arith in
@@ -33,7 +32,7 @@ bytes_within bytes place size at n room =
     ∙ take-take n (size - at) (drop at (drop place bytes)) (omega arith)
     ∙ ap (take n) (drop-drop at place bytes)
 
--- a range of a list is the bytes from its beginning on
+-- a slice range of a list is the bytes at its beginning
 pub range_is_bytes : (bytes : List ℕ) (place n : ℕ) → slice_range bytes place (place + n) ≡ bytes_at bytes place n
 range_is_bytes bytes place n =
     let same : place + n - place ≡ n = omega arith in
@@ -41,12 +40,12 @@ range_is_bytes bytes place n =
 
 -- ---- a list in which bytes are written
 
--- it is as long as before
+-- writing leaves the length of the list unchanged
 pub length-written_at : (bytes new : List ℕ) (place : ℕ) → place + length new ≤ length bytes → length (written_at bytes place new) ≡ length bytes
 length-written_at bytes new place h =
     omega (arith, length-append (take place bytes) (new ++ drop (place + length new) bytes), length-append new (drop (place + length new) bytes), length-take place bytes, length-drop (place + length new) bytes)
 
--- where bytes are written, a byte is theirs
+-- within the written bytes, a byte of the list is the byte written
 pub written_in : (bytes new : List ℕ) (place k : ℕ) → place ≤ length bytes → k < length new → get_or (written_at bytes place new) (place + k) 0 ≡ get_or new k 0
 written_in bytes new place k h lt =
     let long = length-take-le place bytes h in
@@ -55,7 +54,7 @@ written_in bytes new place k h lt =
     ∙ get_or-append-add (take place bytes) (new ++ drop (place + length new) bytes) k 0
     ∙ get_or_append_left new (drop (place + length new) bytes) 0 k lt
 
--- elsewhere a byte is what it was
+-- elsewhere a byte of the list is unchanged
 pub written_out : (bytes new : List ℕ) (place q : ℕ) → place ≤ length bytes → (q < place) ⊎ (place + length new ≤ q) → get_or (written_at bytes place new) q 0 ≡ get_or bytes q 0
 written_out bytes new place q h (inl below) =
     let long = length-take-le place bytes h in
@@ -68,7 +67,7 @@ written_out bytes new place q h (inr above) =
     ∙ get_or-drop (place + length new) bytes (q - place - length new) 0
     ∙ ap (λ (p : ℕ). get_or bytes p 0) at
 
--- what was written is there
+-- the bytes at the place of a write are those written
 pub bytes_written : (bytes new : List ℕ) (place : ℕ) → place + length new ≤ length bytes → bytes_at (written_at bytes place new) place (length new) ≡ new
 bytes_written bytes new place h =
     let long : place ≡ length (take place bytes) = omega (arith, length-take place bytes) in
@@ -102,12 +101,12 @@ behind bytes new place from h k =
     ∙ drop-drop (from - (place + length new)) (place + length new) bytes
     ∙ ap (λ (n : ℕ). drop n bytes) (omega arith)
 
--- what lies apart from what is written stays
+-- bytes apart from those written are unchanged
 pub bytes_stay : (bytes new : List ℕ) (place from n : ℕ) → place + length new ≤ length bytes → (from + n ≤ place) ⊎ (place + length new ≤ from) → bytes_at (written_at bytes place new) from n ≡ bytes_at bytes from n
 bytes_stay bytes new place from n k (inl h) = before bytes (new ++ drop (place + length new) bytes) place from n h (omega arith)
 bytes_stay bytes new place from n k (inr h) = ap (take n) (behind bytes new place from h (omega arith))
 
--- what is written within some bytes changes these as if they were a list of their own
+-- a write within a part of the list is a write in that part's bytes
 pub over_within : (bytes new : List ℕ) (place size at : ℕ) → place + size ≤ length bytes → at + length new ≤ size → bytes_at (written_at bytes (place + at) new) place size ≡ written_at (bytes_at bytes place size) at new
 over_within bytes new place size at fits room =
     let inner = bytes_at bytes place size in
@@ -131,7 +130,7 @@ over_within bytes new place size at fits room =
         ap (λ (q : ℕ). get_or (written_at bytes (place + at) new) q 0) there ∙ written_in bytes new (place + at) (k - at) (omega arith) (omega arith)
         ∙ sym (ap (λ (q : ℕ). get_or (written_at (bytes_at bytes place size) at new) q 0) here ∙ written_in (bytes_at bytes place size) new at (k - at) (omega arith) (omega arith))
 
--- some bytes with others written within them, written back, are those others written into the whole list
+-- a part's bytes, written over and then written back, are written into the whole list
 pub over_part : (bytes new : List ℕ) (start size at : ℕ) → start + size ≤ length bytes → at + length new ≤ size → written_at bytes start (written_at (bytes_at bytes start size) at new) ≡ written_at bytes (start + at) new
 over_part bytes new start size at fits room =
     let part = bytes_at bytes start size in
@@ -175,12 +174,12 @@ over_part bytes new start size at fits room =
 
 -- ---- the bytes of a number
 
--- the low n bytes are n
+-- the low n bytes are n in number
 pub length-low_bytes : (n x : ℕ) → length (low_bytes n x) ≡ n
 length-low_bytes zero x = refl
 length-low_bytes (suc n) x = ap suc (length-low_bytes n (x / 256))
 
--- a number of n bytes is the one that its low n bytes make
+-- the low n bytes of a number below 256 ^ n represent that number
 pub number_of-low_bytes : (n x : ℕ) → x < 256 ^ n → number_of (low_bytes n x) ≡ x
 number_of-low_bytes zero x h = omega arith
 number_of-low_bytes (suc n) x h =
@@ -188,7 +187,7 @@ number_of-low_bytes (suc n) x h =
     let small : x / 256 < 256 ^ n = omega arith in
     ap (λ (y : ℕ). x % 256 + 256 * y) (number_of-low_bytes n (x / 256) small) ∙ omega arith
 
--- the number that n bytes make has n bytes
+-- the number of n bytes is below 256 ^ n
 pub number_below : (bytes : List ℕ) → ((i : ℕ) → i < length bytes → get_or bytes i 0 < 256) → number_of bytes < 256 ^ length bytes
 number_below [] small = omega arith
 number_below (b ∷ bytes) small =
@@ -197,7 +196,7 @@ number_below (b ∷ bytes) small =
     below_more : (b n x : ℕ) → b < 256 → x < 256 ^ n → b + 256 * x < 256 ^ suc n
     below_more b n x h g = omega arith
 
--- bytes that make a number are its low bytes
+-- bytes are the low bytes of their number
 pub low_bytes_of_number : (bytes : List ℕ) → ((i : ℕ) → i < length bytes → get_or bytes i 0 < 256) → low_bytes (length bytes) (number_of bytes) ≡ bytes
 low_bytes_of_number [] small = refl
 low_bytes_of_number (b ∷ bytes) small =

@@ -1,20 +1,20 @@
--- Numbers and their bytes, the lowest first (RFC 9669, section 5, on a little-endian machine).
+-- Numbers and their bytes, in little-endian order (RFC 9669, section 5, on a little-endian machine).
 use Rattle.std.specs.Prelude.{ℕ, zero, suc, ◌+◌, ◌*◌, ◌/◌, ◌%◌, List, [], ◌∷◌, ◌++◌, length, take, drop}
 
--- the number that bytes make
+-- the number of these bytes
 abbrev pub number_of : List ℕ → ℕ
 number_of [] = 0
 number_of (b ∷ bs) = b + 256 * number_of bs
 
--- the low n bytes of a number
+-- the low n bytes of x
 abbrev pub low_bytes : ℕ → ℕ → List ℕ
 low_bytes zero x = []
 low_bytes (suc n) x = x % 256 ∷ low_bytes n (x / 256)
 
--- n bytes from a place on
+-- the n bytes at a place
 abbrev pub bytes_at : List ℕ → ℕ → ℕ → List ℕ
 bytes_at bytes place n = take n (drop place bytes)
 
--- the list with these bytes from a place on
+-- the list with new written over it at a place
 abbrev pub written_at : List ℕ → ℕ → List ℕ → List ℕ
 written_at bytes place new = take place bytes ++ (new ++ drop (place + length new) bytes)

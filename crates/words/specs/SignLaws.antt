@@ -1,19 +1,19 @@
--- What holds of words read as signed numbers, and of signed numbers as words: laws of the definitions of `Words`, proved here
--- for the proofs of the crates above. This project's own. No contract cites them, so there is nothing in them to believe.
+-- Laws of words read as signed numbers, and of signed numbers as words, of the definitions of `Words`, proved here for the proofs
+-- of the crates above. This project's own. No contract cites them, so there is nothing in them to believe.
 use Rattle.std.proofs.Common.{◌≡◌, ℕ, ◌<◌, ◌≤◌, ◌^◌, ℤ, pos, negsuc, ◌-ℤ◌, arith}
 use Rattle.std.specs.Prelude.{nat_lt}
 use Rattle.std.proofs.lemmas.Bool.{lt-ltb, le-ltb, cond-true, cond-false}
 use Rattle.words.specs.Words.{signed, unsigned}
 
--- a word below 2 ^ 63 is read as itself
+-- a word below 2 ^ 63, read as a signed number, is itself
 pub signed_low : (n : ℕ) → n < 2 ^ 63 → signed 64 n ≡ pos n
 signed_low n h = cond-true (nat_lt n (2 ^ 63)) (pos n) (pos n -ℤ pos (2 ^ 64)) (lt-ltb n (2 ^ 63) h)
 
--- any other word is read as 2 ^ 64 less
+-- any other word is 2 ^ 64 less
 pub signed_high : (n : ℕ) → 2 ^ 63 ≤ n → signed 64 n ≡ pos n -ℤ pos (2 ^ 64)
 signed_high n h = cond-false (nat_lt n (2 ^ 63)) (pos n) (pos n -ℤ pos (2 ^ 64)) (le-ltb n (2 ^ 63) h)
 
--- the word of a number is below 2 ^ 64
+-- the word of a signed number is below 2 ^ 64
 pub unsigned_small : (z : ℤ) → unsigned 64 z < 2 ^ 64
 unsigned_small (pos m) = omega arith
 unsigned_small (negsuc m) = omega arith

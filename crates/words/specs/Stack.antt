@@ -1,11 +1,11 @@
--- The stack of a program, and which of its bytes an access touches. Offsets count from the stack's upper end, so those of its
--- bytes are -512 to -1; places count from its lowest byte. The stack's size is that of linux/filter.h (MAX_BPF_STACK), those of
--- loads and stores are of RFC 9669, section 5.
+-- The stack of a program, and which of its bytes an access touches. Offsets count from the stack's upper end, so its bytes have
+-- offsets -512 to -1; places count from its lowest byte. The stack's size is that of linux/filter.h (MAX_BPF_STACK), those of loads
+-- and stores are of RFC 9669, section 5.
 use Rattle.std.specs.Prelude.{ℕ, ◌+◌, ◌-◌, ◌*◌, ◌/◌, ◌%◌, ◌==◌, ℤ, pos, negsuc, ◌+ℤ◌, int_le, unsigned_abs, nat_lt, Bool, true, false, ◌&&◌}
 use Rattle.words.specs.declared.stack.AccessSize.{AccessSize}
 use Rattle.words.specs.declared.stack.AccessSize.TheVariants.{Byte, Half, Word, Double}
 
--- its bytes, and its slots of eight
+-- the size in bytes, and the number of slots of eight bytes
 abbrev pub stack_size : ℕ
 stack_size = 512
 
@@ -20,22 +20,22 @@ bytes_of Half = 2
 bytes_of Word = 4
 bytes_of Double = 8
 
--- a whole slot
-abbrev pub is_whole : AccessSize → Bool
-is_whole Double = true
-is_whole _ = false
+-- a double word, that is, the size of a slot
+abbrev pub is_double : AccessSize → Bool
+is_double Double = true
+is_double _ = false
 
 -- ---- places
 
--- so many bytes from this offset on lie in the stack
+-- the n bytes at this offset lie in the stack
 abbrev pub is_in_stack : ℤ → ℕ → Bool
 is_in_stack offset n = int_le (negsuc (stack_size - 1)) offset && int_le (offset +ℤ pos n) (pos 0)
 
--- how far an offset in the stack is above the lowest byte
+-- the place of an offset in the stack, counted from the lowest byte
 abbrev pub place : ℤ → ℕ
 place offset = unsigned_abs (offset +ℤ pos stack_size)
 
--- the stack has a multiple of each size, so an offset is one where its place is
+-- an offset is a multiple of n if its place is: the stack's size is a multiple of each access size
 abbrev pub is_aligned : ℤ → ℕ → Bool
 is_aligned offset n = place offset % n == 0
 

@@ -1,7 +1,7 @@
--- How many bits an operator or a comparison works on: wide ones on whole words, the others on low halves. The widths
--- are those of the classes of RFC 9669, section 3.3.
+-- The number of bits that an operator or a condition reads: wide ones read whole words, the others low halves. The widths are those
+-- of the classes of RFC 9669, section 3.3.
 use Rattle.std.specs.Prelude.{ℕ, Bool, true, false}
 
-abbrev pub bits_of : Bool → ℕ
-bits_of true = 64
-bits_of false = 32
+abbrev pub width : Bool → ℕ
+width true = 64
+width false = 32

@@ -4,7 +4,7 @@ use Rattle.std.specs.Int.{Width, int_shr, swap_bytes}
 
 -- ---- signed numbers
 
--- a, read as two's complement
+-- a as a signed number, in two's complement
 abbrev pub signed : ℕ → ℕ → ℤ
 signed n a = if nat_lt a (2 ^ (n - 1)) then pos a else pos a -ℤ pos (2 ^ n)
 
@@ -35,7 +35,7 @@ divide a b = if b == 0 then 0 else a / b
 abbrev pub remainder : ℕ → ℕ → ℕ
 remainder a b = if b == 0 then a else a % b
 
--- `int_div` rounds toward zero. The least number divided by -1 is 2 ^ (n - 1), which is the least number again
+-- `int_div` rounds toward zero; the least number divided by -1 is 2 ^ (n - 1), which `unsigned` makes the least number again
 abbrev pub signed_divide : ℕ → ℕ → ℕ → ℕ
 signed_divide n a b = if b == 0 then 0 else unsigned n (int_div (signed n a) (signed n b))
 
@@ -57,14 +57,14 @@ signed_shift_right n a b = unsigned n (int_shr (signed n a) (b % n))
 
 -- ---- parts of a word
 
--- the low k bits, with their sign extended to n bits
+-- the low k bits, sign-extended to n bits
 abbrev pub sign_extend : ℕ → ℕ → ℕ → ℕ
 sign_extend n k a = unsigned n (signed k (a % 2 ^ k))
 
--- the low bits of a
+-- the low k bits of a
 abbrev pub low : ℕ → ℕ → ℕ
 low k a = a % 2 ^ k
 
--- the low bits of a, as many as the width has, with their bytes reversed: written lowest first, read highest first
+-- the low k bits of a with their bytes reversed, where w has k bits: written little-endian, read big-endian
 abbrev pub reversed : Width → ℕ → ℕ → ℕ
 reversed w k a = swap_bytes w (a % 2 ^ k)

@@ -1,34 +1,34 @@
 //! Known answers, proved from the contracts alone.
 
-use crate::{AccessSize, Comparison, KeptBits, Operator, OrderChange, words32, words64};
+use crate::{AccessSize, AluOp, ByteOrder, Condition, KeptBits, Operator, words32, words64};
 
 fn words_of_64_bits() {
-    let quotient = words64::operate(Operator::Div, 7, 0);
+    let quotient = words64::operate(Operator::Binary(AluOp::Div), 7, 0);
     prove!(quotient == 0);
-    let remainder = words64::operate(Operator::Mod, 7, 0);
+    let remainder = words64::operate(Operator::Binary(AluOp::Mod), 7, 0);
     prove!(remainder == 7);
     let difference = words64::subtract(0, 1);
     prove!(difference == 0xffff_ffff_ffff_ffff);
-    let reversed = words64::byte_order(OrderChange::Big, KeptBits::Bits16, 287454020);
+    let reversed = words64::byte_order(ByteOrder::Big, KeptBits::Bits16, 287454020);
     prove!(reversed == 17459);
-    let above = words64::compares(Comparison::SignedAbove, 0, 0xffff_ffff_ffff_ffff);
+    let above = words64::compares(Condition::SignedAbove, 0, 0xffff_ffff_ffff_ffff);
     prove!(above);
 }
 
 fn words_of_32_bits() {
-    let remainder = words32::operate(Operator::Mod, 0xffff_ffff_0000_0007, 0);
+    let remainder = words32::operate(Operator::Binary(AluOp::Mod), 0xffff_ffff_0000_0007, 0);
     prove!(remainder == 7);
-    let shifted = words32::operate(Operator::ShiftLeft, 1, 33);
+    let shifted = words32::operate(Operator::Binary(AluOp::ShiftLeft), 1, 33);
     prove!(shifted == 2);
     let difference = words32::subtract(0, 1);
     prove!(difference == 0xffff_ffff);
-    let equal = words32::compares(Comparison::Equal, 0x1_0000_0005, 5);
+    let equal = words32::compares(Condition::Equal, 0x1_0000_0005, 5);
     prove!(equal);
 }
 
 fn sizes_of_accesses() {
     let bytes = AccessSize::Half.bytes();
     prove!(bytes == 2);
-    let is_whole = AccessSize::Word.is_whole();
-    prove!(!is_whole);
+    let is_double = AccessSize::Word.is_double();
+    prove!(!is_double);
 }

@@ -1,17 +1,42 @@
-//! The names of the operators and of the comparisons.
+//! The operators and the conditions.
 
-/// How a byte order is changed.
+/// An operator with two operands (RFC 9669, section 4.1): the first is the destination, the second the source.
 #[derive(Clone, Copy, Debug, PartialEq, Eq)]
-pub enum OrderChange {
+pub enum AluOp {
+    Add,
+    Sub,
+    Mul,
+    /// The unsigned quotient; 0 if the divisor is 0.
+    Div,
+    /// The signed quotient, rounded toward zero; 0 if the divisor is 0.
+    SignedDiv,
+    Or,
+    And,
+    ShiftLeft,
+    ShiftRight,
+    /// The unsigned remainder; the first operand if the divisor is 0.
+    Mod,
+    /// The remainder of the signed quotient; the first operand if the divisor is 0.
+    SignedMod,
+    Xor,
+    /// The second operand.
+    Mov,
+    /// A shift to the right that copies the sign bit.
+    SignedShiftRight,
+}
+
+/// How a byte-order conversion orders the bytes (RFC 9669, section 4.2).
+#[derive(Clone, Copy, Debug, PartialEq, Eq)]
+pub enum ByteOrder {
     /// To little-endian: the bytes stay in their order.
     Little,
-    /// To big-endian: the bytes are reversed.
+    /// To big-endian: the bytes are reversed, since the machine is little-endian.
     Big,
     /// The bytes are reversed, whatever the machine.
     Swap,
 }
 
-/// How many low bits a change of byte order keeps.
+/// The number of low bits that a byte-order conversion keeps.
 #[derive(Clone, Copy, Debug, PartialEq, Eq)]
 pub enum KeptBits {
     Bits16,
@@ -19,7 +44,7 @@ pub enum KeptBits {
     Bits64,
 }
 
-/// How many low bits a sign extension starts from.
+/// The number of low bits that a sign extension reads.
 #[derive(Clone, Copy, Debug, PartialEq, Eq)]
 pub enum ExtendedBits {
     Bits8,
@@ -27,41 +52,22 @@ pub enum ExtendedBits {
     Bits32,
 }
 
-/// An arithmetic operator of RFC 9669, sections 4.1 and 4.2, on a first operand (the destination) and a second one (the
-/// source).
+/// An operator of RFC 9669, sections 4.1 and 4.2, with the destination as first operand and the source as second.
 #[derive(Clone, Copy, Debug, PartialEq, Eq)]
 pub enum Operator {
-    Add,
-    Sub,
-    Mul,
-    /// The unsigned quotient, and 0 where the divisor is 0.
-    Div,
-    /// The signed quotient, rounded toward zero, and 0 where the divisor is 0.
-    SignedDiv,
-    Or,
-    And,
-    ShiftLeft,
-    ShiftRight,
-    /// The unsigned remainder, and the first operand where the divisor is 0.
-    Mod,
-    /// The remainder of the signed quotient, and the first operand where the divisor is 0.
-    SignedMod,
-    Xor,
-    /// The second operand.
-    Mov,
-    /// A shift to the right that copies the sign bit.
-    SignedShiftRight,
-    /// The first operand with its sign changed.
+    /// An operator of two operands. `Mov` reads the second alone.
+    Binary(AluOp),
+    /// The negated first operand.
     Neg,
-    /// The low bits of the second operand, with their sign extended.
+    /// The low bits of the second operand, sign-extended.
     SignExtend { from: ExtendedBits },
-    /// The low bits of the first operand in another byte order. It takes and gives 64 bits, whatever the width.
-    End { how: OrderChange, bits: KeptBits },
+    /// The low bits of the first operand in another byte order. Operand and result have 64 bits, whatever the width.
+    End { how: ByteOrder, bits: KeptBits },
 }
 
-/// When a conditional jump of RFC 9669, section 4.3, is taken.
+/// The condition of a conditional jump (RFC 9669, section 4.3).
 #[derive(Clone, Copy, Debug, PartialEq, Eq)]
-pub enum Comparison {
+pub enum Condition {
     Equal,
     NotEqual,
     Above,
@@ -72,6 +78,38 @@ pub enum Comparison {
     SignedAboveOrEqual,
     SignedBelow,
     SignedBelowOrEqual,
-    /// The operands have a 1 at a common place.
+    /// The bitwise and of the operands is not 0.
     CommonBit,
+}
+
+impl KeptBits {
+    ghost use Rattle.std.specs.Prelude.{◌≡◌};
+    ghost use Rattle.words.specs.Operate.{kept_bits};
+
+    /// The number of bits: 16, 32 or 64.
+    pub fn count(self) -> u32
+        ensures { result ≡ kept_bits self }
+    {
+        match self {
+            KeptBits::Bits16 => 16,
+            KeptBits::Bits32 => 32,
+            KeptBits::Bits64 => 64,
+        }
+    }
+}
+
+impl ExtendedBits {
+    ghost use Rattle.std.specs.Prelude.{◌≡◌};
+    ghost use Rattle.words.specs.Operate.{extended_bits};
+
+    /// The number of bits: 8, 16 or 32.
+    pub fn count(self) -> u16
+        ensures { result ≡ extended_bits self }
+    {
+        match self {
+            ExtendedBits::Bits8 => 8,
+            ExtendedBits::Bits16 => 16,
+            ExtendedBits::Bits32 => 32,
+        }
+    }
 }

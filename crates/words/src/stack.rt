@@ -1,15 +1,15 @@
 //! The registers and the stack of a program, and the sizes of loads and stores.
 
-/// How many registers there are: 0 to 10 (bpf/standardization/abi.rst of the kernel documentation).
+/// The number of registers, which are 0 to 10 (bpf/standardization/abi.rst of the kernel documentation).
 pub const REGISTERS: usize = 11;
 
-/// How many bytes the stack has (MAX_BPF_STACK of linux/filter.h).
+/// The size of the stack in bytes (MAX_BPF_STACK of linux/filter.h).
 pub const STACK_SIZE: usize = 512;
 
-/// How many slots of eight bytes the stack has.
+/// The number of eight-byte slots of the stack.
 pub const STACK_SLOTS: usize = STACK_SIZE / 8;
 
-/// How many bytes a load or a store moves (RFC 9669, section 5).
+/// The number of bytes that a load or a store moves (RFC 9669, section 5).
 #[derive(Clone, Copy, Debug, PartialEq, Eq)]
 pub enum AccessSize {
     Byte,
@@ -20,7 +20,7 @@ pub enum AccessSize {
 
 impl AccessSize {
     ghost use Rattle.std.specs.Prelude.{◌≡◌};
-    ghost use Rattle.words.specs.Stack.{bytes_of, is_whole};
+    ghost use Rattle.words.specs.Stack.{bytes_of, is_double};
 
     /// The number of bytes: 1, 2, 4 or 8.
     pub fn bytes(self) -> u8
@@ -34,9 +34,9 @@ impl AccessSize {
         }
     }
 
-    /// Whether it is a whole slot of eight bytes.
-    pub fn is_whole(self) -> bool
-        ensures { result ≡ is_whole self }
+    /// Whether it is a double word, that is, the size of a stack slot.
+    pub fn is_double(self) -> bool
+        ensures { result ≡ is_double self }
     {
         match self {
             AccessSize::Double => true,

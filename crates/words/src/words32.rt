@@ -1,11 +1,12 @@
-//! The operators and the comparisons on the low halves of 64-bit words. The upper half of a result is zero.
+//! The operators and the conditions on the low halves (the low 32 bits) of 64-bit words. The upper half of a result is zero.
 
 ghost use Rattle.std.specs.Prelude.{◌≡◌, bit_and, bit_or, bit_xor, ◌==◌, not, nat_lt, nat_le, int_lt, int_le, IsTrue, ◌↔◌};
+ghost use Rattle.words.specs.declared.operator.Operator.TheVariants.{Binary};
 ghost use Rattle.words.specs.Words.{add, subtract, multiply, negate, divide, remainder, signed_divide, signed_remainder, shift_left, shift_right, signed_shift_right, sign_extend, signed, low};
-ghost use Rattle.words.specs.Operate.{narrow_bits, operate};
+ghost use Rattle.words.specs.Operate.{extended_bits, operate};
 ghost use Rattle.words.specs.Compare.{compares};
 
-use crate::operator::{Comparison, ExtendedBits, Operator};
+use crate::operator::{AluOp, Condition, ExtendedBits, Operator};
 use crate::parts::{low_byte, low_half, low_word};
 use crate::words64;
 
@@ -33,7 +34,7 @@ pub fn multiply(a: u64, b: u64) -> u64
     u64::from(low_word(a).wrapping_mul(low_word(b)))
 }
 
-/// The unsigned quotient, and 0 where the divisor is 0.
+/// The unsigned quotient; 0 if the divisor is 0.
 #[inline(always)]
 pub fn divide(a: u64, b: u64) -> u64
     ensures { result ≡ divide (low 32 a) (low 32 b) }
@@ -46,7 +47,7 @@ pub fn divide(a: u64, b: u64) -> u64
     }
 }
 
-/// The unsigned remainder, and the low half of `a` where the divisor is 0.
+/// The unsigned remainder; the low half of `a` if the divisor is 0.
 #[inline(always)]
 pub fn remainder(a: u64, b: u64) -> u64
     ensures { result ≡ remainder (low 32 a) (low 32 b) }
@@ -60,7 +61,7 @@ pub fn remainder(a: u64, b: u64) -> u64
     }
 }
 
-/// The signed quotient, rounded toward zero, and 0 where the divisor is 0. The least number divided by -1 is itself.
+/// The signed quotient, rounded toward zero; 0 if the divisor is 0. -2^31 divided by -1 is -2^31.
 #[inline(always)]
 pub fn signed_divide(a: u64, b: u64) -> u64
     ensures { result ≡ signed_divide 32 (low 32 a) (low 32 b) }
@@ -78,8 +79,7 @@ pub fn signed_divide(a: u64, b: u64) -> u64
     }
 }
 
-/// What the signed quotient leaves, and the low half of `a` where the divisor is 0. The least number divided by -1
-/// leaves 0.
+/// The remainder of the signed quotient; the low half of `a` if the divisor is 0. -2^31 divided by -1 leaves 0.
 #[inline(always)]
 pub fn signed_remainder(a: u64, b: u64) -> u64
     ensures { result ≡ signed_remainder 32 (low 32 a) (low 32 b) }
@@ -97,7 +97,7 @@ pub fn signed_remainder(a: u64, b: u64) -> u64
     }
 }
 
-/// The bits of either.
+/// Bitwise or.
 #[inline(always)]
 pub fn or(a: u64, b: u64) -> u64
     ensures { result ≡ bit_or (low 32 a) (low 32 b) }
@@ -105,7 +105,7 @@ pub fn or(a: u64, b: u64) -> u64
     u64::from(low_word(a) | low_word(b))
 }
 
-/// The bits of both.
+/// Bitwise and.
 #[inline(always)]
 pub fn and(a: u64, b: u64) -> u64
     ensures { result ≡ bit_and (low 32 a) (low 32 b) }
@@ -113,7 +113,7 @@ pub fn and(a: u64, b: u64) -> u64
     u64::from(low_word(a) & low_word(b))
 }
 
-/// The bits of one alone.
+/// Bitwise exclusive or.
 #[inline(always)]
 pub fn exclusive_or(a: u64, b: u64) -> u64
     ensures { result ≡ bit_xor (low 32 a) (low 32 b) }
@@ -121,7 +121,7 @@ pub fn exclusive_or(a: u64, b: u64) -> u64
     u64::from(low_word(a) ^ low_word(b))
 }
 
-/// `a` shifted to the left, by `b` modulo 32.
+/// `a` shifted left by `b` modulo 32.
 #[inline(always)]
 pub fn shift_left(a: u64, b: u64) -> u64
     ensures { result ≡ shift_left 32 (low 32 a) (low 32 b) }
@@ -129,7 +129,7 @@ pub fn shift_left(a: u64, b: u64) -> u64
     u64::from(low_word(a) << (low_word(b) % 32))
 }
 
-/// `a` shifted to the right, by `b` modulo 32.
+/// `a` shifted right by `b` modulo 32, unsigned.
 #[inline(always)]
 pub fn shift_right(a: u64, b: u64) -> u64
     ensures { result ≡ shift_right 32 (low 32 a) (low 32 b) }
@@ -137,7 +137,7 @@ pub fn shift_right(a: u64, b: u64) -> u64
     u64::from(low_word(a) >> (low_word(b) % 32))
 }
 
-/// `a` shifted to the right with its sign bit copied, by `b` modulo 32.
+/// `a` shifted right by `b` modulo 32, with its sign bit copied.
 #[inline(always)]
 pub fn signed_shift_right(a: u64, b: u64) -> u64
     ensures { result ≡ signed_shift_right 32 (low 32 a) (low 32 b) }
@@ -145,7 +145,7 @@ pub fn signed_shift_right(a: u64, b: u64) -> u64
     u64::from((low_word(a).cast_signed() >> (low_word(b) % 32)).cast_unsigned())
 }
 
-/// The second operand.
+/// The low half of `b`.
 #[inline(always)]
 pub fn move_low(b: u64) -> u64
     ensures { result ≡ low 32 b }
@@ -153,7 +153,7 @@ pub fn move_low(b: u64) -> u64
     u64::from(low_word(b))
 }
 
-/// `a` with its sign changed, modulo 2^32.
+/// `a` negated, modulo 2^32.
 #[inline(always)]
 pub fn negate(a: u64) -> u64
     ensures { result ≡ negate 32 (low 32 a) }
@@ -161,10 +161,10 @@ pub fn negate(a: u64) -> u64
     u64::from(0u32.wrapping_sub(low_word(a)))
 }
 
-/// The low bits of `a`, with their sign extended to 32 bits.
+/// The low bits of `a`, sign-extended to 32 bits.
 #[inline(always)]
 pub fn sign_extend(from: ExtendedBits, a: u64) -> u64
-    ensures { result ≡ sign_extend 32 (narrow_bits from) (low 32 a) }
+    ensures { result ≡ sign_extend 32 (extended_bits from) (low 32 a) }
 {
     match from {
         ExtendedBits::Bits8 => u64::from(i32::from(low_byte(a).cast_signed()).cast_unsigned()),
@@ -173,7 +173,7 @@ pub fn sign_extend(from: ExtendedBits, a: u64) -> u64
     }
 }
 
-/// Whether the low halves are the same.
+/// Whether the low halves are equal.
 #[inline(always)]
 pub fn equal(a: u64, b: u64) -> bool
     ensures { result ≡ (low 32 a == low 32 b) }
@@ -253,7 +253,7 @@ pub fn signed_below_or_equal(a: u64, b: u64) -> bool
     low_word(a).cast_signed() <= low_word(b).cast_signed()
 }
 
-/// Whether the low halves have a 1 at a common place.
+/// Whether the bitwise and of the low halves is not 0.
 #[inline(always)]
 pub fn common_bit(a: u64, b: u64) -> bool
     ensures { result ≡ not (bit_and (low 32 a) (low 32 b) == 0) }
@@ -261,48 +261,58 @@ pub fn common_bit(a: u64, b: u64) -> bool
     low_word(a) & low_word(b) != 0
 }
 
-/// The result of an operator on 32 bits. A change of byte order gives 64 bits, as it does on 64.
+/// The result of an operator of two operands on 32 bits.
+#[inline(always)]
+pub fn alu(op: AluOp, a: u64, b: u64) -> u64
+    ensures { result ≡ operate 32 (Binary op) a b }
+{
+    match op {
+        AluOp::Add => add(a, b),
+        AluOp::Sub => subtract(a, b),
+        AluOp::Mul => multiply(a, b),
+        AluOp::Div => divide(a, b),
+        AluOp::SignedDiv => signed_divide(a, b),
+        AluOp::Or => or(a, b),
+        AluOp::And => and(a, b),
+        AluOp::ShiftLeft => shift_left(a, b),
+        AluOp::ShiftRight => shift_right(a, b),
+        AluOp::Mod => remainder(a, b),
+        AluOp::SignedMod => signed_remainder(a, b),
+        AluOp::Xor => exclusive_or(a, b),
+        AluOp::Mov => move_low(b),
+        AluOp::SignedShiftRight => signed_shift_right(a, b),
+    }
+}
+
+/// The result of an operator on 32 bits. A byte-order conversion gives the same 64 bits as in `words64`.
 #[inline(always)]
 pub fn operate(op: Operator, a: u64, b: u64) -> u64
     ensures { result ≡ operate 32 op a b }
 {
     match op {
-        Operator::Add => add(a, b),
-        Operator::Sub => subtract(a, b),
-        Operator::Mul => multiply(a, b),
-        Operator::Div => divide(a, b),
-        Operator::SignedDiv => signed_divide(a, b),
-        Operator::Or => or(a, b),
-        Operator::And => and(a, b),
-        Operator::ShiftLeft => shift_left(a, b),
-        Operator::ShiftRight => shift_right(a, b),
-        Operator::Mod => remainder(a, b),
-        Operator::SignedMod => signed_remainder(a, b),
-        Operator::Xor => exclusive_or(a, b),
-        Operator::Mov => move_low(b),
-        Operator::SignedShiftRight => signed_shift_right(a, b),
+        Operator::Binary(op) => alu(op, a, b),
         Operator::Neg => negate(a),
         Operator::SignExtend { from } => sign_extend(from, b),
         Operator::End { how, bits } => words64::byte_order(how, bits, a),
     }
 }
 
-/// Whether a comparison of the low halves of two words holds.
+/// Whether a condition holds for the low halves of two words.
 #[inline(always)]
-pub fn compares(comparison: Comparison, a: u64, b: u64) -> bool
-    ensures { result ≡ compares 32 comparison a b }
+pub fn compares(condition: Condition, a: u64, b: u64) -> bool
+    ensures { result ≡ compares 32 condition a b }
 {
-    match comparison {
-        Comparison::Equal => equal(a, b),
-        Comparison::NotEqual => not_equal(a, b),
-        Comparison::Above => above(a, b),
-        Comparison::AboveOrEqual => above_or_equal(a, b),
-        Comparison::Below => below(a, b),
-        Comparison::BelowOrEqual => below_or_equal(a, b),
-        Comparison::SignedAbove => signed_above(a, b),
-        Comparison::SignedAboveOrEqual => signed_above_or_equal(a, b),
-        Comparison::SignedBelow => signed_below(a, b),
-        Comparison::SignedBelowOrEqual => signed_below_or_equal(a, b),
-        Comparison::CommonBit => common_bit(a, b),
+    match condition {
+        Condition::Equal => equal(a, b),
+        Condition::NotEqual => not_equal(a, b),
+        Condition::Above => above(a, b),
+        Condition::AboveOrEqual => above_or_equal(a, b),
+        Condition::Below => below(a, b),
+        Condition::BelowOrEqual => below_or_equal(a, b),
+        Condition::SignedAbove => signed_above(a, b),
+        Condition::SignedAboveOrEqual => signed_above_or_equal(a, b),
+        Condition::SignedBelow => signed_below(a, b),
+        Condition::SignedBelowOrEqual => signed_below_or_equal(a, b),
+        Condition::CommonBit => common_bit(a, b),
     }
 }

@@ -1,11 +1,12 @@
-//! The operators and the comparisons on 64-bit words.
+//! The operators and the conditions on 64-bit words.
 
 ghost use Rattle.std.specs.Prelude.{◌≡◌, bit_and, bit_or, bit_xor, ◌==◌, not, nat_lt, nat_le, int_lt, int_le, IsTrue, ◌↔◌};
+ghost use Rattle.words.specs.declared.operator.Operator.TheVariants.{Binary};
 ghost use Rattle.words.specs.Words.{add, subtract, multiply, negate, divide, remainder, signed_divide, signed_remainder, shift_left, shift_right, signed_shift_right, sign_extend, signed};
-ghost use Rattle.words.specs.Operate.{narrow_bits, byte_order, operate};
+ghost use Rattle.words.specs.Operate.{extended_bits, byte_order, operate};
 ghost use Rattle.words.specs.Compare.{compares};
 
-use crate::operator::{Comparison, ExtendedBits, KeptBits, Operator, OrderChange};
+use crate::operator::{AluOp, ByteOrder, Condition, ExtendedBits, KeptBits, Operator};
 use crate::parts::{low_byte, low_half, low_word};
 
 /// The sum, modulo 2^64.
@@ -32,7 +33,7 @@ pub fn multiply(a: u64, b: u64) -> u64
     a.wrapping_mul(b)
 }
 
-/// The unsigned quotient, and 0 where `b` is 0.
+/// The unsigned quotient; 0 if `b` is 0.
 #[inline(always)]
 pub fn divide(a: u64, b: u64) -> u64
     ensures { result ≡ divide a b }
@@ -40,7 +41,7 @@ pub fn divide(a: u64, b: u64) -> u64
     if b == 0 { 0 } else { a / b }
 }
 
-/// The unsigned remainder, and `a` where `b` is 0.
+/// The unsigned remainder; `a` if `b` is 0.
 #[inline(always)]
 pub fn remainder(a: u64, b: u64) -> u64
     ensures { result ≡ remainder a b }
@@ -48,7 +49,7 @@ pub fn remainder(a: u64, b: u64) -> u64
     if b == 0 { a } else { a % b }
 }
 
-/// The signed quotient, rounded toward zero, and 0 where `b` is 0. The least number divided by -1 is itself.
+/// The signed quotient, rounded toward zero; 0 if `b` is 0. -2^63 divided by -1 is -2^63.
 #[inline(always)]
 pub fn signed_divide(a: u64, b: u64) -> u64
     ensures { result ≡ signed_divide 64 a b }
@@ -62,7 +63,7 @@ pub fn signed_divide(a: u64, b: u64) -> u64
     }
 }
 
-/// What the signed quotient leaves, and `a` where `b` is 0. The least number divided by -1 leaves 0.
+/// The remainder of the signed quotient; `a` if `b` is 0. -2^63 divided by -1 leaves 0.
 #[inline(always)]
 pub fn signed_remainder(a: u64, b: u64) -> u64
     ensures { result ≡ signed_remainder 64 a b }
@@ -76,7 +77,7 @@ pub fn signed_remainder(a: u64, b: u64) -> u64
     }
 }
 
-/// The bits of either.
+/// Bitwise or.
 #[inline(always)]
 pub fn or(a: u64, b: u64) -> u64
     ensures { result ≡ bit_or a b }
@@ -84,7 +85,7 @@ pub fn or(a: u64, b: u64) -> u64
     a | b
 }
 
-/// The bits of both.
+/// Bitwise and.
 #[inline(always)]
 pub fn and(a: u64, b: u64) -> u64
     ensures { result ≡ bit_and a b }
@@ -92,7 +93,7 @@ pub fn and(a: u64, b: u64) -> u64
     a & b
 }
 
-/// The bits of one alone.
+/// Bitwise exclusive or.
 #[inline(always)]
 pub fn exclusive_or(a: u64, b: u64) -> u64
     ensures { result ≡ bit_xor a b }
@@ -100,7 +101,7 @@ pub fn exclusive_or(a: u64, b: u64) -> u64
     a ^ b
 }
 
-/// `a` shifted to the left, by `b` modulo 64.
+/// `a` shifted left by `b` modulo 64.
 #[inline(always)]
 pub fn shift_left(a: u64, b: u64) -> u64
     ensures { result ≡ shift_left 64 a b }
@@ -108,7 +109,7 @@ pub fn shift_left(a: u64, b: u64) -> u64
     a << (b % 64)
 }
 
-/// `a` shifted to the right, by `b` modulo 64.
+/// `a` shifted right by `b` modulo 64, unsigned.
 #[inline(always)]
 pub fn shift_right(a: u64, b: u64) -> u64
     ensures { result ≡ shift_right 64 a b }
@@ -116,7 +117,7 @@ pub fn shift_right(a: u64, b: u64) -> u64
     a >> (b % 64)
 }
 
-/// `a` shifted to the right with its sign bit copied, by `b` modulo 64.
+/// `a` shifted right by `b` modulo 64, with its sign bit copied.
 #[inline(always)]
 pub fn signed_shift_right(a: u64, b: u64) -> u64
     ensures { result ≡ signed_shift_right 64 a b }
@@ -124,7 +125,7 @@ pub fn signed_shift_right(a: u64, b: u64) -> u64
     (a.cast_signed() >> (b % 64)).cast_unsigned()
 }
 
-/// `a` with its sign changed, modulo 2^64.
+/// `a` negated, modulo 2^64.
 #[inline(always)]
 pub fn negate(a: u64) -> u64
     ensures { result ≡ negate 64 a }
@@ -132,10 +133,10 @@ pub fn negate(a: u64) -> u64
     0u64.wrapping_sub(a)
 }
 
-/// The low bits of `a`, with their sign extended to 64 bits.
+/// The low bits of `a`, sign-extended to 64 bits.
 #[inline(always)]
 pub fn sign_extend(from: ExtendedBits, a: u64) -> u64
-    ensures { result ≡ sign_extend 64 (narrow_bits from) a }
+    ensures { result ≡ sign_extend 64 (extended_bits from) a }
 {
     match from {
         ExtendedBits::Bits8 => i64::from(low_byte(a).cast_signed()).cast_unsigned(),
@@ -144,22 +145,22 @@ pub fn sign_extend(from: ExtendedBits, a: u64) -> u64
     }
 }
 
-/// The low bits of `a` in another byte order, on a little-endian machine. The bits above are zero.
+/// The low bits of `a` in another byte order, on a little-endian machine. The higher bits of the result are zero.
 #[inline(always)]
-pub fn byte_order(how: OrderChange, bits: KeptBits, a: u64) -> u64
+pub fn byte_order(how: ByteOrder, bits: KeptBits, a: u64) -> u64
     ensures { result ≡ byte_order how bits a }
 {
     match (how, bits) {
-        (OrderChange::Little, KeptBits::Bits16) => u64::from(low_half(a)),
-        (OrderChange::Little, KeptBits::Bits32) => u64::from(low_word(a)),
-        (OrderChange::Little, KeptBits::Bits64) => a,
+        (ByteOrder::Little, KeptBits::Bits16) => u64::from(low_half(a)),
+        (ByteOrder::Little, KeptBits::Bits32) => u64::from(low_word(a)),
+        (ByteOrder::Little, KeptBits::Bits64) => a,
         (_, KeptBits::Bits16) => u64::from(low_half(a).swap_bytes()),
         (_, KeptBits::Bits32) => u64::from(low_word(a).swap_bytes()),
         (_, KeptBits::Bits64) => a.swap_bytes(),
     }
 }
 
-/// Whether the words are the same.
+/// Whether the words are equal.
 #[inline(always)]
 pub fn equal(a: u64, b: u64) -> bool
     ensures { result ≡ (a == b) }
@@ -239,12 +240,35 @@ pub fn signed_below_or_equal(a: u64, b: u64) -> bool
     a.cast_signed() <= b.cast_signed()
 }
 
-/// Whether the words have a 1 at a common place.
+/// Whether the bitwise and of the words is not 0.
 #[inline(always)]
 pub fn common_bit(a: u64, b: u64) -> bool
     ensures { result ≡ not (bit_and a b == 0) }
 {
     (a & b) != 0
+}
+
+/// The result of an operator of two operands on 64 bits.
+#[inline(always)]
+pub fn alu(op: AluOp, a: u64, b: u64) -> u64
+    ensures { result ≡ operate 64 (Binary op) a b }
+{
+    match op {
+        AluOp::Add => add(a, b),
+        AluOp::Sub => subtract(a, b),
+        AluOp::Mul => multiply(a, b),
+        AluOp::Div => divide(a, b),
+        AluOp::SignedDiv => signed_divide(a, b),
+        AluOp::Or => or(a, b),
+        AluOp::And => and(a, b),
+        AluOp::ShiftLeft => shift_left(a, b),
+        AluOp::ShiftRight => shift_right(a, b),
+        AluOp::Mod => remainder(a, b),
+        AluOp::SignedMod => signed_remainder(a, b),
+        AluOp::Xor => exclusive_or(a, b),
+        AluOp::Mov => b,
+        AluOp::SignedShiftRight => signed_shift_right(a, b),
+    }
 }
 
 /// The result of an operator on 64 bits.
@@ -253,42 +277,29 @@ pub fn operate(op: Operator, a: u64, b: u64) -> u64
     ensures { result ≡ operate 64 op a b }
 {
     match op {
-        Operator::Add => add(a, b),
-        Operator::Sub => subtract(a, b),
-        Operator::Mul => multiply(a, b),
-        Operator::Div => divide(a, b),
-        Operator::SignedDiv => signed_divide(a, b),
-        Operator::Or => or(a, b),
-        Operator::And => and(a, b),
-        Operator::ShiftLeft => shift_left(a, b),
-        Operator::ShiftRight => shift_right(a, b),
-        Operator::Mod => remainder(a, b),
-        Operator::SignedMod => signed_remainder(a, b),
-        Operator::Xor => exclusive_or(a, b),
-        Operator::Mov => b,
-        Operator::SignedShiftRight => signed_shift_right(a, b),
+        Operator::Binary(op) => alu(op, a, b),
         Operator::Neg => negate(a),
         Operator::SignExtend { from } => sign_extend(from, b),
         Operator::End { how, bits } => byte_order(how, bits, a),
     }
 }
 
-/// Whether a comparison of two 64-bit words holds.
+/// Whether a condition holds for two 64-bit words.
 #[inline(always)]
-pub fn compares(comparison: Comparison, a: u64, b: u64) -> bool
-    ensures { result ≡ compares 64 comparison a b }
+pub fn compares(condition: Condition, a: u64, b: u64) -> bool
+    ensures { result ≡ compares 64 condition a b }
 {
-    match comparison {
-        Comparison::Equal => equal(a, b),
-        Comparison::NotEqual => not_equal(a, b),
-        Comparison::Above => above(a, b),
-        Comparison::AboveOrEqual => above_or_equal(a, b),
-        Comparison::Below => below(a, b),
-        Comparison::BelowOrEqual => below_or_equal(a, b),
-        Comparison::SignedAbove => signed_above(a, b),
-        Comparison::SignedAboveOrEqual => signed_above_or_equal(a, b),
-        Comparison::SignedBelow => signed_below(a, b),
-        Comparison::SignedBelowOrEqual => signed_below_or_equal(a, b),
-        Comparison::CommonBit => common_bit(a, b),
+    match condition {
+        Condition::Equal => equal(a, b),
+        Condition::NotEqual => not_equal(a, b),
+        Condition::Above => above(a, b),
+        Condition::AboveOrEqual => above_or_equal(a, b),
+        Condition::Below => below(a, b),
+        Condition::BelowOrEqual => below_or_equal(a, b),
+        Condition::SignedAbove => signed_above(a, b),
+        Condition::SignedAboveOrEqual => signed_above_or_equal(a, b),
+        Condition::SignedBelow => signed_below(a, b),
+        Condition::SignedBelowOrEqual => signed_below_or_equal(a, b),
+        Condition::CommonBit => common_bit(a, b),
     }
 }

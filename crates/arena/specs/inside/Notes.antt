@@ -1,4 +1,4 @@
--- What a note adds to what a run has done. This project's own.
+-- The trace of a run after one more entry. This project's own.
 use Rattle.std.specs.Prelude.{ℕ, ◌+◌, List, [], ◌∷◌, ◌++◌}
 use Rattle.arena.specs.declared.trace.Note.{Note}
 use Rattle.arena.specs.declared.trace.Note.TheVariants.{Step, Range}

@@ -1,9 +1,9 @@
--- What proofs take from the crates below. This project's own.
+-- The premises of proofs from the crates below. This project's own.
 use Rattle.std.specs.Prelude.{ℕ}
 use Rattle.arena.specs.Apart.{WritesStayInside}
 use Rattle.bpf_maps.specs.Laws.{CallsRefineValues, AreasKeepPlaces, DeletesKeepPlaces}
 
--- their laws
+-- the laws of those crates
 pub record LawsBelow : Type 0 where
   pub writes : WritesStayInside
   pub along : CallsRefineValues ℕ ℕ

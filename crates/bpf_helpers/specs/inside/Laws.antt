@@ -1,4 +1,4 @@
--- What holds of the words and bytes that stand for a state, helper by helper. This project's own.
+-- Laws of the words and bytes that represent a state, helper by helper. This project's own.
 use Rattle.std.specs.Prelude.{◌≡◌, ℕ, ◌+◌, ◌<◌, ◌≤◌, ℤ, Bool, true, List, [], length, slice_get, slice_index, slice_set, Option, Some, None, IsSome}
 use Rattle.std.specs.Map.{values_of}
 use Rattle.words.specs.Bytes.{bytes_at, written_at}
@@ -7,145 +7,157 @@ use Rattle.tagged_model.specs.declared.helper.Helper.TheVariants.{LookUp}
 use Rattle.tagged_model.specs.declared.value.Tagged.{Tagged}
 use Rattle.tagged_model.specs.declared.value.Tagged.TheVariants.{Scalar}
 use Rattle.tagged_model.specs.State.{RunState, RunMap, stack_bytes, stack_written, output}
-use Rattle.tagged_model.specs.Helpers.{called, with_reply, returns, updated, removed, packet_bytes, packet_answer}
+use Rattle.tagged_model.specs.Helpers.{called, with_reply, returns, updated, removed, packet_bytes, packet_answer, GivenMap, MapReply}
 use Rattle.tagged_model.specs.Table.{verdict, New, with_values}
 use Rattle.tagged_model.specs.Step.{first_map, last_map}
-use Rattle.arena.specs.Memory.{Memory, base, part_start, with_bytes}
+use Rattle.arena.specs.Memory.{base, part_start, with_bytes}
 use Rattle.bpf_maps.specs.Places.{table_of, after_run, IsSound}
 use Rattle.bpf_maps.specs.Live.{LiveMaps, live_at, places_at, shape_at, offset_at}
+use Rattle.bpf_helpers.specs.States.{Environment, FlatState, CallAnswer, with_memory, with_held, site_in, answers, with_answer}
 use Rattle.bpf_helpers.specs.Layout.{Layout, IsWord, HasStack}
-use Rattle.bpf_helpers.specs.Stands.{IsRoom, HasMap, Simulates, place_bytes}
+use Rattle.bpf_helpers.specs.Stands.{IsRoom, HasMap, Simulates, place_bytes, stored_maps}
 use Rattle.bpf_helpers.specs.Calls.{Extends}
-use Rattle.bpf_helpers.specs.Named.{part_place}
+use Rattle.bpf_helpers.specs.Named.{place_named}
 use Rattle.bpf_helpers.specs.inside.Flat.{flat_look_up, Updates, Deletes}
 
 -- ---- the stack
 
--- bytes that are read across slots are those in the memory
+-- bytes that are read across slots of the stack are those in the memory
 abbrev pub StackBytesAreThere : Type 0
 StackBytesAreThere =
-    (l : Layout) (memory : List ℕ) (start : ℕ) (s : RunState) (y : ℤ) (n : ℕ) (bs : List ℕ)
-    → HasStack l memory start s.cells → start + stack_size ≤ length memory → stack_bytes s y n ≡ Some bs
+    (env : Environment) (l : Layout) (memory : List ℕ) (start : ℕ) (s : RunState)
+    (y : ℤ) (n : ℕ) (bs : List ℕ)
+    → HasStack env l memory start s.cells → start + stack_size ≤ length memory → stack_bytes s y n ≡ Some bs
     → bytes_at memory (start + place y) n ≡ bs
 
--- bytes that are written across slots stand again: of a spilled pointer that they touch nothing else is left, and all other
--- slots stay
+-- after bytes are written across slots, the memory represents the cells after it: a spilled pointer that they touch is lost,
+-- and all other slots are unchanged
 abbrev pub StackBytesAreWritten : Type 0
 StackBytesAreWritten =
-    (l : Layout) (memory : List ℕ) (start : ℕ) (s t : RunState) (y : ℤ) (bs : List ℕ)
-    → HasStack l memory start s.cells → start + stack_size ≤ length memory → stack_written s y bs ≡ Some t
-    → HasStack l (written_at memory (start + place y) bs) start t.cells
+    (env : Environment) (l : Layout) (memory : List ℕ) (start : ℕ) (s t : RunState) (y : ℤ) (bs : List ℕ)
+    → HasStack env l memory start s.cells → start + stack_size ≤ length memory → stack_written s y bs ≡ Some t
+    → HasStack env l (written_at memory (start + place y) bs) start t.cells
 
--- ---- what a helper writes
+-- ---- the bytes that a helper writes
 
--- where the machine writes bytes through a pointer, the memory with these bytes at its address stands for the state after it
+-- if the machine writes bytes through a pointer, the memory with these bytes at its address represents the state after it
 abbrev pub OutputsKeepSimulation : Type 0
 OutputsKeepSimulation =
-    (l : Layout) (bind : List ℕ) (old : Memory) (t at : ℕ) (registers : List ℕ) (memory : Memory)
-    (tenant : LiveMaps) (s u : RunState) (p : Tagged) (w : ℕ) (bs : List ℕ)
-    → IsRoom old t → Simulates l bind old t at registers memory tenant s → IsWord l p w
+    (env : Environment) (l : Layout) (flat : FlatState) (s u : RunState)
+    (p : Tagged) (w : ℕ) (bs : List ℕ)
+    → IsRoom env.memory env.tenant → Simulates env l flat s → IsWord env l p w
     → output s p bs ≡ Some u
-    → (q : ℕ) × (part_place (part_start memory t) memory.part (length bs) w ≡ Some q)
-    × Simulates l bind old t at registers (with_bytes memory (part_start memory t + q) bs) tenant u
+    → (q : ℕ) × (place_named flat.memory env.tenant (length bs) w ≡ Some q)
+    × Simulates env l
+    (with_memory flat (with_bytes flat.memory (part_start flat.memory env.tenant + q) bs)) u
 
 -- ---- the helpers
 
--- what a call gives: a word that stands for the value
-abbrev pub GivesWord : Layout → Option ℕ → Option Tagged → Type 0
-GivesWord l w None = Unit {0}
-GivesWord l None (Some v) = ⊥
-GivesWord l (Some w) (Some v) = IsWord l v w
+-- the result of a call is a word that represents the machine's result, if there is one
+abbrev pub GivesWord : Environment → Layout → Option ℕ → Option Tagged → Type 0
+GivesWord env l w None = Unit {0}
+GivesWord env l None (Some v) = ⊥
+GivesWord env l (Some w) (Some v) = IsWord env l v w
 
--- a look-up on words and bytes gives what the machine's gives
+-- a look-up on words and bytes has the result of the machine's
 abbrev pub LookUpsFollow : Type 0
 LookUpsFollow =
-    (l : Layout) (bind : List ℕ) (old : Memory) (t at : ℕ) (registers : List ℕ) (memory : Memory)
-    (tenant : LiveMaps) (s u : RunState) (refused : Bool)
-    → IsRoom old t → Simulates l bind old t at registers memory tenant s
+    (env : Environment) (l : Layout) (flat : FlatState) (s u : RunState) (refused : Bool)
+    → IsRoom env.memory env.tenant → Simulates env l flat s
     → called refused LookUp s ≡ Some u
     → (v : Tagged) × (u ≡ returns s v)
-    × GivesWord l
-    (flat_look_up memory t tenant bind (slice_index registers 1) (slice_index registers 2)) (Some v)
+    × GivesWord env l
+    (flat_look_up (site_in env flat) (slice_index flat.registers 1) (slice_index flat.registers 2))
+    (Some v)
 
--- an update by the machine, which may be refused memory, and what stands for the state after it
-pub record UpdateKeepsSimulation (l : Layout) (bind : List ℕ) (old : Memory) (t at : ℕ) (registers : List ℕ)
-    (s : RunState) (m : ℕ) (map : RunMap) (key value : List ℕ) (flags word : ℕ) (after : Memory)
-    (new : LiveMaps) : Type 0 where
+-- an update on the machine of tagged values
+pub record TaggedUpdate : Type 0 where
+  pub given : GivenMap
+  pub key : List ℕ
+  pub value : List ℕ
+  pub flags : ℕ
+
+abbrev pub update_reply : Bool → TaggedUpdate → MapReply
+update_reply refused asked = updated refused asked.given.map asked.key asked.value asked.flags
+
+-- the machine's update, which may be refused memory, and a layout in which words and bytes represent the state after it
+pub record UpdateKeepsSimulation (env : Environment) (l : Layout) (flat : FlatState) (s : RunState)
+    (asked : TaggedUpdate) (answer : CallAnswer) : Type 0 where
   pub refused : Bool
-  pub only : refused ≡ true → verdict map.table key flags ≡ New
+  pub only : refused ≡ true → verdict asked.given.map.table asked.key asked.flags ≡ New
   pub layout : Layout
   pub extends : Extends l layout
-  pub answer : word ≡ (updated refused map key value flags).answer
-  pub stands : Simulates layout bind old t at registers after new
-      (with_reply s m (updated refused map key value flags))
+  pub answer_is : answer.word ≡ (update_reply refused asked).answer
+  pub stands : Simulates env layout (with_held flat answer.memory answer.maps)
+      (with_reply s asked.given.descriptor (update_reply refused asked))
 
 abbrev pub UpdatesKeepSimulation : Type 0
 UpdatesKeepSimulation =
-    (l : Layout) (bind : List ℕ) (old : Memory) (t at : ℕ) (registers : List ℕ) (memory : Memory)
-    (tenant : LiveMaps) (s : RunState) (i m : ℕ) (map : RunMap) (key value : List ℕ) (flags word : ℕ)
-    (after : Memory) (new : LiveMaps)
-    → IsRoom old t → Simulates l bind old t at registers memory tenant s
-    → slice_get l.maps i ≡ Some m → s.maps m ≡ Some map → length value ≡ map.table.shape.value_size
-    → Updates memory t tenant (slice_index bind i) key value flags word after new
-    → UpdateKeepsSimulation l bind old t at registers s m map key value flags word after new
+    (env : Environment) (l : Layout) (flat : FlatState) (s : RunState)
+    (i : ℕ) (asked : TaggedUpdate) (answer : CallAnswer)
+    → IsRoom env.memory env.tenant → Simulates env l flat s
+    → slice_get env.descriptors i ≡ Some asked.given.descriptor
+    → s.maps asked.given.descriptor ≡ Some asked.given.map
+    → length asked.value ≡ asked.given.map.table.shape.value_size
+    → Updates (site_in env flat)
+    (record { map = slice_index env.bind i; key = asked.key; value = asked.value }) asked.flags answer
+    → UpdateKeepsSimulation env l flat s asked answer
 
--- after a delete words, bytes and live maps stand for the state after the machine's delete
+-- after a deletion, words, bytes and live maps represent the state after the machine's
 abbrev pub DeletesKeepSimulation : Type 0
 DeletesKeepSimulation =
-    (l : Layout) (bind : List ℕ) (old : Memory) (t at : ℕ) (registers : List ℕ) (memory : Memory)
-    (tenant : LiveMaps) (s : RunState) (i m : ℕ) (map : RunMap) (key : List ℕ) (word : ℕ) (new : LiveMaps)
-    → Simulates l bind old t at registers memory tenant s
-    → slice_get l.maps i ≡ Some m → s.maps m ≡ Some map
-    → Deletes tenant (slice_index bind i) key word new
+    (env : Environment) (l : Layout) (flat : FlatState) (s : RunState)
+    (i m : ℕ) (map : RunMap) (key : List ℕ) (word : ℕ) (new : LiveMaps)
+    → Simulates env l flat s
+    → slice_get env.descriptors i ≡ Some m → s.maps m ≡ Some map
+    → Deletes flat.maps (record { map = slice_index env.bind i; key = key }) word new
     → (word ≡ (removed map key).answer)
-    × Simulates l bind old t at registers memory new (with_reply s m (removed map key))
+    × Simulates env l (with_held flat flat.memory new) (with_reply s m (removed map key))
 
--- bytes of the packet, or zeros, that the machine writes have a place in the part, and the memory with them there stands for
--- the state with them
-pub record LoadKeepsSimulation (l : Layout) (bind : List ℕ) (old : Memory) (t at : ℕ) (registers : List ℕ)
-    (memory : Memory) (tenant : LiveMaps) (s u : RunState) : Type 0 where
+-- the packet bytes, or zeros, that the machine writes have a place in the part, and the memory with them there
+-- represents the state with them
+pub record LoadKeepsSimulation (env : Environment) (l : Layout) (flat : FlatState) (s u : RunState)
+    : Type 0 where
   pub place : ℕ
-  pub place_is :
-      part_place (part_start memory t) memory.part
-      (slice_index registers 4) (slice_index registers 3) ≡ Some place
+  pub place_is : place_named flat.memory env.tenant (slice_index flat.registers 4)
+      (slice_index flat.registers 3) ≡ Some place
   pub written : RunState
-  pub stands : Simulates l bind old t at registers (with_bytes memory (part_start memory t + place)
-      (packet_bytes s.packet (slice_index registers 2) (slice_index registers 4))) tenant written
+  pub stands : Simulates env l (with_memory flat (with_bytes flat.memory
+      (part_start flat.memory env.tenant + place)
+      (packet_bytes s.packet (slice_index flat.registers 2) (slice_index flat.registers 4)))) written
   pub is : u ≡ returns written
-      (Scalar (packet_answer s.packet (slice_index registers 2) (slice_index registers 4)))
+      (Scalar (packet_answer s.packet (slice_index flat.registers 2) (slice_index flat.registers 4)))
 
--- what a call gives goes into register 0; nothing is known of registers 1 to 5 any more
+-- the result of a call goes into register 0; registers 1 to 5 are unknown then
 abbrev pub ReturnsKeepSimulation : Type 0
 ReturnsKeepSimulation =
-    (l : Layout) (bind : List ℕ) (old : Memory) (t at : ℕ) (registers : List ℕ) (memory : Memory)
-    (tenant : LiveMaps) (s : RunState) (v : Tagged) (w : ℕ)
-    → Simulates l bind old t at registers memory tenant s → IsWord l v w
-    → Simulates l bind old t at (slice_set registers 0 w) memory tenant (returns s v)
+    (env : Environment) (l : Layout) (flat : FlatState) (s : RunState) (v : Tagged) (w : ℕ)
+    → Simulates env l flat s → IsWord env l v w
+    → Simulates env l (with_answer flat (answers w flat.memory flat.maps)) (returns s v)
 
--- ---- one map where a run begins and ends
+-- ---- one map at the start and the end of a run
 
--- the place of the n-th key of the map under a key
+-- the place of the value of the n-th key, of the map under key k
 abbrev pub nth_place : LiveMaps → ℕ → ℕ → ℕ
 nth_place tenant k n = slice_index (values_of (places_at tenant k).entries) n
 
--- it stands for one whose objects are numbered in order
+-- the map represents one whose objects are numbered in order
 abbrev pub MapsBegin : Type 0
 MapsBegin =
     (l : Layout) (start : ℕ) (memory : List ℕ) (tenant : LiveMaps) (k m : ℕ) (value : ℕ → List ℕ)
     → IsSome (live_at tenant k) → IsSound (places_at tenant k) → (places_at tenant k).kept ≡ []
     → ((p : ℕ) → p < (shape_at tenant k).max_entries
-    → place_bytes memory start tenant k p ≡ value p)
+    → place_bytes (stored_maps start memory tenant) k p ≡ value p)
     → l.counts m ≡ length (places_at tenant k).entries
     → ((number : ℕ) → number < length (places_at tenant k).entries
     → l.object_at m number ≡ base + (start + offset_at tenant k (nth_place tenant k number)))
-    → HasMap l start memory tenant k m
-    (first_map (with_values value (table_of (places_at tenant k))))
+    → HasMap l (stored_maps start memory tenant) k m (first_map (with_values value (table_of (places_at tenant k))))
 
--- it has the pairs that the machine leaves
+-- the map has the same pairs as the machine's map after the run
 abbrev pub MapsEnd : Type 0
 MapsEnd =
     (l : Layout) (start : ℕ) (memory : List ℕ) (old new : LiveMaps) (k m : ℕ) (t : RunMap)
     (value : ℕ → List ℕ)
-    → HasMap l start memory old k m t → places_at new k ≡ after_run (places_at old k)
-    → ((p : ℕ) → p < (shape_at old k).max_entries → value p ≡ place_bytes memory start old k p)
+    → HasMap l (stored_maps start memory old) k m t → places_at new k ≡ after_run (places_at old k)
+    → ((p : ℕ) → p < (shape_at old k).max_entries → value p ≡ place_bytes (stored_maps start memory old) k p)
     → with_values value (table_of (places_at new k)) ≡ last_map t

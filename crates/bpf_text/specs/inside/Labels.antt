@@ -22,7 +22,7 @@ Labels = HashMap (Bor (List ℕ)) Place (BuildHasherDefault FoldHasher)
 abbrev pub place_of : Labels → List ℕ → Option Place
 place_of labels name = get_by (λ k. bytes_eq name k.now) labels
 
--- the first of two places that is one
+-- x if it is a value, else y
 abbrev pub or_else : {A : Type 0} → Option A → Option A → Option A
 or_else (Some x) y = Some x
 or_else None y = y
@@ -31,11 +31,11 @@ or_else None y = y
 abbrev pub place_at : List (Option Line) → ℕ → Place
 place_at lines k = record { line = k; slot = slots_on (take k lines) }
 
--- each label of the first lines is kept, and nothing else
+-- the place of each label of the first n lines is kept, and no other
 abbrev pub FindsLabels : List (Option Line) → Labels → ℕ → Type 0
 FindsLabels lines labels n = (name : List ℕ) → place_of labels name ≡ option_map (place_at lines) (label_line name (take n lines))
 
--- ---- a line's fault and instruction, by the places that are kept
+-- ---- a line's fault and instruction, given the places that are kept
 
 abbrev pub kept_line : Option Place → ℕ → ℕ
 kept_line None line = line
@@ -45,7 +45,7 @@ abbrev pub kept_slot : Option Place → ℕ
 kept_slot None = 0
 kept_slot (Some place) = place.slot
 
--- A label behind the last slot that a program may have is taken to be there: the text has a line that is too long.
+-- A label past the last slot that a program may have is taken to be at that slot: the text has a line that is too long.
 abbrev pub kept_distance : Option Place → ℕ → ℤ
 kept_distance place slot = pos (min (kept_slot place) MAX_SLOTS) -ℤ pos (slot + 1)
 

@@ -4,3 +4,4 @@ pub mod Judgements
 pub mod MapFields
 pub mod Rewriting
 pub mod Asked
+pub mod Frames

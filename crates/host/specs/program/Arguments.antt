@@ -1,4 +1,4 @@
--- The program's arguments, and what they ask for. The arguments are this project's own; how arguments are taken is clap's.
+-- The program's arguments, and what they ask for. The arguments are this project's own; how arguments are parsed is clap's.
 use Rattle.std.specs.Prelude.{◌≡◌, ◌⊎◌, ℕ, true, List, [], Option, Some, None, codes, if◌then◌else◌, option_and_then, option_map, unwrap_or}
 use Rattle.std.specs.Str.{bytes_eq}
 use Rattle.clap.specs.Words.{App, Kinds, Row, Rule, Shape, Text, all_of, fault_of, first_of, new_app, new_rule, subcommand_of, with_rule, with_subcommand}
@@ -13,8 +13,8 @@ use Rattle.host_core.specs.declared.host.TheConstants.{MOST_TENANTS}
 use Rattle.host.specs.declared.program.texts.TextTask.{TextTask}
 use Rattle.host.specs.declared.program.texts.TextTask.TheVariants.{Assemble, Disassemble}
 
--- The command line in clap's terms: one of the subcommands `serve`, `asm`, `dis` and `verify`. It has to be there, and so
--- has the option `--tenants` of `serve`. The arguments behind `verify` are those for its maps.
+-- The command line in clap's terms: one of the subcommands `serve`, `asm`, `dis` and `verify`, which is required, and so is
+-- the option `--tenants` of `serve`. The arguments of `verify` are those for its maps.
 abbrev pub tenants_option : Rule
 tenants_option = record (new_rule (codes "tenants")) {
   long = Some (codes "tenants");
@@ -49,7 +49,7 @@ program_up_to_dis = with_subcommand (with_subcommand program_up_to_serve asm_com
 abbrev pub program : App
 program = with_subcommand program_up_to_dis verify_command.top
 
--- the kinds of error that clap has at the arguments: none where it takes them
+-- the kinds of error that clap has for the arguments: empty where it accepts them
 unfoldable pub refusal_kinds : List Text → Kinds
 refusal_kinds arguments = fault_of program arguments
 
@@ -61,7 +61,7 @@ chosen_subcommand arguments = subcommand_of program arguments
 abbrev pub tenants_value : List Row → Option Text
 tenants_value rows = first_of (codes "tenants") rows
 
--- the number of tenants that decimal digits name, from 1 to the most that there may be
+-- a number of tenants in decimal digits, from 1 to the most that there may be
 abbrev pub tenant_number : Text → Option ℕ
 tenant_number digits = option_and_then (λ number. if is_from_to 1 MOST_TENANTS number then Some number else None) (decimal_number digits)
 
@@ -71,13 +71,13 @@ map_arguments rows = unwrap_or (all_of (codes "map") rows) []
 
 -- ---- what the arguments ask for
 
--- frames are served to so many tenants; a text is read and another one written; a program is judged, with arguments for its maps
+-- serve frames to a number of tenants; read a text and write another one; verify a program, with arguments for its maps
 pub data Asked : Type 0 where
   Serves : ℕ → Asked
   Rewrites : TextTask → Asked
   Verifies : List Text → Asked
 
--- what a subcommand asks for, by its name and by what is given to it: none where that is wrong
+-- what a subcommand asks for, given its name and its arguments; None where these are wrong
 abbrev pub asked_with : Text → List Row → Option Asked
 asked_with name rows =
     if bytes_eq name (codes "serve") then option_map Serves (option_and_then tenant_number (tenants_value rows)) else
@@ -88,18 +88,18 @@ asked_with name rows =
 abbrev pub asked_of : Option (Text × List Row) → Option Asked
 asked_of chosen = option_and_then (λ (subcommand : Text × List Row). asked_with subcommand.0 subcommand.1) chosen
 
--- what the arguments ask for: none where they are wrong, whatever the arguments for maps name
+-- what the arguments ask for; None where they are wrong, whatever the map arguments name
 abbrev pub asked_by_arguments : List Text → Option Asked
 asked_by_arguments arguments = if is_empty (refusal_kinds arguments) then asked_of (chosen_subcommand arguments) else None
 
--- an argument for a map is wrong
+-- a map argument is wrong
 abbrev pub HasWrongMapArgument : List Text → Type 0
 HasWrongMapArgument maps = (number : ℕ) × IsFirstWrongArgument maps number
 
--- the arguments ask for nothing, or one for a map is wrong
+-- the arguments ask for nothing, or a map argument is wrong
 abbrev pub AreWrongArguments : List Text → Type 0
 AreWrongArguments arguments = (asked_by_arguments arguments ≡ None) ⊎ ((maps : List Text) × (asked_by_arguments arguments ≡ Some (Verifies maps)) × HasWrongMapArgument maps)
 
--- where the arguments ask for a verdict, the input has a program that is accepted, where the bytes are known
+-- where the arguments ask for a verdict and the input's bytes are known, the input has a program that is accepted
 abbrev pub AcceptsAsked : List Text → Option (List ℕ) → Type 0
 AcceptsAsked arguments input = (maps : List Text) → asked_by_arguments arguments ≡ Some (Verifies maps) → AcceptsIfKnown maps input

@@ -5,11 +5,11 @@ use Rattle.std.specs.List.{list_all}
 use Rattle.std.specs.Str.Parse.{digits_value}
 use Rattle.clap.specs.Words.{Text}
 
--- decimal digits, one at least
+-- decimal digits, at least one
 abbrev pub is_decimal : Text → Bool
 is_decimal text = nat_lt 0 (length text) && list_all is_ascii_digit text
 
--- the number that decimal digits write, where it is below 2^32; leading zeros count for nothing
+-- the value of decimal digits, where it is below 2^32; leading zeros are allowed
 abbrev pub decimal_number : Text → Option ℕ
 decimal_number text =
     let number = digits_value 10 text in

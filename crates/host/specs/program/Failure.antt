@@ -1,4 +1,4 @@
--- Which failure of the program stands for a fault of the codec. This project's own.
+-- The failure of the program for each fault of the codec. This project's own.
 use Rattle.std.specs.Prelude.{ℕ}
 use Rattle.insn_codec.specs.Fault.{fault_number}
 use Rattle.insn_codec.specs.declared.fault.CodecFault.{CodecFault}
@@ -7,7 +7,7 @@ use Rattle.insn_codec.specs.declared.fault.FaultKind.TheVariants as codec
 use Rattle.host.specs.declared.program.failure.Failure.{Failure}
 use Rattle.host.specs.declared.program.failure.Failure.TheVariants.{Slot, Memory}
 
--- the failure, by the kind of fault at a slot of a program
+-- the failure for a kind of fault at a slot of a program
 abbrev pub failure_at : ℕ → FaultKind → Failure
 failure_at slot codec.Opcode = Slot slot (fault_number codec.Opcode)
 failure_at slot codec.Reserved = Slot slot (fault_number codec.Reserved)

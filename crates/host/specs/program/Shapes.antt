@@ -1,5 +1,5 @@
--- The arguments that name maps: a descriptor, a kind, the sizes of a key and of a value in bytes, and the most entries, with
--- colons between them. The form is this project's own; what the fields are is bpf(2), BPF_MAP_CREATE.
+-- Map arguments: a descriptor, a kind, the sizes of a key and of a value in bytes, and the most entries, with colons between
+-- them. The format is this project's own; the fields are those of bpf(2), BPF_MAP_CREATE.
 use Rattle.std.specs.Prelude.{◌≡◌, ◌≢◌, ℕ, ◌+◌, ◌-◌, ◌==◌, Bool, true, List, [], ◌∷◌, ◌++◌, length, Option, Some, None, codes, if◌then◌else◌, option_and_then}
 use Rattle.std.specs.List.{AllPairs, AllZip, join_with_byte, list_any}
 use Rattle.clap.specs.Words.{Text}
@@ -19,14 +19,14 @@ kind_name Hash = codes "hash"
 abbrev pub colon : ℕ
 colon = 58
 
--- a descriptor is one of the numbers that a table has
+-- a descriptor is one of the numbers of a descriptor table
 abbrev pub is_descriptor : ℕ → Bool
 is_descriptor fd = is_from_to fds.first_descriptor (fds.first_descriptor + fds.most - 1) fd
 
 abbrev pub descriptor_number : Text → Option ℕ
 descriptor_number text = option_and_then (λ fd. if is_descriptor fd then Some fd else None) (decimal_number text)
 
--- The fields of a shape are written so. Which shapes there are is `MapShape`'s own fact: each field in its limits, and no
+-- The fields of a shape in text. Which shapes there are is `MapShape`'s own invariant: each field in its limits, and no
 -- more bytes of values than a map may have.
 pub record IsShapeOf (shape : MapShape) (kind key_size value_size max_entries : Text) : Type 0 where
   pub kind_is : kind ≡ kind_name shape.kind
@@ -49,7 +49,7 @@ pub record IsMapArgument (argument : Text) (map : Named) : Type 0 where
 
 -- ---- several arguments
 
--- the arguments name these maps in order, and no two of them one descriptor
+-- the arguments name these maps in order, and no two the same descriptor
 pub record AreMapArguments (arguments : List Text) (maps : List Named) : Type 0 where
   pub each : AllZip IsMapArgument arguments maps
   pub apart : AllPairs (λ (a : Named) (b : Named). a.fd ≢ b.fd) maps
@@ -57,7 +57,7 @@ pub record AreMapArguments (arguments : List Text) (maps : List Named) : Type 0 
 abbrev pub has_descriptor : ℕ → List Named → Bool
 has_descriptor fd maps = list_any (λ (map : Named). map.fd == fd) maps
 
--- the arguments before this one name maps, and it names none, or a descriptor of theirs; arguments are counted from 1
+-- the arguments before this one name maps, and it names no map, or a descriptor of theirs; arguments are counted from 1
 pub record IsFirstWrongArgument (arguments : List Text) (number : ℕ) : Type 0 where
   pub before : List Text
   pub argument : Text

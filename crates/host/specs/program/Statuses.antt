@@ -1,4 +1,4 @@
--- How a failure ends the program, and which failure stands for which fault. This project's own.
+-- The exit status of each failure, and the failure for each fault. This project's own.
 use Rattle.std.specs.Prelude.{ℕ}
 use Rattle.clap.specs.declared.error.kind.ErrorKind.{ErrorKind}
 use Rattle.clap.specs.declared.error.kind.ErrorKind.TheVariants as error
@@ -12,8 +12,7 @@ use Rattle.host_core.specs.declared.server.ServeFaultKind.TheVariants as fault
 use Rattle.host.specs.declared.program.failure.Failure.{Failure}
 use Rattle.host.specs.declared.program.failure.Failure.TheVariants.{WrongArguments, MapArgument, Truncated, TooManyFrames, TooLong, Line, Slot, Read, Write, Memory}
 
--- The status, by the failure: 1 where the input is refused, 2 at wrong arguments, 3 where input or output failed, 4 at want
--- of memory.
+-- The exit status: 1 if the input is refused, 2 if arguments are wrong, 3 if input or output failed, 4 if out of memory.
 abbrev pub exit_status : Failure → ℕ
 exit_status (Truncated frames) = 1
 exit_status TooManyFrames = 1
@@ -26,7 +25,7 @@ exit_status Read = 3
 exit_status Write = 3
 exit_status Memory = 4
 
--- the failure, by clap's kind of error
+-- the failure for clap's kind of error
 abbrev pub arguments_failure : ErrorKind → Failure
 arguments_failure error.InvalidValue = WrongArguments
 arguments_failure error.UnknownArgument = WrongArguments
@@ -46,7 +45,7 @@ arguments_failure error.Io = WrongArguments
 arguments_failure error.Format = WrongArguments
 arguments_failure error.OutOfMemory = Memory
 
--- the failure, by the fault that ends a stream after so many frames
+-- the failure for a fault that ends a stream after `frames` frames
 abbrev pub failure_after : ServeFaultKind → ℕ → Failure
 failure_after fault.Read frames = Read
 failure_after fault.Write frames = Write
@@ -57,7 +56,7 @@ failure_after fault.Memory frames = Memory
 abbrev pub stream_failure : ServeFault → Failure
 stream_failure ended = failure_after ended.kind ended.frames
 
--- the failure, by the kind of fault on a line of a text
+-- the failure for a kind of fault on a line of a text
 abbrev pub failure_on : ℕ → TextFaultKind → Failure
 failure_on line text.Syntax = Line line (kind_number text.Syntax)
 failure_on line text.Range = Line line (kind_number text.Range)

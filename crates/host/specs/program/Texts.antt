@@ -1,4 +1,4 @@
--- A program as hex lines, as `dis` and `verify` read it, and lines whose slots are no program. This project's own.
+-- A program as hex lines, which `dis` and `verify` read, and lines whose slots are no program. This project's own.
 use Rattle.std.specs.Prelude.{◌≡◌, ℕ, List, IsUtf8}
 use Rattle.bpf_text.specs.HexText.{IsHexText}
 use Rattle.insn_codec.specs.Program.{IsProgram, IsProgramFault, program_bytes}

@@ -1,4 +1,4 @@
-//! The program's arguments, and what it does at them.
+//! The program's arguments, and the subcommands that they run.
 
 ghost use Rattle.std.specs.Prelude.{◌≡◌, ◌≢◌, ◌≤◌, ◌⊎◌, Some, Err, IfErr, IfOk, IfSome, option_and_then, option_map};
 ghost use Rattle.std.specs.declared.io.ErrorKind.TheVariants.{OutOfMemory};
@@ -16,11 +16,12 @@ ghost use Rattle.host.specs.inside.program.Asked.{asked_by, texts_given, HasTena
 
 use crate::program::decimal::decimal;
 use crate::program::failure::Failure;
+use crate::program::frames::serve_frames;
 use crate::program::judging::judge;
 use crate::program::shapes::named_maps;
 use crate::program::texts::{TextTask, rewrite};
 use clap::{Arg, ArgAction, ArgMatches, Command};
-use host_core::{Counted, Host, MOST_FRAMES, MOST_TENANTS, serve};
+use host_core::{Counted, MOST_TENANTS};
 use std::alloc::{AllocError, Global};
 use std::io::{self, BufReader, Read, Write};
 use tagged_model::Named;
@@ -28,15 +29,15 @@ use tagged_model::Named;
 /// What the arguments ask for.
 #[derive(Clone, Copy, Debug)]
 enum Task<'m, 'a> {
-    /// Frames are served to so many tenants.
+    /// Serve frames to this number of tenants.
     Serve { tenants: usize },
-    /// A text is read, and another one written.
+    /// Read a text and write another one.
     Rewrite(TextTask),
-    /// A program is judged, with the maps that these arguments name, where some are given.
+    /// Verify a program, with the maps that these arguments name, if any are given.
     Verify { maps: Option<&'m [&'a str]> },
 }
 
-/// The number of tenants that decimal digits name, 1 to `MOST_TENANTS`.
+/// A number of tenants in decimal digits; `None` if it is not from 1 to `MOST_TENANTS`.
 fn tenant_count(digits: &str) -> Option<usize>
     ensures { result ≡ tenant_number digits.now }
 {
@@ -48,7 +49,7 @@ fn tenant_count(digits: &str) -> Option<usize>
     }
 }
 
-/// The subcommand `serve`: the option `--tenants` has to be given.
+/// The subcommand `serve`, with the required option `--tenants`.
 fn serve_subcommand<'a>(alloc: Global) -> Result<Command<'a>, AllocError>
     ensures { IfOk result (λ command. app_of command ≡ serve_command) }
 {
@@ -59,7 +60,7 @@ fn serve_subcommand<'a>(alloc: Global) -> Result<Command<'a>, AllocError>
     Command::new(alloc, "serve").arg(tenants)
 }
 
-/// The subcommand `verify`: each argument behind it is one for a map.
+/// The subcommand `verify`, with any number of map arguments.
 fn verify_subcommand<'a>(alloc: Global) -> Result<Command<'a>, AllocError>
     ensures { IfOk result (λ command. app_of command ≡ verify_command) }
 {
@@ -67,7 +68,7 @@ fn verify_subcommand<'a>(alloc: Global) -> Result<Command<'a>, AllocError>
     Command::new(alloc, "verify").arg(maps)
 }
 
-/// What clap makes of the arguments.
+/// Parses the arguments with clap.
 fn parse_arguments<'a>(
     alloc: Global,
     arguments: &'a [&'a str],
@@ -86,7 +87,7 @@ fn parse_arguments<'a>(
     program.try_get_matches_from(arguments)
 }
 
-/// The number of tenants that the subcommand `serve` is given.
+/// The number of tenants given to `serve`; `None` if it is missing or wrong.
 fn tenants_given(serve: &ArgMatches<'_>) -> Option<usize>
     ensures { result
         ≡ option_and_then tenant_number (tenants_value (rows_of (found_of serve.now))) }
@@ -94,7 +95,7 @@ fn tenants_given(serve: &ArgMatches<'_>) -> Option<usize>
     tenant_count(serve.get_str("tenants")?)
 }
 
-/// What a subcommand asks for: none where its options are wrong.
+/// The task of a subcommand; `None` if its options are wrong.
 fn task_named<'m, 'a>(name: &str, options: &'m ArgMatches<'a>) -> Option<Task<'m, 'a>>
     ensures tenants { IfSome result HasTenants }
     ensures asked { option_map asked_by result
@@ -115,7 +116,7 @@ fn task_named<'m, 'a>(name: &str, options: &'m ArgMatches<'a>) -> Option<Task<'m
     }
 }
 
-/// What the chosen subcommand asks for: none where its options are wrong.
+/// The task of the chosen subcommand; `None` if its options are wrong.
 fn chosen_task<'m, 'a>(matches: &'m ArgMatches<'a>) -> Option<Task<'m, 'a>>
     ensures tenants { IfSome result HasTenants }
     ensures asked { option_map asked_by result ≡ asked_of (subcommand_rows_of matches.now) }
@@ -124,8 +125,8 @@ fn chosen_task<'m, 'a>(matches: &'m ArgMatches<'a>) -> Option<Task<'m, 'a>>
     task_named(name, options)
 }
 
-/// Serves the input's frames, and writes the replies. The streams are given away, so the contract of `serve` alone says
-/// what was read and written, and which fault came.
+/// Serves the input's frames and writes the replies. It consumes the streams, so what was read and written, and which fault
+/// came, is in the contract of `serve_frames` alone.
 fn serve_streams<I: Read + Drop, O: Write + Drop>(
     alloc: Global,
     tenants: usize,
@@ -136,18 +137,16 @@ fn serve_streams<I: Read + Drop, O: Write + Drop>(
     requires few { tenants ≤ MOST_TENANTS }
     ensures { IfErr result (λ failure. exit_status failure ≢ 2) }
 {
-    let mut host = Host::new(alloc, tenants)?;
     let Ok(buffered) = BufReader::new(alloc, input) else {
         return Err(Failure::Memory);
     };
     let mut reader = Counted::new(buffered);
     let mut writer = Counted::new(output);
-    serve(alloc, &mut host, &mut reader, &mut writer, MOST_FRAMES)?;
-    Ok(())
+    serve_frames(alloc, tenants, &mut reader, &mut writer)
 }
 
-/// Writes what stands for the input. The streams are given away, so the contract of `rewrite` alone says what was read
-/// and written, and which fault came.
+/// Assembles or disassembles the input. It consumes the streams, so what was read and written, and which fault came, is in
+/// the contract of `rewrite` alone.
 fn rewrite_streams<I: Read + Drop, O: Write + Drop>(
     alloc: Global,
     task: TextTask,
@@ -161,7 +160,7 @@ fn rewrite_streams<I: Read + Drop, O: Write + Drop>(
     rewrite(alloc, task, &mut reader, &mut writer)
 }
 
-/// The maps that the arguments name, where some are given.
+/// The maps that the arguments name, if any are given.
 fn maps_given(alloc: Global, arguments: Option<&[&str]>) -> Result<Vec<Named>, Failure>
     ensures named { IfOk result (λ maps. AreMapArguments (texts_given arguments.entry) maps.items) }
     ensures wrong { FailsOnly result (IsWrongMapArgument (texts_given arguments.entry)) }
@@ -172,8 +171,8 @@ fn maps_given(alloc: Global, arguments: Option<&[&str]>) -> Result<Vec<Named>, F
     }
 }
 
-/// Judges the input's program, and says the status that tells the verdict. The arguments for maps are read first. The streams
-/// are given away, so the contract of `judge` alone says what was read and written, and which fault came.
+/// Reads the map arguments, verifies the input's program, and returns the exit status of the verdict. It consumes the streams,
+/// so what was read and written, and which fault came, is in the contract of `judge` alone.
 fn judge_streams<I: Read + Drop, O: Write + Drop>(
     alloc: Global,
     arguments: Option<&[&str]>,
@@ -195,7 +194,7 @@ fn judge_streams<I: Read + Drop, O: Write + Drop>(
     Ok(judgement.status())
 }
 
-/// Does what the arguments ask for, and says the status that the program ends with; they are those after its name.
+/// Runs the subcommand that the arguments, those after the program's name, ask for, and returns the exit status.
 fn run<I: Read + Drop, O: Write + Drop>(
     alloc: Global,
     arguments: &[&str],
@@ -224,9 +223,9 @@ fn run<I: Read + Drop, O: Write + Drop>(
     }
 }
 
-/// Runs the program on its arguments, which are those after its name, and says the status that it ends with: 0, 1 where the
-/// input or its program is refused, 2 at wrong arguments, 3 where input or output failed, 4 at want of memory. A fault is one
-/// line on `faults`; where that line can't be written the status stays.
+/// Runs the program on its arguments, those after its name, and returns its exit status: 0, 1 if the input or its program is
+/// refused, 2 if arguments are wrong, 3 if input or output failed, 4 if out of memory. A fault is one line on `faults`; if
+/// that line can't be written, the status is the same.
 pub fn run_words<I: Read + Drop, O: Write + Drop, F: Write + Drop>(
     alloc: Global,
     arguments: &[&str],
@@ -248,8 +247,8 @@ pub fn run_words<I: Read + Drop, O: Write + Drop, F: Write + Drop>(
     }
 }
 
-/// Refuses arguments that could not be read, in the words of `run_words`: `wrong words` and 2 where one is not UTF-8, and
-/// `out of memory` and 4 where there was no memory for them. A line that can't be written is left out.
+/// Reports arguments that could not be read, like `run_words`: the line `out of memory` and status 4 if out of memory, else
+/// (where one is not UTF-8) `wrong words` and 2. A line that can't be written is left out.
 pub fn refuse_unread_words<F: Write + Drop>(error: &io::Error, mut faults: F) -> u8
     ensures memory { error_kind error.now ≡ OutOfMemory → result ≡ 4 }
     ensures wrong { error_kind error.now ≢ OutOfMemory → result ≡ 2 }

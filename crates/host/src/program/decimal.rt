@@ -12,8 +12,8 @@ fn is_digits(text: &str) -> bool
     text.bytes().all(|byte| byte.is_ascii_digit())
 }
 
-/// The number that decimal digits write, by its value: leading zeros count for nothing. None where there is no digit or
-/// another character, a sign among them, and from 2^32 on.
+/// The value of decimal digits; leading zeros are allowed. `None` if there is no digit or another character, such as a sign,
+/// and from 2^32 on.
 pub(crate) fn decimal(digits: &str) -> Option<u32>
     ensures { result ≡ decimal_number digits.now }
 {

@@ -1,4 +1,4 @@
-//! Why a run of the program ends with a fault.
+//! Failures of the program.
 
 ghost use Rattle.std.specs.Prelude.{◌≡◌};
 
@@ -10,7 +10,7 @@ use std::alloc::{AllocError, AllocFailed};
 use std::io;
 use thiserror::Error;
 
-/// Why a run ends with another status than 0. Its text is the fault line.
+/// Why the program ends with a fault. Its text is the fault line.
 #[derive(Debug, Drop, Error)]
 pub enum Failure {
     #[error("wrong words")]
@@ -42,7 +42,7 @@ impl Failure {
     ghost use Rattle.host.specs.declared.program.failure.Failure.TheVariants.{WrongArguments, Memory};
     ghost use Rattle.host.specs.program.Statuses.{exit_status};
 
-    /// Why the arguments could not be read: there was no memory for them, or one is not UTF-8.
+    /// Why the arguments could not be read: `Memory` if out of memory, else `WrongArguments`, as where one is not UTF-8.
     pub fn of_unread_arguments(error: &io::Error) -> Failure
         ensures memory { error_kind error.now ≡ OutOfMemory → result ≡ Memory }
         ensures wrong { error_kind error.now ≢ OutOfMemory → result ≡ WrongArguments }
@@ -54,7 +54,7 @@ impl Failure {
         }
     }
 
-    /// The status that the program ends with.
+    /// The exit status of the program.
     pub fn status(&self) -> u8
         ensures { result ≡ exit_status self.now }
     {

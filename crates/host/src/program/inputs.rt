@@ -1,4 +1,4 @@
-//! What another program reads as the subcommands do: an input, the arguments that name maps, a program.
+//! Readers of an input, of map arguments and of programs, for another program that reads them as the subcommands do.
 
 ghost use Rattle.std.specs.Prelude.{◌≡◌, IfOk, IsUtf8};
 ghost use Rattle.bpf_text.specs.Assembly.{IsAssembled};
@@ -20,41 +20,41 @@ use tagged_model::Named;
 ///
 /// # Errors
 ///
-/// `TooLong` where it has more than 1,048,576 bytes, `Read` where a call failed, and `Memory`.
+/// `TooLong` if it has more than 1,048,576 bytes, `Read` if a call failed, `Memory` if out of memory.
 pub fn whole_input<I: Read + Drop>(alloc: Global, input: I) -> Result<Vec<u8>, Failure> {
     let mut reader = Counted::new(input);
     read_input(alloc, &mut reader)
 }
 
-/// The maps that arguments name, as those of `verify` do.
+/// The maps that map arguments name, as `verify` reads them.
 ///
 /// # Errors
 ///
-/// `MapArgument` with the number, from 1, of the first argument that names no map, or the descriptor of an argument before it;
-/// and `Memory`.
+/// `MapArgument` with the number, from 1, of the first argument that names no map, or the descriptor of an earlier one;
+/// `Memory` if out of memory.
 pub fn maps_named(alloc: Global, arguments: &[&str]) -> Result<Vec<Named>, Failure>
     ensures { IfOk result (λ maps. AreMapArguments (texts arguments.now) maps.items) }
 {
     named_maps(alloc, arguments)
 }
 
-/// The program whose slots stand on the lines of an input as hex digits.
+/// The program whose slots are the hex lines of an input.
 ///
 /// # Errors
 ///
-/// `Line` where the input is not UTF-8, a line has a fault or none has a slot, `Slot` where the slots are no program, and
-/// `Memory`.
+/// `Line` if the input is not UTF-8, a line has a fault or no line has a slot; `Slot` if the slots are no program; `Memory`
+/// if out of memory.
 pub fn hex_program(alloc: Global, input: &[u8]) -> Result<Program, Failure>
     ensures { IfOk result (λ program. IsProgramText input.now program) }
 {
     program_on(alloc, input)
 }
 
-/// The program whose text is an input.
+/// Assembles the program whose text is an input.
 ///
 /// # Errors
 ///
-/// `Line` where the input is not UTF-8, a line has a fault or there is no instruction, and `Memory`.
+/// `Line` if the input is not UTF-8, a line has a fault or there is no instruction; `Memory` if out of memory.
 pub fn text_program(alloc: Global, input: &[u8]) -> Result<Program, Failure>
     ensures utf8 { IfOk result (λ _. IsUtf8 input.now) }
     ensures program { IfOk result (λ program. IsAssembled input.now program) }

@@ -16,16 +16,15 @@ use reg_kinds::Reason;
 use std::alloc::Global;
 use std::fmt;
 use tagged_model::Named;
-use verdict::laws;
-use verifier::verify;
+use verifier::{laws, verify_owned};
 
-/// What is told of the slots on hex lines.
+/// The answer of `verify` to the slots on hex lines.
 #[derive(Clone, Copy, Debug, PartialEq, Eq)]
 pub(crate) enum Judgement {
-    /// They are a program that is accepted.
+    /// They are a program, which is accepted.
     Accepted,
-    /// They are no program, or one that is refused, for what stands at a slot. The reason is the verdict's number, or 100
-    /// and the number of the codec's fault.
+    /// They are no program, or one that is refused, because of this slot. The reason is the verdict's number, or 100 plus
+    /// the number of the codec's fault.
     Refused { slot: usize, reason: u16 },
 }
 
@@ -46,7 +45,7 @@ impl fmt::Display for Judgement {
 }
 
 impl Judgement {
-    /// The status that a run ends with which wrote it.
+    /// The exit status of a run that wrote it.
     pub fn status(self) -> u8
         ensures { result ≡ judgement_status self }
     {
@@ -57,21 +56,17 @@ impl Judgement {
     }
 }
 
-/// The verdict on a program, where descriptors name these maps.
-fn verdict_of_program(
-    alloc: Global,
-    program: &Program,
-    maps: &[Named],
-) -> Result<Judgement, Failure>
-    ensures judged { IfOk result (λ judgement. IsVerdict maps.now program.now judgement) }
-    ensures only { (judgement : AnyJudgement) → IsVerdict maps.now program.now judgement
+/// The verdict on a program, where these maps are open.
+fn verdict_of_program(alloc: Global, program: Program, maps: &[Named]) -> Result<Judgement, Failure>
+    ensures judged { IfOk result (λ judgement. IsVerdict maps.now program judgement) }
+    ensures only { (judgement : AnyJudgement) → IsVerdict maps.now program judgement
         → Gives (λ told. told) result judgement }
     ensures fault { IfErr result (λ failure. failure ≡ Failure.Memory) }
 {
-    // These laws say that there is one verdict.
+    // By these laws there is one verdict.
     laws::one_refusal();
     laws::accepted_is_not_refused();
-    match verify(alloc, program, maps) {
+    match verify_owned(alloc, program, maps) {
         Ok(_) => Ok(Judgement::Accepted),
         Err(fault) => {
             match fault.reason {
@@ -87,7 +82,7 @@ fn verdict_of_program(
     }
 }
 
-/// What is told of the slots on the lines of the input, where descriptors name these maps.
+/// The judgement of the input's hex lines, where these maps are open.
 fn verdict_of_input(alloc: Global, maps: &[Named], input: &[u8]) -> Result<Judgement, Failure>
     ensures judged { IfOk result (λ judgement. IsJudgement maps.now input.now judgement) }
     ensures only { (judgement : AnyJudgement) → IsJudgement maps.now input.now judgement
@@ -97,7 +92,7 @@ fn verdict_of_input(alloc: Global, maps: &[Named], input: &[u8]) -> Result<Judge
         → Fails result (λ failure. failure ≡ refusal) }
 {
     match program_on(alloc, input) {
-        Ok(program) => verdict_of_program(alloc, &program, maps),
+        Ok(program) => verdict_of_program(alloc, program, maps),
         Err(failure) => {
             match failure {
                 Failure::Slot { slot, kind } => {
@@ -112,7 +107,7 @@ fn verdict_of_input(alloc: Global, maps: &[Named], input: &[u8]) -> Result<Judge
     }
 }
 
-/// Reads the input, and writes a line that tells what is made of its hex lines, where descriptors name these maps.
+/// Reads the input, and writes a line with the judgement of its hex lines, where these maps are open.
 pub(crate) fn judge<S: Source, O: Sink>(
     alloc: Global,
     maps: &[Named],

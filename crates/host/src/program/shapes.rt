@@ -1,4 +1,4 @@
-//! The arguments that name maps: `FD:KIND:KEY:VALUE:MAX`.
+//! Map arguments: `FD:KIND:KEY:VALUE:MAX`.
 
 ghost use Rattle.std.specs.Prelude.{◌≡◌, ◌≢◌, ◌↔◌, ◌∷◌, [], ◌<◌, false, length, true, IfNone, IfOk, IfSome, None, Ok, Some};
 ghost use Rattle.clap.specs.Walk.{texts};
@@ -21,7 +21,7 @@ use thiserror::Error;
 #[error("a map is named by FD:KIND:KEY:VALUE:MAX")]
 pub struct BadShape;
 
-/// What stands before the first colon, and what stands behind it.
+/// The text before the first colon, and the text after it.
 fn first_field(text: &str) -> Option<(&str, &str)>
     ensures first { IfSome result (λ cut. map_fields text.now ≡ cut.0.now ∷ map_fields cut.1.now) }
     ensures last { IfNone result (map_fields text.now ≡ text.now ∷ []) }
@@ -29,7 +29,7 @@ fn first_field(text: &str) -> Option<(&str, &str)>
     text.split_once(':')
 }
 
-/// The first four fields, and what stands behind them.
+/// The first four fields, and the text after them.
 fn five_parts(argument: &str) -> Option<(&str, &str, &str, &str, &str)>
     ensures parts { IfSome result (λ cut. map_fields argument.now
         ≡ cut.0.now ∷ cut.1.now ∷ cut.2.now ∷ cut.3.now ∷ map_fields cut.4.now) }
@@ -54,7 +54,7 @@ fn kind_named(name: &str) -> Option<MapKind>
     }
 }
 
-/// The shape whose fields are written so.
+/// The shape with these fields; `None` if there is no such shape.
 fn shape_of(kind: &str, key_size: &str, value_size: &str, max_entries: &str) -> Option<MapShape>
     ensures written { IfSome result (λ shape.
         IsShapeOf shape kind.now key_size.now value_size.now max_entries.now) }
@@ -68,7 +68,7 @@ fn shape_of(kind: &str, key_size: &str, value_size: &str, max_entries: &str) -> 
     MapShape::new(kind, key_size, value_size, max_entries, 0).ok()
 }
 
-/// The descriptor that is written so, 3 to 66.
+/// The descriptor in a field; `None` if it is not from 3 to 66.
 fn descriptor(field: &str) -> Option<u32>
     ensures { result ≡ descriptor_number field.now }
 {
@@ -80,7 +80,7 @@ fn descriptor(field: &str) -> Option<u32>
     }
 }
 
-/// The map that an argument names.
+/// The map that an argument names; `None` if it names no map.
 fn map_of(argument: &str) -> Option<Named>
     ensures { (map : AnyNamed) → (result ≡ Some map) ↔ IsMapArgument argument.now map }
 {
@@ -94,25 +94,25 @@ fn map_of(argument: &str) -> Option<Named>
 }
 
 /// The map that an argument names: a descriptor from 3 to 66, `array` or `hash`, the sizes of a key and of a value in bytes,
-/// and the most entries. The five fields are parted by colons; numbers are decimal digits, taken by their value.
+/// and the most entries. Colons separate the five fields; numbers are decimal digits, with or without leading zeros.
 ///
 /// # Errors
 ///
-/// `BadShape` for every other argument, and where no map may have this shape (`MapShape::new`).
+/// `BadShape` for every other argument, and if no map may have this shape (`MapShape::new`).
 pub fn read_shape(argument: &str) -> Result<Named, BadShape>
     ensures { (map : AnyNamed) → (result ≡ Ok map) ↔ IsMapArgument argument.now map }
 {
     map_of(argument).ok_or(BadShape)
 }
 
-/// Whether one of these maps has this descriptor.
+/// Whether one of the maps has the descriptor `fd`.
 fn is_open(maps: &[Named], fd: u32) -> bool
     ensures { result ≡ has_descriptor fd maps.now }
 {
     maps.iter().any(|map| map.fd == fd)
 }
 
-/// The map that an argument names beside these: none where it names none, or a descriptor of theirs.
+/// The map that a further argument names; `None` if it names no map, or a descriptor that is taken.
 fn further_map(maps: &[Named], argument: &str) -> Option<Named>
     ensures named { IfSome result (λ map. IsMapArgument argument.now map
         × (has_descriptor map.fd maps.now ≡ false)) }
@@ -131,7 +131,8 @@ fn further_map(maps: &[Named], argument: &str) -> Option<Named>
 ///
 /// # Errors
 ///
-/// `MapArgument` with the number, from 1, of the first argument that names no map, or names the descriptor of an argument before it.
+/// `MapArgument` with the number, from 1, of the first argument that names no map, or the descriptor of an earlier one; `Memory`
+/// if out of memory.
 pub(crate) fn named_maps(alloc: Global, arguments: &[&str]) -> Result<Vec<Named>, Failure>
     ensures named { IfOk result (λ maps. AreMapArguments (texts arguments.now) maps.items) }
     ensures wrong { FailsOnly result (IsWrongMapArgument (texts arguments.now)) }

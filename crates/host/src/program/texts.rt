@@ -17,16 +17,16 @@ use std::alloc::{AllocError, Global};
 /// The longest input of a text, in bytes.
 pub(crate) const LONGEST_INPUT: usize = 1_048_576;
 
-/// What is made of a text.
+/// Which of the two a run does.
 #[derive(Clone, Copy, Debug, PartialEq, Eq)]
 pub(crate) enum TextTask {
-    /// The hex lines of a program's text.
+    /// A program's text to its hex lines.
     Assemble,
-    /// The text of a program's hex lines.
+    /// A program's hex lines to its text.
     Disassemble,
 }
 
-/// The text that the bytes are.
+/// The bytes as text; fault 1 of line 0 if they are not UTF-8.
 pub(crate) fn text_in(bytes: &[u8]) -> Result<&str, Failure>
     ensures { MatchResult result (λ text. (text.now ≡ bytes.now) × IsUtf8 bytes.now)
         (IsNoText bytes.now) }
@@ -51,7 +51,7 @@ fn assembled(alloc: Global, input: &[u8]) -> Result<String, Failure>
     Ok(lines)
 }
 
-/// The program whose slots stand on the lines of the input.
+/// The program whose slots are the hex lines of the input.
 pub(crate) fn program_on(alloc: Global, input: &[u8]) -> Result<Program, Failure>
     ensures read { IfOk result (λ program. IsProgramText input.now program) }
     ensures only { (insns : List AnyInsn) → IsProgramText input.now insns
@@ -79,7 +79,7 @@ fn disassembled(alloc: Global, input: &[u8]) -> Result<String, Failure>
     Ok(text)
 }
 
-/// What stands for the input.
+/// The output of the task for the input.
 fn rewritten(alloc: Global, task: TextTask, input: &[u8]) -> Result<String, Failure>
     ensures made { IfOk result (λ output. IsRewritten task input.now (string_bytes output)) }
     ensures only { (output : List ℕ) → IsRewritten task input.now output
@@ -94,14 +94,15 @@ fn rewritten(alloc: Global, task: TextTask, input: &[u8]) -> Result<String, Fail
     }
 }
 
-/// A buffer of so many bytes.
+/// A buffer of `size` bytes.
 fn buffer(alloc: Global, size: usize) -> Result<Vec<u8>, AllocError>
     ensures { IfOk result (λ bytes. length bytes.items ≡ size) }
 {
     vec![in alloc; 0; size]
 }
 
-/// Reads the input to its end, where it is not too long.
+/// Reads the input to its end. `TooLong` if it has more than `LONGEST_INPUT` bytes, `Read` if a call failed, `Memory` if out
+/// of memory.
 pub(crate) fn read_input<S: Source>(alloc: Global, reader: &mut S) -> Result<Vec<u8>, Failure>
     requires { S.failures reader.old < 2 ^ 64 - 1 }
     ensures input { IfOk result (λ input.
@@ -122,7 +123,7 @@ pub(crate) fn read_input<S: Source>(alloc: Global, reader: &mut S) -> Result<Vec
     Ok(input)
 }
 
-/// Reads the input, and writes what stands for it.
+/// Reads the input, and writes the output of the task for it.
 pub(crate) fn rewrite<S: Source, O: Sink>(
     alloc: Global,
     task: TextTask,

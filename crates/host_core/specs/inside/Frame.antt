@@ -14,7 +14,7 @@ pub record ServesOneFrame (old new : StreamState) (frame reply out : List ℕ) :
   pub written : Appends old.output new.output out
   pub handled : Handles old.states frame reply new.states
 
--- nothing but so many bytes was read
+-- the bytes `rest` were read; nothing was written, and no state changed
 pub record ReadsOnly (old new : StreamState) (rest : List ℕ) : Type 0 where
   pub read : Consumes old.input new.input rest
   pub written : new.output ≡ old.output

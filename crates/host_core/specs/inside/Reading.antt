@@ -1,4 +1,4 @@
--- How reading a frame may go. This project's own.
+-- How reading a frame may end. This project's own.
 use Rattle.std.specs.Prelude.{◌≡◌, ℕ, ◌<◌, List, length, take, Option, ◌⊎◌}
 use Rattle.std.specs.Io.KnownBytes.{Consumes, IsAtEnd}
 use Rattle.command_frames.specs.Command.{longest_frame}
@@ -6,20 +6,20 @@ use Rattle.command_frames.specs.Frame.{IsPartial}
 use Rattle.host_core.specs.declared.server.ServeFaultKind.{ServeFaultKind}
 use Rattle.host_core.specs.declared.server.ServeFaultKind.TheVariants.{Read, Write, Truncated, TooManyFrames, Memory}
 
--- fewer than so many bytes came
+-- fewer than `count` bytes were read
 pub record ReadsFewer (old new : Option (List ℕ)) (count : ℕ) : Type 0 where
   pub bytes : List ℕ
   pub few : length bytes < count
   pub read : Consumes old new bytes
 
--- less than a whole frame came; where the input ended, some of it
+-- less than a whole frame was read; if it is truncated, at least one byte of it
 pub record ReadsPartial (kind : ServeFaultKind) (old new : Option (List ℕ)) : Type 0 where
   pub bytes : List ℕ
   pub partial : IsPartial bytes
   pub begun : kind ≡ Truncated → 0 < length bytes
   pub read : Consumes old new bytes
 
--- why no more came: a call failed, or the input is at its end and no call failed
+-- why no more was read: a call failed, or the input is at its end and no call failed
 abbrev pub StopsReading : ServeFaultKind → Option (List ℕ) → ℕ → ℕ → Type 0
 StopsReading Read left failures_before failures_after = failures_before < failures_after
 StopsReading Truncated left failures_before failures_after = IsAtEnd left × (failures_after ≡ failures_before)
@@ -27,11 +27,11 @@ StopsReading Write left failures_before failures_after = ⊥
 StopsReading TooManyFrames left failures_before failures_after = ⊥
 StopsReading Memory left failures_before failures_after = ⊥
 
--- by the reader before and after
+-- the same, given the reader before and after
 abbrev pub StopsAt : {R : Type 0} → (R → Option (List ℕ)) → (R → ℕ) → ServeFaultKind → R → R → Type 0
 StopsAt remaining failures kind old new = StopsReading kind (remaining new) (failures old) (failures new)
 
--- the first bytes are the frame, or both are longer than a frame may be and begin with one head
+-- the front is the frame, or both are longer than the longest frame and begin with the same head
 abbrev pub IsKeptFrontOf : List ℕ → List ℕ → Type 0
 IsKeptFrontOf front frame =
     (front ≡ frame) ⊎ ((longest_frame < length front) × (longest_frame < length frame) × (take 4 front ≡ take 4 frame))

@@ -1,5 +1,5 @@
--- The fault at the front of bytes in the order in which the code looks for it. It is the one that the grammar tells
--- (`HasFault`), which is proved. The fields are those of RFC 9669, sections 3 to 5; the order is this project's own.
+-- The fault at the front of bytes, in the order in which the code looks for it. That it is the fault of the grammar (`HasFault`) is
+-- proved. The fields are those of RFC 9669, sections 3 to 5; the order is this project's own.
 use Rattle.std.specs.Prelude.{ℕ, Bool, true, ◌&&◌, List, length, drop, Option, Some, None, nat_lt, nat_le, ◌==◌, if◌then◌else◌}
 use Rattle.insn_codec.specs.declared.slot.SlotFields.{SlotFields}
 use Rattle.insn_codec.specs.declared.form.OpcodeForm.{OpcodeForm}
@@ -13,7 +13,7 @@ use Rattle.insn_codec.specs.inside.Form.{form_at, listed, wide_at}
 
 -- ---- the second slot of a wide instruction: RFC 9669, sections 3.2 and 5.4
 
--- the number in the second slot is zero where the load does not use it
+-- the immediate of the second slot is zero if the load does not use it
 abbrev pub next_listed : WideKind → ℕ → Bool
 next_listed Number imm = true
 next_listed Map imm = imm == 0
@@ -32,7 +32,7 @@ second_fault _ src rest = None
 
 -- ---- the first slot
 
--- of a slot that begins a form
+-- the fault of a first slot of this form, with the bytes after it; None if an instruction begins there
 unfoldable pub fault_in_form : OpcodeForm → SlotFields → List ℕ → Option FaultKind
 fault_in_form f s rest =
     if listed f s then (if nat_le s.dst 10 && nat_le s.src 10 then second_fault f s.src rest else Some Register) else Some Reserved
@@ -41,6 +41,6 @@ abbrev pub fault_by_form : Option OpcodeForm → SlotFields → List ℕ → Opt
 fault_by_form None s rest = Some Opcode
 fault_by_form (Some f) s rest = fault_in_form f s rest
 
--- of the instruction at the front
+-- the fault at the front of the bytes; None if an instruction begins there
 unfoldable pub first_fault : List ℕ → Option FaultKind
 first_fault bytes = if nat_lt (length bytes) 8 then Some Ragged else fault_by_form (form_at (slot_of bytes).opcode) (slot_of bytes) (drop 8 bytes)

@@ -1,11 +1,11 @@
--- What an opcode says, and which values the fields of its form may have: RFC 9669, sections 4 and 5.
+-- The form of each opcode, and the values that its fields may have: RFC 9669, sections 4 and 5.
 use Rattle.std.specs.Prelude.{ℕ, ◌/◌, ◌%◌, Bool, true, false, ◌&&◌, ◌||◌, Option, Some, None, is_some, nat_le, ◌==◌, if◌then◌else◌, option_and_then}
 use Rattle.insn_codec.specs.declared.slot.SlotFields.{SlotFields}
-use Rattle.insn_codec.specs.declared.insn.ByteOrder.TheVariants.{Little, Big, Swap}
-use Rattle.insn_codec.specs.declared.insn.Condition.{Condition}
-use Rattle.insn_codec.specs.declared.insn.Condition.TheVariants.{Equal, Above, AboveOrEqual, CommonBit, NotEqual, SignedAbove, SignedAboveOrEqual, Below, BelowOrEqual, SignedBelow, SignedBelowOrEqual}
-use Rattle.insn_codec.specs.declared.insn.Size.{Size}
-use Rattle.insn_codec.specs.declared.insn.Size.TheVariants as size
+use Rattle.words.specs.declared.operator.ByteOrder.TheVariants.{Little, Big, Swap}
+use Rattle.words.specs.declared.operator.Condition.{Condition}
+use Rattle.words.specs.declared.operator.Condition.TheVariants.{Equal, Above, AboveOrEqual, CommonBit, NotEqual, SignedAbove, SignedAboveOrEqual, Below, BelowOrEqual, SignedBelow, SignedBelowOrEqual}
+use Rattle.words.specs.declared.stack.AccessSize.{AccessSize}
+use Rattle.words.specs.declared.stack.AccessSize.TheVariants as size
 use Rattle.insn_codec.specs.declared.insn.AtomicSize.TheVariants as atomic_size
 use Rattle.insn_codec.specs.declared.insn.AtomicOp.{AtomicOp}
 use Rattle.insn_codec.specs.declared.insn.AtomicOp.TheVariants as atomic
@@ -51,10 +51,10 @@ condition_at code =
     (if code == 13 then Some SignedBelowOrEqual else None))))))))))
 
 -- section 5
-abbrev pub size_at : ℕ → Size
+abbrev pub size_at : ℕ → AccessSize
 size_at code = if code == 0 then size.Word else (if code == 1 then size.Half else (if code == 2 then size.Byte else size.Double))
 
--- sections 4.1 and 4.2: NEG has one opcode for each width, and a byte-order change one for each way
+-- sections 4.1 and 4.2: NEG has one opcode for each width, and a byte-order conversion one for each order
 abbrev pub neg_at : Bool → SourceBit → Option OpcodeForm
 neg_at wide Imm = Some (form.Neg wide)
 neg_at wide Reg = None
@@ -120,11 +120,11 @@ form_at opcode =
     (if opcode % 8 == 6 then jump_at false (source_at opcode) (opcode / 16) else
     alu_at true (source_at opcode) (opcode / 16)))))))
 
--- section 5.4: what the immediates of a wide load are, by its source field
+-- section 5.4: the meaning of a wide load's immediates, by its source field
 abbrev pub wide_at : ℕ → Option WideKind
 wide_at src = if src == 0 then Some Number else (if src == 1 then Some Map else (if src == 2 then Some MapValue else None))
 
--- section 5.3: the operation of an immediate, without FETCH
+-- section 5.3: the operation with an immediate, without FETCH
 abbrev pub atomic_at : ℕ → Option AtomicOp
 atomic_at imm =
     if imm == 0x00 then Some atomic.Add else
@@ -132,19 +132,19 @@ atomic_at imm =
     (if imm == 0x50 then Some atomic.And else
     (if imm == 0xa0 then Some atomic.Xor else None)))
 
--- section 4: the operand that is not used is zero
+-- section 4: the unused operand field is zero
 abbrev pub one_operand : SourceBit → SlotFields → Bool
 one_operand Imm s = s.src == 0
 one_operand Reg s = s.imm == 0
 
--- section 4.1: which offsets an operation has
+-- section 4.1: the offsets that an operation allows
 abbrev pub offset_listed : Bool → AluCode → SourceBit → ℕ → Bool
 offset_listed wide Div source offset = nat_le offset 1
 offset_listed wide Mod source offset = nat_le offset 1
 offset_listed wide Mov Reg offset = offset == 0 || offset == 8 || offset == 16 || (wide && offset == 32)
 offset_listed wide code source offset = offset == 0
 
--- each field has a value that the form lists; one that it does not use is zero (section 3.1)
+-- each field has a value that the form allows; an unused field is zero (section 3.1)
 abbrev pub listed : OpcodeForm → SlotFields → Bool
 listed (form.Alu wide code source) s = one_operand source s && offset_listed wide code source s.offset
 listed (form.Neg wide) s = s.src == 0 && s.offset == 0 && s.imm == 0

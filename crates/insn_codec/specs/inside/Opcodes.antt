@@ -1,15 +1,13 @@
--- The numbers of opcodes by their parts, as a reader of bytes takes them apart: RFC 9669, sections 4 and 5.
+-- The numbers of opcodes by their parts, as a decoder takes them apart: RFC 9669, sections 4 and 5.
 use Rattle.std.specs.Prelude.{ℕ, ◌+◌}
 use Rattle.insn_codec.specs.declared.opcode.AluCode.{AluCode}
 use Rattle.insn_codec.specs.declared.opcode.AluCode.TheVariants as code
-use Rattle.insn_codec.specs.declared.opcode.SourceBit.{SourceBit}
-use Rattle.insn_codec.specs.declared.opcode.SourceBit.TheVariants as source
 use Rattle.insn_codec.specs.declared.opcode.LoadKind.{LoadKind}
 use Rattle.insn_codec.specs.declared.opcode.LoadKind.TheVariants as load
 use Rattle.insn_codec.specs.declared.form.OpcodeForm.{OpcodeForm}
 use Rattle.insn_codec.specs.declared.form.OpcodeForm.TheVariants as form
-use Rattle.insn_codec.specs.Sizes.{access_size}
-use Rattle.insn_codec.specs.Numbers.{opcode, alu_class, jump_class, condition_number, end_opcode, memory_opcode}
+use Rattle.insn_codec.specs.Atomic.{access_size}
+use Rattle.insn_codec.specs.Numbers.{opcode, source_number, alu_class, jump_class, condition_number, end_opcode, memory_opcode}
 
 -- section 4.1
 abbrev pub code_number : AluCode → ℕ
@@ -25,11 +23,6 @@ code_number code.Mod = 9
 code_number code.Xor = 10
 code_number code.Mov = 11
 code_number code.SignedShiftRight = 12
-
--- section 4: the source bit
-abbrev pub source_number : SourceBit → ℕ
-source_number source.Imm = 0
-source_number source.Reg = 1
 
 -- sections 5.1 and 5.2
 abbrev pub load_opcode : LoadKind → ℕ

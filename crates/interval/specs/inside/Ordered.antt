@@ -1,4 +1,4 @@
--- The ends of the ranges that are defined come in order. This project's own.
+-- In each range that is defined, the low end is at most the high end. This project's own.
 use Rattle.std.proofs.Common.{ℕ, ◌≤◌, arith}
 use Rattle.std.specs.Prelude.{min, max}
 use Rattle.interval.specs.declared.range.Range.{Range}

@@ -1,4 +1,4 @@
-//! Accesses of the stack, of the context and of maps' values.
+//! Accesses to the stack, to the context and to maps' values.
 
 use crate::kinds::{write_bytes, write_kind};
 use crate::needs::Refusal;
@@ -9,7 +9,7 @@ use insn_codec::Insn;
 use reg_kinds::{Facts, Kind, Reason, Slot, ValuePointer};
 use std::alloc::AllocError;
 use std::fmt::Write;
-use tagged_model::{Named, access_size, shape_of};
+use tagged_model::{Named, shape_of};
 use words::STACK_SLOTS;
 
 /// What an access does.
@@ -23,7 +23,7 @@ enum Deed {
 }
 
 impl Deed {
-    /// It in words.
+    /// The verb for it.
     fn verb(self) -> &'static str {
         match self {
             Deed::Load | Deed::SignedLoad => "reads",
@@ -33,25 +33,25 @@ impl Deed {
     }
 }
 
-/// An access of memory, as an instruction makes it.
+/// The memory access of an instruction.
 #[derive(Clone, Copy)]
 struct Access {
-    /// The register that has the address, and how far behind it the bytes begin.
+    /// The base register, and the offset of the bytes from it.
     base: u8,
     offset: i64,
     bytes: i64,
-    /// The register that a store or an atomic operation is given, if it is one.
+    /// The source register of a store or of an atomic operation, if there is one.
     given: Option<u8>,
     deed: Deed,
 }
 
-/// The access that an instruction makes.
+/// The access of an instruction; `None` if it accesses no memory.
 fn access_of(insn: &Insn) -> Option<Access> {
     match *insn {
         Insn::Load(ref load) => Some(Access {
             base: load.src.number(),
             offset: i64::from(load.off),
-            bytes: i64::from(access_size(load.size).bytes()),
+            bytes: i64::from(load.size.bytes()),
             given: None,
             deed: if load.signed {
                 Deed::SignedLoad
@@ -67,7 +67,7 @@ fn access_of(insn: &Insn) -> Option<Access> {
         } => Some(Access {
             base: dst.number(),
             offset: i64::from(off),
-            bytes: i64::from(access_size(size).bytes()),
+            bytes: i64::from(size.bytes()),
             given: register_of(src),
             deed: Deed::Store,
         }),
@@ -80,7 +80,7 @@ fn access_of(insn: &Insn) -> Option<Access> {
         } => Some(Access {
             base: dst.number(),
             offset: i64::from(off),
-            bytes: i64::from(access_size(size.access()).bytes()),
+            bytes: i64::from(size.access().bytes()),
             given: Some(src.number()),
             deed: Deed::Change,
         }),
@@ -88,7 +88,7 @@ fn access_of(insn: &Insn) -> Option<Access> {
     }
 }
 
-/// The first and the last byte that an access may touch, from where its pointer's object begins, or from the stack's upper end.
+/// The first and the last byte that an access may touch, from the start of its pointer's object, or from the stack's upper end.
 fn touched(access: Access, kind: Kind) -> (i64, i64) {
     let (low, high) = match kind {
         Kind::Stack(offset) => (offset, offset),
@@ -103,7 +103,7 @@ fn touched(access: Access, kind: Kind) -> (i64, i64) {
     (first, last)
 }
 
-/// Writes bytes of the stack that lie outside of it.
+/// Writes that bytes lie outside the stack.
 pub(crate) fn write_outside_stack(
     text: &mut String,
     verb: &str,
@@ -115,7 +115,7 @@ pub(crate) fn write_outside_stack(
     text.push_str(" of the stack, whose bytes are -512 to -1")
 }
 
-/// The first and the last of some bytes of the stack that may not be written.
+/// The first and the last of the stack bytes in a range that may be unwritten.
 fn unwritten(facts: &Facts, first: i64, last: i64) -> (i64, i64) {
     let mut lowest = None;
     let mut highest = last;
@@ -130,7 +130,7 @@ fn unwritten(facts: &Facts, first: i64, last: i64) -> (i64, i64) {
     (lowest.unwrap_or(first), highest)
 }
 
-/// Writes bytes of the stack that may not be written, and why.
+/// Writes the stack bytes in a range that may be unwritten, and why.
 pub(crate) fn write_unwritten(
     text: &mut String,
     refusal: &Refusal<'_>,
@@ -143,7 +143,7 @@ pub(crate) fn write_unwritten(
     write_way(text, refusal, Wanted::Stack { first, last })
 }
 
-/// The first spilled value of which some bytes of the stack are a part, with its lowest byte.
+/// The first spill that overlaps a range of stack bytes, with its lowest byte.
 fn spill_among(facts: &Facts, first: i64, last: i64) -> Option<(i64, Kind)> {
     for index in 0..STACK_SLOTS {
         let lowest = 8 * index as i64 - 8 * STACK_SLOTS as i64;
@@ -157,7 +157,7 @@ fn spill_among(facts: &Facts, first: i64, last: i64) -> Option<(i64, Kind)> {
     None
 }
 
-/// Writes which spilled value bytes of the stack are a part of.
+/// Writes which spill a range of stack bytes overlaps.
 pub(crate) fn write_part_of_spill(
     text: &mut String,
     facts: &Facts,
@@ -182,7 +182,7 @@ pub(crate) fn write_part_of_spill(
     }
 }
 
-/// Writes that a pointer is stored by less than eight bytes.
+/// Writes that a pointer is stored with fewer than eight bytes.
 fn write_part_stored(
     text: &mut String,
     facts: &Facts,
@@ -193,7 +193,7 @@ fn write_part_stored(
     write!(text, ", and is stored by 8 bytes, not by {bytes}")
 }
 
-/// Writes bytes of a map's value that lie outside of it.
+/// Writes that bytes lie outside a map's value.
 pub(crate) fn write_outside_value(
     text: &mut String,
     named: &[Named],
@@ -208,7 +208,7 @@ pub(crate) fn write_outside_value(
     write!(text, " of a value of {size} bytes (map {map})")
 }
 
-/// Writes what an access to the context does that is no load of one of its words.
+/// Writes an access to the context that is no load of one of its words.
 fn write_context(text: &mut String, access: Access) -> Result<(), AllocError> {
     let (verb, bytes, offset) = (access.deed.verb(), access.bytes, access.offset);
     let sign = match access.deed {
@@ -224,7 +224,7 @@ fn write_context(text: &mut String, access: Access) -> Result<(), AllocError> {
     text.push_str("where words of 4 bytes are read at 0, 4, .. 40")
 }
 
-/// Writes what is known of the register that is given, which has to be a number.
+/// Writes what is known of the source register, which has to be a number.
 fn write_given(
     text: &mut String,
     facts: &Facts,
@@ -240,7 +240,7 @@ fn write_given(
     }
 }
 
-/// Writes at what place in a value an atomic operation is.
+/// Writes the offset in a value of an unaligned atomic operation.
 fn write_unaligned_atomic(
     text: &mut String,
     access: Access,
@@ -260,7 +260,7 @@ fn write_unaligned_atomic(
     }
 }
 
-/// Writes what is known of an access of the stack, against what it needs.
+/// Writes what is known of an access to the stack, against what it needs.
 fn write_stack_need(
     text: &mut String,
     refusal: &Refusal<'_>,
@@ -334,7 +334,7 @@ fn write_access_need(
     }
 }
 
-/// Writes what is known of the access that an instruction makes, against what it needs.
+/// Writes what is known of the access of an instruction, against what it needs.
 pub(crate) fn write_need(
     text: &mut String,
     refusal: &Refusal<'_>,

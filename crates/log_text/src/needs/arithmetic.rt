@@ -7,10 +7,10 @@ use reg_kinds::{Kind, Reason};
 use std::alloc::AllocError;
 use std::fmt::Write;
 
-/// How far a pointer's offset may be from where it points to, either way: 2^29 bytes.
+/// The greatest offset of a pointer, in either direction: 2^29 bytes.
 const FARTHEST: i64 = 0x2000_0000;
 
-/// Writes the operands: a move reads the second one alone.
+/// Writes the operands; a move reads only the second one.
 fn write_operands(
     text: &mut String,
     refusal: &Refusal<'_>,
@@ -28,7 +28,7 @@ fn write_operands(
     }
 }
 
-/// The register of the operands that may be null.
+/// The register among the operands that may be null.
 fn maybe_null(refusal: &Refusal<'_>, dst: Reg, src: Operand) -> u8 {
     match (kind_of(refusal.facts, dst.number()), src) {
         (Kind::MaybeValue { .. }, _) => dst.number(),
@@ -42,7 +42,7 @@ pub(crate) fn write_maybe_null(text: &mut String, register: u8) -> Result<(), Al
     write!(text, "r{register} may be null: test it first")
 }
 
-/// What arithmetic on a pointer needs to be.
+/// The rule for arithmetic on a pointer.
 fn rule(wide: bool, op: AluOp) -> &'static str {
     match op {
         AluOp::Add if wide => {
@@ -56,7 +56,7 @@ fn rule(wide: bool, op: AluOp) -> &'static str {
     }
 }
 
-/// Writes what an operator of two operands has, and what it needs.
+/// Writes what is known of the operands of an operator, against what it needs.
 pub(crate) fn write_need(
     text: &mut String,
     refusal: &Refusal<'_>,

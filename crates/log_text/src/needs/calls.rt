@@ -12,7 +12,7 @@ use std::alloc::AllocError;
 use std::fmt::Write;
 use tagged_model::{Helper, Named, known_helper, shape_of};
 
-/// A length that is handed to a helper lies below this: 2^29 bytes.
+/// A length that is passed to a helper lies below this: 2^29 bytes.
 const LENGTHS_END: u64 = 0x2000_0000;
 
 /// What an argument is for.
@@ -25,18 +25,18 @@ enum Role {
     /// Bytes that are read: a key, or a value.
     Key,
     Value,
-    /// Bytes that are written, as many as the length says.
+    /// Bytes that are written; the length argument says how many.
     Room,
 }
 
-/// An argument: its register, and what it is for.
+/// An argument: its register and its role.
 #[derive(Clone, Copy, Debug, PartialEq, Eq)]
 struct Argument {
     register: u8,
     role: Role,
 }
 
-/// The argument that a helper looks at so many others after the first, in its order.
+/// The argument that a helper checks at this place of its order, counted from 0.
 fn argument_at(helper: Helper, place: u8) -> Option<Argument> {
     let (register, role) = match (helper, place) {
         (Helper::LoadBytes, 0) => (1, Role::Context),
@@ -52,7 +52,7 @@ fn argument_at(helper: Helper, place: u8) -> Option<Argument> {
     Some(Argument { register, role })
 }
 
-/// How many bytes an argument points to: a key's or a value's by the map in register 1, and room for the length in register 4.
+/// How many bytes an argument points to: the size of a key or a value of the map in register 1, or the length in register 4.
 fn count_of(named: &[Named], facts: &Facts, role: Role) -> u32 {
     let (map, length) = (kind_of(facts, 1), kind_of(facts, 4));
     match (role, map, length) {
@@ -78,12 +78,12 @@ fn touched(kind: Kind, count: u32) -> (i64, i64) {
     (i64::from(low), last)
 }
 
-/// Whether bytes do not all lie in the stack.
+/// Whether some of the bytes lie outside the stack.
 fn is_outside_stack(first: i64, last: i64) -> bool {
     first < -512 || last > -1
 }
 
-/// Why bytes that an argument points to may not be read, or written.
+/// Why the bytes that an argument points to may not be read or written, if they may not.
 fn bytes_reason(named: &[Named], facts: &Facts, role: Role, kind: Kind) -> Option<Reason> {
     let count = count_of(named, facts, role);
     let (first, last) = touched(kind, count);
@@ -124,7 +124,7 @@ fn argument_reason(named: &[Named], facts: &Facts, argument: Argument) -> Option
     }
 }
 
-/// The argument that is refused: the first one.
+/// The first argument that is refused.
 fn refused_argument(refusal: &Refusal<'_>, helper: Helper) -> Option<Argument> {
     for place in 0..4 {
         if let Some(argument) = argument_at(helper, place)
@@ -148,7 +148,7 @@ fn needed(role: Role) -> &'static str {
     }
 }
 
-/// Writes what is known of the length, against what it has to be.
+/// Writes what is known of the length, against what is needed.
 fn write_length(text: &mut String, kind: Kind) -> Result<(), AllocError> {
     let Kind::Scalar(range) = kind else {
         return Ok(());
@@ -159,7 +159,7 @@ fn write_length(text: &mut String, kind: Kind) -> Result<(), AllocError> {
     write!(text, ", and a length is from 1 to {greatest}")
 }
 
-/// Writes what is known of an argument, against what it has to be.
+/// Writes what is known of an argument, against what is needed.
 fn write_argument(
     text: &mut String,
     refusal: &Refusal<'_>,
@@ -189,7 +189,7 @@ fn write_argument(
     }
 }
 
-/// Writes what is known of the arguments of a helper, against what they have to be.
+/// Writes what is known of the refused argument of a helper, against what is needed.
 pub(crate) fn write_need(
     text: &mut String,
     refusal: &Refusal<'_>,

@@ -1,4 +1,4 @@
-//! Registers that may not be read, results and comparisons.
+//! Unreadable registers, results and comparisons.
 
 use crate::kinds::write_kind;
 use crate::needs::Refusal;
@@ -38,7 +38,7 @@ pub(crate) fn register_of(src: Operand) -> Option<u8> {
     }
 }
 
-/// How many arguments a helper has, in registers 1 and so on.
+/// The number of arguments of a helper, from register 1 on.
 fn argument_count(id: i32) -> u8 {
     match known_helper(id) {
         Some(Helper::LookUp | Helper::Delete) => 2,
@@ -47,7 +47,7 @@ fn argument_count(id: i32) -> u8 {
     }
 }
 
-/// The first of some registers that may not be read.
+/// The first register if it is unreadable, else the second.
 fn unreadable_of(facts: &Facts, first: Option<u8>, second: Option<u8>) -> Option<u8> {
     match first {
         Some(register) if kind_of(facts, register) == Kind::Unreadable => first,
@@ -55,7 +55,7 @@ fn unreadable_of(facts: &Facts, first: Option<u8>, second: Option<u8>) -> Option
     }
 }
 
-/// The first argument of a helper that may not be read.
+/// The first unreadable argument of a helper.
 fn unreadable_argument(facts: &Facts, id: i32) -> Option<u8> {
     for register in 1..=argument_count(id) {
         if kind_of(facts, register) == Kind::Unreadable {
@@ -65,7 +65,7 @@ fn unreadable_argument(facts: &Facts, id: i32) -> Option<u8> {
     None
 }
 
-/// The register that an instruction reads and may not.
+/// The unreadable register that an instruction reads.
 fn unreadable_in(facts: &Facts, insn: &Insn) -> Option<u8> {
     let row = insn.profile();
     match row.reference {
@@ -78,7 +78,7 @@ fn unreadable_in(facts: &Facts, insn: &Insn) -> Option<u8> {
     }
 }
 
-/// Writes which register is read that may hold anything, and why nothing is known of it.
+/// Writes which unreadable register is read, and why nothing is known of it.
 pub(crate) fn write_unreadable(
     text: &mut String,
     refusal: &Refusal<'_>,
@@ -93,13 +93,13 @@ pub(crate) fn write_unreadable(
     }
 }
 
-/// Writes what stands in register 0 at the exit.
+/// Writes what is known of register 0 at the exit.
 pub(crate) fn write_result(text: &mut String, refusal: &Refusal<'_>) -> Result<(), AllocError> {
     write_register(text, refusal.facts, 0)?;
     text.push_str(", and a number is needed")
 }
 
-/// Writes what is compared.
+/// Writes what is known of the operands of a comparison.
 pub(crate) fn write_comparison(
     text: &mut String,
     refusal: &Refusal<'_>,

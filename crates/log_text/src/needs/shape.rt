@@ -7,14 +7,14 @@ use std::alloc::AllocError;
 use std::fmt::Write;
 use tagged_model::{MapKind, Named, shape_of};
 
-/// The slot that an instruction jumps to, which may be none of the program.
+/// The target slot of a jump, which may lie outside the program.
 fn far_target(insn: &Insn, slot: usize) -> i64 {
     let from = i64::try_from(slot).unwrap_or(i64::MAX);
     from.saturating_add(1)
         .saturating_add(i64::from(insn.profile().successors.offset()))
 }
 
-/// Writes where a jump leads that no instruction of the program begins.
+/// Writes the target of a jump at which no instruction begins.
 fn write_outside(text: &mut String, refusal: &Refusal<'_>, insn: &Insn) -> Result<(), AllocError> {
     let (target, slots) = (
         far_target(insn, refusal.fault.slot),
@@ -31,18 +31,18 @@ fn write_outside(text: &mut String, refusal: &Refusal<'_>, insn: &Insn) -> Resul
     }
 }
 
-/// Writes where a jump leads that does not go forward.
+/// Writes the target of a jump that does not go forward.
 fn write_backward(text: &mut String, refusal: &Refusal<'_>, insn: &Insn) -> Result<(), AllocError> {
     let target = far_target(insn, refusal.fault.slot);
     write!(text, "it leads to slot {target}, and jumps go forward only")
 }
 
-/// The map that an instruction names.
+/// The descriptor of the map that an instruction names.
 fn fd_of(insn: &Insn) -> u32 {
     insn.profile().reference.descriptor().unwrap_or(0)
 }
 
-/// Writes why a value can't be loaded directly.
+/// Writes why the address of a direct value can't be loaded.
 fn write_no_value(text: &mut String, named: &[Named], insn: &Insn) -> Result<(), AllocError> {
     let fd = fd_of(insn);
     let reference = insn.profile().reference;

@@ -1,6 +1,6 @@
--- What a load that opens nothing comes to, and what one that opens a program leaves. This project's own.
-use Rattle.std.specs.Prelude.{◌≡◌, ℕ, ◌+◌, ◌≤◌, List, Option, None, Some, IsSome, slice_index_or}
-use Rattle.bpf_maps.specs.Live.{LiveMaps, map_in}
+-- The faults of loads, and the state after a load that opens a program. This project's own.
+use Rattle.std.specs.Prelude.{◌≡◌, ℕ, ◌+◌, ◌≤◌, List, IsSome}
+use Rattle.bpf_maps.specs.Live.{LiveMaps, live_at, shape_at}
 use Rattle.fd_table.specs.Table.{with_open}
 use Rattle.insn_codec.specs.declared.fault.FaultKind.{FaultKind}
 use Rattle.insn_codec.specs.declared.fault.FaultKind.TheVariants as kind
@@ -12,16 +12,16 @@ use Rattle.tagged_model.specs.declared.shape.Named.{Named}
 use Rattle.tenant.specs.declared.loading.LoadFault.{LoadFault}
 use Rattle.tenant.specs.declared.loading.LoadFault.TheVariants.{Memory, At}
 use Rattle.tenant.specs.declared.object.OpenObject.TheVariants as object
-use Rattle.tenant.specs.Kept.{times_listed, MapsAreAtPlaces}
+use Rattle.tenant.specs.Kept.{times_listed, AreHeld, map_at}
 use Rattle.tenant.specs.Loaded.{LoadedProgram}
 use Rattle.tenant.specs.Machine.{codec_errno, verdict_errno, rejected, Judges}
 use Rattle.tenant.specs.State.{TenantState}
 
--- what stands at a slot that is no program's
+-- the fault at a slot, if the slots are no program
 abbrev pub malformed_at : FaultKind → ℕ → LoadFault
 malformed_at why slot = At (codec_errno why) slot (100 + fault_number why)
 
--- slots that are no program's, or for whose program there was no memory
+-- the fault if the slots are no program, or memory was refused
 abbrev pub codec_told : FaultKind → ℕ → LoadFault
 codec_told kind.Opcode slot = malformed_at kind.Opcode slot
 codec_told kind.Reserved slot = malformed_at kind.Reserved slot
@@ -32,11 +32,11 @@ codec_told kind.Empty slot = malformed_at kind.Empty slot
 codec_told kind.TooLong slot = malformed_at kind.TooLong slot
 codec_told kind.Memory slot = Memory
 
--- what stands at a slot that no rule accepts
+-- the fault at a slot, if the program breaks a rule of the verifier
 abbrev pub unaccepted_at : Reason → ℕ → LoadFault
 unaccepted_at why slot = At (verdict_errno why) slot (reason_number why)
 
--- a program that is not accepted, or on which there was no memory for a verdict
+-- the fault if the program is not accepted, or memory was refused for the verdict
 abbrev pub verdict_told : Reason → ℕ → LoadFault
 verdict_told reason.JumpOutside slot = unaccepted_at reason.JumpOutside slot
 verdict_told reason.JumpBackward slot = unaccepted_at reason.JumpBackward slot
@@ -66,21 +66,23 @@ verdict_told reason.LengthUnbounded slot = unaccepted_at reason.LengthUnbounded 
 verdict_told reason.UnalignedAtomic slot = unaccepted_at reason.UnalignedAtomic slot
 verdict_told reason.Memory slot = Memory
 
--- memory was refused, or the slots are
+-- memory was refused, or the judgement of the slots is this refusal
 abbrev pub IsLoadFault : List Named → List ℕ → LoadFault → Type 0
 IsLoadFault named slots Memory = Unit {0}
 IsLoadFault named slots (At errno slot number) = Judges named slots (rejected errno slot number)
 
--- the state with one more program open
+-- the state with one more open program
 abbrev pub with_program : TenantState → ℕ → LoadedProgram → TenantState
 with_program s fd l = record s { objects = with_open s.objects fd (object.Program l) }
 
--- a map stands at each place in a program's list
-abbrev pub ProgramMapsAreThere : List (Option ℕ) → List (ℕ × ℕ) → Type 0
-ProgramMapsAreThere keys held = (place : ℕ) → 1 ≤ times_listed place held → IsSome (slice_index_or keys place None)
+-- a map is live at each of these places
+abbrev pub AreLive : LiveMaps → List ℕ → Type 0
+AreLive t held = (place : ℕ) → 1 ≤ times_listed place held → IsSome (live_at t place)
 
--- the same maps at these places, where more may hold them
-pub record IsHeldMore (keys : List (Option ℕ)) (old new : LiveMaps) : Type 0 where
-  pub placed : MapsAreAtPlaces keys new
-  pub same : (part : List ℕ) (place key : ℕ) → slice_index_or keys place None ≡ Some key → map_in part new key ≡ map_in part old key
+-- the same maps, with more references
+pub record IsHeldMore (old new : LiveMaps) : Type 0 where
+  pub held : AreHeld new
+  pub live : (place : ℕ) → IsSome (live_at old place) → IsSome (live_at new place)
+  pub shape : (place : ℕ) → shape_at new place ≡ shape_at old place
+  pub same : (part : List ℕ) (place : ℕ) → map_at part new place ≡ map_at part old place
   pub refused : new.refused ≡ old.refused

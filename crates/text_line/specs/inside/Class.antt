@@ -12,7 +12,7 @@ in_class Name b = is_name_byte b
 in_class Digit b = is_ascii_digit b
 in_class HexDigit b = is_hex_digit b
 
--- the digits of a radix
+-- the class of the digits of a radix
 abbrev pub IsDigits : ByteClass → ℕ → Type 0
 IsDigits Digit radix = radix ≡ 10
 IsDigits HexDigit radix = radix ≡ 16

@@ -2,18 +2,18 @@
 use Rattle.std.specs.Prelude.{ℕ, ◌==◌, Bool, true, false, ◌||◌, List, [], ◌∷◌, codes, Option, Some, None, option_and_then, option_map, not, if◌then◌else◌}
 use Rattle.std.specs.Str.{bytes_eq}
 use Rattle.std.specs.Map.{lookup}
-use Rattle.insn_codec.specs.declared.insn.AluOp.{AluOp}
-use Rattle.insn_codec.specs.declared.insn.AluOp.TheVariants.{Add, Sub, Mul, Div, SignedDiv, Or, And, ShiftLeft, ShiftRight, Mod, SignedMod, Xor, Mov, SignedShiftRight}
-use Rattle.insn_codec.specs.declared.insn.Condition.{Condition}
-use Rattle.insn_codec.specs.declared.insn.Condition.TheVariants.{Equal, Above, AboveOrEqual, CommonBit, NotEqual, SignedAbove, SignedAboveOrEqual, Below, BelowOrEqual, SignedBelow, SignedBelowOrEqual}
-use Rattle.insn_codec.specs.declared.insn.ByteOrder.{ByteOrder}
-use Rattle.insn_codec.specs.declared.insn.ByteOrder.TheVariants.{Little, Big, Swap}
-use Rattle.insn_codec.specs.declared.insn.Bits.{Bits}
-use Rattle.insn_codec.specs.declared.insn.Bits.TheVariants as bits
-use Rattle.insn_codec.specs.declared.insn.Narrow.{Narrow}
-use Rattle.insn_codec.specs.declared.insn.Narrow.TheVariants as narrow
-use Rattle.insn_codec.specs.declared.insn.Size.{Size}
-use Rattle.insn_codec.specs.declared.insn.Size.TheVariants as size
+use Rattle.words.specs.declared.operator.AluOp.{AluOp}
+use Rattle.words.specs.declared.operator.AluOp.TheVariants.{Add, Sub, Mul, Div, SignedDiv, Or, And, ShiftLeft, ShiftRight, Mod, SignedMod, Xor, Mov, SignedShiftRight}
+use Rattle.words.specs.declared.operator.Condition.{Condition}
+use Rattle.words.specs.declared.operator.Condition.TheVariants.{Equal, Above, AboveOrEqual, CommonBit, NotEqual, SignedAbove, SignedAboveOrEqual, Below, BelowOrEqual, SignedBelow, SignedBelowOrEqual}
+use Rattle.words.specs.declared.operator.ByteOrder.{ByteOrder}
+use Rattle.words.specs.declared.operator.ByteOrder.TheVariants.{Little, Big, Swap}
+use Rattle.words.specs.declared.operator.KeptBits.{KeptBits}
+use Rattle.words.specs.declared.operator.KeptBits.TheVariants as bits
+use Rattle.words.specs.declared.operator.ExtendedBits.{ExtendedBits}
+use Rattle.words.specs.declared.operator.ExtendedBits.TheVariants as narrow
+use Rattle.words.specs.declared.stack.AccessSize.{AccessSize}
+use Rattle.words.specs.declared.stack.AccessSize.TheVariants as size
 use Rattle.insn_codec.specs.declared.insn.AtomicSize.{AtomicSize}
 use Rattle.insn_codec.specs.declared.insn.AtomicSize.TheVariants as atomic_size
 use Rattle.insn_codec.specs.declared.insn.AtomicOp.{AtomicOp}
@@ -37,7 +37,7 @@ infixl 10 ◌>>=◌
 abbrev pub ◌>>=◌ : {A B : Type 0} → Option A → (A → Option B) → Option B
 o >>= f = option_and_then f o
 
--- one or the other
+-- x without a value, and f of the value with one
 abbrev pub match_option : {A B : Type 0} → Option A → B → (A → B) → B
 match_option None x f = x
 match_option (Some y) x f = f y
@@ -46,7 +46,7 @@ abbrev pub bool_eq : Bool → Bool → Bool
 bool_eq true b = b
 bool_eq false b = not b
 
--- what the code answers, seen as tokens
+-- results of the code, with the tokens and names that they represent
 abbrev pub seen : Option (Bor (List CodeToken)) → Option (List Token)
 seen o = option_map (λ rest. shown_tokens rest.now) o
 
@@ -74,21 +74,21 @@ conditions =
     (codes "==", Equal) ∷ (codes ">", Above) ∷ (codes ">=", AboveOrEqual) ∷ (codes "&", CommonBit) ∷ (codes "!=", NotEqual) ∷ (codes "s>", SignedAbove)
     ∷ (codes "s>=", SignedAboveOrEqual) ∷ (codes "<", Below) ∷ (codes "<=", BelowOrEqual) ∷ (codes "s<", SignedBelow) ∷ (codes "s<=", SignedBelowOrEqual) ∷ []
 
-abbrev pub orders : List (List ℕ × (ByteOrder × Bits))
+abbrev pub orders : List (List ℕ × (ByteOrder × KeptBits))
 orders =
     (codes "le16", (Little, bits.Bits16)) ∷ (codes "le32", (Little, bits.Bits32)) ∷ (codes "le64", (Little, bits.Bits64))
     ∷ (codes "be16", (Big, bits.Bits16)) ∷ (codes "be32", (Big, bits.Bits32)) ∷ (codes "be64", (Big, bits.Bits64))
     ∷ (codes "bswap16", (Swap, bits.Bits16)) ∷ (codes "bswap32", (Swap, bits.Bits32)) ∷ (codes "bswap64", (Swap, bits.Bits64)) ∷ []
 
-abbrev pub narrows : List (List ℕ × Narrow)
+abbrev pub narrows : List (List ℕ × ExtendedBits)
 narrows = (codes "s8", narrow.Bits8) ∷ (codes "s16", narrow.Bits16) ∷ (codes "s32", narrow.Bits32) ∷ []
 
-abbrev pub sizes : List (List ℕ × (Bool × Size))
+abbrev pub sizes : List (List ℕ × (Bool × AccessSize))
 sizes =
     (codes "u8", (false, size.Byte)) ∷ (codes "u16", (false, size.Half)) ∷ (codes "u32", (false, size.Word)) ∷ (codes "u64", (false, size.Double))
     ∷ (codes "s8", (true, size.Byte)) ∷ (codes "s16", (true, size.Half)) ∷ (codes "s32", (true, size.Word)) ∷ []
 
--- the operators that may stand after the place of an atomic operation (RFC 9669, section 5.3)
+-- the operators that may follow the memory operand of an atomic operation (RFC 9669, section 5.3)
 abbrev pub atomic_operators : List (List ℕ × AtomicOp)
 atomic_operators = (codes "+=", atomic.Add) ∷ (codes "|=", atomic.Or) ∷ (codes "&=", atomic.And) ∷ (codes "^=", atomic.Xor) ∷ []
 
@@ -170,8 +170,8 @@ leading_address ts = do
   ts ← after_symbol (codes ")") o.1
   Some (record { signed = s.0; size = s.1; base = r.0; offset = o.0 }, ts)
 
--- the size of an atomic operation at a place that is written with this size: none is signed or narrow (RFC 9669, section 5.3)
-abbrev pub atomic_size_of : Bool → Size → Option AtomicSize
+-- the size of an atomic operation whose memory operand has this size: neither signed nor below 4 bytes (RFC 9669, section 5.3)
+abbrev pub atomic_size_of : Bool → AccessSize → Option AtomicSize
 atomic_size_of false size.Word = Some atomic_size.Word
 atomic_size_of false size.Double = Some atomic_size.Double
 atomic_size_of _ _ = None
@@ -252,7 +252,7 @@ parsed_map_value dst ts = do
   ts ← after_word (codes "ll") off.1
   at_end (form.MapValue dst n.0 off.0) ts
 
--- after `=`, what only a wide register can be given
+-- after `=`, what only an r register can be assigned
 unfoldable pub parsed_wide_move : ℕ → List Token → Option Form
 parsed_wide_move dst ts =
     match_option (after_word (codes "map_fd") ts)
@@ -261,7 +261,7 @@ parsed_wide_move dst ts =
     (λ rest. parsed_map_value dst rest))
     (λ rest. parsed_map_fd dst rest)
 
--- after `=`
+-- after `=`, something other than a plain operand
 unfoldable pub parsed_special_move : Bool → ℕ → List Token → Option Form
 parsed_special_move wide dst ts =
     match_option (after_symbol (codes "(") ts)

@@ -1,4 +1,4 @@
--- What the code's tokens stand for. This project's own.
+-- The token that each token of the code represents. This project's own.
 use Rattle.std.specs.Prelude.{ℕ, List, map, Option, option_map}
 use Rattle.std.specs.Borrow.{Bor}
 use Rattle.text_line.specs.declared.token.Token.{Token as CodeToken}

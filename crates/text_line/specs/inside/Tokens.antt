@@ -6,7 +6,7 @@ use Rattle.std.specs.Char.{is_ascii_digit}
 use Rattle.std.specs.Str.Parse.{digits_value}
 use Rattle.text_line.specs.Token.{Token, name, number, symbol, symbols, is_name_start, is_name_byte, is_hex_digit, value_of}
 
--- the first of the symbols with which the text begins: the longer ones come first
+-- the first of the symbols with which the text begins; longer symbols come first in the list
 unfoldable pub symbol_at : List ℕ → Option (List ℕ)
 symbol_at text = find (λ s. starts_with nat_eq text s) symbols
 

@@ -12,7 +12,7 @@ use Rattle.bpf_helpers.proofs.update.put.Goals as goal
 pub returns-in-Ok-clause-updated : goal.returns-in-Ok-clause-updated
 returns-in-Ok-clause-updated c =
     let memory = c.args.arena.now in
-    let t = c.args.tenant in
+    let t = c.args.caller.tenant in
     let old = c.args.maps.now in
     let new = c.claim.new.self in
     let k = c.args.map in
@@ -21,7 +21,7 @@ returns-in-Ok-clause-updated c =
     let size : n ≡ (shape_at old k).key_size = ap (λ (s : MapShape). s.key_size) c.shape-shape.ensures in
     let value : c.shape-shape.result.value_size ≡ (shape_at old k).value_size = ap (λ (s : MapShape). s.value_size) c.shape-shape.ensures in
     let after : (shape_at new k).value_size ≡ (shape_at old k).value_size = ap (λ (s : MapShape). s.value_size) c.in-Ok.ensures.rest.shape in
-    let fits : c.args.key + n ≤ memory.part = omega (arith, size, c.requires.key, c.requires.part) in
+    let fits : c.args.key + n ≤ memory.part = omega (arith, size, c.requires.key, c.requires.part.1) in
     let same : slice_range part c.args.key (c.args.key + n) ≡ bytes_at memory.bytes (part_start memory t + c.args.key) (shape_at old k).key_size =
     part_range memory t c.args.key n part c.part-part.ensures.bytes fits
     ∙ ap (λ (m : ℕ). bytes_at memory.bytes (part_start memory t + c.args.key) m) size in
@@ -29,7 +29,7 @@ returns-in-Ok-clause-updated c =
     let inside = c.value_at.ensures.inside in
     let within = inside.within in
     record {
-      answer = Ok c.in-Ok.place;
+      claim = Ok c.in-Ok.place;
       claimed = subst (λ (b : List ℕ). Claims (verdict (table_of (places_at old k)) b c.args.flags) b (places_at old k) (Ok c.in-Ok.place) (places_at new k)) same c.in-Ok.ensures.claimed;
       rest = c.in-Ok.ensures.rest;
       flag = c.in-Ok.ensures.refused;
@@ -38,27 +38,27 @@ returns-in-Ok-clause-updated c =
           ∙ copied_is memory c.shape-shape.result.value_size (c.address-start.result + c.args.value) (c.address-start.result + c.value_at.result) (part_start memory t + c.args.value) (part_start memory t + offset_at old k c.in-Ok.place)
           (omega (arith, c.address-start.ensures.value))
           (omega (arith, c.address-start.ensures.value, c.value_at.ensures.offset, stays))
-          (omega (arith, value, c.requires.value, c.requires.part, c.address-start.ensures.room))
-          (omega (arith, value, after, within, c.value_at.ensures.offset, stays, c.address-start.ensures.room, c.requires.part))
+          (omega (arith, value, c.requires.value, c.requires.part.1, c.address-start.ensures.room))
+          (omega (arith, value, after, within, c.value_at.ensures.offset, stays, c.address-start.ensures.room, c.requires.part.1))
           ∙ ap (λ (m : ℕ). with_bytes memory (part_start memory t + offset_at old k c.in-Ok.place) (bytes_at memory.bytes (part_start memory t + c.args.value) m)) value;
     }
 
 pub returns-in-Err-clause-updated : goal.returns-in-Err-clause-updated
 returns-in-Err-clause-updated c =
     let memory = c.args.arena.now in
-    let t = c.args.tenant in
+    let t = c.args.caller.tenant in
     let old = c.args.maps.now in
     let new = c.claim.new.self in
     let k = c.args.map in
     let n = c.shape-shape.result.key_size in
     let part = c.part-part.result.now in
     let size : n ≡ (shape_at old k).key_size = ap (λ (s : MapShape). s.key_size) c.shape-shape.ensures in
-    let fits : c.args.key + n ≤ memory.part = omega (arith, size, c.requires.key, c.requires.part) in
+    let fits : c.args.key + n ≤ memory.part = omega (arith, size, c.requires.key, c.requires.part.1) in
     let same : slice_range part c.args.key (c.args.key + n) ≡ bytes_at memory.bytes (part_start memory t + c.args.key) (shape_at old k).key_size =
     part_range memory t c.args.key n part c.part-part.ensures.bytes fits
     ∙ ap (λ (m : ℕ). bytes_at memory.bytes (part_start memory t + c.args.key) m) size in
     record {
-      answer = Err c.in-Err.fault;
+      claim = Err c.in-Err.fault;
       claimed = subst (λ (b : List ℕ). Claims (verdict (table_of (places_at old k)) b c.args.flags) b (places_at old k) (Err c.in-Err.fault) (places_at new k)) same c.in-Err.ensures.claimed;
       rest = c.in-Err.ensures.rest;
       flag = c.in-Err.ensures.refused;

@@ -8,7 +8,7 @@ use Rattle.host.specs.declared.program.arguments.Task.{Task}
 use Rattle.host.specs.declared.program.arguments.Task.TheVariants as task
 use Rattle.host.specs.program.Arguments.{Asked, Serves, Rewrites, Verifies}
 
--- the texts of such arguments, where some are given
+-- the texts of map arguments, if any are given
 abbrev pub texts_given : Option (Bor (List (Bor Text))) → List Text
 texts_given None = []
 texts_given (Some arguments) = texts arguments.now
@@ -18,7 +18,7 @@ asked_by (task.Serve tenants) = Serves tenants
 asked_by (task.Rewrite made) = Rewrites made
 asked_by (task.Verify maps) = Verifies (texts_given maps)
 
--- frames are served to one tenant or more, and to no more than there may be
+-- the number of tenants to serve is from 1 to the most that there may be
 abbrev pub HasTenants : Task → Type 0
 HasTenants (task.Serve tenants) = (1 ≤ tenants) × (tenants ≤ MOST_TENANTS)
 HasTenants (task.Rewrite made) = Unit {0}

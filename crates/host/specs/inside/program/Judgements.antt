@@ -1,4 +1,4 @@
--- What `verify` makes of its input. This project's own.
+-- The output of `verify` for its input. This project's own.
 use Rattle.std.specs.Prelude.{◌≡◌, ◌⊎◌, ℕ, ◌+◌, List, [], ◌∷◌, ◌++◌, codes}
 use Rattle.std.specs.Fmt.{decimal}
 use Rattle.clap.specs.Words.{Text}
@@ -25,7 +25,7 @@ IsJudgementLine maps judgement input output = IsJudgement maps input judgement �
 abbrev pub IsJudgedLine : List Named → List ℕ → List ℕ → Type 0
 IsJudgedLine maps input output = (judgement : Judgement) × IsJudgementLine maps judgement input output
 
--- the status that a run ends with which wrote it: 1 where the program is refused
+-- the exit status of a run that wrote it: 1 if the program is refused
 abbrev pub judgement_status : Judgement → ℕ
 judgement_status Accepted = 0
 judgement_status (Refused slot reason) = 1

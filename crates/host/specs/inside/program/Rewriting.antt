@@ -1,4 +1,4 @@
--- What `asm` and `dis` make of their input and leave of their streams, and what they refuse. This project's own.
+-- What `asm` and `dis` read, write and refuse. This project's own.
 use Rattle.std.specs.Prelude.{◌≡◌, ◌⊎◌, ℕ, ◌+◌, ◌<◌, ◌≤◌, List, length, take, Option, IsUtf8}
 use Rattle.std.specs.Io.KnownBytes.{Appends, Consumes, IsAtEnd}
 use Rattle.bpf_text.specs.Assembly.{IsAssembled, IsOwnFault}
@@ -32,7 +32,7 @@ abbrev pub IsRewritten : TextTask → List ℕ → List ℕ → Type 0
 IsRewritten Assemble input output = IsAssembly input output
 IsRewritten Disassemble input output = IsDisassembly input output
 
--- the input is no text at all
+-- the input is not UTF-8
 abbrev pub IsNoText : List ℕ → Failure → Type 0
 IsNoText input failure = (¬ IsUtf8 input) × (failure ≡ Line 0 1)
 
@@ -60,7 +60,7 @@ IsInputRefused Disassemble input failure = IsNoProgramText input failure
 
 -- ---- the streams
 
--- the bytes that the reader has left and those that the writer holds, where they are known, and how many calls of the two
+-- the bytes that the reader has left and those that the writer holds, where they are known, and how many calls of each
 -- failed so far
 pub record Streams : Type 0 where
   pub input : Option (List ℕ)
@@ -68,7 +68,7 @@ pub record Streams : Type 0 where
   pub read_failures : ℕ
   pub write_failures : ℕ
 
--- of this reader and this writer, by what is told of the two
+-- those of this reader and this writer
 abbrev pub streams : {R W : Type 0} → (R → Option (List ℕ)) → (R → ℕ) → (W → Option (List ℕ)) → (W → ℕ) → R → W → Streams
 streams remaining read_failures contents write_failures reader writer = record {
   input = remaining reader;
@@ -83,7 +83,7 @@ pub record ReadsWholeInput (before after : Option (List ℕ)) (input : List ℕ)
   pub read : Consumes before after input
   pub end : IsAtEnd after
 
--- why no input was had: it is too long, and then one byte more than allowed was read; a call failed; or memory ran out
+-- why there is no input: it is too long, and then one byte more than allowed was read; a call failed; or memory ran out
 -- before anything was read
 abbrev pub HasNoInput : Failure → Option (List ℕ) → Option (List ℕ) → ℕ → ℕ → Type 0
 HasNoInput TooLong before after failures_before failures_after =
@@ -103,9 +103,9 @@ HasNoInput Write before after failures_before failures_after = ⊥
 abbrev pub WritesNothing : Streams → Streams → Type 0
 WritesNothing old new = (new.output ≡ old.output) × (new.write_failures ≡ old.write_failures)
 
--- Below, `made` relates an input to what stands for it, and `refused` to its refusal.
+-- Below, `made` relates an input to its output, and `refused` to the failure for which it is refused.
 
--- the input was read, and what stands for it went out; no call failed
+-- the input was read, and its whole output written; no call failed
 pub record WritesWholeOutput (made : List ℕ → List ℕ → Type 0) (old new : Streams) : Type 0 where
   pub input : List ℕ
   pub output : List ℕ
@@ -122,7 +122,7 @@ pub record RefusesInput (refused : List ℕ → Failure → Type 0) (old new : S
   pub silent : WritesNothing old new
   pub sound : new.read_failures ≡ old.read_failures
 
--- some of what stands for the input went out, and a call failed
+-- the input was read, a part of its output written, and a call failed
 pub record CutsOutput (made : List ℕ → List ℕ → Type 0) (old new : Streams) (failure : Failure) : Type 0 where
   pub input : List ℕ
   pub output : List ℕ

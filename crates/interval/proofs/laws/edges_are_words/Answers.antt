@@ -4,6 +4,6 @@ use Rattle.interval.proofs.laws.edges_are_words.Goals as goal
 pub returns : goal.returns
 returns c =
     record {
-      wide = λ comparison a b p q. refined_words 64 comparison a b p q;
-      narrow = λ comparison a b p q. refined_words 32 comparison a b p q;
+      wide = λ condition a b p q. refined_words 64 condition a b p q;
+      narrow = λ condition a b p q. refined_words 32 condition a b p q;
     }

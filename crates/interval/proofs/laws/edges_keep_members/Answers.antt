@@ -4,6 +4,6 @@ use Rattle.interval.proofs.laws.edges_keep_members.Goals as goal
 pub returns : goal.returns
 returns c =
     record {
-      wide = λ comparison a b x y p q h k. refined_keep 64 comparison a b x y h k;
-      narrow = λ comparison a b x y p q h k. refined_keep 32 comparison a b x y h k;
+      wide = λ condition a b x y p q h k. refined_keep 64 condition a b x y h k;
+      narrow = λ condition a b x y p q h k. refined_keep 32 condition a b x y h k;
     }

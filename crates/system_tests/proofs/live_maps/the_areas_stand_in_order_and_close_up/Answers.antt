@@ -60,3 +60,28 @@ value_at-requires-6-clause-live g c =
     let then = c.create-2.ensures.others c.in_ok-first.first live in
     let other = other_key c.create-2.new.maps c.in_ok-first.first c.in_ok-third.third (ap is_some then ∙ live) c.in_ok-third.ensures.another in
     c.release.ensures.live c.in_ok-third.third other c.in_ok-third.ensures.live
+
+pub value_at-requires-clause-place : goal.value_at-requires-clause-place
+value_at-requires-clause-place g c =
+    let live = c.in_ok-first.ensures.live in
+    let then = c.create-2.ensures.others c.in_ok-first.first live in
+    let more = c.create-3.ensures.others c.in_ok-first.first (ap is_some then ∙ live) in
+    let shape = ap shape_of (more ∙ then) ∙ c.in_ok-first.ensures.shape in
+    let one = ap (λ (s : MapShape). s.max_entries) shape ∙ c.in_ok-shape.ensures.max_entries in
+    omega arith
+
+pub value_at-requires-2-clause-place : goal.value_at-requires-2-clause-place
+value_at-requires-2-clause-place g c =
+    let then = ap shape_of (c.create-3.ensures.others c.in_ok-second.second c.in_ok-second.ensures.live) in
+    let shape = then ∙ c.in_ok-second.ensures.shape in
+    let two = ap (λ (s : MapShape). s.max_entries) shape ∙ c.in_ok-shape-2.ensures.max_entries in
+    omega arith
+
+pub value_at-requires-6-clause-place : goal.value_at-requires-6-clause-place
+value_at-requires-6-clause-place g c =
+    let live = c.in_ok-first.ensures.live in
+    let then = c.create-2.ensures.others c.in_ok-first.first live in
+    let other = other_key c.create-2.new.maps c.in_ok-first.first c.in_ok-third.third (ap is_some then ∙ live) c.in_ok-third.ensures.another in
+    let shape = c.release.ensures.shape c.in_ok-third.third other ∙ c.in_ok-third.ensures.shape in
+    let one = ap (λ (s : MapShape). s.max_entries) shape ∙ c.in_ok-shape-3.ensures.max_entries in
+    omega arith

@@ -1,45 +1,63 @@
-use Rattle.std.proofs.Common.{◌≡◌, ℕ, ◌+◌, List, length, take, get_or, refl, sym, ap, ◌∙◌, arith}
+use Rattle.std.proofs.Common.{◌≡◌, ℕ, ◌+◌, ◌≤◌, List, length, take, Option, Some, None, IsSome, is_some, refl, sym, ap, ◌∙◌, arith}
 use Rattle.std.proofs.Math.Seq.{take-length}
-use Rattle.tenant.specs.Kept.{times_listed, holds_in}
-use Rattle.tenant.proofs.Releases.{one_at, here_one}
-use Rattle.tenant.proofs.Times.{times-more, times-first, times-none, some_hold, leaves_all, leaves_then}
+use Rattle.bpf_maps.specs.Live.{LiveMaps, LiveMap, live_or, live_at, holds_at}
+use Rattle.tenant.specs.Kept.{times_listed}
+use Rattle.tenant.proofs.Releases.{IsReleased, left_released, holds_released, here_one}
+use Rattle.tenant.proofs.Times.{times-more, times-first, times-none, leaves_all, leaves_then}
 use Rattle.tenant.proofs.tenant.release_all.Goals as goal
+
+-- a map that some hold is live
+some_live : (t : LiveMaps) (place : ℕ) → 1 ≤ holds_at t place → IsSome (live_at t place)
+some_live t place some = by (live_at t place) refl
+  where
+    by : (o : Option LiveMap) → live_at t place ≡ o → IsSome (live_at t place)
+    by None e = absurd (let none : holds_at t place ≡ 0 = ap (λ (o : Option LiveMap). (live_or o).holds) e in omega arith)
+    by (Some l) e = ap (λ (o : Option LiveMap). is_some o) e
 
 pub loop-map-init : goal.loop-map-init
 loop-map-init c = record {
-  left = leaves_all (record { keys = c.args.keys.now; live = c.args.maps.now; part = c.args.part.now }) c.requires.placed c.requires.whole;
+  left = leaves_all (record { live = c.args.maps.now; part = c.args.part.now }) c.requires.live c.requires.whole;
   holds = λ q. let none = times-none q in omega arith;
 }
 
-pub release-requires-clause-placed : goal.release-requires-clause-placed
-release-requires-clause-placed c = c.loop-map.invariant.left.placed
-
-pub release-requires-clause-there : goal.release-requires-clause-there
-release-requires-clause-there c =
+pub release-requires-clause-live : goal.release-requires-clause-live
+release-requires-clause-live c =
     let held = c.args.held.now in
     let i = c.loop-map.map-index in
-    let m = get_or held i (0, 0) in
-    let so_far = c.loop-map.invariant.holds m.1 in
-    let all = c.requires.held m.1 in
-    let more = times-more held i m (0, 0) m.1 c.loop-map-test.true refl in
-    let one = here_one m.1 m.1 refl in
-    let first = times-first held (i + 1) m.1 in
-    some_hold c.loop-map.keys c.loop-map.maps m.1 (omega arith)
+    let m = c.map-item.result in
+    let so_far = c.loop-map.invariant.holds m in
+    let all = c.requires.held m in
+    let more = times-more held i m _ m c.loop-map-test.true c.map-item.is in
+    let one = here_one m m refl in
+    let first = times-first held (i + 1) m in
+    some_live c.loop-map.maps m (omega arith)
 
-pub release-requires-clause-whole : goal.release-requires-clause-whole
-release-requires-clause-whole c = c.loop-map.invariant.left.whole
+pub release-requires-clause-length : goal.release-requires-clause-length
+release-requires-clause-length c = c.loop-map.invariant.left.whole
 
 pub loop-map-preserved : goal.loop-map-preserved
-loop-map-preserved c = record {
-  left = leaves_then (record { keys = c.args.keys.now; live = c.args.maps.now; part = c.args.part.now }) (record { keys = c.loop-map.keys; live = c.loop-map.maps; part = c.loop-map.part })
-      (record { keys = c.release.new.keys; live = c.release.new.maps; part = c.release.new.part }) c.loop-map.invariant.left c.release.ensures.left;
-  holds = λ q.
-      let m = get_or c.args.held.now c.loop-map.map-index (0, 0) in
-      let so_far = c.loop-map.invariant.holds q in
-      let now : holds_in c.release.new.keys c.release.new.maps q + one_at m.1 q ≡ holds_in c.loop-map.keys c.loop-map.maps q = c.release.ensures.holds q in
-      let more = times-more c.args.held.now c.loop-map.map-index m (0, 0) q c.loop-map-test.true refl in
-      omega arith;
-}
+loop-map-preserved c =
+    let held = c.args.held.now in
+    let i = c.loop-map.map-index in
+    let m = c.map-item.result in
+    let old = c.loop-map.maps in
+    let new = c.release.new.self in
+    let e = c.release.ensures in
+    let so_far = c.loop-map.invariant.holds m in
+    let all = c.requires.held m in
+    let more = times-more held i m _ m c.loop-map-test.true c.map-item.is in
+    let one = here_one m m refl in
+    let first = times-first held (i + 1) m in
+    let live = some_live old m (omega arith) in
+    let released : IsReleased old new c.loop-map.part c.release.new.part m = record { less = e.less; gone = e.gone; others = e.others; refused = e.refused; maps = e.maps; kept = e.kept; whole = e.length } in record {
+      left = leaves_then (record { live = c.args.maps.now; part = c.args.part.now }) (record { live = old; part = c.loop-map.part }) (record { live = new; part = c.release.new.part })
+          c.loop-map.invariant.left (left_released old new c.loop-map.part c.release.new.part m c.loop-map.invariant.left.held live released);
+      holds = λ q.
+          let before = c.loop-map.invariant.holds q in
+          let now = holds_released old new c.loop-map.part c.release.new.part m c.loop-map.invariant.left.held live released q in
+          let next = times-more held i m _ q c.loop-map-test.true c.map-item.is in
+          omega arith;
+    }
 
 pub returns : goal.returns
 returns c = record {
@@ -47,5 +65,5 @@ returns c = record {
   holds = λ q.
       let all : c.loop-map.map-index ≡ length c.args.held.now = omega arith in
       let taken : take c.loop-map.map-index c.args.held.now ≡ c.args.held.now = ap (λ (n : ℕ). take n c.args.held.now) all ∙ take-length c.args.held.now in
-      ap (λ (ms : List (ℕ × ℕ)). holds_in c.loop-map.keys c.loop-map.maps q + times_listed q ms) (sym taken) ∙ c.loop-map.invariant.holds q;
+      ap (λ (ps : List ℕ). holds_at c.loop-map.maps q + times_listed q ps) (sym taken) ∙ c.loop-map.invariant.holds q;
 }

@@ -6,7 +6,7 @@ use Rattle.tagged_model.specs.Named.{shapes_named}
 use Rattle.transfer.specs.Effects.{assigns, value_of, effect}
 use Rattle.transfer.proofs.effects.apply.Goals as goal
 
--- where the value is not there, the reason is told
+-- if there is no such value, the reason is reported
 pub returns-in_err-pointer-in-MapValue-clause-refused :
     goal.returns-in_err-pointer-in-MapValue-clause-refused
 returns-in_err-pointer-in-MapValue-clause-refused c =

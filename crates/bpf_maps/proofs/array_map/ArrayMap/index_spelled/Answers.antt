@@ -1,4 +1,4 @@
-use Rattle.std.proofs.Common.{◌≡◌, nat_lt, refl, sym, arith}
+use Rattle.std.proofs.Common.{nat_lt, refl, sym, arith}
 use Rattle.bpf_maps.proofs.Arrays.{found_array}
 use Rattle.bpf_maps.proofs.array_map.ArrayMap.index_spelled.Goals as goal
 

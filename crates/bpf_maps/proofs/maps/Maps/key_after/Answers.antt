@@ -2,12 +2,12 @@ use Rattle.std.proofs.Common.{◌≡◌, length, IfSome, option_map, sym, subst}
 use Rattle.bpf_maps.specs.Given.{given_bytes}
 use Rattle.bpf_maps.specs.Places.{PlaceTable, table_of}
 use Rattle.tagged_model.specs.Table.{next_of}
-use Rattle.bpf_maps.proofs.Changes.{live_here, told_of}
+use Rattle.bpf_maps.proofs.Changes.{told_of}
 use Rattle.bpf_maps.proofs.maps.Maps.key_after.Goals as goal
 
 pub returns : goal.returns
 returns c =
-    let is = live_here c.self.inside c.args.self.now c.map.inside.number c.args.map c.index-entry.result.now c.self.view_is c.map.view_is c.index-entry.ensures in
+    let is = c.entry.ensures in
     let same = sym (told_of (λ l. l.places) _ _ is) in
     record {
       given = subst (λ (t : PlaceTable). option_map given_bytes c.key_after.result ≡ next_of (table_of t) c.args.key.now) same c.key_after.ensures.given;

@@ -1,7 +1,8 @@
-use Rattle.std.proofs.Common.{◌≤◌, subst, arith}
+use Rattle.std.proofs.Common.{◌≡◌, ◌≤◌, length, subst, arith}
 use Rattle.bpf_maps.specs.declared.part.TheConstants.{LARGEST_SUM, MAPS}
-use Rattle.bpf_maps.specs.Live.{LiveMaps, IsLaid, IsPacked, AreSound, count, areas}
+use Rattle.bpf_maps.specs.Live.{LiveMaps, IsLaid, IsPacked, AreSound, areas}
 use Rattle.bpf_maps.specs.InMaps.{as_live_maps}
+use Rattle.bpf_maps.proofs.Placed.{places_are}
 use Rattle.bpf_maps.proofs.Whole.{laid, packed, sound_at}
 use Rattle.bpf_maps.proofs.maps.Maps.maps_are_laid.Goals as goal
 
@@ -15,6 +16,6 @@ returns c =
       laid = subst IsLaid c.self.view_is (laid c.self.inside is);
       packed = subst IsPacked c.self.view_is (packed c.self.inside is);
       sound = subst AreSound c.self.view_is (sound_at c.self.inside is);
-      maps = subst (λ (t : LiveMaps). count t ≤ MAPS) c.self.view_is is.most;
+      maps = subst (λ (t : LiveMaps). length t.maps ≡ MAPS) c.self.view_is (places_are c.self.inside.keys c.self.inside.entries is.keys);
       bytes = subst (λ (t : LiveMaps). areas t ≤ LARGEST_SUM) c.self.view_is bytes;
     }

@@ -1,12 +1,12 @@
 use Rattle.std.proofs.Common.{sym, subst}
 use Rattle.bpf_maps.specs.Places.{PlaceTable, table_of, GivesKey}
 use Rattle.tagged_model.specs.Table.{next_of}
-use Rattle.bpf_maps.proofs.Changes.{live_here, told_of}
+use Rattle.bpf_maps.proofs.Changes.{told_of}
 use Rattle.bpf_maps.proofs.maps.Maps.next_key.Goals as goal
 
 pub returns : goal.returns
 returns c =
-    let is = live_here c.self.inside c.args.self.now c.map.inside.number c.args.map c.index-entry.result.now c.self.view_is c.map.view_is c.index-entry.ensures in
+    let is = c.entry.ensures in
     record {
       given = subst (λ (t : PlaceTable). GivesKey (next_of (table_of t) c.args.key.now) c.args.next.now c.next_key.result c.next_key.new.next) (sym (told_of (λ l. l.places) _ _ is)) c.next_key.ensures.given;
     }

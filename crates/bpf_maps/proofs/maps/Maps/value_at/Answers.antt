@@ -1,4 +1,4 @@
-use Rattle.std.proofs.Common.{◌≡◌, ℕ, ◌+◌, ◌*◌, ◌≤◌, ◌<◌, Option, Some, None, IsSome, is_some, true≢false, sym, subst, refl, ap, ◌∙◌, arith}
+use Rattle.std.proofs.Common.{◌≡◌, ℕ, ◌+◌, ◌*◌, ◌≤◌, ◌<◌, Option, Some, None, IsSome, true≢false, sym, subst, refl, ap, arith}
 use Rattle.bpf_maps.specs.declared.part.TheConstants.{PART}
 use Rattle.bpf_maps.specs.declared.map_layout.MapLayout.{MapLayout}
 use Rattle.bpf_maps.specs.Live.{LiveMap, LiveMaps, live_at, live_or, offset, offset_at, shape_at, IsLaid, LiesInPart}

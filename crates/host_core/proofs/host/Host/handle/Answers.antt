@@ -1,50 +1,84 @@
-use Rattle.std.proofs.Common.{◌≡◌, ◌<◌, List, length, Some, ap, ◌∙◌, arith}
-use Rattle.std.specs.Prelude.{slice_get}
+use Rattle.std.proofs.Common.{◌≡◌, ◌<◌, List, [], length, Some, None, sym, ap, ◌∙◌, arith, to_z, of_z, w32}
+use Rattle.std.specs.Prelude.{ℤ, slice_get}
 use Rattle.arena.specs.Memory.{part_bytes}
-use Rattle.command_frames.specs.Frame.{owner}
+use Rattle.command_frames.specs.Frame.{owner, reply_bytes}
 use Rattle.tenant.specs.Kept.{state_in}
 use Rattle.tenant.specs.State.{TenantState}
 use Rattle.host_core.proofs.Faults.{served_is_no_fault, refusal_is_no_fault}
+use Rattle.host_core.proofs.Heads.{owner_is, no_head, no_state, refused_headless, refused_headed}
 use Rattle.host_core.proofs.Tenants.{slice_get_in, states_length, others_stay, count_stays, tells_own, tells_none}
 use Rattle.host_core.proofs.host.Host.handle.Goals as goal
 
+-- ---- a frame without a head
+
+pub returns-in_default-clause-own : goal.returns-in_default-clause-own
+returns-in_default-clause-own c =
+    let frame = c.args.frame.now in
+    let none = sym c.head.ensures ∙ c.in_default.is in
+    let many = states_length c.self.inside.arena 0 c.self.inside.tenants.items in
+    let unserved : slice_get c.args.self.now (owner frame) ≡ None =
+    no_state c.args.self.now (owner frame) (omega (arith, no_head frame none, many, ap length c.self.view_is, c.self.invariant)) in
+    tells_none c.args.self.now (owner frame) frame c.write_reply.new.reply unserved
+    (c.write_reply.ensures ∙ ap (λ (status : ℤ). reply_bytes 65535 65535 (to_z w32 (of_z w32 status)) []) c.status.ensures ∙ refused_headless frame none)
+
+pub returns-in_default-clause-no_fault : goal.returns-in_default-clause-no_fault
+returns-in_default-clause-no_fault c =
+    let frame = c.args.frame.now in
+    refusal_is_no_fault frame c.write_reply.new.reply
+    (c.write_reply.ensures ∙ ap (λ (status : ℤ). reply_bytes 65535 65535 (to_z w32 (of_z w32 status)) []) c.status.ensures ∙ refused_headless frame (sym c.head.ensures ∙ c.in_default.is))
+
+-- ---- a tenant that is not served
+
+pub returns-then-tenant-served-clause-own : goal.returns-then-tenant-served-clause-own
+returns-then-tenant-served-clause-own c =
+    let frame = c.args.frame.now in
+    let head = c.in-Some.head in
+    let found = sym c.head.ensures ∙ c.in-Some.is in
+    let many = states_length c.self.inside.arena 0 c.self.inside.tenants.items in
+    let unserved : slice_get c.args.self.now (owner frame) ≡ None =
+    no_state c.args.self.now (owner frame) (omega (arith, owner_is frame head found, c.from-tenant.ensures, many, ap length c.self.view_is, c.len-served.ensures, c.if-tenant-served.true)) in
+    tells_none c.args.self.now (owner frame) frame c.write_reply-then-tenant-served.new.reply unserved
+    (c.write_reply-then-tenant-served.ensures ∙ ap (λ (status : ℤ). reply_bytes head.tenant head.command (to_z w32 (of_z w32 status)) []) c.status-then-tenant-served.ensures ∙ refused_headed frame head found)
+
+pub returns-then-tenant-served-clause-no_fault : goal.returns-then-tenant-served-clause-no_fault
+returns-then-tenant-served-clause-no_fault c =
+    let frame = c.args.frame.now in
+    let head = c.in-Some.head in
+    refusal_is_no_fault frame c.write_reply-then-tenant-served.new.reply
+    (c.write_reply-then-tenant-served.ensures ∙ ap (λ (status : ℤ). reply_bytes head.tenant head.command (to_z w32 (of_z w32 status)) []) c.status-then-tenant-served.ensures ∙ refused_headed frame head (sym c.head.ensures ∙ c.in-Some.is))
+
+-- ---- a tenant that is served
+
 pub index_mut-requires : goal.index_mut-requires
-index_mut-requires c =
-    let many = states_length c.self.inside.arena 0 c.self.inside.tenants.items in
-    omega (arith, c.in-Some.ensures.served, many, ap length c.self.view_is)
+index_mut-requires c = omega (arith, c.if-tenant-served.false, c.len-served.ensures)
 
-pub handle-requires-clause-tenant : goal.handle-requires-clause-tenant
-handle-requires-clause-tenant c =
-    let many = states_length c.self.inside.arena 0 c.self.inside.tenants.items in
-    omega (arith, c.in-Some.ensures.served, many, ap length c.self.view_is, c.self.invariant, c.self.inside.tenants.ok)
+pub handle-requires-clause-head : goal.handle-requires-clause-head
+handle-requires-clause-head c = sym c.head.ensures ∙ c.in-Some.is
 
-pub returns-in-Some-clause-own : goal.returns-in-Some-clause-own
-returns-in-Some-clause-own c =
+pub handle-requires-clause-part : goal.handle-requires-clause-part
+handle-requires-clause-part c = (omega (arith, c.if-tenant-served.false, c.len-served.ensures, c.self.invariant), c.self.invariant.2)
+
+pub returns-clause-own : goal.returns-clause-own
+returns-clause-own c =
     let ks = c.self.inside.tenants.items in
-    let many = states_length c.self.inside.arena 0 ks in
-    let (long, own, served) = c.in-Some.ensures.served in
-    let room : c.in-Some.tenant < length ks = omega (arith, served, many, ap length c.self.view_is) in
-    let found = slice_get_in ks c.in-Some.tenant c.index_mut.result.now room c.index_mut.ensures.value in
-    tells_own c.self.inside.arena c.handle.new.arena ks c.args.self.now c.in-Some.tenant (owner c.args.frame.now) c.index_mut.result.now c.handle.new.self c.args.frame.now c.handle.new.reply c.self.view_is own room found c.handle.ensures.told
+    let t = c.from-tenant.result in
+    let own = c.from-tenant.ensures ∙ owner_is c.args.frame.now c.in-Some.head (sym c.head.ensures ∙ c.in-Some.is) in
+    let room : t < length ks = omega (arith, c.if-tenant-served.false, c.len-served.ensures) in
+    let found = slice_get_in ks t c.index_mut.result.now room c.index_mut.ensures.value in
+    tells_own c.self.inside.arena c.handle.new.arena ks c.args.self.now t (owner c.args.frame.now) c.index_mut.result.now c.handle.new.self c.args.frame.now c.handle.new.reply c.self.view_is own room found c.handle.ensures.told
 
-pub returns-in-Some-clause-others : goal.returns-in-Some-clause-others
-returns-in-Some-clause-others c = λ other ne.
-    let (long, own, served) = c.in-Some.ensures.served in
-    let apart = λ (e : other ≡ c.in-Some.tenant). ne (e ∙ own) in
-    others_stay c.self.inside.arena c.handle.new.arena c.self.inside.tenants.items c.in-Some.tenant other c.handle.new.self apart (c.handle.ensures.others other apart)
+pub returns-clause-others : goal.returns-clause-others
+returns-clause-others c = λ other ne.
+    let t = c.from-tenant.result in
+    let own = c.from-tenant.ensures ∙ owner_is c.args.frame.now c.in-Some.head (sym c.head.ensures ∙ c.in-Some.is) in
+    let apart = λ (e : other ≡ t). ne (e ∙ own) in
+    others_stay c.self.inside.arena c.handle.new.arena c.self.inside.tenants.items t other c.handle.new.self apart (c.handle.ensures.others other apart)
     ∙ ap (λ (s : List TenantState). slice_get s other) c.self.view_is
 
-pub returns-in-Some-clause-count : goal.returns-in-Some-clause-count
-returns-in-Some-clause-count c =
-    count_stays c.self.inside.arena c.handle.new.arena c.self.inside.tenants.items c.in-Some.tenant c.handle.new.self ∙ ap length c.self.view_is
+pub returns-clause-count : goal.returns-clause-count
+returns-clause-count c = count_stays c.self.inside.arena c.handle.new.arena c.self.inside.tenants.items c.from-tenant.result c.handle.new.self ∙ ap length c.self.view_is
 
-pub returns-in-Some-clause-no_fault : goal.returns-in-Some-clause-no_fault
-returns-in-Some-clause-no_fault c =
-    served_is_no_fault c.faults_have_no_payload.ensures c.args.frame.now c.handle.new.reply (Some (state_in (part_bytes c.self.inside.arena c.in-Some.tenant) c.index_mut.result.now)) (Some (state_in (part_bytes c.handle.new.arena c.in-Some.tenant) c.handle.new.self)) c.handle.ensures.told c.handle.ensures.no_fault
-
-pub returns-in-None-clause-own : goal.returns-in-None-clause-own
-returns-in-None-clause-own c =
-    tells_none c.args.self.now (owner c.args.frame.now) c.args.frame.now c.write_unserved.new.reply (c.served_tenant.ensures.none c.in-None.is) c.write_unserved.ensures
-
-pub returns-in-None-clause-no_fault : goal.returns-in-None-clause-no_fault
-returns-in-None-clause-no_fault c = refusal_is_no_fault c.args.frame.now c.write_unserved.new.reply c.write_unserved.ensures
+pub returns-clause-no_fault : goal.returns-clause-no_fault
+returns-clause-no_fault c =
+    let t = c.from-tenant.result in
+    served_is_no_fault c.faults_have_no_payload.ensures c.args.frame.now c.handle.new.reply (Some (state_in (part_bytes c.self.inside.arena t) c.index_mut.result.now)) (Some (state_in (part_bytes c.handle.new.arena t) c.handle.new.self)) c.handle.ensures.told c.handle.ensures.no_fault

@@ -10,18 +10,18 @@ use Rattle.tenant.proofs.tenant.Tenant.load.Goals as goal
 
 pub invariant_of-self : goal.invariant_of-self
 invariant_of-self c =
-    let k : KeptTenant = record { objects = c.self.inside.objects; keys = c.self.inside.keys; live = c.self.inside.maps; refused = c.self.inside.refused } in
+    let k : KeptTenant = record { objects = c.self.inside.objects; live = c.self.inside.maps; refused = c.self.inside.refused } in
     flagged_kept k c.self.invariant
 
-pub returns-in-Ok : goal.returns-in-Ok
-returns-in-Ok c = λ part.
+pub returns-in-Ok-clause-answer : goal.returns-in-Ok-clause-answer
+returns-in-Ok-clause-answer c = λ part.
     let s = state_in part c.args.self.now in
     let fd = c.open_program.result in
     subst (MayLoad s c.args.kind c.args.slots.now) (sym (ap (opens fd) (c.open_program.ensures.opened part)))
     (program_opened s c.args.kind fd c.args.slots.now c.in-Ok.program c.if-kind-ne-SOCKET_FILTER.false c.open_program.ensures.lowest (c.in-Ok.ensures.judges part) (c.in-Ok.ensures.found part))
 
-pub returns-in-Err-At : goal.returns-in-Err-At
-returns-in-Err-At c = λ part.
+pub returns-in-Err-At-clause-answer : goal.returns-in-Err-At-clause-answer
+returns-in-Err-At-clause-answer c = λ part.
     let k = c.args.self.now in
     let (fd, low) = some_lowest c.self.inside.objects (sym c.is_full.ensures ∙ c.if-is_full.false) in
     refused_at (state_in part k) c.args.kind fd c.args.slots.now c.in-Err-At.errno c.in-Err-At.slot c.in-Err-At.reason c.if-kind-ne-SOCKET_FILTER.false

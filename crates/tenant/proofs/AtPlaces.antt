@@ -1,0 +1,95 @@
+-- The maps at their places.
+use Rattle.std.proofs.Common.{◌≡◌, ◌≢◌, ℕ, ◌<◌, ◌≤◌, List, length, take, drop, set, get_or, Option, Some, None, IsSome, is_some, refl, sym, ap, ◌∙◌, inl, inr, arith, length-set, get_or-set_same, get_or-set_other, true≢false}
+use Rattle.std.specs.Prelude.{◌⊎◌, is_none, position, option_map}
+use Rattle.std.proofs.Math.Path.{fun_ext}
+use Rattle.std.proofs.lemmas.Bool.{cases_eq, cases_lt}
+use Rattle.std.proofs.lemmas.List.{ext_get_or, get_or_past}
+use Rattle.std.proofs.lemmas.List.FromFn.{length-map-range_with_len, get_or-map-range_with_len}
+use Rattle.bpf_maps.specs.Live.{LiveMaps, LiveMap, live_or, live_at, offset, map_in}
+use Rattle.bpf_maps.specs.LiveLaws.{same_lowest}
+use Rattle.bpf_maps.specs.Places.{table_of}
+use Rattle.tagged_model.specs.Table.{with_values}
+use Rattle.tenant.specs.State.{Map, most_maps}
+use Rattle.tenant.specs.Kept.{at_places, map_at}
+
+-- ---- places
+
+pub length-at : (f : ℕ → Option Map) → length (at_places f) ≡ most_maps
+unfolding at_places
+length-at f = length-map-range_with_len f 0 most_maps
+
+pub at-within : (f : ℕ → Option Map) (i : ℕ) → i < most_maps → get_or (at_places f) i None ≡ f i
+unfolding at_places
+at-within f i lt = get_or-map-range_with_len f 0 most_maps i i None lt (omega arith)
+
+pub at-past : (f : ℕ → Option Map) (i : ℕ) → most_maps ≤ i → get_or (at_places f) i None ≡ None
+at-past f i past = let long = length-at f in get_or_past (at_places f) i None (omega arith)
+
+pub same_at : (f g : ℕ → Option Map) → ((i : ℕ) → f i ≡ g i) → at_places f ≡ at_places g
+same_at f g h = ap at_places (fun_ext h)
+
+-- where one is set, and the others are the same
+pub set_at : (f g : ℕ → Option Map) (n : ℕ) (x : Option Map) → n < most_maps → f n ≡ x → ((i : ℕ) → i ≢ n → f i ≡ g i) → at_places f ≡ set (at_places g) n x
+set_at f g n x within here others =
+    ext_get_or None (at_places f) (set (at_places g) n x) (length-at f ∙ sym (length-at g) ∙ sym (length-set {A = Option Map} (at_places g) n x))
+    (λ i lt. by i (let long = length-at f in omega arith) (cases_eq i n))
+  where
+    room : n < length (at_places g)
+    room = let long = length-at g in omega arith
+
+    by : (i : ℕ) → i < most_maps → (i ≡ n) ⊎ (i ≡ n → ⊥) → get_or (at_places f) i None ≡ get_or (set (at_places g) n x) i None
+    by i lt (inl same) = at-within f i lt ∙ ap f same ∙ here ∙ sym (get_or-set_same (at_places g) n x None room) ∙ ap (λ (j : ℕ). get_or (set (at_places g) n x) j None) (sym same)
+    by i lt (inr other) = at-within f i lt ∙ others i other ∙ sym (at-within g i lt) ∙ sym (get_or-set_other (at_places g) n i x None other)
+
+-- the same place is free in a list with as many places where the same are free
+pub free_at : (f : ℕ → Option Map) (xs : List (Option LiveMap)) → length xs ≡ most_maps → ((i : ℕ) → is_some (f i) ≡ is_some (get_or xs i None)) → position is_none (at_places f) ≡ position is_none xs
+free_at f xs long same = same_lowest (at_places f) xs (length-at f ∙ sym long) (λ i. by i (cases_lt i most_maps))
+  where
+    none : (i : ℕ) → most_maps ≤ i → get_or xs i None ≡ None
+    none i past = let all = long in get_or_past xs i None (omega arith)
+
+    by : (i : ℕ) → (i < most_maps) ⊎ (most_maps ≤ i) → is_some (get_or (at_places f) i None) ≡ is_some (get_or xs i None)
+    by i (inl lt) = ap (λ (o : Option Map). is_some o) (at-within f i lt) ∙ same i
+    by i (inr past) = ap (λ (o : Option Map). is_some o) (at-past f i past) ∙ sym (ap (λ (o : Option LiveMap). is_some o) (none i past))
+
+-- ---- the live map at a place
+
+abbrev pub map_of : List ℕ → Option LiveMap → Map
+map_of part o = with_values (λ p. take (live_or o).places.shape.value_size (drop (offset (live_or o) p) part)) (table_of (live_or o).places)
+
+abbrev pub map_if : List ℕ → Option LiveMap → Option Map
+map_if part o = option_map (λ l. map_of part o) o
+
+pub live_or_not : (o : Option LiveMap) → IsSome o ⊎ (o ≡ None)
+live_or_not None = inr refl
+live_or_not (Some l) = inl refl
+
+pub not_live : (o : Option LiveMap) → IsSome o → o ≡ None → ⊥
+not_live o some none = true≢false (sym some ∙ ap (λ (x : Option LiveMap). is_some x) none)
+
+pub map_there : (part : List ℕ) (t : LiveMaps) (place : ℕ) → IsSome (live_at t place) → map_at part t place ≡ Some (map_in part t place)
+map_there part t place live = by (live_at t place) live
+  where
+    by : (o : Option LiveMap) → IsSome o → map_if part o ≡ Some (map_of part o)
+    by None some = absurd (true≢false (sym some))
+    by (Some l) some = refl
+
+pub none_there : (part : List ℕ) (t : LiveMaps) (place : ℕ) → live_at t place ≡ None → map_at part t place ≡ None
+none_there part t place e = ap (map_if part) e
+
+pub same_live : (part : List ℕ) (old new : LiveMaps) (place : ℕ) → live_at new place ≡ live_at old place → map_at part new place ≡ map_at part old place
+same_live part old new place e = ap (map_if part) e
+
+-- a map that is live before and after, with the same pairs
+pub same_map_at : (part later : List ℕ) (old new : LiveMaps) (place : ℕ) → IsSome (live_at old place) → IsSome (live_at new place) → map_in later new place ≡ map_in part old place
+    → map_at later new place ≡ map_at part old place
+same_map_at part later old new place was now e = map_there later new place now ∙ ap (λ (t : Map). Some t) e ∙ sym (map_there part old place was)
+
+-- a place whose map is the same, with the same pairs if it is live
+pub other_at : (part later : List ℕ) (old new : LiveMaps) (place : ℕ) → live_at new place ≡ live_at old place → (IsSome (live_at new place) → map_in later new place ≡ map_in part old place)
+    → map_at later new place ≡ map_at part old place
+other_at part later old new place same pairs = by (live_or_not (live_at new place))
+  where
+    by : IsSome (live_at new place) ⊎ (live_at new place ≡ None) → map_at later new place ≡ map_at part old place
+    by (inl now) = same_map_at part later old new place (sym (ap (λ (o : Option LiveMap). is_some o) same) ∙ now) now (pairs now)
+    by (inr none) = none_there later new place none ∙ sym (none_there part old place (sym same ∙ none))

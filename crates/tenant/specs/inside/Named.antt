@@ -1,0 +1,22 @@
+-- The map that a descriptor names. This project's own.
+use Rattle.std.specs.Prelude.{◌≡◌, ℕ, ◌<◌, Option, Some, None, IsSome}
+use Rattle.bpf_maps.specs.Live.{live_at}
+use Rattle.fd_table.specs.Table.{named}
+use Rattle.tenant.specs.declared.errno.Errno.{Errno}
+use Rattle.tenant.specs.declared.errno.Errno.TheVariants.{BadDescriptor, Invalid}
+use Rattle.tenant.specs.declared.object.OpenObject.{OpenObject}
+use Rattle.tenant.specs.declared.object.OpenObject.TheVariants as object
+use Rattle.tenant.specs.Kept.{KeptTenant}
+use Rattle.tenant.specs.State.{most_maps}
+
+-- a descriptor names the live map at a place
+pub record IsMapOf (k : KeptTenant) (fd place : ℕ) : Type 0 where
+  pub opened : named k.objects fd ≡ Some (object.Map place)
+  pub live : IsSome (live_at k.live place)
+  pub within : place < most_maps
+
+-- why a descriptor names no map
+abbrev pub map_fault : Option OpenObject → Option Errno
+map_fault None = Some BadDescriptor
+map_fault (Some (object.Program l)) = Some Invalid
+map_fault (Some (object.Map place)) = None

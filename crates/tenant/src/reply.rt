@@ -1,0 +1,57 @@
+//! The replies to commands.
+
+ghost use Rattle.tenant.specs.Replies.{IsWritable, shown_answer};
+ghost use Rattle.tenant.specs.State.{TenantState};
+ghost use Rattle.tenant.specs.inside.Frames.{Writes};
+
+use crate::errno::Errno;
+use bpf_maps::GivenKey;
+use command_frames::{Head, ReplyBuf, write_number, write_reply};
+
+/// The reply to a command that is executed, or to a load that is refused because of a slot. Any other refusal is an `Errno`.
+#[derive(Drop)]
+pub enum Reply<'a> {
+    /// Status 0 without a payload.
+    Done,
+    /// The status is a new descriptor.
+    Opened(u32),
+    /// The payload is a value, borrowed from the tenant's part.
+    Value(&'a [u8]),
+    /// The payload is a key.
+    Key(GivenKey<'a>),
+    /// The payload is the result of a test run.
+    Number(u32),
+    /// The payload is the slot and the reason of a load that is refused.
+    RefusedAt {
+        errno: Errno,
+        slot: u32,
+        reason: u16,
+    },
+}
+
+/// Writes the reply to a command, or its error, to `reply`.
+#[inline(always)]
+pub(crate) fn write_answer(head: Head, answer: Result<Reply<'_>, Errno>, reply: &mut ReplyBuf)
+    requires { IsWritable answer }
+    ensures { (s : TenantState) → Writes head reply.new (shown_answer answer.entry s) }
+{
+    match answer {
+        Ok(Reply::Done) => write_reply(head, 0, &[], reply),
+        Ok(Reply::Opened(fd)) => write_reply(head, fd as i32, &[], reply),
+        Ok(Reply::Value(value)) => write_reply(head, 0, value, reply),
+        Ok(Reply::Key(key)) => write_reply(head, 0, key.bytes(), reply),
+        Ok(Reply::Number(number)) => write_number(head, number, reply),
+        Ok(
+            Reply::RefusedAt {
+                errno,
+                slot,
+                reason,
+            },
+        ) => {
+            let [a, b, c, d] = slot.to_le_bytes();
+            let [e, f] = reason.to_le_bytes();
+            write_reply(head, errno.status(), &[a, b, c, d, e, f], reply);
+        }
+        Err(errno) => write_reply(head, errno.status(), &[], reply),
+    }
+}

@@ -1,5 +1,0 @@
-use Rattle.verdict.proofs.LoadedShapes.{maps_have_shapes}
-use Rattle.verdict.proofs.laws.loaded_maps_have_shapes.Goals as goal
-
-pub returns : goal.returns
-returns c = maps_have_shapes

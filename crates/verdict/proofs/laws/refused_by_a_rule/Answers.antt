@@ -1,5 +1,0 @@
-use Rattle.verdict.proofs.Rules.{not_for_memory}
-use Rattle.verdict.proofs.laws.refused_by_a_rule.Goals as goal
-
-pub returns : goal.returns
-returns c = not_for_memory c.effects_need_no_memory.ensures

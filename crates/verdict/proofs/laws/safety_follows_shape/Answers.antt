@@ -1,5 +1,0 @@
-use Rattle.verdict.proofs.LoadedShapes.{safety_follows}
-use Rattle.verdict.proofs.laws.safety_follows_shape.Goals as goal
-
-pub returns : goal.returns
-returns c = safety_follows c.transfer_reasons.ensures

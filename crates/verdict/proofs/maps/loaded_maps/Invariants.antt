@@ -1,8 +1,0 @@
-use Rattle.std.proofs.Common.{◌≡◌}
-use Rattle.insn_codec.specs.Program.{begun_below}
-use Rattle.verdict.specs.Maps.{maps_of}
-use Rattle.verdict.proofs.maps.loaded_maps.Given as goal
-
--- the descriptors of the instructions that begin below the slot
-abbrev pub invariant-loop-slot : goal.invariant-loop-slot
-invariant-loop-slot l = l.maps.items ≡ maps_of (begun_below l.program l.slot)

@@ -1,9 +1,0 @@
--- Where jumps land. This project's own.
-use Rattle.std.specs.Prelude.{◌≡◌, ℕ, List, Some, IfSome, ◌<◌}
-use Rattle.insn_codec.specs.declared.insn.Insn.{Insn}
-use Rattle.insn_codec.specs.Program.{begins_at, slot_count}
-use Rattle.insn_codec.specs.Flow.{jump_target}
-
--- each jump leads to a slot of the program
-abbrev pub JumpsLand : List Insn → Type 0
-JumpsLand code = (n : ℕ) (i : Insn) → begins_at code n ≡ Some i → IfSome (jump_target i n) (λ to. to < slot_count code)

@@ -1,0 +1,243 @@
+-- The pass over what is known, against the definition that asks the slots below.
+use Rattle.std.proofs.Common.{◌≡◌, ℕ, ◌+◌, ◌<◌, ◌≤◌, inl, inr, Bool, true, false, ◌&&◌, List, [], ◌∷◌, length, replicate, Option, Some, None, Result, Ok, Err, IsSome, refl, sym, ap, subst, ◌∙◌, add-one, arith}
+use Rattle.std.specs.Prelude.{◌==◌, nat_lt, is_some, if◌then◌else◌}
+use Rattle.std.proofs.Math.Bool.{and-true}
+use Rattle.std.proofs.lemmas.Bool.{false≢true, cases_order, cases_eq, eq-eqb, ne_eqb, lt-ltb}
+use Rattle.std.proofs.lemmas.List.{get_or-replicate, length-replicate}
+use Rattle.std.proofs.lemmas.Option.{none-some}
+use Rattle.insn_codec.specs.declared.insn.Insn.{Insn}
+use Rattle.insn_codec.specs.declared.insn.Insn.TheVariants.{Alu, Movsx, Neg, End, Ja, Jal, Jump, Call, Exit, Load, Store, Atomic, Const, MapFd, MapValue}
+use Rattle.insn_codec.specs.Spelling.{slots}
+use Rattle.insn_codec.specs.Program.{begins_at, slot_count, Adjoins}
+use Rattle.insn_codec.specs.BeginLaws.{some_slots, adjoins_after, none_begins_inside, first_begins}
+use Rattle.reg_kinds.specs.declared.facts.Facts.{Facts}
+use Rattle.reg_kinds.specs.declared.kind.Kind.{Kind}
+use Rattle.reg_kinds.specs.declared.kind.Kind.TheVariants.{Scalar}
+use Rattle.reg_kinds.specs.declared.reason.Reason.{Reason}
+use Rattle.reg_kinds.specs.Reason.{and_then_ok}
+use Rattle.reg_kinds.specs.Join.{facts_join}
+use Rattle.reg_kinds.specs.Kinds.{entry, kind_at}
+use Rattle.reg_kinds.specs.Laws.{FactsCommute, FactsAssociate}
+use Rattle.tagged_model.specs.Cells.{and_then}
+use Rattle.tagged_model.specs.Named.{Shapes}
+use Rattle.transfer.specs.Arithmetic.{check_readable}
+use Rattle.transfer.specs.Branches.{Edges}
+use Rattle.transfer.specs.Effects.{effect, exits_with}
+use Rattle.insn_codec.specs.Flow.{falls_to, jumps_to, falls, jumps, jump_target}
+use Rattle.verifier.specs.declared.pass.Pass.{Pass}
+use Rattle.verifier.specs.Shape.{is_slot, falls_into, jumps_into}
+use Rattle.verifier.specs.Before.{joined, only_if, edges_into, facts_sent, facts_from_below, facts_before}
+use Rattle.verifier.specs.inside.Arriving.{brought_to, Brings, arriving_at}
+use Rattle.verifier.specs.inside.Edges.{falling_of, jumping_of, falling_from, jumping_from, reason_from}
+use Rattle.verifier.specs.Verdict.{reason_of, safety_fault, IsFirstFault}
+
+-- ---- joins in another order
+
+joined_none : (a : Option Facts) → joined a None ≡ a
+joined_none None = refl
+joined_none (Some f) = refl
+
+joined_swap : FactsCommute → FactsAssociate → (a b c : Option Facts) → joined a (joined b c) ≡ joined b (joined a c)
+joined_swap comm assoc None b c = refl
+joined_swap comm assoc (Some f) None c = refl
+joined_swap comm assoc (Some f) (Some g) None = ap Some (comm f g)
+joined_swap comm assoc (Some f) (Some g) (Some h) =
+    ap Some (sym (assoc f g h) ∙ ap (λ (x : Facts). facts_join x h) (comm f g) ∙ assoc g f h)
+
+on_none : (b : Bool) → only_if b None ≡ None
+on_none true = refl
+on_none false = refl
+
+-- by the shapes of the maps
+module _ (shapes : Shapes) where
+  -- ---- the edges out of an instruction
+
+  no_fall : (b c : Bool) (o : Option Facts) → None ≡ o → only_if b o ≡ only_if (false && c) o
+  no_fall b c o none = sym (ap (only_if b) none) ∙ on_none b
+
+  end_falls : (k : Kind) → falling_of (exits_with k) ≡ None
+  end_falls (Scalar r) = refl
+  end_falls _ = refl
+
+  given_end_falls : (r : Result Kind Reason) → falling_of (and_then_ok r exits_with) ≡ None
+  given_end_falls (Ok k) = end_falls k
+  given_end_falls (Err e) = refl
+
+  -- what does not fall has no falling edge
+  fall_is : (at : ℕ) (i : Insn) (f : Facts) (b : Bool) → only_if b (falling_of (effect shapes at i f)) ≡ only_if (falls i && b) (falling_of (effect shapes at i f))
+  fall_is at (Ja off) f b = on_none b
+  fall_is at (Jal off) f b = on_none b
+  fall_is at Exit f b = no_fall b b (falling_of (effect shapes at Exit f)) (sym (given_end_falls (check_readable (kind_at f 0))))
+  fall_is at (Alu wide op dst src) f b = refl
+  fall_is at (Movsx m) f b = refl
+  fall_is at (Neg wide dst) f b = refl
+  fall_is at (End how kept dst) f b = refl
+  fall_is at (Jump wide cond dst src off) f b = refl
+  fall_is at (Call id) f b = refl
+  fall_is at (Load l) f b = refl
+  fall_is at (Store size dst src off) f b = refl
+  fall_is at (Atomic size op dst src off) f b = refl
+  fall_is at (Const dst value) f b = refl
+  fall_is at (MapFd dst fd) f b = refl
+  fall_is at (MapValue dst fd off) f b = refl
+
+  -- what does not jump has no target
+  target_is : (b : Bool) (o : Option ℕ) (n i : ℕ) → n < i → is_slot (if b then o else None) i ≡ (b && is_slot o i && nat_lt n i)
+  target_is true o n i lt = sym (ap (λ (x : Bool). is_slot o i && x) (lt-ltb n i lt) ∙ and-true (is_slot o i))
+  target_is false o n i lt = refl
+
+  neither : (b c : Bool) → joined (only_if b None) (only_if c None) ≡ None
+  neither b c = ap (λ (x : Option Facts). joined x (only_if c None)) (on_none b) ∙ on_none c
+
+  both_edges : (insn : Insn) (n i : ℕ) (r : Result Edges Reason) → joined (only_if (falls_into insn n i) (falling_of r)) (only_if (jumps_into insn n i) (jumping_of r)) ≡ edges_into insn n i r
+  both_edges insn n i (Ok edges) = refl
+  both_edges insn n i (Err reason) = neither (falls_into insn n i) (jumps_into insn n i)
+
+  -- the edges as the pass sends them
+  edges_are : (insn : Insn) (n i : ℕ) → n < i → (here : Option Facts) → joined (only_if (falls_to insn n == i) (falling_from shapes n insn here)) (only_if (is_slot (jump_target insn n) i) (jumping_from shapes n insn here)) ≡ and_then here (λ f. edges_into insn n i (effect shapes n insn f))
+  edges_are insn n i lt None = neither (falls_to insn n == i) (is_slot (jump_target insn n) i)
+  edges_are insn n i lt (Some f) =
+      ap (λ (x : Option Facts). joined x (only_if (is_slot (jump_target insn n) i) (jumping_of (effect shapes n insn f)))) (fall_is n insn f (falls_to insn n == i))
+      ∙ ap (λ (b : Bool). joined (only_if (falls_into insn n i) (falling_of (effect shapes n insn f))) (only_if b (jumping_of (effect shapes n insn f)))) (target_is (jumps insn) (jumps_to insn n) n i lt)
+      ∙ both_edges insn n i (effect shapes n insn f)
+
+  -- ---- what is in hand before a slot, and what is kept for those ahead
+
+  -- the facts in hand are due at the next instruction; with them the entry of each slot ahead is what the slots below send
+  pub record IsBefore (code : List Insn) (slot : ℕ) (pass : Pass) : Type 0 where
+    pub due : ℕ
+    pub ahead : slot ≤ due
+    pub adjoins : Adjoins code due
+    pub between : (k : ℕ) → slot ≤ k → k < due → begins_at code k ≡ None
+    pub long : length pass.entries ≡ slot_count code
+    pub each : (i : ℕ) → slot ≤ i → i < slot_count code → joined (only_if (due == i) pass.falling) (brought_to i pass.entries) ≡ facts_from_below shapes code i slot
+
+  inflow_first : (code : List Insn) (i : ℕ) → facts_from_below shapes code i 0 ≡ (if i == 0 then Some entry else None)
+  unfolding facts_from_below
+  inflow_first code i = refl
+
+  inflow_next : (code : List Insn) (i n : ℕ) → facts_from_below shapes code i (n + 1) ≡ joined (facts_from_below shapes code i n) (facts_sent shapes code n i (facts_from_below shapes code n n))
+  unfolding facts_from_below
+  inflow_next code i n = ap (λ (k : ℕ). facts_from_below shapes code i k) (add-one n)
+
+  pub at_start : (code : List Insn) (pass : Pass) → 1 ≤ slot_count code → pass.falling ≡ Some entry → pass.entries ≡ replicate (slot_count code) None → IsBefore code 0 pass
+  at_start code pass some first empty =
+      record {
+        due = 0;
+        ahead = omega arith;
+        adjoins = inr (omega arith, first_begins code some);
+        between = λ k above lt. absurd (omega arith);
+        long = ap length empty ∙ length-replicate (slot_count code) None;
+        each = λ i above lt.
+            ap (λ (f : Option Facts). joined (only_if (0 == i) f) (brought_to i pass.entries)) first
+            ∙ ap (λ (es : List (Option Facts)). joined (only_if (0 == i) (Some entry)) (brought_to i es)) empty
+            ∙ ap (joined (only_if (0 == i) (Some entry))) (get_or-replicate (slot_count code) i None None lt)
+            ∙ joined_none (only_if (0 == i) (Some entry))
+            ∙ elim (cases_eq i 0) [
+              | inl same ↦
+                  ap (λ (b : Bool). only_if b (Some entry)) (eq-eqb 0 i (sym same)) ∙ sym (ap (λ (b : Bool). only_if b (Some entry)) (eq-eqb i 0 same))
+              | inr other ↦
+                  ap (λ (b : Bool). only_if b (Some entry)) (ne_eqb 0 i (λ e. other (sym e))) ∙ sym (ap (λ (b : Bool). only_if b (Some entry)) (ne_eqb i 0 other))
+            ]
+            ∙ sym (inflow_first code i);
+      }
+
+  -- where an instruction begins, the facts in hand are due
+  due_here : (code : List Insn) (slot : ℕ) (pass : Pass) (b : IsBefore code slot pass) (insn : Insn) → begins_at code slot ≡ Some insn → b.due ≡ slot
+  due_here code slot pass b insn begins =
+      elim (cases_order b.due slot) [
+        | inl same ↦ same
+        | inr (inl below) ↦ absurd (omega (arith, b.ahead))
+        | inr (inr above) ↦ absurd (none-some insn (sym (b.between slot (omega arith) above) ∙ begins))
+      ]
+
+  -- what is known before the instruction
+  pub here_is : (code : List Insn) (slot : ℕ) (pass : Pass) → IsBefore code slot pass → (insn : Insn) → begins_at code slot ≡ Some insn → slot < slot_count code → arriving_at slot pass ≡ facts_before shapes code slot
+  here_is code slot pass b insn begins lt =
+      sym (ap (λ (t : Bool). joined (only_if t pass.falling) (brought_to slot pass.entries)) (eq-eqb b.due slot (due_here code slot pass b insn begins)))
+      ∙ b.each slot (omega arith) lt
+
+  entry_is : (code : List Insn) (slot : ℕ) (pass : Pass) (b : IsBefore code slot pass) → (i : ℕ) → slot ≤ i → i < slot_count code → (b.due ≡ i → ⊥) → brought_to i pass.entries ≡ facts_from_below shapes code i slot
+  entry_is code slot pass b i above lt other =
+      sym (ap (λ (t : Bool). joined (only_if t pass.falling) (brought_to i pass.entries)) (ne_eqb b.due i other)) ∙ b.each i above lt
+
+  sent_is : (code : List Insn) (n i : ℕ) (insn : Insn) (here : Option Facts) → begins_at code n ≡ Some insn → facts_sent shapes code n i here ≡ and_then here (λ f. edges_into insn n i (effect shapes n insn f))
+  sent_is code n i insn None begins = refl
+  sent_is code n i insn (Some f) begins = ap (λ (o : Option Insn). and_then o (λ insn. edges_into insn n i (effect shapes n insn f))) begins
+
+  -- past an instruction that may be run
+  pub after_insn : FactsCommute → FactsAssociate → (code : List Insn) (slot : ℕ) (old new : Pass) → IsBefore code slot old → (insn : Insn) → begins_at code slot ≡ Some insn → slot < slot_count code
+      → new.falling ≡ falling_from shapes slot insn (arriving_at slot old)
+      → ((i : ℕ) → slot < i → Brings (jump_target insn slot) (jumping_from shapes slot insn (arriving_at slot old)) old.entries new.entries i)
+      → length new.entries ≡ length old.entries → IsBefore code (slot + 1) new
+  after_insn comm assoc code slot old new b insn begins lt fall jump long =
+      let here : Option Facts = arriving_at slot old in
+      let falling_edge : Option Facts = falling_from shapes slot insn here in
+      let jumping_edge : Option Facts = jumping_from shapes slot insn here in
+      let due = due_here code slot old b insn begins in
+      record {
+        due = slot + length (slots insn);
+        ahead = omega (arith, some_slots insn);
+        adjoins = adjoins_after code slot insn begins;
+        between = λ k above below. none_begins_inside code slot insn begins k (omega arith) below;
+        long = long ∙ b.long;
+        each = λ i above within.
+            let was : brought_to i old.entries ≡ facts_from_below shapes code i slot = entry_is code slot old b i (omega arith) within (λ e. omega arith) in
+            let known = here_is code slot old b insn begins lt in
+            let fall_edge : Option Facts = only_if (falls_to insn slot == i) falling_edge in
+            let jump_edge : Option Facts = only_if (is_slot (jump_target insn slot) i) jumping_edge in
+            ap (λ (f : Option Facts). joined (only_if (falls_to insn slot == i) f) (brought_to i new.entries)) fall
+            ∙ ap (joined fall_edge) (jump i (omega arith))
+            ∙ joined_swap comm assoc fall_edge (brought_to i old.entries) jump_edge
+            ∙ ap (joined (brought_to i old.entries)) (edges_are insn slot i (omega arith) here)
+            ∙ ap (joined (brought_to i old.entries)) (sym (sent_is code slot i insn here begins))
+            ∙ ap (λ (f : Option Facts). joined f (facts_sent shapes code slot i here)) was
+            ∙ ap (λ (h : Option Facts). joined (facts_from_below shapes code i slot) (facts_sent shapes code slot i h)) known
+            ∙ sym (inflow_next code i slot);
+      }
+
+  sent_none : (code : List Insn) (n i : ℕ) (here : Option Facts) → begins_at code n ≡ None → facts_sent shapes code n i here ≡ None
+  sent_none code n i None none = refl
+  sent_none code n i (Some f) none = ap (λ (o : Option Insn). and_then o (λ insn. edges_into insn n i (effect shapes n insn f))) none
+
+  not_first : (code : List Insn) (slot : ℕ) → Adjoins code slot → slot < slot_count code → begins_at code slot ≡ None → ⊥
+  not_first code slot (inl end) lt none = omega arith
+  not_first code slot (inr more) lt none = false≢true (sym (ap is_some none) ∙ more.1)
+
+  -- past a slot where no instruction begins
+  pub after_none : (code : List Insn) (slot : ℕ) (pass : Pass) → IsBefore code slot pass → begins_at code slot ≡ None → slot < slot_count code → IsBefore code (slot + 1) pass
+  after_none code slot pass b none lt =
+      let later : b.due ≡ slot → ⊥ = λ e. not_first code slot (subst (λ (n : ℕ). Adjoins code n) e b.adjoins) lt none in
+      record {
+        due = b.due;
+        ahead = omega (arith, b.ahead, later);
+        adjoins = b.adjoins;
+        between = λ k above below. b.between k (omega arith) below;
+        long = b.long;
+        each = λ i above within.
+            b.each i (omega arith) within
+            ∙ sym (joined_none (facts_from_below shapes code i slot))
+            ∙ sym (ap (joined (facts_from_below shapes code i slot)) (sent_none code slot i (facts_from_below shapes code slot slot) none))
+            ∙ sym (inflow_next code i slot);
+      }
+
+  -- ---- the fault at a slot
+
+  pub safety_is : (code : List Insn) (slot : ℕ) (insn : Insn) (here : Option Facts) (r : Option Reason) → here ≡ facts_before shapes code slot → begins_at code slot ≡ Some insn → reason_from shapes slot insn here ≡ r → safety_fault shapes code slot ≡ r
+  unfolding safety_fault
+  safety_is code slot insn here r known begins is =
+      ap (λ (h : Option Facts). and_then h (λ f. and_then (begins_at code slot) (λ i. reason_of (effect shapes slot i f)))) (sym known)
+      ∙ ap (λ (o : Option Insn). and_then here (λ f. and_then o (λ i. reason_of (effect shapes slot i f)))) begins
+      ∙ is
+
+  no_reason : (slot : ℕ) (here : Option Facts) (o : Option Insn) → o ≡ None → and_then here (λ f. and_then o (λ i. reason_of (effect shapes slot i f))) ≡ None
+  no_reason slot None o none = refl
+  no_reason slot (Some f) o none = ap (λ (x : Option Insn). and_then x (λ i. reason_of (effect shapes slot i f))) none
+
+  pub safe_none : (code : List Insn) (slot : ℕ) → begins_at code slot ≡ None → safety_fault shapes code slot ≡ None
+  unfolding safety_fault
+  safe_none code slot none = no_reason slot (facts_before shapes code slot) (begins_at code slot) none
+
+  pub first_at : (fault_at : ℕ → Option Reason) (n slot : ℕ) (reason : Reason) → n ≡ slot → fault_at slot ≡ Some reason → ((k : ℕ) → k < slot → fault_at k ≡ None) → IsFirstFault fault_at n reason
+  first_at fault_at n slot reason same is below =
+      record { here = ap fault_at same ∙ is; below = λ k lt. below k (omega arith) }

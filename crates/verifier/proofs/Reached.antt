@@ -1,0 +1,112 @@
+-- The pass over a program's shape, against the definitions: what can be reached, and what an instruction without a fault is.
+use Rattle.std.proofs.Common.{◌≡◌, ℕ, ◌+◌, ◌<◌, Bool, true, false, ◌&&◌, ◌||◌, List, [], ◌∷◌, length, get_or, set, replicate, Option, Some, None, refl, sym, ap, ◌∙◌, add-one, arith, inl, inr}
+use Rattle.std.specs.Prelude.{IfSome, is_some, if◌then◌else◌}
+use Rattle.std.proofs.lemmas.Bool.{not-false, false≢true, cases_Bool, cond-true, cond-false, cases_eq, eq-eqb, ne_eqb}
+use Rattle.std.proofs.lemmas.List.{get_or-set_same, get_or-set_other, get_or-replicate, length-replicate}
+use Rattle.insn_codec.specs.declared.insn.Insn.{Insn}
+use Rattle.insn_codec.specs.Program.{begins_at, slot_count}
+use Rattle.insn_codec.specs.BeginLaws.{begins_within}
+use Rattle.reg_kinds.specs.declared.reason.Reason.{Reason}
+use Rattle.tagged_model.specs.declared.shape.Named.{Named}
+use Rattle.insn_codec.specs.Flow.{jumps_to, jumps, jump_target}
+use Rattle.verifier.specs.Shape.{leads_into, leads_outside, reached_from, is_reachable, first_reason, shape_of, structure_fault}
+use Rattle.verifier.specs.ShapeLaws.{IsFine, each_is_fine}
+use Rattle.verifier.specs.inside.Jumps.{JumpsLand}
+use Rattle.verifier.specs.Verdict.{HasNoFault}
+
+-- ---- reasons against an instruction, and where one without any leads
+
+no_reason : (reason : Reason) → Some reason ≡ None → ⊥
+no_reason reason e = cc
+
+-- a reason that the first two lines tell is the first of them all
+pub told_early : (first second : Bool × Reason) (lines : List (Bool × Reason)) (r : Reason) → Some r ≡ first_reason (first ∷ second ∷ []) → Some r ≡ first_reason (first ∷ second ∷ lines)
+told_early first second lines r is =
+    elim (cases_Bool first.0) [
+      | inl holds ↦
+          is
+          ∙ cond-true first.0 (Some first.1) (first_reason (second ∷ [])) holds
+          ∙ sym (cond-true first.0 (Some first.1) (first_reason (second ∷ lines)) holds)
+      | inr fails ↦
+          elim (cases_Bool second.0) [
+            | inl holds ↦
+                is
+                ∙ cond-false first.0 (Some first.1) (first_reason (second ∷ [])) fails
+                ∙ cond-true second.0 (Some second.1) None holds
+                ∙ sym (cond-true second.0 (Some second.1) (first_reason lines) holds)
+                ∙ sym (cond-false first.0 (Some first.1) (first_reason (second ∷ lines)) fails)
+            | inr none ↦
+                absurd (no_reason r (is ∙ cond-false first.0 (Some first.1) (first_reason (second ∷ [])) fails ∙ cond-false second.0 (Some second.1) None none))
+          ]
+    ]
+
+first_within : (code : List Insn) (n : ℕ) (o : Option Insn) → begins_at code n ≡ o → is_some o ≡ true → n < slot_count code
+first_within code n None is some = absurd (false≢true some)
+first_within code n (Some i) is some = begins_within code n i is
+
+within : (code : List Insn) (b : Bool) (o : Option ℕ) → (b && leads_outside code o) ≡ false → IfSome (if b then o else None) (λ to. to < slot_count code)
+within code false o inside = tt
+within code true None inside = tt
+within code true (Some n) inside = first_within code n (begins_at code n) refl (not-false (is_some (begins_at code n)) inside)
+
+-- a jump leads to a slot of the program
+pub jump_lands : (code : List Insn) (named : List Named) (i : Insn) (at : ℕ) → IsFine code named i at → IfSome (jump_target i at) (λ to. to < slot_count code)
+jump_lands code named i at is_fine = within code (jumps i) (jumps_to i at) is_fine.inside
+
+-- ---- what can be reached
+
+-- at the start slot 0 alone is marked
+pub marked_first : (code : List Insn) (flags : List Bool) (i : ℕ) → flags ≡ set (replicate (slot_count code) false) 0 true → i < slot_count code → get_or flags i false ≡ reached_from code i 0
+unfolding reached_from
+marked_first code flags i is lt =
+    let size : length (replicate (slot_count code) false) ≡ slot_count code = simp length-replicate in
+    ap (λ (bs : List Bool). get_or bs i false) is
+    ∙ elim (cases_eq i 0) [
+      | inl same ↦
+          ap (λ (n : ℕ). get_or (set (replicate (slot_count code) false) 0 true) n false) same
+          ∙ get_or-set_same (replicate (slot_count code) false) 0 true false (omega arith)
+          ∙ sym (eq-eqb i 0 same)
+      | inr other ↦
+          get_or-set_other (replicate (slot_count code) false) 0 i true false other
+          ∙ get_or-replicate (slot_count code) i false false lt
+          ∙ sym (ne_eqb i 0 other)
+    ]
+
+reached_next : (code : List Insn) (i n : ℕ) → reached_from code i (n + 1) ≡ (reached_from code i n || (reached_from code n n && leads_into (begins_at code n) n i))
+unfolding reached_from
+reached_next code i n = ap (λ (k : ℕ). reached_from code i k) (add-one n)
+
+-- an instruction that can be reached marks what it leads to
+pub marked_next : (code : List Insn) (i n : ℕ) (insn : Insn) (old new : Bool) → begins_at code n ≡ Some insn → is_reachable code n ≡ true → old ≡ reached_from code i n → new ≡ (old || leads_into (Some insn) n i) → new ≡ reached_from code i (n + 1)
+marked_next code i n insn old new begins reached was is =
+    is
+    ∙ ap (λ (b : Bool). b || leads_into (Some insn) n i) was
+    ∙ sym (ap (λ (o : Option Insn). reached_from code i n || (true && leads_into o n i)) begins)
+    ∙ sym (ap (λ (b : Bool). reached_from code i n || (b && leads_into (begins_at code n) n i)) reached)
+    ∙ sym (reached_next code i n)
+
+or_neither : (a b : Bool) → (a || (b && false)) ≡ a
+or_neither true true = refl
+or_neither true false = refl
+or_neither false true = refl
+or_neither false false = refl
+
+-- a slot where no instruction begins marks nothing
+pub marked_past : (code : List Insn) (i n : ℕ) (old : Bool) → begins_at code n ≡ None → old ≡ reached_from code i n → old ≡ reached_from code i (n + 1)
+marked_past code i n old begins was =
+    was
+    ∙ sym (or_neither (reached_from code i n) (reached_from code n n))
+    ∙ sym (ap (λ (o : Option Insn). reached_from code i n || (reached_from code n n && leads_into o n i)) begins)
+    ∙ sym (reached_next code i n)
+
+-- ---- the fault at a slot
+
+pub shape_is : (code : List Insn) (named : List Named) (at : ℕ) (o : Option Insn) (r : Option Reason) → o ≡ begins_at code at → r ≡ shape_of code named at o → structure_fault code named at ≡ r
+unfolding structure_fault
+shape_is code named at o r begins is = sym (is ∙ ap (shape_of code named at) begins)
+
+-- where no slot has a fault
+module _ (code : List Insn) (named : List Named) (none : HasNoFault (structure_fault code named)) where
+  -- each jump leads to a slot of the program
+  pub each_lands : JumpsLand code
+  each_lands n i begins = jump_lands code named i n (each_is_fine code named none n i begins)

@@ -1,0 +1,33 @@
+use Rattle.std.proofs.Common.{List, ℕ, refl, subst, ap, ◌∙◌}
+use Rattle.std.proofs.lemmas.Result.{err_from_is_err_and}
+use Rattle.insn_codec.specs.Program.{slot_count}
+use Rattle.tagged_model.specs.Named.{shapes_named}
+use Rattle.tagged_model.specs.declared.shape.Named.{Named}
+use Rattle.verifier.specs.Maps.{entries_of}
+use Rattle.verifier.specs.Told.{IsToldBelow}
+use Rattle.verifier.proofs.Telling.{none_told_at_memory, none_told_of_shape}
+use Rattle.verifier.proofs.judging.judge.Goals as goal
+
+pub returns-in_err-check_shape-clause-told_refused : goal.returns-in_err-check_shape-clause-told_refused
+returns-in_err-check_shape-clause-told_refused g c =
+    let p = err_from_is_err_and c.from_residual.result c.from_residual.ensures.1 in
+    rw (p.1, p.2) (none_told_of_shape c.args.program.now c.args.named.now (g.W.Watcher.told c.args.watcher.now) _ c.in_err-check_shape.ensures.refused)
+
+pub returns-in_err-maps-clause-told_refused : goal.returns-in_err-maps-clause-told_refused
+returns-in_err-maps-clause-told_refused g c =
+    let p = err_from_is_err_and c.from_residual-in_err-maps.result c.from_residual-in_err-maps.ensures.1 in
+    rw (p.1, p.2) (none_told_at_memory c.args.program.now c.args.named.now (g.W.Watcher.told c.args.watcher.now) _ refl)
+
+pub returns-in_err-entries-clause-told_refused : goal.returns-in_err-entries-clause-told_refused
+returns-in_err-entries-clause-told_refused g c =
+    let p = err_from_is_err_and c.from_residual-in_err-entries.result c.from_residual-in_err-entries.ensures.1 in
+    rw (p.1, p.2) (none_told_at_memory c.args.program.now c.args.named.now (g.W.Watcher.told c.args.watcher.now) _ refl)
+
+pub returns-clause-told : goal.returns-clause-told
+returns-clause-told g c =
+    let code = c.args.program.now in
+    let old = g.W.Watcher.told c.args.watcher.now in
+    let new = g.W.Watcher.told c.check_safety.new.watcher in
+    let is = c.in_ok-entries.ensures ∙ ap (λ (fds : List ℕ). entries_of fds c.args.named.now) (c.deref.ensures.value ∙ c.in_ok-maps.ensures) in
+    let entries = c.deref-2.ensures.value ∙ is in
+    subst (λ (es : List Named). IsToldBelow (slot_count code) (shapes_named es) code old new) entries c.in_ok-check_safety.ensures.told

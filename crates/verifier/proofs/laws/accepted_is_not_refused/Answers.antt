@@ -1,0 +1,5 @@
+use Rattle.verifier.proofs.OneVerdict.{not_refused}
+use Rattle.verifier.proofs.laws.accepted_is_not_refused.Goals as goal
+
+pub returns : goal.returns
+returns c = not_refused

@@ -1,0 +1,5 @@
+use Rattle.verifier.proofs.LoadedShapes.{maps_have_shapes}
+use Rattle.verifier.proofs.laws.loaded_maps_have_shapes.Goals as goal
+
+pub returns : goal.returns
+returns c = maps_have_shapes

@@ -1,0 +1,108 @@
+use Rattle.std.proofs.Common.{◌≡◌, ℕ, ◌+◌, ◌<◌, ◌≤◌, replicate, Some, None, refl, sym, subst, ap, ◌∙◌, inl, inr, arith, below_more}
+use Rattle.std.specs.Option.{option_copied}
+use Rattle.std.specs.Prelude.{IfSome}
+use Rattle.std.proofs.lemmas.Bool.{cases_lt}
+use Rattle.std.proofs.lemmas.Result.{err_from_is_err_and}
+use Rattle.insn_codec.specs.BeginLaws.{none_begins_past}
+use Rattle.insn_codec.specs.Program.{begins_at, slot_count}
+use Rattle.tagged_model.specs.Named.{shapes_named}
+use Rattle.insn_codec.specs.Flow.{jump_target}
+use Rattle.verifier.specs.Verdict.{safety_fault}
+use Rattle.verifier.specs.declared.pass.Pass.{Pass}
+use Rattle.verifier.proofs.Inflow.{IsBefore, at_start, here_is, after_insn, after_none, safety_is, safe_none, first_at}
+use Rattle.verifier.specs.Told.{IsToldBelow}
+use Rattle.verifier.proofs.Telling.{told_first, told_next, told_past, told_or_not}
+use Rattle.verifier.proofs.pass.check_safety.Goals.{in-Some+in_ok-step, in_default}
+use Rattle.verifier.proofs.pass.check_safety.Goals as goal
+
+pub loop-slot-init : goal.loop-slot-init
+loop-slot-init g c =
+    let code = c.args.program.now in
+    let count = c.slots-slots.ensures.count in
+    let filled : c.in_ok-new.field-0 ≡ replicate (slot_count code) None = c.in_ok-new.ensures ∙ ap (λ (n : ℕ). replicate n None) count in
+    let some : 1 ≤ slot_count code = subst (λ (n : ℕ). 1 ≤ n) count c.slots-slots.ensures.some in
+    record {
+      known = at_start (shapes_named c.args.named.now) code _ some (ap Some c.at_entry.ensures) filled;
+      none_below = λ n lt. absurd (omega arith);
+      told = told_first (shapes_named c.args.named.now) code _;
+    }
+
+pub returns-in_err-new-clause-refused : goal.returns-in_err-new-clause-refused
+returns-in_err-new-clause-refused g c =
+    let p = err_from_is_err_and c.from_residual.result c.from_residual.ensures.1 in
+    rw (p.1, p.2) (inl (refl, 0, told_first (shapes_named c.args.named.now) c.args.program.now (g.W.Watcher.told c.args.watcher.now)))
+
+pub step-requires-clause-lands : goal.step-requires-clause-lands
+step-requires-clause-lands g c =
+    let begins : begins_at c.args.program.now c.loop-slot.slot ≡ Some c.in-Some.insn.now = sym c.get.ensures ∙ ap option_copied c.in-Some.is in
+    subst (λ (n : ℕ). IfSome (jump_target c.in-Some.insn.now c.loop-slot.slot) (λ to. to < n)) (sym c.loop-slot.invariant.known.long)
+    (c.requires c.loop-slot.slot c.in-Some.insn.now begins)
+
+pub returns-in_err-step-clause-refused : goal.returns-in_err-step-clause-refused
+returns-in_err-step-clause-refused g c =
+    let p = err_from_is_err_and c.from_residual-in_err-step.result c.from_residual-in_err-step.ensures.1 in
+    let code = c.args.program.now in
+    let slot = c.loop-slot.slot in
+    let begins : begins_at code slot ≡ Some c.in-Some.insn.now = sym c.get.ensures ∙ ap option_copied c.in-Some.is in
+    let known = c.loop-slot.invariant.known in
+    let lt : slot < slot_count code = omega (arith, c.slots-slots.ensures.count) in
+    let here = here_is (shapes_named c.args.named.now) code slot _ known c.in-Some.insn.now begins lt in
+    let old = g.W.Watcher.told c.args.watcher.now in
+    let mid = g.W.Watcher.told c.loop-slot.watcher in
+    let new = g.W.Watcher.told c.step.new.watcher in
+    rw (p.1, p.2)
+    (elim c.in_err-step.ensures.refused [
+      | inl memory ↦
+          let (n, part) = told_or_not (shapes_named c.args.named.now) code slot c.in-Some.insn.now _ old mid new begins here c.loop-slot.invariant.told memory.1 in
+          inl (memory.0, n, part)
+      | inr told ↦
+          inr (
+            first_at (shapes_named c.args.named.now) (safety_fault (shapes_named c.args.named.now) code) c.in_err-step.field-0.0.slot slot c.in_err-step.field-0.0.reason told.0.0
+                (safety_is (shapes_named c.args.named.now) code slot c.in-Some.insn.now _ (Some c.in_err-step.field-0.0.reason) here begins told.0.1)
+                c.loop-slot.invariant.none_below,
+            subst (λ (n : ℕ). IsToldBelow (n + 1) (shapes_named c.args.named.now) code old new) (sym told.0.0)
+                (told_next (shapes_named c.args.named.now) code slot c.in-Some.insn.now _ old mid new begins here c.loop-slot.invariant.told told.1),
+          )
+    ])
+
+pub loop-slot-preserved : goal.loop-slot-preserved
+loop-slot-preserved g c =
+    let code = c.args.program.now in
+    let slot = c.loop-slot.slot in
+    let known = c.loop-slot.invariant.known in
+    let lt : slot < slot_count code = omega (arith, c.slots-slots.ensures.count) in
+    elim c.match-get.branch [
+      | in-Some+in_ok-step w ↦
+          let begins : begins_at code slot ≡ Some w.in-Some.insn.now = sym c.get.ensures ∙ ap option_copied w.in-Some.is in
+          let told = w.in_ok-step.ensures in
+          record {
+            known =
+                subst (λ (p : Pass). IsBefore (shapes_named c.args.named.now) code (slot + 1) p) (sym w.pass-is)
+                (after_insn (shapes_named c.args.named.now) c.joins_commute.ensures.facts c.joins_associate.ensures.facts code slot _ _ known w.in-Some.insn.now begins lt told.falling told.sent told.long);
+            none_below = below_more _ _ c.loop-slot.invariant.none_below (safety_is (shapes_named c.args.named.now) code slot w.in-Some.insn.now _ None (here_is (shapes_named c.args.named.now) code slot _ known w.in-Some.insn.now begins lt) begins told.ok);
+            told = told_next (shapes_named c.args.named.now) code slot w.in-Some.insn.now _ _ _ _ begins (here_is (shapes_named c.args.named.now) code slot _ known w.in-Some.insn.now begins lt) c.loop-slot.invariant.told (ap g.W.Watcher.told w.watcher-is ∙ told.told);
+          }
+      | in_default w ↦
+          let begins : begins_at code slot ≡ None = sym c.get.ensures ∙ ap option_copied w.in_default.is in
+          record {
+            known =
+                subst (λ (p : Pass). IsBefore (shapes_named c.args.named.now) code (slot + 1) p) (sym w.pass-is)
+                (after_none (shapes_named c.args.named.now) code slot _ known begins lt);
+            none_below = below_more _ _ c.loop-slot.invariant.none_below (safe_none (shapes_named c.args.named.now) code slot begins);
+            told = ap g.W.Watcher.told w.watcher-is ∙ told_past (shapes_named c.args.named.now) code slot _ _ begins c.loop-slot.invariant.told;
+          }
+    ]
+
+pub returns-clause-sound : goal.returns-clause-sound
+returns-clause-sound g c = λ n.
+    elim (cases_lt n (slot_count c.args.program.now)) [
+      | inl lt ↦ c.loop-slot.invariant.none_below n (omega arith)
+      | inr past ↦ safe_none (shapes_named c.args.named.now) c.args.program.now n (none_begins_past c.args.program.now n past)
+    ]
+
+pub returns-clause-told : goal.returns-clause-told
+returns-clause-told g c =
+    let end : c.loop-slot.slot ≡ slot_count c.args.program.now = omega (arith, c.slots-slots.ensures.count) in
+    let old = g.W.Watcher.told c.args.watcher.now in
+    let new = g.W.Watcher.told c.loop-slot.watcher in
+    subst (λ (n : ℕ). IsToldBelow n (shapes_named c.args.named.now) c.args.program.now old new) end c.loop-slot.invariant.told

@@ -1,0 +1,41 @@
+-- The facts before each slot: at slot 0 those at entry, else the join of those on all edges that lead there. Jumps lead only
+-- forward, so the facts before a slot depend on the slots below it. This project's own.
+use Rattle.std.specs.Prelude.{ℕ, zero, suc, ◌==◌, Bool, List, Option, Some, None, Result, Ok, Err, if◌then◌else◌}
+use Rattle.insn_codec.specs.declared.insn.Insn.{Insn}
+use Rattle.insn_codec.specs.Program.{begins_at}
+use Rattle.reg_kinds.specs.declared.facts.Facts.{Facts}
+use Rattle.reg_kinds.specs.declared.reason.Reason.{Reason}
+use Rattle.reg_kinds.specs.Join.{facts_join}
+use Rattle.reg_kinds.specs.Kinds.{entry}
+use Rattle.tagged_model.specs.Cells.{and_then}
+use Rattle.tagged_model.specs.Named.{Shapes}
+use Rattle.transfer.specs.Branches.{Edges}
+use Rattle.transfer.specs.Effects.{effect}
+use Rattle.verifier.specs.Shape.{falls_into, jumps_into}
+
+-- the join of the facts on two edges, either of which may have none
+abbrev pub joined : Option Facts → Option Facts → Option Facts
+joined None g = g
+joined (Some f) None = Some f
+joined (Some f) (Some g) = Some (facts_join f g)
+
+-- the facts on an edge, if it leads there
+abbrev pub only_if : Bool → Option Facts → Option Facts
+only_if leads f = if leads then f else None
+
+-- an instruction that may not be run has no edges
+abbrev pub edges_into : Insn → ℕ → ℕ → Result Edges Reason → Option Facts
+edges_into insn n i (Err reason) = None
+edges_into insn n i (Ok edges) = joined (only_if (falls_into insn n i) edges.falling) (only_if (jumps_into insn n i) edges.jumping)
+
+-- the facts that slot n passes on to slot i, from those before it
+abbrev pub facts_sent : Shapes → List Insn → ℕ → ℕ → Option Facts → Option Facts
+facts_sent shapes code n i known = and_then known (λ f. and_then (begins_at code n) (λ insn. edges_into insn n i (effect shapes n insn f)))
+
+-- the join of the facts that the slots below n pass on to slot i
+unfoldable pub facts_from_below : Shapes → List Insn → ℕ → ℕ → Option Facts
+facts_from_below shapes code i zero = if i == 0 then Some entry else None
+facts_from_below shapes code i (suc n) = joined (facts_from_below shapes code i n) (facts_sent shapes code n i (facts_from_below shapes code n n))
+
+abbrev pub facts_before : Shapes → List Insn → ℕ → Option Facts
+facts_before shapes code i = facts_from_below shapes code i i

@@ -1,0 +1,31 @@
+-- The descriptors of the maps that a program loads, or of which it loads values, and the shapes of these maps. This project's own.
+use Rattle.std.specs.Prelude.{ℕ, Bool, ◌==◌, not, List, [], ◌∷◌}
+use Rattle.std.specs.List.{list_any, filter, filter_map}
+use Rattle.insn_codec.specs.declared.insn.Insn.{Insn}
+use Rattle.tagged_model.specs.declared.shape.Named.{Named}
+use Rattle.tagged_model.specs.Named.{Shapes, shapes_named}
+use Rattle.insn_codec.specs.Flow.{descriptor}
+
+-- the descriptors other than fd
+abbrev pub without : ℕ → List ℕ → List ℕ
+without fd fds = filter (λ other. not (other == fd)) fds
+
+-- each descriptor once, in the order of their first occurrences
+unfoldable pub distinct : List ℕ → List ℕ
+distinct [] = []
+distinct (fd ∷ fds) = fd ∷ without fd (distinct fds)
+
+-- the descriptors of all loads of maps, each once, in the order of their first loads
+abbrev pub maps_of : List Insn → List ℕ
+maps_of code = distinct (filter_map descriptor code)
+
+abbrev pub is_among : List ℕ → ℕ → Bool
+is_among fds fd = list_any (λ other. other == fd) fds
+
+-- the entries of `named` with these descriptors
+abbrev pub entries_of : List ℕ → List Named → List Named
+entries_of fds named = filter (λ n. is_among fds n.fd) named
+
+-- the shapes of the maps that a program loads
+abbrev pub shapes_of : List Insn → List Named → Shapes
+shapes_of code named = shapes_named (entries_of (maps_of code) named)

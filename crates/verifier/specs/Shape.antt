@@ -1,0 +1,118 @@
+-- The shape of a program: the edges of its instructions, which of them can be reached, and what is wrong with one whatever the
+-- registers hold. The rules and their order are this project's own.
+use Rattle.std.specs.Prelude.{ℕ, zero, suc, ◌==◌, Bool, true, false, not, ◌&&◌, ◌||◌, nat_lt, nat_le, List, [], ◌∷◌, Option, Some, None, is_some, if◌then◌else◌}
+use Rattle.std.specs.Option.{option_map_or}
+use Rattle.insn_codec.specs.declared.insn.Insn.{Insn}
+use Rattle.insn_codec.specs.declared.profile.Reference.{Reference}
+use Rattle.insn_codec.specs.declared.profile.Reference.TheVariants as names
+use Rattle.insn_codec.specs.Profile.{profile}
+use Rattle.insn_codec.specs.Program.{begins_at, slot_count}
+use Rattle.reg_kinds.specs.declared.reason.Reason.{Reason}
+use Rattle.reg_kinds.specs.declared.reason.Reason.TheVariants.{JumpOutside, JumpBackward, FallsOff, Unreachable, UnknownHelper, FramePointerWritten, DescriptorNotOpen, DescriptorNotMap, NoDirectValue}
+use Rattle.tagged_model.specs.declared.shape.Named.{Named}
+use Rattle.tagged_model.specs.declared.shape.Target.{Target}
+use Rattle.tagged_model.specs.declared.shape.Target.TheVariants as target
+use Rattle.tagged_model.specs.Named.{target_of, shapes_named}
+use Rattle.tagged_model.specs.Table.{has_direct_value}
+use Rattle.tagged_model.specs.Helpers.{helper_of}
+use Rattle.insn_codec.specs.Flow.{falls_to, jumps_to, falls, jumps, written_register, descriptor}
+
+-- ---- the edges of an instruction
+
+-- an instruction begins at slot n
+abbrev pub is_first_slot : List Insn → ℕ → Bool
+is_first_slot code n = is_some (begins_at code n)
+
+abbrev pub is_slot : Option ℕ → ℕ → Bool
+is_slot None i = false
+is_slot (Some n) i = n == i
+
+-- the edges of an instruction at slot n that lead to slot i; a jump to the same or an earlier slot is no edge
+abbrev pub falls_into : Insn → ℕ → ℕ → Bool
+falls_into insn n i = falls insn && falls_to insn n == i
+
+abbrev pub jumps_into : Insn → ℕ → ℕ → Bool
+jumps_into insn n i = jumps insn && is_slot (jumps_to insn n) i && nat_lt n i
+
+abbrev pub leads_into : Option Insn → ℕ → ℕ → Bool
+leads_into None n i = false
+leads_into (Some insn) n i = falls_into insn n i || jumps_into insn n i
+
+-- ---- reachable slots: slot 0, and those to which an edge leads from a reachable slot
+
+-- i is slot 0, or an edge leads to it from a reachable slot below n
+unfoldable pub reached_from : List Insn → ℕ → ℕ → Bool
+reached_from code i zero = i == 0
+reached_from code i (suc n) = reached_from code i n || (reached_from code n n && leads_into (begins_at code n) n i)
+
+abbrev pub is_reachable : List Insn → ℕ → Bool
+is_reachable code i = reached_from code i i
+
+-- ---- the faults of an instruction
+
+-- it calls an unknown helper
+abbrev pub is_unknown_helper : Reference → Bool
+is_unknown_helper names.Nothing = false
+is_unknown_helper (names.Helper id) = not (is_some (helper_of id))
+is_unknown_helper (names.Map fd) = false
+is_unknown_helper (names.Value fd off) = false
+
+abbrev pub calls_unknown : Insn → Bool
+calls_unknown i = is_unknown_helper (profile i).reference
+
+abbrev pub is_map : Target → Bool
+is_map (target.Map shape) = true
+is_map target.Program = false
+
+abbrev pub is_not_open : List Named → Option ℕ → Bool
+is_not_open named None = false
+is_not_open named (Some fd) = not (is_some (target_of named fd))
+
+abbrev pub is_not_map : List Named → Option ℕ → Bool
+is_not_map named None = false
+is_not_map named (Some fd) = not (option_map_or is_map (target_of named fd) true)
+
+-- it loads a direct value that the map does not have
+abbrev pub is_no_value : List Named → Reference → Bool
+is_no_value named names.Nothing = false
+is_no_value named (names.Helper id) = false
+is_no_value named (names.Map fd) = false
+is_no_value named (names.Value fd off) = not (option_map_or (λ shape. has_direct_value shape off) (shapes_named named fd) true)
+
+abbrev pub lacks_value : List Named → Insn → Bool
+lacks_value named i = is_no_value named (profile i).reference
+
+abbrev pub leads_outside : List Insn → Option ℕ → Bool
+leads_outside code None = true
+leads_outside code (Some n) = not (is_first_slot code n)
+
+abbrev pub leads_backward : Option ℕ → ℕ → Bool
+leads_backward None at = true
+leads_backward (Some n) at = nat_le n at
+
+-- the reason of the first line whose condition holds
+abbrev pub first_reason : List (Bool × Reason) → Option Reason
+first_reason [] = None
+first_reason (line ∷ lines) = if line.0 then Some line.1 else first_reason lines
+
+-- the first fault of instruction i at a slot
+abbrev pub shape_reason : List Insn → List Named → Insn → ℕ → Option Reason
+shape_reason code named i at = first_reason (
+    (jumps i && leads_outside code (jumps_to i at), JumpOutside)
+    ∷ (jumps i && leads_backward (jumps_to i at) at, JumpBackward)
+    ∷ (falls i && nat_le (slot_count code) (falls_to i at), FallsOff)
+    ∷ (not (is_reachable code at), Unreachable)
+    ∷ (calls_unknown i, UnknownHelper)
+    ∷ (is_slot (written_register i) 10, FramePointerWritten)
+    ∷ (is_not_open named (descriptor i), DescriptorNotOpen)
+    ∷ (is_not_map named (descriptor i), DescriptorNotMap)
+    ∷ (lacks_value named i, NoDirectValue)
+    ∷ [])
+
+-- the fault at a slot; None if no instruction begins there
+abbrev pub shape_of : List Insn → List Named → ℕ → Option Insn → Option Reason
+shape_of code named at None = None
+shape_of code named at (Some i) = shape_reason code named i at
+
+unfoldable pub structure_fault : List Insn → List Named → ℕ → Option Reason
+structure_fault code named at = shape_of code named at (begins_at code at)

@@ -1,0 +1,52 @@
+-- What a watcher receives: each slot at which an instruction begins and facts are known, with the facts before
+-- it, in order. This project's own.
+use Rattle.std.specs.Prelude.{◌≡◌, ◌⊎◌, ℕ, zero, suc, ◌+◌, List, [], ◌++◌, Option, option_map, option_to_list}
+use Rattle.insn_codec.specs.declared.insn.Insn.{Insn}
+use Rattle.insn_codec.specs.Program.{begins_at, slot_count}
+use Rattle.reg_kinds.specs.declared.facts.Facts.{Facts}
+use Rattle.tagged_model.specs.declared.shape.Named.{Named}
+use Rattle.tagged_model.specs.Cells.{and_then}
+use Rattle.tagged_model.specs.Named.{Shapes}
+use Rattle.verifier.specs.declared.fault.VerifyFault.{VerifyFault}
+use Rattle.verifier.specs.Shape.{structure_fault}
+use Rattle.verifier.specs.Before.{facts_before}
+use Rattle.verifier.specs.Maps.{shapes_of}
+use Rattle.verifier.specs.Verdict.{HasNoFault, IsFirstFault, safety_fault, memory_fault}
+
+-- the slot with the facts before its instruction, if there are any
+abbrev pub known_at : ℕ → Option Facts → List (ℕ × Facts)
+known_at slot known = option_to_list (option_map (λ f. (slot, f)) known)
+
+-- the slots below n that a run may reach, as far as is known, in order, each with the facts before it
+unfoldable pub reached : Shapes → List Insn → ℕ → List (ℕ × Facts)
+reached shapes code zero = []
+reached shapes code (suc n) = reached shapes code n ++ known_at n (and_then (begins_at code n) (λ insn. facts_before shapes code n))
+
+-- what the watcher had received, where it is known, and more
+abbrev pub with_more : Option (List (ℕ × Facts)) → List (ℕ × Facts) → Option (List (ℕ × Facts))
+with_more told more = option_map (λ notes. notes ++ more) told
+
+-- the watcher has received the facts before the slots below n, and nothing else
+abbrev pub IsToldBelow : ℕ → Shapes → List Insn → Option (List (ℕ × Facts)) → Option (List (ℕ × Facts)) → Type 0
+IsToldBelow n shapes code old new = new ≡ with_more old (reached shapes code n)
+
+-- for an accepted program, those of all slots
+abbrev pub IsToldWhole : List Insn → List Named → Option (List (ℕ × Facts)) → Option (List (ℕ × Facts)) → Type 0
+IsToldWhole code named old new = IsToldBelow (slot_count code) (shapes_of code named) code old new
+
+-- out of memory, and the watcher has received those of the slots below some slot
+abbrev pub IsToldPart : List Insn → List Named → Option (List (ℕ × Facts)) → Option (List (ℕ × Facts)) → VerifyFault → Type 0
+IsToldPart code named old new fault = (fault ≡ memory_fault) × (n : ℕ) × IsToldBelow n (shapes_of code named) code old new
+
+-- a fault of the shape, and the watcher has received nothing
+abbrev pub IsToldOfShape : List Insn → List Named → Option (List (ℕ × Facts)) → Option (List (ℕ × Facts)) → VerifyFault → Type 0
+IsToldOfShape code named old new fault = IsFirstFault (structure_fault code named) fault.slot fault.reason × (new ≡ old)
+
+-- a fault of safety, and the watcher has received those of the slots up to the fault's
+abbrev pub IsToldOfSafety : List Insn → List Named → Option (List (ℕ × Facts)) → Option (List (ℕ × Facts)) → VerifyFault → Type 0
+IsToldOfSafety code named old new fault =
+    HasNoFault (structure_fault code named) × IsFirstFault (safety_fault (shapes_of code named) code) fault.slot fault.reason × IsToldBelow (fault.slot + 1) (shapes_of code named) code old new
+
+-- for a program that is refused
+abbrev pub IsToldRefused : List Insn → List Named → Option (List (ℕ × Facts)) → Option (List (ℕ × Facts)) → VerifyFault → Type 0
+IsToldRefused code named old new fault = IsToldPart code named old new fault ⊎ (IsToldOfShape code named old new fault ⊎ IsToldOfSafety code named old new fault)

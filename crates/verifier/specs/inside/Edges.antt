@@ -1,0 +1,39 @@
+-- The facts on each edge alone. This project's own.
+use Rattle.std.specs.Prelude.{◌≡◌, ℕ, Option, Some, None, Result, Ok, Err}
+use Rattle.insn_codec.specs.declared.insn.Insn.{Insn}
+use Rattle.reg_kinds.specs.declared.facts.Facts.{Facts}
+use Rattle.reg_kinds.specs.declared.reason.Reason.{Reason}
+use Rattle.tagged_model.specs.Cells.{and_then}
+use Rattle.tagged_model.specs.Named.{Shapes}
+use Rattle.transfer.specs.Branches.{Edges}
+use Rattle.transfer.specs.Effects.{effect}
+use Rattle.verifier.specs.declared.fault.VerifyFault.{VerifyFault}
+use Rattle.verifier.specs.Verdict.{reason_of}
+
+-- the facts on an edge out of an instruction; None if it may not be run
+abbrev pub falling_of : Result Edges Reason → Option Facts
+falling_of (Err reason) = None
+falling_of (Ok edges) = edges.falling
+
+abbrev pub jumping_of : Result Edges Reason → Option Facts
+jumping_of (Err reason) = None
+jumping_of (Ok edges) = edges.jumping
+
+-- the same from the facts before the instruction at slot n, if there are any
+abbrev pub falling_from : Shapes → ℕ → Insn → Option Facts → Option Facts
+falling_from shapes n insn known = and_then known (λ f. falling_of (effect shapes n insn f))
+
+abbrev pub jumping_from : Shapes → ℕ → Insn → Option Facts → Option Facts
+jumping_from shapes n insn known = and_then known (λ f. jumping_of (effect shapes n insn f))
+
+-- the first condition that fails for the instruction at slot n; None if there are no facts
+abbrev pub reason_from : Shapes → ℕ → Insn → Option Facts → Option Reason
+reason_from shapes n insn known = and_then known (λ f. reason_of (effect shapes n insn f))
+
+-- the instruction may be run: no condition fails (if there are no facts, no run reaches it)
+abbrev pub MayRun : Shapes → ℕ → Insn → Option Facts → Type 0
+MayRun shapes n insn known = reason_from shapes n insn known ≡ None
+
+-- it may not be run: the fault has its slot and the first condition that fails
+abbrev pub IsFaultFrom : Shapes → ℕ → Insn → Option Facts → VerifyFault → Type 0
+IsFaultFrom shapes n insn known fault = (fault.slot ≡ n) × (reason_from shapes n insn known ≡ Some fault.reason)

@@ -1,0 +1,23 @@
+-- What a watcher has received if the pass ends early. This project's own.
+use Rattle.std.specs.Prelude.{◌≡◌, ◌⊎◌, ℕ, ◌+◌, List, Option}
+use Rattle.insn_codec.specs.declared.insn.Insn.{Insn}
+use Rattle.reg_kinds.specs.declared.facts.Facts.{Facts}
+use Rattle.tagged_model.specs.Named.{Shapes}
+use Rattle.verifier.specs.declared.fault.VerifyFault.{VerifyFault}
+use Rattle.verifier.specs.inside.Edges.{IsFaultFrom}
+use Rattle.verifier.specs.Told.{known_at, with_more, IsToldBelow}
+use Rattle.verifier.specs.Verdict.{IsFirstFault, safety_fault, memory_fault}
+
+-- out of memory at a slot: the watcher has received the facts there, or not
+abbrev pub StopsTelling : Option (List (ℕ × Facts)) → Option (List (ℕ × Facts)) → ℕ → Option Facts → VerifyFault → Type 0
+StopsTelling old new slot known fault = (fault ≡ memory_fault) × ((new ≡ old) ⊎ (new ≡ with_more old (known_at slot known)))
+
+-- the instruction at a slot may not be run, and the watcher has received the facts there
+abbrev pub IsFaultTold : Shapes → ℕ → Insn → Option Facts → Option (List (ℕ × Facts)) → Option (List (ℕ × Facts)) → VerifyFault → Type 0
+IsFaultTold shapes slot insn known old new fault = IsFaultFrom shapes slot insn known fault × (new ≡ with_more old (known_at slot known))
+
+-- the first fault of safety, where the watcher has received the facts up to its slot; or out of memory at some slot
+abbrev pub IsFirstTold : Shapes → List Insn → Option (List (ℕ × Facts)) → Option (List (ℕ × Facts)) → VerifyFault → Type 0
+IsFirstTold shapes code old new fault =
+    ((fault ≡ memory_fault) × (n : ℕ) × IsToldBelow n shapes code old new)
+    ⊎ (IsFirstFault (safety_fault shapes code) fault.slot fault.reason × IsToldBelow (fault.slot + 1) shapes code old new)

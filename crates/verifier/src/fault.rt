@@ -1,0 +1,27 @@
+//! Why a program is refused.
+
+ghost use Rattle.std.specs.Prelude.{◌≡◌};
+
+use reg_kinds::Reason;
+use std::alloc::AllocError;
+
+/// The reason for which a program is refused, and the slot.
+#[derive(Clone, Copy, Debug, PartialEq, Eq)]
+pub struct VerifyFault {
+    /// The slot of the instruction; 0 if out of memory.
+    pub slot: usize,
+    pub reason: Reason,
+}
+
+impl From<AllocError> for VerifyFault {
+    ghost use Rattle.verifier.specs.Verdict.{memory_fault};
+
+    ghost from_gives = { λ _ e. e ≡ memory_fault };
+
+    fn from(_error: AllocError) -> VerifyFault {
+        VerifyFault {
+            slot: 0,
+            reason: Reason::Memory,
+        }
+    }
+}

@@ -1,0 +1,48 @@
+//! The verdict, and the maps that a program loads.
+
+ghost use Rattle.std.specs.Prelude.{◌≡◌, IfErr, IfOk, OnOk};
+ghost use Rattle.verifier.specs.Maps.{maps_of, entries_of};
+ghost use Rattle.verifier.specs.Told.{IsToldRefused, IsToldWhole};
+ghost use Rattle.verifier.specs.Verdict.{IsAccepted, IsFaultOf};
+
+use crate::fault::VerifyFault;
+use crate::maps::{entries_of, loaded_maps};
+use crate::pass::check_safety;
+use crate::shape::check_shape;
+use crate::watcher::Watcher;
+use insn_codec::Program;
+use std::alloc::Global;
+use tagged_model::Named;
+
+/// The maps that a program loads.
+#[derive(Debug, Drop)]
+pub(crate) struct LoadedMaps {
+    /// The descriptors of the maps, each once, in the order of their first loads.
+    pub(crate) maps: Vec<u32>,
+    /// The objects that these descriptors name.
+    pub(crate) entries: Vec<Named>,
+}
+
+/// Verifies a program, and passes the facts before its instructions to a watcher, as `verify_watched` does.
+pub(crate) fn judge<W: Watcher>(
+    alloc: Global,
+    program: &Program,
+    named: &[Named],
+    watcher: &mut W,
+) -> Result<LoadedMaps, VerifyFault>
+    ensures accepted { OnOk result (IsAccepted program.now named.now) }
+    ensures maps { IfOk result (λ loaded. loaded.maps.items ≡ maps_of program.now) }
+    ensures entries { IfOk result (λ loaded. loaded.entries.items
+        ≡ entries_of (maps_of program.now) named.now) }
+    ensures refused { IfErr result (IsFaultOf program.now named.now) }
+    ensures told { OnOk result
+        (IsToldWhole program.now named.now (W.told watcher.old) (W.told watcher.new)) }
+    ensures told_refused { IfErr result
+        (IsToldRefused program.now named.now (W.told watcher.old) (W.told watcher.new)) }
+{
+    check_shape(alloc, program, named)?;
+    let maps = loaded_maps(alloc, program)?;
+    let entries = entries_of(alloc, named, &maps)?;
+    check_safety(alloc, program, &entries, watcher)?;
+    Ok(LoadedMaps { maps, entries })
+}

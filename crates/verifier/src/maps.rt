@@ -1,0 +1,80 @@
+//! The maps that a program loads, including those of which it loads a value.
+
+ghost use Rattle.std.specs.Prelude.{◌≡◌, is_some, IfOk, OnOk};
+ghost use Rattle.insn_codec.specs.Program.{begins_at};
+ghost use Rattle.tagged_model.specs.Cells.{and_then};
+ghost use Rattle.insn_codec.specs.Flow.{descriptor};
+ghost use Rattle.verifier.specs.Maps.{maps_of, is_among, entries_of};
+ghost use Rattle.verifier.specs.inside.Descriptors.{with_descriptor};
+
+use insn_codec::{Insn, Program};
+use std::alloc::{AllocError, Global};
+use tagged_model::Named;
+
+/// Appends the descriptor of a load of a map, or of a value of one, unless it is listed already.
+fn add_descriptor(maps: &mut Vec<u32>, insn: &Insn) -> Result<(), AllocError>
+    ensures { OnOk result (maps.new.items ≡ with_descriptor maps.old.items (descriptor insn.now)) }
+{
+    match insn.profile().reference.descriptor() {
+        Some(fd) if !maps.contains(&fd) => maps.push(fd)?,
+        _ => {}
+    }
+    Ok(())
+}
+
+/// Appends the descriptor that the instruction at `slot` names, if one begins there and names one.
+fn add_at(maps: &mut Vec<u32>, program: &Program, slot: usize) -> Result<(), AllocError>
+    ensures { OnOk result (maps.new.items
+        ≡ with_descriptor maps.old.items (and_then (begins_at program.now slot) descriptor)) }
+{
+    match program.get(slot) {
+        Some(insn) => add_descriptor(maps, insn),
+        None => Ok(()),
+    }
+}
+
+/// Whether the instruction is a load of a map, or of a value of one.
+fn names_map(insn: &Insn) -> bool
+    ensures { result ≡ is_some (descriptor insn.now) }
+{
+    insn.profile().reference.descriptor().is_some()
+}
+
+/// The descriptors of the maps that a program loads, each once, in the order of their first loads.
+pub(crate) fn loaded_maps(alloc: Global, program: &Program) -> Result<Vec<u32>, AllocError>
+    ensures { IfOk result (λ maps. maps.items ≡ maps_of program.now) }
+{
+    program.insns_in_order();
+    let mut maps = Vec::new(alloc);
+    let code = program.code();
+    for slot in 0..code.len() {
+        if names_map(&code[slot]) {
+            add_at(&mut maps, program, slot)?;
+        }
+    }
+    Ok(maps)
+}
+
+/// Whether a descriptor is listed.
+fn is_among(maps: &[u32], fd: u32) -> bool
+    ensures { result ≡ is_among maps.now fd }
+{
+    maps.contains(&fd)
+}
+
+/// The entries of `named` with these descriptors.
+pub(crate) fn entries_of(
+    alloc: Global,
+    named: &[Named],
+    maps: &[u32],
+) -> Result<Vec<Named>, AllocError>
+    ensures { IfOk result (λ kept. kept.items ≡ entries_of maps.now named.now) }
+{
+    let mut kept = Vec::new(alloc);
+    for entry in named {
+        if is_among(maps, entry.fd) {
+            kept.push(*entry)?;
+        }
+    }
+    Ok(kept)
+}

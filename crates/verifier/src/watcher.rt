@@ -1,0 +1,36 @@
+//! Watchers, which receive the facts before each instruction.
+
+ghost use Rattle.std.specs.Prelude.{◌≡◌, ◌⊎◌, ◌∷◌, [], ℕ, List, None, OnErr, OnOk, Option};
+ghost use Rattle.reg_kinds.specs.declared.facts.Facts.{Facts as AnyFacts};
+ghost use Rattle.verifier.specs.Told.{with_more};
+
+use reg_kinds::Facts;
+use std::alloc::AllocError;
+
+/// A receiver of the facts before each instruction that a run may reach, in the pass over a program.
+pub trait Watcher {
+    // The slots and facts that it has received so far, where they are known.
+    ghost told: { Self → Option (List (ℕ × AnyFacts)) } = { λ _. None };
+
+    /// Receives the facts before the instruction at `slot`. They are borrowed from the pass.
+    ///
+    /// # Errors
+    ///
+    /// `AllocError`: out of memory. The pass ends there.
+    fn before(&mut self, slot: usize, facts: &Facts) -> Result<(), AllocError>
+        ensures ok { OnOk result
+            (told self.new ≡ with_more (told self.old) ((slot, facts.now) ∷ [])) }
+        ensures err { OnErr result ((told self.new ≡ told self.old)
+            ⊎ (told self.new ≡ with_more (told self.old) ((slot, facts.now) ∷ []))) };
+}
+
+/// A watcher that ignores what it receives.
+#[derive(Clone, Copy, Debug, Drop)]
+pub(crate) struct Unwatched;
+
+impl Watcher for Unwatched {
+    #[inline(always)]
+    fn before(&mut self, _slot: usize, _facts: &Facts) -> Result<(), AllocError> {
+        Ok(())
+    }
+}

@@ -2,6 +2,10 @@
 # Times the interpreter and the loads of programs: bench/run.sh [--rounds N] [--only WORD]. README.md, beside this file, says what
 # is printed. It wants python3, and rt, or a built program in BPFHOST.
 set -euo pipefail
+if [ "${1:-}" = --help ]; then
+    sed -n "2,3s/^# //p" "$0"
+    exit 0
+fi
 if [ -n "${BPFHOST:-}" ]; then BPFHOST=$(realpath "$BPFHOST"); fi
 cd "$(dirname "$0")/.."
 scratch=$(mktemp -d)

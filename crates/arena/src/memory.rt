@@ -1,6 +1,6 @@
 //! The arena: the memory of all tenants, with its loads, stores and copies.
 
-ghost use Rattle.std.specs.Prelude.{◌≡◌, ℕ, ◌+◌, ◌*◌, ◌^◌, ◌<◌, ◌≤◌, ◌++◌, ◌∷◌, [], length, replicate, Some, IfOk, IsSome, is_some, ◌&&◌};
+ghost use Rattle.std.specs.Prelude.{◌≡◌, ◌+◌, ◌*◌, ◌^◌, ◌<◌, ◌≤◌, ◌++◌, ◌∷◌, [], length, replicate, Some, IfOk, IsSome, is_some, ◌&&◌};
 ghost use Rattle.std.specs.Borrow.{sem};
 ghost use Rattle.arena.specs.Bytes.{IsSize};
 ghost use Rattle.arena.specs.Memory.{base, place_of, loaded, stored, copied, part_start, part_bytes, size_of};

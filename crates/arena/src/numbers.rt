@@ -1,6 +1,6 @@
 //! Little-endian numbers in byte slices.
 
-ghost use Rattle.std.specs.Prelude.{◌≡◌, ◌+◌, ◌≤◌, ◌<◌, ◌^◌, length};
+ghost use Rattle.std.specs.Prelude.{◌≡◌, ◌+◌, ◌≤◌, length};
 ghost use Rattle.words.specs.Bytes.{number_of, low_bytes};
 ghost use Rattle.arena.specs.Bytes.{bytes_at, written_at, IsSize};
 

@@ -1,6 +1,6 @@
 -- A call by words does what the machine's call does.
 use Rattle.std.proofs.Common.{◌≡◌, ◌≢◌, ℕ, ◌+◌, ◌-◌, ◌*◌, ◌<◌, ◌≤◌, ◌==◌, ◌&&◌, eqb, leb, false, List, length, slice_get, Option, Some, None, refl, sym, ap, subst, ◌∙◌, ⊎_elim, arith}
-use Rattle.std.specs.Prelude.{slice_index, slice_set, unwrap_or}
+use Rattle.std.specs.Prelude.{slice_index, unwrap_or}
 use Rattle.std.proofs.lemmas.Bool.{cond-false, ne_eqb, false≢true, and_parts, leb-true, eqb-true, eqb-false, cases_Bool}
 use Rattle.std.proofs.lemmas.Option.{same_Some, cond_some, slice_get-get_or, slice_get_within}
 use Rattle.words.specs.Bytes.{bytes_at}

@@ -1,6 +1,6 @@
 //! The deletion of a key, on words and bytes.
 
-ghost use Rattle.std.specs.Prelude.{◌≡◌, ◌<◌};
+ghost use Rattle.std.specs.Prelude.{◌<◌};
 ghost use Rattle.bpf_helpers.specs.Calls.{AreLive};
 ghost use Rattle.bpf_helpers.specs.Named.{key_named};
 ghost use Rattle.bpf_helpers.specs.States.{site_of};

@@ -1,6 +1,6 @@
 //! The look-up of a key, on words and bytes.
 
-ghost use Rattle.std.specs.Prelude.{◌≡◌, ℕ, ◌+◌, ◌-◌, ◌<◌, ◌≤◌, length, slice_index, unwrap_or, IfSome, IsSome};
+ghost use Rattle.std.specs.Prelude.{◌≡◌, ◌+◌, ◌-◌, ◌<◌, ◌≤◌, length, slice_index, unwrap_or, IfSome};
 ghost use Rattle.arena.specs.Ranges.{IsInside};
 ghost use Rattle.bpf_maps.specs.declared.part.TheConstants.{PART};
 ghost use Rattle.bpf_helpers.specs.Named.{bound_map, place_named};

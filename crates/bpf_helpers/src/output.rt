@@ -1,7 +1,6 @@
 //! Bytes that a helper writes to a tenant's part.
 
 ghost use Rattle.std.specs.Prelude.{◌≡◌, ◌+◌, ◌<◌, ◌≤◌, length, replicate};
-ghost use Rattle.tagged_model.specs.Helpers.{negative};
 ghost use Rattle.arena.specs.Memory.{part_start, with_bytes};
 ghost use Rattle.bpf_maps.specs.declared.part.TheConstants.{PART};
 ghost use Rattle.bpf_maps.specs.Live.{LiveMaps};

@@ -1,6 +1,6 @@
 //! A tenant's live maps, each at a place.
 
-ghost use Rattle.std.specs.Prelude.{◌≡◌, ◌≢◌, ℕ, ◌+◌, ◌-◌, ◌<◌, ◌≤◌, ◌^◌, ◌⊎◌, ◌||◌, true, false, if◌then◌else◌, [], length, take, replicate, option_map, Some, None, IfSome, IfNone, IfOk, OnErr, IsSome};
+ghost use Rattle.std.specs.Prelude.{◌≡◌, ◌≢◌, ℕ, ◌+◌, ◌-◌, ◌<◌, ◌≤◌, ◌^◌, ◌⊎◌, ◌||◌, true, false, [], length, take, replicate, option_map, Some, None, IfSome, IfOk, OnErr, IsSome};
 ghost use Rattle.tagged_model.specs.declared.shape.MapKind.TheVariants.{Array};
 ghost use Rattle.tagged_model.specs.Table.{look_up, verdict, removal, next_of, new_table};
 ghost use Rattle.bpf_maps.specs.declared.part.TheConstants.{PART, STACK_AND_CONTEXT, MAPS, LARGEST_SUM};

@@ -7,7 +7,7 @@ use Rattle.std.proofs.lemmas.List.{reverse-reverse}
 use Rattle.std.proofs.lemmas.List.Splits.{slice_split_at}
 use Rattle.hex.specs.Hex.{encode_with, encode_lower, decode_sized, is_hex_digit, IsBytes}
 use Rattle.hex.proofs.HexLemmas.{decode_sized-encode_lower, IsOk-decode_sized}
-use Rattle.insn_codec.specs.declared.TheConstants.{MAX_SLOTS}
+use Rattle.insn_set.specs.declared.TheConstants.{MAX_SLOTS}
 use Rattle.text_line.specs.Blanks.{is_blank, skip_blanks, stripped}
 use Rattle.bpf_text.specs.Lines.{text_lines}
 use Rattle.bpf_text.specs.HexText.{hex_text, hex_line, hex_bytes, hex_fault, hex_fault_of, hex_fault_at, IsHexText}

@@ -12,7 +12,7 @@ use Rattle.std.proofs.lemmas.Bool.{cases_lt, le-ltb, le-leb, lt-ltb}
 use Rattle.bpf_text.proofs.Faults.{fault_on_line}
 use Rattle.hex.specs.Hex.{encode_lower, decode_sized}
 use Rattle.hex.specs.declared.error.FromHexError.{FromHexError}
-use Rattle.insn_codec.specs.declared.TheConstants.{MAX_SLOTS}
+use Rattle.insn_set.specs.declared.TheConstants.{MAX_SLOTS}
 use Rattle.text_line.specs.Blanks.{stripped}
 use Rattle.bpf_text.specs.declared.fault.TextFaultKind.{TextFaultKind}
 use Rattle.bpf_text.specs.HexText.{hex_text, hex_digits, hex_line, hex_fault, hex_fault_at, hex_fault_of, hex_bytes}

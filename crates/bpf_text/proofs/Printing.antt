@@ -4,8 +4,8 @@ use Rattle.std.specs.Fmt.{decimal}
 use Rattle.std.specs.Option.{option_to_list}
 use Rattle.std.specs.Prelude.{Option, Some, None, codes, true}
 use Rattle.std.proofs.lemmas.List.Concat.{flat_map-append}
-use Rattle.insn_codec.specs.declared.insn.Insn.{Insn}
-use Rattle.insn_codec.specs.declared.insn.Insn.TheVariants.{MapValue}
+use Rattle.insn_set.specs.declared.insn.Insn.{Insn}
+use Rattle.insn_set.specs.declared.insn.Insn.TheVariants.{MapValue}
 use Rattle.text_line.specs.Token.{number}
 use Rattle.text_line.specs.Names.{register_name}
 use Rattle.text_line.specs.Form.{TokenLayout, constant, sign, word, space}

@@ -9,17 +9,17 @@ use Rattle.words.specs.declared.operator.ByteOrder.{ByteOrder}
 use Rattle.words.specs.declared.operator.ByteOrder.TheVariants.{Little, Big, Swap}
 use Rattle.words.specs.declared.stack.AccessSize.{AccessSize}
 use Rattle.words.specs.declared.stack.AccessSize.TheVariants as size
-use Rattle.insn_codec.specs.declared.insn.Operand.{Operand}
-use Rattle.insn_codec.specs.declared.insn.Operand.TheVariants.{Imm, Reg}
-use Rattle.insn_codec.specs.declared.insn.Insn.{Insn}
-use Rattle.insn_codec.specs.declared.insn.Insn.TheVariants.{Alu, Movsx, Neg, End, Ja, Jal, Jump, Call, Exit, Load, Store, Atomic, Const, MapFd, MapValue}
-use Rattle.insn_codec.specs.declared.slot.SlotFields.{SlotFields}
-use Rattle.insn_codec.specs.Slot.{slot, slot_bytes}
-use Rattle.insn_codec.specs.Atomic.{access_size}
-use Rattle.insn_codec.specs.Numbers.{opcode, alu_number, alu_class, end_opcode, size_number, load_mode, memory_opcode}
-use Rattle.insn_codec.specs.Spelling.{source_bit, src_field, first, spelling, IsInsn, IsOperand}
-use Rattle.insn_codec.specs.Program.{program_bytes, slot_count, IsProgram}
-use Rattle.insn_codec.specs.SpellingLaws.{condition_number_le, alu_class_le, jump_class_le, length-program_bytes}
+use Rattle.insn_set.specs.declared.insn.Operand.{Operand}
+use Rattle.insn_set.specs.declared.insn.Operand.TheVariants.{Imm, Reg}
+use Rattle.insn_set.specs.declared.insn.Insn.{Insn}
+use Rattle.insn_set.specs.declared.insn.Insn.TheVariants.{Alu, Movsx, Neg, End, Ja, Jal, Jump, Call, Exit, Load, Store, Atomic, Const, MapFd, MapValue}
+use Rattle.insn_set.specs.declared.slot.SlotFields.{SlotFields}
+use Rattle.insn_set.specs.Slot.{slot, slot_bytes}
+use Rattle.insn_set.specs.Atomic.{access_size}
+use Rattle.insn_set.specs.Numbers.{opcode, alu_number, alu_class, end_opcode, size_number, load_mode, memory_opcode}
+use Rattle.insn_set.specs.Spelling.{source_bit, src_field, first, spelling, IsInsn, IsOperand}
+use Rattle.insn_set.specs.Program.{program_bytes, slot_count, IsProgram}
+use Rattle.insn_set.specs.SpellingLaws.{condition_number_le, alu_class_le, jump_class_le, length-program_bytes}
 use Rattle.bpf_text.specs.HexText.{hex_text, IsHexText}
 use Rattle.bpf_text.proofs.HexLaw.{hex_text_is_read}
 

@@ -6,10 +6,10 @@ use Rattle.std.proofs.lemmas.Bool.{false_from_ne_true, le-ltb}
 use Rattle.std.proofs.lemmas.Bool.Decides.{Decides-eqb}
 use Rattle.std.proofs.lemmas.List.Splits.{slice_split_at}
 use Rattle.std.proofs.lemmas.List.Sums.{sum_by-cons}
-use Rattle.insn_codec.specs.declared.TheConstants.{MAX_SLOTS}
-use Rattle.insn_codec.specs.declared.insn.Insn.{Insn}
-use Rattle.insn_codec.specs.Spelling.{slots, IsInsn}
-use Rattle.insn_codec.specs.Program.{slot_count}
+use Rattle.insn_set.specs.declared.TheConstants.{MAX_SLOTS}
+use Rattle.insn_set.specs.declared.insn.Insn.{Insn}
+use Rattle.insn_set.specs.Spelling.{slots, IsInsn}
+use Rattle.insn_set.specs.Program.{slot_count}
 use Rattle.text_line.specs.declared.form.Form.{Form}
 use Rattle.text_line.specs.Line.{Line, blank, code, ReadAs}
 use Rattle.text_line.specs.Form.{names_label}

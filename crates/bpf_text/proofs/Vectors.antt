@@ -2,11 +2,11 @@
 use Rattle.std.specs.Prelude.{◌≡◌, ℕ, [], ◌∷◌, codes, Bool, true, false, pos, negsuc, refl, Option, Some, None}
 use Rattle.words.specs.declared.operator.AluOp.TheVariants.{Mov}
 use Rattle.words.specs.declared.operator.Condition.TheVariants.{SignedBelow}
-use Rattle.insn_codec.specs.declared.insn.Operand.TheVariants.{Imm, Reg}
+use Rattle.insn_set.specs.declared.insn.Operand.TheVariants.{Imm, Reg}
 use Rattle.words.specs.declared.stack.AccessSize.TheVariants.{Half, Byte}
-use Rattle.insn_codec.specs.declared.insn.AtomicSize.TheVariants as atomic_size
-use Rattle.insn_codec.specs.declared.insn.AtomicOp.TheVariants as atomic
-use Rattle.insn_codec.specs.declared.insn.Insn.TheVariants.{Alu, Jump, Exit, Load, Store, Atomic, Const, MapFd, MapValue}
+use Rattle.insn_set.specs.declared.insn.AtomicSize.TheVariants as atomic_size
+use Rattle.insn_set.specs.declared.insn.AtomicOp.TheVariants as atomic
+use Rattle.insn_set.specs.declared.insn.Insn.TheVariants.{Alu, Jump, Exit, Load, Store, Atomic, Const, MapFd, MapValue}
 use Rattle.std.specs.Fmt.{digits}
 use Rattle.hex.proofs.OnLiterals.{hex_on_literals}
 use Rattle.text_line.specs.declared.form.Form.{Form}

@@ -3,7 +3,7 @@ use Rattle.std.specs.Prelude.{◌≡◌, ℕ, ◌+◌, ◌*◌, ◌<◌, ◌==�
 use Rattle.std.specs.List.{flat_map}
 use Rattle.std.specs.Result.{result_ok}
 use Rattle.hex.specs.Hex.{encode_lower, decode_sized}
-use Rattle.insn_codec.specs.declared.TheConstants.{MAX_SLOTS}
+use Rattle.insn_set.specs.declared.TheConstants.{MAX_SLOTS}
 use Rattle.bpf_text.specs.declared.fault.TextFault.{TextFault}
 use Rattle.bpf_text.specs.declared.fault.TextFaultKind.{TextFaultKind}
 use Rattle.bpf_text.specs.declared.fault.TextFaultKind.TheVariants.{Syntax, TooLong}

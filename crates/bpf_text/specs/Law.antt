@@ -1,7 +1,7 @@
 -- The statements of the laws of texts. This project's own.
 use Rattle.std.specs.Prelude.{◌≡◌, ℕ, List}
-use Rattle.insn_codec.specs.declared.insn.Insn.{Insn}
-use Rattle.insn_codec.specs.Program.{program_bytes, IsProgram}
+use Rattle.insn_set.specs.declared.insn.Insn.{Insn}
+use Rattle.insn_set.specs.Program.{program_bytes, IsProgram}
 use Rattle.bpf_text.specs.declared.fault.TextFault.{TextFault}
 use Rattle.bpf_text.specs.Assembly.{IsAssembled, IsOwnFault}
 use Rattle.bpf_text.specs.HexText.{hex_text, IsHexText}

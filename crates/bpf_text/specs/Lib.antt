@@ -6,4 +6,4 @@ pub mod Assembly
 pub mod inside
 pub mod Law
 -- what public contracts cite of crates below
-pub use Rattle.insn_codec.specs.Program
+pub use Rattle.insn_set.specs.Program

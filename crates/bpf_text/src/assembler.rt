@@ -3,10 +3,9 @@
 ghost use Rattle.std.specs.Prelude.{◌≡◌, ◌<◌, ◌≤◌, ◌⊎◌, ℕ, List, length, map, option_map, Some, None, if◌then◌else◌, IfOk, OnOk, IfErr, IsErrAnd, MatchResult};
 ghost use Rattle.std.specs.List.{AllByRecursion};
 ghost use Rattle.std.specs.Option.{option_to_list};
-ghost use Rattle.insn_codec.specs.Program.{slot_count};
-ghost use Rattle.insn_codec.specs.declared.insn.Insn.{Insn as AnyInsn};
-ghost use Rattle.text_line.specs.Line.{ReadAs};
-ghost use Rattle.text_line.specs.Shown.{seen_line, seen_option, seen_lines};
+ghost use Rattle.insn_set.specs.Program.{slot_count};
+ghost use Rattle.insn_set.specs.declared.insn.Insn.{Insn as AnyInsn};
+ghost use Rattle.text_line.specs.Shown.{seen_option, seen_lines};
 ghost use Rattle.bpf_text.specs.declared.fault.TextFault.{TextFault as AnyFault};
 ghost use Rattle.bpf_text.specs.Fault.{IsFirstFaultyLine, memory_fault, empty_fault};
 ghost use Rattle.bpf_text.specs.Assembly.{AreRead, IsAssembled, IsOwnFault, line_slots, slots_on, defines, fault_at, forms_from};

@@ -3,8 +3,7 @@
 ghost use Rattle.std.specs.Prelude.{◌≡◌, ◌≢◌, ◌+◌, ◌*◌, ◌<◌, ◌≤◌, ◌++◌, [], ◌⊎◌, ℕ, List, length, map, vec_len, IfOk, OnOk, IfErr, IsErrAnd, MatchResult, Some, None, unwrap_or};
 ghost use Rattle.bpf_text.specs.declared.fault.TextFaultKind.TheVariants.{Memory};
 ghost use Rattle.std.specs.String.{string_bytes};
-ghost use Rattle.insn_codec.specs.Program.{program_bytes};
-ghost use Rattle.bpf_text.specs.Lines.{text_lines};
+ghost use Rattle.insn_set.specs.Program.{program_bytes};
 ghost use Rattle.bpf_text.specs.Fault.{IsFirstFaultyLine, NoneBelow, memory_fault};
 ghost use Rattle.bpf_text.specs.declared.fault.TextFault.{TextFault as AnyFault};
 ghost use Rattle.bpf_text.specs.HexText.{hex_text, hex_line, hex_bytes, hex_fault, hex_fault_at, IsHexText, IsHexFault};

@@ -3,7 +3,7 @@ use Rattle.std.proofs.Common.{◌≡◌, ◌⊎◌, ◌∙◌, ℕ, List, ap, sy
 use Rattle.bpf_text.specs.Fault.{memory_fault}
 use Rattle.bpf_text.specs.HexText.{IsHexText, IsHexFault}
 use Rattle.bpf_text.specs.declared.fault.TextFault.{TextFault}
-use Rattle.insn_codec.specs.Program.{IsMemoryFault, IsProgramFault}
+use Rattle.insn_codec.specs.ProgramFault.{IsMemoryFault, IsProgramFault}
 use Rattle.insn_codec.specs.declared.fault.CodecFault.{CodecFault}
 use Rattle.host.specs.program.Failure.{codec_failure}
 use Rattle.host.specs.program.Statuses.{text_failure}

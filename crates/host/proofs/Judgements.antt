@@ -1,6 +1,6 @@
 -- There is one judgement of an input.
 use Rattle.std.proofs.Common.{◌≡◌, ◌⊎◌, ◌∙◌, ◌+◌, ℕ, List, Result, Ok, Err, IfOk, IfErr, MatchResult, ap, ap₂, sym, subst, refl, inl, inr}
-use Rattle.insn_codec.specs.declared.insn.Insn.{Insn}
+use Rattle.insn_set.specs.declared.insn.Insn.{Insn}
 use Rattle.reg_kinds.specs.Reason.{number as reason_number}
 use Rattle.reg_kinds.specs.declared.reason.Reason.{Reason}
 use Rattle.tagged_model.specs.declared.shape.Named.{Named}

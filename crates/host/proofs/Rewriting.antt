@@ -3,7 +3,7 @@ use Rattle.std.proofs.Common.{◌≡◌, ◌⊎◌, ◌∙◌, ℕ, List, ap, sy
 use Rattle.bpf_text.specs.Assembly.{IsAssembled, IsOwnFault}
 use Rattle.bpf_text.specs.Fault.{memory_fault}
 use Rattle.bpf_text.specs.declared.fault.TextFault.{TextFault}
-use Rattle.insn_codec.specs.declared.insn.Insn.{Insn}
+use Rattle.insn_set.specs.declared.insn.Insn.{Insn}
 use Rattle.host.specs.program.Statuses.{text_failure}
 use Rattle.host.specs.inside.program.Rewriting.{IsAssembly, IsNoText, IsTextRefused}
 use Rattle.host.specs.declared.program.failure.Failure.{Failure}

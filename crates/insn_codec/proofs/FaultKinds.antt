@@ -4,18 +4,18 @@ use Rattle.std.specs.Prelude.{not, nat_lt, ◌==◌, if◌then◌else◌, slice_
 use Rattle.std.specs.List.{flat_map}
 use Rattle.std.proofs.lemmas.List.{take-append-drop, length-take}
 use Rattle.std.proofs.Math.Seq.{take-append_seam}
-use Rattle.insn_codec.specs.declared.insn.Operand.{Operand}
-use Rattle.insn_codec.specs.declared.insn.Operand.TheVariants.{Imm, Reg}
-use Rattle.insn_codec.specs.declared.insn.Insn.{Insn}
-use Rattle.insn_codec.specs.declared.insn.Insn.TheVariants.{Alu, Movsx, Neg, End, Ja, Jal, Jump, Call, Exit, Load, Store, Atomic, Const, MapFd, MapValue}
+use Rattle.insn_set.specs.declared.insn.Operand.{Operand}
+use Rattle.insn_set.specs.declared.insn.Operand.TheVariants.{Imm, Reg}
+use Rattle.insn_set.specs.declared.insn.Insn.{Insn}
+use Rattle.insn_set.specs.declared.insn.Insn.TheVariants.{Alu, Movsx, Neg, End, Ja, Jal, Jump, Call, Exit, Load, Store, Atomic, Const, MapFd, MapValue}
 use Rattle.insn_codec.specs.declared.fault.CodecFault.{CodecFault}
 use Rattle.insn_codec.specs.declared.fault.FaultKind.{FaultKind}
 use Rattle.insn_codec.specs.declared.fault.FaultKind.TheVariants.{Opcode, Reserved, Register, SecondSlot, Ragged, Empty, TooLong, Memory}
-use Rattle.insn_codec.specs.declared.TheConstants.{MAX_SLOTS}
-use Rattle.insn_codec.specs.Slot.{slot_bytes}
-use Rattle.insn_codec.specs.Spelling.{first, second, spelling, IsOperandUpTo, IsInsnUpTo, Begins}
+use Rattle.insn_set.specs.declared.TheConstants.{MAX_SLOTS}
+use Rattle.insn_set.specs.Slot.{slot_bytes}
+use Rattle.insn_set.specs.Spelling.{first, second, spelling, IsOperandUpTo, IsInsnUpTo, Begins}
 use Rattle.insn_codec.specs.Fault.{HasFirstSlot, HasInsn, HasOpcode, HasFault}
-use Rattle.insn_codec.specs.Program.{empty_fault, too_long_fault, length_fault, IsProgramFault}
+use Rattle.insn_codec.specs.ProgramFault.{empty_fault, too_long_fault, length_fault, IsProgramFault}
 use Rattle.insn_codec.proofs.KnownOpcodes.{known_first}
 
 -- ---- what follows from what

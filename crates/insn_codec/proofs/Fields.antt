@@ -3,7 +3,7 @@ use Rattle.std.proofs.Common.{◌≡◌, ℕ, ◌+◌, ◌^◌, ◌<◌, ◌≤�
 use Rattle.std.specs.Prelude.{IsTrue, FitsSigned, ℤ, is_some}
 use Rattle.std.specs.Int.{w16, w32}
 use Rattle.std.proofs.lemmas.Int.{ints}
-use Rattle.insn_codec.specs.declared.slot.SlotFields.{SlotFields}
+use Rattle.insn_set.specs.declared.slot.SlotFields.{SlotFields}
 use Rattle.words.specs.declared.operator.AluOp.{AluOp}
 use Rattle.words.specs.declared.operator.AluOp.TheVariants as op
 use Rattle.words.specs.declared.operator.ByteOrder.{ByteOrder}
@@ -11,22 +11,22 @@ use Rattle.words.specs.declared.operator.KeptBits.{KeptBits}
 use Rattle.words.specs.declared.operator.KeptBits.TheVariants as bits
 use Rattle.words.specs.declared.operator.ExtendedBits.{ExtendedBits}
 use Rattle.words.specs.declared.operator.ExtendedBits.TheVariants as narrow
-use Rattle.insn_codec.specs.declared.insn.AtomicOp.{AtomicOp}
-use Rattle.insn_codec.specs.declared.insn.AtomicOp.TheVariants as atomic
-use Rattle.insn_codec.specs.declared.insn.Operand.{Operand}
-use Rattle.insn_codec.specs.declared.insn.Operand.TheVariants as operand
-use Rattle.insn_codec.specs.declared.insn.Insn.{Insn}
-use Rattle.insn_codec.specs.declared.insn.Insn.TheVariants.{Alu, Movsx, Neg, End, Ja, Jal, Jump, Call, Exit, Load, Store, Atomic, Const, MapFd, MapValue}
+use Rattle.insn_set.specs.declared.insn.AtomicOp.{AtomicOp}
+use Rattle.insn_set.specs.declared.insn.AtomicOp.TheVariants as atomic
+use Rattle.insn_set.specs.declared.insn.Operand.{Operand}
+use Rattle.insn_set.specs.declared.insn.Operand.TheVariants as operand
+use Rattle.insn_set.specs.declared.insn.Insn.{Insn}
+use Rattle.insn_set.specs.declared.insn.Insn.TheVariants.{Alu, Movsx, Neg, End, Ja, Jal, Jump, Call, Exit, Load, Store, Atomic, Const, MapFd, MapValue}
 use Rattle.insn_codec.specs.declared.opcode.SourceBit.TheVariants as source
 use Rattle.insn_codec.specs.declared.opcode.AluCode.TheVariants as code
 use Rattle.insn_codec.specs.declared.form.OpcodeForm.TheVariants as form
-use Rattle.insn_codec.specs.Sizes.{is_short}
-use Rattle.insn_codec.specs.Numbers.{opcode, alu_class, jump_class, alu_number, alu_offset, condition_number, end_opcode, memory_opcode, atomic_number, offset_bits, imm_bits}
+use Rattle.insn_set.specs.Sizes.{is_short}
+use Rattle.insn_set.specs.Numbers.{opcode, alu_class, jump_class, alu_number, alu_offset, condition_number, end_opcode, memory_opcode, atomic_number, offset_bits, imm_bits}
 use Rattle.words.specs.Operate.{extended_bits, kept_bits}
 use Rattle.insn_codec.specs.inside.Form.{listed, one_operand, offset_listed}
-use Rattle.insn_codec.specs.Slot.{slot}
+use Rattle.insn_set.specs.Slot.{slot}
 use Rattle.insn_codec.proofs.Slots.{IsSlot}
-use Rattle.insn_codec.specs.Spelling.{first, source_bit, src_field, imm_field, IsOperandUpTo, IsInsnUpTo}
+use Rattle.insn_set.specs.Spelling.{first, source_bit, src_field, imm_field, IsOperandUpTo, IsInsnUpTo}
 use Rattle.insn_codec.proofs.Opcodes.{code_of, source_of, form_of, atomic_again}
 
 -- ---- which the form lists

@@ -3,7 +3,7 @@ use Rattle.std.proofs.Common.{◌≡◌, ℕ, ◌<◌, ◌≤◌, Bool, true, fa
 use Rattle.std.proofs.lemmas.Bool.{both_ways, and_cases, and_parts, le-leb, leb-true, leb-false, ltb-true, ltb-false}
 use Rattle.std.proofs.lemmas.List.{take-append-drop}
 use Rattle.std.proofs.lemmas.Option.{none-some, same_Some}
-use Rattle.insn_codec.specs.declared.slot.SlotFields.{SlotFields}
+use Rattle.insn_set.specs.declared.slot.SlotFields.{SlotFields}
 use Rattle.insn_codec.specs.declared.fault.FaultKind.{FaultKind}
 use Rattle.insn_codec.specs.declared.fault.FaultKind.TheVariants.{Opcode, Reserved, Register, SecondSlot, Ragged}
 use Rattle.insn_codec.specs.declared.opcode.WideKind.{WideKind}
@@ -11,9 +11,9 @@ use Rattle.insn_codec.specs.declared.form.OpcodeForm.{OpcodeForm}
 use Rattle.insn_codec.specs.declared.form.OpcodeForm.TheVariants as form
 use Rattle.insn_codec.specs.inside.Form.{wide_at, form_at, listed}
 use Rattle.insn_codec.specs.inside.FirstFault.{is_second, next_fault, second_fault, fault_in_form, fault_by_form, first_fault}
-use Rattle.insn_codec.specs.Slot.{slot_bytes}
-use Rattle.insn_codec.specs.inside.Slots.{slot_of}
-use Rattle.insn_codec.specs.Spelling.{first}
+use Rattle.insn_set.specs.Slot.{slot_bytes}
+use Rattle.insn_set.specs.Slot.{slot_of}
+use Rattle.insn_set.specs.Spelling.{first}
 use Rattle.insn_codec.specs.Fault.{HasFirstSlot, HasInsn, HasFault}
 use Rattle.insn_codec.proofs.Slots.{IsBytes, slot_of-append, slot_bytes-slot_of, IsSlot-slot_of}
 use Rattle.insn_codec.proofs.Opcodes.{form_of, form_at-first}

@@ -5,13 +5,13 @@ use Rattle.std.specs.Int.{w16, w32, cast_signed}
 use Rattle.std.proofs.Math.Facts.{sfits_to_z}
 use Rattle.std.proofs.lemmas.Bool.{and_parts, or_cases, or_left, or_right, cond_both, eqb-true, eqb-false, leb-true, ltb-true, ltb-false}
 use Rattle.std.proofs.lemmas.Int.{of_z-to_z}
-use Rattle.insn_codec.specs.declared.slot.SlotFields.{SlotFields}
+use Rattle.insn_set.specs.declared.slot.SlotFields.{SlotFields}
 use Rattle.words.specs.declared.operator.AluOp.TheVariants as op
 use Rattle.words.specs.declared.operator.ExtendedBits.{ExtendedBits}
 use Rattle.words.specs.declared.operator.ExtendedBits.TheVariants as narrow
-use Rattle.insn_codec.specs.declared.insn.Insn.TheVariants.{Alu}
-use Rattle.insn_codec.specs.declared.insn.AtomicOp.{AtomicOp}
-use Rattle.insn_codec.specs.declared.insn.AtomicOp.TheVariants as atomic
+use Rattle.insn_set.specs.declared.insn.Insn.TheVariants.{Alu}
+use Rattle.insn_set.specs.declared.insn.AtomicOp.{AtomicOp}
+use Rattle.insn_set.specs.declared.insn.AtomicOp.TheVariants as atomic
 use Rattle.insn_codec.specs.declared.opcode.SourceBit.{SourceBit}
 use Rattle.insn_codec.specs.declared.opcode.SourceBit.TheVariants as source
 use Rattle.insn_codec.specs.declared.opcode.AluCode.{AluCode}
@@ -22,16 +22,16 @@ use Rattle.insn_codec.specs.declared.opcode.WideKind.{WideKind}
 use Rattle.insn_codec.specs.declared.opcode.WideKind.TheVariants.{Number, Map, MapValue}
 use Rattle.insn_codec.specs.declared.form.OpcodeForm.{OpcodeForm}
 use Rattle.insn_codec.specs.declared.form.OpcodeForm.TheVariants as form
-use Rattle.insn_codec.specs.Sizes.{is_short}
-use Rattle.insn_codec.specs.Atomic.{access_size}
-use Rattle.insn_codec.specs.Numbers.{opcode, alu_class, jump_class, alu_number, alu_offset, condition_number, end_opcode, memory_opcode, atomic_number, offset_bits, imm_bits, source_number}
+use Rattle.insn_set.specs.Sizes.{is_short}
+use Rattle.insn_set.specs.Atomic.{access_size}
+use Rattle.insn_set.specs.Numbers.{opcode, alu_class, jump_class, alu_number, alu_offset, condition_number, end_opcode, memory_opcode, atomic_number, offset_bits, imm_bits}
 use Rattle.words.specs.Operate.{extended_bits, kept_bits}
 use Rattle.insn_codec.specs.inside.Opcodes.{code_number, load_opcode, opcode_of}
 use Rattle.insn_codec.specs.inside.Form.{listed, one_operand, offset_listed, wide_at, atomic_at}
-use Rattle.insn_codec.specs.Slot.{slot}
-use Rattle.insn_codec.specs.Spelling.{first, source_bit, src_field, imm_field, IsOperandUpTo, IsInsnUpTo}
+use Rattle.insn_set.specs.Slot.{slot}
+use Rattle.insn_set.specs.Spelling.{first, source_bit, src_field, imm_field, IsOperandUpTo, IsInsnUpTo}
 use Rattle.insn_codec.proofs.ReadBack.{op_at, narrow_at, bits_at, movsx_at, load_insn, atomic_insn, wide_insn, insn_at}
-use Rattle.insn_codec.specs.Spelled.{operand_at}
+use Rattle.insn_codec.specs.Spelled.{operand_at, source_number}
 
 slot_same : (s : SlotFields) (op dst src offset imm : ℕ) → op ≡ s.opcode → dst ≡ s.dst → src ≡ s.src → offset ≡ s.offset → imm ≡ s.imm → slot op dst src offset imm ≡ s
 slot_same s op dst src offset imm a b c d e = rw (a, b, c, d, e) refl

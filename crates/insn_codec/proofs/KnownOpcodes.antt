@@ -6,20 +6,20 @@ use Rattle.std.specs.List.{slice_index}
 use Rattle.std.proofs.lemmas.Bool.{agree_below_at, eqb-true}
 use Rattle.std.proofs.lemmas.Int.{ints}
 use Rattle.std.proofs.lemmas.Option.{none-some}
-use Rattle.insn_codec.specs.declared.slot.SlotFields.{SlotFields}
+use Rattle.insn_set.specs.declared.slot.SlotFields.{SlotFields}
 use Rattle.words.specs.declared.operator.KeptBits.TheVariants as bits
-use Rattle.insn_codec.specs.declared.insn.AtomicOp.TheVariants as atomic
-use Rattle.insn_codec.specs.declared.insn.Insn.{Insn}
-use Rattle.insn_codec.specs.declared.insn.Insn.TheVariants.{Alu, Neg, End, Ja, Jal, Jump, Call, Exit, Store, Atomic, Const}
+use Rattle.insn_set.specs.declared.insn.AtomicOp.TheVariants as atomic
+use Rattle.insn_set.specs.declared.insn.Insn.{Insn}
+use Rattle.insn_set.specs.declared.insn.Insn.TheVariants.{Alu, Neg, End, Ja, Jal, Jump, Call, Exit, Store, Atomic, Const}
 use Rattle.insn_codec.specs.declared.opcode.SourceBit.{SourceBit}
 use Rattle.insn_codec.specs.declared.opcode.SourceBit.TheVariants as source
 use Rattle.insn_codec.specs.declared.opcode.LoadKind.{LoadKind}
 use Rattle.insn_codec.specs.declared.opcode.LoadKind.TheVariants as load
 use Rattle.insn_codec.specs.declared.form.OpcodeForm.{OpcodeForm}
 use Rattle.insn_codec.specs.declared.form.OpcodeForm.TheVariants as form
-use Rattle.insn_codec.specs.Slot.{slot}
-use Rattle.insn_codec.specs.inside.Slots.{slot_of}
-use Rattle.insn_codec.specs.Spelling.{first, spelling, IsOperand, IsInsn}
+use Rattle.insn_set.specs.Slot.{slot}
+use Rattle.insn_set.specs.Slot.{slot_of}
+use Rattle.insn_set.specs.Spelling.{first, spelling, IsOperand, IsInsn}
 use Rattle.insn_codec.specs.Fault.{HasOpcode}
 use Rattle.insn_codec.specs.inside.Opcodes.{load_opcode, opcode_of}
 use Rattle.insn_codec.specs.inside.Form.{form_at}

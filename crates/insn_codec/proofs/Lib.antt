@@ -6,7 +6,6 @@ pub mod ReadBack
 pub mod FromSlot
 pub mod KnownOpcodes
 pub mod ByOpcode
-pub mod Profiles
 pub mod PrefixFree
 pub mod OneMore
 pub mod FaultKinds

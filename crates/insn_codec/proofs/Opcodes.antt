@@ -8,13 +8,13 @@ use Rattle.words.specs.declared.operator.Condition.{Condition}
 use Rattle.words.specs.declared.operator.Condition.TheVariants as conditions
 use Rattle.words.specs.declared.stack.AccessSize.{AccessSize}
 use Rattle.words.specs.declared.stack.AccessSize.TheVariants as size
-use Rattle.insn_codec.specs.declared.insn.AtomicSize.TheVariants as atomic_size
-use Rattle.insn_codec.specs.declared.insn.AtomicOp.{AtomicOp}
-use Rattle.insn_codec.specs.declared.insn.AtomicOp.TheVariants as atomic
-use Rattle.insn_codec.specs.declared.insn.Operand.{Operand}
-use Rattle.insn_codec.specs.declared.insn.Operand.TheVariants as operand
-use Rattle.insn_codec.specs.declared.insn.Insn.{Insn}
-use Rattle.insn_codec.specs.declared.insn.Insn.TheVariants.{Alu, Movsx, Neg, End, Ja, Jal, Jump, Call, Exit, Load, Store, Atomic, Const, MapFd, MapValue}
+use Rattle.insn_set.specs.declared.insn.AtomicSize.TheVariants as atomic_size
+use Rattle.insn_set.specs.declared.insn.AtomicOp.{AtomicOp}
+use Rattle.insn_set.specs.declared.insn.AtomicOp.TheVariants as atomic
+use Rattle.insn_set.specs.declared.insn.Operand.{Operand}
+use Rattle.insn_set.specs.declared.insn.Operand.TheVariants as operand
+use Rattle.insn_set.specs.declared.insn.Insn.{Insn}
+use Rattle.insn_set.specs.declared.insn.Insn.TheVariants.{Alu, Movsx, Neg, End, Ja, Jal, Jump, Call, Exit, Load, Store, Atomic, Const, MapFd, MapValue}
 use Rattle.insn_codec.specs.declared.opcode.SourceBit.{SourceBit}
 use Rattle.insn_codec.specs.declared.opcode.SourceBit.TheVariants as source
 use Rattle.insn_codec.specs.declared.opcode.AluCode.{AluCode}
@@ -24,10 +24,11 @@ use Rattle.insn_codec.specs.declared.opcode.LoadKind.TheVariants as load
 use Rattle.insn_codec.specs.declared.form.OpcodeForm.{OpcodeForm}
 use Rattle.insn_codec.specs.declared.form.OpcodeForm.TheVariants as form
 use Rattle.words.specs.Stack.{is_double}
-use Rattle.insn_codec.specs.Numbers.{alu_number, load_mode, memory_opcode, atomic_number, source_number}
+use Rattle.insn_set.specs.Numbers.{alu_number, load_mode, memory_opcode, atomic_number}
+use Rattle.insn_codec.specs.Spelled.{source_number}
 use Rattle.insn_codec.specs.inside.Opcodes.{code_number, load_opcode, opcode_of}
 use Rattle.insn_codec.specs.inside.Form.{form_at, atomic_at}
-use Rattle.insn_codec.specs.Spelling.{first, source_bit}
+use Rattle.insn_set.specs.Spelling.{first, source_bit}
 
 -- ---- the form of an instruction
 

@@ -6,11 +6,11 @@ use Rattle.std.proofs.lemmas.Bool.{cases_lt}
 use Rattle.std.proofs.lemmas.List.{take-append-drop, length-append, length-take, get_or-drop, get_or-take, get_or_past}
 use Rattle.std.proofs.lemmas.Nat.{le_bytes_2, le_bytes_4, from_le_bytes-to_le_bytes_2, from_le_bytes-to_le_bytes_4}
 use Rattle.std.proofs.Math.Seq.{take-add}
-use Rattle.insn_codec.specs.declared.slot.SlotFields.{SlotFields}
-use Rattle.insn_codec.specs.declared.insn.Insn.{Insn}
-use Rattle.insn_codec.specs.Slot.{slot_bytes}
-use Rattle.insn_codec.specs.inside.Slots.{slot_of}
-use Rattle.insn_codec.specs.Spelling.{slots, spelling, Begins}
+use Rattle.insn_set.specs.declared.slot.SlotFields.{SlotFields}
+use Rattle.insn_set.specs.declared.insn.Insn.{Insn}
+use Rattle.insn_set.specs.Slot.{slot_bytes}
+use Rattle.insn_set.specs.Slot.{slot_of}
+use Rattle.insn_set.specs.Spelling.{slots, spelling, Begins}
 
 abbrev pub IsBytes : List ℕ → Type 0
 IsBytes bytes = (i : ℕ) → get_or bytes i 0 < 256

@@ -3,9 +3,9 @@
 use Rattle.std.specs.Prelude.{◌≡◌, ℕ, ◌≤◌, ◌<◌, List, slice_index, length, take}
 use Rattle.insn_codec.specs.declared.fault.FaultKind.{FaultKind}
 use Rattle.insn_codec.specs.declared.fault.FaultKind.TheVariants.{Opcode, Reserved, Register, SecondSlot, Ragged, Empty, TooLong, Memory}
-use Rattle.insn_codec.specs.declared.insn.Insn.{Insn}
-use Rattle.insn_codec.specs.Slot.{slot_bytes}
-use Rattle.insn_codec.specs.Spelling.{first, spelling, IsInsn, IsInsnUpTo, Begins}
+use Rattle.insn_set.specs.declared.insn.Insn.{Insn}
+use Rattle.insn_set.specs.Slot.{slot_bytes}
+use Rattle.insn_set.specs.Spelling.{first, spelling, IsInsn, IsInsnUpTo, Begins}
 
 -- the first byte is that of an instruction
 abbrev pub HasOpcode : List ℕ → Type 0

@@ -1,13 +1,8 @@
-pub mod Sizes
-pub mod Atomic
-pub mod Numbers
-pub mod Slot
-pub mod Spelling
 pub mod Spelled
 pub mod Fault
-pub mod Program
-pub mod BeginLaws
-pub mod SpellingLaws
+pub mod ProgramFault
 pub mod inside
-pub mod Profile
-pub mod Flow
+-- what public contracts cite of crates below
+pub use Rattle.insn_set.specs.Slot
+pub use Rattle.insn_set.specs.Spelling
+pub use Rattle.insn_set.specs.Program

@@ -44,7 +44,7 @@ pub struct CodecFault {
 }
 
 impl From<AllocError> for CodecFault {
-    ghost use Rattle.insn_codec.specs.Program.{memory_fault};
+    ghost use Rattle.insn_codec.specs.ProgramFault.{memory_fault};
 
     ghost from_gives = { λ _ e. e ≡ memory_fault };
 
@@ -57,7 +57,7 @@ impl From<AllocError> for CodecFault {
 }
 
 impl<T: Drop> From<AllocFailed<T>> for CodecFault {
-    ghost use Rattle.insn_codec.specs.Program.{memory_fault};
+    ghost use Rattle.insn_codec.specs.ProgramFault.{memory_fault};
 
     ghost from_gives = { λ _ e. e ≡ memory_fault };
 

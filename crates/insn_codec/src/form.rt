@@ -2,9 +2,8 @@
 
 ghost use Rattle.std.specs.Prelude.{◌≡◌, ◌≢◌, ◌+◌, ◌%◌, ◌≤◌, [], ◌∷◌, IfSome, IsTrue};
 
-use crate::insn::{AtomicOp, AtomicSize, Insn, Load, Movsx, Reg};
-use crate::opcode::{AluCode, LoadKind, SourceBit, WideKind, condition_at, size_at};
-use crate::slot::SlotFields;
+use crate::opcode::{AluCode, LoadKind, SourceBit, WideKind, atomic_at, condition_at, size_at};
+use insn_set::{AtomicOp, AtomicSize, Insn, Load, Movsx, Reg, SlotFields};
 use words::{AccessSize, ByteOrder, Condition, ExtendedBits, KeptBits};
 
 /// The form of an opcode: what it alone determines of its instruction.
@@ -45,10 +44,11 @@ pub enum OpcodeForm {
 
 impl OpcodeForm {
     ghost use Rattle.insn_codec.specs.inside.Form.{form_at, alu_at, jump_at, load_at, store_at, register_store_at, listed};
-    ghost use Rattle.insn_codec.specs.Numbers.{opcode as opcode_from, source_number, alu_class, jump_class};
+    ghost use Rattle.insn_set.specs.Numbers.{opcode as opcode_from, alu_class, jump_class};
+    ghost use Rattle.insn_codec.specs.Spelled.{source_number};
     ghost use Rattle.insn_codec.specs.inside.Opcodes.{opcode_of};
-    ghost use Rattle.insn_codec.specs.Spelling.{slots, IsInsn};
-    ghost use Rattle.insn_codec.specs.declared.form.OpcodeForm.TheVariants.{Wide, Alu, Jump, Load as LoadForm, Store, Atomic, End};
+    ghost use Rattle.insn_set.specs.Spelling.{slots, IsInsn};
+    ghost use Rattle.insn_codec.specs.declared.form.OpcodeForm.TheVariants.{Wide, Alu, Jump, Store, Atomic, End};
 
     fn alu(wide: bool, source: SourceBit, code: u8) -> Option<OpcodeForm>
         ensures value { result ≡ alu_at wide source code }
@@ -193,7 +193,7 @@ impl OpcodeForm {
             OpcodeForm::Call => slot.dst == 0 && slot.src == 0 && slot.offset == 0,
             OpcodeForm::Exit => slot.dst == 0 && slot.src == 0 && slot.offset == 0 && slot.imm == 0,
             OpcodeForm::Load { kind: _ } => slot.imm == 0,
-            OpcodeForm::Atomic { size: _ } => AtomicOp::of(slot.imm).is_some(),
+            OpcodeForm::Atomic { size: _ } => atomic_at(slot.imm).is_some(),
             OpcodeForm::Wide => slot.offset == 0 && WideKind::of(slot.src).is_some(),
         }
     }
@@ -285,7 +285,7 @@ impl OpcodeForm {
         ensures slots { slots entry.new ≡ slot ∷ [] }
         ensures value { IsInsn entry.new }
     {
-        let Some(op) = AtomicOp::of(slot.imm) else {
+        let Some(op) = atomic_at(slot.imm) else {
             unreachable!();
         };
         *entry = Insn::Atomic {

@@ -5,15 +5,9 @@ ghost use Rattle.insn_codec.specs.Fault.{HasFault};
 ghost use Rattle.insn_codec.specs.declared.fault.FaultKind.{FaultKind as AnyKind};
 
 use crate::{
-    CodecFault, FaultKind, Insn, Program, RawSlot, Reg, decode, encode, read_program, write_program,
+    CodecFault, FaultKind, Insn, Program, Reg, decode, encode, read_program, write_program,
 };
 use std::alloc::Global;
-
-const _: () = prove!(size_of::<Insn>() == 16);
-
-const _: () = prove!(size_of::<Option<Insn>>() == 24);
-
-const _: () = prove!(size_of::<RawSlot>() == 8);
 
 /// A wide load of a number.
 fn wide(value: u64) -> Insn
@@ -23,28 +17,13 @@ fn wide(value: u64) -> Insn
     Insn::Const { dst, value }
 }
 
-fn registers() {
-    let number = Reg::new(10).number();
-    prove!(number == 10);
-}
-
 fn kinds_of_faults() {
     let (first, last) = (FaultKind::Opcode.number(), FaultKind::Memory.number());
     prove!(first == 1);
     prove!(last == 8);
 }
 
-fn slots_of_instructions() {
-    let (wide, exit) = (wide(7), Insn::Exit);
-    let (wide_slots, exit_slots) = (wide.slots(), exit.slots());
-    prove!(wide_slots == 2);
-    prove!(exit_slots == 1);
-    let (is_wide, is_exit_wide) = (wide.is_wide(), exit.is_wide());
-    prove!(is_wide);
-    prove!(!is_exit_wide);
-}
-
-#[tactic(auto, unfolding(crate::specs::Spelling::spelling))]
+#[tactic(auto, unfolding(insn_set::specs::Spelling::spelling))]
 fn written_instructions() {
     let mut out = [0x55; 16];
     let length = encode(&Insn::Exit, &mut out);
@@ -85,7 +64,7 @@ fn kinds_at_front() {
     prove!(is_second_slot);
 }
 
-#[tactic(auto, unfolding(crate::specs::Program::begins_at))]
+#[tactic(auto, unfolding(insn_set::specs::Program::begins_at))]
 fn places_of_a_program(alloc: Global) -> Result<(), CodecFault> {
     let program = Program::new(alloc, &[wide(7), Insn::Exit])?;
     let slots = program.slots();
@@ -118,7 +97,7 @@ fn read_program_of_an_exit(alloc: Global) -> Result<(), CodecFault> {
     Ok(())
 }
 
-#[tactic(auto, unfolding(crate::specs::Spelling::spelling))]
+#[tactic(auto, unfolding(insn_set::specs::Spelling::spelling))]
 fn written_program(alloc: Global) -> Result<(), CodecFault> {
     let program = Program::new(alloc, &[wide(7), Insn::Exit])?;
     let bytes = write_program(alloc, &program)?;

@@ -1,31 +1,25 @@
-//! Instructions of the virtual machine, and the eight-byte slots that spell them (RFC 9669).
+//! The codec of the virtual machine's instructions: eight-byte slots to instructions and back (RFC 9669).
 //!
 //! `decode` and `encode` read and write one instruction, `read_program` and `write_program` a whole program. Each instruction has
-//! one spelling, and no spelling is a prefix of another.
+//! one spelling, and no spelling is a prefix of another. The instructions are those of `insn_set`, which is re-exported.
 #![tactic(auto)]
 
 mod code;
 mod fault;
 mod form;
-mod insn;
 mod known_answers;
 pub mod laws;
 mod opcode;
-mod profile;
 mod program;
 mod reading;
-mod slot;
 mod writing;
 
 pub use fault::{CodecFault, FaultKind};
-pub use insn::{AtomicOp, AtomicSize, Insn, Load, Movsx, Operand, Reg};
+pub use insn_set::{
+    AccessSize, AluOp, AtomicOp, AtomicSize, ByteOrder, Condition, ExtendedBits, Insn, KeptBits,
+    Load, MAX_SLOTS, Movsx, Operand, Profile, RawSlot, Reference, Reg, Successors,
+};
 pub use opcode::SourceBit;
-pub use profile::{Profile, Reference, Successors};
 pub use program::{Program, read_program, write_program};
 pub use reading::decode;
-pub use slot::RawSlot;
-pub use words::{AccessSize, AluOp, ByteOrder, Condition, ExtendedBits, KeptBits};
 pub use writing::encode;
-
-/// The most slots that a program may have, a limit of this project.
-pub const MAX_SLOTS: usize = 4096;

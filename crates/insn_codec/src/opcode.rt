@@ -1,11 +1,10 @@
 //! The parts of an opcode, and the tables of their codes.
 
 ghost use Rattle.std.specs.Prelude.{◌≡◌, ◌≢◌, ◌<◌, ◌≤◌, IfSome, IsTrue, not, ◌&&◌, false};
-ghost use Rattle.insn_codec.specs.inside.Form.{condition_at, size_at};
-ghost use Rattle.insn_codec.specs.Numbers.{condition_number, size_number};
+ghost use Rattle.insn_codec.specs.inside.Form.{condition_at, size_at, atomic_at};
+ghost use Rattle.insn_set.specs.Numbers.{condition_number, size_number, atomic_number};
 
-use crate::insn::{AtomicOp, Insn, Operand, Reg};
-use crate::slot::SlotFields;
+use insn_set::{AtomicOp, Insn, Operand, Reg, SlotFields};
 use words::{AccessSize, AluOp, Condition};
 
 /// Which of the two operand fields is used: the source bit (RFC 9669, section 4).
@@ -59,7 +58,7 @@ pub enum WideKind {
 impl AluCode {
     ghost use Rattle.insn_codec.specs.declared.opcode.SourceBit.TheVariants as source_variant;
     ghost use Rattle.insn_codec.specs.inside.Form.{alu_code_at, offset_listed};
-    ghost use Rattle.insn_codec.specs.Numbers.{alu_number, alu_offset};
+    ghost use Rattle.insn_set.specs.Numbers.{alu_number, alu_offset};
     ghost use Rattle.insn_codec.specs.inside.Opcodes.{code_number};
 
     /// The operation code with this number, if there is one.
@@ -141,8 +140,8 @@ impl AluCode {
 
 impl SourceBit {
     ghost use Rattle.insn_codec.specs.inside.Form.{one_operand};
-    ghost use Rattle.insn_codec.specs.Numbers.{source_number};
-    ghost use Rattle.insn_codec.specs.Spelling.{source_bit, src_field, imm_field, IsOperand};
+    ghost use Rattle.insn_codec.specs.Spelled.{source_number};
+    ghost use Rattle.insn_set.specs.Spelling.{source_bit, src_field, imm_field, IsOperand};
 
     /// Whether the unused operand field is zero.
     pub fn lists_operand(self, slot: SlotFields) -> bool
@@ -206,8 +205,22 @@ pub fn size_at(code: u8) -> AccessSize
     }
 }
 
+/// The atomic operation with this immediate, if there is one (RFC 9669, section 5.3).
+pub fn atomic_at(imm: u32) -> Option<AtomicOp>
+    ensures value { result ≡ atomic_at imm }
+    ensures number { IfSome result (λ op. atomic_number op ≡ imm) }
+{
+    match imm {
+        0x00 => Some(AtomicOp::Add),
+        0x40 => Some(AtomicOp::Or),
+        0x50 => Some(AtomicOp::And),
+        0xa0 => Some(AtomicOp::Xor),
+        _ => None,
+    }
+}
+
 impl LoadKind {
-    ghost use Rattle.insn_codec.specs.Numbers.{load_mode, memory_opcode};
+    ghost use Rattle.insn_set.specs.Numbers.{load_mode, memory_opcode};
     ghost use Rattle.insn_codec.specs.inside.Opcodes.{load_opcode};
     ghost use Rattle.words.specs.Stack.{is_double};
 
@@ -224,25 +237,6 @@ impl LoadKind {
             LoadKind::SignedWord => (AccessSize::Word, true),
             LoadKind::SignedHalf => (AccessSize::Half, true),
             LoadKind::SignedByte => (AccessSize::Byte, true),
-        }
-    }
-}
-
-impl AtomicOp {
-    ghost use Rattle.insn_codec.specs.inside.Form.{atomic_at};
-    ghost use Rattle.insn_codec.specs.Numbers.{atomic_number};
-
-    /// The operation with this immediate, if there is one.
-    pub(crate) fn of(imm: u32) -> Option<AtomicOp>
-        ensures value { result ≡ atomic_at imm }
-        ensures number { IfSome result (λ op. atomic_number op ≡ imm) }
-    {
-        match imm {
-            0x00 => Some(AtomicOp::Add),
-            0x40 => Some(AtomicOp::Or),
-            0x50 => Some(AtomicOp::And),
-            0xa0 => Some(AtomicOp::Xor),
-            _ => None,
         }
     }
 }

@@ -1,21 +1,19 @@
 //! Decoding of bytes.
 
-ghost use Rattle.std.specs.Prelude.{◌++◌, List, ℕ, ◌≡◌, ◌≢◌, ◌+◌, ◌*◌, ◌≤◌, [], ◌∷◌, length, drop, IfOk, OnOk, IfErr, IsErrAnd, Ok, Some, None, IsTrue};
-ghost use Rattle.insn_codec.specs.inside.Slots.{slot_of};
+ghost use Rattle.std.specs.Prelude.{List, ℕ, ◌≡◌, ◌≢◌, ◌+◌, ◌*◌, ◌≤◌, [], ◌∷◌, length, drop, IfOk, OnOk, IfErr, IsErrAnd, Ok, Some, None, IsTrue};
+ghost use Rattle.insn_set.specs.Slot.{slot_of};
 ghost use Rattle.insn_codec.specs.inside.Form.{listed};
 ghost use Rattle.insn_codec.specs.inside.Opcodes.{opcode_of};
-ghost use Rattle.insn_codec.specs.Spelling.{slots, spelling, IsInsn, Begins};
+ghost use Rattle.insn_set.specs.Spelling.{slots, IsInsn, Begins};
 ghost use Rattle.insn_codec.specs.Fault.{HasFault};
 ghost use Rattle.insn_codec.specs.inside.FirstFault.{fault_in_form, first_fault, second_fault};
-ghost use Rattle.insn_codec.specs.declared.insn.Insn.{Insn as AnyInsn};
 ghost use Rattle.insn_codec.specs.declared.fault.FaultKind.{FaultKind as AnyKind};
 ghost use Rattle.insn_codec.specs.declared.form.OpcodeForm.TheVariants.{Wide};
 
 use crate::fault::{CodecFault, FaultKind};
 use crate::form::OpcodeForm;
-use crate::insn::{Insn, Reg};
 use crate::opcode::{SourceBit, WideKind};
-use crate::slot::SlotFields;
+use insn_set::{Insn, Reg, SlotFields};
 
 /// Reads the wide instruction whose first slot is at the front of the bytes into an entry. `Err` with the kind of the fault if its
 /// second slot is missing or wrong.

@@ -1,14 +1,12 @@
 //! Encoding of instructions.
 
-ghost use Rattle.std.specs.Prelude.{◌≡◌, ◌+◌, ◌*◌, ◌≤◌, ◌<◌, ◌^◌, ◌%◌, [], ◌∷◌, ◌++◌, length, drop, IfSome};
+ghost use Rattle.std.specs.Prelude.{◌≡◌, ◌+◌, ◌*◌, ◌≤◌, ◌<◌, ◌%◌, ◌++◌, length, drop, IfSome};
 ghost use Rattle.std.specs.Option.{option_to_list};
-ghost use Rattle.insn_codec.specs.Slot.{slot as slot_from};
-ghost use Rattle.insn_codec.specs.Spelling.{first as first_slot, second as second_slot, spelling, source_bit, src_field, imm_field};
-ghost use Rattle.insn_codec.specs.Numbers.{opcode as opcode_from, memory_opcode, alu_class, jump_class, alu_number, alu_offset, condition_number, size_number, end_opcode, load_mode, atomic_number};
-ghost use Rattle.words.specs.Operate.{extended_bits, kept_bits};
+ghost use Rattle.insn_set.specs.Slot.{slot as slot_from};
+ghost use Rattle.insn_set.specs.Spelling.{first as first_slot, second as second_slot, spelling, source_bit, src_field, imm_field};
+ghost use Rattle.insn_set.specs.Numbers.{opcode as opcode_from, memory_opcode, alu_class, jump_class, alu_number, alu_offset, condition_number, size_number, end_opcode, atomic_number};
 
-use crate::insn::{AtomicOp, Insn, Operand};
-use crate::slot::SlotFields;
+use insn_set::{AtomicOp, Insn, Operand, SlotFields};
 use words::{AccessSize, AluOp, ByteOrder, Condition};
 
 /// The code of an operator (RFC 9669, section 4.1).
@@ -86,47 +84,47 @@ fn end_opcode(how: ByteOrder) -> u8
     }
 }
 
-impl AtomicOp {
-    fn number(self) -> u32
-        ensures { result ≡ atomic_number self }
-    {
-        match self {
-            AtomicOp::Add => 0x00,
-            AtomicOp::Or => 0x40,
-            AtomicOp::And => 0x50,
-            AtomicOp::Xor => 0xa0,
-        }
+/// The immediate of an atomic operation (RFC 9669, section 5.3).
+fn atomic_number(op: AtomicOp) -> u32
+    ensures { result ≡ atomic_number op }
+{
+    match op {
+        AtomicOp::Add => 0x00,
+        AtomicOp::Or => 0x40,
+        AtomicOp::And => 0x50,
+        AtomicOp::Xor => 0xa0,
     }
 }
 
-impl Operand {
-    fn source(self) -> u8
-        ensures value { result ≡ source_bit self }
-        ensures bound { result ≤ 1 }
-    {
-        match self {
-            Operand::Imm(_) => 0,
-            Operand::Reg(_) => 1,
-        }
+/// The source bit that tells a constant from a register (RFC 9669, section 4).
+fn source_bit(operand: Operand) -> u8
+    ensures value { result ≡ source_bit operand }
+    ensures bound { result ≤ 1 }
+{
+    match operand {
+        Operand::Imm(_) => 0,
+        Operand::Reg(_) => 1,
     }
+}
 
-    fn src(self) -> u8
-        ensures value { result ≡ src_field self }
-        ensures bound { result < 16 }
-    {
-        match self {
-            Operand::Imm(_) => 0,
-            Operand::Reg(reg) => reg.number(),
-        }
+/// The source register's field, which is 0 beside a constant (RFC 9669, section 3.1).
+fn src_field(operand: Operand) -> u8
+    ensures value { result ≡ src_field operand }
+    ensures bound { result < 16 }
+{
+    match operand {
+        Operand::Imm(_) => 0,
+        Operand::Reg(register) => register.number(),
     }
+}
 
-    fn imm(self) -> u32
-        ensures { result ≡ imm_field self }
-    {
-        match self {
-            Operand::Imm(imm) => imm.cast_unsigned(),
-            Operand::Reg(_) => 0,
-        }
+/// The immediate, which is 0 beside a register (RFC 9669, section 3.1).
+fn imm_field(operand: Operand) -> u32
+    ensures { result ≡ imm_field operand }
+{
+    match operand {
+        Operand::Imm(number) => number.cast_unsigned(),
+        Operand::Reg(_) => 0,
     }
 }
 
@@ -182,8 +180,14 @@ fn first(insn: &Insn) -> SlotFields
 {
     match *insn {
         Insn::Alu { wide, op, dst, src } => {
-            let opcode = opcode(alu_number(op), src.source(), arithmetic_class(wide));
-            slot(opcode, dst.number(), src.src(), alu_offset(op), src.imm())
+            let opcode = opcode(alu_number(op), source_bit(src), arithmetic_class(wide));
+            slot(
+                opcode,
+                dst.number(),
+                src_field(src),
+                alu_offset(op),
+                imm_field(src),
+            )
         }
         Insn::Movsx(m) => {
             let opcode = opcode(11, 1, arithmetic_class(m.wide));
@@ -202,13 +206,13 @@ fn first(insn: &Insn) -> SlotFields
             src,
             off,
         } => {
-            let opcode = opcode(condition_number(cond), src.source(), jumping_class(wide));
+            let opcode = opcode(condition_number(cond), source_bit(src), jumping_class(wide));
             slot(
                 opcode,
                 dst.number(),
-                src.src(),
+                src_field(src),
                 off.cast_unsigned(),
-                src.imm(),
+                imm_field(src),
             )
         }
         Insn::Call { id } => slot(0x85, 0, 0, 0, id.cast_unsigned()),
@@ -229,13 +233,13 @@ fn first(insn: &Insn) -> SlotFields
             src,
             off,
         } => {
-            let opcode = sized_opcode(3, size, 2 + src.source());
+            let opcode = sized_opcode(3, size, 2 + source_bit(src));
             slot(
                 opcode,
                 dst.number(),
-                src.src(),
+                src_field(src),
                 off.cast_unsigned(),
-                src.imm(),
+                imm_field(src),
             )
         }
         Insn::Atomic {
@@ -251,7 +255,7 @@ fn first(insn: &Insn) -> SlotFields
                 dst.number(),
                 src.number(),
                 off.cast_unsigned(),
-                op.number(),
+                atomic_number(op),
             )
         }
         Insn::Const { dst, value } => {

@@ -3,9 +3,9 @@
 ghost use Rattle.std.specs.Prelude.{◌≡◌, ℕ, ◌<◌, ◌^◌};
 ghost use Rattle.words.specs.declared.operator.Operator.TheVariants.{Binary};
 ghost use Rattle.words.specs.Widths.{width};
-ghost use Rattle.words.specs.Operate.{operate, combined, kept_bits};
+ghost use Rattle.words.specs.Operate.{operate, kept_bits};
 ghost use Rattle.interval.specs.Ranges.{IsMember, full};
-ghost use Rattle.interval.specs.Table.{are_constants, are_alu_constants, alu_range, general_range, result_range, operand_range, range_of};
+ghost use Rattle.interval.specs.Table.{are_constants, are_alu_constants, alu_range, general_range, operand_range, range_of};
 
 use crate::arithmetic::{difference, product, quotient, remainder, sum};
 use crate::bitwise::{and, exclusive_or, or};

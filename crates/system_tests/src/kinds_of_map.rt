@@ -1,6 +1,6 @@
 //! Answers that were worked out by hand from bpf(2) and the kernel documentation, as calls of the trait on both kinds.
 
-ghost use Rattle.std.specs.Prelude.{◌≡◌, ◌⊎◌, [], length, IfOk};
+ghost use Rattle.std.specs.Prelude.{◌≡◌, [], IfOk};
 
 use bpf_maps::{ANY, ArrayMap, EXIST, GivenKey, HashMapIx, MapFault, NOEXIST, ValueMap};
 use std::alloc::Global;

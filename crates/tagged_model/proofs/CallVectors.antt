@@ -4,10 +4,10 @@ use Rattle.std.proofs.Common.{◌≡◌, ℕ, ◌==◌, pos, if◌then◌else◌
 use Rattle.words.specs.declared.operator.AluOp.TheVariants.{Add}
 use Rattle.words.specs.declared.operator.Condition.TheVariants.{Equal, NotEqual, Above}
 use Rattle.words.specs.declared.stack.AccessSize.TheVariants.{Byte, Word, Double}
-use Rattle.insn_codec.specs.declared.insn.Operand.TheVariants.{Imm, Reg}
-use Rattle.insn_codec.specs.declared.insn.Insn.{Insn}
-use Rattle.insn_codec.specs.declared.insn.Insn.TheVariants.{Alu, Jump, Call, Exit, Const, MapFd, MapValue}
-use Rattle.insn_codec.specs.Program.{begins_at}
+use Rattle.insn_set.specs.declared.insn.Operand.TheVariants.{Imm, Reg}
+use Rattle.insn_set.specs.declared.insn.Insn.{Insn}
+use Rattle.insn_set.specs.declared.insn.Insn.TheVariants.{Alu, Jump, Call, Exit, Const, MapFd, MapValue}
+use Rattle.insn_set.specs.Program.{begins_at}
 use Rattle.tagged_model.specs.declared.shape.MapKind.TheVariants.{Array, Hash}
 use Rattle.tagged_model.specs.declared.value.Outcome.{Outcome}
 use Rattle.tagged_model.specs.declared.value.Outcome.TheVariants.{Value, Fault}

@@ -7,10 +7,10 @@ use Rattle.words.specs.declared.operator.KeptBits.TheVariants.{Bits16}
 use Rattle.words.specs.declared.operator.Condition.TheVariants.{Equal, NotEqual}
 use Rattle.words.specs.declared.stack.AccessSize.{AccessSize}
 use Rattle.words.specs.declared.stack.AccessSize.TheVariants.{Byte, Half, Word, Double}
-use Rattle.insn_codec.specs.declared.insn.Operand.TheVariants.{Imm, Reg}
-use Rattle.insn_codec.specs.declared.insn.Insn.{Insn}
-use Rattle.insn_codec.specs.declared.insn.Insn.TheVariants.{Alu, End, Ja, Jump, Exit, Load, Store, Const}
-use Rattle.insn_codec.specs.Program.{begins_at}
+use Rattle.insn_set.specs.declared.insn.Operand.TheVariants.{Imm, Reg}
+use Rattle.insn_set.specs.declared.insn.Insn.{Insn}
+use Rattle.insn_set.specs.declared.insn.Insn.TheVariants.{Alu, End, Ja, Jump, Exit, Load, Store, Const}
+use Rattle.insn_set.specs.Program.{begins_at}
 use Rattle.tagged_model.specs.declared.value.Outcome.{Outcome}
 use Rattle.tagged_model.specs.declared.value.Outcome.TheVariants.{Value, Fault}
 use Rattle.tagged_model.specs.Cells.{gathered}

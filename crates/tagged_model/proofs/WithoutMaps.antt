@@ -4,24 +4,24 @@ use Rattle.std.proofs.lemmas.Bool.{cond_both}
 use Rattle.words.specs.declared.stack.AccessSize.{AccessSize}
 use Rattle.words.specs.Words.{unsigned}
 use Rattle.words.specs.Stack.{is_in_stack, place}
-use Rattle.insn_codec.specs.declared.insn.Insn.{Insn}
-use Rattle.insn_codec.specs.declared.insn.Insn.TheVariants.{Alu, Movsx, Neg, End, Ja, Jal, Jump, Call, Exit, Load, Store, Atomic, Const, MapFd, MapValue}
-use Rattle.insn_codec.specs.Program.{begins_at, slot_count}
+use Rattle.insn_set.specs.declared.insn.Insn.{Insn}
+use Rattle.insn_set.specs.declared.insn.Insn.TheVariants.{Alu, Movsx, Neg, End, Ja, Jal, Jump, Call, Exit, Load, Store, Atomic, Const, MapFd, MapValue}
+use Rattle.insn_set.specs.Program.{begins_at, slot_count}
 use Rattle.tagged_model.specs.declared.helper.Helper.{Helper}
 use Rattle.tagged_model.specs.declared.helper.Helper.TheVariants.{LookUp, Update, Delete, LoadBytes}
 use Rattle.tagged_model.specs.declared.value.Object.TheVariants as object
 use Rattle.tagged_model.specs.declared.value.Tagged.{Tagged}
 use Rattle.tagged_model.specs.declared.value.Tagged.TheVariants.{Scalar, Pointer}
-use Rattle.insn_codec.specs.declared.insn.AtomicSize.{AtomicSize}
-use Rattle.insn_codec.specs.declared.insn.AtomicOp.{AtomicOp}
-use Rattle.insn_codec.specs.Atomic.{atomic_operator, is_wide_atomic, access_size}
+use Rattle.insn_set.specs.declared.insn.AtomicSize.{AtomicSize}
+use Rattle.insn_set.specs.declared.insn.AtomicOp.{AtomicOp}
+use Rattle.insn_set.specs.Atomic.{atomic_operator, is_wide_atomic, access_size}
 use Rattle.tagged_model.specs.Values.{of_numbers, arithmetic, first_operand, compared}
 use Rattle.tagged_model.specs.Cells.{and_then, write_cell, cell_over}
 use Rattle.tagged_model.specs.Table.{direct_object}
 use Rattle.tagged_model.specs.State.{RunState, RunMap, with_cells, stack_place, stack_store, stack_written, value_written, with_map, with_value, object_written, object_stored, load, store, output}
 use Rattle.tagged_model.specs.Helpers.{helper_of, packet_bytes, packet_answer, number_given, length_given, context_given, map_given, argument, map_argument, returns, called}
 use Rattle.tagged_model.specs.Step.{Step, goes, ends, faults, or_fault, operand_value, jumped, branched, ended, advanced, assigned, changed, act, step, refused_at_first, refused_later, Ending, ending_after, run, MapsByDescriptor, first_map, start_of_run, was_refused}
-use Rattle.insn_codec.specs.Flow.{natural}
+use Rattle.insn_set.specs.Flow.{natural}
 
 -- a state without maps in which no memory was refused
 record IsBare (s : RunState) : Type 0 where

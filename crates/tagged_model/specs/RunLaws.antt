@@ -1,6 +1,6 @@
 -- Laws of runs in which memory may be refused. This project's own.
 use Rattle.std.specs.Prelude.{◌≡◌, ℕ, Bool, false, List, [], None}
-use Rattle.insn_codec.specs.declared.insn.Insn.{Insn}
+use Rattle.insn_set.specs.declared.insn.Insn.{Insn}
 use Rattle.tagged_model.specs.Step.{MapsByDescriptor, run_with, was_refused}
 
 -- a run in which memory was refused to no new key equals the run without refusals, in which none is refused either; a run

@@ -5,7 +5,7 @@ use Rattle.std.proofs.lemmas.Bool.{eq-eqb, ne_eqb, cases_eq, cases_lt}
 use Rattle.std.proofs.lemmas.Option.{none-some}
 use Rattle.bpf_maps.specs.declared.part.TheConstants.{MAPS, LARGEST_SUM}
 use Rattle.bpf_maps.specs.Live as live
-use Rattle.bpf_maps.specs.Live.{LiveMaps, LiveMap, live_or, live_at, holds_at, shape_at, places_at, map_in, areas, area_of, area_by, create_fault, Creates, IsCreated, KeepsMaps}
+use Rattle.bpf_maps.specs.Live.{LiveMaps, LiveMap, live_or, live_at, holds_at, places_at, map_in, areas, area_of, area_by, create_fault, Creates, IsCreated, KeepsMaps}
 use Rattle.bpf_maps.specs.Places.{PlaceTable}
 use Rattle.bpf_maps.specs.Sum.{weight}
 use Rattle.fd_table.specs.Table.{first_descriptor, lowest, with_open}

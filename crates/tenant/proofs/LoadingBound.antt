@@ -5,7 +5,7 @@ use Rattle.std.specs.Map.{keys_of}
 use Rattle.std.proofs.lemmas.Option.{slice_get_within, get_or_from_slice_get}
 use Rattle.bpf_maps.specs.Live.{map_in}
 use Rattle.fd_table.specs.Table.{named}
-use Rattle.insn_codec.specs.declared.insn.Insn.{Insn}
+use Rattle.insn_set.specs.declared.insn.Insn.{Insn}
 use Rattle.tagged_model.specs.Named.{shapes_named}
 use Rattle.tagged_model.specs.declared.shape.Named.{Named}
 use Rattle.verifier.specs.Laws.{LoadedMapsHaveShapes, MapsAreListed}

@@ -5,9 +5,10 @@ use Rattle.command_frames.specs.declared.command.BadFrame.{BadFrame}
 use Rattle.command_frames.specs.Frame.{reply_to}
 use Rattle.command_frames.specs.Command.{Command, map_create, map_lookup, map_update, map_delete, map_next_key, prog_load, prog_test_run, close, parsed}
 use Rattle.fd_table.specs.Table as table
-use Rattle.insn_codec.specs.declared.insn.Insn.{Insn}
+use Rattle.insn_set.specs.declared.insn.Insn.{Insn}
 use Rattle.insn_codec.specs.declared.fault.CodecFault.{CodecFault}
-use Rattle.insn_codec.specs.Program.{IsProgram, program_bytes, IsProgramFault}
+use Rattle.insn_set.specs.Program.{IsProgram, program_bytes}
+use Rattle.insn_codec.specs.ProgramFault.{IsProgramFault}
 use Rattle.insn_codec.specs.Fault.{fault_number}
 use Rattle.reg_kinds.specs.declared.reason.Reason.{Reason}
 use Rattle.reg_kinds.specs.Reason.{number as reason_number}

@@ -5,7 +5,7 @@ use Rattle.std.proofs.lemmas.Bool.Decides.{nat_tests}
 use Rattle.bpf_maps.specs.Live.{LiveMaps}
 use Rattle.fd_table.specs.Table.{named}
 use Rattle.flat_machine.specs.Runs.{RunInput, Standing, run_on, SimulatesRun, RunKeepsMaps, KeepsValues}
-use Rattle.insn_codec.specs.declared.insn.Insn.{Insn}
+use Rattle.insn_set.specs.declared.insn.Insn.{Insn}
 use Rattle.tagged_model.specs.Step.{MapsByDescriptor, left_with, was_refused}
 use Rattle.tagged_model.specs.declared.value.Outcome.{Outcome}
 use Rattle.verifier.specs.Laws.{MapsAreListed}

@@ -1,6 +1,6 @@
 -- A loaded program. This project's own.
 use Rattle.std.specs.Prelude.{ℕ, List, map}
-use Rattle.insn_codec.specs.declared.insn.Insn.{Insn}
+use Rattle.insn_set.specs.declared.insn.Insn.{Insn}
 use Rattle.tagged_model.specs.declared.shape.Named.{Named}
 
 -- Its instructions; the objects that the descriptors in their text named when it was loaded; and for each of these descriptors the

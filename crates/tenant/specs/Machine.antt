@@ -5,11 +5,12 @@ use Rattle.std.specs.Map.{lookup}
 use Rattle.byteorder.specs.Endian.{little_bytes}
 use Rattle.command_frames.specs.Command.{Command, map_create, map_lookup, map_update, map_delete, map_next_key, prog_load, prog_test_run, close}
 use Rattle.fd_table.specs.Table as table
-use Rattle.insn_codec.specs.declared.insn.Insn.{Insn}
+use Rattle.insn_set.specs.declared.insn.Insn.{Insn}
 use Rattle.insn_codec.specs.declared.fault.CodecFault.{CodecFault}
 use Rattle.insn_codec.specs.declared.fault.FaultKind.{FaultKind}
 use Rattle.insn_codec.specs.declared.fault.FaultKind.TheVariants as kind
-use Rattle.insn_codec.specs.Program.{IsProgram, program_bytes, IsProgramFault}
+use Rattle.insn_set.specs.Program.{IsProgram, program_bytes}
+use Rattle.insn_codec.specs.ProgramFault.{IsProgramFault}
 use Rattle.insn_codec.specs.Fault.{fault_number}
 use Rattle.reg_kinds.specs.declared.reason.Reason.{Reason}
 use Rattle.reg_kinds.specs.declared.reason.Reason.TheVariants as reason

@@ -1,6 +1,6 @@
 //! The frames of one tenant, and the replies to them.
 
-ghost use Rattle.std.specs.Prelude.{◌≡◌, ◌≢◌, ◌≤◌, ℕ, [], Some, None, IfErr};
+ghost use Rattle.std.specs.Prelude.{◌≡◌, ◌≢◌, ◌≤◌, ℕ, [], Some};
 ghost use Rattle.arena.specs.Memory.{part_bytes};
 ghost use Rattle.bpf_helpers.specs.Parts.{IsPartOf};
 ghost use Rattle.command_frames.specs.Command.{longest_frame};

@@ -14,11 +14,11 @@ use Rattle.words.specs.declared.operator.KeptBits.{KeptBits}
 use Rattle.words.specs.declared.operator.ExtendedBits.{ExtendedBits}
 use Rattle.words.specs.declared.stack.AccessSize.{AccessSize}
 use Rattle.words.specs.declared.stack.AccessSize.TheVariants as size
-use Rattle.insn_codec.specs.declared.insn.AtomicSize.{AtomicSize}
-use Rattle.insn_codec.specs.declared.insn.AtomicSize.TheVariants as atomic_size
-use Rattle.insn_codec.specs.declared.insn.AtomicOp.{AtomicOp}
-use Rattle.insn_codec.specs.Sizes.{is_short}
-use Rattle.insn_codec.specs.Atomic.{access_size}
+use Rattle.insn_set.specs.declared.insn.AtomicSize.{AtomicSize}
+use Rattle.insn_set.specs.declared.insn.AtomicSize.TheVariants as atomic_size
+use Rattle.insn_set.specs.declared.insn.AtomicOp.{AtomicOp}
+use Rattle.insn_set.specs.Sizes.{is_short}
+use Rattle.insn_set.specs.Atomic.{access_size}
 use Rattle.words.specs.Stack.{is_double}
 use Rattle.text_line.specs.declared.form.Number.{Number}
 use Rattle.text_line.specs.declared.form.SourceOperand.{SourceOperand}

@@ -1,7 +1,7 @@
 -- The forms of a line: the table of the grammar, for reading and for printing. It is this project's own.
 use Rattle.std.specs.Prelude.{ℕ, ◌≤◌, Bool, true, false, ◌&&◌, ◌||◌, not, IsTrue, List, [], ◌∷◌, codes, Option, Some, None}
-use Rattle.insn_codec.specs.Sizes.{is_short}
-use Rattle.insn_codec.specs.Atomic.{access_size}
+use Rattle.insn_set.specs.Sizes.{is_short}
+use Rattle.insn_set.specs.Atomic.{access_size}
 use Rattle.words.specs.Stack.{is_double}
 use Rattle.text_line.specs.declared.form.Number.{Number}
 use Rattle.text_line.specs.declared.form.SourceOperand.{SourceOperand}

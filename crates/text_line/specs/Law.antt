@@ -1,8 +1,8 @@
 -- The statements of the laws of lines. This project's own.
 use Rattle.std.specs.Prelude.{◌≡◌, ◌≢◌, ℕ, true, false, ℤ, List, [], length, Option}
 use Rattle.std.specs.List.{AllByRecursion}
-use Rattle.insn_codec.specs.declared.insn.Insn.{Insn}
-use Rattle.insn_codec.specs.Spelling.{slots}
+use Rattle.insn_set.specs.declared.insn.Insn.{Insn}
+use Rattle.insn_set.specs.Spelling.{slots}
 use Rattle.text_line.specs.Form.{names_label}
 use Rattle.text_line.specs.Line.{Line, code, ReadAs, IsLine}
 use Rattle.text_line.specs.Ranges.{form_fits, form_slots, resolved}

@@ -9,4 +9,4 @@ pub mod Ranges
 pub mod Law
 pub mod inside
 -- what public contracts cite of crates below
-pub use Rattle.insn_codec.specs.Spelling
+pub use Rattle.insn_set.specs.Spelling

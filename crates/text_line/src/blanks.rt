@@ -1,6 +1,6 @@
 //! Blanks: spaces, tabs and carriage returns.
 
-ghost use Rattle.std.specs.Prelude.{◌≡◌, reverse};
+ghost use Rattle.std.specs.Prelude.{◌≡◌};
 ghost use Rattle.text_line.specs.Blanks.{is_blank, skip_blanks, stripped};
 
 /// Whether the byte is a space, a tab or a carriage return.

@@ -4,7 +4,7 @@ ghost use Rattle.std.specs.Prelude.{◌≡◌, IfSome, IfNone, Some, true, false
 ghost use Rattle.text_line.specs.Ranges.{next_imm_fits};
 
 use crate::form::{JumpTarget, Number, SourceOperand};
-use insn_codec::Operand;
+use insn_set::Operand;
 
 impl Number {
     ghost use Rattle.text_line.specs.Ranges.{imm_fits, offset_fits, normal};

@@ -3,7 +3,7 @@
 ghost use Rattle.std.specs.Prelude.{◌≡◌, ◌≤◌, IfSome, IfNone, true, false};
 
 use crate::fields::next_imm;
-use insn_codec::{
+use insn_set::{
     AccessSize, AluOp, AtomicOp, AtomicSize, ByteOrder, Condition, ExtendedBits, Insn, KeptBits,
     Load, Movsx, Reg,
 };

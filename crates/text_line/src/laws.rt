@@ -1,7 +1,7 @@
 //! Laws of lines. A law does nothing when it runs.
 
-ghost use Rattle.insn_codec.specs.declared.insn.Insn.{Insn};
-ghost use Rattle.insn_codec.specs.Spelling.{IsInsn};
+ghost use Rattle.insn_set.specs.declared.insn.Insn.{Insn};
+ghost use Rattle.insn_set.specs.Spelling.{IsInsn};
 ghost use Rattle.text_line.specs.Law.{OneReading, OneInsn, IsWrittenInRange, IsPrinted};
 
 /// A line has one reading: that of `read_line` is the only one that the definition allows.

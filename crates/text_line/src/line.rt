@@ -14,7 +14,7 @@ use crate::parts::{
     register, symbol,
 };
 use crate::token::Token;
-use insn_codec::{AluOp, ExtendedBits, Reg};
+use insn_set::{AluOp, ExtendedBits, Reg};
 
 /// A conditional jump, after `if`.
 #[tactic(auto, unfolding(crate::specs::inside::Reading::parsed_jump))]

@@ -3,7 +3,7 @@
 ghost use Rattle.std.specs.Prelude.{◌≡◌};
 ghost use Rattle.text_line.specs.inside.Reading.{named, operators, conditions, orders, narrows, sizes, atomic_operators, atomic_size_of, registers};
 
-use insn_codec::{
+use insn_set::{
     AccessSize, AluOp, AtomicOp, AtomicSize, ByteOrder, Condition, ExtendedBits, KeptBits, Reg,
 };
 

@@ -7,7 +7,7 @@ ghost use Rattle.text_line.specs.inside.Reading.{leading_symbol, leading_name, l
 use crate::form::{Address, JumpTarget, Number, SourceOperand};
 use crate::names::{register_named, size};
 use crate::token::Token;
-use insn_codec::Reg;
+use insn_set::Reg;
 
 // ---- one token, and the tokens after it
 

@@ -13,8 +13,8 @@ use Rattle.interval.specs.Refine.{RangePair, refined, IsPairOn}
 use Rattle.interval.specs.Laws.{EdgesKeepMembers, EdgesAreWords, IsPairOfWords}
 use Rattle.words.specs.declared.operator.Condition.{Condition}
 use Rattle.words.specs.declared.operator.Condition.TheVariants as condition
-use Rattle.insn_codec.specs.declared.insn.Operand.{Operand}
-use Rattle.insn_codec.specs.declared.insn.Operand.TheVariants.{Imm, Reg}
+use Rattle.insn_set.specs.declared.insn.Operand.{Operand}
+use Rattle.insn_set.specs.declared.insn.Operand.TheVariants.{Imm, Reg}
 use Rattle.reg_kinds.specs.declared.kind.Kind.{Kind}
 use Rattle.reg_kinds.specs.declared.kind.Kind.TheVariants as kind
 use Rattle.reg_kinds.specs.declared.facts.Facts.{Facts}
@@ -28,7 +28,7 @@ use Rattle.words.specs.Widths.{width}
 use Rattle.tagged_model.specs.Values.{is_null_test, holds_of_pointers, compared}
 use Rattle.tagged_model.specs.State.{RunState, at_slot}
 use Rattle.tagged_model.specs.Step.{goes, or_fault, operand_value, branched}
-use Rattle.insn_codec.specs.Flow.{natural}
+use Rattle.insn_set.specs.Flow.{natural}
 use Rattle.tagged_model.specs.Laws.{NullTestAdmits}
 use Rattle.tagged_model.specs.Admits.{IsLookup}
 use Rattle.transfer.specs.Branches.{Edges, with_source, with_pair, is_same, number_edges, null_edges, settled_edges, branch_edges}

@@ -11,12 +11,12 @@ use Rattle.words.specs.declared.operator.Operator.{Operator}
 use Rattle.words.specs.declared.stack.AccessSize.{AccessSize}
 use Rattle.words.specs.declared.stack.AccessSize.TheVariants.{Word}
 use Rattle.words.specs.Stack.{bytes_of}
-use Rattle.insn_codec.specs.declared.insn.AtomicSize.{AtomicSize}
-use Rattle.insn_codec.specs.declared.insn.AtomicOp.{AtomicOp}
+use Rattle.insn_set.specs.declared.insn.AtomicSize.{AtomicSize}
+use Rattle.insn_set.specs.declared.insn.AtomicOp.{AtomicOp}
 use Rattle.reg_kinds.specs.declared.kind.Kind.{Kind}
 use Rattle.reg_kinds.specs.declared.kind.Kind.TheVariants as kind
 use Rattle.reg_kinds.specs.declared.facts.Facts.{Facts}
-use Rattle.reg_kinds.specs.declared.reason.Reason.TheVariants.{PointerArithmetic, PartOfSpill, ContextAccess, PointerStored, UnalignedAtomic}
+use Rattle.reg_kinds.specs.declared.reason.Reason.TheVariants.{PartOfSpill, ContextAccess, PointerStored, UnalignedAtomic}
 use Rattle.reg_kinds.specs.Stack.{loaded, stack_read, stack_write}
 use Rattle.tagged_model.specs.StateInvariant.{HasMaps}
 use Rattle.tagged_model.specs.declared.shape.MapShape.{MapShape}
@@ -27,7 +27,7 @@ use Rattle.tagged_model.specs.declared.value.Tagged.{Tagged}
 use Rattle.tagged_model.specs.declared.value.Tagged.TheVariants.{Scalar}
 use Rattle.tagged_model.specs.Cells.{and_then, number_from, write_cell}
 use Rattle.tagged_model.specs.State.{RunState, with_cell, stack_place, stack_load, stack_store, word_at, context_load, object_bytes, object_stored, load, store}
-use Rattle.insn_codec.specs.Atomic.{atomic_operator, is_wide_atomic, access_size}
+use Rattle.insn_set.specs.Atomic.{atomic_operator, is_wide_atomic, access_size}
 use Rattle.tagged_model.specs.Values.{of_numbers}
 use Rattle.tagged_model.specs.Step.{changed}
 use Rattle.tagged_model.specs.Laws.{StackReadAdmits, StackWriteAdmits, ValueLoadAdmits, ValueStoreAdmits}

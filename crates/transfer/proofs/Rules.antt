@@ -11,9 +11,9 @@ use Rattle.interval.specs.Ranges.{is_constant, full}
 use Rattle.words.specs.declared.operator.AluOp.{AluOp}
 use Rattle.words.specs.declared.operator.AluOp.TheVariants as alu
 use Rattle.words.specs.declared.operator.Condition.{Condition}
-use Rattle.insn_codec.specs.declared.insn.Operand.{Operand}
-use Rattle.insn_codec.specs.declared.insn.Insn.{Insn}
-use Rattle.insn_codec.specs.declared.insn.Insn.TheVariants.{Alu, Movsx, Neg, End, Ja, Jal, Jump, Call, Exit, Load, Store, Atomic, Const, MapFd, MapValue}
+use Rattle.insn_set.specs.declared.insn.Operand.{Operand}
+use Rattle.insn_set.specs.declared.insn.Insn.{Insn}
+use Rattle.insn_set.specs.declared.insn.Insn.TheVariants.{Alu, Movsx, Neg, End, Ja, Jal, Jump, Call, Exit, Load, Store, Atomic, Const, MapFd, MapValue}
 use Rattle.reg_kinds.specs.declared.kind.Kind.{Kind}
 use Rattle.reg_kinds.specs.declared.kind.Kind.TheVariants as kind
 use Rattle.reg_kinds.specs.declared.kind.Slot.{Slot}
@@ -26,7 +26,7 @@ use Rattle.reg_kinds.specs.Pointers.{value_span}
 use Rattle.reg_kinds.specs.Kinds.{is_pointer, kind_at, slot_at, with_kind, with_slot}
 use Rattle.reg_kinds.specs.Stack.{touched, loaded, read_slot, stack_read, slot_written, facts_written, stack_write}
 use Rattle.words.specs.declared.operator.Operator.TheVariants.{Binary}
-use Rattle.insn_codec.specs.Atomic.{access_size}
+use Rattle.insn_set.specs.Atomic.{access_size}
 use Rattle.tagged_model.specs.Values.{is_null_test}
 use Rattle.tagged_model.specs.Cells.{and_then}
 use Rattle.transfer.specs.declared.arithmetic.Direction.{Direction}

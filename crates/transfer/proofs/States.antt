@@ -7,8 +7,8 @@ use Rattle.interval.specs.Ranges.{constant, IsMember}
 use Rattle.words.specs.Words.{unsigned}
 use Rattle.words.specs.declared.operator.AluOp.{AluOp}
 use Rattle.words.specs.declared.operator.AluOp.TheVariants as alu
-use Rattle.insn_codec.specs.declared.insn.Operand.{Operand}
-use Rattle.insn_codec.specs.declared.insn.Operand.TheVariants.{Imm, Reg}
+use Rattle.insn_set.specs.declared.insn.Operand.{Operand}
+use Rattle.insn_set.specs.declared.insn.Operand.TheVariants.{Imm, Reg}
 use Rattle.reg_kinds.specs.declared.kind.Kind.{Kind}
 use Rattle.reg_kinds.specs.declared.kind.Kind.TheVariants as kind
 use Rattle.reg_kinds.specs.declared.facts.Facts.{Facts}

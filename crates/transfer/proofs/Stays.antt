@@ -15,14 +15,14 @@ use Rattle.words.specs.declared.operator.AluOp.{AluOp}
 use Rattle.words.specs.declared.operator.AluOp.TheVariants as alu
 use Rattle.words.specs.declared.operator.Condition.{Condition}
 use Rattle.words.specs.declared.stack.AccessSize.{AccessSize}
-use Rattle.insn_codec.specs.declared.insn.Operand.{Operand}
-use Rattle.insn_codec.specs.declared.insn.Operand.TheVariants.{Imm, Reg}
-use Rattle.insn_codec.specs.declared.insn.Load.{Load as LoadInsn}
-use Rattle.insn_codec.specs.declared.insn.AtomicSize.{AtomicSize}
-use Rattle.insn_codec.specs.declared.insn.AtomicOp.{AtomicOp}
-use Rattle.insn_codec.specs.declared.insn.Insn.{Insn}
-use Rattle.insn_codec.specs.declared.insn.Insn.TheVariants.{Alu, Movsx, Neg, End, Ja, Jal, Jump, Call, Exit, Load, Store, Atomic, Const, MapFd, MapValue}
-use Rattle.insn_codec.specs.Spelling.{IsInsn}
+use Rattle.insn_set.specs.declared.insn.Operand.{Operand}
+use Rattle.insn_set.specs.declared.insn.Operand.TheVariants.{Imm, Reg}
+use Rattle.insn_set.specs.declared.insn.Load.{Load as LoadInsn}
+use Rattle.insn_set.specs.declared.insn.AtomicSize.{AtomicSize}
+use Rattle.insn_set.specs.declared.insn.AtomicOp.{AtomicOp}
+use Rattle.insn_set.specs.declared.insn.Insn.{Insn}
+use Rattle.insn_set.specs.declared.insn.Insn.TheVariants.{Alu, Movsx, Neg, End, Ja, Jal, Jump, Call, Exit, Load, Store, Atomic, Const, MapFd, MapValue}
+use Rattle.insn_set.specs.Spelling.{IsInsn}
 use Rattle.reg_kinds.specs.declared.kind.Kind.{Kind}
 use Rattle.reg_kinds.specs.declared.kind.Kind.TheVariants as kind
 use Rattle.reg_kinds.specs.declared.facts.Facts.{Facts}
@@ -31,7 +31,7 @@ use Rattle.reg_kinds.specs.declared.reason.Reason.TheVariants.{NoDirectValue, Po
 use Rattle.reg_kinds.specs.Reason.{and_then_ok}
 use Rattle.reg_kinds.specs.Pointers.{value_span}
 use Rattle.reg_kinds.specs.Kinds.{is_pointer, kind_at, with_kind}
-use Rattle.reg_kinds.specs.Stack.{loaded, stack_read, stack_write}
+use Rattle.reg_kinds.specs.Stack.{loaded, stack_read}
 use Rattle.words.specs.Words.{unsigned}
 use Rattle.words.specs.Stack.{bytes_of}
 use Rattle.tagged_model.specs.declared.helper.Helper.{Helper}
@@ -42,7 +42,7 @@ use Rattle.tagged_model.specs.Table.{has_direct_value}
 use Rattle.tagged_model.specs.Helpers.{helper_of}
 use Rattle.words.specs.declared.operator.Operator.TheVariants.{Binary}
 use Rattle.words.specs.Widths.{width}
-use Rattle.insn_codec.specs.Atomic.{access_size}
+use Rattle.insn_set.specs.Atomic.{access_size}
 use Rattle.tagged_model.specs.Values.{is_null_test, holds_of_pointers}
 use Rattle.tagged_model.specs.Cells.{and_then}
 use Rattle.transfer.specs.declared.arithmetic.Direction.{Direction}

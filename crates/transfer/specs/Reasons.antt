@@ -1,9 +1,9 @@
 -- The reasons for which the transfer function refuses an instruction. This project's own.
 use Rattle.std.specs.Prelude.{◌≡◌, ℕ, false, None, Some, Err}
-use Rattle.insn_codec.specs.declared.insn.Insn.{Insn}
-use Rattle.insn_codec.specs.declared.profile.Reference.{Reference}
-use Rattle.insn_codec.specs.declared.profile.Reference.TheVariants as names
-use Rattle.insn_codec.specs.Profile.{profile}
+use Rattle.insn_set.specs.declared.insn.Insn.{Insn}
+use Rattle.insn_set.specs.declared.profile.Reference.{Reference}
+use Rattle.insn_set.specs.declared.profile.Reference.TheVariants as names
+use Rattle.insn_set.specs.Profile.{profile}
 use Rattle.reg_kinds.specs.declared.facts.Facts.{Facts}
 use Rattle.reg_kinds.specs.declared.reason.Reason.{Reason}
 use Rattle.reg_kinds.specs.declared.reason.Reason.TheVariants.{JumpOutside, JumpBackward, FallsOff, Unreachable, UnknownHelper, FramePointerWritten, DescriptorNotOpen, DescriptorNotMap, NoDirectValue, Memory}

@@ -1,9 +1,9 @@
 -- Soundness: the facts on the edge that a step takes admit the state after it. Which edge a jump takes, and where it leads, is RFC
 -- 9669, section 4.3; the rest is this project's own.
 use Rattle.std.specs.Prelude.{◌≡◌, ℕ, ◌<◌, ◌^◌, Bool, true, false, Option, Some, None, IsSome, unwrap_or, Ok}
-use Rattle.insn_codec.specs.declared.insn.Insn.{Insn}
-use Rattle.insn_codec.specs.declared.insn.Insn.TheVariants.{Ja, Jal, Jump}
-use Rattle.insn_codec.specs.Spelling.{IsInsn}
+use Rattle.insn_set.specs.declared.insn.Insn.{Insn}
+use Rattle.insn_set.specs.declared.insn.Insn.TheVariants.{Ja, Jal, Jump}
+use Rattle.insn_set.specs.Spelling.{IsInsn}
 use Rattle.reg_kinds.specs.declared.kind.Kind.{Kind}
 use Rattle.reg_kinds.specs.declared.kind.Kind.TheVariants.{Scalar, MaybeValue}
 use Rattle.reg_kinds.specs.declared.kind.Slot.{Slot}
@@ -22,7 +22,7 @@ use Rattle.transfer.specs.Branches.{Edges}
 use Rattle.tagged_model.specs.Named.{Shapes}
 use Rattle.transfer.specs.Calls.{call_facts}
 use Rattle.transfer.specs.Effects.{effect}
-use Rattle.insn_codec.specs.Flow.{falls_to, jumps_to}
+use Rattle.insn_set.specs.Flow.{falls_to, jumps_to}
 
 -- ---- facts well formed at slot n: a range ends below 2 ^ 64, a mask has eight bits, and a look-up was at a slot below
 

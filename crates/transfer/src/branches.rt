@@ -1,11 +1,11 @@
 //! The facts on the two edges of a conditional jump.
 
-ghost use Rattle.std.specs.Prelude.{◌≡◌, ◌<◌, ◌≤◌, if◌then◌else◌, option_map, Some, None, IfOk, IfErr, OnErr, Ok, Err};
+ghost use Rattle.std.specs.Prelude.{◌≡◌, ◌<◌, if◌then◌else◌, option_map, Some, None, IfOk, IfErr, OnErr, Ok, Err};
 ghost use Rattle.transfer.specs.Branches.{with_pair, is_same, number_edges, pointer_edges, settled_edges, branch_edges};
 ghost use Rattle.tagged_model.specs.Values.{is_null_test};
 ghost use Rattle.transfer.specs.Flows.{edges_of};
 
-use insn_codec::{Operand, Reg};
+use insn_set::{Operand, Reg};
 use interval::{Range, refine};
 use reg_kinds::{Facts, Kind, Reason, settle};
 use words::Condition;

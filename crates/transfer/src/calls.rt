@@ -1,6 +1,6 @@
 //! Accesses to the values of maps, and calls.
 
-ghost use Rattle.std.specs.Prelude.{◌≡◌, ◌<◌, ◌≤◌, ◌^◌, ◌+ℤ◌, pos, int_le, ◌&&◌, if◌then◌else◌, IfOk, IfErr, OnErr, OnOk, Ok, Err};
+ghost use Rattle.std.specs.Prelude.{◌≡◌, ◌<◌, ◌^◌, ◌+ℤ◌, pos, int_le, ◌&&◌, if◌then◌else◌, IfOk, IfErr, OnErr, OnOk, Ok, Err};
 ghost use Rattle.tagged_model.specs.Named.{shapes_named};
 ghost use Rattle.tagged_model.specs.declared.helper.Helper.TheVariants.{LookUp, Update, Delete, LoadBytes};
 ghost use Rattle.reg_kinds.specs.declared.reason.Reason.TheVariants.{OutsideValue};

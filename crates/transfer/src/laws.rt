@@ -2,7 +2,7 @@
 
 ghost use Rattle.std.specs.Prelude.{◌≡◌, ◌≢◌, ℕ, Err};
 ghost use Rattle.tagged_model.specs.Named.{Shapes};
-ghost use Rattle.insn_codec.specs.declared.insn.Insn.{Insn};
+ghost use Rattle.insn_set.specs.declared.insn.Insn.{Insn};
 ghost use Rattle.reg_kinds.specs.declared.facts.Facts.{Facts};
 ghost use Rattle.reg_kinds.specs.declared.reason.Reason.{Reason};
 ghost use Rattle.reg_kinds.specs.declared.reason.Reason.TheVariants.{Memory};

@@ -2,9 +2,9 @@
 use Rattle.std.proofs.Common.{◌≡◌, ◌⊎◌, ℕ, zero, suc, ◌+◌, ◌-◌, ◌<◌, ◌==◌, Bool, true, List, Option, Some, None, Result, Ok, Err, refl, sym, ap, subst, ◌∙◌, ⊎_elim, inl, inr, arith}
 use Rattle.std.specs.Option.{IsSome}
 use Rattle.std.proofs.lemmas.Bool.{cond_both, cond-true, eqb-true}
-use Rattle.insn_codec.specs.declared.insn.Insn.{Insn}
-use Rattle.insn_codec.specs.Program.{IsProgram, begins_at}
-use Rattle.insn_codec.specs.BeginLaws.{first_begins}
+use Rattle.insn_set.specs.declared.insn.Insn.{Insn}
+use Rattle.insn_set.specs.Program.{IsProgram, begins_at}
+use Rattle.insn_set.specs.BeginLaws.{first_begins}
 use Rattle.reg_kinds.specs.declared.facts.Facts.{Facts}
 use Rattle.reg_kinds.specs.declared.reason.Reason.{Reason}
 use Rattle.reg_kinds.specs.Kinds.{entry}

@@ -1,15 +1,15 @@
 -- The pass over what is known, against the definition that asks the slots below.
-use Rattle.std.proofs.Common.{◌≡◌, ℕ, ◌+◌, ◌<◌, ◌≤◌, inl, inr, Bool, true, false, ◌&&◌, List, [], ◌∷◌, length, replicate, Option, Some, None, Result, Ok, Err, IsSome, refl, sym, ap, subst, ◌∙◌, add-one, arith}
+use Rattle.std.proofs.Common.{◌≡◌, ℕ, ◌+◌, ◌<◌, ◌≤◌, inl, inr, Bool, true, false, ◌&&◌, List, length, replicate, Option, Some, None, Result, Ok, Err, refl, sym, ap, subst, ◌∙◌, add-one, arith}
 use Rattle.std.specs.Prelude.{◌==◌, nat_lt, is_some, if◌then◌else◌}
 use Rattle.std.proofs.Math.Bool.{and-true}
 use Rattle.std.proofs.lemmas.Bool.{false≢true, cases_order, cases_eq, eq-eqb, ne_eqb, lt-ltb}
 use Rattle.std.proofs.lemmas.List.{get_or-replicate, length-replicate}
 use Rattle.std.proofs.lemmas.Option.{none-some}
-use Rattle.insn_codec.specs.declared.insn.Insn.{Insn}
-use Rattle.insn_codec.specs.declared.insn.Insn.TheVariants.{Alu, Movsx, Neg, End, Ja, Jal, Jump, Call, Exit, Load, Store, Atomic, Const, MapFd, MapValue}
-use Rattle.insn_codec.specs.Spelling.{slots}
-use Rattle.insn_codec.specs.Program.{begins_at, slot_count, Adjoins}
-use Rattle.insn_codec.specs.BeginLaws.{some_slots, adjoins_after, none_begins_inside, first_begins}
+use Rattle.insn_set.specs.declared.insn.Insn.{Insn}
+use Rattle.insn_set.specs.declared.insn.Insn.TheVariants.{Alu, Movsx, Neg, End, Ja, Jal, Jump, Call, Exit, Load, Store, Atomic, Const, MapFd, MapValue}
+use Rattle.insn_set.specs.Spelling.{slots}
+use Rattle.insn_set.specs.Program.{begins_at, slot_count, Adjoins}
+use Rattle.insn_set.specs.BeginLaws.{some_slots, adjoins_after, none_begins_inside, first_begins}
 use Rattle.reg_kinds.specs.declared.facts.Facts.{Facts}
 use Rattle.reg_kinds.specs.declared.kind.Kind.{Kind}
 use Rattle.reg_kinds.specs.declared.kind.Kind.TheVariants.{Scalar}
@@ -23,7 +23,7 @@ use Rattle.tagged_model.specs.Named.{Shapes}
 use Rattle.transfer.specs.Arithmetic.{check_readable}
 use Rattle.transfer.specs.Branches.{Edges}
 use Rattle.transfer.specs.Effects.{effect, exits_with}
-use Rattle.insn_codec.specs.Flow.{falls_to, jumps_to, falls, jumps, jump_target}
+use Rattle.insn_set.specs.Flow.{falls_to, jumps_to, falls, jumps, jump_target}
 use Rattle.verifier.specs.declared.pass.Pass.{Pass}
 use Rattle.verifier.specs.Shape.{is_slot, falls_into, jumps_into}
 use Rattle.verifier.specs.Before.{joined, only_if, edges_into, facts_sent, facts_from_below, facts_before}

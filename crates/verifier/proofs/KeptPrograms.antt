@@ -1,6 +1,6 @@
 -- What is kept of a program that was accepted.
 use Rattle.std.proofs.Common.{◌≡◌, ℕ, List, subst, sym, ap, ◌∙◌}
-use Rattle.insn_codec.specs.declared.insn.Insn.{Insn}
+use Rattle.insn_set.specs.declared.insn.Insn.{Insn}
 use Rattle.tagged_model.specs.declared.shape.Named.{Named}
 use Rattle.verifier.specs.Maps.{maps_of, entries_of}
 use Rattle.verifier.specs.Verdict.{IsAccepted}

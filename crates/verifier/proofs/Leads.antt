@@ -3,12 +3,12 @@ use Rattle.std.proofs.Common.{◌≡◌, ℕ, ◌<◌, ◌==◌, Bool, true, fal
 use Rattle.std.specs.Prelude.{◌&&◌, nat_le, nat_lt}
 use Rattle.std.specs.Option.{is_some, IsSome}
 use Rattle.std.proofs.lemmas.Bool.{and_parts, and_from, and_cases, both_ways, false≢true, true≢false, not-false, eqb-true, eq-eqb, leb-false, lt-ltb, cond-true}
-use Rattle.insn_codec.specs.declared.insn.Insn.{Insn}
-use Rattle.insn_codec.specs.declared.insn.Insn.TheVariants.{Ja, Jal, Jump}
-use Rattle.insn_codec.specs.Program.{slot_count, begins_at}
-use Rattle.insn_codec.specs.BeginLaws.{next_begins}
+use Rattle.insn_set.specs.declared.insn.Insn.{Insn}
+use Rattle.insn_set.specs.declared.insn.Insn.TheVariants.{Ja, Jal, Jump}
+use Rattle.insn_set.specs.Program.{slot_count, begins_at}
+use Rattle.insn_set.specs.BeginLaws.{next_begins}
 use Rattle.tagged_model.specs.declared.shape.Named.{Named}
-use Rattle.insn_codec.specs.Flow.{falls_to, jumps_to, falls, jumps}
+use Rattle.insn_set.specs.Flow.{falls_to, jumps_to, falls, jumps}
 use Rattle.verifier.specs.Shape.{is_slot, falls_into, jumps_into, leads_outside, leads_backward, structure_fault}
 use Rattle.verifier.specs.Verdict.{HasNoFault}
 use Rattle.verifier.specs.ShapeLaws.{each_is_fine}

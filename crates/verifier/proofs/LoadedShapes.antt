@@ -6,13 +6,13 @@ use Rattle.std.specs.List.{All, AllByRecursion, list_any, filter_map, cons_optio
 use Rattle.std.proofs.lemmas.Bool.{eq-eqb, ne_eqb, cond-false, true≢false, or_left, or_right}
 use Rattle.std.proofs.lemmas.Option.{none-some, same_Some}
 use Rattle.std.proofs.lemmas.List.Elements.{All-cons, All-filter}
-use Rattle.insn_codec.specs.declared.insn.Insn.{Insn}
-use Rattle.insn_codec.specs.declared.profile.Reference.{Reference}
-use Rattle.insn_codec.specs.declared.profile.Reference.TheVariants as names
-use Rattle.insn_codec.specs.Profile.{profile}
-use Rattle.insn_codec.specs.Flow.{descriptor_by, descriptor}
-use Rattle.insn_codec.specs.Program.{begins_at}
-use Rattle.insn_codec.specs.BeginLaws.{each_where_it_begins, all_that_begin}
+use Rattle.insn_set.specs.declared.insn.Insn.{Insn}
+use Rattle.insn_set.specs.declared.profile.Reference.{Reference}
+use Rattle.insn_set.specs.declared.profile.Reference.TheVariants as names
+use Rattle.insn_set.specs.Profile.{profile}
+use Rattle.insn_set.specs.Flow.{descriptor_by, descriptor}
+use Rattle.insn_set.specs.Program.{begins_at}
+use Rattle.insn_set.specs.BeginLaws.{each_where_it_begins, all_that_begin}
 use Rattle.reg_kinds.specs.declared.facts.Facts.{Facts}
 use Rattle.reg_kinds.specs.declared.reason.Reason.{Reason}
 use Rattle.reg_kinds.specs.declared.reason.Reason.TheVariants.{UnknownHelper, DescriptorNotMap, NoDirectValue}
@@ -20,7 +20,6 @@ use Rattle.tagged_model.specs.declared.shape.Named.{Named}
 use Rattle.tagged_model.specs.declared.shape.Target.{Target}
 use Rattle.tagged_model.specs.declared.shape.Target.TheVariants as target
 use Rattle.tagged_model.specs.Cells.{and_then}
-use Rattle.tagged_model.specs.declared.shape.MapShape.{MapShape}
 use Rattle.tagged_model.specs.Table.{has_direct_value}
 use Rattle.tagged_model.specs.Named.{Shapes, target_of, shape_in, shapes_named}
 use Rattle.transfer.specs.Branches.{Edges}

@@ -5,9 +5,9 @@ use Rattle.std.proofs.lemmas.Bool.{false≢true}
 use Rattle.std.proofs.lemmas.Option.{same_Some, slice_get-get_or}
 use Rattle.std.specs.List.{slice_get, list_any, filter_map, cons_option}
 use Rattle.std.proofs.lemmas.List.Elements.{filter-append, filter_map-append}
-use Rattle.insn_codec.specs.declared.insn.Insn.{Insn}
+use Rattle.insn_set.specs.declared.insn.Insn.{Insn}
 use Rattle.tagged_model.specs.Cells.{and_then}
-use Rattle.insn_codec.specs.Flow.{descriptor}
+use Rattle.insn_set.specs.Flow.{descriptor}
 use Rattle.verifier.specs.Maps.{without, distinct, maps_of}
 use Rattle.verifier.specs.inside.Descriptors.{with_descriptor}
 

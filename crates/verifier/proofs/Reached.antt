@@ -3,12 +3,12 @@ use Rattle.std.proofs.Common.{◌≡◌, ℕ, ◌+◌, ◌<◌, Bool, true, fals
 use Rattle.std.specs.Prelude.{IfSome, is_some, if◌then◌else◌}
 use Rattle.std.proofs.lemmas.Bool.{not-false, false≢true, cases_Bool, cond-true, cond-false, cases_eq, eq-eqb, ne_eqb}
 use Rattle.std.proofs.lemmas.List.{get_or-set_same, get_or-set_other, get_or-replicate, length-replicate}
-use Rattle.insn_codec.specs.declared.insn.Insn.{Insn}
-use Rattle.insn_codec.specs.Program.{begins_at, slot_count}
-use Rattle.insn_codec.specs.BeginLaws.{begins_within}
+use Rattle.insn_set.specs.declared.insn.Insn.{Insn}
+use Rattle.insn_set.specs.Program.{begins_at, slot_count}
+use Rattle.insn_set.specs.BeginLaws.{begins_within}
 use Rattle.reg_kinds.specs.declared.reason.Reason.{Reason}
 use Rattle.tagged_model.specs.declared.shape.Named.{Named}
-use Rattle.insn_codec.specs.Flow.{jumps_to, jumps, jump_target}
+use Rattle.insn_set.specs.Flow.{jumps_to, jumps, jump_target}
 use Rattle.verifier.specs.Shape.{leads_into, leads_outside, reached_from, is_reachable, first_reason, shape_of, structure_fault}
 use Rattle.verifier.specs.ShapeLaws.{IsFine, each_is_fine}
 use Rattle.verifier.specs.inside.Jumps.{JumpsLand}

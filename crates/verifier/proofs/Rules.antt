@@ -2,8 +2,8 @@
 use Rattle.std.proofs.Common.{◌≡◌, ◌≢◌, ℕ, inl, inr, Bool, List, Option, Some, None, Result, Ok, Err, subst, refl}
 use Rattle.std.specs.Prelude.{if◌then◌else◌}
 use Rattle.std.proofs.lemmas.Bool.{cond_both}
-use Rattle.insn_codec.specs.declared.insn.Insn.{Insn}
-use Rattle.insn_codec.specs.Program.{begins_at}
+use Rattle.insn_set.specs.declared.insn.Insn.{Insn}
+use Rattle.insn_set.specs.Program.{begins_at}
 use Rattle.reg_kinds.specs.declared.facts.Facts.{Facts}
 use Rattle.reg_kinds.specs.declared.reason.Reason.{Reason}
 use Rattle.reg_kinds.specs.declared.reason.Reason.TheVariants.{JumpOutside, JumpBackward, FallsOff, Unreachable, UnknownHelper, FramePointerWritten, DescriptorNotOpen, DescriptorNotMap, NoDirectValue, Memory}

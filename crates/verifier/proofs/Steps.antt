@@ -3,9 +3,9 @@ use Rattle.std.proofs.Common.{◌≡◌, ℕ, ◌+◌, ◌<◌, Bool, true, fals
 use Rattle.std.specs.Option.{IsSome}
 use Rattle.std.proofs.lemmas.Bool.{false≢true}
 use Rattle.std.proofs.lemmas.Option.{none-some, same_Some}
-use Rattle.insn_codec.specs.declared.insn.Insn.{Insn}
-use Rattle.insn_codec.specs.Spelling.{slots}
-use Rattle.insn_codec.specs.Program.{IsProgram, begins_at}
+use Rattle.insn_set.specs.declared.insn.Insn.{Insn}
+use Rattle.insn_set.specs.Spelling.{slots}
+use Rattle.insn_set.specs.Program.{IsProgram, begins_at}
 use Rattle.reg_kinds.specs.declared.facts.Facts.{Facts}
 use Rattle.reg_kinds.specs.declared.reason.Reason.{Reason}
 use Rattle.tagged_model.specs.declared.shape.Named.{Named}
@@ -19,8 +19,8 @@ use Rattle.tagged_model.specs.Laws.{JoinAdmits}
 use Rattle.transfer.specs.Branches.{Edges}
 use Rattle.transfer.specs.Effects.{effect}
 use Rattle.transfer.specs.Sound.{AreWellFormedAt, AreWellFormedOn, TransferKeepsWellFormed, EdgeAdmits, takes_jump, TakenEdgeAdmits, CoversStep, TransferIsSound}
-use Rattle.insn_codec.specs.Flow.{falls_to, jumps_to}
-use Rattle.insn_codec.specs.BeginLaws.{some_slots, begun_is_insn}
+use Rattle.insn_set.specs.Flow.{falls_to, jumps_to}
+use Rattle.insn_set.specs.BeginLaws.{some_slots, begun_is_insn}
 use Rattle.verifier.specs.Maps.{shapes_of}
 use Rattle.verifier.specs.Before.{facts_before}
 use Rattle.verifier.specs.Verdict.{reason_of, safety_fault, IsAccepted}

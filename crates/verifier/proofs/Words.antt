@@ -4,10 +4,10 @@ use Rattle.std.specs.Prelude.{◌&&◌}
 use Rattle.std.specs.List.{AllByRecursion}
 use Rattle.std.proofs.lemmas.Bool.{cond_both}
 use Rattle.std.proofs.lemmas.Nat.{and_le_l}
-use Rattle.insn_codec.specs.declared.insn.Insn.{Insn}
-use Rattle.insn_codec.specs.Spelling.{IsInsn}
-use Rattle.insn_codec.specs.Program.{begins_at}
-use Rattle.insn_codec.specs.BeginLaws.{begun_is_insn}
+use Rattle.insn_set.specs.declared.insn.Insn.{Insn}
+use Rattle.insn_set.specs.Spelling.{IsInsn}
+use Rattle.insn_set.specs.Program.{begins_at}
+use Rattle.insn_set.specs.BeginLaws.{begun_is_insn}
 use Rattle.reg_kinds.specs.declared.kind.Kind.{Kind}
 use Rattle.reg_kinds.specs.declared.kind.Kind.TheVariants.{Unreadable, Scalar, MapRef, Stack, Ctx, Value, MaybeValue}
 use Rattle.reg_kinds.specs.declared.kind.Slot.{Slot}

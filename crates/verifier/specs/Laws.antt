@@ -1,13 +1,13 @@
 -- Laws of the verdict. This project's own.
 use Rattle.std.specs.Prelude.{◌≡◌, ◌≢◌, ℕ, List, slice_get, Some, IsSome}
 use Rattle.std.specs.List.{All}
-use Rattle.insn_codec.specs.declared.insn.Insn.{Insn}
-use Rattle.insn_codec.specs.Program.{begins_at}
+use Rattle.insn_set.specs.declared.insn.Insn.{Insn}
+use Rattle.insn_set.specs.Program.{begins_at}
 use Rattle.reg_kinds.specs.declared.reason.Reason.TheVariants.{UnknownHelper, DescriptorNotMap, NoDirectValue}
 use Rattle.tagged_model.specs.declared.shape.MapShape.{MapShape}
 use Rattle.tagged_model.specs.declared.shape.Named.{Named}
 use Rattle.tagged_model.specs.Named.{shapes_named}
-use Rattle.insn_codec.specs.Flow.{descriptor}
+use Rattle.insn_set.specs.Flow.{descriptor}
 use Rattle.verifier.specs.Shape.{structure_fault}
 use Rattle.verifier.specs.Maps.{maps_of, shapes_of}
 use Rattle.verifier.specs.Verdict.{HasNoFault, IsAccepted, safety_fault}

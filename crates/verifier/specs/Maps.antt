@@ -1,10 +1,10 @@
 -- The descriptors of the maps that a program loads, or of which it loads values, and the shapes of these maps. This project's own.
 use Rattle.std.specs.Prelude.{ℕ, Bool, ◌==◌, not, List, [], ◌∷◌}
 use Rattle.std.specs.List.{list_any, filter, filter_map}
-use Rattle.insn_codec.specs.declared.insn.Insn.{Insn}
+use Rattle.insn_set.specs.declared.insn.Insn.{Insn}
 use Rattle.tagged_model.specs.declared.shape.Named.{Named}
 use Rattle.tagged_model.specs.Named.{Shapes, shapes_named}
-use Rattle.insn_codec.specs.Flow.{descriptor}
+use Rattle.insn_set.specs.Flow.{descriptor}
 
 -- the descriptors other than fd
 abbrev pub without : ℕ → List ℕ → List ℕ

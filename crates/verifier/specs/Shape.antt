@@ -2,11 +2,11 @@
 -- registers hold. The rules and their order are this project's own.
 use Rattle.std.specs.Prelude.{ℕ, zero, suc, ◌==◌, Bool, true, false, not, ◌&&◌, ◌||◌, nat_lt, nat_le, List, [], ◌∷◌, Option, Some, None, is_some, if◌then◌else◌}
 use Rattle.std.specs.Option.{option_map_or}
-use Rattle.insn_codec.specs.declared.insn.Insn.{Insn}
-use Rattle.insn_codec.specs.declared.profile.Reference.{Reference}
-use Rattle.insn_codec.specs.declared.profile.Reference.TheVariants as names
-use Rattle.insn_codec.specs.Profile.{profile}
-use Rattle.insn_codec.specs.Program.{begins_at, slot_count}
+use Rattle.insn_set.specs.declared.insn.Insn.{Insn}
+use Rattle.insn_set.specs.declared.profile.Reference.{Reference}
+use Rattle.insn_set.specs.declared.profile.Reference.TheVariants as names
+use Rattle.insn_set.specs.Profile.{profile}
+use Rattle.insn_set.specs.Program.{begins_at, slot_count}
 use Rattle.reg_kinds.specs.declared.reason.Reason.{Reason}
 use Rattle.reg_kinds.specs.declared.reason.Reason.TheVariants.{JumpOutside, JumpBackward, FallsOff, Unreachable, UnknownHelper, FramePointerWritten, DescriptorNotOpen, DescriptorNotMap, NoDirectValue}
 use Rattle.tagged_model.specs.declared.shape.Named.{Named}
@@ -15,7 +15,7 @@ use Rattle.tagged_model.specs.declared.shape.Target.TheVariants as target
 use Rattle.tagged_model.specs.Named.{target_of, shapes_named}
 use Rattle.tagged_model.specs.Table.{has_direct_value}
 use Rattle.tagged_model.specs.Helpers.{helper_of}
-use Rattle.insn_codec.specs.Flow.{falls_to, jumps_to, falls, jumps, written_register, descriptor}
+use Rattle.insn_set.specs.Flow.{falls_to, jumps_to, falls, jumps, written_register, descriptor}
 
 -- ---- the edges of an instruction
 

@@ -1,8 +1,8 @@
 -- The verdict on a program: the first fault of its shape, else the first instruction that may not be run with the
 -- facts before it, else it is accepted. The rules and their order are this project's own.
 use Rattle.std.specs.Prelude.{◌≡◌, ℕ, ◌<◌, List, Option, Some, None, Result, Ok, Err, ◌⊎◌}
-use Rattle.insn_codec.specs.declared.insn.Insn.{Insn}
-use Rattle.insn_codec.specs.Program.{begins_at}
+use Rattle.insn_set.specs.declared.insn.Insn.{Insn}
+use Rattle.insn_set.specs.Program.{begins_at}
 use Rattle.reg_kinds.specs.declared.reason.Reason.{Reason}
 use Rattle.reg_kinds.specs.declared.reason.Reason.TheVariants.{Memory}
 use Rattle.tagged_model.specs.declared.shape.Named.{Named}

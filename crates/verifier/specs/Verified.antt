@@ -1,11 +1,11 @@
 -- Accepted programs. This project's own.
 use Rattle.std.specs.Prelude.{◌≡◌, ℕ, ◌+◌, ◌<◌, List, length, Some, IsSome, true}
-use Rattle.insn_codec.specs.declared.insn.Insn.{Insn}
-use Rattle.insn_codec.specs.Spelling.{slots}
-use Rattle.insn_codec.specs.Program.{begins_at}
+use Rattle.insn_set.specs.declared.insn.Insn.{Insn}
+use Rattle.insn_set.specs.Spelling.{slots}
+use Rattle.insn_set.specs.Program.{begins_at}
 use Rattle.tagged_model.specs.declared.shape.Named.{Named}
 use Rattle.tagged_model.specs.Named.{Shapes, shapes_named}
-use Rattle.insn_codec.specs.Flow.{falls, jumps, jump_target}
+use Rattle.insn_set.specs.Flow.{falls, jumps, jump_target}
 use Rattle.verifier.specs.Maps.{maps_of, entries_of}
 use Rattle.verifier.specs.Verdict.{IsAccepted}
 

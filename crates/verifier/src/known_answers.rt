@@ -1,7 +1,7 @@
 //! Known answers of the watched verdict and of the private types, proved from their contracts alone. Nothing calls these functions.
 
 ghost use Rattle.std.specs.Prelude.{◌≡◌, ◌≢◌, ◌<◌, ℕ, length, slice_index_or, None, IfOk, OnOk};
-ghost use Rattle.insn_codec.specs.Program.{slot_count};
+ghost use Rattle.insn_set.specs.Program.{slot_count};
 ghost use Rattle.verifier.specs.Maps.{shapes_of};
 ghost use Rattle.verifier.specs.Told.{reached};
 

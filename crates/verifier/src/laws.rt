@@ -2,7 +2,7 @@
 //! of a function that does nothing.
 
 ghost use Rattle.std.specs.Prelude.{◌≡◌, ◌≢◌, ℕ, List};
-ghost use Rattle.insn_codec.specs.declared.insn.Insn.{Insn};
+ghost use Rattle.insn_set.specs.declared.insn.Insn.{Insn};
 ghost use Rattle.reg_kinds.specs.declared.reason.Reason.{Reason};
 ghost use Rattle.reg_kinds.specs.declared.reason.Reason.TheVariants.{Memory};
 ghost use Rattle.tagged_model.specs.declared.shape.Named.{Named};

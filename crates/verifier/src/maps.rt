@@ -1,9 +1,9 @@
 //! The maps that a program loads, including those of which it loads a value.
 
 ghost use Rattle.std.specs.Prelude.{◌≡◌, is_some, IfOk, OnOk};
-ghost use Rattle.insn_codec.specs.Program.{begins_at};
+ghost use Rattle.insn_set.specs.Program.{begins_at};
 ghost use Rattle.tagged_model.specs.Cells.{and_then};
-ghost use Rattle.insn_codec.specs.Flow.{descriptor};
+ghost use Rattle.insn_set.specs.Flow.{descriptor};
 ghost use Rattle.verifier.specs.Maps.{maps_of, is_among, entries_of};
 ghost use Rattle.verifier.specs.inside.Descriptors.{with_descriptor};
 

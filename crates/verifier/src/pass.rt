@@ -6,8 +6,8 @@ ghost use Rattle.verifier.specs.inside.Edges.{falling_from, jumping_from, MayRun
 ghost use Rattle.verifier.specs.inside.Arriving.{Brings, arriving_at, on_falling_edge, on_jumping_edge};
 ghost use Rattle.verifier.specs.inside.Jumps.{JumpsLand};
 ghost use Rattle.verifier.specs.inside.Telling.{IsFaultTold, IsFirstTold, StopsTelling};
-ghost use Rattle.insn_codec.specs.Flow.{jump_target};
-ghost use Rattle.insn_codec.specs.Program.{slot_count};
+ghost use Rattle.insn_set.specs.Flow.{jump_target};
+ghost use Rattle.insn_set.specs.Program.{slot_count};
 ghost use Rattle.verifier.specs.Told.{known_at, with_more, IsToldBelow};
 ghost use Rattle.verifier.specs.Verdict.{HasNoFault, safety_fault};
 

@@ -2,8 +2,8 @@
 
 ghost use Rattle.std.specs.Prelude.{◌≡◌, ◌⊎◌, ◌+◌, ◌<◌, ◌≤◌, ◌&&◌, ◌||◌, ℕ, nat_le, not, false, [], ◌∷◌, length, slice_index_or, IsTrue, IfSome, IfErr, OnOk, Some};
 ghost use Rattle.reg_kinds.specs.declared.reason.Reason.TheVariants.{JumpOutside, JumpBackward, FallsOff, Unreachable, FramePointerWritten, DescriptorNotOpen, DescriptorNotMap, NoDirectValue};
-ghost use Rattle.insn_codec.specs.Flow.{falls_to, jumps_to, falls, jumps, jump_target, written_register, descriptor, descriptor_by};
-ghost use Rattle.verifier.specs.Shape.{leads_into, is_reachable, is_slot, calls_unknown, is_unknown_helper, is_not_open, is_not_map, lacks_value, is_no_value, leads_outside, leads_backward, first_reason, shape_reason, structure_fault};
+ghost use Rattle.insn_set.specs.Flow.{falls_to, jumps_to, falls, jumps, jump_target, descriptor, descriptor_by};
+ghost use Rattle.verifier.specs.Shape.{leads_into, is_reachable, is_slot, is_unknown_helper, is_not_open, is_not_map, is_no_value, leads_outside, leads_backward, first_reason, shape_reason, structure_fault};
 ghost use Rattle.verifier.specs.inside.Jumps.{JumpsLand};
 ghost use Rattle.verifier.specs.Verdict.{IsFirstFault, HasNoFault, memory_fault};
 

@@ -1,5 +1,5 @@
 -- Laws of the words and bytes that represent a state, helper by helper. This project's own.
-use Rattle.std.specs.Prelude.{◌≡◌, ℕ, ◌+◌, ◌<◌, ◌≤◌, ℤ, Bool, true, List, [], length, slice_get, slice_index, slice_set, Option, Some, None, IsSome}
+use Rattle.std.specs.Prelude.{◌≡◌, ℕ, ◌+◌, ◌<◌, ◌≤◌, ℤ, Bool, true, List, [], length, slice_get, slice_index, Option, Some, None, IsSome}
 use Rattle.std.specs.Map.{values_of}
 use Rattle.words.specs.Bytes.{bytes_at, written_at}
 use Rattle.words.specs.Stack.{stack_size, place}

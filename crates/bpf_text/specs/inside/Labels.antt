@@ -5,7 +5,7 @@ use Rattle.std.specs.Str.{bytes_eq}
 use Rattle.std.specs.HashMap.{HashMap, get_by}
 use Rattle.std.specs.declared.hash.FoldHasher.{FoldHasher}
 use Rattle.std.specs.declared.hash.BuildHasherDefault.{BuildHasherDefault}
-use Rattle.insn_codec.specs.declared.TheConstants.{MAX_SLOTS}
+use Rattle.insn_set.specs.declared.TheConstants.{MAX_SLOTS}
 use Rattle.text_line.specs.declared.form.Form.{Form}
 use Rattle.text_line.specs.Form.{names_label}
 use Rattle.text_line.specs.Line.{Line, blank, label, code, IsWellFormed}

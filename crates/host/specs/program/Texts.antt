@@ -1,9 +1,10 @@
 -- A program as hex lines, which `dis` and `verify` read, and lines whose slots are no program. This project's own.
 use Rattle.std.specs.Prelude.{◌≡◌, ℕ, List, IsUtf8}
 use Rattle.bpf_text.specs.HexText.{IsHexText}
-use Rattle.insn_codec.specs.Program.{IsProgram, IsProgramFault, program_bytes}
+use Rattle.insn_set.specs.Program.{IsProgram, program_bytes}
+use Rattle.insn_codec.specs.ProgramFault.{IsProgramFault}
 use Rattle.insn_codec.specs.declared.fault.CodecFault.{CodecFault}
-use Rattle.insn_codec.specs.declared.insn.Insn.{Insn}
+use Rattle.insn_set.specs.declared.insn.Insn.{Insn}
 use Rattle.host.specs.program.Failure.{codec_failure}
 use Rattle.host.specs.declared.program.failure.Failure.{Failure}
 

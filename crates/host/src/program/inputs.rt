@@ -1,6 +1,6 @@
 //! Readers of an input, of map arguments and of programs, for another program that reads them as the subcommands do.
 
-ghost use Rattle.std.specs.Prelude.{◌≡◌, IfOk, IsUtf8};
+ghost use Rattle.std.specs.Prelude.{IfOk, IsUtf8};
 ghost use Rattle.bpf_text.specs.Assembly.{IsAssembled};
 ghost use Rattle.clap.specs.Walk.{texts};
 ghost use Rattle.host.specs.program.Shapes.{AreMapArguments};

@@ -6,7 +6,7 @@ ghost use Rattle.host.specs.inside.program.Outcomes.{Fails, FailsOnly, Gives};
 ghost use Rattle.host.specs.program.Texts.{IsProgramText};
 ghost use Rattle.host.specs.inside.program.Rewriting.{streams, WritesWholeOutput, IsAssembly, IsDisassembly, IsNoProgramText, IsNoText, ReadsWholeInput, IsInputRefused, IsRewritten, HasNoInput, StopsRewriting};
 ghost use Rattle.host.specs.declared.program.failure.Failure.{Failure as AnyFailure};
-ghost use Rattle.insn_codec.specs.declared.insn.Insn.{Insn as AnyInsn};
+ghost use Rattle.insn_set.specs.declared.insn.Insn.{Insn as AnyInsn};
 
 use crate::program::failure::Failure;
 use bpf_text::{assemble, disassemble, from_hex_lines, hex_lines};

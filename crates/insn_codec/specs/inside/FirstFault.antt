@@ -1,14 +1,14 @@
 -- The fault at the front of bytes, in the order in which the code looks for it. That it is the fault of the grammar (`HasFault`) is
 -- proved. The fields are those of RFC 9669, sections 3 to 5; the order is this project's own.
 use Rattle.std.specs.Prelude.{ℕ, Bool, true, ◌&&◌, List, length, drop, Option, Some, None, nat_lt, nat_le, ◌==◌, if◌then◌else◌}
-use Rattle.insn_codec.specs.declared.slot.SlotFields.{SlotFields}
+use Rattle.insn_set.specs.declared.slot.SlotFields.{SlotFields}
 use Rattle.insn_codec.specs.declared.form.OpcodeForm.{OpcodeForm}
 use Rattle.insn_codec.specs.declared.form.OpcodeForm.TheVariants as form
 use Rattle.insn_codec.specs.declared.fault.FaultKind.{FaultKind}
 use Rattle.insn_codec.specs.declared.fault.FaultKind.TheVariants.{Opcode, Reserved, Register, SecondSlot, Ragged}
 use Rattle.insn_codec.specs.declared.opcode.WideKind.{WideKind}
 use Rattle.insn_codec.specs.declared.opcode.WideKind.TheVariants.{Number, Map, MapValue}
-use Rattle.insn_codec.specs.inside.Slots.{slot_of}
+use Rattle.insn_set.specs.Slot.{slot_of}
 use Rattle.insn_codec.specs.inside.Form.{form_at, listed, wide_at}
 
 -- ---- the second slot of a wide instruction: RFC 9669, sections 3.2 and 5.4

@@ -14,10 +14,10 @@ use Rattle.words.specs.declared.operator.ExtendedBits.{ExtendedBits}
 use Rattle.words.specs.declared.operator.ExtendedBits.TheVariants as narrow
 use Rattle.words.specs.declared.stack.AccessSize.{AccessSize}
 use Rattle.words.specs.declared.stack.AccessSize.TheVariants as size
-use Rattle.insn_codec.specs.declared.insn.AtomicSize.{AtomicSize}
-use Rattle.insn_codec.specs.declared.insn.AtomicSize.TheVariants as atomic_size
-use Rattle.insn_codec.specs.declared.insn.AtomicOp.{AtomicOp}
-use Rattle.insn_codec.specs.declared.insn.AtomicOp.TheVariants as atomic
+use Rattle.insn_set.specs.declared.insn.AtomicSize.{AtomicSize}
+use Rattle.insn_set.specs.declared.insn.AtomicSize.TheVariants as atomic_size
+use Rattle.insn_set.specs.declared.insn.AtomicOp.{AtomicOp}
+use Rattle.insn_set.specs.declared.insn.AtomicOp.TheVariants as atomic
 use Rattle.text_line.specs.declared.form.Number.{Number}
 use Rattle.text_line.specs.declared.form.SourceOperand.{SourceOperand}
 use Rattle.text_line.specs.declared.form.SourceOperand.TheVariants as source
@@ -25,7 +25,7 @@ use Rattle.text_line.specs.declared.form.Form.{Form}
 use Rattle.text_line.specs.declared.form.Form.TheVariants as form
 use Rattle.text_line.specs.declared.form.Address.{Address}
 use Rattle.text_line.specs.Line.{Line, blank, label, code as Code}
-use Rattle.insn_codec.specs.Sizes.{is_short}
+use Rattle.insn_set.specs.Sizes.{is_short}
 use Rattle.text_line.specs.declared.form.JumpTarget.{JumpTarget}
 use Rattle.text_line.specs.declared.form.JumpTarget.TheVariants as target
 use Rattle.std.specs.Borrow.{Bor}

@@ -1,8 +1,8 @@
 -- The targets of jumps. This project's own.
 use Rattle.std.specs.Prelude.{◌≡◌, ℕ, List, Some, IfSome, ◌<◌}
-use Rattle.insn_codec.specs.declared.insn.Insn.{Insn}
-use Rattle.insn_codec.specs.Program.{begins_at, slot_count}
-use Rattle.insn_codec.specs.Flow.{jump_target}
+use Rattle.insn_set.specs.declared.insn.Insn.{Insn}
+use Rattle.insn_set.specs.Program.{begins_at, slot_count}
+use Rattle.insn_set.specs.Flow.{jump_target}
 
 -- each jump leads to a slot of the program
 abbrev pub JumpsLand : List Insn → Type 0

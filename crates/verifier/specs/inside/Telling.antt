@@ -1,6 +1,6 @@
 -- What a watcher has received if the pass ends early. This project's own.
 use Rattle.std.specs.Prelude.{◌≡◌, ◌⊎◌, ℕ, ◌+◌, List, Option}
-use Rattle.insn_codec.specs.declared.insn.Insn.{Insn}
+use Rattle.insn_set.specs.declared.insn.Insn.{Insn}
 use Rattle.reg_kinds.specs.declared.facts.Facts.{Facts}
 use Rattle.tagged_model.specs.Named.{Shapes}
 use Rattle.verifier.specs.declared.fault.VerifyFault.{VerifyFault}

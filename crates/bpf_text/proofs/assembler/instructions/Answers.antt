@@ -1,5 +1,5 @@
 use Rattle.std.proofs.Common.{length, List, ◌++◌, ap, ◌∙◌, arith, inr}
-use Rattle.insn_codec.specs.declared.insn.Insn.{Insn}
+use Rattle.insn_set.specs.declared.insn.Insn.{Insn}
 use Rattle.text_line.specs.Shown.{seen_option, seen_lines}
 use Rattle.bpf_text.proofs.Assembling.{Finds, Ends, begins, goes_on, stops, ends, finds_all, formed_at, seen_at, length-seen_lines, one_or_none}
 use Rattle.bpf_text.proofs.assembler.instructions.Goals as goal

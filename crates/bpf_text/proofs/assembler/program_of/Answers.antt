@@ -1,7 +1,7 @@
 use Rattle.std.proofs.Common.{◌≡◌, List, ℕ, Option, Bor, map, sym, ap, ◌∙◌, subst}
 use Rattle.std.specs.List.{AllByRecursion}
 use Rattle.std.proofs.lemmas.Result.{IfErr-weaker}
-use Rattle.insn_codec.specs.Program.{slot_count}
+use Rattle.insn_set.specs.Program.{slot_count}
 use Rattle.text_line.specs.declared.form.Line.{Line as CodeLine}
 use Rattle.text_line.specs.Shown.{seen_lines}
 use Rattle.bpf_text.specs.Assembly.{AreRead}

@@ -1,8 +1,8 @@
 use Rattle.std.proofs.Common.{◌≡◌, arith, subst, ◌∙◌, ◌++◌, ◌+◌, ◌∷◌, ap, sym, ℕ, List, [], append-nil, append_assoc}
 use Rattle.std.specs.Option.{option_copied}
 use Rattle.std.specs.String.{string_bytes}
-use Rattle.insn_codec.specs.declared.insn.Insn.{Insn}
-use Rattle.insn_codec.specs.Program.{begun_below, begins_at, slot_count}
+use Rattle.insn_set.specs.declared.insn.Insn.{Insn}
+use Rattle.insn_set.specs.Program.{begun_below, begins_at, slot_count}
 use Rattle.bpf_text.specs.Assembly.{IsAssembled}
 use Rattle.bpf_text.specs.Printed.{printed}
 use Rattle.text_line.specs.Written.{printed_insn}

@@ -1,6 +1,6 @@
 use Rattle.std.proofs.Common.{◌≡◌}
 use Rattle.std.specs.String.{string_bytes}
-use Rattle.insn_codec.specs.Program.{begun_below}
+use Rattle.insn_set.specs.Program.{begun_below}
 use Rattle.bpf_text.specs.Printed.{printed}
 use Rattle.bpf_text.proofs.disassembler.disassemble.Given as goal
 

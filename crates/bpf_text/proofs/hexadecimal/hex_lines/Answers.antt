@@ -1,7 +1,7 @@
 use Rattle.std.proofs.Common.{arith, ap, sym, ◌∙◌, append-nil, append_assoc, ◌≡◌, ◌++◌, ◌∷◌, [], List, ℕ, subst}
 use Rattle.std.specs.String.{string_bytes}
 use Rattle.bpf_text.specs.HexText.{hex_text, IsHexText}
-use Rattle.insn_codec.specs.Program.{program_bytes}
+use Rattle.insn_set.specs.Program.{program_bytes}
 use Rattle.hex.specs.Hex.{encode_lower}
 use Rattle.std.proofs.lemmas.List.{take-append-drop}
 use Rattle.bpf_text.proofs.HexLines.{hex_text-append, hex_text_short}

@@ -1,6 +1,6 @@
 use Rattle.std.proofs.Common.{◌≡◌, ◌++◌, length}
 use Rattle.std.specs.String.{string_bytes}
-use Rattle.insn_codec.specs.Program.{program_bytes}
+use Rattle.insn_set.specs.Program.{program_bytes}
 use Rattle.bpf_text.specs.HexText.{hex_text}
 use Rattle.bpf_text.proofs.hexadecimal.hex_lines.Given as goal
 

@@ -1,5 +1,5 @@
 use Rattle.std.proofs.Common.{◌≡◌, ◌*◌, ◌≤◌, length, take, map}
-use Rattle.insn_codec.specs.declared.TheConstants.{MAX_SLOTS}
+use Rattle.insn_set.specs.declared.TheConstants.{MAX_SLOTS}
 use Rattle.bpf_text.specs.Fault.{NoneBelow}
 use Rattle.bpf_text.specs.HexText.{hex_bytes, hex_fault_at}
 use Rattle.bpf_text.proofs.hexadecimal.slots_on.Given as goal

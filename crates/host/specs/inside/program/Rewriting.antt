@@ -5,8 +5,8 @@ use Rattle.bpf_text.specs.Assembly.{IsAssembled, IsOwnFault}
 use Rattle.bpf_text.specs.HexText.{IsHexFault, hex_text}
 use Rattle.bpf_text.specs.Printed.{printed}
 use Rattle.bpf_text.specs.declared.fault.TextFault.{TextFault}
-use Rattle.insn_codec.specs.Program.{program_bytes}
-use Rattle.insn_codec.specs.declared.insn.Insn.{Insn}
+use Rattle.insn_set.specs.Program.{program_bytes}
+use Rattle.insn_set.specs.declared.insn.Insn.{Insn}
 use Rattle.host.specs.program.Statuses.{text_failure}
 use Rattle.host.specs.declared.program.texts.TheConstants.{LONGEST_INPUT}
 use Rattle.host.specs.declared.program.failure.Failure.{Failure}

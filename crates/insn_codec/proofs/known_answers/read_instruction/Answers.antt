@@ -1,6 +1,6 @@
 use Rattle.std.proofs.Common.{◌≡◌, true, refl}
-use Rattle.insn_codec.specs.declared.insn.Insn.TheVariants.{Exit}
-use Rattle.insn_codec.specs.Spelling.{spelling}
+use Rattle.insn_set.specs.declared.insn.Insn.TheVariants.{Exit}
+use Rattle.insn_set.specs.Spelling.{spelling}
 use Rattle.insn_codec.proofs.known_answers.read_instruction.Goals as goal
 
 pub prove-unreachable-requires : goal.prove-unreachable-requires

@@ -1,7 +1,7 @@
 use Rattle.std.proofs.Common.{◌≡◌, [], ◌∷◌, ap, refl, lit≤, ◌∙◌}
-use Rattle.insn_codec.specs.declared.insn.Insn.TheVariants.{Exit}
-use Rattle.insn_codec.specs.Program.{slot_count}
-use Rattle.insn_codec.specs.Spelling.{spelling}
+use Rattle.insn_set.specs.declared.insn.Insn.TheVariants.{Exit}
+use Rattle.insn_set.specs.Program.{slot_count}
+use Rattle.insn_set.specs.Spelling.{spelling}
 use Rattle.insn_codec.proofs.known_answers.read_program_of_an_exit.Goals as goal
 
 pub prove-unreachable-requires : goal.prove-unreachable-requires

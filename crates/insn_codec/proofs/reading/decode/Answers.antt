@@ -1,7 +1,7 @@
 -- What is spelled at the front has no fault, and nothing else is spelled there.
 use Rattle.std.proofs.Common.{◌≡◌, length, ap, ◌∙◌, arith, refl}
-use Rattle.insn_codec.specs.declared.insn.Insn.{Insn}
-use Rattle.insn_codec.specs.Spelling.{slots}
+use Rattle.insn_set.specs.declared.insn.Insn.{Insn}
+use Rattle.insn_set.specs.Spelling.{slots}
 use Rattle.insn_codec.specs.Fault.{HasFault}
 use Rattle.insn_codec.proofs.PrefixFree.{no_fault, same_insn}
 use Rattle.insn_codec.proofs.FaultKinds.{insn_has_no_fault, one_kind}

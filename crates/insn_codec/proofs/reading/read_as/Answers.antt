@@ -1,6 +1,6 @@
 -- The slot that was read is the one that the instruction is spelled by.
-use Rattle.std.proofs.Common.{[], ◌∷◌, List, ap, ◌∙◌, arith}
-use Rattle.insn_codec.specs.declared.slot.SlotFields.{SlotFields}
+use Rattle.std.proofs.Common.{[], ◌∷◌, ap, ◌∙◌, arith}
+use Rattle.insn_set.specs.declared.slot.SlotFields.{SlotFields}
 use Rattle.insn_codec.proofs.Slots.{begins_one}
 use Rattle.insn_codec.proofs.reading.read_as.Goals as goal
 

@@ -3,7 +3,7 @@ use Rattle.std.proofs.Common.{drop, refl, arith, ap, ◌∙◌}
 use Rattle.std.proofs.lemmas.Result.{err_from_is_err_and}
 use Rattle.insn_codec.specs.declared.form.OpcodeForm.{OpcodeForm}
 use Rattle.insn_codec.specs.declared.form.OpcodeForm.TheVariants.{Wide}
-use Rattle.insn_codec.specs.inside.Slots.{slot_of}
+use Rattle.insn_set.specs.Slot.{slot_of}
 use Rattle.insn_codec.specs.inside.FirstFault.{fault_in_form}
 use Rattle.insn_codec.proofs.FirstFault.{fault_by_second}
 use Rattle.insn_codec.proofs.Slots.{begins_two}

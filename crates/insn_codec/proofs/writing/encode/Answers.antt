@@ -2,9 +2,9 @@
 use Rattle.std.proofs.Common.{◌≡◌, ℕ, List, [], ◌∷◌, ◌++◌, length, drop, ap, sym, ◌∙◌, append-nil, arith}
 use Rattle.std.proofs.lemmas.List.{drop_all}
 use Rattle.std.specs.Option.{option_to_list}
-use Rattle.insn_codec.specs.declared.slot.SlotFields.{SlotFields}
-use Rattle.insn_codec.specs.Slot.{slot_bytes}
-use Rattle.insn_codec.specs.Spelling.{spelling, second}
+use Rattle.insn_set.specs.declared.slot.SlotFields.{SlotFields}
+use Rattle.insn_set.specs.Slot.{slot_bytes}
+use Rattle.insn_set.specs.Spelling.{spelling, second}
 use Rattle.insn_codec.proofs.Slots.{spelling-one, spelling-two}
 use Rattle.insn_codec.proofs.writing.encode.Goals as goal
 

@@ -1,6 +1,6 @@
-use Rattle.std.proofs.Common.{◌≡◌, ◌≢◌, ◌<◌, ℕ, Option, None, IsSome, is_some, sym, ap, ◌∙◌, arith, true≢false}
+use Rattle.std.proofs.Common.{◌≡◌, ◌≢◌, ℕ, Option, None, IsSome, is_some, sym, ap, ◌∙◌, arith, true≢false}
 use Rattle.tagged_model.specs.declared.shape.MapShape.{MapShape}
-use Rattle.bpf_maps.specs.Live.{LiveMap, LiveMaps, live_at, live_or, shape_at}
+use Rattle.bpf_maps.specs.Live.{LiveMap, LiveMaps, live_at, live_or}
 use Rattle.system_tests.proofs.live_maps.the_areas_stand_in_order_and_close_up.Goals as goal
 
 -- a key that led to no map is another than that of a live one

@@ -1,6 +1,6 @@
 use Rattle.std.proofs.Common.{rules, ◌≡◌, ℕ, Err, sym, ap, ◌∙◌}
 use Rattle.std.proofs.lemmas.Result.{err_from_is_err_and}
-use Rattle.insn_codec.specs.declared.insn.Insn.{Insn}
+use Rattle.insn_set.specs.declared.insn.Insn.{Insn}
 use Rattle.words.specs.Words.{unsigned}
 use Rattle.tagged_model.specs.Named.{shapes_named}
 use Rattle.transfer.specs.Effects.{assigns, value_of, effect}

@@ -1,6 +1,6 @@
 use Rattle.std.proofs.Common.{List, ℕ, refl, subst, ap, ◌∙◌}
 use Rattle.std.proofs.lemmas.Result.{err_from_is_err_and}
-use Rattle.insn_codec.specs.Program.{slot_count}
+use Rattle.insn_set.specs.Program.{slot_count}
 use Rattle.tagged_model.specs.Named.{shapes_named}
 use Rattle.tagged_model.specs.declared.shape.Named.{Named}
 use Rattle.verifier.specs.Maps.{entries_of}

@@ -1,8 +1,8 @@
 use Rattle.std.proofs.Common.{◌+◌, arith, List, ℕ, sym, ap, ◌∙◌}
 use Rattle.tagged_model.specs.Cells.{and_then}
-use Rattle.insn_codec.specs.declared.insn.Insn.{Insn}
-use Rattle.insn_codec.specs.Program.{begun_below, begins_at}
-use Rattle.insn_codec.specs.Flow.{descriptor}
+use Rattle.insn_set.specs.declared.insn.Insn.{Insn}
+use Rattle.insn_set.specs.Program.{begun_below, begins_at}
+use Rattle.insn_set.specs.Flow.{descriptor}
 use Rattle.verifier.specs.Maps.{maps_of}
 use Rattle.verifier.specs.inside.Descriptors.{with_descriptor}
 use Rattle.verifier.proofs.Loads.{none_loaded, loaded_at, loaded_silent}

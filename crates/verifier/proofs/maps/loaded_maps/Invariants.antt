@@ -1,5 +1,5 @@
 use Rattle.std.proofs.Common.{◌≡◌}
-use Rattle.insn_codec.specs.Program.{begun_below}
+use Rattle.insn_set.specs.Program.{begun_below}
 use Rattle.verifier.specs.Maps.{maps_of}
 use Rattle.verifier.proofs.maps.loaded_maps.Given as goal
 

@@ -3,10 +3,10 @@ use Rattle.std.specs.Option.{option_copied}
 use Rattle.std.specs.Prelude.{IfSome}
 use Rattle.std.proofs.lemmas.Bool.{cases_lt}
 use Rattle.std.proofs.lemmas.Result.{err_from_is_err_and}
-use Rattle.insn_codec.specs.BeginLaws.{none_begins_past}
-use Rattle.insn_codec.specs.Program.{begins_at, slot_count}
+use Rattle.insn_set.specs.BeginLaws.{none_begins_past}
+use Rattle.insn_set.specs.Program.{begins_at, slot_count}
 use Rattle.tagged_model.specs.Named.{shapes_named}
-use Rattle.insn_codec.specs.Flow.{jump_target}
+use Rattle.insn_set.specs.Flow.{jump_target}
 use Rattle.verifier.specs.Verdict.{safety_fault}
 use Rattle.verifier.specs.declared.pass.Pass.{Pass}
 use Rattle.verifier.proofs.Inflow.{IsBefore, at_start, here_is, after_insn, after_none, safety_is, safe_none, first_at}

@@ -3,10 +3,10 @@ use Rattle.std.specs.Option.{option_copied}
 use Rattle.std.specs.Prelude.{IfSome}
 use Rattle.std.proofs.lemmas.List.{length-set, length-replicate, with_items_is}
 use Rattle.std.proofs.lemmas.Bool.{cases_lt}
-use Rattle.insn_codec.specs.Program.{begins_at, slot_count}
-use Rattle.insn_codec.specs.BeginLaws.{none_begins_past}
+use Rattle.insn_set.specs.Program.{begins_at, slot_count}
+use Rattle.insn_set.specs.BeginLaws.{none_begins_past}
 use Rattle.verifier.specs.Shape.{structure_fault}
-use Rattle.insn_codec.specs.Flow.{jump_target}
+use Rattle.insn_set.specs.Flow.{jump_target}
 use Rattle.verifier.specs.ShapeLaws.{unrefused_is_fine}
 use Rattle.verifier.proofs.Reached.{jump_lands, marked_first, marked_next, marked_past, shape_is, each_lands}
 use Rattle.verifier.proofs.shape.check_shape.Goals.{in-Some+in_default-shape_reason, in_default}

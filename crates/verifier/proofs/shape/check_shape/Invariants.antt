@@ -1,5 +1,5 @@
 use Rattle.std.proofs.Common.{◌≡◌, ℕ, ◌<◌, ◌≤◌, length, get_or, false, None}
-use Rattle.insn_codec.specs.Program.{slot_count}
+use Rattle.insn_set.specs.Program.{slot_count}
 use Rattle.verifier.specs.Shape.{reached_from, structure_fault}
 use Rattle.verifier.proofs.shape.check_shape.Given as goal
 

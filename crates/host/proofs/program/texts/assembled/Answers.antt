@@ -1,6 +1,6 @@
 use Rattle.std.proofs.Common.{◌≡◌, ◌⊎◌, ◌∙◌, ap, sym, rules}
 use Rattle.bpf_text.specs.HexText.{hex_text}
-use Rattle.insn_codec.specs.Program.{program_bytes}
+use Rattle.insn_set.specs.Program.{program_bytes}
 use Rattle.host.specs.program.Statuses.{text_failure}
 use Rattle.host.specs.declared.program.failure.Failure.TheVariants.{Memory}
 use Rattle.host.proofs.Rewriting.{said, refused_by_memory, refused_by_fault, not_refused}

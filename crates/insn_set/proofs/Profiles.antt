@@ -1,9 +1,9 @@
 -- The number of slots in the row of an instruction is right.
 use Rattle.std.proofs.Common.{◌≡◌, length, refl}
-use Rattle.insn_codec.specs.declared.insn.Insn.{Insn}
-use Rattle.insn_codec.specs.declared.insn.Insn.TheVariants.{Alu, Movsx, Neg, End, Ja, Jal, Jump, Call, Exit, Load, Store, Atomic, Const, MapFd, MapValue}
-use Rattle.insn_codec.specs.Profile.{profile}
-use Rattle.insn_codec.specs.Spelling.{slots}
+use Rattle.insn_set.specs.declared.insn.Insn.{Insn}
+use Rattle.insn_set.specs.declared.insn.Insn.TheVariants.{Alu, Movsx, Neg, End, Ja, Jal, Jump, Call, Exit, Load, Store, Atomic, Const, MapFd, MapValue}
+use Rattle.insn_set.specs.Profile.{profile}
+use Rattle.insn_set.specs.Spelling.{slots}
 
 pub profile_slots : (i : Insn) → (profile i).slots ≡ length (slots i)
 profile_slots (Alu wide op dst src) = refl

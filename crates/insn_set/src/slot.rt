@@ -1,6 +1,6 @@
 //! Slots of eight bytes, and their fields (RFC 9669, section 3.1).
 
-ghost use Rattle.std.specs.Prelude.{◌≡◌, ◌≤◌, ◌<◌, ◌++◌, length, drop};
+ghost use Rattle.std.specs.Prelude.{◌≡◌, ◌≤◌, ◌<◌, length};
 
 /// The fields of a slot, as bits: no field is read as signed here. The two register numbers have four bits each.
 #[derive(Clone, Copy, Debug, PartialEq, Eq)]
@@ -23,11 +23,11 @@ pub struct RawSlot {
 }
 
 impl SlotFields {
-    ghost use Rattle.insn_codec.specs.Slot.{slot_bytes};
-    ghost use Rattle.insn_codec.specs.inside.Slots.{slot_of};
+    ghost use Rattle.insn_set.specs.Slot.{slot_bytes};
+    ghost use Rattle.insn_set.specs.Slot.{slot_of};
 
     /// Reads the slot at the front of the bytes, of which there are at least eight.
-    #[tactic(auto, unfolding(crate::specs::inside::Slots::slot_of))]
+    #[tactic(auto, unfolding(crate::specs::Slot::slot_of))]
     pub fn first(bytes: &[u8]) -> SlotFields
         requires { 8 ≤ length bytes.now }
         ensures { result ≡ slot_of bytes.now }
@@ -63,12 +63,12 @@ impl SlotFields {
 }
 
 impl RawSlot {
-    ghost use Rattle.insn_codec.specs.Slot.{fields};
-    ghost use Rattle.insn_codec.specs.inside.Slots.{slot_of};
+    ghost use Rattle.insn_set.specs.Slot.{fields};
+    ghost use Rattle.insn_set.specs.Slot.{slot_of};
 
     /// Reads the slot at the front of the bytes, of which there are at least eight.
-    #[tactic(auto, unfolding(crate::specs::inside::Slots::slot_of))]
-    pub(crate) fn first(bytes: &[u8]) -> RawSlot
+    #[tactic(auto, unfolding(crate::specs::Slot::slot_of))]
+    pub fn first(bytes: &[u8]) -> RawSlot
         requires { 8 ≤ length bytes.now }
         ensures { fields result ≡ slot_of bytes.now }
     {

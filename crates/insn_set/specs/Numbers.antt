@@ -10,19 +10,12 @@ use Rattle.words.specs.declared.operator.Condition.{Condition}
 use Rattle.words.specs.declared.operator.Condition.TheVariants.{Equal, Above, AboveOrEqual, CommonBit, NotEqual, SignedAbove, SignedAboveOrEqual, Below, BelowOrEqual, SignedBelow, SignedBelowOrEqual}
 use Rattle.words.specs.declared.stack.AccessSize.{AccessSize}
 use Rattle.words.specs.declared.stack.AccessSize.TheVariants as size
-use Rattle.insn_codec.specs.declared.opcode.SourceBit.{SourceBit}
-use Rattle.insn_codec.specs.declared.opcode.SourceBit.TheVariants as source
-use Rattle.insn_codec.specs.declared.insn.AtomicOp.{AtomicOp}
-use Rattle.insn_codec.specs.declared.insn.AtomicOp.TheVariants as atomic
+use Rattle.insn_set.specs.declared.insn.AtomicOp.{AtomicOp}
+use Rattle.insn_set.specs.declared.insn.AtomicOp.TheVariants as atomic
 
 -- arithmetic and jumps, section 4: four bits of code, one of source, three of class
 abbrev pub opcode : ℕ → ℕ → ℕ → ℕ
 opcode code source class = 16 * code + 8 * source + class
-
--- section 4: the source bit
-abbrev pub source_number : SourceBit → ℕ
-source_number source.Imm = 0
-source_number source.Reg = 1
 
 -- section 3.3: ALU64 or ALU
 abbrev pub alu_class : Bool → ℕ

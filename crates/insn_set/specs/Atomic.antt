@@ -6,10 +6,10 @@ use Rattle.words.specs.declared.operator.Operator.TheVariants.{Binary}
 use Rattle.words.specs.declared.stack.AccessSize.{AccessSize}
 use Rattle.words.specs.declared.stack.AccessSize.TheVariants.{Word, Double}
 use Rattle.words.specs.Stack.{is_double}
-use Rattle.insn_codec.specs.declared.insn.AtomicSize.{AtomicSize}
-use Rattle.insn_codec.specs.declared.insn.AtomicSize.TheVariants as size
-use Rattle.insn_codec.specs.declared.insn.AtomicOp.{AtomicOp}
-use Rattle.insn_codec.specs.declared.insn.AtomicOp.TheVariants as atomic
+use Rattle.insn_set.specs.declared.insn.AtomicSize.{AtomicSize}
+use Rattle.insn_set.specs.declared.insn.AtomicSize.TheVariants as size
+use Rattle.insn_set.specs.declared.insn.AtomicOp.{AtomicOp}
+use Rattle.insn_set.specs.declared.insn.AtomicOp.TheVariants as atomic
 
 abbrev pub atomic_operator : AtomicOp → Operator
 atomic_operator atomic.Add = Binary Add

@@ -5,7 +5,7 @@
 
 ghost use Rattle.std.specs.Prelude.{◌≡◌, ◌≤◌, ◌<◌, ◌^◌, ℕ, IsTrue, not, ◌&&◌, ◌||◌};
 ghost use Rattle.words.specs.Stack.{is_double};
-ghost use Rattle.insn_codec.specs.Sizes.{is_short};
+ghost use Rattle.insn_set.specs.Sizes.{is_short};
 
 use std::marker::Model;
 use words::{AccessSize, AluOp, ByteOrder, Condition, ExtendedBits, KeptBits};
@@ -176,7 +176,7 @@ pub enum Insn {
 
 impl Insn {
     ghost use Rattle.std.specs.Prelude.{length};
-    ghost use Rattle.insn_codec.specs.Spelling.{slots, is_wide, IsInsn};
+    ghost use Rattle.insn_set.specs.Spelling.{slots, is_wide, IsInsn};
 
     /// Whether it takes two slots (RFC 9669, section 3.2).
     pub fn is_wide(&self) -> bool
@@ -261,7 +261,7 @@ fn offset_in_range(offset: u32)
 }
 
 impl AtomicSize {
-    ghost use Rattle.insn_codec.specs.Atomic.{access_size, is_wide_atomic};
+    ghost use Rattle.insn_set.specs.Atomic.{access_size, is_wide_atomic};
 
     /// The access size of its load and of its store.
     #[inline(always)]
@@ -287,7 +287,7 @@ impl AtomicSize {
 }
 
 impl Operand {
-    ghost use Rattle.insn_codec.specs.Spelling.{IsOperand};
+    ghost use Rattle.insn_set.specs.Spelling.{IsOperand};
 
     fn in_range(self)
         ensures { IsOperand self }

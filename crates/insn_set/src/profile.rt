@@ -1,7 +1,7 @@
 //! The properties of an instruction that no register value affects: a table with a row for each.
 
 ghost use Rattle.std.specs.Prelude.{◌≡◌, ◌≤◌};
-ghost use Rattle.insn_codec.specs.Profile.{row, register_of, first_operand};
+ghost use Rattle.insn_set.specs.Profile.{row, register_of, first_operand};
 
 use crate::MAX_SLOTS;
 use crate::insn::{Insn, Load, Movsx, Operand, Reg};
@@ -96,7 +96,7 @@ fn first_operand(op: AluOp, dst: Reg) -> Option<Reg>
 }
 
 impl Insn {
-    ghost use Rattle.insn_codec.specs.Profile.{profile};
+    ghost use Rattle.insn_set.specs.Profile.{profile};
 
     /// The instruction's row of the table.
     #[inline(always)]
@@ -175,7 +175,7 @@ impl Insn {
 }
 
 impl Successors {
-    ghost use Rattle.insn_codec.specs.Flow.{falls_by, jumps_by, offset_by, target_by};
+    ghost use Rattle.insn_set.specs.Flow.{falls_by, jumps_by, offset_by, target_by};
 
     /// Whether control may pass to the next instruction.
     #[inline(always)]
@@ -231,7 +231,7 @@ impl Successors {
 }
 
 impl Reference {
-    ghost use Rattle.insn_codec.specs.Flow.{descriptor_by};
+    ghost use Rattle.insn_set.specs.Flow.{descriptor_by};
 
     /// The descriptor of the map, if the instruction names one or a value of one.
     #[inline(always)]

@@ -1,13 +1,13 @@
 -- Where control passes after an instruction: to the next one, or to a jump's target (RFC 9669, section 4.3); the register that the
 -- instruction writes; and the map that it names. All are read from its row of the table.
 use Rattle.std.specs.Prelude.{ℕ, ℤ, pos, negsuc, Option, Some, None, ◌+◌, ◌+ℤ◌, length, Bool, true, false, if◌then◌else◌}
-use Rattle.insn_codec.specs.declared.insn.Insn.{Insn}
-use Rattle.insn_codec.specs.declared.profile.Successors.{Successors}
-use Rattle.insn_codec.specs.declared.profile.Successors.TheVariants.{Next, Jump, NextOrJump, Nothing}
-use Rattle.insn_codec.specs.declared.profile.Reference.{Reference}
-use Rattle.insn_codec.specs.declared.profile.Reference.TheVariants as names
-use Rattle.insn_codec.specs.Profile.{profile}
-use Rattle.insn_codec.specs.Spelling.{slots}
+use Rattle.insn_set.specs.declared.insn.Insn.{Insn}
+use Rattle.insn_set.specs.declared.profile.Successors.{Successors}
+use Rattle.insn_set.specs.declared.profile.Successors.TheVariants.{Next, Jump, NextOrJump, Nothing}
+use Rattle.insn_set.specs.declared.profile.Reference.{Reference}
+use Rattle.insn_set.specs.declared.profile.Reference.TheVariants as names
+use Rattle.insn_set.specs.Profile.{profile}
+use Rattle.insn_set.specs.Spelling.{slots}
 
 -- an integer as a slot; None below 0
 abbrev pub natural : ℤ → Option ℕ

@@ -2,17 +2,17 @@
 -- jumps) and section 5 (loads, stores, atomic operations); that it is one table is this project's own.
 use Rattle.std.specs.Prelude.{ℕ, Option, Some, None}
 use Rattle.words.specs.Words.{unsigned}
-use Rattle.insn_codec.specs.declared.insn.Operand.{Operand}
-use Rattle.insn_codec.specs.declared.insn.Operand.TheVariants.{Imm, Reg}
+use Rattle.insn_set.specs.declared.insn.Operand.{Operand}
+use Rattle.insn_set.specs.declared.insn.Operand.TheVariants.{Imm, Reg}
 use Rattle.words.specs.declared.operator.AluOp.{AluOp}
 use Rattle.words.specs.declared.operator.AluOp.TheVariants.{Mov}
-use Rattle.insn_codec.specs.declared.insn.Insn.{Insn}
-use Rattle.insn_codec.specs.declared.insn.Insn.TheVariants.{Alu, Movsx, Neg, End, Ja, Jal, Jump, Call, Exit, Load, Store, Atomic, Const, MapFd, MapValue}
-use Rattle.insn_codec.specs.declared.profile.Successors.{Successors}
-use Rattle.insn_codec.specs.declared.profile.Successors.TheVariants as to
-use Rattle.insn_codec.specs.declared.profile.Reference.{Reference}
-use Rattle.insn_codec.specs.declared.profile.Reference.TheVariants as names
-use Rattle.insn_codec.specs.declared.profile.Profile.{Profile}
+use Rattle.insn_set.specs.declared.insn.Insn.{Insn}
+use Rattle.insn_set.specs.declared.insn.Insn.TheVariants.{Alu, Movsx, Neg, End, Ja, Jal, Jump, Call, Exit, Load, Store, Atomic, Const, MapFd, MapValue}
+use Rattle.insn_set.specs.declared.profile.Successors.{Successors}
+use Rattle.insn_set.specs.declared.profile.Successors.TheVariants as to
+use Rattle.insn_set.specs.declared.profile.Reference.{Reference}
+use Rattle.insn_set.specs.declared.profile.Reference.TheVariants as names
+use Rattle.insn_set.specs.declared.profile.Profile.{Profile}
 
 -- the registers of its first and its second operand, the register that it writes, its successors, what it
 -- names, and the number of its slots

@@ -1,0 +1,10 @@
+pub mod Sizes
+pub mod Atomic
+pub mod Numbers
+pub mod Slot
+pub mod Spelling
+pub mod Profile
+pub mod Flow
+pub mod Program
+pub mod BeginLaws
+pub mod SpellingLaws

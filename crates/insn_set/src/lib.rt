@@ -1,0 +1,18 @@
+//! Instructions of the virtual machine: what they are, how they are spelled in slots of eight bytes (RFC 9669), and where they begin in
+//! a program.
+//!
+//! A table has a row for each instruction, [`Profile`], with what no register value affects. `insn_codec` reads and writes the slots.
+#![tactic(auto)]
+
+mod insn;
+mod known_answers;
+mod profile;
+mod slot;
+
+pub use insn::{AtomicOp, AtomicSize, Insn, Load, Movsx, Operand, Reg};
+pub use profile::{Profile, Reference, Successors};
+pub use slot::{RawSlot, SlotFields};
+pub use words::{AccessSize, AluOp, ByteOrder, Condition, ExtendedBits, KeptBits};
+
+/// The most slots that a program may have, a limit of this project.
+pub const MAX_SLOTS: usize = 4096;

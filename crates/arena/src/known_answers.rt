@@ -36,71 +36,21 @@ fn number_stored_and_loaded_inside(alloc: Global) -> Result<(), AllocError> {
     Ok(())
 }
 
-/// Nothing is loaded from a range that leaves the memory.
-fn loads_outside(alloc: Global) -> Result<(), AllocError> {
-    let arena = Arena::new(alloc, 2, 16)?;
-    let mut trace = Trace::new();
-    let at_zero = arena.load(0, 8, &mut trace);
-    prove!(at_zero == None);
-    let one_below = arena.load(BASE - 1, 8, &mut trace);
-    prove!(one_below == None);
-    let one_too_far = arena.load(BASE + 25, 8, &mut trace);
-    prove!(one_too_far == None);
-    let behind = arena.load(BASE + 32, 8, &mut trace);
-    prove!(behind == None);
-    let at_the_last = arena.load(u64::MAX, 8, &mut trace);
-    prove!(at_the_last == None);
-    Ok(())
-}
-
-/// Nothing is stored to a range that leaves the memory.
-fn stores_outside(alloc: Global) -> Result<(), AllocError> {
+/// Nothing is loaded from, stored to or copied from or to a range of eight bytes that leaves a memory of 32.
+fn accesses_outside(alloc: Global, address: u64) -> Result<(), AllocError> {
     let mut arena = Arena::new(alloc, 2, 16)?;
     let mut trace = Trace::new();
-    let at_zero = arena.store(0, 8, 1, &mut trace);
-    prove!(at_zero == None);
-    let one_below = arena.store(BASE - 1, 8, 1, &mut trace);
-    prove!(one_below == None);
-    let one_too_far = arena.store(BASE + 25, 8, 1, &mut trace);
-    prove!(one_too_far == None);
-    let behind = arena.store(BASE + 32, 8, 1, &mut trace);
-    prove!(behind == None);
-    let at_the_last = arena.store(u64::MAX, 8, 1, &mut trace);
-    prove!(at_the_last == None);
-    Ok(())
-}
-
-/// Nothing is copied to a range that leaves the memory.
-fn copies_to_outside(alloc: Global) -> Result<(), AllocError> {
-    let mut arena = Arena::new(alloc, 2, 16)?;
-    let mut trace = Trace::new();
-    let at_zero = arena.copy(0, BASE, 8, &mut trace);
-    prove!(at_zero == None);
-    let one_below = arena.copy(BASE - 1, BASE, 8, &mut trace);
-    prove!(one_below == None);
-    let one_too_far = arena.copy(BASE + 25, BASE, 8, &mut trace);
-    prove!(one_too_far == None);
-    let behind = arena.copy(BASE + 32, BASE, 8, &mut trace);
-    prove!(behind == None);
-    let at_the_last = arena.copy(u64::MAX, BASE, 8, &mut trace);
-    prove!(at_the_last == None);
-    Ok(())
-}
-
-/// Nothing is copied from a range that leaves the memory.
-fn copies_from_outside(alloc: Global) -> Result<(), AllocError> {
-    let mut arena = Arena::new(alloc, 2, 16)?;
-    let mut trace = Trace::new();
-    let at_zero = arena.copy(BASE, 0, 8, &mut trace);
-    prove!(at_zero == None);
-    let one_below = arena.copy(BASE, BASE - 1, 8, &mut trace);
-    prove!(one_below == None);
-    let one_too_far = arena.copy(BASE, BASE + 25, 8, &mut trace);
-    prove!(one_too_far == None);
-    let behind = arena.copy(BASE, BASE + 32, 8, &mut trace);
-    prove!(behind == None);
-    let at_the_last = arena.copy(BASE, u64::MAX, 8, &mut trace);
-    prove!(at_the_last == None);
+    if BASE <= address && address <= BASE + 24 {
+        return Ok(());
+    }
+    let loaded = arena.load(address, 8, &mut trace);
+    prove!(loaded == None);
+    let stored = arena.store(address, 8, 1, &mut trace);
+    prove!(stored == None);
+    let copied_to = arena.copy(address, BASE, 8, &mut trace);
+    prove!(copied_to == None);
+    let copied_from = arena.copy(BASE, address, 8, &mut trace);
+    prove!(copied_from == None);
     Ok(())
 }
 

@@ -183,6 +183,103 @@ fn write_operand(text: &mut String, wide: bool, src: Operand) -> Result<(), Allo
     }
 }
 
+// ---- lines of instructions
+
+/// Writes an operation of two operands.
+#[tactic(auto, unfolding(text_line::specs::Written::printed_insn))]
+fn write_alu(
+    text: &mut String,
+    wide: bool,
+    op: AluOp,
+    dst: Reg,
+    src: Operand,
+) -> Result<(), AllocError>
+    ensures { OnOk result (string_bytes text.new ≡ string_bytes text.old
+        ++ printed_insn (Insn.Alu wide op dst src)) }
+{
+    let (dst, op) = (register_name(wide, dst), operator_name(op));
+    write!(text, "{dst} {op} ")?;
+    write_operand(text, wide, src)
+}
+
+/// Writes a move with sign extension.
+#[tactic(auto, unfolding(text_line::specs::Written::printed_insn))]
+fn write_movsx(text: &mut String, movsx: &Movsx) -> Result<(), AllocError>
+    ensures { OnOk result (string_bytes text.new ≡ string_bytes text.old
+        ++ printed_insn (Insn.Movsx movsx.now)) }
+{
+    let Movsx {
+        wide,
+        bits,
+        dst,
+        src,
+    } = *movsx;
+    let (dst, bits, src) = (
+        register_name(wide, dst),
+        narrow_name(bits),
+        register_name(wide, src),
+    );
+    write!(text, "{dst} = ({bits}){src}")
+}
+
+/// Writes a conditional jump.
+#[tactic(auto, unfolding(text_line::specs::Written::printed_insn))]
+fn write_jump(
+    text: &mut String,
+    wide: bool,
+    cond: Condition,
+    dst: Reg,
+    src: Operand,
+    off: i16,
+) -> Result<(), AllocError>
+    ensures { OnOk result (string_bytes text.new ≡ string_bytes text.old
+        ++ printed_insn (Insn.Jump wide cond dst src off)) }
+{
+    let (dst, cond) = (register_name(wide, dst), condition_name(cond));
+    write!(text, "if {dst} {cond} ")?;
+    write_operand(text, wide, src)?;
+    text.push_str(" goto ")?;
+    write_signed(text, i32::from(off), "")
+}
+
+/// Writes a load.
+#[tactic(auto, unfolding(text_line::specs::Written::printed_insn))]
+fn write_load(text: &mut String, load: &Load) -> Result<(), AllocError>
+    ensures { OnOk result (string_bytes text.new ≡ string_bytes text.old
+        ++ printed_insn (Insn.Load load.now)) }
+{
+    let Load {
+        size,
+        signed,
+        dst,
+        src,
+        off,
+    } = *load;
+    let (dst, size, base) = (wide_name(dst), size_name(signed, size), wide_name(src));
+    write!(text, "{dst} = *({size} *)({base} ")?;
+    write_signed(text, i32::from(off), " ")?;
+    text.push_str(")")
+}
+
+/// Writes a store.
+#[tactic(auto, unfolding(text_line::specs::Written::printed_insn))]
+fn write_store(
+    text: &mut String,
+    size: AccessSize,
+    dst: Reg,
+    src: Operand,
+    off: i16,
+) -> Result<(), AllocError>
+    ensures { OnOk result (string_bytes text.new ≡ string_bytes text.old
+        ++ printed_insn (Insn.Store size dst src off)) }
+{
+    let (size, base) = (size_name(false, size), wide_name(dst));
+    write!(text, "*({size} *)({base} ")?;
+    write_signed(text, i32::from(off), " ")?;
+    text.push_str(") = ")?;
+    write_operand(text, true, src)
+}
+
 /// Writes an atomic operation.
 #[tactic(auto, unfolding(text_line::specs::Written::printed_insn))]
 fn write_atomic(
@@ -236,26 +333,8 @@ pub fn write_insn(text: &mut String, insn: &Insn) -> Result<(), AllocError>
     ensures { OnOk result (string_bytes text.new ≡ string_bytes text.old ++ printed_insn insn.now) }
 {
     match *insn {
-        Insn::Alu { wide, op, dst, src } => {
-            let (dst, op) = (register_name(wide, dst), operator_name(op));
-            write!(text, "{dst} {op} ")?;
-            write_operand(text, wide, src)
-        }
-        Insn::Movsx(
-            Movsx {
-                wide,
-                bits,
-                dst,
-                src,
-            },
-        ) => {
-            let (dst, bits, src) = (
-                register_name(wide, dst),
-                narrow_name(bits),
-                register_name(wide, src),
-            );
-            write!(text, "{dst} = ({bits}){src}")
-        }
+        Insn::Alu { wide, op, dst, src } => write_alu(text, wide, op, dst, src),
+        Insn::Movsx(ref movsx) => write_movsx(text, movsx),
         Insn::Neg { wide, dst } => {
             let dst = register_name(wide, dst);
             write!(text, "{dst} = -{dst}")
@@ -278,44 +357,19 @@ pub fn write_insn(text: &mut String, insn: &Insn) -> Result<(), AllocError>
             dst,
             src,
             off,
-        } => {
-            let (dst, cond) = (register_name(wide, dst), condition_name(cond));
-            write!(text, "if {dst} {cond} ")?;
-            write_operand(text, wide, src)?;
-            text.push_str(" goto ")?;
-            write_signed(text, i32::from(off), "")
-        }
+        } => write_jump(text, wide, cond, dst, src, off),
         Insn::Call { id } => {
             text.push_str("call ")?;
             write_constant(text, id)
         }
         Insn::Exit => text.push_str("exit"),
-        Insn::Load(
-            Load {
-                size,
-                signed,
-                dst,
-                src,
-                off,
-            },
-        ) => {
-            let (dst, size, base) = (wide_name(dst), size_name(signed, size), wide_name(src));
-            write!(text, "{dst} = *({size} *)({base} ")?;
-            write_signed(text, i32::from(off), " ")?;
-            text.push_str(")")
-        }
+        Insn::Load(ref load) => write_load(text, load),
         Insn::Store {
             size,
             dst,
             src,
             off,
-        } => {
-            let (size, base) = (size_name(false, size), wide_name(dst));
-            write!(text, "*({size} *)({base} ")?;
-            write_signed(text, i32::from(off), " ")?;
-            text.push_str(") = ")?;
-            write_operand(text, true, src)
-        }
+        } => write_store(text, size, dst, src, off),
         Insn::Atomic {
             size,
             op,

@@ -4,4 +4,5 @@ pub mod inside
 pub use Rattle.arena.specs.Memory
 pub use Rattle.arena.specs.Ranges
 pub use Rattle.bpf_helpers.specs.Parts
+pub use Rattle.bpf_helpers.specs.Stands
 pub use Rattle.insn_set.specs.Program

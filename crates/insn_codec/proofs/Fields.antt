@@ -32,21 +32,9 @@ use Rattle.insn_codec.proofs.Opcodes.{code_of, source_of, form_of, atomic_again}
 -- ---- which the form lists
 
 offset_listed-alu : (wide : Bool) (o : AluOp) (src : Operand) → offset_listed wide (code_of o) (source_of src) (alu_offset o) ≡ true
-offset_listed-alu wide op.Add src = refl
-offset_listed-alu wide op.Sub src = refl
-offset_listed-alu wide op.Mul src = refl
-offset_listed-alu wide op.Div src = refl
-offset_listed-alu wide op.SignedDiv src = refl
-offset_listed-alu wide op.Or src = refl
-offset_listed-alu wide op.And src = refl
-offset_listed-alu wide op.ShiftLeft src = refl
-offset_listed-alu wide op.ShiftRight src = refl
-offset_listed-alu wide op.Mod src = refl
-offset_listed-alu wide op.SignedMod src = refl
-offset_listed-alu wide op.Xor src = refl
 offset_listed-alu wide op.Mov (operand.Imm n) = refl
 offset_listed-alu wide op.Mov (operand.Reg r) = refl
-offset_listed-alu wide op.SignedShiftRight src = refl
+offset_listed-alu wide _ src = refl
 
 offset_listed-movsx : (wide : Bool) (b : ExtendedBits) → IsTrue (wide || is_short b) → offset_listed wide code.Mov source.Reg (extended_bits b) ≡ true
 offset_listed-movsx wide narrow.Bits8 h = refl
@@ -60,25 +48,16 @@ one_operand-fields (operand.Reg r) op dst offset = refl
 
 bits_listed : (b : KeptBits) (op dst : ℕ) (how : ByteOrder) → listed (form.End how) (slot op dst 0 0 (kept_bits b)) ≡ true
 bits_listed bits.Bits16 op dst how = refl
-bits_listed bits.Bits32 op dst how = refl
-bits_listed bits.Bits64 op dst how = refl
+bits_listed _ op dst how = refl
 
 pub listed-first : (i : Insn) → listed (form_of i) (first i) ≡ true
 listed-first (Alu wide o dst src) = rw (one_operand-fields src (opcode (alu_number o) (source_bit src) (alu_class wide)) dst (alu_offset o)) (offset_listed-alu wide o src)
 listed-first (Movsx m) = offset_listed-movsx m.wide m.bits m.listed
-listed-first (Neg wide dst) = refl
 listed-first (End how width dst) = bits_listed width (end_opcode how) dst how
-listed-first (Ja off) = refl
-listed-first (Jal off) = refl
 listed-first (Jump wide condition dst src off) = one_operand-fields src (opcode (condition_number condition) (source_bit src) (jump_class wide)) dst (offset_bits off)
-listed-first (Call id) = refl
-listed-first Exit = refl
-listed-first (Load l) = refl
 listed-first (Store s dst src off) = one_operand-fields src (memory_opcode 3 s (2 + source_bit src)) dst (offset_bits off)
 listed-first (Atomic s o dst src off) = ap is_some (atomic_again o)
-listed-first (Const dst value) = refl
-listed-first (MapFd dst fd) = refl
-listed-first (MapValue dst fd off) = refl
+listed-first _ = refl
 
 -- ---- each field of the first slot fits its bits
 
@@ -87,35 +66,19 @@ zero_le n = omega arith
 
 alu_offset_le : (o : AluOp) → alu_offset o ≤ 1
 alu_offset_le op.Add = lit≤ tt
-alu_offset_le op.Sub = lit≤ tt
-alu_offset_le op.Mul = lit≤ tt
-alu_offset_le op.Div = lit≤ tt
-alu_offset_le op.SignedDiv = lit≤ tt
-alu_offset_le op.Or = lit≤ tt
-alu_offset_le op.And = lit≤ tt
-alu_offset_le op.ShiftLeft = lit≤ tt
-alu_offset_le op.ShiftRight = lit≤ tt
-alu_offset_le op.Mod = lit≤ tt
-alu_offset_le op.SignedMod = lit≤ tt
-alu_offset_le op.Xor = lit≤ tt
-alu_offset_le op.Mov = lit≤ tt
-alu_offset_le op.SignedShiftRight = lit≤ tt
+alu_offset_le _ = lit≤ tt
 
 extended_bits_le : (b : ExtendedBits) → extended_bits b ≤ 32
 extended_bits_le narrow.Bits8 = lit≤ tt
-extended_bits_le narrow.Bits16 = lit≤ tt
-extended_bits_le narrow.Bits32 = lit≤ tt
+extended_bits_le _ = lit≤ tt
 
 kept_bits_le : (b : KeptBits) → kept_bits b ≤ 64
 kept_bits_le bits.Bits16 = lit≤ tt
-kept_bits_le bits.Bits32 = lit≤ tt
-kept_bits_le bits.Bits64 = lit≤ tt
+kept_bits_le _ = lit≤ tt
 
 atomic_number_lt : (o : AtomicOp) → atomic_number o < 2 ^ 32
 atomic_number_lt atomic.Add = lit< tt
-atomic_number_lt atomic.Or = lit< tt
-atomic_number_lt atomic.And = lit< tt
-atomic_number_lt atomic.Xor = lit< tt
+atomic_number_lt _ = lit< tt
 
 offset_bits_lt : (z : ℤ) → FitsSigned w16 z → offset_bits z < 2 ^ 16
 offset_bits_lt z h = omega (arith, ints)

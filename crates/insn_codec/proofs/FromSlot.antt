@@ -1,9 +1,10 @@
 -- A slot whose fields its form lists is the first slot of an instruction.
-use Rattle.std.proofs.Common.{◌≡◌, ℕ, ◌+◌, ◌*◌, ◌%◌, ◌^◌, ◌<◌, ◌≤◌, Bool, true, false, cond, ◌&&◌, ◌||◌, ltb, leb, eqb, Option, Some, None, refl, sym, ap, ◌∙◌, arith, inl, inr, ◌⊎◌}
+use Rattle.std.proofs.Common.{◌≡◌, ℕ, ◌^◌, ◌<◌, ◌≤◌, Bool, true, false, cond, ◌&&◌, ◌||◌, ltb, leb, eqb, Option, Some, None, refl, sym, ap, ◌∙◌, arith, inl, inr, ◌⊎◌}
 use Rattle.std.specs.Prelude.{IsTrue, FitsSigned, is_some}
 use Rattle.std.specs.Int.{w16, w32, cast_signed}
 use Rattle.std.proofs.Math.Facts.{sfits_to_z}
-use Rattle.std.proofs.lemmas.Bool.{and_parts, or_cases, or_left, or_right, cond_both, eqb-true, eqb-false, leb-true, ltb-true, ltb-false}
+use Rattle.std.proofs.lemmas.Bool.{and_parts, or_left, or_right, cond_both, eqb-true, leb-true, ltb-true, ltb-false}
+use Rattle.std.proofs.lemmas.Bool.Decides.{nat_tests}
 use Rattle.std.proofs.lemmas.Int.{of_z-to_z}
 use Rattle.insn_set.specs.declared.slot.SlotFields.{SlotFields}
 use Rattle.words.specs.declared.operator.AluOp.TheVariants as op
@@ -23,8 +24,7 @@ use Rattle.insn_codec.specs.declared.opcode.WideKind.TheVariants.{Number, Map, M
 use Rattle.insn_codec.specs.declared.form.OpcodeForm.{OpcodeForm}
 use Rattle.insn_codec.specs.declared.form.OpcodeForm.TheVariants as form
 use Rattle.insn_set.specs.Sizes.{is_short}
-use Rattle.insn_set.specs.Atomic.{access_size}
-use Rattle.insn_set.specs.Numbers.{opcode, alu_class, jump_class, alu_number, alu_offset, condition_number, end_opcode, memory_opcode, atomic_number, offset_bits, imm_bits}
+use Rattle.insn_set.specs.Numbers.{opcode, alu_class, alu_number, alu_offset, atomic_number, offset_bits, imm_bits}
 use Rattle.words.specs.Operate.{extended_bits, kept_bits}
 use Rattle.insn_codec.specs.inside.Opcodes.{code_number, load_opcode, opcode_of}
 use Rattle.insn_codec.specs.inside.Form.{listed, one_operand, offset_listed, wide_at, atomic_at}
@@ -33,8 +33,8 @@ use Rattle.insn_set.specs.Spelling.{first, source_bit, src_field, imm_field, IsO
 use Rattle.insn_codec.proofs.ReadBack.{op_at, narrow_at, bits_at, movsx_at, load_insn, atomic_insn, wide_insn, insn_at}
 use Rattle.insn_codec.specs.Spelled.{operand_at, source_number}
 
-slot_same : (s : SlotFields) (op dst src offset imm : ℕ) → op ≡ s.opcode → dst ≡ s.dst → src ≡ s.src → offset ≡ s.offset → imm ≡ s.imm → slot op dst src offset imm ≡ s
-slot_same s op dst src offset imm a b c d e = rw (a, b, c, d, e) refl
+slot_same : (s : SlotFields) {op dst src offset imm : ℕ} → s.opcode ≡ op → s.dst ≡ dst → s.src ≡ src → s.offset ≡ offset → s.imm ≡ imm → slot op dst src offset imm ≡ s
+slot_same s a b c d e = rw (← a, ← b, ← c, ← d, ← e) refl
 
 half_fits : (n : ℕ) → n < 2 ^ 16 → FitsSigned w16 (cast_signed w16 n)
 half_fits n h = sfits_to_z {w = w16} record { fits = h }
@@ -42,19 +42,39 @@ half_fits n h = sfits_to_z {w = w16} record { fits = h }
 word_fits : (n : ℕ) → n < 2 ^ 32 → FitsSigned w32 (cast_signed w32 n)
 word_fits n h = sfits_to_z {w = w32} record { fits = h }
 
+offset_same : (s : SlotFields) → s.offset < 2 ^ 16 → s.offset ≡ offset_bits (cast_signed w16 s.offset)
+offset_same s h = sym (of_z-to_z w16 s.offset h)
+
+imm_same : (s : SlotFields) → s.imm < 2 ^ 32 → s.imm ≡ imm_bits (cast_signed w32 s.imm)
+imm_same s h = sym (of_z-to_z w32 s.imm h)
+
+-- ---- what tests of fields tell
+
+-- two fields are zero
+pub zeros : (a b : ℕ) (rest : Bool) → (eqb a 0 && eqb b 0 && rest) ≡ true → (a ≡ 0) × (b ≡ 0) × (rest ≡ true)
+zeros a b rest h = grind (arith, nat_tests)
+
+-- the offset of a move from a register
+pub mov_offsets : (wide : Bool) (offset : ℕ) → offset_listed wide code.Mov source.Reg offset ≡ true → (offset ≡ 0) ⊎ ((offset ≡ 8) ⊎ ((offset ≡ 16) ⊎ ((wide ≡ true) × (offset ≡ 32))))
+mov_offsets wide offset h = grind (arith, nat_tests)
+
+-- the immediate of a byte-order conversion
+pub end_widths : (imm : ℕ) → (eqb imm 16 || eqb imm 32 || eqb imm 64) ≡ true → (imm ≡ 16) ⊎ ((imm ≡ 32) ⊎ (imm ≡ 64))
+end_widths imm h = grind (arith, nat_tests)
+
 -- ---- the second operand
 
 pub source_bit-operand_at : (z : SourceBit) (s : SlotFields) → source_bit (operand_at z s) ≡ source_number z
 source_bit-operand_at source.Imm s = refl
 source_bit-operand_at source.Reg s = refl
 
-src_field-operand_at : (z : SourceBit) (s : SlotFields) → one_operand z s ≡ true → src_field (operand_at z s) ≡ s.src
-src_field-operand_at source.Imm s h = sym (eqb-true s.src 0 h)
+src_field-operand_at : (z : SourceBit) (s : SlotFields) → one_operand z s ≡ true → s.src ≡ src_field (operand_at z s)
+src_field-operand_at source.Imm s h = eqb-true s.src 0 h
 src_field-operand_at source.Reg s h = refl
 
-imm_field-operand_at : (z : SourceBit) (s : SlotFields) → one_operand z s ≡ true → s.imm < 2 ^ 32 → imm_field (operand_at z s) ≡ s.imm
-imm_field-operand_at source.Imm s h fits = of_z-to_z w32 s.imm fits
-imm_field-operand_at source.Reg s h fits = sym (eqb-true s.imm 0 h)
+imm_field-operand_at : (z : SourceBit) (s : SlotFields) → one_operand z s ≡ true → s.imm < 2 ^ 32 → s.imm ≡ imm_field (operand_at z s)
+imm_field-operand_at source.Imm s h fits = imm_same s fits
+imm_field-operand_at source.Reg s h fits = eqb-true s.imm 0 h
 
 operand_up_to : (top : ℕ) (z : SourceBit) (s : SlotFields) → s.src ≤ top → s.imm < 2 ^ 32 → IsOperandUpTo top (operand_at z s)
 operand_up_to top source.Imm s src fits = word_fits s.imm fits
@@ -63,56 +83,25 @@ operand_up_to top source.Reg s src fits = src
 -- ---- operations
 
 pub alu_number-op_at : (c : AluCode) (offset : ℕ) → alu_number (op_at c offset) ≡ code_number c
-alu_number-op_at code.Add offset = refl
-alu_number-op_at code.Sub offset = refl
-alu_number-op_at code.Mul offset = refl
 alu_number-op_at code.Div offset = cond_both (eqb offset 0) op.Div op.SignedDiv (λ o. alu_number o ≡ 3) (λ e. refl) (λ e. refl)
-alu_number-op_at code.Or offset = refl
-alu_number-op_at code.And offset = refl
-alu_number-op_at code.ShiftLeft offset = refl
-alu_number-op_at code.ShiftRight offset = refl
 alu_number-op_at code.Mod offset = cond_both (eqb offset 0) op.Mod op.SignedMod (λ o. alu_number o ≡ 9) (λ e. refl) (λ e. refl)
-alu_number-op_at code.Xor offset = refl
-alu_number-op_at code.Mov offset = refl
-alu_number-op_at code.SignedShiftRight offset = refl
+alu_number-op_at _ offset = refl
 
-one_or_none : (offset : ℕ) → offset ≤ 1 → eqb offset 0 ≡ false → 1 ≡ offset
-one_or_none offset few e =
-    let some : offset ≡ 0 → ⊥ = eqb-false offset 0 e in
-    omega arith
+one_or_none : (offset : ℕ) → offset ≤ 1 → eqb offset 0 ≡ false → offset ≡ 1
+one_or_none offset few e = grind (arith, nat_tests)
 
 -- a move from a register that has an offset is one with sign extension
-mov_offset : (wide : Bool) (offset : ℕ) → offset_listed wide code.Mov source.Reg offset ≡ true → offset < 8 → 0 ≡ offset
-mov_offset wide offset h few =
-    elim (or_cases (eqb offset 0 || eqb offset 8 || eqb offset 16) (wide && eqb offset 32) h) [
-      | inr long ↦ absurd (omega (arith, eqb-true offset 32 (and_parts wide (eqb offset 32) long).1))
-      | inl short ↦
-          elim (or_cases (eqb offset 0 || eqb offset 8) (eqb offset 16) short) [
-            | inr e ↦ absurd (omega (arith, eqb-true offset 16 e))
-            | inl low ↦
-                elim (or_cases (eqb offset 0) (eqb offset 8) low) [
-                  | inr e ↦ absurd (omega (arith, eqb-true offset 8 e))
-                  | inl e ↦ sym (eqb-true offset 0 e)
-                ]
-          ]
-    ]
+mov_offset : (wide : Bool) (offset : ℕ) → offset_listed wide code.Mov source.Reg offset ≡ true → offset < 8 → offset ≡ 0
+mov_offset wide offset h few = grind (arith, mov_offsets wide offset h)
 
-alu_offset-op_at : (wide : Bool) (c : AluCode) (z : SourceBit) (offset : ℕ) → offset_listed wide c z offset ≡ true → offset < 8 → alu_offset (op_at c offset) ≡ offset
-alu_offset-op_at wide code.Add z offset h few = sym (eqb-true offset 0 h)
-alu_offset-op_at wide code.Sub z offset h few = sym (eqb-true offset 0 h)
-alu_offset-op_at wide code.Mul z offset h few = sym (eqb-true offset 0 h)
+alu_offset-op_at : (wide : Bool) (c : AluCode) (z : SourceBit) (offset : ℕ) → offset_listed wide c z offset ≡ true → offset < 8 → offset ≡ alu_offset (op_at c offset)
 alu_offset-op_at wide code.Div z offset h few =
-    cond_both (eqb offset 0) op.Div op.SignedDiv (λ o. alu_offset o ≡ offset) (λ e. sym (eqb-true offset 0 e)) (λ e. one_or_none offset (leb-true offset 1 h) e)
-alu_offset-op_at wide code.Or z offset h few = sym (eqb-true offset 0 h)
-alu_offset-op_at wide code.And z offset h few = sym (eqb-true offset 0 h)
-alu_offset-op_at wide code.ShiftLeft z offset h few = sym (eqb-true offset 0 h)
-alu_offset-op_at wide code.ShiftRight z offset h few = sym (eqb-true offset 0 h)
+    cond_both (eqb offset 0) op.Div op.SignedDiv (λ o. offset ≡ alu_offset o) (λ e. eqb-true offset 0 e) (λ e. one_or_none offset (leb-true offset 1 h) e)
 alu_offset-op_at wide code.Mod z offset h few =
-    cond_both (eqb offset 0) op.Mod op.SignedMod (λ o. alu_offset o ≡ offset) (λ e. sym (eqb-true offset 0 e)) (λ e. one_or_none offset (leb-true offset 1 h) e)
-alu_offset-op_at wide code.Xor z offset h few = sym (eqb-true offset 0 h)
-alu_offset-op_at wide code.Mov source.Imm offset h few = sym (eqb-true offset 0 h)
+    cond_both (eqb offset 0) op.Mod op.SignedMod (λ o. offset ≡ alu_offset o) (λ e. eqb-true offset 0 e) (λ e. one_or_none offset (leb-true offset 1 h) e)
+alu_offset-op_at wide code.Mov source.Imm offset h few = eqb-true offset 0 h
 alu_offset-op_at wide code.Mov source.Reg offset h few = mov_offset wide offset h few
-alu_offset-op_at wide code.SignedShiftRight z offset h few = sym (eqb-true offset 0 h)
+alu_offset-op_at wide _ z offset h few = eqb-true offset 0 h
 
 -- ---- moves with sign extension
 
@@ -122,24 +111,11 @@ IsMovsx wide c z offset =
 
 movsx_offset : (wide : Bool) (offset : ℕ) → offset_listed wide code.Mov source.Reg offset ≡ true → 8 ≤ offset → IsMovsx wide code.Mov source.Reg offset
 movsx_offset wide offset h many =
-    elim (or_cases (eqb offset 0 || eqb offset 8 || eqb offset 16) (wide && eqb offset 32) h) [
-      | inr long ↦
-          let parts = and_parts wide (eqb offset 32) long in
-          let e : offset ≡ 32 = eqb-true offset 32 parts.1 in
-          (refl, refl, rw e refl, or_left wide (is_short (narrow_at offset)) parts.0)
-      | inl short ↦
-          elim (or_cases (eqb offset 0 || eqb offset 8) (eqb offset 16) short) [
-            | inr is ↦
-                let e : offset ≡ 16 = eqb-true offset 16 is in
-                (refl, refl, rw e refl, or_right wide (is_short (narrow_at offset)) (rw e refl))
-            | inl low ↦
-                elim (or_cases (eqb offset 0) (eqb offset 8) low) [
-                  | inr is ↦
-                      let e : offset ≡ 8 = eqb-true offset 8 is in
-                      (refl, refl, rw e refl, or_right wide (is_short (narrow_at offset)) (rw e refl))
-                  | inl e ↦ absurd (omega (arith, eqb-true offset 0 e))
-                ]
-          ]
+    elim (mov_offsets wide offset h) [
+      | inl none ↦ absurd (omega arith)
+      | inr (inl e) ↦ (refl, refl, rw e refl, or_right wide (is_short (narrow_at offset)) (rw e refl))
+      | inr (inr (inl e)) ↦ (refl, refl, rw e refl, or_right wide (is_short (narrow_at offset)) (rw e refl))
+      | inr (inr (inr e)) ↦ (refl, refl, rw e.1 refl, or_left wide (is_short (narrow_at offset)) e.0)
     ]
 
 not_many : {A : Type 0} (offset : ℕ) → eqb offset 0 ≡ true → 8 ≤ offset → A
@@ -149,31 +125,21 @@ not_many_signed : {A : Type 0} (offset : ℕ) → ◌≡◌ {A = Bool} (leb offs
 not_many_signed offset e many = absurd (omega (arith, leb-true offset 1 e))
 
 is_movsx : (wide : Bool) (c : AluCode) (z : SourceBit) (offset : ℕ) → offset_listed wide c z offset ≡ true → 8 ≤ offset → IsMovsx wide c z offset
-is_movsx wide code.Add z offset h many = not_many offset h many
-is_movsx wide code.Sub z offset h many = not_many offset h many
-is_movsx wide code.Mul z offset h many = not_many offset h many
 is_movsx wide code.Div z offset h many = not_many_signed offset h many
-is_movsx wide code.Or z offset h many = not_many offset h many
-is_movsx wide code.And z offset h many = not_many offset h many
-is_movsx wide code.ShiftLeft z offset h many = not_many offset h many
-is_movsx wide code.ShiftRight z offset h many = not_many offset h many
 is_movsx wide code.Mod z offset h many = not_many_signed offset h many
-is_movsx wide code.Xor z offset h many = not_many offset h many
 is_movsx wide code.Mov source.Imm offset h many = not_many offset h many
 is_movsx wide code.Mov source.Reg offset h many = movsx_offset wide offset h many
-is_movsx wide code.SignedShiftRight z offset h many = not_many offset h many
+is_movsx wide _ z offset h many = not_many offset h many
 
 first-movsx_at : (wide : Bool) (b : ExtendedBits) (dst src : ℕ) → IsTrue (wide || is_short b) → first (movsx_at wide b dst src) ≡ slot (opcode 11 1 (alu_class wide)) dst src (extended_bits b) 0
 first-movsx_at true b dst src h = refl
-first-movsx_at false narrow.Bits8 dst src h = refl
-first-movsx_at false narrow.Bits16 dst src h = refl
 first-movsx_at false narrow.Bits32 dst src h = absurd cc
+first-movsx_at false _ dst src h = refl
 
 movsx_up_to : (top : ℕ) (wide : Bool) (b : ExtendedBits) (dst src : ℕ) → dst ≤ top → src ≤ top → IsInsnUpTo top (movsx_at wide b dst src)
 movsx_up_to top true b dst src d s = (d, s)
-movsx_up_to top false narrow.Bits8 dst src d s = (d, s)
-movsx_up_to top false narrow.Bits16 dst src d s = (d, s)
 movsx_up_to top false narrow.Bits32 dst src d s = tt
+movsx_up_to top false _ dst src d s = (d, s)
 
 -- ---- each form
 
@@ -187,94 +153,56 @@ pub record IsOf (f : OpcodeForm) (s : SlotFields) : Type 0 where
 first-alu : (wide : Bool) (c : AluCode) (z : SourceBit) (s : SlotFields) → IsOf (form.Alu wide c z) s → s.offset < 8 → first (Alu wide (op_at c s.offset) s.dst (operand_at z s)) ≡ s
 first-alu wide c z s h few =
     let parts = and_parts (one_operand z s) (offset_listed wide c z s.offset) h.listed in
-    slot_same s (opcode (alu_number (op_at c s.offset)) (source_bit (operand_at z s)) (alu_class wide)) s.dst (src_field (operand_at z s)) (alu_offset (op_at c s.offset)) (imm_field (operand_at z s))
-    (rw (alu_number-op_at c s.offset, source_bit-operand_at z s) (sym h.opcode)) refl (src_field-operand_at z s parts.0) (alu_offset-op_at wide c z s.offset parts.1 few) (imm_field-operand_at z s parts.0 h.imm)
+    slot_same s (rw (alu_number-op_at c s.offset, source_bit-operand_at z s) h.opcode) refl (src_field-operand_at z s parts.0) (alu_offset-op_at wide c z s.offset parts.1 few) (imm_field-operand_at z s parts.0 h.imm)
 
 first-movsx : (wide : Bool) (c : AluCode) (z : SourceBit) (s : SlotFields) → IsOf (form.Alu wide c z) s → 8 ≤ s.offset → first (movsx_at wide (narrow_at s.offset) s.dst s.src) ≡ s
 first-movsx wide c z s h many =
     let parts = and_parts (one_operand z s) (offset_listed wide c z s.offset) h.listed in
     let m = is_movsx wide c z s.offset parts.1 many in
-    let code_is : code_number c ≡ 11 = ap code_number m.0 in
-    let source_is : source_number z ≡ 1 = ap source_number m.1 in
     let imm : s.imm ≡ 0 = eqb-true s.imm 0 (rw m.1 at parts.0) in
-    first-movsx_at wide (narrow_at s.offset) s.dst s.src m.3
-    ∙ slot_same s (opcode 11 1 (alu_class wide)) s.dst s.src (extended_bits (narrow_at s.offset)) 0 (omega (arith, h.opcode, code_is, source_is)) refl refl m.2 (sym imm)
+    first-movsx_at wide (narrow_at s.offset) s.dst s.src m.3 ∙ slot_same s (omega (arith, h.opcode, ap code_number m.0, ap source_number m.1)) refl refl (sym m.2) imm
 
-kept_bits-bits_at : (imm : ℕ) → (eqb imm 16 || eqb imm 32 || eqb imm 64) ≡ true → kept_bits (bits_at imm) ≡ imm
+kept_bits-bits_at : (imm : ℕ) → (eqb imm 16 || eqb imm 32 || eqb imm 64) ≡ true → imm ≡ kept_bits (bits_at imm)
 kept_bits-bits_at imm h =
-    elim (or_cases (eqb imm 16 || eqb imm 32) (eqb imm 64) h) [
-      | inr is ↦ let e : imm ≡ 64 = eqb-true imm 64 is in rw e refl
-      | inl low ↦
-          elim (or_cases (eqb imm 16) (eqb imm 32) low) [
-            | inr is ↦ let e : imm ≡ 32 = eqb-true imm 32 is in rw e refl
-            | inl is ↦ let e : imm ≡ 16 = eqb-true imm 16 is in rw e refl
-          ]
+    elim (end_widths imm h) [
+      | inl e ↦ rw e refl
+      | inr (inl e) ↦ rw e refl
+      | inr (inr e) ↦ rw e refl
     ]
 
 first-load_insn : (kind : LoadKind) (dst src offset : ℕ) → offset < 2 ^ 16 → first (load_insn kind dst src (cast_signed w16 offset)) ≡ slot (load_opcode kind) dst src offset 0
 first-load_insn load.Word dst src offset h = rw (of_z-to_z w16 offset h) refl
-first-load_insn load.Half dst src offset h = rw (of_z-to_z w16 offset h) refl
-first-load_insn load.Byte dst src offset h = rw (of_z-to_z w16 offset h) refl
-first-load_insn load.Double dst src offset h = rw (of_z-to_z w16 offset h) refl
-first-load_insn load.SignedWord dst src offset h = rw (of_z-to_z w16 offset h) refl
-first-load_insn load.SignedHalf dst src offset h = rw (of_z-to_z w16 offset h) refl
-first-load_insn load.SignedByte dst src offset h = rw (of_z-to_z w16 offset h) refl
+first-load_insn _ dst src offset h = rw (of_z-to_z w16 offset h) refl
 
 load_up_to : (top : ℕ) (kind : LoadKind) (dst src offset : ℕ) → dst ≤ top → src ≤ top → offset < 2 ^ 16 → IsInsnUpTo top (load_insn kind dst src (cast_signed w16 offset))
 load_up_to top load.Word dst src offset d s h = (d, s, half_fits offset h)
-load_up_to top load.Half dst src offset d s h = (d, s, half_fits offset h)
-load_up_to top load.Byte dst src offset d s h = (d, s, half_fits offset h)
-load_up_to top load.Double dst src offset d s h = (d, s, half_fits offset h)
-load_up_to top load.SignedWord dst src offset d s h = (d, s, half_fits offset h)
-load_up_to top load.SignedHalf dst src offset d s h = (d, s, half_fits offset h)
-load_up_to top load.SignedByte dst src offset d s h = (d, s, half_fits offset h)
+load_up_to top _ dst src offset d s h = (d, s, half_fits offset h)
 
 -- the operation of an immediate
 pub atomic_imm : (imm : ℕ) → is_some (atomic_at imm) ≡ true → (imm ≡ 0x00) ⊎ ((imm ≡ 0x40) ⊎ ((imm ≡ 0x50) ⊎ (imm ≡ 0xa0)))
-atomic_imm imm h = known (eqb imm 0x00) (eqb imm 0x40) (eqb imm 0x50) (eqb imm 0xa0) (eqb-true imm 0x00) (eqb-true imm 0x40) (eqb-true imm 0x50) (eqb-true imm 0xa0) h where
-  known : (add or and xor : Bool) → (add ≡ true → imm ≡ 0x00) → (or ≡ true → imm ≡ 0x40) → (and ≡ true → imm ≡ 0x50) → (xor ≡ true → imm ≡ 0xa0)
-      → is_some (cond add (Some atomic.Add) (cond or (Some atomic.Or) (cond and (Some atomic.And) (cond xor (Some atomic.Xor) None)))) ≡ true → (imm ≡ 0x00) ⊎ ((imm ≡ 0x40) ⊎ ((imm ≡ 0x50) ⊎ (imm ≡ 0xa0)))
-  known true or and xor a b c d h = inl (a refl)
-  known false true and xor a b c d h = inr (inl (b refl))
-  known false false true xor a b c d h = inr (inr (inl (c refl)))
-  known false false false true a b c d h = inr (inr (inr (d refl)))
-  known false false false false a b c d h = absurd cc
+atomic_imm imm h = grind (arith, nat_tests)
 
-atomic_of : (imm : ℕ) → is_some (atomic_at imm) ≡ true → (o : AtomicOp) × (atomic_at imm ≡ Some o) × (atomic_number o ≡ imm)
+atomic_of : (imm : ℕ) → is_some (atomic_at imm) ≡ true → (o : AtomicOp) × (atomic_at imm ≡ Some o) × (imm ≡ atomic_number o)
 atomic_of imm h =
     elim (atomic_imm imm h) [
-      | inl e ↦ (atomic.Add, rw e refl, sym e)
-      | inr (inl e) ↦ (atomic.Or, rw e refl, sym e)
-      | inr (inr (inl e)) ↦ (atomic.And, rw e refl, sym e)
-      | inr (inr (inr e)) ↦ (atomic.Xor, rw e refl, sym e)
+      | inl e ↦ (atomic.Add, rw e refl, e)
+      | inr (inl e) ↦ (atomic.Or, rw e refl, e)
+      | inr (inr (inl e)) ↦ (atomic.And, rw e refl, e)
+      | inr (inr (inr e)) ↦ (atomic.Xor, rw e refl, e)
     ]
 
 -- the source field of a wide load
 pub wide_src : (src : ℕ) → is_some (wide_at src) ≡ true → (src ≡ 0) ⊎ ((src ≡ 1) ⊎ (src ≡ 2))
-wide_src src h = known (eqb src 0) (eqb src 1) (eqb src 2) (eqb-true src 0) (eqb-true src 1) (eqb-true src 2) h where
-  known : (number map value : Bool) → (number ≡ true → src ≡ 0) → (map ≡ true → src ≡ 1) → (value ≡ true → src ≡ 2)
-      → is_some (cond number (Some Number) (cond map (Some Map) (cond value (Some MapValue) None))) ≡ true → (src ≡ 0) ⊎ ((src ≡ 1) ⊎ (src ≡ 2))
-  known true map value zero one two h = inl (zero refl)
-  known false true value zero one two h = inr (inl (one refl))
-  known false false true zero one two h = inr (inr (two refl))
-  known false false false zero one two h = absurd cc
-
-is_zero : (n : ℕ) → eqb n 0 ≡ true → 0 ≡ n
-is_zero n h = sym (eqb-true n 0 h)
+wide_src src h = grind (arith, nat_tests)
 
 first-wide : (s : SlotFields) → IsOf form.Wide s → first (wide_insn (wide_at s.src) s 0) ≡ s
 first-wide s h =
     let parts = and_parts (eqb s.offset 0) (is_some (wide_at s.src)) h.listed in
+    let none : s.offset ≡ 0 = eqb-true s.offset 0 parts.0 in
     elim (wide_src s.src parts.1) [
-      | inl e ↦
-          let kind : wide_at s.src ≡ Some Number = rw e refl in
-          ap (λ k. first (wide_insn k s 0)) kind ∙ slot_same s 0x18 s.dst 0 0 ((s.imm + 2 ^ 32 * 0) % 2 ^ 32) (sym h.opcode) refl (sym e) (is_zero s.offset parts.0) (omega (arith, h.imm))
-      | inr (inl e) ↦
-          let kind : wide_at s.src ≡ Some Map = rw e refl in
-          ap (λ k. first (wide_insn k s 0)) kind ∙ slot_same s 0x18 s.dst 1 0 (imm_bits (cast_signed w32 s.imm)) (sym h.opcode) refl (sym e) (is_zero s.offset parts.0) (of_z-to_z w32 s.imm h.imm)
-      | inr (inr e) ↦
-          let kind : wide_at s.src ≡ Some MapValue = rw e refl in
-          ap (λ k. first (wide_insn k s 0)) kind ∙ slot_same s 0x18 s.dst 2 0 (imm_bits (cast_signed w32 s.imm)) (sym h.opcode) refl (sym e) (is_zero s.offset parts.0) (of_z-to_z w32 s.imm h.imm)
+      | inl e ↦ ap (λ n. first (wide_insn (wide_at n) s 0)) e ∙ slot_same s h.opcode refl e none (omega (arith, h.imm))
+      | inr (inl e) ↦ ap (λ n. first (wide_insn (wide_at n) s 0)) e ∙ slot_same s h.opcode refl e none (imm_same s h.imm)
+      | inr (inr e) ↦ ap (λ n. first (wide_insn (wide_at n) s 0)) e ∙ slot_same s h.opcode refl e none (imm_same s h.imm)
     ]
 
 wide_up_to : (top : ℕ) (kind : Option WideKind) (s : SlotFields) → s.dst ≤ top → s.imm < 2 ^ 32 → IsInsnUpTo top (wide_insn kind s 0)
@@ -283,50 +211,37 @@ wide_up_to top (Some Number) s dst h = (dst, omega (arith, h))
 wide_up_to top (Some Map) s dst h = (dst, word_fits s.imm h)
 wide_up_to top (Some MapValue) s dst h = (dst, word_fits s.imm h, omega arith)
 
--- no register is named
-abbrev no_operands : SlotFields → Bool
-no_operands s = eqb s.dst 0 && eqb s.src 0
-
 pub first-insn_at : (f : OpcodeForm) (s : SlotFields) → IsOf f s → first (insn_at f s 0) ≡ s
 first-insn_at (form.Alu wide c z) s h =
     cond_both (ltb s.offset 8) (Alu wide (op_at c s.offset) s.dst (operand_at z s)) (movsx_at wide (narrow_at s.offset) s.dst s.src) (λ i. first i ≡ s)
     (λ e. first-alu wide c z s h (ltb-true s.offset 8 e)) (λ e. first-movsx wide c z s h (ltb-false s.offset 8 e))
 first-insn_at (form.Neg wide) s h =
-    let parts = and_parts (eqb s.src 0 && eqb s.offset 0) (eqb s.imm 0) h.listed in
-    let fields = and_parts (eqb s.src 0) (eqb s.offset 0) parts.0 in
-    slot_same s (opcode 8 0 (alu_class wide)) s.dst 0 0 0 (sym h.opcode) refl (is_zero s.src fields.0) (is_zero s.offset fields.1) (is_zero s.imm parts.1)
+    let zero = zeros s.src s.offset (eqb s.imm 0) h.listed in
+    slot_same s h.opcode refl zero.0 zero.1 (eqb-true s.imm 0 zero.2)
 first-insn_at (form.End how) s h =
-    let parts = and_parts (eqb s.src 0 && eqb s.offset 0) (eqb s.imm 16 || eqb s.imm 32 || eqb s.imm 64) h.listed in
-    let fields = and_parts (eqb s.src 0) (eqb s.offset 0) parts.0 in
-    slot_same s (end_opcode how) s.dst 0 0 (kept_bits (bits_at s.imm)) (sym h.opcode) refl (is_zero s.src fields.0) (is_zero s.offset fields.1) (kept_bits-bits_at s.imm parts.1)
+    let zero = zeros s.src s.offset (eqb s.imm 16 || eqb s.imm 32 || eqb s.imm 64) h.listed in
+    slot_same s h.opcode refl zero.0 zero.1 (kept_bits-bits_at s.imm zero.2)
 first-insn_at form.Ja s h =
-    let parts = and_parts (no_operands s) (eqb s.imm 0) h.listed in
-    let fields = and_parts (eqb s.dst 0) (eqb s.src 0) parts.0 in
-    slot_same s (opcode 0 0 5) 0 0 (offset_bits (cast_signed w16 s.offset)) 0 (sym h.opcode) (is_zero s.dst fields.0) (is_zero s.src fields.1) (of_z-to_z w16 s.offset h.offset) (is_zero s.imm parts.1)
+    let zero = zeros s.dst s.src (eqb s.imm 0) h.listed in
+    slot_same s h.opcode zero.0 zero.1 (offset_same s h.offset) (eqb-true s.imm 0 zero.2)
 first-insn_at form.Jal s h =
-    let parts = and_parts (no_operands s) (eqb s.offset 0) h.listed in
-    let fields = and_parts (eqb s.dst 0) (eqb s.src 0) parts.0 in
-    slot_same s (opcode 0 0 6) 0 0 0 (imm_bits (cast_signed w32 s.imm)) (sym h.opcode) (is_zero s.dst fields.0) (is_zero s.src fields.1) (is_zero s.offset parts.1) (of_z-to_z w32 s.imm h.imm)
+    let zero = zeros s.dst s.src (eqb s.offset 0) h.listed in
+    slot_same s h.opcode zero.0 zero.1 (eqb-true s.offset 0 zero.2) (imm_same s h.imm)
 first-insn_at (form.Jump wide cond z) s h =
-    slot_same s (opcode (condition_number cond) (source_bit (operand_at z s)) (jump_class wide)) s.dst (src_field (operand_at z s)) (offset_bits (cast_signed w16 s.offset)) (imm_field (operand_at z s))
-    (rw (source_bit-operand_at z s) (sym h.opcode)) refl (src_field-operand_at z s h.listed) (of_z-to_z w16 s.offset h.offset) (imm_field-operand_at z s h.listed h.imm)
+    slot_same s (rw (source_bit-operand_at z s) h.opcode) refl (src_field-operand_at z s h.listed) (offset_same s h.offset) (imm_field-operand_at z s h.listed h.imm)
 first-insn_at form.Call s h =
-    let parts = and_parts (no_operands s) (eqb s.offset 0) h.listed in
-    let fields = and_parts (eqb s.dst 0) (eqb s.src 0) parts.0 in
-    slot_same s (opcode 8 0 5) 0 0 0 (imm_bits (cast_signed w32 s.imm)) (sym h.opcode) (is_zero s.dst fields.0) (is_zero s.src fields.1) (is_zero s.offset parts.1) (of_z-to_z w32 s.imm h.imm)
+    let zero = zeros s.dst s.src (eqb s.offset 0) h.listed in
+    slot_same s h.opcode zero.0 zero.1 (eqb-true s.offset 0 zero.2) (imm_same s h.imm)
 first-insn_at form.Exit s h =
-    let parts = and_parts (no_operands s && eqb s.offset 0) (eqb s.imm 0) h.listed in
-    let front = and_parts (no_operands s) (eqb s.offset 0) parts.0 in
-    let fields = and_parts (eqb s.dst 0) (eqb s.src 0) front.0 in
-    slot_same s (opcode 9 0 5) 0 0 0 0 (sym h.opcode) (is_zero s.dst fields.0) (is_zero s.src fields.1) (is_zero s.offset front.1) (is_zero s.imm parts.1)
-first-insn_at (form.Load kind) s h =
-    first-load_insn kind s.dst s.src s.offset h.offset ∙ slot_same s (load_opcode kind) s.dst s.src s.offset 0 (sym h.opcode) refl refl refl (is_zero s.imm h.listed)
+    let parts = and_parts (eqb s.dst 0 && eqb s.src 0 && eqb s.offset 0) (eqb s.imm 0) h.listed in
+    let zero = zeros s.dst s.src (eqb s.offset 0) parts.0 in
+    slot_same s h.opcode zero.0 zero.1 (eqb-true s.offset 0 zero.2) (eqb-true s.imm 0 parts.1)
+first-insn_at (form.Load kind) s h = first-load_insn kind s.dst s.src s.offset h.offset ∙ slot_same s h.opcode refl refl refl (eqb-true s.imm 0 h.listed)
 first-insn_at (form.Store size z) s h =
-    slot_same s (memory_opcode 3 size (2 + source_bit (operand_at z s))) s.dst (src_field (operand_at z s)) (offset_bits (cast_signed w16 s.offset)) (imm_field (operand_at z s))
-    (rw (source_bit-operand_at z s) (sym h.opcode)) refl (src_field-operand_at z s h.listed) (of_z-to_z w16 s.offset h.offset) (imm_field-operand_at z s h.listed h.imm)
+    slot_same s (rw (source_bit-operand_at z s) h.opcode) refl (src_field-operand_at z s h.listed) (offset_same s h.offset) (imm_field-operand_at z s h.listed h.imm)
 first-insn_at (form.Atomic size) s h =
     let o = atomic_of s.imm h.listed in
-    ap (λ k. first (atomic_insn size k s)) o.1 ∙ slot_same s (memory_opcode 6 (access_size size) 3) s.dst s.src (offset_bits (cast_signed w16 s.offset)) (atomic_number o.0) (sym h.opcode) refl refl (of_z-to_z w16 s.offset h.offset) o.2
+    ap (λ k. first (atomic_insn size k s)) o.1 ∙ slot_same s h.opcode refl refl (offset_same s h.offset) o.2
 first-insn_at form.Wide s h = first-wide s h
 
 pub insn_at_up_to : (top : ℕ) (f : OpcodeForm) (s : SlotFields) → IsOf f s → s.dst ≤ top → s.src ≤ top → IsInsnUpTo top (insn_at f s 0)

@@ -59,12 +59,7 @@ IsOperand-example source.Reg = lit≤ tt
 
 IsInsn-load : (kind : LoadKind) → IsInsn (load_insn kind 0 0 (pos 0))
 IsInsn-load load.Word = (lit≤ tt, lit≤ tt, zero_fits)
-IsInsn-load load.Half = (lit≤ tt, lit≤ tt, zero_fits)
-IsInsn-load load.Byte = (lit≤ tt, lit≤ tt, zero_fits)
-IsInsn-load load.Double = (lit≤ tt, lit≤ tt, zero_fits)
-IsInsn-load load.SignedWord = (lit≤ tt, lit≤ tt, zero_fits)
-IsInsn-load load.SignedHalf = (lit≤ tt, lit≤ tt, zero_fits)
-IsInsn-load load.SignedByte = (lit≤ tt, lit≤ tt, zero_fits)
+IsInsn-load _ = (lit≤ tt, lit≤ tt, zero_fits)
 
 IsInsn-example : (f : OpcodeForm) → IsInsn (example f)
 IsInsn-example (form.Alu wide c z) = (lit≤ tt, IsOperand-example z)
@@ -82,26 +77,14 @@ IsInsn-example form.Wide = (lit≤ tt, lit< tt)
 
 opcode-load : (kind : LoadKind) → (first (load_insn kind 0 0 (pos 0))).opcode ≡ load_opcode kind
 opcode-load load.Word = refl
-opcode-load load.Half = refl
-opcode-load load.Byte = refl
-opcode-load load.Double = refl
-opcode-load load.SignedWord = refl
-opcode-load load.SignedHalf = refl
-opcode-load load.SignedByte = refl
+opcode-load _ = refl
 
 opcode-example : (f : OpcodeForm) → (first (example f)).opcode ≡ opcode_of f
 opcode-example (form.Alu wide c z) = rw (alu_number-op_at c 0, source_bit-operand_at z no_fields) refl
-opcode-example (form.Neg wide) = refl
-opcode-example (form.End how) = refl
-opcode-example form.Ja = refl
-opcode-example form.Jal = refl
 opcode-example (form.Jump wide c z) = rw (source_bit-operand_at z no_fields) refl
-opcode-example form.Call = refl
-opcode-example form.Exit = refl
 opcode-example (form.Load kind) = opcode-load kind
 opcode-example (form.Store z y) = rw (source_bit-operand_at y no_fields) refl
-opcode-example (form.Atomic z) = refl
-opcode-example form.Wide = refl
+opcode-example _ = refl
 
 -- ---- the form at an opcode has that opcode: a table of 256
 

@@ -3,7 +3,7 @@ use Rattle.std.proofs.Common.{◌≡◌, Bool, true, false, ◌&&◌, Some, refl
 use Rattle.std.specs.Prelude.{IsTrue, not}
 use Rattle.words.specs.declared.operator.AluOp.{AluOp}
 use Rattle.words.specs.declared.operator.AluOp.TheVariants as op
-use Rattle.words.specs.declared.operator.ByteOrder.TheVariants.{Little, Big, Swap}
+use Rattle.words.specs.declared.operator.ByteOrder.TheVariants.{Little}
 use Rattle.words.specs.declared.operator.Condition.{Condition}
 use Rattle.words.specs.declared.operator.Condition.TheVariants as conditions
 use Rattle.words.specs.declared.stack.AccessSize.{AccessSize}
@@ -80,196 +80,70 @@ form_of (MapValue dst fd off) = form.Wide
 
 -- ---- the form of an opcode
 
-pub form_at-alu : (wide : Bool) (c : AluCode) (s : SourceBit) → form_at (opcode_of (form.Alu wide c s)) ≡ Some (form.Alu wide c s)
+form_at-alu : (wide : Bool) (s : SourceBit) (c : AluCode) → form_at (opcode_of (form.Alu wide c s)) ≡ Some (form.Alu wide c s)
 unfolding form_at
-form_at-alu true code.Add source.Imm = refl
-form_at-alu true code.Add source.Reg = refl
-form_at-alu true code.Sub source.Imm = refl
-form_at-alu true code.Sub source.Reg = refl
-form_at-alu true code.Mul source.Imm = refl
-form_at-alu true code.Mul source.Reg = refl
-form_at-alu true code.Div source.Imm = refl
-form_at-alu true code.Div source.Reg = refl
-form_at-alu true code.Or source.Imm = refl
-form_at-alu true code.Or source.Reg = refl
-form_at-alu true code.And source.Imm = refl
-form_at-alu true code.And source.Reg = refl
-form_at-alu true code.ShiftLeft source.Imm = refl
-form_at-alu true code.ShiftLeft source.Reg = refl
-form_at-alu true code.ShiftRight source.Imm = refl
-form_at-alu true code.ShiftRight source.Reg = refl
-form_at-alu true code.Mod source.Imm = refl
-form_at-alu true code.Mod source.Reg = refl
-form_at-alu true code.Xor source.Imm = refl
-form_at-alu true code.Xor source.Reg = refl
-form_at-alu true code.Mov source.Imm = refl
-form_at-alu true code.Mov source.Reg = refl
-form_at-alu true code.SignedShiftRight source.Imm = refl
-form_at-alu true code.SignedShiftRight source.Reg = refl
-form_at-alu false code.Add source.Imm = refl
-form_at-alu false code.Add source.Reg = refl
-form_at-alu false code.Sub source.Imm = refl
-form_at-alu false code.Sub source.Reg = refl
-form_at-alu false code.Mul source.Imm = refl
-form_at-alu false code.Mul source.Reg = refl
-form_at-alu false code.Div source.Imm = refl
-form_at-alu false code.Div source.Reg = refl
-form_at-alu false code.Or source.Imm = refl
-form_at-alu false code.Or source.Reg = refl
-form_at-alu false code.And source.Imm = refl
-form_at-alu false code.And source.Reg = refl
-form_at-alu false code.ShiftLeft source.Imm = refl
-form_at-alu false code.ShiftLeft source.Reg = refl
-form_at-alu false code.ShiftRight source.Imm = refl
-form_at-alu false code.ShiftRight source.Reg = refl
-form_at-alu false code.Mod source.Imm = refl
-form_at-alu false code.Mod source.Reg = refl
-form_at-alu false code.Xor source.Imm = refl
-form_at-alu false code.Xor source.Reg = refl
-form_at-alu false code.Mov source.Imm = refl
-form_at-alu false code.Mov source.Reg = refl
-form_at-alu false code.SignedShiftRight source.Imm = refl
-form_at-alu false code.SignedShiftRight source.Reg = refl
+form_at-alu true source.Imm code.Add = refl
+form_at-alu true source.Reg code.Add = refl
+form_at-alu false source.Imm code.Add = refl
+form_at-alu false source.Reg code.Add = refl
+form_at-alu _ _ _ = refl
 
-pub form_at-jump : (wide : Bool) (c : Condition) (s : SourceBit) → form_at (opcode_of (form.Jump wide c s)) ≡ Some (form.Jump wide c s)
+form_at-jump : (wide : Bool) (s : SourceBit) (c : Condition) → form_at (opcode_of (form.Jump wide c s)) ≡ Some (form.Jump wide c s)
 unfolding form_at
-form_at-jump true conditions.Equal source.Imm = refl
-form_at-jump true conditions.Equal source.Reg = refl
-form_at-jump true conditions.Above source.Imm = refl
-form_at-jump true conditions.Above source.Reg = refl
-form_at-jump true conditions.AboveOrEqual source.Imm = refl
-form_at-jump true conditions.AboveOrEqual source.Reg = refl
-form_at-jump true conditions.CommonBit source.Imm = refl
-form_at-jump true conditions.CommonBit source.Reg = refl
-form_at-jump true conditions.NotEqual source.Imm = refl
-form_at-jump true conditions.NotEqual source.Reg = refl
-form_at-jump true conditions.SignedAbove source.Imm = refl
-form_at-jump true conditions.SignedAbove source.Reg = refl
-form_at-jump true conditions.SignedAboveOrEqual source.Imm = refl
-form_at-jump true conditions.SignedAboveOrEqual source.Reg = refl
-form_at-jump true conditions.Below source.Imm = refl
-form_at-jump true conditions.Below source.Reg = refl
-form_at-jump true conditions.BelowOrEqual source.Imm = refl
-form_at-jump true conditions.BelowOrEqual source.Reg = refl
-form_at-jump true conditions.SignedBelow source.Imm = refl
-form_at-jump true conditions.SignedBelow source.Reg = refl
-form_at-jump true conditions.SignedBelowOrEqual source.Imm = refl
-form_at-jump true conditions.SignedBelowOrEqual source.Reg = refl
-form_at-jump false conditions.Equal source.Imm = refl
-form_at-jump false conditions.Equal source.Reg = refl
-form_at-jump false conditions.Above source.Imm = refl
-form_at-jump false conditions.Above source.Reg = refl
-form_at-jump false conditions.AboveOrEqual source.Imm = refl
-form_at-jump false conditions.AboveOrEqual source.Reg = refl
-form_at-jump false conditions.CommonBit source.Imm = refl
-form_at-jump false conditions.CommonBit source.Reg = refl
-form_at-jump false conditions.NotEqual source.Imm = refl
-form_at-jump false conditions.NotEqual source.Reg = refl
-form_at-jump false conditions.SignedAbove source.Imm = refl
-form_at-jump false conditions.SignedAbove source.Reg = refl
-form_at-jump false conditions.SignedAboveOrEqual source.Imm = refl
-form_at-jump false conditions.SignedAboveOrEqual source.Reg = refl
-form_at-jump false conditions.Below source.Imm = refl
-form_at-jump false conditions.Below source.Reg = refl
-form_at-jump false conditions.BelowOrEqual source.Imm = refl
-form_at-jump false conditions.BelowOrEqual source.Reg = refl
-form_at-jump false conditions.SignedBelow source.Imm = refl
-form_at-jump false conditions.SignedBelow source.Reg = refl
-form_at-jump false conditions.SignedBelowOrEqual source.Imm = refl
-form_at-jump false conditions.SignedBelowOrEqual source.Reg = refl
+form_at-jump true source.Imm conditions.Equal = refl
+form_at-jump true source.Reg conditions.Equal = refl
+form_at-jump false source.Imm conditions.Equal = refl
+form_at-jump false source.Reg conditions.Equal = refl
+form_at-jump _ _ _ = refl
 
-pub form_at-store : (z : AccessSize) (s : SourceBit) → form_at (opcode_of (form.Store z s)) ≡ Some (form.Store z s)
+form_at-store : (s : SourceBit) (z : AccessSize) → form_at (opcode_of (form.Store z s)) ≡ Some (form.Store z s)
 unfolding form_at
-form_at-store size.Word source.Imm = refl
-form_at-store size.Word source.Reg = refl
-form_at-store size.Half source.Imm = refl
-form_at-store size.Half source.Reg = refl
-form_at-store size.Byte source.Imm = refl
-form_at-store size.Byte source.Reg = refl
-form_at-store size.Double source.Imm = refl
-form_at-store size.Double source.Reg = refl
+form_at-store source.Imm size.Word = refl
+form_at-store source.Reg size.Word = refl
+form_at-store _ _ = refl
 
 pub form_at-opcode_of : (f : OpcodeForm) → form_at (opcode_of f) ≡ Some f
 unfolding form_at
-form_at-opcode_of (form.Alu wide c s) = form_at-alu wide c s
+form_at-opcode_of (form.Alu wide c s) = form_at-alu wide s c
 form_at-opcode_of (form.Neg true) = refl
 form_at-opcode_of (form.Neg false) = refl
 form_at-opcode_of (form.End Little) = refl
-form_at-opcode_of (form.End Big) = refl
-form_at-opcode_of (form.End Swap) = refl
-form_at-opcode_of form.Ja = refl
-form_at-opcode_of form.Jal = refl
-form_at-opcode_of (form.Jump wide c s) = form_at-jump wide c s
-form_at-opcode_of form.Call = refl
-form_at-opcode_of form.Exit = refl
+form_at-opcode_of (form.End _) = refl
+form_at-opcode_of (form.Jump wide c s) = form_at-jump wide s c
 form_at-opcode_of (form.Load load.Word) = refl
-form_at-opcode_of (form.Load load.Half) = refl
-form_at-opcode_of (form.Load load.Byte) = refl
-form_at-opcode_of (form.Load load.Double) = refl
-form_at-opcode_of (form.Load load.SignedWord) = refl
-form_at-opcode_of (form.Load load.SignedHalf) = refl
-form_at-opcode_of (form.Load load.SignedByte) = refl
-form_at-opcode_of (form.Store z s) = form_at-store z s
+form_at-opcode_of (form.Load _) = refl
+form_at-opcode_of (form.Store z s) = form_at-store s z
 form_at-opcode_of (form.Atomic atomic_size.Word) = refl
 form_at-opcode_of (form.Atomic atomic_size.Double) = refl
-form_at-opcode_of form.Wide = refl
+form_at-opcode_of _ = refl
 
 -- ---- the operation of an immediate
 
 pub atomic_again : (o : AtomicOp) → atomic_at (atomic_number o) ≡ Some o
 atomic_again atomic.Add = refl
-atomic_again atomic.Or = refl
-atomic_again atomic.And = refl
-atomic_again atomic.Xor = refl
+atomic_again _ = refl
 
 -- ---- an instruction's first slot is of its form
 
 pub code_number-code_of : (o : AluOp) → code_number (code_of o) ≡ alu_number o
 code_number-code_of op.Add = refl
-code_number-code_of op.Sub = refl
-code_number-code_of op.Mul = refl
-code_number-code_of op.Div = refl
-code_number-code_of op.SignedDiv = refl
-code_number-code_of op.Or = refl
-code_number-code_of op.And = refl
-code_number-code_of op.ShiftLeft = refl
-code_number-code_of op.ShiftRight = refl
-code_number-code_of op.Mod = refl
-code_number-code_of op.SignedMod = refl
-code_number-code_of op.Xor = refl
-code_number-code_of op.Mov = refl
-code_number-code_of op.SignedShiftRight = refl
+code_number-code_of _ = refl
 
 source_number-source_of : (o : Operand) → source_number (source_of o) ≡ source_bit o
 source_number-source_of (operand.Imm n) = refl
 source_number-source_of (operand.Reg r) = refl
 
 pub opcode_of-load : (z : AccessSize) (signed : Bool) → IsTrue (not (signed && is_double z)) → load_opcode (kind_of z signed) ≡ memory_opcode (load_mode signed) z 1
-opcode_of-load size.Word true h = refl
-opcode_of-load size.Word false h = refl
-opcode_of-load size.Half true h = refl
-opcode_of-load size.Half false h = refl
-opcode_of-load size.Byte true h = refl
-opcode_of-load size.Byte false h = refl
 opcode_of-load size.Double true h = absurd cc
-opcode_of-load size.Double false h = refl
+opcode_of-load _ true h = refl
+opcode_of-load _ _ h = refl
 
 pub opcode_of-form_of : (i : Insn) → opcode_of (form_of i) ≡ (first i).opcode
 opcode_of-form_of (Alu wide o dst src) = rw (code_number-code_of o, source_number-source_of src) refl
-opcode_of-form_of (Movsx m) = refl
-opcode_of-form_of (Neg wide dst) = refl
-opcode_of-form_of (End how width dst) = refl
-opcode_of-form_of (Ja off) = refl
-opcode_of-form_of (Jal off) = refl
 opcode_of-form_of (Jump wide condition dst src off) = rw (source_number-source_of src) refl
-opcode_of-form_of (Call id) = refl
-opcode_of-form_of Exit = refl
 opcode_of-form_of (Load l) = opcode_of-load l.size l.signed l.listed
 opcode_of-form_of (Store s dst src off) = rw (source_number-source_of src) refl
-opcode_of-form_of (Atomic size o dst src off) = refl
-opcode_of-form_of (Const dst value) = refl
-opcode_of-form_of (MapFd dst fd) = refl
-opcode_of-form_of (MapValue dst fd off) = refl
+opcode_of-form_of _ = refl
 
 pub form_at-first : (i : Insn) → form_at (first i).opcode ≡ Some (form_of i)
 form_at-first i = ap form_at (sym (opcode_of-form_of i)) ∙ form_at-opcode_of (form_of i)

@@ -116,40 +116,15 @@ operand_again (operand.Reg r) op dst offset h = refl
 
 op_again : (o : AluOp) → op_at (code_of o) (alu_offset o) ≡ o
 op_again op.Add = refl
-op_again op.Sub = refl
-op_again op.Mul = refl
-op_again op.Div = refl
-op_again op.SignedDiv = refl
-op_again op.Or = refl
-op_again op.And = refl
-op_again op.ShiftLeft = refl
-op_again op.ShiftRight = refl
-op_again op.Mod = refl
-op_again op.SignedMod = refl
-op_again op.Xor = refl
-op_again op.Mov = refl
-op_again op.SignedShiftRight = refl
+op_again _ = refl
 
 alu_offset_below : (o : AluOp) → ltb (alu_offset o) 8 ≡ true
 alu_offset_below op.Add = refl
-alu_offset_below op.Sub = refl
-alu_offset_below op.Mul = refl
-alu_offset_below op.Div = refl
-alu_offset_below op.SignedDiv = refl
-alu_offset_below op.Or = refl
-alu_offset_below op.And = refl
-alu_offset_below op.ShiftLeft = refl
-alu_offset_below op.ShiftRight = refl
-alu_offset_below op.Mod = refl
-alu_offset_below op.SignedMod = refl
-alu_offset_below op.Xor = refl
-alu_offset_below op.Mov = refl
-alu_offset_below op.SignedShiftRight = refl
+alu_offset_below _ = refl
 
 pub bits_again : (b : KeptBits) → bits_at (kept_bits b) ≡ b
 bits_again bits.Bits16 = refl
-bits_again bits.Bits32 = refl
-bits_again bits.Bits64 = refl
+bits_again _ = refl
 
 IsTrue-prop : (b : Bool) → IsProp (IsTrue b)
 IsTrue-prop b = hlevel props
@@ -159,26 +134,18 @@ movsx_same wide b dst src p q =
     ap (λ (h : IsTrue (wide || is_short b)). Movsx (record { wide = wide; bits = b; dst = dst; src = src; listed = h })) (IsTrue-prop (wide || is_short b) p q)
 
 pub movsx_again : (wide : Bool) (b : ExtendedBits) (dst src : ℕ) (h : IsTrue (wide || is_short b)) (other : Insn) → cond (ltb (extended_bits b) 8) other (movsx_at wide (narrow_at (extended_bits b)) dst src) ≡ Movsx (record { wide = wide; bits = b; dst = dst; src = src; listed = h })
-movsx_again true narrow.Bits8 dst src h other = movsx_same true narrow.Bits8 dst src refl h
-movsx_again true narrow.Bits16 dst src h other = movsx_same true narrow.Bits16 dst src refl h
-movsx_again true narrow.Bits32 dst src h other = movsx_same true narrow.Bits32 dst src refl h
-movsx_again false narrow.Bits8 dst src h other = movsx_same false narrow.Bits8 dst src refl h
-movsx_again false narrow.Bits16 dst src h other = movsx_same false narrow.Bits16 dst src refl h
 movsx_again false narrow.Bits32 dst src h other = absurd cc
+movsx_again true narrow.Bits32 dst src h other = movsx_same true narrow.Bits32 dst src refl h
+movsx_again wide b dst src h other = movsx_same wide b dst src refl h
 
 load_same : (z : AccessSize) (signed : Bool) (dst src : ℕ) (off : ℤ) (p q : IsTrue (not (signed && is_double z))) → Load (record { size = z; signed = signed; dst = dst; src = src; off = off; listed = p }) ≡ Load (record { size = z; signed = signed; dst = dst; src = src; off = off; listed = q })
 load_same z signed dst src off p q =
     ap (λ (h : IsTrue (not (signed && is_double z))). Load (record { size = z; signed = signed; dst = dst; src = src; off = off; listed = h })) (IsTrue-prop (not (signed && is_double z)) p q)
 
 pub load_again : (z : AccessSize) (signed : Bool) (dst src : ℕ) (off : ℤ) (h : IsTrue (not (signed && is_double z))) → load_insn (kind_of z signed) dst src off ≡ Load (record { size = z; signed = signed; dst = dst; src = src; off = off; listed = h })
-load_again size.Word true dst src off h = load_same size.Word true dst src off refl h
-load_again size.Word false dst src off h = load_same size.Word false dst src off refl h
-load_again size.Half true dst src off h = load_same size.Half true dst src off refl h
-load_again size.Half false dst src off h = load_same size.Half false dst src off refl h
-load_again size.Byte true dst src off h = load_same size.Byte true dst src off refl h
-load_again size.Byte false dst src off h = load_same size.Byte false dst src off refl h
 load_again size.Double true dst src off h = absurd cc
-load_again size.Double false dst src off h = load_same size.Double false dst src off refl h
+load_again z true dst src off h = load_same z true dst src off refl h
+load_again z _ dst src off h = load_same z false dst src off refl h
 
 pub insn_at-first : (i : Insn) → IsInsn i → insn_at (form_of i) (first i) (next i) ≡ i
 insn_at-first (Alu wide o dst src) h = rw (alu_offset_below o, op_again o, operand_again src (opcode (alu_number o) (source_bit src) (alu_class wide)) dst (alu_offset o) h.1) refl

@@ -1,5 +1,5 @@
 -- The fault at the front of bytes is one, and none where an instruction begins.
-use Rattle.std.proofs.Common.{◌≡◌, ℕ, ◌/◌, ◌%◌, ◌*◌, ◌≤◌, Bool, true, false, List, ◌++◌, length, take, drop, Option, Some, None, refl, sym, ap, ◌∙◌, append_assoc, arith, subst, inl, inr}
+use Rattle.std.proofs.Common.{◌≡◌, ℕ, ◌/◌, ◌%◌, ◌*◌, ◌≤◌, Bool, true, false, List, ◌++◌, length, take, drop, Option, Some, None, refl, sym, ap, ◌∙◌, arith, subst, inl, inr}
 use Rattle.std.specs.Prelude.{not, nat_lt, ◌==◌, if◌then◌else◌, slice_index}
 use Rattle.std.specs.List.{flat_map}
 use Rattle.std.proofs.lemmas.List.{take-append-drop, length-take}
@@ -7,7 +7,7 @@ use Rattle.std.proofs.Math.Seq.{take-append_seam}
 use Rattle.insn_set.specs.declared.insn.Operand.{Operand}
 use Rattle.insn_set.specs.declared.insn.Operand.TheVariants.{Imm, Reg}
 use Rattle.insn_set.specs.declared.insn.Insn.{Insn}
-use Rattle.insn_set.specs.declared.insn.Insn.TheVariants.{Alu, Movsx, Neg, End, Ja, Jal, Jump, Call, Exit, Load, Store, Atomic, Const, MapFd, MapValue}
+use Rattle.insn_set.specs.declared.insn.Insn.TheVariants.{Alu, Movsx, Neg, End, Jump, Load, Store, Atomic, Const, MapFd, MapValue}
 use Rattle.insn_codec.specs.declared.fault.CodecFault.{CodecFault}
 use Rattle.insn_codec.specs.declared.fault.FaultKind.{FaultKind}
 use Rattle.insn_codec.specs.declared.fault.FaultKind.TheVariants.{Opcode, Reserved, Register, SecondSlot, Ragged, Empty, TooLong, Memory}
@@ -16,6 +16,7 @@ use Rattle.insn_set.specs.Slot.{slot_bytes}
 use Rattle.insn_set.specs.Spelling.{first, second, spelling, IsOperandUpTo, IsInsnUpTo, Begins}
 use Rattle.insn_codec.specs.Fault.{HasFirstSlot, HasInsn, HasOpcode, HasFault}
 use Rattle.insn_codec.specs.ProgramFault.{empty_fault, too_long_fault, length_fault, IsProgramFault}
+use Rattle.insn_codec.proofs.Slots.{whole_of_begins}
 use Rattle.insn_codec.proofs.KnownOpcodes.{known_first}
 
 -- ---- what follows from what
@@ -37,29 +38,20 @@ more_insns (Alu wide op dst src) h = (omega (arith, h.0), more_operands src h.1)
 more_insns (Movsx m) h = (omega (arith, h.0), omega (arith, h.1))
 more_insns (Neg wide dst) h = omega arith
 more_insns (End how width dst) h = omega arith
-more_insns (Ja off) h = h
-more_insns (Jal off) h = h
 more_insns (Jump wide cond dst src off) h = (omega (arith, h.0), more_operands src h.1, h.2)
-more_insns (Call id) h = h
-more_insns Exit h = tt
 more_insns (Load l) h = (omega (arith, h.0), omega (arith, h.1), h.2)
 more_insns (Store s dst src off) h = (omega (arith, h.0), more_operands src h.1, h.2)
 more_insns (Atomic s o dst src off) h = (omega (arith, h.0), omega (arith, h.1), h.2)
 more_insns (Const dst value) h = (omega (arith, h.0), h.1)
 more_insns (MapFd dst fd) h = (omega (arith, h.0), h.1)
 more_insns (MapValue dst fd off) h = (omega (arith, h.0), h.1, h.2)
+more_insns _ h = h
 
 more_first_slots : (bytes : List ℕ) → HasFirstSlot 10 bytes → HasFirstSlot 15 bytes
 more_first_slots bytes h = (h.0, more_insns h.0 h.1, h.2)
 
 begins_first : (i : Insn) (bytes : List ℕ) → Begins i bytes → take 8 bytes ≡ slot_bytes (first i)
-unfolding spelling
-begins_first i bytes h =
-    let rest = drop (length (spelling i)) bytes in
-    let others = flat_map slot_bytes (second i) in
-    let whole : bytes ≡ slot_bytes (first i) ++ (others ++ rest) =
-    sym (take-append-drop (length (spelling i)) bytes) ∙ ap (λ (x : List ℕ). x ++ rest) h ∙ append_assoc (slot_bytes (first i)) others rest in
-    ap (take 8) whole ∙ take-append_seam (slot_bytes (first i)) (others ++ rest)
+begins_first i bytes h = ap (take 8) (whole_of_begins i (first i) (second i) bytes refl h) ∙ take-append_seam (slot_bytes (first i)) (flat_map slot_bytes (second i) ++ drop (length (spelling i)) bytes)
 
 insn_first_slot : (bytes : List ℕ) → HasInsn bytes → HasFirstSlot 10 bytes
 insn_first_slot bytes h = (h.0, h.1, begins_first h.0 bytes h.2)

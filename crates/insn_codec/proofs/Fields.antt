@@ -118,5 +118,5 @@ IsFront-first top (Const dst value) some h = record { dst = h.0; src = zero_le t
 IsFront-first top (MapFd dst fd) some h = record { dst = h.0; src = omega (arith, some); offset = lit< tt; imm = imm_bits_lt fd h.1 }
 IsFront-first top (MapValue dst fd off) some h = record { dst = h.0; src = some; offset = lit< tt; imm = imm_bits_lt fd h.1 }
 
-pub IsSlot-front : (top : ℕ) (s : SlotFields) → top ≤ 15 → IsFront top s → IsSlot s
-IsSlot-front top s few h = record { dst = omega (arith, h.dst, few); src = omega (arith, h.src, few); offset = h.offset; imm = h.imm }
+pub IsSlot-front : {top : ℕ} {s : SlotFields} → top ≤ 15 → IsFront top s → IsSlot s
+IsSlot-front few h = record { dst = omega (arith, h.dst, few); src = omega (arith, h.src, few); offset = h.offset; imm = h.imm }

@@ -1,6 +1,6 @@
 -- The fault that the code finds is the fault of the grammar.
-use Rattle.std.proofs.Common.{◌≡◌, ℕ, ◌<◌, ◌≤◌, Bool, true, false, cond, ◌&&◌, ltb, leb, List, ◌++◌, length, drop, Option, Some, None, refl, sym, ap, subst, ◌∙◌, arith, inl, inr, lit≤}
-use Rattle.std.proofs.lemmas.Bool.{both_ways, and_cases, and_parts, le-leb, leb-true, leb-false, ltb-true, ltb-false}
+use Rattle.std.proofs.Common.{◌≡◌, ℕ, ◌<◌, ◌≤◌, true, false, cond, ◌&&◌, ltb, leb, List, ◌++◌, length, drop, Option, Some, None, refl, sym, ap, subst, ◌∙◌, arith, inl, inr, lit≤}
+use Rattle.std.proofs.lemmas.Bool.{both_ways, cond_both, and_cases, and_parts, le-leb, leb-true, leb-false, ltb-true, ltb-false}
 use Rattle.std.proofs.lemmas.List.{take-append-drop}
 use Rattle.std.proofs.lemmas.Option.{none-some, same_Some}
 use Rattle.insn_set.specs.declared.slot.SlotFields.{SlotFields}
@@ -27,10 +27,7 @@ use Rattle.insn_codec.proofs.PrefixFree.{no_fault}
 read_slot : (top : ℕ) (bytes : List ℕ) → 2 ≤ top → top ≤ 15 → (h : HasFirstSlot top bytes) → slot_of bytes ≡ first h.0
 read_slot top bytes some few h =
     let whole : bytes ≡ slot_bytes (first h.0) ++ drop 8 bytes = sym (take-append-drop 8 bytes) ∙ ap (λ (x : List ℕ). x ++ drop 8 bytes) h.2 in
-    ap slot_of whole ∙ slot_of-append (first h.0) (drop 8 bytes) (IsSlot-front top (first h.0) few (IsFront-first top h.0 some h.1))
-
-same_form : (f g : OpcodeForm) → Some f ≡ Some g → f ≡ g
-same_form f g e = same_Some f g e
+    ap slot_of whole ∙ slot_of-append (drop 8 bytes) (IsSlot-front few (IsFront-first top h.0 some h.1))
 
 -- bytes of known opcode, read as a slot
 record IsRead (bytes : List ℕ) (f : OpcodeForm) : Type 0 where
@@ -38,17 +35,17 @@ record IsRead (bytes : List ℕ) (f : OpcodeForm) : Type 0 where
   long : 8 ≤ length bytes
   form : form_at (slot_of bytes).opcode ≡ Some f
 
-not_listed : (bytes : List ℕ) (f : OpcodeForm) → IsRead bytes f → listed f (slot_of bytes) ≡ false → HasFirstSlot 15 bytes → ⊥
-not_listed bytes f r unlisted h =
+not_listed : {bytes : List ℕ} {f : OpcodeForm} → IsRead bytes f → listed f (slot_of bytes) ≡ false → HasFirstSlot 15 bytes → ⊥
+not_listed {bytes} {f} r unlisted h =
     let s = read_slot 15 bytes (lit≤ tt) (lit≤ tt) h in
-    let f-is : f ≡ form_of h.0 = same_form f (form_of h.0) (sym r.form ∙ ap (λ (x : SlotFields). form_at x.opcode) s ∙ form_at-first h.0) in
+    let f-is : f ≡ form_of h.0 = same_Some f (form_of h.0) (sym r.form ∙ ap (λ (x : SlotFields). form_at x.opcode) s ∙ form_at-first h.0) in
     both_ways (listed f (slot_of bytes)) unlisted (ap (λ (g : OpcodeForm). listed g (slot_of bytes)) f-is ∙ ap (listed (form_of h.0)) s ∙ listed-first h.0)
 
 byte_opcode : (bytes : List ℕ) → IsBytes bytes → (slot_of bytes).opcode < 256
 byte_opcode bytes fits = omega (arith, fits 0, opcode-slot_of bytes)
 
-has_first_slot : (top : ℕ) (bytes : List ℕ) (f : OpcodeForm) → IsRead bytes f → listed f (slot_of bytes) ≡ true → (slot_of bytes).dst ≤ top → (slot_of bytes).src ≤ top → HasFirstSlot top bytes
-has_first_slot top bytes f r ok dst src =
+has_first_slot : {bytes : List ℕ} {f : OpcodeForm} (top : ℕ) → IsRead bytes f → listed f (slot_of bytes) ≡ true → (slot_of bytes).dst ≤ top → (slot_of bytes).src ≤ top → HasFirstSlot top bytes
+has_first_slot {bytes} {f} top r ok dst src =
     let fields = IsSlot-slot_of bytes r.fits r.long in
     let is_of : IsOf f (slot_of bytes) = record { opcode = opcode_of-slot f (slot_of bytes) (byte_opcode bytes r.fits) r.form; listed = ok; offset = fields.offset; imm = fields.imm } in (
       insn_at f (slot_of bytes) 0,
@@ -67,52 +64,50 @@ no_register bytes many h =
 
 -- ---- by the tests of the code, from the last one back
 
-second_kind : (f : OpcodeForm) (src : ℕ) (rest : List ℕ) (kind : FaultKind) → second_fault f src rest ≡ Some kind → kind ≡ SecondSlot
-second_kind form.Wide src rest kind e = of_length (ltb (length rest) 8) (wide_at src) e where
-  of_second : (yes : Bool) → cond yes None (Some SecondSlot) ≡ Some kind → kind ≡ SecondSlot
-  of_second true h = absurd cc
-  of_second false h = sym (same_Some SecondSlot kind h)
-
-  of_kind : (wide : Option WideKind) → next_fault wide (slot_of rest) ≡ Some kind → kind ≡ SecondSlot
-  of_kind None h = absurd cc
-  of_kind (Some wide) h = of_second (is_second wide (slot_of rest)) h
-
-  of_length : (short : Bool) (wide : Option WideKind) → cond short (Some SecondSlot) (next_fault wide (slot_of rest)) ≡ Some kind → kind ≡ SecondSlot
-  of_length true wide h = sym (same_Some SecondSlot kind h)
-  of_length false wide h = of_kind wide h
+second_kind : (f : OpcodeForm) (src : ℕ) (rest : List ℕ) (kind : FaultKind) → second_fault f src rest ≡ Some kind → SecondSlot ≡ kind
+second_kind form.Wide src rest kind e =
+    cond_both (ltb (length rest) 8) (Some SecondSlot) (next_fault (wide_at src) (slot_of rest)) (λ o. o ≡ Some kind → SecondSlot ≡ kind)
+    (λ short. same_Some SecondSlot kind) (λ long. of_kind (wide_at src)) e where
+      of_kind : (wide : Option WideKind) → next_fault wide (slot_of rest) ≡ Some kind → SecondSlot ≡ kind
+      of_kind None h = absurd cc
+      of_kind (Some wide) h =
+          cond_both (is_second wide (slot_of rest)) None (Some SecondSlot) (λ o. o ≡ Some kind → SecondSlot ≡ kind) (λ yes e. absurd cc) (λ no. same_Some SecondSlot kind) h
 second_kind _ src rest kind e = absurd cc
 
-told : (bytes : List ℕ) (found kind : FaultKind) → HasFault bytes found → Some found ≡ Some kind → HasFault bytes kind
-told bytes found kind h e = subst (HasFault bytes) (same_Some found kind e) h
+-- the fault that is found is one of the bytes
+abbrev IsRight : List ℕ → Option FaultKind → Type 0
+IsRight bytes found = (kind : FaultKind) → found ≡ Some kind → HasFault bytes kind
 
-by_register : (bytes : List ℕ) (f : OpcodeForm) (kind : FaultKind) → IsRead bytes f → listed f (slot_of bytes) ≡ true → (HasInsn bytes → ⊥) → (b : Bool) → (leb (slot_of bytes).dst 10 && leb (slot_of bytes).src 10) ≡ b → cond b (second_fault f (slot_of bytes).src (drop 8 bytes)) (Some Register) ≡ Some kind → HasFault bytes kind
-by_register bytes f kind r ok none true few e =
-    let parts = and_parts (leb (slot_of bytes).dst 10) (leb (slot_of bytes).src 10) few in
-    let is : SecondSlot ≡ kind = sym (second_kind f (slot_of bytes).src (drop 8 bytes) kind e) in
-    subst (HasFault bytes) is (has_first_slot 10 bytes f r ok (leb-true _ _ parts.0) (leb-true _ _ parts.1), none)
-by_register bytes f kind r ok none false many e =
+told : (bytes : List ℕ) (found : FaultKind) → HasFault bytes found → IsRight bytes (Some found)
+told bytes found h kind e = subst (HasFault bytes) (same_Some found kind e) h
+
+by_register : {bytes : List ℕ} {f : OpcodeForm} → IsRead bytes f → listed f (slot_of bytes) ≡ true → (HasInsn bytes → ⊥) → IsRight bytes (cond (leb (slot_of bytes).dst 10 && leb (slot_of bytes).src 10) (second_fault f (slot_of bytes).src (drop 8 bytes)) (Some Register))
+by_register {bytes} {f} r ok none =
+    let s = slot_of bytes in
     let fields = IsSlot-slot_of bytes r.fits r.long in
-    told bytes Register kind (has_first_slot 15 bytes f r ok (omega (arith, fields.dst)) (omega (arith, fields.src)), no_register bytes many) e
+    cond_both (leb s.dst 10 && leb s.src 10) (second_fault f s.src (drop 8 bytes)) (Some Register) (IsRight bytes)
+    (λ few kind e.
+    let parts = and_parts (leb s.dst 10) (leb s.src 10) few in
+    subst (HasFault bytes) (second_kind f s.src (drop 8 bytes) kind e) (has_first_slot 10 r ok (leb-true _ _ parts.0) (leb-true _ _ parts.1), none))
+    (λ many. told bytes Register (has_first_slot 15 r ok (omega (arith, fields.dst)) (omega (arith, fields.src)), no_register bytes many))
 
-by_form : (bytes : List ℕ) (f : OpcodeForm) (kind : FaultKind) → IsRead bytes f → (HasInsn bytes → ⊥) → (b : Bool) → listed f (slot_of bytes) ≡ b → cond b (cond (leb (slot_of bytes).dst 10 && leb (slot_of bytes).src 10) (second_fault f (slot_of bytes).src (drop 8 bytes)) (Some Register)) (Some Reserved) ≡ Some kind → HasFault bytes kind
-by_form bytes f kind r none true ok e = by_register bytes f kind r ok none (leb (slot_of bytes).dst 10 && leb (slot_of bytes).src 10) refl e
-by_form bytes f kind r none false unlisted e =
-    told bytes Reserved kind (r.long, known bytes f (r.fits 0) r.form, not_listed bytes f r unlisted) e
-
-by_opcode : (bytes : List ℕ) (kind : FaultKind) → IsBytes bytes → 8 ≤ length bytes → (HasInsn bytes → ⊥) → (o : Option OpcodeForm) → form_at (slot_of bytes).opcode ≡ o → fault_by_form o (slot_of bytes) (drop 8 bytes) ≡ Some kind → HasFault bytes kind
+by_form : {bytes : List ℕ} {f : OpcodeForm} → IsRead bytes f → (HasInsn bytes → ⊥) → IsRight bytes (fault_in_form f (slot_of bytes) (drop 8 bytes))
 unfolding fault_in_form
-by_opcode bytes kind fits long none None is e = told bytes Opcode kind (long, unknown bytes is) e
-by_opcode bytes kind fits long none (Some f) is e = by_form bytes f kind (record { fits = fits; long = long; form = is }) none (listed f (slot_of bytes)) refl e
+by_form {bytes} {f} r none =
+    let s = slot_of bytes in
+    cond_both (listed f s) (cond (leb s.dst 10 && leb s.src 10) (second_fault f s.src (drop 8 bytes)) (Some Register)) (Some Reserved) (IsRight bytes)
+    (λ ok. by_register r ok none) (λ unlisted. told bytes Reserved (r.long, known bytes f (r.fits 0) r.form, not_listed r unlisted))
 
-by_length : (bytes : List ℕ) (kind : FaultKind) → IsBytes bytes → (HasInsn bytes → ⊥) → (short : Bool) → ltb (length bytes) 8 ≡ short → cond short (Some Ragged) (fault_by_form (form_at (slot_of bytes).opcode) (slot_of bytes) (drop 8 bytes)) ≡ Some kind → HasFault bytes kind
-by_length bytes kind fits none true short e = told bytes Ragged kind (ltb-true _ _ short) e
-by_length bytes kind fits none false long e = by_opcode bytes kind fits (ltb-false _ _ long) none (form_at (slot_of bytes).opcode) refl e
+by_opcode : (bytes : List ℕ) → IsBytes bytes → 8 ≤ length bytes → (HasInsn bytes → ⊥) → (o : Option OpcodeForm) → form_at (slot_of bytes).opcode ≡ o → IsRight bytes (fault_by_form o (slot_of bytes) (drop 8 bytes))
+by_opcode bytes fits long none None is = told bytes Opcode (long, unknown bytes is)
+by_opcode bytes fits long none (Some f) is = by_form (record { fits = fits; long = long; form = is }) none
 
 pub has_fault : (bytes : List ℕ) (kind : FaultKind) → IsBytes bytes → first_fault bytes ≡ Some kind → HasFault bytes kind
 unfolding first_fault
 has_fault bytes kind fits e =
     let none : HasInsn bytes → ⊥ = λ (h : HasInsn bytes). none-some kind (sym (no_fault h.0 bytes h.1 h.2) ∙ e) in
-    by_length bytes kind fits none (ltb (length bytes) 8) refl e
+    cond_both (ltb (length bytes) 8) (Some Ragged) (fault_by_form (form_at (slot_of bytes).opcode) (slot_of bytes) (drop 8 bytes)) (IsRight bytes)
+    (λ short. told bytes Ragged (ltb-true _ _ short)) (λ long. by_opcode bytes fits (ltb-false _ _ long) none (form_at (slot_of bytes).opcode) refl) kind e
 
 -- of a slot whose own fields are right the fault is the second slot's
 pub fault_by_second : (f : OpcodeForm) (s t : SlotFields) (rest : List ℕ) (kind : FaultKind) → s ≡ t → listed f s ≡ true → s.dst ≤ 10 → s.src ≤ 10 → second_fault f t.src rest ≡ Some kind → fault_in_form f t rest ≡ Some kind

@@ -1,7 +1,8 @@
 -- The fields of a slot and its eight bytes.
-use Rattle.std.proofs.Common.{◌≡◌, ℕ, ◌+◌, ◌*◌, ◌/◌, ◌%◌, ◌^◌, ◌<◌, ◌≤◌, List, [], ◌∷◌, ◌++◌, length, get_or, take, drop, refl, sym, ap, ◌∙◌, append_assoc, arith, inl, inr}
+use Rattle.std.proofs.Common.{◌≡◌, ℕ, ◌+◌, ◌*◌, ◌/◌, ◌%◌, ◌^◌, ◌<◌, ◌≤◌, List, [], ◌∷◌, ◌++◌, length, get_or, take, drop, Option, refl, sym, ap, ◌∙◌, append_assoc, arith, inl, inr}
 use Rattle.std.specs.Int.{w16, w32, from_le_bytes, to_le_bytes}
 use Rattle.std.specs.List.{flat_map}
+use Rattle.std.specs.Option.{option_to_list}
 use Rattle.std.proofs.lemmas.Bool.{cases_lt}
 use Rattle.std.proofs.lemmas.List.{take-append-drop, length-append, length-take, get_or-drop, get_or-take, get_or_past}
 use Rattle.std.proofs.lemmas.Nat.{le_bytes_2, le_bytes_4, from_le_bytes-to_le_bytes_2, from_le_bytes-to_le_bytes_4}
@@ -10,7 +11,7 @@ use Rattle.insn_set.specs.declared.slot.SlotFields.{SlotFields}
 use Rattle.insn_set.specs.declared.insn.Insn.{Insn}
 use Rattle.insn_set.specs.Slot.{slot_bytes}
 use Rattle.insn_set.specs.Slot.{slot_of}
-use Rattle.insn_set.specs.Spelling.{slots, spelling, Begins}
+use Rattle.insn_set.specs.Spelling.{first, second, slots, spelling, Begins}
 
 abbrev pub IsBytes : List ℕ → Type 0
 IsBytes bytes = (i : ℕ) → get_or bytes i 0 < 256
@@ -33,9 +34,9 @@ pub record IsSlot (s : SlotFields) : Type 0 where
   pub imm : s.imm < 2 ^ 32
 
 -- what was written is read
-pub slot_of-append : (s : SlotFields) (rest : List ℕ) → IsSlot s → slot_of (slot_bytes s ++ rest) ≡ s
+pub slot_of-append : {s : SlotFields} (rest : List ℕ) → IsSlot s → slot_of (slot_bytes s ++ rest) ≡ s
 unfolding slot_of
-slot_of-append s rest h =
+slot_of-append {s} rest h =
     let low : (16 * s.src + s.dst) % 16 ≡ s.dst = omega arith in
     let high : (16 * s.src + s.dst) / 16 ≡ s.src = omega arith in
     rw (low, high, from_le_bytes-to_le_bytes_2 s.offset h.offset, from_le_bytes-to_le_bytes_4 s.imm h.imm) refl
@@ -84,32 +85,25 @@ begins_two i bytes rest fits long rest-is long_rest slots-is =
     let e : slots i ≡ slot_of bytes ∷ slot_of (drop 8 bytes) ∷ [] = rw rest-is at slots-is in
     two_slots (slots i) bytes fits long more e
 
--- the other way: the bytes are the spelling and a rest
-whole_of_begins : (i : Insn) (bytes : List ℕ) → Begins i bytes → bytes ≡ spelling i ++ drop (length (spelling i)) bytes
-whole_of_begins i bytes h =
-    sym (take-append-drop (length (spelling i)) bytes) ∙ ap (λ (x : List ℕ). x ++ drop (length (spelling i)) bytes) h
+-- the other way: the bytes are a slot and a rest
+slot_before : {s : SlotFields} {bytes : List ℕ} (rest : List ℕ) → IsSlot s → bytes ≡ slot_bytes s ++ rest → (slot_of bytes ≡ s) × (8 ≤ length bytes)
+slot_before {s} rest fits whole = (ap slot_of whole ∙ slot_of-append rest fits, omega (arith, ap length whole, length-append (slot_bytes s) rest))
 
-pub first_of_begins : (i : Insn) (s : SlotFields) (others : List SlotFields) (bytes : List ℕ) → IsSlot s → slots i ≡ s ∷ others → Begins i bytes → (slot_of bytes ≡ s) × (8 ≤ length bytes)
+pub whole_of_begins : (i : Insn) (s : SlotFields) (others : List SlotFields) (bytes : List ℕ) → slots i ≡ s ∷ others → Begins i bytes → bytes ≡ slot_bytes s ++ (flat_map slot_bytes others ++ drop (length (spelling i)) bytes)
 unfolding spelling
-first_of_begins i s others bytes fits e h =
+whole_of_begins i s others bytes e h =
     let rest = drop (length (spelling i)) bytes in
-    let spelled : spelling i ≡ slot_bytes s ++ flat_map slot_bytes others = ap (flat_map slot_bytes) e in
-    let whole : bytes ≡ slot_bytes s ++ (flat_map slot_bytes others ++ rest) = whole_of_begins i bytes h ∙ ap (λ (x : List ℕ). x ++ rest) spelled ∙ append_assoc (slot_bytes s) (flat_map slot_bytes others) rest in
-    (ap slot_of whole ∙ slot_of-append s (flat_map slot_bytes others ++ rest) fits, omega (arith, ap length whole, length-append (slot_bytes s) (flat_map slot_bytes others ++ rest)))
+    sym (take-append-drop (length (spelling i)) bytes)
+    ∙ ap (λ (x : List ℕ). x ++ rest) (h ∙ ap (flat_map slot_bytes) e)
+    ∙ append_assoc (slot_bytes s) (flat_map slot_bytes others) rest
 
-pub second_of_begins : (i : Insn) (s t : SlotFields) (bytes : List ℕ) → IsSlot t → slots i ≡ s ∷ t ∷ [] → Begins i bytes → (slot_of (drop 8 bytes) ≡ t) × (8 ≤ length (drop 8 bytes))
-unfolding spelling
-second_of_begins i s t bytes fits e h =
-    let rest = drop (length (spelling i)) bytes in
-    let spelled : spelling i ≡ slot_bytes s ++ slot_bytes t = ap (flat_map slot_bytes) e in
-    let whole : bytes ≡ slot_bytes s ++ (slot_bytes t ++ rest) = whole_of_begins i bytes h ∙ ap (λ (x : List ℕ). x ++ rest) spelled ∙ append_assoc (slot_bytes s) (slot_bytes t) rest in
-    let more : drop 8 bytes ≡ slot_bytes t ++ rest = ap (drop 8) whole in
-    (ap slot_of more ∙ slot_of-append t rest fits, omega (arith, ap length more, length-append (slot_bytes t) rest))
+pub first_of_begins : {s : SlotFields} (i : Insn) (others : List SlotFields) (bytes : List ℕ) → IsSlot s → slots i ≡ s ∷ others → Begins i bytes → (slot_of bytes ≡ s) × (8 ≤ length bytes)
+first_of_begins {s} i others bytes fits e h = slot_before (flat_map slot_bytes others ++ drop (length (spelling i)) bytes) fits (whole_of_begins i s others bytes e h)
 
-pub spelling-one : (i : Insn) (s : SlotFields) → slots i ≡ s ∷ [] → spelling i ≡ slot_bytes s
-unfolding spelling
-spelling-one i s e = ap (flat_map slot_bytes) e
+pub second_of_begins : {t : SlotFields} (i : Insn) (s : SlotFields) (bytes : List ℕ) → IsSlot t → slots i ≡ s ∷ t ∷ [] → Begins i bytes → (slot_of (drop 8 bytes) ≡ t) × (8 ≤ length (drop 8 bytes))
+second_of_begins {t} i s bytes fits e h = slot_before (drop (length (spelling i)) bytes) fits (ap (drop 8) (whole_of_begins i s (t ∷ []) bytes e h))
 
-pub spelling-two : (i : Insn) (s t : SlotFields) → slots i ≡ s ∷ t ∷ [] → spelling i ≡ slot_bytes s ++ slot_bytes t
+-- the spelling is that of a first slot and, if there is one, of a second
+pub spelled_by : (i : Insn) (s : SlotFields) (next : Option SlotFields) → s ≡ first i → second i ≡ option_to_list next → spelling i ≡ slot_bytes s ++ flat_map slot_bytes (option_to_list next)
 unfolding spelling
-spelling-two i s t e = ap (flat_map slot_bytes) e
+spelled_by i s next first-is second-is = ap (λ (x : SlotFields). slot_bytes x ++ flat_map slot_bytes (second i)) (sym first-is) ∙ ap (λ (ss : List SlotFields). slot_bytes s ++ flat_map slot_bytes ss) second-is

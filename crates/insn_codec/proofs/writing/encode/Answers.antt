@@ -1,22 +1,17 @@
 -- The slots that are written are the spelling.
-use Rattle.std.proofs.Common.{◌≡◌, ℕ, List, [], ◌∷◌, ◌++◌, length, drop, ap, sym, ◌∙◌, append-nil, arith}
+use Rattle.std.proofs.Common.{◌≡◌, ℕ, List, [], ◌++◌, length, drop, None, Some, ap, sym, ◌∙◌, append-nil, arith}
 use Rattle.std.proofs.lemmas.List.{drop_all}
 use Rattle.std.specs.Option.{option_to_list}
-use Rattle.insn_set.specs.declared.slot.SlotFields.{SlotFields}
 use Rattle.insn_set.specs.Slot.{slot_bytes}
-use Rattle.insn_set.specs.Spelling.{spelling, second}
-use Rattle.insn_codec.proofs.Slots.{spelling-one, spelling-two}
+use Rattle.insn_set.specs.Spelling.{spelling}
+use Rattle.insn_codec.proofs.Slots.{spelled_by}
 use Rattle.insn_codec.proofs.writing.encode.Goals as goal
 
 one : (c : goal.After-out-in-None-1) → spelling c.args.insn.now ≡ slot_bytes c.first-first.result
-one c =
-    spelling-one c.args.insn.now c.first-first.result
-    (ap (λ (s : SlotFields). s ∷ second c.args.insn.now) (sym c.first-first.ensures.value) ∙ ap (λ (ss : List SlotFields). c.first-first.result ∷ ss) (c.second.ensures.value ∙ ap option_to_list c.in-None.is))
+one c = spelled_by c.args.insn.now c.first-first.result None c.first-first.ensures.value (c.second.ensures.value ∙ ap option_to_list c.in-None.is)
 
 two : (c : goal.After-out-in-Some-2-1) → spelling c.args.insn.now ≡ slot_bytes c.first-first.result ++ slot_bytes c.in-Some.next
-two c =
-    spelling-two c.args.insn.now c.first-first.result c.in-Some.next
-    (ap (λ (s : SlotFields). s ∷ second c.args.insn.now) (sym c.first-first.ensures.value) ∙ ap (λ (ss : List SlotFields). c.first-first.result ∷ ss) (c.second.ensures.value ∙ ap option_to_list c.in-Some.is))
+two c = spelled_by c.args.insn.now c.first-first.result (Some c.in-Some.next) c.first-first.ensures.value (c.second.ensures.value ∙ ap option_to_list c.in-Some.is)
 
 pub returns-in-None-clause-length : goal.returns-in-None-clause-length
 returns-in-None-clause-length c = sym (ap length (one c))

@@ -150,13 +150,13 @@ pub record IsOf (f : OpcodeForm) (s : SlotFields) : Type 0 where
   pub offset : s.offset < 2 ^ 16
   pub imm : s.imm < 2 ^ 32
 
-first-alu : (wide : Bool) (c : AluCode) (z : SourceBit) (s : SlotFields) → IsOf (form.Alu wide c z) s → s.offset < 8 → first (Alu wide (op_at c s.offset) s.dst (operand_at z s)) ≡ s
-first-alu wide c z s h few =
+first-alu : {wide : Bool} {c : AluCode} {z : SourceBit} {s : SlotFields} → IsOf (form.Alu wide c z) s → s.offset < 8 → first (Alu wide (op_at c s.offset) s.dst (operand_at z s)) ≡ s
+first-alu {wide} {c} {z} {s} h few =
     let parts = and_parts (one_operand z s) (offset_listed wide c z s.offset) h.listed in
     slot_same s (rw (alu_number-op_at c s.offset, source_bit-operand_at z s) h.opcode) refl (src_field-operand_at z s parts.0) (alu_offset-op_at wide c z s.offset parts.1 few) (imm_field-operand_at z s parts.0 h.imm)
 
-first-movsx : (wide : Bool) (c : AluCode) (z : SourceBit) (s : SlotFields) → IsOf (form.Alu wide c z) s → 8 ≤ s.offset → first (movsx_at wide (narrow_at s.offset) s.dst s.src) ≡ s
-first-movsx wide c z s h many =
+first-movsx : {wide : Bool} {c : AluCode} {z : SourceBit} {s : SlotFields} → IsOf (form.Alu wide c z) s → 8 ≤ s.offset → first (movsx_at wide (narrow_at s.offset) s.dst s.src) ≡ s
+first-movsx {wide} {c} {z} {s} h many =
     let parts = and_parts (one_operand z s) (offset_listed wide c z s.offset) h.listed in
     let m = is_movsx wide c z s.offset parts.1 many in
     let imm : s.imm ≡ 0 = eqb-true s.imm 0 (rw m.1 at parts.0) in
@@ -195,8 +195,8 @@ atomic_of imm h =
 pub wide_src : (src : ℕ) → is_some (wide_at src) ≡ true → (src ≡ 0) ⊎ ((src ≡ 1) ⊎ (src ≡ 2))
 wide_src src h = grind (arith, nat_tests)
 
-first-wide : (s : SlotFields) → IsOf form.Wide s → first (wide_insn (wide_at s.src) s 0) ≡ s
-first-wide s h =
+first-wide : {s : SlotFields} → IsOf form.Wide s → first (wide_insn (wide_at s.src) s 0) ≡ s
+first-wide {s} h =
     let parts = and_parts (eqb s.offset 0) (is_some (wide_at s.src)) h.listed in
     let none : s.offset ≡ 0 = eqb-true s.offset 0 parts.0 in
     elim (wide_src s.src parts.1) [
@@ -214,7 +214,7 @@ wide_up_to top (Some MapValue) s dst h = (dst, word_fits s.imm h, omega arith)
 pub first-insn_at : (f : OpcodeForm) (s : SlotFields) → IsOf f s → first (insn_at f s 0) ≡ s
 first-insn_at (form.Alu wide c z) s h =
     cond_both (ltb s.offset 8) (Alu wide (op_at c s.offset) s.dst (operand_at z s)) (movsx_at wide (narrow_at s.offset) s.dst s.src) (λ i. first i ≡ s)
-    (λ e. first-alu wide c z s h (ltb-true s.offset 8 e)) (λ e. first-movsx wide c z s h (ltb-false s.offset 8 e))
+    (λ e. first-alu h (ltb-true s.offset 8 e)) (λ e. first-movsx h (ltb-false s.offset 8 e))
 first-insn_at (form.Neg wide) s h =
     let zero = zeros s.src s.offset (eqb s.imm 0) h.listed in
     slot_same s h.opcode refl zero.0 zero.1 (eqb-true s.imm 0 zero.2)
@@ -242,7 +242,7 @@ first-insn_at (form.Store size z) s h =
 first-insn_at (form.Atomic size) s h =
     let o = atomic_of s.imm h.listed in
     ap (λ k. first (atomic_insn size k s)) o.1 ∙ slot_same s h.opcode refl refl (offset_same s h.offset) o.2
-first-insn_at form.Wide s h = first-wide s h
+first-insn_at form.Wide s h = first-wide h
 
 pub insn_at_up_to : (top : ℕ) (f : OpcodeForm) (s : SlotFields) → IsOf f s → s.dst ≤ top → s.src ≤ top → IsInsnUpTo top (insn_at f s 0)
 insn_at_up_to top (form.Alu wide c z) s h dst src =

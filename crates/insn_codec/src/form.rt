@@ -198,105 +198,6 @@ impl OpcodeForm {
         }
     }
 
-    #[inline(always)]
-    fn put_alu(
-        entry: &mut Insn,
-        wide: bool,
-        code: AluCode,
-        source: SourceBit,
-        slot: SlotFields,
-        dst: Reg,
-        src: Reg,
-    )
-        requires opcode { slot.opcode ≡ opcode_of (Alu wide code source) }
-        requires listed { IsTrue (listed (Alu wide code source) slot) }
-        requires dst { slot.dst ≡ dst }
-        requires src { slot.src ≡ src }
-        requires dst_bound { dst ≤ 10 }
-        requires src_bound { src ≤ 10 }
-        ensures slots { slots entry.new ≡ slot ∷ [] }
-        ensures value { IsInsn entry.new }
-    {
-        if slot.offset == 0 {
-            *entry = Insn::Alu {
-                wide,
-                op: code.operation(),
-                dst,
-                src: source.operand(slot, src),
-            };
-        } else {
-            OpcodeForm::put_alu_by_offset(entry, wide, code, source, slot, dst, src);
-        }
-    }
-
-    /// Writes a signed division or remainder, or a move with sign extension, to an entry.
-    #[inline(always)]
-    fn put_alu_by_offset(
-        entry: &mut Insn,
-        wide: bool,
-        code: AluCode,
-        source: SourceBit,
-        slot: SlotFields,
-        dst: Reg,
-        src: Reg,
-    )
-        requires opcode { slot.opcode ≡ opcode_of (Alu wide code source) }
-        requires listed { IsTrue (listed (Alu wide code source) slot) }
-        requires offset { slot.offset ≢ 0 }
-        requires dst { slot.dst ≡ dst }
-        requires src { slot.src ≡ src }
-        requires dst_bound { dst ≤ 10 }
-        requires src_bound { src ≤ 10 }
-        ensures slots { slots entry.new ≡ slot ∷ [] }
-        ensures value { IsInsn entry.new }
-    {
-        match code {
-            AluCode::Mov => {
-                let bits = match slot.offset {
-                    8 => ExtendedBits::Bits8,
-                    16 => ExtendedBits::Bits16,
-                    _ => ExtendedBits::Bits32,
-                };
-                *entry = Insn::Movsx(Movsx {
-                    wide,
-                    bits,
-                    dst,
-                    src,
-                });
-            }
-            _ => {
-                *entry = Insn::Alu {
-                    wide,
-                    op: code.signed_operation(),
-                    dst,
-                    src: source.operand(slot, src),
-                };
-            }
-        }
-    }
-
-    fn put_atomic(entry: &mut Insn, size: AtomicSize, slot: SlotFields, dst: Reg, src: Reg)
-        requires opcode { slot.opcode ≡ opcode_of (Atomic size) }
-        requires listed { IsTrue (listed (Atomic size) slot) }
-        requires dst { slot.dst ≡ dst }
-        requires src { slot.src ≡ src }
-        requires dst_bound { dst ≤ 10 }
-        requires src_bound { src ≤ 10 }
-        ensures slots { slots entry.new ≡ slot ∷ [] }
-        ensures value { IsInsn entry.new }
-    {
-        let Some(op) = atomic_at(slot.imm) else {
-            unreachable!();
-        };
-        *entry = Insn::Atomic {
-            size,
-            op,
-            dst,
-            src,
-            off: slot.offset.cast_signed(),
-        };
-    }
-
     /// Writes the instruction of a slot of this form to an entry.
     #[inline(always)]
     pub fn put(self, entry: &mut Insn, slot: SlotFields, dst: Reg, src: Reg)
@@ -313,9 +214,35 @@ impl OpcodeForm {
         let off = slot.offset.cast_signed();
         let imm = slot.imm.cast_signed();
         match self {
-            OpcodeForm::Alu { wide, code, source } => OpcodeForm::put_alu(
-                entry, wide, code, source, slot, dst, src,
-            ),
+            OpcodeForm::Alu { wide, code, source } => {
+                if slot.offset == 0 {
+                    *entry = Insn::Alu {
+                        wide,
+                        op: code.operation(),
+                        dst,
+                        src: source.operand(slot, src),
+                    };
+                } else if let AluCode::Mov = code {
+                    let bits = match slot.offset {
+                        8 => ExtendedBits::Bits8,
+                        16 => ExtendedBits::Bits16,
+                        _ => ExtendedBits::Bits32,
+                    };
+                    *entry = Insn::Movsx(Movsx {
+                        wide,
+                        bits,
+                        dst,
+                        src,
+                    });
+                } else {
+                    *entry = Insn::Alu {
+                        wide,
+                        op: code.signed_operation(),
+                        dst,
+                        src: source.operand(slot, src),
+                    };
+                }
+            }
             OpcodeForm::Neg { wide } => *entry = Insn::Neg { wide, dst },
             OpcodeForm::End { how } => {
                 let bits = match slot.imm {
@@ -357,7 +284,16 @@ impl OpcodeForm {
                 };
             }
             OpcodeForm::Atomic { size } => {
-                OpcodeForm::put_atomic(entry, size, slot, dst, src);
+                let Some(op) = atomic_at(slot.imm) else {
+                    unreachable!();
+                };
+                *entry = Insn::Atomic {
+                    size,
+                    op,
+                    dst,
+                    src,
+                    off,
+                };
             }
             OpcodeForm::Wide => unreachable!(),
         }

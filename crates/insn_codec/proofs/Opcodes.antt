@@ -4,7 +4,6 @@ use Rattle.std.specs.Prelude.{IsTrue, not}
 use Rattle.words.specs.declared.operator.AluOp.{AluOp}
 use Rattle.words.specs.declared.operator.AluOp.TheVariants as op
 use Rattle.words.specs.declared.operator.ByteOrder.TheVariants.{Little}
-use Rattle.words.specs.declared.operator.Condition.{Condition}
 use Rattle.words.specs.declared.operator.Condition.TheVariants as conditions
 use Rattle.words.specs.declared.stack.AccessSize.{AccessSize}
 use Rattle.words.specs.declared.stack.AccessSize.TheVariants as size
@@ -25,7 +24,7 @@ use Rattle.insn_codec.specs.declared.form.OpcodeForm.{OpcodeForm}
 use Rattle.insn_codec.specs.declared.form.OpcodeForm.TheVariants as form
 use Rattle.words.specs.Stack.{is_double}
 use Rattle.insn_set.specs.Numbers.{alu_number, load_mode, memory_opcode, atomic_number}
-use Rattle.insn_codec.specs.Spelled.{source_number}
+use Rattle.insn_codec.specs.Spelled.{source_number, is_opcode}
 use Rattle.insn_codec.specs.inside.Opcodes.{code_number, load_opcode, opcode_of}
 use Rattle.insn_codec.specs.inside.Form.{form_at, atomic_at}
 use Rattle.insn_set.specs.Spelling.{first, source_bit}
@@ -80,42 +79,28 @@ form_of (MapValue dst fd off) = form.Wide
 
 -- ---- the form of an opcode
 
-form_at-alu : (wide : Bool) (s : SourceBit) (c : AluCode) → form_at (opcode_of (form.Alu wide c s)) ≡ Some (form.Alu wide c s)
-unfolding form_at
-form_at-alu true source.Imm code.Add = refl
-form_at-alu true source.Reg code.Add = refl
-form_at-alu false source.Imm code.Add = refl
-form_at-alu false source.Reg code.Add = refl
-form_at-alu _ _ _ = refl
-
-form_at-jump : (wide : Bool) (s : SourceBit) (c : Condition) → form_at (opcode_of (form.Jump wide c s)) ≡ Some (form.Jump wide c s)
-unfolding form_at
-form_at-jump true source.Imm conditions.Equal = refl
-form_at-jump true source.Reg conditions.Equal = refl
-form_at-jump false source.Imm conditions.Equal = refl
-form_at-jump false source.Reg conditions.Equal = refl
-form_at-jump _ _ _ = refl
-
-form_at-store : (s : SourceBit) (z : AccessSize) → form_at (opcode_of (form.Store z s)) ≡ Some (form.Store z s)
-unfolding form_at
-form_at-store source.Imm size.Word = refl
-form_at-store source.Reg size.Word = refl
-form_at-store _ _ = refl
+-- the opcode of a form has that form, and is one of the table
+known : (f : OpcodeForm) → (form_at (opcode_of f) ≡ Some f) × (is_opcode (opcode_of f) ≡ true)
+unfolding form_at is_opcode
+known (form.Alu true code.Add source.Imm) = (refl, refl)
+known (form.Alu false code.Add source.Imm) = (refl, refl)
+known (form.Alu _ _ source.Imm) = (refl, refl)
+known (form.Neg true) = (refl, refl)
+known (form.End Little) = (refl, refl)
+known (form.Jump true conditions.Equal source.Imm) = (refl, refl)
+known (form.Jump false conditions.Equal source.Imm) = (refl, refl)
+known (form.Jump _ _ source.Imm) = (refl, refl)
+known (form.Load load.Word) = (refl, refl)
+known (form.Store size.Word source.Imm) = (refl, refl)
+known (form.Store _ source.Imm) = (refl, refl)
+known (form.Atomic atomic_size.Word) = (refl, refl)
+known _ = (refl, refl)
 
 pub form_at-opcode_of : (f : OpcodeForm) → form_at (opcode_of f) ≡ Some f
-unfolding form_at
-form_at-opcode_of (form.Alu wide c s) = form_at-alu wide s c
-form_at-opcode_of (form.Neg true) = refl
-form_at-opcode_of (form.Neg false) = refl
-form_at-opcode_of (form.End Little) = refl
-form_at-opcode_of (form.End _) = refl
-form_at-opcode_of (form.Jump wide c s) = form_at-jump wide s c
-form_at-opcode_of (form.Load load.Word) = refl
-form_at-opcode_of (form.Load _) = refl
-form_at-opcode_of (form.Store z s) = form_at-store s z
-form_at-opcode_of (form.Atomic atomic_size.Word) = refl
-form_at-opcode_of (form.Atomic atomic_size.Double) = refl
-form_at-opcode_of _ = refl
+form_at-opcode_of f = (known f).0
+
+pub is_opcode-opcode_of : (f : OpcodeForm) → is_opcode (opcode_of f) ≡ true
+is_opcode-opcode_of f = (known f).1
 
 -- ---- the operation of an immediate
 

@@ -2,6 +2,7 @@
 use Rattle.std.proofs.Common.{◌≡◌, ℕ, ◌/◌, ◌%◌, ◌*◌, ◌≤◌, Bool, true, false, List, ◌++◌, length, take, drop, Option, Some, None, refl, sym, ap, ◌∙◌, arith, subst, inl, inr}
 use Rattle.std.specs.Prelude.{not, nat_lt, ◌==◌, if◌then◌else◌, slice_index}
 use Rattle.std.specs.List.{flat_map}
+use Rattle.std.proofs.lemmas.Bool.Decides.{nat_tests}
 use Rattle.std.proofs.lemmas.List.{take-append-drop, length-take}
 use Rattle.std.proofs.Math.Seq.{take-append_seam}
 use Rattle.insn_set.specs.declared.insn.Operand.{Operand}
@@ -104,25 +105,8 @@ one_kind bytes a Memory x y = absurd y
 
 -- ---- no fault is `Memory`
 
-abbrev IsOther : Option CodecFault → Type 0
-IsOther o = (fault : CodecFault) → o ≡ Some fault → fault.kind ≡ Memory → ⊥
-
-either_fault : (b : Bool) (x y : Option CodecFault) → IsOther x → IsOther y → IsOther (if b then x else y)
-either_fault true x y h k = h
-either_fault false x y h k = k
-
-of_kind : (a : CodecFault) → (a.kind ≡ Memory → ⊥) → IsOther (Some a)
-of_kind a h fault e memory =
-    let same : a ≡ fault = cc in
-    h (ap (λ (f : CodecFault). f.kind) same ∙ memory)
-
-not_length : (len : ℕ) → IsOther (length_fault len)
-not_length len =
-    let ragged : CodecFault = record { slot = len / 8; kind = Ragged } in
-    either_fault (len == 0) (Some empty_fault) (if not (len % 8 == 0) then Some ragged else (if nat_lt (8 * MAX_SLOTS) len then Some too_long_fault else None))
-    (of_kind empty_fault (λ h. cc))
-    (either_fault (not (len % 8 == 0)) (Some ragged) (if nat_lt (8 * MAX_SLOTS) len then Some too_long_fault else None) (of_kind ragged (λ h. cc))
-    (either_fault (nat_lt (8 * MAX_SLOTS) len) (Some too_long_fault) None (of_kind too_long_fault (λ h. cc)) (λ fault h k. cc)))
+not_length : (len : ℕ) (fault : CodecFault) → length_fault len ≡ Some fault → fault.kind ≡ Memory → ⊥
+not_length len fault e memory = grind (arith, nat_tests)
 
 not_at_front : (bytes : List ℕ) (kind : FaultKind) → kind ≡ Memory → HasFault bytes kind → ⊥
 not_at_front bytes kind e h = subst (HasFault bytes) e h

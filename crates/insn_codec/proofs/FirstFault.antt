@@ -1,6 +1,7 @@
 -- The fault that the code finds is the fault of the grammar.
 use Rattle.std.proofs.Common.{◌≡◌, ℕ, ◌<◌, ◌≤◌, true, false, cond, ◌&&◌, ltb, leb, List, ◌++◌, length, drop, Option, Some, None, refl, sym, ap, subst, ◌∙◌, arith, inl, inr, lit≤}
 use Rattle.std.proofs.lemmas.Bool.{both_ways, cond_both, and_cases, and_parts, le-leb, leb-true, leb-false, ltb-true, ltb-false}
+use Rattle.std.proofs.lemmas.Bool.Decides.{nat_tests}
 use Rattle.std.proofs.lemmas.List.{take-append-drop}
 use Rattle.std.proofs.lemmas.Option.{none-some, same_Some}
 use Rattle.insn_set.specs.declared.slot.SlotFields.{SlotFields}
@@ -57,21 +58,12 @@ no_register : (bytes : List ℕ) → (leb (slot_of bytes).dst 10 && leb (slot_of
 no_register bytes many h =
     let s = read_slot 10 bytes (lit≤ tt) (lit≤ tt) h in
     let r = IsFront-first 10 h.0 (lit≤ tt) h.1 in
-    elim (and_cases (leb (slot_of bytes).dst 10) (leb (slot_of bytes).src 10) many) [
-      | inl high ↦ omega (arith, leb-false _ _ high, r.dst, ap (λ (x : SlotFields). x.dst) s)
-      | inr high ↦ omega (arith, leb-false _ _ high, r.src, ap (λ (x : SlotFields). x.src) s)
-    ]
+    grind (arith, nat_tests, many, r.dst, r.src, ap (λ (x : SlotFields). x.dst) s, ap (λ (x : SlotFields). x.src) s)
 
 -- ---- by the tests of the code, from the last one back
 
 second_kind : (f : OpcodeForm) (src : ℕ) (rest : List ℕ) (kind : FaultKind) → second_fault f src rest ≡ Some kind → SecondSlot ≡ kind
-second_kind form.Wide src rest kind e =
-    cond_both (ltb (length rest) 8) (Some SecondSlot) (next_fault (wide_at src) (slot_of rest)) (λ o. o ≡ Some kind → SecondSlot ≡ kind)
-    (λ short. same_Some SecondSlot kind) (λ long. of_kind (wide_at src)) e where
-      of_kind : (wide : Option WideKind) → next_fault wide (slot_of rest) ≡ Some kind → SecondSlot ≡ kind
-      of_kind None h = absurd cc
-      of_kind (Some wide) h =
-          cond_both (is_second wide (slot_of rest)) None (Some SecondSlot) (λ o. o ≡ Some kind → SecondSlot ≡ kind) (λ yes e. absurd cc) (λ no. same_Some SecondSlot kind) h
+second_kind form.Wide src rest kind e = grind (arith, nat_tests)
 second_kind _ src rest kind e = absurd cc
 
 -- the fault that is found is one of the bytes

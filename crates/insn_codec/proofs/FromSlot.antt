@@ -83,25 +83,15 @@ operand_up_to top source.Reg s src fits = src
 -- ---- operations
 
 pub alu_number-op_at : (c : AluCode) (offset : ℕ) → alu_number (op_at c offset) ≡ code_number c
-alu_number-op_at code.Div offset = cond_both (eqb offset 0) op.Div op.SignedDiv (λ o. alu_number o ≡ 3) (λ e. refl) (λ e. refl)
-alu_number-op_at code.Mod offset = cond_both (eqb offset 0) op.Mod op.SignedMod (λ o. alu_number o ≡ 9) (λ e. refl) (λ e. refl)
+alu_number-op_at code.Div offset = grind (arith, nat_tests)
+alu_number-op_at code.Mod offset = grind (arith, nat_tests)
 alu_number-op_at _ offset = refl
 
-one_or_none : (offset : ℕ) → offset ≤ 1 → eqb offset 0 ≡ false → offset ≡ 1
-one_or_none offset few e = grind (arith, nat_tests)
-
--- a move from a register that has an offset is one with sign extension
-mov_offset : (wide : Bool) (offset : ℕ) → offset_listed wide code.Mov source.Reg offset ≡ true → offset < 8 → offset ≡ 0
-mov_offset wide offset h few = grind (arith, mov_offsets wide offset h)
-
 alu_offset-op_at : (wide : Bool) (c : AluCode) (z : SourceBit) (offset : ℕ) → offset_listed wide c z offset ≡ true → offset < 8 → offset ≡ alu_offset (op_at c offset)
-alu_offset-op_at wide code.Div z offset h few =
-    cond_both (eqb offset 0) op.Div op.SignedDiv (λ o. offset ≡ alu_offset o) (λ e. eqb-true offset 0 e) (λ e. one_or_none offset (leb-true offset 1 h) e)
-alu_offset-op_at wide code.Mod z offset h few =
-    cond_both (eqb offset 0) op.Mod op.SignedMod (λ o. offset ≡ alu_offset o) (λ e. eqb-true offset 0 e) (λ e. one_or_none offset (leb-true offset 1 h) e)
-alu_offset-op_at wide code.Mov source.Imm offset h few = eqb-true offset 0 h
-alu_offset-op_at wide code.Mov source.Reg offset h few = mov_offset wide offset h few
-alu_offset-op_at wide _ z offset h few = eqb-true offset 0 h
+alu_offset-op_at wide code.Div z offset h few = grind (arith, nat_tests)
+alu_offset-op_at wide code.Mov source.Imm offset h few = grind (arith, nat_tests)
+alu_offset-op_at wide code.Mov source.Reg offset h few = grind (arith, nat_tests)
+alu_offset-op_at wide _ z offset h few = grind (arith, nat_tests)
 
 -- ---- moves with sign extension
 
@@ -110,26 +100,12 @@ IsMovsx wide c z offset =
     (c ≡ code.Mov) × (z ≡ source.Reg) × (extended_bits (narrow_at offset) ≡ offset) × IsTrue (wide || is_short (narrow_at offset))
 
 movsx_offset : (wide : Bool) (offset : ℕ) → offset_listed wide code.Mov source.Reg offset ≡ true → 8 ≤ offset → IsMovsx wide code.Mov source.Reg offset
-movsx_offset wide offset h many =
-    elim (mov_offsets wide offset h) [
-      | inl none ↦ absurd (omega arith)
-      | inr (inl e) ↦ (refl, refl, rw e refl, or_right wide (is_short (narrow_at offset)) (rw e refl))
-      | inr (inr (inl e)) ↦ (refl, refl, rw e refl, or_right wide (is_short (narrow_at offset)) (rw e refl))
-      | inr (inr (inr e)) ↦ (refl, refl, rw e.1 refl, or_left wide (is_short (narrow_at offset)) e.0)
-    ]
-
-not_many : {A : Type 0} (offset : ℕ) → eqb offset 0 ≡ true → 8 ≤ offset → A
-not_many offset e many = absurd (omega (arith, eqb-true offset 0 e))
-
-not_many_signed : {A : Type 0} (offset : ℕ) → ◌≡◌ {A = Bool} (leb offset 1) true → 8 ≤ offset → A
-not_many_signed offset e many = absurd (omega (arith, leb-true offset 1 e))
+movsx_offset wide offset h many = (refl, refl, grind (arith, nat_tests), grind (arith, nat_tests))
 
 is_movsx : (wide : Bool) (c : AluCode) (z : SourceBit) (offset : ℕ) → offset_listed wide c z offset ≡ true → 8 ≤ offset → IsMovsx wide c z offset
-is_movsx wide code.Div z offset h many = not_many_signed offset h many
-is_movsx wide code.Mod z offset h many = not_many_signed offset h many
-is_movsx wide code.Mov source.Imm offset h many = not_many offset h many
 is_movsx wide code.Mov source.Reg offset h many = movsx_offset wide offset h many
-is_movsx wide _ z offset h many = not_many offset h many
+is_movsx wide code.Mov source.Imm offset h many = absurd (grind (arith, nat_tests))
+is_movsx wide _ z offset h many = absurd (grind (arith, nat_tests))
 
 first-movsx_at : (wide : Bool) (b : ExtendedBits) (dst src : ℕ) → IsTrue (wide || is_short b) → first (movsx_at wide b dst src) ≡ slot (opcode 11 1 (alu_class wide)) dst src (extended_bits b) 0
 first-movsx_at true b dst src h = refl
@@ -163,12 +139,7 @@ first-movsx {wide} {c} {z} {s} h many =
     first-movsx_at wide (narrow_at s.offset) s.dst s.src m.3 ∙ slot_same s (omega (arith, h.opcode, ap code_number m.0, ap source_number m.1)) refl refl (sym m.2) imm
 
 kept_bits-bits_at : (imm : ℕ) → (eqb imm 16 || eqb imm 32 || eqb imm 64) ≡ true → imm ≡ kept_bits (bits_at imm)
-kept_bits-bits_at imm h =
-    elim (end_widths imm h) [
-      | inl e ↦ rw e refl
-      | inr (inl e) ↦ rw e refl
-      | inr (inr e) ↦ rw e refl
-    ]
+kept_bits-bits_at imm h = grind (arith, nat_tests)
 
 first-load_insn : (kind : LoadKind) (dst src offset : ℕ) → offset < 2 ^ 16 → first (load_insn kind dst src (cast_signed w16 offset)) ≡ slot (load_opcode kind) dst src offset 0
 first-load_insn load.Word dst src offset h = rw (of_z-to_z w16 offset h) refl

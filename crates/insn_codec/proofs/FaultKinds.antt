@@ -1,6 +1,6 @@
 -- The fault at the front of bytes is one, and none where an instruction begins.
-use Rattle.std.proofs.Common.{◌≡◌, ℕ, ◌/◌, ◌%◌, ◌*◌, ◌≤◌, Bool, true, false, List, ◌++◌, length, take, drop, Option, Some, None, refl, sym, ap, ◌∙◌, arith, subst, inl, inr}
-use Rattle.std.specs.Prelude.{not, nat_lt, ◌==◌, if◌then◌else◌, slice_index}
+use Rattle.std.proofs.Common.{◌≡◌, ℕ, ◌≤◌, List, ◌++◌, length, take, drop, Some, refl, sym, ap, ◌∙◌, arith, subst, inl, inr}
+use Rattle.std.specs.Prelude.{slice_index}
 use Rattle.std.specs.List.{flat_map}
 use Rattle.std.proofs.lemmas.Bool.Decides.{nat_tests}
 use Rattle.std.proofs.lemmas.List.{take-append-drop, length-take}
@@ -12,11 +12,10 @@ use Rattle.insn_set.specs.declared.insn.Insn.TheVariants.{Alu, Movsx, Neg, End, 
 use Rattle.insn_codec.specs.declared.fault.CodecFault.{CodecFault}
 use Rattle.insn_codec.specs.declared.fault.FaultKind.{FaultKind}
 use Rattle.insn_codec.specs.declared.fault.FaultKind.TheVariants.{Opcode, Reserved, Register, SecondSlot, Ragged, Empty, TooLong, Memory}
-use Rattle.insn_set.specs.declared.TheConstants.{MAX_SLOTS}
 use Rattle.insn_set.specs.Slot.{slot_bytes}
 use Rattle.insn_set.specs.Spelling.{first, second, spelling, IsOperandUpTo, IsInsnUpTo, Begins}
 use Rattle.insn_codec.specs.Fault.{HasFirstSlot, HasInsn, HasOpcode, HasFault}
-use Rattle.insn_codec.specs.ProgramFault.{empty_fault, too_long_fault, length_fault, IsProgramFault}
+use Rattle.insn_codec.specs.ProgramFault.{length_fault, IsProgramFault}
 use Rattle.insn_codec.proofs.Slots.{whole_of_begins}
 use Rattle.insn_codec.proofs.KnownOpcodes.{known_first}
 

@@ -1,17 +1,16 @@
 -- The fault that the code finds is the fault of the grammar.
-use Rattle.std.proofs.Common.{◌≡◌, ℕ, ◌<◌, ◌≤◌, true, false, cond, ◌&&◌, ltb, leb, List, ◌++◌, length, drop, Option, Some, None, refl, sym, ap, subst, ◌∙◌, arith, inl, inr, lit≤}
-use Rattle.std.proofs.lemmas.Bool.{both_ways, cond_both, and_cases, and_parts, le-leb, leb-true, leb-false, ltb-true, ltb-false}
+use Rattle.std.proofs.Common.{◌≡◌, ℕ, ◌<◌, ◌≤◌, true, false, cond, ◌&&◌, ltb, leb, List, ◌++◌, length, drop, Option, Some, None, refl, sym, ap, subst, ◌∙◌, arith, lit≤}
+use Rattle.std.proofs.lemmas.Bool.{both_ways, cond_both, and_parts, le-leb, leb-true, ltb-true, ltb-false}
 use Rattle.std.proofs.lemmas.Bool.Decides.{nat_tests}
 use Rattle.std.proofs.lemmas.List.{take-append-drop}
 use Rattle.std.proofs.lemmas.Option.{none-some, same_Some}
 use Rattle.insn_set.specs.declared.slot.SlotFields.{SlotFields}
 use Rattle.insn_codec.specs.declared.fault.FaultKind.{FaultKind}
 use Rattle.insn_codec.specs.declared.fault.FaultKind.TheVariants.{Opcode, Reserved, Register, SecondSlot, Ragged}
-use Rattle.insn_codec.specs.declared.opcode.WideKind.{WideKind}
 use Rattle.insn_codec.specs.declared.form.OpcodeForm.{OpcodeForm}
 use Rattle.insn_codec.specs.declared.form.OpcodeForm.TheVariants as form
-use Rattle.insn_codec.specs.inside.Form.{wide_at, form_at, listed}
-use Rattle.insn_codec.specs.inside.FirstFault.{is_second, next_fault, second_fault, fault_in_form, fault_by_form, first_fault}
+use Rattle.insn_codec.specs.inside.Form.{form_at, listed}
+use Rattle.insn_codec.specs.inside.FirstFault.{second_fault, fault_in_form, fault_by_form, first_fault}
 use Rattle.insn_set.specs.Slot.{slot_bytes}
 use Rattle.insn_set.specs.Slot.{slot_of}
 use Rattle.insn_set.specs.Spelling.{first}

@@ -1,13 +1,12 @@
 -- A slot whose fields its form lists is the first slot of an instruction.
-use Rattle.std.proofs.Common.{◌≡◌, ℕ, ◌^◌, ◌<◌, ◌≤◌, Bool, true, false, cond, ◌&&◌, ◌||◌, ltb, leb, eqb, Option, Some, None, refl, sym, ap, ◌∙◌, arith, inl, inr, ◌⊎◌}
+use Rattle.std.proofs.Common.{◌≡◌, ℕ, ◌^◌, ◌<◌, ◌≤◌, Bool, true, false, cond, ◌&&◌, ◌||◌, ltb, eqb, Option, Some, None, refl, sym, ap, ◌∙◌, arith, inl, inr, ◌⊎◌}
 use Rattle.std.specs.Prelude.{IsTrue, FitsSigned, is_some}
 use Rattle.std.specs.Int.{w16, w32, cast_signed}
 use Rattle.std.proofs.Math.Facts.{sfits_to_z}
-use Rattle.std.proofs.lemmas.Bool.{and_parts, or_left, or_right, cond_both, eqb-true, leb-true, ltb-true, ltb-false}
+use Rattle.std.proofs.lemmas.Bool.{and_parts, cond_both, eqb-true, ltb-true, ltb-false}
 use Rattle.std.proofs.lemmas.Bool.Decides.{nat_tests}
 use Rattle.std.proofs.lemmas.Int.{of_z-to_z}
 use Rattle.insn_set.specs.declared.slot.SlotFields.{SlotFields}
-use Rattle.words.specs.declared.operator.AluOp.TheVariants as op
 use Rattle.words.specs.declared.operator.ExtendedBits.{ExtendedBits}
 use Rattle.words.specs.declared.operator.ExtendedBits.TheVariants as narrow
 use Rattle.insn_set.specs.declared.insn.Insn.TheVariants.{Alu}
@@ -54,14 +53,6 @@ imm_same s h = sym (of_z-to_z w32 s.imm h)
 pub zeros : (a b : ℕ) (rest : Bool) → (eqb a 0 && eqb b 0 && rest) ≡ true → (a ≡ 0) × (b ≡ 0) × (rest ≡ true)
 zeros a b rest h = grind (arith, nat_tests)
 
--- the offset of a move from a register
-pub mov_offsets : (wide : Bool) (offset : ℕ) → offset_listed wide code.Mov source.Reg offset ≡ true → (offset ≡ 0) ⊎ ((offset ≡ 8) ⊎ ((offset ≡ 16) ⊎ ((wide ≡ true) × (offset ≡ 32))))
-mov_offsets wide offset h = grind (arith, nat_tests)
-
--- the immediate of a byte-order conversion
-pub end_widths : (imm : ℕ) → (eqb imm 16 || eqb imm 32 || eqb imm 64) ≡ true → (imm ≡ 16) ⊎ ((imm ≡ 32) ⊎ (imm ≡ 64))
-end_widths imm h = grind (arith, nat_tests)
-
 -- ---- the second operand
 
 pub source_bit-operand_at : (z : SourceBit) (s : SlotFields) → source_bit (operand_at z s) ≡ source_number z
@@ -88,9 +79,7 @@ alu_number-op_at code.Mod offset = grind (arith, nat_tests)
 alu_number-op_at _ offset = refl
 
 alu_offset-op_at : (wide : Bool) (c : AluCode) (z : SourceBit) (offset : ℕ) → offset_listed wide c z offset ≡ true → offset < 8 → offset ≡ alu_offset (op_at c offset)
-alu_offset-op_at wide code.Div z offset h few = grind (arith, nat_tests)
 alu_offset-op_at wide code.Mov source.Imm offset h few = grind (arith, nat_tests)
-alu_offset-op_at wide code.Mov source.Reg offset h few = grind (arith, nat_tests)
 alu_offset-op_at wide _ z offset h few = grind (arith, nat_tests)
 
 -- ---- moves with sign extension
@@ -99,12 +88,8 @@ abbrev IsMovsx : Bool → AluCode → SourceBit → ℕ → Type 0
 IsMovsx wide c z offset =
     (c ≡ code.Mov) × (z ≡ source.Reg) × (extended_bits (narrow_at offset) ≡ offset) × IsTrue (wide || is_short (narrow_at offset))
 
-movsx_offset : (wide : Bool) (offset : ℕ) → offset_listed wide code.Mov source.Reg offset ≡ true → 8 ≤ offset → IsMovsx wide code.Mov source.Reg offset
-movsx_offset wide offset h many = (refl, refl, grind (arith, nat_tests), grind (arith, nat_tests))
-
 is_movsx : (wide : Bool) (c : AluCode) (z : SourceBit) (offset : ℕ) → offset_listed wide c z offset ≡ true → 8 ≤ offset → IsMovsx wide c z offset
-is_movsx wide code.Mov source.Reg offset h many = movsx_offset wide offset h many
-is_movsx wide code.Mov source.Imm offset h many = absurd (grind (arith, nat_tests))
+is_movsx wide code.Mov source.Reg offset h many = (refl, refl, grind (arith, nat_tests), grind (arith, nat_tests))
 is_movsx wide _ z offset h many = absurd (grind (arith, nat_tests))
 
 first-movsx_at : (wide : Bool) (b : ExtendedBits) (dst src : ℕ) → IsTrue (wide || is_short b) → first (movsx_at wide b dst src) ≡ slot (opcode 11 1 (alu_class wide)) dst src (extended_bits b) 0

@@ -47,15 +47,13 @@ offset_same s h = sym (of_z-to_z w16 s.offset h)
 imm_same : (s : SlotFields) → s.imm < 2 ^ 32 → s.imm ≡ imm_bits (cast_signed w32 s.imm)
 imm_same s h = sym (of_z-to_z w32 s.imm h)
 
--- ---- what tests of fields tell
-
--- two fields are zero
-pub zeros : (a b : ℕ) (rest : Bool) → (eqb a 0 && eqb b 0 && rest) ≡ true → (a ≡ 0) × (b ≡ 0) × (rest ≡ true)
+-- the fields that a test finds to be zero
+zeros : (a b : ℕ) (rest : Bool) → (eqb a 0 && eqb b 0 && rest) ≡ true → (a ≡ 0) × (b ≡ 0) × (rest ≡ true)
 zeros a b rest h = grind (arith, nat_tests)
 
 -- ---- the second operand
 
-pub source_bit-operand_at : (z : SourceBit) (s : SlotFields) → source_bit (operand_at z s) ≡ source_number z
+source_bit-operand_at : (z : SourceBit) (s : SlotFields) → source_bit (operand_at z s) ≡ source_number z
 source_bit-operand_at source.Imm s = refl
 source_bit-operand_at source.Reg s = refl
 
@@ -73,7 +71,7 @@ operand_up_to top source.Reg s src fits = src
 
 -- ---- operations
 
-pub alu_number-op_at : (c : AluCode) (offset : ℕ) → alu_number (op_at c offset) ≡ code_number c
+alu_number-op_at : (c : AluCode) (offset : ℕ) → alu_number (op_at c offset) ≡ code_number c
 alu_number-op_at code.Div offset = grind (arith, nat_tests)
 alu_number-op_at code.Mod offset = grind (arith, nat_tests)
 alu_number-op_at _ offset = refl
@@ -135,7 +133,7 @@ load_up_to top load.Word dst src offset d s h = (d, s, half_fits offset h)
 load_up_to top _ dst src offset d s h = (d, s, half_fits offset h)
 
 -- the operation of an immediate
-pub atomic_imm : (imm : ℕ) → is_some (atomic_at imm) ≡ true → (imm ≡ 0x00) ⊎ ((imm ≡ 0x40) ⊎ ((imm ≡ 0x50) ⊎ (imm ≡ 0xa0)))
+atomic_imm : (imm : ℕ) → is_some (atomic_at imm) ≡ true → (imm ≡ 0x00) ⊎ ((imm ≡ 0x40) ⊎ ((imm ≡ 0x50) ⊎ (imm ≡ 0xa0)))
 atomic_imm imm h = grind (arith, nat_tests)
 
 atomic_of : (imm : ℕ) → is_some (atomic_at imm) ≡ true → (o : AtomicOp) × (atomic_at imm ≡ Some o) × (imm ≡ atomic_number o)
@@ -148,7 +146,7 @@ atomic_of imm h =
     ]
 
 -- the source field of a wide load
-pub wide_src : (src : ℕ) → is_some (wide_at src) ≡ true → (src ≡ 0) ⊎ ((src ≡ 1) ⊎ (src ≡ 2))
+wide_src : (src : ℕ) → is_some (wide_at src) ≡ true → (src ≡ 0) ⊎ ((src ≡ 1) ⊎ (src ≡ 2))
 wide_src src h = grind (arith, nat_tests)
 
 first-wide : {s : SlotFields} → IsOf form.Wide s → first (wide_insn (wide_at s.src) s 0) ≡ s

@@ -5,13 +5,13 @@ use Rattle.tagged_model.specs.declared.fault.MapFault.TheVariants.{NoEntry, TooB
 use Rattle.tagged_model.specs.Table.{Verdict, Refused, Present, New, verdict, removal}
 use Rattle.bpf_maps.specs.Places.{PlaceTable, table_of, Claims, Removes}
 
-pub claims_along : (key : List ℕ) (flags : ℕ) (answer : Result ℕ MapFault) (t t' u u' : PlaceTable) → t ≡ t' → u ≡ u' → Claims (verdict (table_of t) key flags) key t answer u → Claims (verdict (table_of t') key flags) key t' answer u'
-claims_along key flags answer t t' u u' e f h =
+pub claims_along : (key : List ℕ) (flags : ℕ) (answer : Result ℕ MapFault) {t t' u u' : PlaceTable} → t ≡ t' → u ≡ u' → Claims (verdict (table_of t) key flags) key t answer u → Claims (verdict (table_of t') key flags) key t' answer u'
+claims_along key flags answer {t = t} {u' = u'} e f h =
     subst (λ (x : PlaceTable). Claims (verdict (table_of x) key flags) key x answer u') e
     (subst (λ (y : PlaceTable). Claims (verdict (table_of t) key flags) key t answer y) f h)
 
-pub removes_along : (key : List ℕ) (answer : Result (Unit {0}) MapFault) (t t' u u' : PlaceTable) → t ≡ t' → u ≡ u' → Removes (removal (table_of t) key) key t answer u → Removes (removal (table_of t') key) key t' answer u'
-removes_along key answer t t' u u' e f h =
+pub removes_along : (key : List ℕ) (answer : Result (Unit {0}) MapFault) {t t' u u' : PlaceTable} → t ≡ t' → u ≡ u' → Removes (removal (table_of t) key) key t answer u → Removes (removal (table_of t') key) key t' answer u'
+removes_along key answer {t = t} {u' = u'} e f h =
     subst (λ (x : PlaceTable). Removes (removal (table_of x) key) key x answer u') e
     (subst (λ (y : PlaceTable). Removes (removal (table_of t) key) key t answer y) f h)
 

@@ -5,6 +5,7 @@ use Rattle.std.proofs.lemmas.Bool.{lt-ltb, le-ltb}
 use Rattle.std.proofs.lemmas.List.{length-replicate}
 use Rattle.std.proofs.lemmas.List.Quantifiers.{position-Some}
 use Rattle.tagged_model.specs.declared.shape.MapShape.{MapShape}
+use Rattle.tagged_model.specs.Table.{new_table}
 use Rattle.tagged_model.specs.declared.fault.MapFault.{MapFault}
 use Rattle.tagged_model.specs.declared.fault.MapFault.TheVariants.{NoEntry, TooBig, Memory, Exists, Invalid, NoSpace}
 use Rattle.slab.specs.Slab.{Slab, get, slab_len}
@@ -13,7 +14,7 @@ use Rattle.bpf_maps.specs.declared.entries.Entry.{Entry}
 use Rattle.bpf_maps.specs.declared.maps.Maps.TheInside.{Inside}
 use Rattle.bpf_maps.specs.Places.{PlaceTable, IsSound, new_places}
 use Rattle.bpf_maps.specs.Any.{places_of}
-use Rattle.bpf_maps.specs.Live.{LiveMap, LiveMaps, live_at, live_or, free_place, offset, value_in, start_at, area_by, areas, create_fault, Creates, IsCreated, IsLaid, SameValues}
+use Rattle.bpf_maps.specs.Live.{LiveMap, LiveMaps, live_at, live_or, free_place, places_at, offset, value_in, map_in, start_at, area_by, areas, create_fault, Creates, IsCreated, IsLaid, AreSound, SameValues, KeepsMaps}
 use Rattle.bpf_maps.specs.InMaps.{live_of, entries_of, as_live_maps, layout_of, AreLaidOut, IsWellFormedMaps}
 use Rattle.bpf_maps.specs.declared.map_layout.MapLayout.{MapLayout}
 use Rattle.bpf_maps.specs.LiveLaws.{lowest_most}
@@ -24,7 +25,9 @@ use Rattle.bpf_maps.proofs.InAreas.{value_ends}
 use Rattle.bpf_maps.proofs.Arrays.{sound_new}
 use Rattle.bpf_maps.proofs.Changes.{told_of}
 use Rattle.bpf_maps.proofs.Written.{front_same, before_same, zeros}
-use Rattle.bpf_maps.proofs.Whole.{laid, whole_added, offset_of}
+use Rattle.bpf_maps.proofs.Whole.{laid, sound_at, whole_added, offset_of}
+use Rattle.bpf_maps.proofs.Values.{new_map_in}
+use Rattle.bpf_maps.proofs.Stays.{keeps_live}
 
 pub no_fault : (t : LiveMaps) (s : MapShape) → is_none (free_place t) ≡ false → areas t + area_by s ≤ LARGEST_SUM → create_fault t s ≡ None
 no_fault t s free fits =
@@ -46,7 +49,7 @@ full_fault t s full =
     full
 
 -- there is none
-module _ (a : Inside) (t : LiveMaps) (shape : MapShape) (size : ℕ) (view : as_live_maps a ≡ t) (h : IsWellFormedMaps a) (size_is : size ≡ area_by shape) where
+module _ {a : Inside} {t : LiveMaps} (shape : MapShape) {size : ℕ} (view : as_live_maps a ≡ t) (h : IsWellFormedMaps a) (size_is : size ≡ area_by shape) where
   pub creates_full : (position is_none a.keys ≡ None) ⊎ (LARGEST_SUM < a.bytes + size) → Creates (create_fault t shape) t shape (Err NoSpace) t
   creates_full full =
       let s = h.sum in
@@ -81,7 +84,7 @@ pub record IsAdded (a : Inside) (shape : MapShape) (entries : Slab Entry) (layou
 abbrev pub with_new : Inside → ℕ → ℕ → ℕ → Slab Entry → List MapLayout → Inside
 with_new a size place key entries layouts = record a { keys = set a.keys place (Some key); entries = entries; layouts = layouts; bytes = a.bytes + size }
 
-module _ (a : Inside) (t : LiveMaps) (shape : MapShape) (size place : ℕ) (r : IsRoom a t shape size place) where
+module _ {a : Inside} {t : LiveMaps} {shape : MapShape} {size place : ℕ} (r : IsRoom a t shape size place) where
   view : as_live_maps a ≡ t
   view = r.view
 
@@ -124,7 +127,7 @@ module _ (a : Inside) (t : LiveMaps) (shape : MapShape) (size place : ℕ) (r : 
   pub has_room : slab_len a.entries + 1 ≤ a.entries.capacity
   has_room = let few = fewer_keys a.keys place front.0 free in let all = h.keys.all in let long = h.keys.long in let room = h.room in omega arith
 
-  module _ (entries : Slab Entry) (layouts : List MapLayout) (key : ℕ) (e : Entry) (d : IsAdded a shape entries layouts place key e) where
+  module _ {entries : Slab Entry} {layouts : List MapLayout} {key : ℕ} {e : Entry} (d : IsAdded a shape entries layouts place key e) where
     abbrev after : Inside
     after = with_new a size place key entries layouts
 
@@ -143,6 +146,12 @@ module _ (a : Inside) (t : LiveMaps) (shape : MapShape) (size place : ℕ) (r : 
     others_stay : (q : ℕ) → q ≢ place → live_at (as_live_maps after) q ≡ live_at t q
     others_stay q ne = others_by (entries_of a) (entries_of after) place others q ne ∙ ap (λ (u : LiveMaps). live_at u q) view
 
+    pub older_stay : (k : ℕ) → IsSome (live_at t k) → live_at (as_live_maps after) k ≡ live_at t k
+    older_stay k live = others_stay k (λ e. true≢false (sym live ∙ ap is_some (ap (live_at t) e ∙ was_none)))
+
+    places_one : places_at (as_live_maps after) place ≡ new_places shape
+    places_one = told_of (λ l. l.places) live_new ∙ d.places
+
     pub creates_one : Creates (create_fault t shape) t shape (Ok place) (as_live_maps after)
     creates_one =
         subst (λ (o : Option MapFault). Creates o t shape (Ok place) (as_live_maps after)) (sym no_fault_here)
@@ -150,8 +159,8 @@ module _ (a : Inside) (t : LiveMaps) (shape : MapShape) (size place : ℕ) (r : 
           lowest = lowest;
           was = was_none;
           live = ap is_some live_new;
-          places = told_of (λ l. l.places) _ _ live_new ∙ d.places;
-          holds = told_of (λ l. l.holds) _ _ live_new ∙ d.holds;
+          places = places_one;
+          holds = told_of (λ l. l.holds) live_new ∙ d.holds;
           others = others_stay;
           refused = ap (λ (u : LiveMaps). u.refused) view;
         })
@@ -180,7 +189,7 @@ module _ (a : Inside) (t : LiveMaps) (shape : MapShape) (size place : ℕ) (r : 
 
     -- it stands behind the others
     pub last_one : start_at (as_live_maps after) place ≡ STACK_AND_CONTEXT + areas t
-    last_one = told_of (λ l. l.start) _ _ live_new ∙ d.start ∙ ap (λ (n : ℕ). STACK_AND_CONTEXT + n) (h.sum ∙ ap areas view)
+    last_one = told_of (λ l. l.start) live_new ∙ d.start ∙ ap (λ (n : ℕ). STACK_AND_CONTEXT + n) (h.sum ∙ ap areas view)
 
     pub more_one : areas (as_live_maps after) ≡ areas t + area_by shape
     more_one =
@@ -192,7 +201,7 @@ module _ (a : Inside) (t : LiveMaps) (shape : MapShape) (size place : ℕ) (r : 
 
     -- ---- the bytes
 
-    module _ (bytes later : List ℕ) (long : length bytes ≡ PART) (written : later ≡ take (STACK_AND_CONTEXT + a.bytes) bytes ++ (replicate size 0 ++ drop (STACK_AND_CONTEXT + a.bytes + size) bytes)) where
+    module _ (bytes : List ℕ) {later : List ℕ} (long : length bytes ≡ PART) (written : later ≡ take (STACK_AND_CONTEXT + a.bytes) bytes ++ (replicate size 0 ++ drop (STACK_AND_CONTEXT + a.bytes + size) bytes)) where
       enough : STACK_AND_CONTEXT + a.bytes + size ≤ length bytes
       enough = let m = r.room in omega arith
 
@@ -226,32 +235,22 @@ module _ (a : Inside) (t : LiveMaps) (shape : MapShape) (size place : ℕ) (r : 
           let f = some_entry (entries_of a) j (ap (λ (u : LiveMaps). is_some (live_at u j)) view ∙ old_live) in
           let o : live_at t j ≡ Some (live_of f.0) = ap (λ (u : LiveMaps). live_at u j) (sym view) ∙ live_by (entries_of a) (entries_of a) j f.0 f.1 in
           let n = others_stay j ne ∙ o in
-          let m = told_of (λ x. x.places.shape.max_entries) _ _ n in
+          let m = told_of (λ x. x.places.shape.max_entries) n in
           ap (λ (x : Option LiveMap). take (live_or x).places.shape.value_size (drop (offset (live_or x) p) later)) n
           ∙ kept_at j p f.0 f.1 (omega arith)
           ∙ ap (λ (x : Option LiveMap). take (live_or x).places.shape.value_size (drop (offset (live_or x) p) bytes)) (sym o))
+
+      pub fresh_one : map_in later (as_live_maps after) place ≡ new_table (λ i. replicate shape.value_size 0) shape
+      fresh_one = new_map_in later (as_live_maps after) place shape (replicate shape.value_size 0) places_one (λ array. cleared_one)
+
+      pub maps_kept : KeepsMaps t bytes (as_live_maps after) later
+      maps_kept k live = keeps_live t (as_live_maps after) bytes later k values_kept (subst AreSound view (sound_at a h) k) (older_stay k live) live
 
 -- ---- a creation that returns a key
 
 pub created : (f : Option MapFault) (old new : LiveMaps) (s : MapShape) (k : ℕ) → Creates f old s (Ok k) new → IsCreated old s k new
 created None old new s k h = h
 created (Some f) old new s k h = cc (h.0)
-
--- ---- the maps that were live before
-
-module _ (old new : LiveMaps) (s : MapShape) (k : ℕ) (live : IsSome (live_at old k)) where
-  unfilled : (j : ℕ) → IsCreated old s j new → live_at new k ≡ live_at old k
-  unfilled j h = h.others k (λ e. true≢false (sym live ∙ ap (λ (i : ℕ). is_some (live_at old i)) e ∙ ap is_some h.was))
-
-  pub live_stays : (f : Option MapFault) (answer : Result ℕ MapFault) → Creates f old s answer new → live_at new k ≡ live_at old k
-  live_stays None (Ok j) h = unfilled j h
-  live_stays None (Err Memory) h = ap (λ (t : LiveMaps). live_at t k) h
-  live_stays None (Err NoEntry) h = absurd h
-  live_stays None (Err TooBig) h = absurd h
-  live_stays None (Err Exists) h = absurd h
-  live_stays None (Err Invalid) h = absurd h
-  live_stays None (Err NoSpace) h = absurd h
-  live_stays (Some f) answer h = ap (λ (t : LiveMaps). live_at t k) h.1
 
 -- ---- what a caller can tell
 

@@ -116,8 +116,8 @@ in_places keys entries is p e at =
     omega arith
 
 -- the place of a live map has a key
-pub has_key : (a : Inside) (t : LiveMaps) (place map : ℕ) → as_live_maps a ≡ t → place ≡ map → IsSome (live_at t map) → IsSome (get_or a.keys place None)
-has_key a t place map view same live = by (get_or a.keys place None) refl
+pub has_key : (a : Inside) {t : LiveMaps} {place map : ℕ} → as_live_maps a ≡ t → place ≡ map → IsSome (live_at t map) → IsSome (get_or a.keys place None)
+has_key a {place = place} {map = map} view same live = by (get_or a.keys place None) refl
   where
     by : (o : Option ℕ) → get_or a.keys place None ≡ o → IsSome o
     by (Some key) at = refl

@@ -7,25 +7,22 @@ use Rattle.bpf_maps.specs.declared.part.TheConstants.{STACK_AND_CONTEXT, PART}
 use Rattle.bpf_maps.specs.declared.entries.Entry.{Entry}
 use Rattle.bpf_maps.specs.declared.maps.Maps.TheInside.{Inside}
 use Rattle.bpf_maps.specs.Any.{places_of}
-use Rattle.bpf_maps.specs.Live.{LiveMap, LiveMaps, live_at, live_or, shape_at, offset, area_by, areas, without_area, held_at, one_less, area_of, IsLaid, SameValues, map_without, ClosesUp}
+use Rattle.bpf_maps.specs.Live.{LiveMap, LiveMaps, live_at, live_or, shape_at, offset, area_by, areas, without_area, held_at, one_less, area_of, IsLaid, AreSound, SameValues, KeepsOthers, map_without, ClosesUp}
 use Rattle.bpf_maps.specs.Sum.{weight}
 use Rattle.bpf_maps.specs.InMaps.{live_of, live_maps_of, placed, entries_of, as_live_maps, AreKeys, closed_up, AreLaidOut, IsWellFormedMaps}
 use Rattle.bpf_maps.specs.declared.map_layout.MapLayout.{MapLayout}
 use Rattle.bpf_maps.proofs.Slots.{at_lives, some_entry, live_by, none_by, same_some}
-use Rattle.bpf_maps.proofs.Placed.{under_key, changed_entry, changed_others, changed_keys, removed_here, removed_others, removed_keys}
+use Rattle.bpf_maps.proofs.Placed.{changed_entry, changed_others, changed_keys, removed_here, removed_others, removed_keys}
 use Rattle.bpf_maps.proofs.Totals.{weight_most}
-use Rattle.bpf_maps.proofs.Changes.{live_here, none_held, told_of}
+use Rattle.bpf_maps.proofs.Changes.{told_of, IsUnder, at_place, live_here, none_held}
+use Rattle.bpf_maps.proofs.Stays.{keeps_held}
 use Rattle.bpf_maps.proofs.InAreas.{value_ends, before_or_behind}
 use Rattle.bpf_maps.proofs.Written.{length_same, front_same, before_same, own}
-use Rattle.bpf_maps.proofs.Whole.{laid, offset_of, offset_without, beside, whole_removed}
+use Rattle.bpf_maps.proofs.Whole.{laid, sound_at, offset_of, offset_without, beside, whole_removed}
 
 -- the entry that is taken out is the one that was there
 pub record IsTaken (a : Inside) (t : LiveMaps) (place map key : ℕ) (old gone : Entry) : Type 0 where
-  pub view : as_live_maps a ≡ t
-  pub whole : IsWellFormedMaps a
-  pub same : place ≡ map
-  pub keyed : get_or a.keys place None ≡ Some key
-  pub here : get a.entries key ≡ Some old
+  pub under : IsUnder a t place map key old
   pub value : get (with_value a.entries key old) key ≡ Some gone
 
 -- the entries without it
@@ -42,6 +39,13 @@ pub record IsClosed (keys : List (Option ℕ)) (end size : ℕ) (left entries : 
   pub capacity : entries.capacity ≡ left.capacity
   pub layouts_are : AreLaidOut (placed keys entries) layouts
 
+-- the map goes: its entry is taken out, and the others close up by the size of its area
+pub record Goes (a : Inside) (t : LiveMaps) (place map key size : ℕ) (old gone : Entry) (left entries : Slab Entry) (layouts : List MapLayout) : Type 0 where
+  pub taken : IsTaken a t place map key old gone
+  pub size_is : size ≡ area_of (live_of gone)
+  pub rest : IsLeft a key old left
+  pub closed : IsClosed (set a.keys place None) (gone.start + size) size left entries layouts
+
 -- the fields without it
 abbrev pub without_entry : Inside → ℕ → ℕ → Slab Entry → List MapLayout → Inside
 without_entry a size place entries layouts = record a { keys = set a.keys place None; entries = entries; layouts = layouts; bytes = a.bytes - size }
@@ -55,174 +59,186 @@ lives_closed : (gone : Entry) (o : Option Entry) → option_map live_of (option_
 lives_closed gone None = refl
 lives_closed gone (Some e) = refl
 
-module _ (a : Inside) (t : LiveMaps) (place map key : ℕ) (old gone : Entry) (c : IsTaken a t place map key old gone) where
-  is_gone : old ≡ gone
-  is_gone = same_some (get (with_value a.entries key old) key) old gone (changed_entry a.keys a.entries c.whole.keys place key c.keyed old old c.here) c.value
+module _ {a : Inside} {t : LiveMaps} {place map key : ℕ} {old gone : Entry} (c : IsTaken a t place map key old gone) where
+  abbrev whole : IsWellFormedMaps a
+  whole = c.under.whole
 
-  was : get_or (entries_of a) place None ≡ Some gone
-  was = under_key a.entries a.keys place key c.keyed ∙ subst (λ (e : Entry). get a.entries key ≡ Some e) is_gone c.here
+  pub is_gone : old ≡ gone
+  is_gone = same_some (get (with_value a.entries key old) key) old gone (changed_entry a.keys a.entries whole.keys place key c.under.keyed old old c.under.here) c.value
+
+  pub was_there : get_or (entries_of a) place None ≡ Some gone
+  was_there = subst (λ (e : Entry). get_or (entries_of a) place None ≡ Some e) is_gone (at_place c.under)
 
   -- its area
   pub gone_behind : STACK_AND_CONTEXT ≤ gone.start
-  gone_behind = (c.whole.placed place gone was).behind
+  gone_behind = (whole.placed place gone was_there).behind
 
   pub gone_within : gone.start + area_of (live_of gone) ≤ STACK_AND_CONTEXT + a.bytes
-  gone_within = (c.whole.placed place gone was).within
+  gone_within = (whole.placed place gone was_there).within
 
-  module _ (left : Slab Entry) (l : IsLeft a key old left) where
+  pub size_most : {size : ℕ} → size ≡ area_of (live_of gone) → size ≤ a.bytes
+  size_most is =
+      let s = whole.sum in
+      let w = weight_most area_of place (live_maps_of (entries_of a)) in
+      let x = ap (weight area_of) (live_by (entries_of a) (entries_of a) place gone was_there) in
+      omega arith
+
+  keys_before : AreKeys a.keys (with_value a.entries key old)
+  keys_before = changed_keys a.keys a.entries whole.keys place key c.under.keyed old old c.under.here
+
+  module _ {left : Slab Entry} (l : IsLeft a key old left) where
     pub left_keys : AreKeys (set a.keys place None) left
-    left_keys =
-        removed_keys a.keys (with_value a.entries key old) left
-        (changed_keys a.keys a.entries c.whole.keys place key c.keyed old old c.here) place key c.keyed l.gap l.others l.len
+    left_keys = removed_keys a.keys (with_value a.entries key old) left keys_before place key c.under.keyed l.gap l.others l.len
 
-    none_left : get_or (placed (set a.keys place None) left) place None ≡ None
-    none_left =
-        removed_here a.keys (with_value a.entries key old) left
-        (changed_keys a.keys a.entries c.whole.keys place key c.keyed old old c.here) place key c.keyed l.gap l.others
+    pub none_left : get_or (placed (set a.keys place None) left) place None ≡ None
+    none_left = removed_here a.keys (with_value a.entries key old) left keys_before place key c.under.keyed l.gap l.others
 
-    others_left : (p : ℕ) → p ≢ place → get_or (placed (set a.keys place None) left) p None ≡ get_or (entries_of a) p None
+    pub others_left : (p : ℕ) → p ≢ place → get_or (placed (set a.keys place None) left) p None ≡ get_or (entries_of a) p None
     others_left p ne =
-        removed_others a.keys (with_value a.entries key old) left
-        (changed_keys a.keys a.entries c.whole.keys place key c.keyed old old c.here) place key c.keyed l.gap l.others p ne
-        ∙ changed_others a.keys a.entries c.whole.keys place key c.keyed old old c.here p ne
+        removed_others a.keys (with_value a.entries key old) left keys_before place key c.under.keyed l.gap l.others p ne
+        ∙ changed_others a.keys a.entries whole.keys place key c.under.keyed old old c.under.here p ne
 
-  module _ (size : ℕ) (size_is : size ≡ area_of (live_of gone)) where
-    pub size_most : size ≤ a.bytes
-    size_most =
-        let s = c.whole.sum in
-        let w = weight_most area_of place (live_maps_of (entries_of a)) in
-        let x = ap (weight area_of) (live_by (entries_of a) (entries_of a) place gone was) in
-        omega arith
+module _ {a : Inside} {t : LiveMaps} {place map key size : ℕ} {old gone : Entry} {left entries : Slab Entry} {layouts : List MapLayout} (g : Goes a t place map key size old gone left entries layouts) where
+  abbrev new : Inside
+  new = without_entry a size place entries layouts
 
-    module _ (left entries : Slab Entry) (layouts : List MapLayout) (l : IsLeft a key old left) (d : IsClosed (set a.keys place None) (gone.start + size) size left entries layouts) where
-      abbrev new : Inside
-      new = without_entry a size place entries layouts
+  abbrev was_whole : IsWellFormedMaps a
+  was_whole = g.taken.under.whole
 
-      closed : (p : ℕ) → p ≢ place → get_or (entries_of new) p None ≡ option_map (closed_up (gone.start + area_of (live_of gone)) (area_of (live_of gone))) (get_or (entries_of a) p None)
-      closed p ne =
-          d.each p
-          ∙ ap (λ (n : ℕ). option_map (closed_up (gone.start + n) n) (get_or (placed (set a.keys place None) left) p None)) size_is
-          ∙ ap (option_map (closed_up (gone.start + area_of (live_of gone)) (area_of (live_of gone)))) (others_left left l p ne)
+  was : get_or (entries_of a) place None ≡ Some gone
+  was = was_there g.taken
 
-      empty : get_or (entries_of new) place None ≡ None
-      empty = d.each place ∙ ap (option_map (closed_up (gone.start + size) size)) (none_left left l)
+  closed : (p : ℕ) → p ≢ place → get_or (entries_of new) p None ≡ option_map (closed_up (gone.start + area_of (live_of gone)) (area_of (live_of gone))) (get_or (entries_of a) p None)
+  closed p ne =
+      g.closed.each p
+      ∙ ap (λ (n : ℕ). option_map (closed_up (gone.start + n) n) (get_or (placed (set a.keys place None) left) p None)) g.size_is
+      ∙ ap (option_map (closed_up (gone.start + area_of (live_of gone)) (area_of (live_of gone)))) (others_left g.taken g.rest p ne)
 
-      bytes_now : a.bytes - size + area_of (live_of gone) ≡ a.bytes
-      bytes_now = let m = size_most in omega arith
+  empty : get_or (entries_of new) place None ≡ None
+  empty = g.closed.each place ∙ ap (option_map (closed_up (gone.start + size) size)) (none_left g.taken g.rest)
 
-      pub whole_gone : IsWellFormedMaps new
-      whole_gone =
-          let room = c.whole.room in
-          let same = l.capacity in
-          let still = d.capacity in
-          whole_removed a new place c.whole gone was empty closed bytes_now d.are_keys (omega arith) d.layouts_are
+  bytes_now : a.bytes - size + area_of (live_of gone) ≡ a.bytes
+  bytes_now = let m = size_most g.taken g.size_is in let s = g.size_is in omega arith
 
-      pub laid_gone : IsLaid (as_live_maps new)
-      laid_gone = laid new whole_gone
+  pub whole_gone : IsWellFormedMaps new
+  whole_gone =
+      let room = was_whole.room in
+      let same = g.rest.capacity in
+      let still = g.closed.capacity in
+      whole_removed a new place was_whole gone was empty closed bytes_now g.closed.are_keys (omega arith) g.closed.layouts_are
 
-      pub freed_gone : areas t ≡ areas (as_live_maps new) + area_by (shape_at t map)
-      freed_gone =
-          let here = live_here a t place map gone c.view c.same was in
-          let shape : area_by (shape_at t map) ≡ area_of (live_of gone) = told_of (λ (x : LiveMap). area_of x) (live_at t map) (live_of gone) here in
-          let bytes = whole_gone.sum in
-          let sum = c.whole.sum in
-          let seen = ap areas c.view in
-          let most = size_most in
-          omega arith
+  pub laid_gone : IsLaid (as_live_maps new)
+  laid_gone = laid new whole_gone
 
-      pub none_now : live_at (as_live_maps new) map ≡ None
-      none_now = ap (λ (p : ℕ). get_or (live_maps_of (entries_of new)) p None) (sym c.same) ∙ none_by (entries_of new) (entries_of new) place empty
+  live_gone : live_at t map ≡ Some (live_of gone)
+  live_gone = live_here a g.taken.under.view g.taken.under.same was
 
-      -- the other maps
-      lives_close : (p : ℕ) → p ≢ place → live_at (as_live_maps new) p ≡ option_map (map_without (live_of gone)) (live_at t p)
-      lives_close p ne =
-          at_lives (entries_of new) p
-          ∙ ap (option_map live_of) (closed p ne)
-          ∙ lives_closed gone (get_or (entries_of a) p None)
-          ∙ ap (option_map (map_without (live_of gone))) (sym (at_lives (entries_of a) p) ∙ ap (λ (u : LiveMaps). live_at u p) c.view)
+  pub freed_gone : areas t ≡ areas (as_live_maps new) + area_by (shape_at t map)
+  freed_gone =
+      let shape : area_by (shape_at t map) ≡ area_of (live_of gone) = told_of (λ (x : LiveMap). area_of x) live_gone in
+      let bytes = whole_gone.sum in
+      let sum = was_whole.sum in
+      let seen = ap areas g.taken.under.view in
+      let most = size_most g.taken g.size_is in
+      let is = g.size_is in
+      omega arith
 
-      pub closes_up : ClosesUp map t (as_live_maps new)
-      closes_up p ne =
-          lives_close p (λ e. ne (e ∙ c.same))
-          ∙ ap (λ (o : Option LiveMap). option_map (map_without (live_or o)) (live_at t p)) (sym (live_here a t place map gone c.view c.same was))
+  pub none_now : live_at (as_live_maps new) map ≡ None
+  none_now = ap (λ (p : ℕ). get_or (live_maps_of (entries_of new)) p None) (sym g.taken.under.same) ∙ none_by (entries_of new) (entries_of new) place empty
 
-      pub less_gone : old.holds ≤ 1 → held_at (as_live_maps new) map ≡ one_less (held_at t map)
-      less_gone last = none_held t (as_live_maps new) map (live_of gone) (live_here a t place map gone c.view c.same was) none_now (subst (λ (e : Entry). e.holds ≤ 1) is_gone last)
+  -- the other maps
+  lives_close : (p : ℕ) → p ≢ place → live_at (as_live_maps new) p ≡ option_map (map_without (live_of gone)) (live_at t p)
+  lives_close p ne =
+      at_lives (entries_of new) p
+      ∙ ap (option_map live_of) (closed p ne)
+      ∙ lives_closed gone (get_or (entries_of a) p None)
+      ∙ ap (option_map (map_without (live_of gone))) (sym (at_lives (entries_of a) p) ∙ ap (λ (u : LiveMaps). live_at u p) g.taken.under.view)
 
-      pub others_gone : (p : ℕ) → p ≢ map → held_at (as_live_maps new) p ≡ held_at t p
-      others_gone p ne = ap (option_map without_area) (lives_close p (λ e. ne (e ∙ c.same))) ∙ held_still (live_of gone) (live_at t p)
+  pub closes_up : ClosesUp map t (as_live_maps new)
+  closes_up p ne =
+      lives_close p (λ e. ne (e ∙ g.taken.under.same))
+      ∙ ap (λ (o : Option LiveMap). option_map (map_without (live_or o)) (live_at t p)) (sym live_gone)
 
-      -- ---- the bytes
+  pub less_gone : old.holds ≤ 1 → held_at (as_live_maps new) map ≡ one_less (held_at t map)
+  less_gone last = none_held t (as_live_maps new) map live_gone none_now (subst (λ (e : Entry). e.holds ≤ 1) (is_gone g.taken) last)
 
-      module _ (bytes later : List ℕ) (long : length bytes ≡ PART)
-          (written : later ≡ take gone.start bytes ++ (take (STACK_AND_CONTEXT + a.bytes - (gone.start + size)) (drop (gone.start + size) bytes) ++ drop (gone.start + (STACK_AND_CONTEXT + a.bytes - (gone.start + size))) bytes)) where
-        abbrev many : ℕ
-        many = STACK_AND_CONTEXT + a.bytes - (gone.start + size)
+  pub others_gone : (p : ℕ) → p ≢ map → held_at (as_live_maps new) p ≡ held_at t p
+  others_gone p ne = ap (option_map without_area) (lives_close p (λ e. ne (e ∙ g.taken.under.same))) ∙ held_still (live_of gone) (live_at t p)
 
-        abbrev moved : List ℕ
-        moved = take many (drop (gone.start + size) bytes)
+  -- ---- the bytes
 
-        in_part : STACK_AND_CONTEXT + a.bytes ≤ length bytes
-        in_part = let f = c.whole.few in omega arith
+  module _ (bytes : List ℕ) {later : List ℕ} (long : length bytes ≡ PART)
+      (written : later ≡ take gone.start bytes ++ (take (STACK_AND_CONTEXT + a.bytes - (gone.start + size)) (drop (gone.start + size) bytes) ++ drop (gone.start + (STACK_AND_CONTEXT + a.bytes - (gone.start + size))) bytes)) where
+    abbrev many : ℕ
+    many = STACK_AND_CONTEXT + a.bytes - (gone.start + size)
 
-        long_moved : length moved ≡ many
-        long_moved = let w = gone_within in let p = in_part in length-take-le many (drop (gone.start + size) bytes) (omega (arith, length-drop (gone.start + size) bytes))
+    abbrev moved : List ℕ
+    moved = take many (drop (gone.start + size) bytes)
 
-        room : gone.start + many ≤ length bytes
-        room = let w = gone_within in let p = in_part in omega arith
+    in_part : STACK_AND_CONTEXT + a.bytes ≤ length bytes
+    in_part = let f = was_whole.few in omega arith
 
-        pub length_gone : length later ≡ PART
-        length_gone = ap length written ∙ length_same bytes moved gone.start many long_moved room ∙ long
+    long_moved : length moved ≡ many
+    long_moved = let w = gone_within g.taken in let p = in_part in length-take-le many (drop (gone.start + size) bytes) (omega (arith, length-drop (gone.start + size) bytes))
 
-        pub front_gone : take STACK_AND_CONTEXT later ≡ take STACK_AND_CONTEXT bytes
-        front_gone = ap (take STACK_AND_CONTEXT) written ∙ front_same bytes moved gone.start many long_moved room STACK_AND_CONTEXT gone_behind
+    room : gone.start + many ≤ length bytes
+    room = let w = gone_within g.taken in let p = in_part in omega arith
 
-        -- the bytes that move are those behind
-        from_behind : (x n : ℕ) → x + n ≤ many → take n (drop x moved) ≡ take n (drop (gone.start + size + x) bytes)
-        from_behind x n l =
-            sym (drop-take x n moved)
-            ∙ ap (drop x) (take-take (x + n) many (drop (gone.start + size) bytes) l)
-            ∙ drop-take x n (drop (gone.start + size) bytes)
-            ∙ ap (take n) (drop-drop x (gone.start + size) bytes)
+    pub length_gone : length later ≡ PART
+    length_gone = ap length written ∙ length_same bytes moved gone.start many long_moved room ∙ long
 
-        -- a value of another map
-        kept_at : (j p : ℕ) (f : Entry) → j ≢ place → get_or (entries_of a) j None ≡ Some f → p < (places_of f.map).shape.max_entries
-            → take (places_of f.map).shape.value_size (drop (offset (map_without (live_of gone) (live_of f)) p) later) ≡ take (places_of f.map).shape.value_size (drop (offset (live_of f) p) bytes)
-        kept_at j p f ne ft l =
-            let s = (places_of f.map).shape in
-            let i = c.whole.placed j f ft in
-            let o = offset_of f p in
-            let m = offset_without gone f p in
-            let x = value_ends s.value_size s.max_entries f.stride i.stride p l in
-            let w = i.within in
-            let g = gone_within in
-            ap (λ (b : List ℕ). take s.value_size (drop (offset (map_without (live_of gone) (live_of f)) p) b)) written
-            ∙ ⊎_elim
-            (λ y.
-            let before = y.0 in
-            let stays = y.1 in
-            let same : offset (map_without (live_of gone) (live_of f)) p ≡ offset (live_of f) p = omega arith in
-            ap (λ (n : ℕ). take s.value_size (drop n (take gone.start bytes ++ (moved ++ drop (gone.start + many) bytes)))) same
-            ∙ before_same bytes moved gone.start many long_moved room (offset (live_of f) p) s.value_size (omega arith))
-            (λ y.
-            let behind = y.0 in
-            let falls = y.1 in
-            let at_now : offset (map_without (live_of gone) (live_of f)) p ≡ gone.start + (f.start - (gone.start + size) + p * f.stride) = omega arith in
-            let at_then : gone.start + size + (f.start - (gone.start + size) + p * f.stride) ≡ offset (live_of f) p = omega arith in
-            let fits : f.start - (gone.start + size) + p * f.stride + s.value_size ≤ many = omega arith in
-            ap (λ (n : ℕ). take s.value_size (drop n (take gone.start bytes ++ (moved ++ drop (gone.start + many) bytes)))) at_now
-            ∙ own bytes moved gone.start many long_moved room (f.start - (gone.start + size) + p * f.stride) s.value_size fits
-            ∙ from_behind (f.start - (gone.start + size) + p * f.stride) s.value_size fits
-            ∙ ap (λ (n : ℕ). take s.value_size (drop n bytes)) at_then)
-            (before_or_behind gone.start (area_of (live_of gone)) f.start (area_of (live_of f)) (beside a new place c.whole gone was empty closed bytes_now j f ne ft))
+    pub front_gone : take STACK_AND_CONTEXT later ≡ take STACK_AND_CONTEXT bytes
+    front_gone = ap (take STACK_AND_CONTEXT) written ∙ front_same bytes moved gone.start many long_moved room STACK_AND_CONTEXT (gone_behind g.taken)
 
-        pub values_gone : SameValues t bytes (as_live_maps new) later
-        values_gone j p old_live new_live l =
-            let ne : j ≢ map = λ (s : j ≡ map). true≢false (sym new_live ∙ ap is_some (ap (live_at (as_live_maps new)) s ∙ none_now)) in
-            let f = some_entry (entries_of a) j (ap (λ (u : LiveMaps). is_some (live_at u j)) c.view ∙ old_live) in
-            let o : live_at t j ≡ Some (live_of f.0) = ap (λ (u : LiveMaps). live_at u j) (sym c.view) ∙ live_by (entries_of a) (entries_of a) j f.0 f.1 in
-            let n : live_at (as_live_maps new) j ≡ Some (map_without (live_of gone) (live_of f.0)) = lives_close j (λ e. ne (e ∙ c.same)) ∙ ap (option_map (map_without (live_of gone))) o in
-            let m = told_of (λ x. x.places.shape.max_entries) _ _ n in
-            ap (λ (x : Option LiveMap). take (live_or x).places.shape.value_size (drop (offset (live_or x) p) later)) n
-            ∙ kept_at j p f.0 (λ e. ne (e ∙ c.same)) f.1 (omega arith)
-            ∙ ap (λ (x : Option LiveMap). take (live_or x).places.shape.value_size (drop (offset (live_or x) p) bytes)) (sym o)
+    -- the bytes that move are those behind
+    from_behind : (x n : ℕ) → x + n ≤ many → take n (drop x moved) ≡ take n (drop (gone.start + size + x) bytes)
+    from_behind x n l =
+        sym (drop-take x n moved)
+        ∙ ap (drop x) (take-take (x + n) many (drop (gone.start + size) bytes) l)
+        ∙ drop-take x n (drop (gone.start + size) bytes)
+        ∙ ap (take n) (drop-drop x (gone.start + size) bytes)
+
+    -- a value of another map
+    kept_at : (j p : ℕ) (f : Entry) → j ≢ place → get_or (entries_of a) j None ≡ Some f → p < (places_of f.map).shape.max_entries
+        → take (places_of f.map).shape.value_size (drop (offset (map_without (live_of gone) (live_of f)) p) later) ≡ take (places_of f.map).shape.value_size (drop (offset (live_of f) p) bytes)
+    kept_at j p f ne ft l =
+        let s = (places_of f.map).shape in
+        let i = was_whole.placed j f ft in
+        let o = offset_of f p in
+        let m = offset_without gone f p in
+        let x = value_ends s.value_size s.max_entries f.stride i.stride p l in
+        let w = i.within in
+        let all = gone_within g.taken in
+        ap (λ (b : List ℕ). take s.value_size (drop (offset (map_without (live_of gone) (live_of f)) p) b)) written
+        ∙ ⊎_elim
+        (λ y.
+        let before = y.0 in
+        let stays = y.1 in
+        let same : offset (map_without (live_of gone) (live_of f)) p ≡ offset (live_of f) p = omega arith in
+        ap (λ (n : ℕ). take s.value_size (drop n (take gone.start bytes ++ (moved ++ drop (gone.start + many) bytes)))) same
+        ∙ before_same bytes moved gone.start many long_moved room (offset (live_of f) p) s.value_size (omega arith))
+        (λ y.
+        let behind = y.0 in
+        let falls = y.1 in
+        let at_now : offset (map_without (live_of gone) (live_of f)) p ≡ gone.start + (f.start - (gone.start + size) + p * f.stride) = omega arith in
+        let at_then : gone.start + size + (f.start - (gone.start + size) + p * f.stride) ≡ offset (live_of f) p = omega arith in
+        let fits : f.start - (gone.start + size) + p * f.stride + s.value_size ≤ many = omega arith in
+        ap (λ (n : ℕ). take s.value_size (drop n (take gone.start bytes ++ (moved ++ drop (gone.start + many) bytes)))) at_now
+        ∙ own bytes moved gone.start many long_moved room (f.start - (gone.start + size) + p * f.stride) s.value_size fits
+        ∙ from_behind (f.start - (gone.start + size) + p * f.stride) s.value_size fits
+        ∙ ap (λ (n : ℕ). take s.value_size (drop n bytes)) at_then)
+        (before_or_behind gone.start (area_of (live_of gone)) f.start (area_of (live_of f)) (beside a new place was_whole gone was empty closed bytes_now j f ne ft))
+
+    pub values_gone : SameValues t bytes (as_live_maps new) later
+    values_gone j p old_live new_live l =
+        let ne : j ≢ map = λ (s : j ≡ map). true≢false (sym new_live ∙ ap is_some (ap (live_at (as_live_maps new)) s ∙ none_now)) in
+        let f = some_entry (entries_of a) j (ap (λ (u : LiveMaps). is_some (live_at u j)) g.taken.under.view ∙ old_live) in
+        let o : live_at t j ≡ Some (live_of f.0) = ap (λ (u : LiveMaps). live_at u j) (sym g.taken.under.view) ∙ live_by (entries_of a) (entries_of a) j f.0 f.1 in
+        let n : live_at (as_live_maps new) j ≡ Some (map_without (live_of gone) (live_of f.0)) = lives_close j (λ e. ne (e ∙ g.taken.under.same)) ∙ ap (option_map (map_without (live_of gone))) o in
+        let m = told_of (λ x. x.places.shape.max_entries) n in
+        ap (λ (x : Option LiveMap). take (live_or x).places.shape.value_size (drop (offset (live_or x) p) later)) n
+        ∙ kept_at j p f.0 (λ e. ne (e ∙ g.taken.under.same)) f.1 (omega arith)
+        ∙ ap (λ (x : Option LiveMap). take (live_or x).places.shape.value_size (drop (offset (live_or x) p) bytes)) (sym o)
+
+    pub others_kept : KeepsOthers map t bytes (as_live_maps new) later
+    others_kept other ne = keeps_held t (as_live_maps new) bytes later other values_gone (subst AreSound g.taken.under.view (sound_at a was_whole) other) (others_gone other ne)

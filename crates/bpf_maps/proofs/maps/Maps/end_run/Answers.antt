@@ -1,30 +1,25 @@
 use Rattle.std.proofs.Common.{ap, ◌∙◌, sym}
 use Rattle.bpf_maps.specs.Places.{PlaceTable, after_run}
 use Rattle.bpf_maps.proofs.Placed.{has_key}
+use Rattle.bpf_maps.proofs.Changes.{is_under}
 use Rattle.bpf_maps.proofs.KeyChanges.{IsKeyChange, places_before, places_after, keys_whole, only_keys}
 use Rattle.bpf_maps.proofs.maps.Maps.end_run.Goals as goal
 
 pub key_at-key-requires : goal.key_at-key-requires
-key_at-key-requires c = has_key c.self.inside c.args.self.now c.map.inside.place c.args.map c.self.view_is c.map.view_is c.requires
+key_at-key-requires c = has_key c.self.inside c.self.view_is c.map.view_is c.requires
 
-module _ (c : goal.After-self-1) where
-  change : IsKeyChange c.self.inside c.args.self.now c.map.inside.place c.args.map c.key_at-key.result c.index_mut-entry.result.now c.end_run.new.self
-  change = record {
-    view = c.self.view_is;
-    whole = c.self.invariant;
-    same = c.map.view_is;
-    keyed = c.key_at-key.ensures;
-    here = c.index_mut-entry.ensures.value;
-    shape = ap (λ (t : PlaceTable). t.shape) c.end_run.ensures.ended;
-    sound = c.end_run.ensures.sound;
-  }
+change : (c : goal.After-self-1) → IsKeyChange c.self.inside c.args.self.now c.map.inside.place c.args.map c.key_at-key.result c.index_mut-entry.result.now c.end_run.new.self
+change c = record {
+  under = is_under c.self.view_is c.self.invariant c.map.view_is c.key_at-key.ensures c.index_mut-entry.ensures.value;
+  shape = ap (λ (t : PlaceTable). t.shape) c.end_run.ensures.ended;
+  sound = c.end_run.ensures.sound;
+}
 
 pub invariant_of-self : goal.invariant_of-self
-invariant_of-self c = keys_whole c.self.inside c.args.self.now c.map.inside.place c.args.map c.key_at-key.result c.index_mut-entry.result.now c.end_run.new.self c.self.inside.refused (change c)
+invariant_of-self c = keys_whole (change c)
 
 pub returns-clause-ended : goal.returns-clause-ended
-returns-clause-ended c =
-    sym (places_after _ _ _ _ _ _ _ c.self.inside.refused (change c)) ∙ c.end_run.ensures.ended ∙ ap after_run (places_before _ _ _ _ _ _ _ c.self.inside.refused (change c))
+returns-clause-ended c = sym (places_after (change c)) ∙ c.end_run.ensures.ended ∙ ap after_run (places_before (change c))
 
 pub returns-clause-rest : goal.returns-clause-rest
-returns-clause-rest c = only_keys c.self.inside c.args.self.now c.map.inside.place c.args.map c.key_at-key.result c.index_mut-entry.result.now c.end_run.new.self c.self.inside.refused (change c)
+returns-clause-rest c = only_keys (change c)

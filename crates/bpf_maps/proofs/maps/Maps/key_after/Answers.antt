@@ -8,7 +8,7 @@ use Rattle.bpf_maps.proofs.maps.Maps.key_after.Goals as goal
 pub returns : goal.returns
 returns c =
     let is = c.entry.ensures in
-    let same = sym (told_of (λ l. l.places) _ _ is) in
+    let same = sym (told_of (λ l. l.places) is) in
     record {
       given = subst (λ (t : PlaceTable). option_map given_bytes c.key_after.result ≡ next_of (table_of t) c.args.key.now) same c.key_after.ensures.given;
       size = subst (λ (t : PlaceTable). IfSome c.key_after.result (λ given. length (given_bytes given) ≡ t.shape.key_size)) same c.key_after.ensures.size;

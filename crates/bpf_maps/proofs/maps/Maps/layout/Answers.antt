@@ -11,12 +11,12 @@ layout_of_live o = let l : MapLayout = record { shape = (live_or o).places.shape
 
 pub get-requires : goal.get-requires
 get-requires c =
-    let e = live_entry c.self.inside c.args.self.now c.map.inside.place c.args.map c.self.view_is c.map.view_is c.requires in
+    let e = live_entry c.self.inside c.self.view_is c.map.view_is c.requires in
     let below = in_places c.self.inside.keys c.self.inside.entries c.self.invariant.keys c.map.inside.place e.0 e.1 in
     let long = c.self.invariant.laid_out.long in
     omega arith
 
 pub returns : goal.returns
 returns c =
-    let e = live_entry c.self.inside c.args.self.now c.map.inside.place c.args.map c.self.view_is c.map.view_is c.requires in
+    let e = live_entry c.self.inside c.self.view_is c.map.view_is c.requires in
     c.get.ensures ∙ c.self.invariant.laid_out.each c.map.inside.place e.0 c.get.result.now e.1 ∙ ap layout_of_live (sym e.2)

@@ -3,7 +3,7 @@ use Rattle.std.proofs.Common.{◌≡◌, ℕ, ◌+◌, ◌<◌, false, ◌||◌,
 use Rattle.std.specs.Prelude.{slice_index}
 use Rattle.std.specs.Map.{values_of}
 use Rattle.std.specs.Result.{result_map_both}
-use Rattle.std.proofs.lemmas.Option.{same_Some, slice_get_within}
+use Rattle.std.proofs.lemmas.Option.{same_Some}
 use Rattle.words.specs.Bytes.{bytes_at}
 use Rattle.tagged_model.specs.declared.fault.MapFault.{MapFault}
 use Rattle.tagged_model.specs.declared.shape.MapShape.{MapShape}
@@ -19,10 +19,9 @@ use Rattle.bpf_helpers.specs.Layout.{Layout}
 use Rattle.bpf_helpers.specs.Stands.{HasObject, HasMap, MapsStandFor, Simulates, stored_maps}
 use Rattle.bpf_helpers.specs.inside.Flat.{removal_word, Deletes}
 use Rattle.bpf_helpers.specs.inside.Laws.{DeletesKeepSimulation}
-use Rattle.bpf_helpers.proofs.Outputs.{others_moved}
 use Rattle.bpf_helpers.proofs.Verdicts.{removal_found}
 use Rattle.bpf_helpers.proofs.Flags.{or_none}
-use Rattle.bpf_helpers.proofs.Moved.{maps_moved, maps_again, map_replaced}
+use Rattle.bpf_helpers.proofs.Moved.{maps_moved, maps_again, map_replaced, maps_stand}
 use Rattle.bpf_helpers.specs.States.{Environment, FlatState, with_held}
 
 table_kept : (t : PlaceTable) (key : List ℕ) (p : ℕ) → table_of (with_kept t key p) ≡ with_deleted (table_of t) key
@@ -75,20 +74,7 @@ module _ (below : LawsBelow) (env : Environment) (l : Layout) (flat : FlatState)
       subst (HasMap l (stored_maps (part_start env.memory env.tenant) flat.memory.bytes flat.maps) k m) (same_Some g.0 map (sym g.1 ∙ is)) g.2
 
   with_maps : (u : RunMap) → MapsStandFor env l (stored_maps (part_start env.memory env.tenant) flat.memory.bytes new) (set_at s.maps m (Some u)) → Simulates env l (with_held flat flat.memory new) (with_refusal (with_map s m u) false)
-  with_maps u maps = record {
-    slot = stands.slot;
-    count = stands.count;
-    packet = stands.packet;
-    changed = stands.changed;
-    front = stands.front;
-    values = stands.values;
-    stack = stands.stack;
-    words = stands.words;
-    context = stands.context;
-    maps = maps;
-    elsewhere = others_moved env.bind (part_start env.memory env.tenant) env.memory.bytes flat.memory.bytes flat.maps new i (let count = stands.maps.count in let fits = slice_get_within env.descriptors i m named in omega arith) d.rest.others stands.elsewhere;
-    flag = d.flag ∙ stands.flag ∙ ap (λ b. env.maps.refused || b) (or_none s.refused);
-  }
+  with_maps u maps = maps_stand stands i m named new d.rest (set_at s.maps m (Some u)) (s.refused || false) maps (d.flag ∙ stands.flag ∙ ap (λ b. env.maps.refused || b) (or_none s.refused))
 
   done : (r : Result ℕ MapFault) → removal map.table key ≡ r → Removes (result_map_both has.place (λ fault. fault) r) key (places_at flat.maps k) d.outcome (places_at new k) → Done r
   unfolding Done

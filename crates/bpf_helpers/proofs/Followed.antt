@@ -5,6 +5,7 @@ use Rattle.std.proofs.lemmas.Bool.{cond-false, ne_eqb, false≢true, and_parts, 
 use Rattle.std.proofs.lemmas.Option.{same_Some, cond_some, slice_get-get_or, slice_get_within}
 use Rattle.words.specs.Bytes.{bytes_at}
 use Rattle.words.specs.ByteLaws.{length-bytes_at}
+use Rattle.tagged_model.specs.declared.helper.Helper.{Helper}
 use Rattle.tagged_model.specs.declared.helper.Helper.TheVariants.{LookUp, Update, Delete, LoadBytes}
 use Rattle.tagged_model.specs.declared.shape.MapShape.{MapShape}
 use Rattle.tagged_model.specs.declared.value.Tagged.{Tagged}
@@ -16,13 +17,13 @@ use Rattle.tagged_model.specs.Helpers.{GivenMap, map_argument, argument, number_
 use Rattle.arena.specs.Memory.{Memory, base, part_start, with_bytes}
 use Rattle.arena.specs.PartLaws.{part_within}
 use Rattle.bpf_helpers.specs.inside.Below.{LawsBelow}
-use Rattle.bpf_maps.specs.Live.{LiveMaps, LiveMap, live_or, shape_at, holds_at, OnlyKeysChange}
+use Rattle.bpf_maps.specs.Live.{LiveMaps, LiveMap, live_at, live_or, shape_at, holds_at, SameAreas, OnlyKeysChange}
 use Rattle.bpf_maps.specs.LiveLaws.{same_areas}
 use Rattle.bpf_helpers.specs.Layout.{Layout, IsWord}
-use Rattle.bpf_helpers.specs.Stands.{IsRoom, Simulates}
-use Rattle.bpf_helpers.specs.Named.{bound_map, part_place, part_input, place_named, NamedKey, key_named, NamedPair, pair_named}
+use Rattle.bpf_helpers.specs.Stands.{IsRoom, IsElsewhere, Simulates}
+use Rattle.bpf_helpers.specs.Named.{bound_map, part_place, part_input, place_named, key_named, NamedPair, pair_named}
 use Rattle.bpf_helpers.specs.inside.Flat.{flat_look_up, Updates, UpdatesNamed, Deletes, DeletesNamed, LoadsAt}
-use Rattle.bpf_helpers.specs.Calls.{AreArguments, ResultFollows}
+use Rattle.bpf_helpers.specs.Calls.{AreArguments, ResultFollows, CallFollows}
 use Rattle.bpf_helpers.specs.inside.Laws.{GivesWord, ReturnsKeepSimulation, TaggedUpdate, update_reply}
 use Rattle.bpf_helpers.proofs.Many.{also_some}
 use Rattle.bpf_helpers.proofs.Inputs.{input_there}
@@ -32,7 +33,7 @@ use Rattle.bpf_helpers.proofs.Loads.{number_word, load_stands}
 use Rattle.bpf_helpers.proofs.Wider.{extends_itself}
 use Rattle.bpf_helpers.proofs.Updates.{updates_keep_simulation}
 use Rattle.bpf_helpers.proofs.Deletes.{deletes_keep_simulation}
-use Rattle.bpf_helpers.specs.States.{CallAnswer, Environment, FlatState, answers, site_in, with_answer, with_held, with_memory}
+use Rattle.bpf_helpers.specs.States.{CallSite, CallAnswer, Environment, FlatState, answers, site_in, with_answer, with_held, with_memory}
 
 -- where only the keys of one map change, each map has the holds that it had
 same_holds : (old new : LiveMaps) (k : ℕ) → OnlyKeysChange k old new → (key : ℕ) → holds_at new key ≡ holds_at old key
@@ -102,13 +103,23 @@ module _ (env : Environment) (l : Layout) (flat : FlatState) (s : RunState) (roo
   -- a key of the map in register 1, at the address in register 2
   key_is_named : {g : GivenMap} (m : IsMap g) (key : List ℕ) → part_input flat.memory env.tenant (shape_at flat.maps (slice_index env.bind m.index)).key_size (slice_index words 1) ≡ Some key
       → key_named (site_in env flat) (slice_index words 0) (slice_index words 1) ≡ Some (record { map = slice_index env.bind m.index; key = key })
-  key_is_named m key e = key_is (site_in env flat) (slice_index words 0) (slice_index words 1) (slice_index env.bind m.index) m.bound key e
+  key_is_named m key e = key_is (site_in env flat) (slice_index words 0) (slice_index words 1) m.bound key e
 
   other_key : (index key : ℕ) → index < length env.bind → ((i : ℕ) → i < length env.bind → slice_index env.bind i ≢ key) → key ≢ slice_index env.bind index
   other_key index key lt away same = away index lt (sym same)
 
+  -- a call to which no memory is refused
+  not_refused : (helper : Helper) (answer : CallAnswer) (u : RunState) → called false helper s ≡ Some u → Simulates env l (with_answer flat answer) u → ((key : ℕ) → IsElsewhere env.bind key → live_at answer.maps key ≡ live_at flat.maps key) → SameAreas flat.maps answer.maps → ((key : ℕ) → holds_at answer.maps key ≡ holds_at flat.maps key)
+      → ResultFollows env l flat s helper answer
+  not_refused helper answer u goes after others areas holds =
+      record { refused = false; only = λ r. absurd (false≢true r); state = u; goes = goes; layout = l; extends = extends_itself l; stands = after; others = others; areas = areas; holds = holds }
+
+  -- and which leaves the maps
+  leaves_maps : (helper : Helper) (word : ℕ) (after : Memory) (u : RunState) → called false helper s ≡ Some u → Simulates env l (with_answer flat (answers word after flat.maps)) u → ResultFollows env l flat s helper (answers word after flat.maps)
+  leaves_maps helper word after u goes stands = not_refused helper (answers word after flat.maps) u goes stands (λ key away. refl) (same_areas flat.maps) (λ key. refl)
+
   module _ (returned : ReturnsKeepSimulation) (below : LawsBelow) where
-    pub look_up_followed : (word : ℕ) (u : RunState) → word ≡ unwrap_or (flat_look_up (site_in env flat) (slice_index words 0) (slice_index words 1)) 0 → called false LookUp s ≡ Some u → ResultFollows env l flat s LookUp (answers word flat.memory flat.maps)
+    look_up_followed : (word : ℕ) (u : RunState) → word ≡ unwrap_or (flat_look_up (site_in env flat) (slice_index words 0) (slice_index words 1)) 0 → called false LookUp s ≡ Some u → ResultFollows env l flat s LookUp (answers word flat.memory flat.maps)
     look_up_followed word u told e =
         let f = look_ups_follow below.along env l flat s u false room stands e in
         let same : flat_look_up (site_in env flat) (slice_index words 0) (slice_index words 1) ≡ flat_look_up (site_in env flat) (slice_index flat.registers 1) (slice_index flat.registers 2) =
@@ -117,20 +128,11 @@ module _ (env : Environment) (l : Layout) (flat : FlatState) (s : RunState) (roo
       where
         by : (v : Tagged) → u ≡ returns s v → (x : Option ℕ) → word ≡ unwrap_or x 0 → GivesWord env l x (Some v) → ResultFollows env l flat s LookUp (answers word flat.memory flat.maps)
         by v after None f g = absurd g
-        by v after (Some w) f g = record {
-          refused = false;
-          only = λ r. absurd (false≢true r);
-          state = u;
-          goes = e;
-          layout = l;
-          extends = extends_itself l;
-          stands = subst (λ (x : RunState). Simulates env l (with_answer flat (answers word flat.memory flat.maps)) x) (sym after) (returned env l flat s v word stands (subst (IsWord env l v) (sym f) g));
-          others = λ key away. refl;
-          areas = same_areas flat.maps;
-          holds = λ key. refl;
-        }
+        by v after (Some w) f g =
+            leaves_maps LookUp word flat.memory u e
+            (subst (λ (x : RunState). Simulates env l (with_answer flat (answers word flat.memory flat.maps)) x) (sym after) (returned env l flat s v word stands (subst (IsWord env l v) (sym f) g)))
 
-    pub update_followed : (reply : CallAnswer) (u : RunState) → UpdatesNamed (site_in env flat) (pair_named (site_in env flat) (slice_index words 0) (slice_index words 1) (slice_index words 2)) (slice_index words 3) reply → called false Update s ≡ Some u → ResultFollows env l flat s Update reply
+    update_followed : (reply : CallAnswer) (u : RunState) → UpdatesNamed (site_in env flat) (pair_named (site_in env flat) (slice_index words 0) (slice_index words 1) (slice_index words 2)) (slice_index words 3) reply → called false Update s ≡ Some u → ResultFollows env l flat s Update reply
     update_followed reply u told e =
         let a = also_some (map_argument s 1) (λ g. and_then (argument s 2 (λ p. input s p g.map.table.shape.key_size)) (λ key. and_then (argument s 3 (λ p. input s p g.map.table.shape.value_size)) (λ value. and_then (argument s 4 number_given) (λ flags. Some (replies s g.descriptor (updated false g.map key value flags)))))) u e in
         let g = a.0 in
@@ -150,9 +152,8 @@ module _ (env : Environment) (l : Layout) (flat : FlatState) (s : RunState) (roo
             let k = slice_index env.bind m.index in
             let keys = bytes_there 1 g.map.table.shape.key_size (shape_at flat.maps k).key_size key (omega arith) (ap (λ (x : MapShape). x.key_size) m.shape) second in
             let values = bytes_there 2 g.map.table.shape.value_size (shape_at flat.maps k).value_size value (omega arith) (ap (λ (x : MapShape). x.value_size) m.shape) third in
-            let named : NamedKey = record { map = k; key = key } in
             let pair : NamedPair = record { map = k; key = key; value = value } in
-            let is = pair_is (site_in env flat) (slice_index words 0) (slice_index words 1) (slice_index words 2) named (key_is_named m key keys.0) value values.0 in
+            let is = pair_is (site_in env flat) (slice_index words 0) (slice_index words 1) (slice_index words 2) (key_is_named m key keys.0) value values.0 in
             let r : Updates (site_in env flat) pair (slice_index words 3) reply = subst (λ o. UpdatesNamed (site_in env flat) o (slice_index words 3) reply) is told in
             let flags_are : slice_index words 3 ≡ flags = args 3 (omega arith) ∙ number_word env l flat s room stands 4 flags (omega arith) fourth in
             let st = updates_keep_simulation below env l flat s m.index asked reply room stands m.named m.there values.1 (subst (λ (f : ℕ). Updates (site_in env flat) pair f reply) flags_are r) in
@@ -173,7 +174,7 @@ module _ (env : Environment) (l : Layout) (flat : FlatState) (s : RunState) (roo
               holds = same_holds flat.maps reply.maps k r.rest;
             }
 
-    pub delete_followed : (word : ℕ) (new : LiveMaps) (u : RunState) → DeletesNamed flat.maps (key_named (site_in env flat) (slice_index words 0) (slice_index words 1)) word new → called false Delete s ≡ Some u → ResultFollows env l flat s Delete (answers word flat.memory new)
+    delete_followed : (word : ℕ) (new : LiveMaps) (u : RunState) → DeletesNamed flat.maps (key_named (site_in env flat) (slice_index words 0) (slice_index words 1)) word new → called false Delete s ≡ Some u → ResultFollows env l flat s Delete (answers word flat.memory new)
     delete_followed word new u told e =
         let a = also_some (map_argument s 1) (λ g. and_then (argument s 2 (λ p. input s p g.map.table.shape.key_size)) (λ key. Some (replies s g.descriptor (removed g.map key)))) u e in
         let g = a.0 in
@@ -184,21 +185,12 @@ module _ (env : Environment) (l : Layout) (flat : FlatState) (s : RunState) (roo
         let r : Deletes flat.maps (record { map = k; key = b.0 }) word new = subst (λ o. DeletesNamed flat.maps o word new) (key_is_named m b.0 keys.0) told in
         let st = deletes_keep_simulation below env l flat s m.index g.descriptor g.map b.0 word new stands m.named m.there r in
         let gave = removed g.map b.0 in
-        record {
-          refused = false;
-          only = λ x. absurd (false≢true x);
-          state = u;
-          goes = e;
-          layout = l;
-          extends = extends_itself l;
-          stands = subst (λ (x : RunState). Simulates env l (with_answer flat (answers word flat.memory new)) x) (same_Some (replies s g.descriptor gave) u b.2)
-              (returned env l (with_held flat flat.memory new) (with_reply s g.descriptor gave) (Scalar gave.answer) word st.1 st.0);
-          others = λ x away. r.rest.others x (other_key m.index x m.within away);
-          areas = r.rest.areas;
-          holds = same_holds flat.maps new k r.rest;
-        }
+        not_refused Delete (answers word flat.memory new) u e
+        (subst (λ (x : RunState). Simulates env l (with_answer flat (answers word flat.memory new)) x) (same_Some (replies s g.descriptor gave) u b.2)
+        (returned env l (with_held flat flat.memory new) (with_reply s g.descriptor gave) (Scalar gave.answer) word st.1 st.0))
+        (λ x away. r.rest.others x (other_key m.index x m.within away)) r.rest.areas (same_holds flat.maps new k r.rest)
 
-    pub load_followed : (word : ℕ) (after : Memory) (u : RunState) → LoadsAt (site_in env flat) (slice_index words 1) (slice_index words 3) (place_named flat.memory env.tenant (slice_index words 3) (slice_index words 2)) word after → called false LoadBytes s ≡ Some u
+    load_followed : (word : ℕ) (after : Memory) (u : RunState) → LoadsAt (site_in env flat) (slice_index words 1) (slice_index words 3) (place_named flat.memory env.tenant (slice_index words 3) (slice_index words 2)) word after → called false LoadBytes s ≡ Some u
         → ResultFollows env l flat s LoadBytes (answers word after flat.maps)
     load_followed word after u told e =
         let st = load_stands env l flat s room stands below.writes false u e in
@@ -217,17 +209,36 @@ module _ (env : Environment) (l : Layout) (flat : FlatState) (s : RunState) (roo
         let answer = packet_answer s.packet (slice_index flat.registers 2) (slice_index flat.registers 4) in
         let written = with_bytes flat.memory (part_start flat.memory env.tenant + st.place) (packet_bytes s.packet (slice_index flat.registers 2) (slice_index flat.registers 4)) in
         let memory_is : after ≡ written = r.1 ∙ ap (λ (x : List ℕ). with_bytes flat.memory (part_start flat.memory env.tenant + st.place) x) bytes in
-        record {
-          refused = false;
-          only = λ x. absurd (false≢true x);
-          state = u;
-          goes = e;
-          layout = l;
-          extends = extends_itself l;
-          stands = subst (λ (x : RunState). Simulates env l (with_answer flat (answers word after flat.maps)) x) (sym st.is)
-              (subst (λ (n : Memory). Simulates env l (with_answer flat (answers word n flat.maps)) (returns st.written (Scalar answer))) (sym memory_is)
-              (returned env l (with_memory flat written) st.written (Scalar answer) word st.stands (r.0 ∙ gives)));
-          others = λ key away. refl;
-          areas = same_areas flat.maps;
-          holds = λ key. refl;
-        }
+        leaves_maps LoadBytes word after u e
+        (subst (λ (x : RunState). Simulates env l (with_answer flat (answers word after flat.maps)) x) (sym st.is)
+        (subst (λ (n : Memory). Simulates env l (with_answer flat (answers word n flat.maps)) (returns st.written (Scalar answer))) (sym memory_is)
+        (returned env l (with_memory flat written) st.written (Scalar answer) word st.stands (r.0 ∙ gives))))
+
+-- ---- where the call is made
+
+-- what the code tells of a call at a place holds of the call in a run that is there
+module _ (Told : CallSite → Type 0) (reply : CallSite → CallAnswer) (words : List ℕ) (helper : Helper)
+    (follows : (env : Environment) (l : Layout) (flat : FlatState) (s : RunState) → IsRoom env.memory env.tenant → Simulates env l flat s → AreArguments words flat.registers → (u : RunState) → Told (site_in env flat) → called false helper s ≡ Some u → ResultFollows env l flat s helper (reply (site_in env flat))) where
+  follows_at : (site : CallSite) → Told site → CallFollows site words helper (reply site)
+  follows_at site told env l flat s u found room stands args goes = subst (λ (x : CallSite). ResultFollows env l flat s helper (reply x)) found (follows env l flat s room stands args u (subst Told (sym found) told) goes)
+
+module _ (returned : ReturnsKeepSimulation) (below : LawsBelow) (words : List ℕ) where
+  pub look_up_follows : (word : ℕ) (site : CallSite) → word ≡ unwrap_or (flat_look_up site (slice_index words 0) (slice_index words 1)) 0 → CallFollows site words LookUp (answers word site.memory site.maps)
+  look_up_follows word =
+      follows_at (λ x. word ≡ unwrap_or (flat_look_up x (slice_index words 0) (slice_index words 1)) 0) (λ x. answers word x.memory x.maps) words LookUp
+      (λ env l flat s room stands args u told goes. look_up_followed env l flat s room stands words args returned below word u told goes)
+
+  pub update_follows : (reply : CallAnswer) (site : CallSite) → UpdatesNamed site (pair_named site (slice_index words 0) (slice_index words 1) (slice_index words 2)) (slice_index words 3) reply → CallFollows site words Update reply
+  update_follows reply =
+      follows_at (λ x. UpdatesNamed x (pair_named x (slice_index words 0) (slice_index words 1) (slice_index words 2)) (slice_index words 3) reply) (λ _. reply) words Update
+      (λ env l flat s room stands args u told goes. update_followed env l flat s room stands words args returned below reply u told goes)
+
+  pub delete_follows : (word : ℕ) (new : LiveMaps) (site : CallSite) → DeletesNamed site.maps (key_named site (slice_index words 0) (slice_index words 1)) word new → CallFollows site words Delete (answers word site.memory new)
+  delete_follows word new =
+      follows_at (λ x. DeletesNamed x.maps (key_named x (slice_index words 0) (slice_index words 1)) word new) (λ x. answers word x.memory new) words Delete
+      (λ env l flat s room stands args u told goes. delete_followed env l flat s room stands words args returned below word new u told goes)
+
+  pub load_follows : (word : ℕ) (after : Memory) (site : CallSite) → LoadsAt site (slice_index words 1) (slice_index words 3) (place_named site.memory site.tenant (slice_index words 3) (slice_index words 2)) word after → CallFollows site words LoadBytes (answers word after site.maps)
+  load_follows word after =
+      follows_at (λ x. LoadsAt x (slice_index words 1) (slice_index words 3) (place_named x.memory x.tenant (slice_index words 3) (slice_index words 2)) word after) (λ x. answers word after x.maps) words LoadBytes
+      (λ env l flat s room stands args u told goes. load_followed env l flat s room stands words args returned below word after u told goes)

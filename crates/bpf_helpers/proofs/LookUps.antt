@@ -103,7 +103,7 @@ module _ (env : Environment) (l : Layout) (flat : FlatState) (s : RunState) (roo
       let size : (shape_at flat.maps bound.key).key_size ≡ g.map.table.shape.key_size = ap (λ (x : MapShape). x.key_size) (shape_same along g.descriptor bound.key g.map bound.has) in
       let read = input_there env l flat s room stands c.0 (slice_index flat.registers 2) g.map.table.shape.key_size b.0 (stands.values 2 c.0 (omega arith) c.1) c.2 in
       let is : flat_look_up (site_in env flat) (slice_index flat.registers 1) (slice_index flat.registers 2) ≡ Some (value_word (site_in env flat) bound.key (look_up (table_of (places_at flat.maps bound.key)) b.0)) =
-      ap (option_map (key_word (site_in env flat))) (key_is (site_in env flat) (slice_index flat.registers 1) (slice_index flat.registers 2) bound.key bound.bound b.0 (ap (λ (n : ℕ). part_input flat.memory env.tenant n (slice_index flat.registers 2)) size ∙ read)) in (
+      ap (option_map (key_word (site_in env flat))) (key_is (site_in env flat) (slice_index flat.registers 1) (slice_index flat.registers 2) bound.bound b.0 (ap (λ (n : ℕ). part_input flat.memory env.tenant n (slice_index flat.registers 2)) size ∙ read)) in (
         looked_up g.descriptor (look_up g.map.table b.0),
         sym (same_Some _ u b.2),
         subst (λ (o : Option ℕ). GivesWord env l o (Some (looked_up g.descriptor (look_up g.map.table b.0)))) (sym is) (look_up_follows along g.descriptor bound.key g.map bound.has b.0),

@@ -1,19 +1,19 @@
 -- The maps of a run as they stand elsewhere, or with one of them changed.
-use Rattle.std.proofs.Common.{◌≡◌, ◌≢◌, ℕ, ◌+◌, ◌<◌, ◌≤◌, ◌==◌, eqb, List, slice_get, Option, Some, refl, sym, ap, subst, ◌∙◌, ⊎_elim, arith}
+use Rattle.std.proofs.Common.{◌≡◌, ◌≢◌, ℕ, ◌+◌, ◌<◌, ◌≤◌, ◌==◌, ◌||◌, Bool, eqb, List, length, slice_get, Option, Some, refl, sym, ap, subst, ◌∙◌, ⊎_elim, arith}
 use Rattle.std.specs.Prelude.{slice_index}
 use Rattle.std.specs.Option.{IsSome}
 use Rattle.std.specs.Map.{values_of}
 use Rattle.std.proofs.lemmas.Bool.{cond_both, eqb-true, eqb-false, cases_Bool}
 use Rattle.std.proofs.lemmas.Option.{same_Some, slice_get_within}
 use Rattle.words.specs.Bytes.{bytes_at}
-use Rattle.tagged_model.specs.State.{RunMap, set_at}
-use Rattle.arena.specs.Memory.{base}
+use Rattle.tagged_model.specs.State.{RunState, RunMap, set_at}
+use Rattle.arena.specs.Memory.{base, part_start}
 use Rattle.bpf_maps.specs.Places.{PlaceTable, table_of, occurrences}
 use Rattle.bpf_maps.specs.Live.{LiveMaps, LiveMap, live_at, live_or, places_at, shape_at, offset, offset_at, OnlyKeysChange}
 use Rattle.bpf_maps.specs.Laws.{AreasKeepPlaces}
 use Rattle.bpf_helpers.specs.Layout.{Layout}
-use Rattle.bpf_helpers.specs.Stands.{HasMap, MapsStandFor, stored_maps}
-use Rattle.bpf_helpers.specs.States.{Environment}
+use Rattle.bpf_helpers.specs.Stands.{HasMap, MapsStandFor, KeepsUnboundValues, Simulates, stored_maps}
+use Rattle.bpf_helpers.specs.States.{Environment, FlatState, with_held}
 
 -- the maps of other descriptors have other keys
 pub other_key : (env : Environment) (l : Layout) (start : ℕ) (memory : List ℕ) (tenant : LiveMaps) (maps : ℕ → Option RunMap) → MapsStandFor env l (stored_maps start memory tenant) maps → (i m j n : ℕ) → slice_get env.descriptors i ≡ Some m → slice_get env.descriptors j ≡ Some n → n ≢ m → slice_index env.bind j ≢ slice_index env.bind i
@@ -104,3 +104,33 @@ module _ (env : Environment) (l : Layout) (start : ℕ) (memory : List ℕ) (old
     names = has.names;
     laid = rest.laid;
   }
+
+-- ---- a call that changes one map of the run
+
+-- the maps that the run doesn't name are as they were
+pub others_moved : (bind : List ℕ) (start : ℕ) (old memory : List ℕ) (tenant new : LiveMaps) (i : ℕ) → i < length bind → ((other : ℕ) → other ≢ slice_index bind i → live_at new other ≡ live_at tenant other) → KeepsUnboundValues bind old (stored_maps start memory tenant) → KeepsUnboundValues bind old (stored_maps start memory new)
+others_moved bind start old memory tenant new i within others has key p away =
+    subst (λ (o : Option LiveMap). IsSome o → p < (live_or o).places.shape.max_entries → bytes_at memory (start + offset (live_or o) p) (live_or o).places.shape.value_size ≡ bytes_at old (start + offset (live_or o) p) (live_or o).places.shape.value_size)
+    (sym (others key (λ same. away i within (sym same))))
+    (λ live lt. has key p away live lt)
+
+-- words and bytes stand for a state with other maps, where the call writes no value
+pub maps_stand : {env : Environment} {l : Layout} {flat : FlatState} {s : RunState} → Simulates env l flat s → (i m : ℕ) → slice_get env.descriptors i ≡ Some m → (new : LiveMaps) → OnlyKeysChange (slice_index env.bind i) flat.maps new → (maps : ℕ → Option RunMap) (refused : Bool)
+    → MapsStandFor env l (stored_maps (part_start env.memory env.tenant) flat.memory.bytes new) maps → new.refused ≡ (env.maps.refused || refused) → Simulates env l (with_held flat flat.memory new) (record s { maps = maps; refused = refused })
+maps_stand {env} {flat = flat} stands i m named new rest maps refused stand flag = record {
+  slot = stands.slot;
+  count = stands.count;
+  packet = stands.packet;
+  changed = stands.changed;
+  front = stands.front;
+  values = stands.values;
+  stack = stands.stack;
+  words = stands.words;
+  context = stands.context;
+  maps = stand;
+  elsewhere =
+      let count = stands.maps.count in
+      let fits = slice_get_within env.descriptors i m named in
+      others_moved env.bind (part_start env.memory env.tenant) env.memory.bytes flat.memory.bytes flat.maps new i (omega arith) rest.others stands.elsewhere;
+  flag = flag;
+}

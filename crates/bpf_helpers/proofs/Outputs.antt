@@ -210,13 +210,6 @@ module _ (bind : List ℕ) (start : ℕ) (old memory new : List ℕ) (tenant : L
       (⊎_elim (λ below. inl (omega arith)) (λ above. inr (omega arith)) (laid_apart tenant laid key p (slice_index bind i) at there live few lt (λ same. absurd (away i within (sym same)))))
       ∙ has key p away there few
 
--- a call of one of its maps changes no other
-pub others_moved : (bind : List ℕ) (start : ℕ) (old memory : List ℕ) (tenant new : LiveMaps) (i : ℕ) → i < length bind → ((other : ℕ) → other ≢ slice_index bind i → live_at new other ≡ live_at tenant other) → KeepsUnboundValues bind old (stored_maps start memory tenant) → KeepsUnboundValues bind old (stored_maps start memory new)
-others_moved bind start old memory tenant new i within others has key p away =
-    subst (λ (o : Option LiveMap). IsSome o → p < (live_or o).places.shape.max_entries → bytes_at memory (start + offset (live_or o) p) (live_or o).places.shape.value_size ≡ bytes_at old (start + offset (live_or o) p) (live_or o).places.shape.value_size)
-    (sym (others key (λ same. away i within (sym same))))
-    (λ live lt. has key p away live lt)
-
 -- ---- states
 
 module _ (writes : WritesStayInside) (env : Environment) (l : Layout) (flat : FlatState) (s : RunState) (room : IsRoom env.memory env.tenant) (stands : Simulates env l flat s) where

@@ -1,5 +1,5 @@
 -- After an update words, bytes and live maps stand for the state after the machine's update.
-use Rattle.std.proofs.Common.{◌≡◌, ◌≢◌, inl, inr, ℕ, ◌+◌, ◌*◌, ◌<◌, ◌≤◌, ◌==◌, ◌||◌, leb, pos, Bool, true, false, List, ◌++◌, map, length, drop, slice_get, Some, None, Result, Ok, Err, refl, sym, ap, subst, ◌∙◌, ⊎_elim, arith}
+use Rattle.std.proofs.Common.{◌≡◌, ◌≢◌, inl, inr, ℕ, ◌+◌, ◌*◌, ◌<◌, ◌≤◌, ◌==◌, ◌||◌, leb, pos, Bool, true, false, List, ◌++◌, length, drop, slice_get, Some, None, Result, Ok, Err, refl, sym, ap, subst, ◌∙◌, ⊎_elim, arith}
 use Rattle.std.specs.Prelude.{slice_index}
 use Rattle.std.specs.Option.{IsSome}
 use Rattle.std.proofs.lemmas.Bool.{cond_both, cond-true, eqb-true, eqb-false, le-leb, false≢true}
@@ -28,12 +28,12 @@ use Rattle.bpf_helpers.specs.Named.{part_place, NamedPair}
 use Rattle.bpf_helpers.specs.inside.Flat.{Updates, claim_word, with_claimed}
 use Rattle.bpf_maps.specs.LiveLaws.{laid_inside}
 use Rattle.bpf_helpers.proofs.Inputs.{part_place_is, memory_long, start_same}
-use Rattle.bpf_helpers.proofs.Outputs.{changed_after, cell_kept, words_kept, laid_apart, others_moved, outputs_keep_simulation}
+use Rattle.bpf_helpers.proofs.Outputs.{changed_after, cell_kept, words_kept, laid_apart, outputs_keep_simulation}
 use Rattle.bpf_helpers.specs.Calls.{Extends}
 use Rattle.bpf_helpers.specs.inside.Laws.{UpdateKeepsSimulation, UpdatesKeepSimulation}
 use Rattle.bpf_helpers.proofs.Verdicts.{present_found, never_memory}
 use Rattle.bpf_helpers.proofs.Flags.{or_once_more}
-use Rattle.bpf_helpers.proofs.Moved.{other_key, other_moved, maps_moved, maps_again}
+use Rattle.bpf_helpers.proofs.Moved.{other_key, other_moved, maps_moved, maps_again, others_moved, maps_stand}
 use Rattle.bpf_helpers.proofs.Wider.{extends_itself, extended, extends, word_more, cell_more, map_extended}
 use Rattle.bpf_helpers.proofs.Added.{map_with_new}
 use Rattle.bpf_helpers.specs.States.{CallAnswer, Environment, FlatState, site_in, with_held, with_memory}
@@ -80,21 +80,9 @@ module _ (below : LawsBelow) (env : Environment) (l : Layout) (flat : FlatState)
   unchanged x refused e flag places same =
       subst (λ (y : RunState). Simulates env l (with_held flat reply.memory reply.maps) y) (sym e)
       (subst (λ (n : Bytes). Simulates env l (with_held flat n reply.maps) (with_refusal (with_map s m map) refused)) (sym same)
-      (record {
-        slot = stands.slot;
-        count = stands.count;
-        packet = stands.packet;
-        changed = stands.changed;
-        front = stands.front;
-        values = stands.values;
-        stack = stands.stack;
-        words = stands.words;
-        context = stands.context;
-        maps = maps_again env l (part_start env.memory env.tenant) flat.memory.bytes reply.maps s.maps m map is
-            (maps_moved env l (part_start env.memory env.tenant) flat.memory.bytes flat.maps reply.maps k u.rest below.areas s.maps places stands.maps);
-        elsewhere = others_moved env.bind (part_start env.memory env.tenant) env.memory.bytes flat.memory.bytes flat.maps reply.maps i index_within u.rest.others stands.elsewhere;
-        flag = flag;
-      }))
+      (maps_stand stands i m named reply.maps u.rest (set_at s.maps m (Some map)) (s.refused || refused)
+      (maps_again env l (part_start env.memory env.tenant) flat.memory.bytes reply.maps s.maps m map is (maps_moved env l (part_start env.memory env.tenant) flat.memory.bytes flat.maps reply.maps k u.rest below.areas s.maps places stands.maps))
+      flag))
 
   refused_stands : (fault : MapFault) (refused : Bool) (v : Verdict ℕ) → (refused ≡ true → v ≡ New) → is_memory (Err fault) ≡ refused → u.claim ≡ Err fault → places_at reply.maps k ≡ places_at flat.maps k → (put refused map key value v).answer ≡ negative (errno fault) → (put refused map key value v).map ≡ map → (put refused map key value v).refused ≡ refused → Done v
   refused_stands fault refused v only memory_is told places answer map_is flag_is = record {
@@ -108,20 +96,9 @@ module _ (below : LawsBelow) (env : Environment) (l : Layout) (flat : FlatState)
   }
 
   moved : (x : RunState) (n : Bytes) (p : ℕ) → u.claim ≡ Ok p → x.refused ≡ s.refused → places_at reply.maps k ≡ places_at flat.maps k → Simulates env l (with_memory flat n) x → Simulates env l (with_held flat n reply.maps) (with_refusal x false)
-  moved x n p told same places st = record {
-    slot = st.slot;
-    count = st.count;
-    packet = st.packet;
-    changed = st.changed;
-    front = st.front;
-    values = st.values;
-    stack = st.stack;
-    words = st.words;
-    context = st.context;
-    maps = maps_moved env l (part_start env.memory env.tenant) n.bytes flat.maps reply.maps k u.rest below.areas x.maps places st.maps;
-    elsewhere = others_moved env.bind (part_start env.memory env.tenant) env.memory.bytes n.bytes flat.maps reply.maps i index_within u.rest.others st.elsewhere;
-    flag = flag_after (Ok p) false told refl ∙ ap (λ b. env.maps.refused || (b || false)) (sym same);
-  }
+  moved x n p told same places st =
+      maps_stand st i m named reply.maps u.rest x.maps (x.refused || false) (maps_moved env l (part_start env.memory env.tenant) n.bytes flat.maps reply.maps k u.rest below.areas x.maps places st.maps)
+      (flag_after (Ok p) false told refl ∙ ap (λ b. env.maps.refused || (b || false)) (sym same))
 
   long_memory : part_start env.memory env.tenant + PART ≤ length flat.memory.bytes
   long_memory = memory_long env l flat s room stands

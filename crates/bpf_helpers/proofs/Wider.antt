@@ -1,5 +1,5 @@
 -- A layout with more objects.
-use Rattle.std.proofs.Common.{◌≡◌, ◌≢◌, ℕ, ◌+◌, ◌-◌, ◌≤◌, ◌==◌, ◌&&◌, pos, ◌+ℤ◌, if◌then◌else◌, List, eq-eqb, refl, sym, ap, subst, ◌∙◌, ⊎_elim, arith}
+use Rattle.std.proofs.Common.{◌≡◌, ◌≢◌, ℕ, ◌+◌, ◌≤◌, ◌==◌, ◌&&◌, pos, ◌+ℤ◌, if◌then◌else◌, List, eq-eqb, refl, sym, ap, subst, ◌∙◌, ⊎_elim, arith}
 use Rattle.std.proofs.lemmas.Bool.{cond_both, cond-true, cond-false, eqb-true, and_parts, and_from, cases_Bool, ne_eqb}
 use Rattle.tagged_model.specs.declared.value.Object.{Object}
 use Rattle.tagged_model.specs.declared.value.Object.TheVariants as object

@@ -7,6 +7,7 @@ use Rattle.arena.specs.Memory.{Memory, part_start, part_bytes}
 use Rattle.bpf_maps.specs.Live.{shape_at}
 use Rattle.bpf_helpers.specs.Named.{bound_map, place_named, part_input, key_input, value_input, NamedKey, NamedPair, key_at, pair_at, key_named, pair_named}
 use Rattle.bpf_helpers.specs.States.{CallSite}
+use Rattle.bpf_helpers.specs.inside.Flat.{key_bytes, value_bytes}
 
 -- ---- bytes at an address
 
@@ -31,33 +32,42 @@ module _ (site : CallSite) (map key : ℕ) where
   pub no_map : bound_map site.bind map ≡ None → key_named site map key ≡ None
   no_map e = ap (λ o. and_then o (key_at site key)) e
 
-  module _ (k : ℕ) (bound : bound_map site.bind map ≡ Some k) where
+  module _ {k : ℕ} (bound : bound_map site.bind map ≡ Some k) where
     by_map : (o : Option (List ℕ)) → key_input site k key ≡ o → key_named site map key ≡ option_map (λ bs. let n : NamedKey = record { map = k; key = bs } in n) o
     by_map o e = ap (λ o. and_then o (key_at site key)) bound ∙ ap (option_map (λ bs. let n : NamedKey = record { map = k; key = bs } in n)) e
-
-    pub no_key : key_input site k key ≡ None → key_named site map key ≡ None
-    no_key e = by_map None e
 
     pub key_is : (bs : List ℕ) → key_input site k key ≡ Some bs → key_named site map key ≡ Some (record { map = k; key = bs })
     key_is bs e = by_map (Some bs) e
 
-    -- the bytes of the part are the key
-    pub key_there : (n at : ℕ) (part : List ℕ) → n ≡ (shape_at site.maps k).key_size → Some at ≡ place_named site.memory site.tenant n key → part ≡ part_bytes site.memory site.tenant → at + n ≤ site.memory.part
-        → key_named site map key ≡ Some (record { map = k; key = slice_range part at (at + n) })
-    key_there n at part size place is fits =
-        let there : bytes_at site.memory.bytes (part_start site.memory site.tenant + at) (shape_at site.maps k).key_size ≡ slice_range part at (at + n) =
-        ap (λ (m : ℕ). bytes_at site.memory.bytes (part_start site.memory site.tenant + at) m) (sym size) ∙ sym (part_range site.memory site.tenant at n part is fits) in
-        key_is (slice_range part at (at + n)) (input_is site.memory site.tenant (shape_at site.maps k).key_size n key size at place ∙ ap (λ (x : List ℕ). Some x) there)
+    -- as the code has asked for its bytes
+    module _ {n : ℕ} (size : n ≡ (shape_at site.maps k).key_size) where
+      pub no_key : None ≡ place_named site.memory site.tenant n key → key_named site map key ≡ None
+      no_key e = by_map None (no_input site.memory site.tenant (shape_at site.maps k).key_size n key size e)
+
+      pub key_found : {at : ℕ} → Some at ≡ place_named site.memory site.tenant n key → key_named site map key ≡ Some (record { map = k; key = key_bytes site k at })
+      key_found {at} e = key_is (key_bytes site k at) (input_is site.memory site.tenant (shape_at site.maps k).key_size n key size at e)
+
+      -- the bytes of the part are the key
+      pub key_there : (at : ℕ) {part : List ℕ} → Some at ≡ place_named site.memory site.tenant n key → part ≡ part_bytes site.memory site.tenant → at + n ≤ site.memory.part
+          → key_named site map key ≡ Some (record { map = k; key = slice_range part at (at + n) })
+      key_there at {part} place is fits =
+          let there : key_bytes site k at ≡ slice_range part at (at + n) =
+          ap (λ (m : ℕ). bytes_at site.memory.bytes (part_start site.memory site.tenant + at) m) (sym size) ∙ sym (part_range site.memory site.tenant at n part is fits) in
+          key_found place ∙ ap (λ (bs : List ℕ). let o : Option NamedKey = Some (record { map = k; key = bs }) in o) there
 
   pub no_pair : (value : ℕ) → key_named site map key ≡ None → pair_named site map key value ≡ None
   no_pair value e = ap (λ o. and_then o (pair_at site value)) e
 
-  module _ (value : ℕ) (n : NamedKey) (named : key_named site map key ≡ Some n) where
-    by_key : (o : Option (List ℕ)) → value_input site n.map value ≡ o → pair_named site map key value ≡ option_map (λ vs. let p : NamedPair = record { map = n.map; key = n.key; value = vs } in p) o
-    by_key o e = ap (λ o. and_then o (pair_at site value)) named ∙ ap (option_map (λ vs. let p : NamedPair = record { map = n.map; key = n.key; value = vs } in p)) e
+  module _ (value : ℕ) {k : NamedKey} (named : key_named site map key ≡ Some k) where
+    by_key : (o : Option (List ℕ)) → value_input site k.map value ≡ o → pair_named site map key value ≡ option_map (λ vs. let p : NamedPair = record { map = k.map; key = k.key; value = vs } in p) o
+    by_key o e = ap (λ o. and_then o (pair_at site value)) named ∙ ap (option_map (λ vs. let p : NamedPair = record { map = k.map; key = k.key; value = vs } in p)) e
 
-    pub no_value : value_input site n.map value ≡ None → pair_named site map key value ≡ None
-    no_value e = by_key None e
-
-    pub pair_is : (vs : List ℕ) → value_input site n.map value ≡ Some vs → pair_named site map key value ≡ Some (record { map = n.map; key = n.key; value = vs })
+    pub pair_is : (vs : List ℕ) → value_input site k.map value ≡ Some vs → pair_named site map key value ≡ Some (record { map = k.map; key = k.key; value = vs })
     pair_is vs e = by_key (Some vs) e
+
+    module _ {n : ℕ} (size : n ≡ (shape_at site.maps k.map).value_size) where
+      pub no_value : None ≡ place_named site.memory site.tenant n value → pair_named site map key value ≡ None
+      no_value e = by_key None (no_input site.memory site.tenant (shape_at site.maps k.map).value_size n value size e)
+
+      pub pair_found : {at : ℕ} → Some at ≡ place_named site.memory site.tenant n value → pair_named site map key value ≡ Some (record { map = k.map; key = k.key; value = value_bytes site k.map at })
+      pair_found {at} e = pair_is (value_bytes site k.map at) (input_is site.memory site.tenant (shape_at site.maps k.map).value_size n value size at e)

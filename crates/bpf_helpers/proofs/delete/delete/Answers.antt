@@ -1,35 +1,31 @@
 use Rattle.std.proofs.Common.{Ok, Err, refl, sym, ap, subst, ◌∙◌}
 use Rattle.tagged_model.specs.declared.shape.MapShape.{MapShape}
-use Rattle.bpf_maps.specs.Live.{shape_at}
 use Rattle.bpf_helpers.specs.States.{site_of}
 use Rattle.bpf_helpers.specs.inside.Flat.{DeletesNamed}
-use Rattle.bpf_helpers.proofs.Words.{no_map, no_input, no_key, key_there}
+use Rattle.bpf_helpers.proofs.Words.{no_map, no_key, key_there}
 use Rattle.bpf_helpers.proofs.delete.delete.Goals as goal
 
 pub returns-in-Ok-clause-deleted : goal.returns-in-Ok-clause-deleted
 returns-in-Ok-clause-deleted c =
     let size = ap (λ (s : MapShape). s.key_size) c.shape-size.ensures in
-    let there = key_there (site_of c.args.caller c.args.arena.now c.args.maps.now) c.args.map c.args.key c.in-Some.map (sym c.in-Some.ensures.value) c.shape-size.result.key_size c.in-Some-asked_place.at c.part-part.result.now size c.in-Some-asked_place.ensures.value c.part-part.ensures.bytes c.in-Some-asked_place.ensures.within in
+    let there = key_there (site_of c.args.caller c.args.arena.now c.args.maps.now) c.args.map c.args.key (sym c.in-Some.ensures.value) size c.in-Some-asked_place.at c.in-Some-asked_place.ensures.value c.part-part.ensures.bytes c.in-Some-asked_place.ensures.within in
     subst (λ o. DeletesNamed c.args.maps.now o 0 c.remove.new.self) (sym there)
     (record { outcome = Ok tt; removed = c.in-Ok.ensures.removed; rest = c.in-Ok.ensures.rest; flag = c.in-Ok.ensures.refused; word_is = refl })
 
 pub returns-in-Err-clause-deleted : goal.returns-in-Err-clause-deleted
 returns-in-Err-clause-deleted c =
     let size = ap (λ (s : MapShape). s.key_size) c.shape-size.ensures in
-    let there = key_there (site_of c.args.caller c.args.arena.now c.args.maps.now) c.args.map c.args.key c.in-Some.map (sym c.in-Some.ensures.value) c.shape-size.result.key_size c.in-Some-asked_place.at c.part-part.result.now size c.in-Some-asked_place.ensures.value c.part-part.ensures.bytes c.in-Some-asked_place.ensures.within in
+    let there = key_there (site_of c.args.caller c.args.arena.now c.args.maps.now) c.args.map c.args.key (sym c.in-Some.ensures.value) size c.in-Some-asked_place.at c.in-Some-asked_place.ensures.value c.part-part.ensures.bytes c.in-Some-asked_place.ensures.within in
     subst (λ o. DeletesNamed c.args.maps.now o c.refusal-in-Err.result c.remove.new.self) (sym there)
     (record { outcome = Err c.in-Err.fault; removed = c.in-Err.ensures.removed; rest = c.in-Err.ensures.rest; flag = c.in-Err.ensures.refused; word_is = c.refusal-in-Err.ensures })
 
 pub returns-in_default-clause-deleted : goal.returns-in_default-clause-deleted
 returns-in_default-clause-deleted c =
-    subst (λ o. DeletesNamed c.args.maps.now o c.refusal.result c.args.maps.now) (sym (no_map (site_of c.args.caller c.args.arena.now c.args.maps.now) c.args.map c.args.key (sym c.bound.ensures.value ∙ c.in_default.is)))
-    (c.refusal.ensures, refl)
+    let none = no_map (site_of c.args.caller c.args.arena.now c.args.maps.now) c.args.map c.args.key (sym c.bound.ensures.value ∙ c.in_default.is) in
+    subst (λ o. DeletesNamed c.args.maps.now o c.refusal.result c.args.maps.now) (sym none) (c.refusal.ensures, refl)
 
 pub returns-in_default-asked_place-clause-deleted : goal.returns-in_default-asked_place-clause-deleted
 returns-in_default-asked_place-clause-deleted c =
-    let site = site_of c.args.caller c.args.arena.now c.args.maps.now in
-    let k = c.in-Some.map in
     let size = ap (λ (s : MapShape). s.key_size) c.shape-size.ensures in
-    let none = no_input site.memory site.tenant (shape_at site.maps k).key_size c.shape-size.result.key_size c.args.key size (sym c.in_default-asked_place.is ∙ c.asked_place.ensures.value) in
-    subst (λ o. DeletesNamed site.maps o c.refusal-in_default-asked_place.result site.maps) (sym (no_key site c.args.map c.args.key k (sym c.in-Some.ensures.value) none))
-    (c.refusal-in_default-asked_place.ensures, refl)
+    let none = no_key (site_of c.args.caller c.args.arena.now c.args.maps.now) c.args.map c.args.key (sym c.in-Some.ensures.value) size (sym c.in_default-asked_place.is ∙ c.asked_place.ensures.value) in
+    subst (λ o. DeletesNamed c.args.maps.now o c.refusal-in_default-asked_place.result c.args.maps.now) (sym none) (c.refusal-in_default-asked_place.ensures, refl)

@@ -6,7 +6,7 @@ use Rattle.arena.specs.Memory.{base, part_start}
 use Rattle.bpf_maps.specs.Places.{table_of}
 use Rattle.bpf_maps.specs.Live.{places_at, shape_at, offset_at, value_address, LiesInPart}
 use Rattle.bpf_helpers.specs.inside.Flat.{key_word, value_word}
-use Rattle.bpf_helpers.proofs.Words.{no_map, no_input, no_key, key_there}
+use Rattle.bpf_helpers.proofs.Words.{no_map, no_key, key_there}
 use Rattle.bpf_helpers.proofs.look_up.look_up.Goals as goal
 use Rattle.bpf_helpers.specs.States.{CallSite, site_of}
 
@@ -36,7 +36,7 @@ returns-clause-value c =
     let part = c.part-part.result.now in
     let size = ap (λ (s : MapShape). s.key_size) c.shape-size.ensures in
     let o = look_up (table_of (places_at site.maps k)) (slice_range part at (at + n)) in
-    let there = key_there site c.args.map c.args.key k (sym c.in-Some.ensures.value) n at part size c.in-Some-asked_place.ensures.value c.part-part.ensures.bytes c.in-Some-asked_place.ensures.within in
+    let there = key_there site c.args.map c.args.key (sym c.in-Some.ensures.value) size at c.in-Some-asked_place.ensures.value c.part-part.ensures.bytes c.in-Some-asked_place.ensures.within in
     let low = c.address.ensures.room in
     let bound = c.memory_is_its_parts.ensures.bound in
     c.address_of.ensures.address
@@ -46,7 +46,5 @@ returns-clause-value c =
 pub returns-in_default-asked_place-clause-value : goal.returns-in_default-asked_place-clause-value
 returns-in_default-asked_place-clause-value c =
     let site = site_of c.args.caller c.args.arena.now c.args.maps.now in
-    let k = c.in-Some.map in
     let size = ap (λ (s : MapShape). s.key_size) c.shape-size.ensures in
-    let none = no_input site.memory site.tenant (shape_at site.maps k).key_size c.shape-size.result.key_size c.args.key size (sym c.in_default-asked_place.is ∙ c.asked_place.ensures.value) in
-    sym (ap (λ o. unwrap_or (option_map (key_word site) o) 0) (no_key site c.args.map c.args.key k (sym c.in-Some.ensures.value) none))
+    sym (ap (λ o. unwrap_or (option_map (key_word site) o) 0) (no_key site c.args.map c.args.key (sym c.in-Some.ensures.value) size (sym c.in_default-asked_place.is ∙ c.asked_place.ensures.value)))

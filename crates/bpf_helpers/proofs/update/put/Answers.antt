@@ -8,6 +8,19 @@ use Rattle.bpf_maps.specs.Live.{places_at, shape_at, offset_at}
 use Rattle.bpf_helpers.proofs.Words.{part_range}
 use Rattle.bpf_helpers.proofs.Copied.{copied_is}
 use Rattle.bpf_helpers.proofs.update.put.Goals as goal
+use Rattle.bpf_helpers.proofs.update.put.Goals.{After-claim}
+
+-- what the code reads is the key's bytes
+key_read : (c : After-claim)
+    → slice_range c.part-part.result.now c.args.key (c.args.key + c.shape-shape.result.key_size) ≡ bytes_at c.args.arena.now.bytes (part_start c.args.arena.now c.args.caller.tenant + c.args.key) (shape_at c.args.maps.now c.args.map).key_size
+key_read c =
+    let memory = c.args.arena.now in
+    let t = c.args.caller.tenant in
+    let n = c.shape-shape.result.key_size in
+    let size : n ≡ (shape_at c.args.maps.now c.args.map).key_size = ap (λ (s : MapShape). s.key_size) c.shape-shape.ensures in
+    let fits : c.args.key + n ≤ memory.part = omega (arith, size, c.requires.key, c.requires.part.1) in
+    part_range memory t c.args.key n c.part-part.result.now c.part-part.ensures.bytes fits
+    ∙ ap (λ (m : ℕ). bytes_at memory.bytes (part_start memory t + c.args.key) m) size
 
 pub returns-in-Ok-clause-updated : goal.returns-in-Ok-clause-updated
 returns-in-Ok-clause-updated c =
@@ -16,21 +29,14 @@ returns-in-Ok-clause-updated c =
     let old = c.args.maps.now in
     let new = c.claim.new.self in
     let k = c.args.map in
-    let n = c.shape-shape.result.key_size in
-    let part = c.part-part.result.now in
-    let size : n ≡ (shape_at old k).key_size = ap (λ (s : MapShape). s.key_size) c.shape-shape.ensures in
     let value : c.shape-shape.result.value_size ≡ (shape_at old k).value_size = ap (λ (s : MapShape). s.value_size) c.shape-shape.ensures in
     let after : (shape_at new k).value_size ≡ (shape_at old k).value_size = ap (λ (s : MapShape). s.value_size) c.in-Ok.ensures.rest.shape in
-    let fits : c.args.key + n ≤ memory.part = omega (arith, size, c.requires.key, c.requires.part.1) in
-    let same : slice_range part c.args.key (c.args.key + n) ≡ bytes_at memory.bytes (part_start memory t + c.args.key) (shape_at old k).key_size =
-    part_range memory t c.args.key n part c.part-part.ensures.bytes fits
-    ∙ ap (λ (m : ℕ). bytes_at memory.bytes (part_start memory t + c.args.key) m) size in
     let stays = c.areas_keep_places.ensures old new k c.in-Ok.place c.in-Ok.ensures.rest.areas c.in-Ok.ensures.rest.live in
     let inside = c.value_at.ensures.inside in
     let within = inside.within in
     record {
       claim = Ok c.in-Ok.place;
-      claimed = subst (λ (b : List ℕ). Claims (verdict (table_of (places_at old k)) b c.args.flags) b (places_at old k) (Ok c.in-Ok.place) (places_at new k)) same c.in-Ok.ensures.claimed;
+      claimed = subst (λ (b : List ℕ). Claims (verdict (table_of (places_at old k)) b c.args.flags) b (places_at old k) (Ok c.in-Ok.place) (places_at new k)) (key_read (goal.at.returns-in-Ok-clause-updated c).After-claim) c.in-Ok.ensures.claimed;
       rest = c.in-Ok.ensures.rest;
       flag = c.in-Ok.ensures.refused;
       word_is = refl;
@@ -45,21 +51,12 @@ returns-in-Ok-clause-updated c =
 
 pub returns-in-Err-clause-updated : goal.returns-in-Err-clause-updated
 returns-in-Err-clause-updated c =
-    let memory = c.args.arena.now in
-    let t = c.args.caller.tenant in
     let old = c.args.maps.now in
     let new = c.claim.new.self in
     let k = c.args.map in
-    let n = c.shape-shape.result.key_size in
-    let part = c.part-part.result.now in
-    let size : n ≡ (shape_at old k).key_size = ap (λ (s : MapShape). s.key_size) c.shape-shape.ensures in
-    let fits : c.args.key + n ≤ memory.part = omega (arith, size, c.requires.key, c.requires.part.1) in
-    let same : slice_range part c.args.key (c.args.key + n) ≡ bytes_at memory.bytes (part_start memory t + c.args.key) (shape_at old k).key_size =
-    part_range memory t c.args.key n part c.part-part.ensures.bytes fits
-    ∙ ap (λ (m : ℕ). bytes_at memory.bytes (part_start memory t + c.args.key) m) size in
     record {
       claim = Err c.in-Err.fault;
-      claimed = subst (λ (b : List ℕ). Claims (verdict (table_of (places_at old k)) b c.args.flags) b (places_at old k) (Err c.in-Err.fault) (places_at new k)) same c.in-Err.ensures.claimed;
+      claimed = subst (λ (b : List ℕ). Claims (verdict (table_of (places_at old k)) b c.args.flags) b (places_at old k) (Err c.in-Err.fault) (places_at new k)) (key_read (goal.at.returns-in-Err-clause-updated c).After-claim) c.in-Err.ensures.claimed;
       rest = c.in-Err.ensures.rest;
       flag = c.in-Err.ensures.refused;
       word_is = c.refusal.ensures;

@@ -7,9 +7,9 @@ use Rattle.tagged_model.specs.declared.shape.MapKind.TheVariants.{Hash, Array}
 use Rattle.tagged_model.specs.declared.shape.MapShape.{MapShape}
 use Rattle.tagged_model.specs.declared.fault.MapFault.{MapFault}
 use Rattle.tagged_model.specs.declared.fault.MapFault.TheVariants.{NoEntry, TooBig, Exists, Invalid}
-use Rattle.tagged_model.specs.Table.{without, look_up, is_full, of_absent, of_found, verdict, removal, removal_of, Verdict, Refused, Present, New, no_exist, exist}
+use Rattle.tagged_model.specs.Table.{look_up, is_full, of_absent, of_found, verdict, removal, removal_of, Verdict, Refused, Present, New, no_exist, exist}
 use Rattle.bpf_maps.specs.Places.{PlaceTable, table_of, occurrences, IsSound, IsFree, with_place, with_kept, Claims, Removes}
-use Rattle.bpf_maps.proofs.Counts.{one, times_one, times-without}
+use Rattle.bpf_maps.proofs.Counts.{in_use}
 
 pub same_table : (s : MapShape) {es fs : List (List ℕ × ℕ)} {ks ls : List ℕ} → es ≡ fs → ks ≡ ls → (let t : PlaceTable = record { shape = s; entries = es; kept = ks } in t) ≡ (let t : PlaceTable = record { shape = s; entries = fs; kept = ls } in t)
 same_table s e k i = record { shape = s; entries = e i; kept = k i }
@@ -71,12 +71,9 @@ present_found t key flags k h = by (nat_le flags exist) h
 pub place_below : (t : PlaceTable) (key : List ℕ) (p : ℕ) → IsSound t → look_up (table_of t) key ≡ Some p → p < t.shape.max_entries
 place_below t key p h e = by (nat_lt p t.shape.max_entries) refl (h.once p)
   where
-    used : 1 ≤ occurrences p (values_of t.entries)
-    used = let u = subst (λ (o : Option ℕ). occurrences p (values_of (without key t.entries)) + one p o ≡ occurrences p (values_of t.entries)) e (times-without p key t.entries) in let o = times_one p in omega arith
-
     by : (b : Bool) → nat_lt p t.shape.max_entries ≡ b → occurrences p (values_of t.entries) + occurrences p t.kept ≤ (if b then 1 else 0) → p < t.shape.max_entries
     by true q l = ltb-true p t.shape.max_entries q
-    by false q l = let u = used in absurd (omega arith)
+    by false q l = let u = in_use p key t.entries e in absurd (omega arith)
 
 pub found_within : (t : PlaceTable) (key : List ℕ) (o : Option ℕ) → IsSound t → o ≡ look_up (table_of t) key → IfSome o (λ p. p < t.shape.max_entries)
 found_within t key None h e = tt

@@ -53,7 +53,7 @@ module _ (s : MapShape) (array : s.kind ≡ Array) where
 
 -- ---- the same of a table that is that of an array
 
-module _ (t : PlaceTable) (array : t.shape.kind ≡ Array) (whole : t ≡ new_places t.shape) where
+module _ {t : PlaceTable} (array : t.shape.kind ≡ Array) (whole : t ≡ new_places t.shape) where
   pub found_array : (key : List ℕ) (i : ℕ) (b : Bool) → index_key i ≡ key → i < 2 ^ 32 → nat_lt i t.shape.max_entries ≡ b → (if b then Some i else None) ≡ look_up (table_of t) key
   found_array key i b same small is =
       ap (λ (x : Bool). if x then Some i else None) (sym is) ∙ sym (found_new t.shape array key i same small) ∙ ap (λ (u : PlaceTable). look_up (table_of u) key) (sym whole)

@@ -113,11 +113,11 @@ module _ {a : Inside} {t : LiveMaps} {place map key : ℕ} {old new : Entry} (c 
 
   pub whole_stays : {refused : Bool} → IsWellFormedMaps (after refused)
   whole_stays {refused} =
-      whole_replaced a (after refused) place c.under.whole others old new (at_place c.under) is c.start c.stride c.shape c.held c.sound refl refl
+      whole_replaced (after refused) place c.under.whole others old new (at_place c.under) is c.start c.stride c.shape c.held c.sound refl refl
       (changed_keys a.keys a.entries c.under.whole.keys place key c.under.keyed old new c.under.here) c.under.whole.room
 
   pub laid_stays : {refused : Bool} → IsLaid (as_live_maps (after refused))
-  laid_stays {refused} = laid (after refused) (whole_stays {refused = refused})
+  laid_stays {refused} = laid (whole_stays {refused = refused})
 
   pub room_stays : areas (as_live_maps now) ≡ areas t
   room_stays = sym (whole_stays {refused = a.refused}).sum ∙ c.under.whole.sum ∙ ap areas c.under.view
@@ -132,7 +132,7 @@ module _ {a : Inside} {t : LiveMaps} {place map key : ℕ} {old new : Entry} (c 
   values_stay bytes = values_along t (as_live_maps now) bytes areas_stay
 
   sound_before : AreSound t
-  sound_before = subst AreSound c.under.view (sound_at a c.under.whole)
+  sound_before = subst AreSound c.under.view (sound_at c.under.whole)
 
   pub others_keep : (bytes : List ℕ) → KeepsOthers map t bytes (as_live_maps now) bytes
   others_keep bytes other ne = keeps_live t (as_live_maps now) bytes bytes other (values_stay bytes) (sound_before other) (others_stay other ne)

@@ -1,6 +1,6 @@
 -- How often a place stands in a list, and how many entries there are.
-use Rattle.std.proofs.Common.{◌≡◌, ℕ, ◌+◌, Bool, true, false, cond, List, [], ◌∷◌, ◌++◌, length, Option, Some, None, refl, sym, ap, subst, ◌∙◌, nat_eq, nat_lt, if◌then◌else◌, arith, eq-eqb}
-use Rattle.std.proofs.lemmas.Option.{none-some}
+use Rattle.std.proofs.Common.{◌≡◌, ℕ, ◌+◌, ◌≤◌, Bool, true, false, cond, List, [], ◌∷◌, ◌++◌, length, Some, None, refl, sym, ap, subst, ◌∙◌, nat_eq, nat_lt, if◌then◌else◌, arith, eq-eqb}
+use Rattle.std.proofs.lemmas.Option.{none-some, same_Some}
 use Rattle.std.proofs.lemmas.Bool.Decides.{nat_tests}
 use Rattle.std.specs.Map.{values_of}
 use Rattle.tagged_model.specs.Table.{is_key, found, without, with_key}
@@ -24,37 +24,34 @@ pub values_of-append : {K : Type 0} (es fs : List (K × ℕ)) → values_of (es 
 values_of-append [] fs = refl
 values_of-append (e ∷ es) fs = ap (λ r. e.1 ∷ r) (values_of-append es fs)
 
--- a place that an entry has
-abbrev pub one : ℕ → Option ℕ → ℕ
-one p None = 0
-one p (Some q) = if nat_eq p q then 1 else 0
+-- ---- sums over the places of a list, as how often a place stands in it, and its length
 
-pub times_one : (p : ℕ) → one p (Some p) ≡ 1
-times_one p = let t = times_self p in omega arith
+abbrev pub IsSum : (List ℕ → ℕ) → Type 0
+IsSum f = (xs ys : List ℕ) → f (xs ++ ys) ≡ f xs + f ys
 
-pub times-without : (p : ℕ) (key : List ℕ) (es : List (List ℕ × ℕ)) → occurrences p (values_of (without key es)) + one p (found key es) ≡ occurrences p (values_of es)
-times-without p key [] = omega arith
-times-without p key (e ∷ es) = by (is_key key e.0) (times-without p key es)
+-- a key with its place is taken out of the entries
+pub sum-without : (f : List ℕ → ℕ) → IsSum f → (key : List ℕ) (place : ℕ) (es : List (List ℕ × ℕ)) → found key es ≡ Some place → f (values_of (without key es)) + f (place ∷ []) ≡ f (values_of es)
+sum-without f sum key place [] h = absurd (none-some place h)
+sum-without f sum key place (e ∷ es) h = by (is_key key e.0) h (sum-without f sum key place es)
   where
-    by : (b : Bool) → occurrences p (values_of (without key es)) + one p (found key es) ≡ occurrences p (values_of es) → occurrences p (values_of (cond b es (e ∷ without key es))) + one p (cond b (Some e.1) (found key es)) ≡ occurrences p (values_of (e ∷ es))
-    by true h = omega arith
-    by false h = omega arith
+    by : (b : Bool) → cond b (Some e.1) (found key es) ≡ Some place → (found key es ≡ Some place → f (values_of (without key es)) + f (place ∷ []) ≡ f (values_of es)) → f (values_of (cond b es (e ∷ without key es))) + f (place ∷ []) ≡ f (values_of (e ∷ es))
+    by true g rest =
+        let here = ap (λ (p : ℕ). f (p ∷ [])) (same_Some e.1 place g) in
+        let whole = sum (e.1 ∷ []) (values_of es) in
+        omega arith
+    by false g rest =
+        let less = rest g in
+        let before = sum (e.1 ∷ []) (values_of es) in
+        let after = sum (e.1 ∷ []) (values_of (without key es)) in
+        omega arith
+
+-- the place of a key is in use
+pub in_use : (p : ℕ) (key : List ℕ) (es : List (List ℕ × ℕ)) → found key es ≡ Some p → 1 ≤ occurrences p (values_of es)
+in_use p key es h = let w = sum-without (occurrences p) (times-append p) key p es h in let one = times_self p in omega arith
 
 -- the place of a key that goes is kept
 pub times-kept : (p : ℕ) (key : List ℕ) (place : ℕ) (es : List (List ℕ × ℕ)) (kept : List ℕ) → found key es ≡ Some place → occurrences p (values_of (without key es)) + occurrences p (kept ++ place ∷ []) ≡ occurrences p (values_of es) + occurrences p kept
-times-kept p key place es kept h =
-    let w = times-without p key es in
-    let o : one p (found key es) ≡ one p (Some place) = ap (one p) h in
-    let a = times-append p kept (place ∷ []) in
-    omega arith
-
-pub length-without : (key : List ℕ) (p : ℕ) (es : List (List ℕ × ℕ)) → found key es ≡ Some p → length (without key es) + 1 ≡ length es
-length-without key p [] h = absurd (none-some p h)
-length-without key p (e ∷ es) h = by (is_key key e.0) h (length-without key p es)
-  where
-    by : (b : Bool) → cond b (Some e.1) (found key es) ≡ Some p → (found key es ≡ Some p → length (without key es) + 1 ≡ length es) → length (cond b es (e ∷ without key es)) + 1 ≡ length (e ∷ es)
-    by true g r = omega arith
-    by false g r = let q = r g in omega arith
+times-kept p key place es kept h = let w = sum-without (occurrences p) (times-append p) key place es h in let a = times-append p kept (place ∷ []) in omega arith
 
 pub sized-without : (n : ℕ) (key : List ℕ) (es : List (List ℕ × ℕ)) → IsSized n es → IsSized n (without key es)
 sized-without n key [] h = tt

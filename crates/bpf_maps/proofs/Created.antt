@@ -179,13 +179,13 @@ module _ {a : Inside} {t : LiveMaps} {shape : MapShape} {size place : ℕ} (r : 
         let x : area_by (places_of e.map).shape ≡ area_by shape = ap (λ (q : PlaceTable). area_by q.shape) d.places in
         let room = h.room in
         let same = d.capacity in
-        whole_added a after place h others e empty there d.start round (let o = d.holds in omega arith) (subst IsSound (sym d.places) (sound_new shape)) (let s = r.size_is in omega arith) r.room
+        whole_added after place h others e empty there d.start round (let o = d.holds in omega arith) (subst IsSound (sym d.places) (sound_new shape)) (let s = r.size_is in omega arith) r.room
         (subst (λ (ls : List MapLayout). AreLaidOut (entries_of after) ls) (sym d.layout) (added_out (entries_of a) (entries_of after) a.layouts place h.laid_out others e there below))
         (added_keys a.keys a.entries entries h.keys place key free below d.was e d.there d.others d.len)
         (omega arith)
 
     pub laid_one : IsLaid (as_live_maps after)
-    laid_one = laid after whole_one
+    laid_one = laid whole_one
 
     -- it stands behind the others
     pub last_one : start_at (as_live_maps after) place ≡ STACK_AND_CONTEXT + areas t
@@ -244,7 +244,7 @@ module _ {a : Inside} {t : LiveMaps} {shape : MapShape} {size place : ℕ} (r : 
       fresh_one = new_map_in later (as_live_maps after) place shape (replicate shape.value_size 0) places_one (λ array. cleared_one)
 
       pub maps_kept : KeepsMaps t bytes (as_live_maps after) later
-      maps_kept k live = keeps_live t (as_live_maps after) bytes later k values_kept (subst AreSound view (sound_at a h) k) (older_stay k live) live
+      maps_kept k live = keeps_live t (as_live_maps after) bytes later k values_kept (subst AreSound view (sound_at h) k) (older_stay k live) live
 
 -- ---- a creation that returns a key
 

@@ -125,10 +125,10 @@ module _ {a : Inside} {t : LiveMaps} {place map key size : ℕ} {old gone : Entr
       let room = was_whole.room in
       let same = g.rest.capacity in
       let still = g.closed.capacity in
-      whole_removed a new place was_whole gone was empty closed bytes_now g.closed.are_keys (omega arith) g.closed.layouts_are
+      whole_removed new place was_whole gone was empty closed bytes_now g.closed.are_keys (omega arith) g.closed.layouts_are
 
   pub laid_gone : IsLaid (as_live_maps new)
-  laid_gone = laid new whole_gone
+  laid_gone = laid whole_gone
 
   live_gone : live_at t map ≡ Some (live_of gone)
   live_gone = live_here a g.taken.under.view g.taken.under.same was
@@ -227,7 +227,7 @@ module _ {a : Inside} {t : LiveMaps} {place map key size : ℕ} {old gone : Entr
         ∙ own bytes moved gone.start many long_moved room (f.start - (gone.start + size) + p * f.stride) s.value_size fits
         ∙ from_behind (f.start - (gone.start + size) + p * f.stride) s.value_size fits
         ∙ ap (λ (n : ℕ). take s.value_size (drop n bytes)) at_then)
-        (before_or_behind gone.start (area_of (live_of gone)) f.start (area_of (live_of f)) (beside a new place was_whole gone was empty closed bytes_now j f ne ft))
+        (before_or_behind gone.start (area_of (live_of gone)) f.start (area_of (live_of f)) (beside new place was_whole gone was empty closed bytes_now j f ne ft))
 
     pub values_gone : SameValues t bytes (as_live_maps new) later
     values_gone j p old_live new_live l =
@@ -241,4 +241,4 @@ module _ {a : Inside} {t : LiveMaps} {place map key size : ℕ} {old gone : Entr
         ∙ ap (λ (x : Option LiveMap). take (live_or x).places.shape.value_size (drop (offset (live_or x) p) bytes)) (sym o)
 
     pub others_kept : KeepsOthers map t bytes (as_live_maps new) later
-    others_kept other ne = keeps_held t (as_live_maps new) bytes later other values_gone (subst AreSound g.taken.under.view (sound_at a was_whole) other) (others_gone other ne)
+    others_kept other ne = keeps_held t (as_live_maps new) bytes later other values_gone (subst AreSound g.taken.under.view (sound_at was_whole) other) (others_gone other ne)

@@ -8,7 +8,7 @@ use Rattle.tagged_model.specs.declared.shape.MapShape.{MapShape}
 use Rattle.tagged_model.specs.Table.{Table, is_key, found, index_key, indexed, new_entries, new_table, with_object, with_values}
 use Rattle.bpf_maps.specs.Places.{PlaceTable, table_of, new_places, IsSound, occurrences}
 use Rattle.bpf_maps.specs.Live.{LiveMaps, places_at, value_in, map_in}
-use Rattle.bpf_maps.proofs.Counts.{one, times_one, times-without}
+use Rattle.bpf_maps.proofs.Counts.{in_use}
 
 module _ {B : Type 0} (value : ℕ → B) where
   abbrev pub valued : List (List ℕ × ℕ) → List (List ℕ × B)
@@ -67,12 +67,6 @@ module _ {B : Type 0} (value : ℕ → B) (p : ℕ) (bytes : B) where
       let n = not_among e.1 (occurrences p (values_of es)) h in
       λ i. (e.0, written_apart e.1 n.0 i) ∷ elsewhere es n.1 i
 
-  stands : (key : List ℕ) (es : List (List ℕ × ℕ)) → found key es ≡ Some p → 1 ≤ occurrences p (values_of es)
-  stands key es h =
-      let counted = times-without p key es in
-      let one_is : one p (found key es) ≡ 1 = ap (one p) h ∙ times_one p in
-      omega arith
-
   pub valued_written : (key : List ℕ) (es : List (List ℕ × ℕ)) → occurrences p (values_of es) ≤ 1 → found key es ≡ Some p → valued written es ≡ set_value (is_key key) (valued value es) bytes
   valued_written key [] once h = refl
   valued_written key (e ∷ es) once h = by (valued_written key es) (is_key key e.0) h
@@ -82,7 +76,7 @@ module _ {B : Type 0} (value : ℕ → B) (p : ℕ) (bytes : B) where
           let same = same_Some e.1 p h in
           λ i. (e.0, written_here e.1 same i) ∷ elsewhere es (once_here e.1 (occurrences p (values_of es)) same once) i
       by rest false h =
-          let there = stands key es h in
+          let there = in_use p key es h in
           λ i. (e.0, written_apart e.1 (once_behind e.1 (occurrences p (values_of es)) once there) i) ∷ rest (let all : (if nat_eq p e.1 then 1 else 0) + occurrences p (values_of es) ≤ 1 = once in omega arith) h i
 
 once_at_most : (p n m k : ℕ) → n + m ≤ (if nat_lt p k then 1 else 0) → n ≤ 1

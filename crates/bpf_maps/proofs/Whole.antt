@@ -36,7 +36,7 @@ offset_without gone e p = refl
 abbrev IsApart : LiveMap → LiveMap → ℕ → ℕ → Type 0
 IsApart l m p q = (offset l p + l.places.shape.value_size ≤ offset m q) ⊎ (offset m q + m.places.shape.value_size ≤ offset l p)
 
-module _ (a : Inside) (h : IsWellFormedMaps a) where
+module _ {a : Inside} (h : IsWellFormedMaps a) where
   inside : (k p : ℕ) (e : Entry) → entry_at a k e → p < (places_of e.map).shape.max_entries → LiesInPart (offset (live_of e) p) (places_of e.map).shape.value_size
   inside k p e at l =
       let i = h.placed k e at in
@@ -97,18 +97,18 @@ module _ (a : Inside) (h : IsWellFormedMaps a) where
   }
 
 -- no two keys of a live map have one place
-pub sound_at : (a : Inside) (h : IsWellFormedMaps a) (k : ℕ) → IsSome (live_at (as_live_maps a) k) → IsSound (places_at (as_live_maps a) k)
-sound_at a h k live =
+pub sound_at : {a : Inside} (h : IsWellFormedMaps a) (k : ℕ) → IsSome (live_at (as_live_maps a) k) → IsSound (places_at (as_live_maps a) k)
+sound_at {a} h k live =
     let e = some_entry (entries_of a) k live in
     subst (λ (o : Option LiveMap). IsSound (live_or o).places) (sym (live_by (entries_of a) (entries_of a) k e.0 e.1)) (h.placed k e.0 e.1).sound
 
 -- no field but `refused` is changed
-pub whole_refused : (a : Inside) (refused : Bool) → IsWellFormedMaps a → IsWellFormedMaps (record a { refused = refused })
-whole_refused a refused h = record { keys = h.keys; room = h.room; placed = h.placed; apart = h.apart; sum = h.sum; few = h.few; aligned = h.aligned; laid_out = h.laid_out }
+pub whole_refused : {a : Inside} {refused : Bool} → IsWellFormedMaps a → IsWellFormedMaps (record a { refused = refused })
+whole_refused h = record { keys = h.keys; room = h.room; placed = h.placed; apart = h.apart; sum = h.sum; few = h.few; aligned = h.aligned; laid_out = h.laid_out }
 
 -- ---- the entry at one place is changed
 
-module _ (a b : Inside) (k : ℕ) (h : IsWellFormedMaps a) (others : (j : ℕ) → j ≢ k → get_or (entries_of b) j None ≡ get_or (entries_of a) j None) where
+module _ {a : Inside} (b : Inside) (k : ℕ) (h : IsWellFormedMaps a) (others : (j : ℕ) → j ≢ k → get_or (entries_of b) j None ≡ get_or (entries_of a) j None) where
   still : (j : ℕ) (e : Entry) → j ≢ k → entry_at b j e → entry_at a j e
   still j e ne at = sym (others j ne) ∙ at
 
@@ -240,7 +240,7 @@ pub opened_up : (end size : ℕ) (o : Option Entry) (g : Entry) → option_map (
 opened_up end size None g h = absurd (none-some g h)
 opened_up end size (Some f) g h = (f, refl, same_Some (closed_up end size f) g h)
 
-module _ (a b : Inside) (k : ℕ) (h : IsWellFormedMaps a) (e : Entry) (at : entry_at a k e) (bt : get_or (entries_of b) k None ≡ None)
+module _ {a : Inside} (b : Inside) (k : ℕ) (h : IsWellFormedMaps a) (e : Entry) (at : entry_at a k e) (bt : get_or (entries_of b) k None ≡ None)
     (closed : (j : ℕ) → j ≢ k → get_or (entries_of b) j None ≡ option_map (closed_up (e.start + area_of (live_of e)) (area_of (live_of e))) (get_or (entries_of a) j None))
     (bytes : b.bytes + area_of (live_of e) ≡ a.bytes) where
   abbrev end : ℕ

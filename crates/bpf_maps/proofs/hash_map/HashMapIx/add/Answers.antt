@@ -26,7 +26,7 @@ module _ (c : goal.After-pop) where
 
   whole : IsWellFormedHash after
   whole =
-      kept_by_add c.self.inside c.self.invariant c.in-Some.place c.pop.new.self.items last after c.args.key.now size refl index refl refl c.pop.ensures.capacity
+      kept_by_add c.self.invariant c.in-Some.place c.pop.new.self.items last after c.args.key.now size refl index refl refl c.pop.ensures.capacity
       (subst (TakesKeys c.insert.new.self) size c.insert.ensures.takes)
 
 pub invariant_of-self-2 : goal.invariant_of-self-2
@@ -34,8 +34,8 @@ invariant_of-self-2 c = whole c
 
 pub returns-clause-claimed : goal.returns-clause-claimed
 returns-clause-claimed c =
-    claims_new c.args.key.now (shown c.self.inside) _ _ c.in-Some.place c.self.view_is (not_full c.self.inside c.self.invariant c.in-Some.place c.pop.new.self.items (last c)) (is_free c.self.inside c.self.invariant c.in-Some.place c.pop.new.self.items (last c))
+    claims_new c.args.key.now (shown c.self.inside) _ _ c.in-Some.place c.self.view_is (not_full c.self.invariant c.in-Some.place c.pop.new.self.items (last c)) (is_free c.self.invariant c.in-Some.place c.pop.new.self.items (last c))
     (same_table c.self.inside.shape (index c) refl)
 
 pub returns-clause-sound : goal.returns-clause-sound
-returns-clause-sound c = sound (after c) (whole c)
+returns-clause-sound c = sound (whole c)

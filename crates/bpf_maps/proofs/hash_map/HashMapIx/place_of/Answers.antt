@@ -7,5 +7,5 @@ use Rattle.bpf_maps.proofs.hash_map.HashMapIx.place_of.Goals as goal
 
 pub returns-clause-within : goal.returns-clause-within
 returns-clause-within c =
-    found_within c.args.self.now c.args.key.now c.get.result (subst IsSound c.self.view_is (sound c.self.inside c.self.invariant))
+    found_within c.args.self.now c.args.key.now c.get.result (subst IsSound c.self.view_is (sound c.self.invariant))
     (c.get.ensures ∙ ap (λ (t : PlaceTable). look_up (table_of t) c.args.key.now) c.self.view_is)

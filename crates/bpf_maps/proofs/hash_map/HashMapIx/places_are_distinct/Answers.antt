@@ -7,4 +7,4 @@ pub returns-clause-kind : goal.returns-clause-kind
 returns-clause-kind c = ap (λ (t : PlaceTable). t.shape.kind) (sym c.self.view_is) ∙ c.self.invariant.kind
 
 pub returns-clause-sound : goal.returns-clause-sound
-returns-clause-sound c = subst IsSound c.self.view_is (sound c.self.inside c.self.invariant)
+returns-clause-sound c = subst IsSound c.self.view_is (sound c.self.invariant)

@@ -4,7 +4,7 @@ use Rattle.bpf_maps.proofs.hash_map.HashMapIxValueMap.end_run.Goals as goal
 
 pub loop-place-preserved : goal.loop-place-preserved
 loop-place-preserved c = record {
-  whole = kept_by_free c.loop-place.self-inside _ c.in-Some.place c.loop-place.invariant.whole refl refl (c.pop.ensures.items ∙ ap (λ (o : Option ℕ). c.pop.new.self.items ++ option_to_list o) c.in-Some.is) c.push_reserved.ensures.items c.pop.ensures.capacity c.push_reserved.ensures.capacity;
+  whole = kept_by_free _ c.in-Some.place c.loop-place.invariant.whole refl refl (c.pop.ensures.items ∙ ap (λ (o : Option ℕ). c.pop.new.self.items ++ option_to_list o) c.in-Some.is) c.push_reserved.ensures.items c.pop.ensures.capacity c.push_reserved.ensures.capacity;
   shape = c.loop-place.invariant.shape;
   entries = c.loop-place.invariant.entries;
 }

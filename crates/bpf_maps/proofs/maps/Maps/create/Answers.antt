@@ -1,4 +1,4 @@
-use Rattle.std.proofs.Common.{◌≡◌, ◌+◌, ◌*◌, ◌/◌, true, refl, sym, ap, subst, ◌∙◌, arith, inl, inr}
+use Rattle.std.proofs.Common.{◌≡◌, ◌+◌, ◌*◌, ◌/◌, refl, sym, ap, subst, ◌∙◌, arith, inl, inr}
 use Rattle.std.specs.Prelude.{slice_set}
 use Rattle.bpf_maps.specs.declared.part.TheConstants.{STACK_AND_CONTEXT}
 use Rattle.bpf_maps.specs.declared.entries.Entry.{Entry}
@@ -16,7 +16,7 @@ returns-in_default-clause-created c =
     (inl (sym c.free_place.ensures ∙ c.in_default.is))
 
 pub returns-in_default-clause-laid : goal.returns-in_default-clause-laid
-returns-in_default-clause-laid c = subst IsLaid c.self.view_is (laid c.self.inside c.self.invariant)
+returns-in_default-clause-laid c = subst IsLaid c.self.view_is (laid c.self.invariant)
 
 pub returns-then-self-size-gt-LARGEST_SUM-clause-created : goal.returns-then-self-size-gt-LARGEST_SUM-clause-created
 returns-then-self-size-gt-LARGEST_SUM-clause-created c =
@@ -24,7 +24,7 @@ returns-then-self-size-gt-LARGEST_SUM-clause-created c =
     (inr (let l = c.if-self-size-gt-LARGEST_SUM.true in omega arith))
 
 pub returns-then-self-size-gt-LARGEST_SUM-clause-laid : goal.returns-then-self-size-gt-LARGEST_SUM-clause-laid
-returns-then-self-size-gt-LARGEST_SUM-clause-laid c = subst IsLaid c.self.view_is (laid c.self.inside c.self.invariant)
+returns-then-self-size-gt-LARGEST_SUM-clause-laid c = subst IsLaid c.self.view_is (laid c.self.invariant)
 
 -- ---- there is room
 
@@ -43,7 +43,7 @@ pub returns-in_default-new-clause-created : goal.returns-in_default-new-clause-c
 returns-in_default-new-clause-created c = creates_none (room (goal.at.returns-in_default-new-clause-created c).Else-self-size-gt-LARGEST_SUM)
 
 pub returns-in_default-new-clause-laid : goal.returns-in_default-new-clause-laid
-returns-in_default-new-clause-laid c = laid _ (whole_refused c.self.inside true c.self.invariant)
+returns-in_default-new-clause-laid c = laid (whole_refused c.self.invariant)
 
 -- the map is made
 

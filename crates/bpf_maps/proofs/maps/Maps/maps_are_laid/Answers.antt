@@ -13,9 +13,9 @@ returns c =
     let few = is.few in
     let bytes : areas (as_live_maps c.self.inside) ≤ LARGEST_SUM = omega arith in
     record {
-      laid = subst IsLaid c.self.view_is (laid c.self.inside is);
-      packed = subst IsPacked c.self.view_is (packed c.self.inside is);
-      sound = subst AreSound c.self.view_is (sound_at c.self.inside is);
+      laid = subst IsLaid c.self.view_is (laid is);
+      packed = subst IsPacked c.self.view_is (packed is);
+      sound = subst AreSound c.self.view_is (sound_at is);
       maps = subst (λ (t : LiveMaps). length t.maps ≡ MAPS) c.self.view_is (places_are c.self.inside.keys c.self.inside.entries is.keys);
       bytes = subst (λ (t : LiveMaps). areas t ≤ LARGEST_SUM) c.self.view_is bytes;
     }

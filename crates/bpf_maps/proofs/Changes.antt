@@ -1,14 +1,14 @@
 -- A call that changes one map, which keeps its shape and its area.
-use Rattle.std.proofs.Common.{◌≡◌, ◌≢◌, ℕ, ◌-◌, ◌<◌, ◌≤◌, Bool, true≢false, if◌then◌else◌, nat_le, List, take, drop, Option, Some, None, IsSome, is_some, option_map, refl, sym, ap, subst, ◌∙◌, get_or, arith}
+use Rattle.std.proofs.Common.{◌≡◌, ◌≢◌, ℕ, ◌-◌, ◌<◌, ◌≤◌, Bool, if◌then◌else◌, nat_le, List, Option, Some, None, IsSome, is_some, option_map, refl, sym, ap, subst, ◌∙◌, get_or, arith}
 use Rattle.std.proofs.lemmas.Bool.{lt-leb, le-leb}
 use Rattle.bpf_maps.specs.declared.entries.Entry.{Entry}
 use Rattle.bpf_maps.specs.declared.maps.Maps.TheInside.{Inside}
 use Rattle.bpf_maps.specs.Places.{IsSound}
 use Rattle.bpf_maps.specs.Any.{places_of}
-use Rattle.bpf_maps.specs.Live.{LiveMap, LiveMaps, live_at, live_or, places_at, holds_at, offset, value_in, AreSound, IsLaid, SameAreas, SameValues, KeepsMap, KeepsOthers, areas, MapWithoutArea, without_area, held_at, one_less}
+use Rattle.bpf_maps.specs.Live.{LiveMap, LiveMaps, live_at, live_or, places_at, holds_at, AreSound, IsLaid, SameAreas, SameValues, KeepsMap, KeepsOthers, areas, MapWithoutArea, without_area, held_at, one_less}
 use Rattle.slab.specs.Slab.{get, with_value}
 use Rattle.bpf_maps.specs.InMaps.{live_of, live_maps_of, entries_of, as_live_maps, IsInItsArea, IsWellFormedMaps}
-use Rattle.bpf_maps.proofs.Slots.{some_entry, live_by, others_by, one_changed, offset_same}
+use Rattle.bpf_maps.proofs.Slots.{some_entry, live_by, others_by, one_changed, value_stays}
 use Rattle.bpf_maps.proofs.Placed.{under_key, changed_here, changed_others, changed_keys}
 use Rattle.bpf_maps.proofs.Whole.{laid, sound_at, whole_replaced}
 use Rattle.bpf_maps.proofs.Stays.{keeps_live, keeps_places}
@@ -59,18 +59,6 @@ live_entry a {t = t} {place = place} view same live =
     let there : IsSome (live_at (as_live_maps a) place) = subst (λ (u : LiveMaps). IsSome (live_at u place)) (sym view) (subst (λ (k : ℕ). IsSome (live_at t k)) (sym same) live) in
     let e = some_entry (entries_of a) place there in
     (e.0, e.1, live_here a view same e.1)
-
--- if the areas are unchanged, so are the values
-pub values_along : (t u : LiveMaps) (bytes : List ℕ) → SameAreas t u → SameValues t bytes u bytes
-values_along t u bytes same j p old_live new_live l = by (live_at u j) refl
-  where
-    by : (o : Option LiveMap) → live_at u j ≡ o → value_in bytes u j p ≡ value_in bytes t j p
-    by None e = absurd (true≢false (sym new_live ∙ ap is_some e))
-    by (Some x) e =
-        let s = same j x e in
-        ap (λ (o : Option LiveMap). take (live_or o).places.shape.value_size (drop (offset (live_or o) p) bytes)) e
-        ∙ (λ i. take (s.2 i).value_size (drop (offset_same x s.0 p s.3 s.4 i) bytes))
-        ∙ ap (λ (o : Option LiveMap). take (live_or o).places.shape.value_size (drop (offset (live_or o) p) bytes)) (sym s.1)
 
 -- its entry is under its key
 module _ {a : Inside} {t : LiveMaps} {place map key : ℕ} {e : Entry} (u : IsUnder a t place map key e) where
@@ -129,7 +117,7 @@ module _ {a : Inside} {t : LiveMaps} {place map key : ℕ} {old new : Entry} (c 
   -- ---- with the bytes, which the call leaves
 
   pub values_stay : (bytes : List ℕ) → SameValues t bytes (as_live_maps now) bytes
-  values_stay bytes = values_along t (as_live_maps now) bytes areas_stay
+  values_stay bytes k p old_live new_live lt = value_stays t (as_live_maps now) k areas_stay new_live bytes p
 
   sound_before : AreSound t
   sound_before = subst AreSound c.under.view (sound_at c.under.whole)

@@ -19,11 +19,11 @@ use Rattle.bpf_maps.specs.InMaps.{live_of, entries_of, as_live_maps, layout_of, 
 use Rattle.bpf_maps.specs.declared.map_layout.MapLayout.{MapLayout}
 use Rattle.bpf_maps.specs.LiveLaws.{lowest_most}
 use Rattle.bpf_maps.proofs.LaidOut.{added_out}
-use Rattle.bpf_maps.proofs.Slots.{some_entry, live_by, none_by, others_by, same_or_other}
+use Rattle.bpf_maps.proofs.Slots.{live_by, none_by, others_by, same_or_other}
 use Rattle.bpf_maps.proofs.Placed.{fewer_keys, no_key, lowest_is, added_here, added_others, added_keys}
 use Rattle.bpf_maps.proofs.InAreas.{value_ends}
 use Rattle.bpf_maps.proofs.Arrays.{sound_new}
-use Rattle.bpf_maps.proofs.Changes.{told_of}
+use Rattle.bpf_maps.proofs.Changes.{told_of, live_entry}
 use Rattle.bpf_maps.proofs.Written.{front_same, before_same, zeros}
 use Rattle.bpf_maps.proofs.Whole.{laid, sound_at, whole_added, offset_of}
 use Rattle.bpf_maps.proofs.Values.{new_map_in}
@@ -232,13 +232,12 @@ module _ {a : Inside} {t : LiveMaps} {shape : MapShape} {size place : ℕ} (r : 
           same_or_other j place
           (λ (s : j ≡ place). absurd (true≢false (sym old_live ∙ ap is_some (ap (live_at t) s ∙ was_none))))
           (λ (ne : j ≢ place).
-          let f = some_entry (entries_of a) j (ap (λ (u : LiveMaps). is_some (live_at u j)) view ∙ old_live) in
-          let o : live_at t j ≡ Some (live_of f.0) = ap (λ (u : LiveMaps). live_at u j) (sym view) ∙ live_by (entries_of a) (entries_of a) j f.0 f.1 in
-          let n = others_stay j ne ∙ o in
+          let f = live_entry a {map = j} view refl old_live in
+          let n = others_stay j ne ∙ f.2 in
           let m = told_of (λ x. x.places.shape.max_entries) n in
           ap (λ (x : Option LiveMap). take (live_or x).places.shape.value_size (drop (offset (live_or x) p) later)) n
           ∙ kept_at j p f.0 f.1 (omega arith)
-          ∙ ap (λ (x : Option LiveMap). take (live_or x).places.shape.value_size (drop (offset (live_or x) p) bytes)) (sym o))
+          ∙ ap (λ (x : Option LiveMap). take (live_or x).places.shape.value_size (drop (offset (live_or x) p) bytes)) (sym f.2))
 
       pub fresh_one : map_in later (as_live_maps after) place ≡ new_table (λ i. replicate shape.value_size 0) shape
       fresh_one = new_map_in later (as_live_maps after) place shape (replicate shape.value_size 0) places_one (λ array. cleared_one)

@@ -1,5 +1,5 @@
 -- Live maps with the bytes of their values, as writes and calls change them.
-use Rattle.std.proofs.Common.{◌≡◌, ◌≢◌, ◌⊎◌, ℕ, ◌+◌, ◌<◌, ◌≤◌, ◌==◌, Bool, true≢false, if◌then◌else◌, List, [], ◌∷◌, length, take, drop, Option, Some, None, IsSome, Result, Ok, Err, refl, sym, ap, ◌∙◌, ⊎_elim, arith, length-append}
+use Rattle.std.proofs.Common.{◌≡◌, ◌≢◌, ◌⊎◌, ℕ, ◌+◌, ◌<◌, ◌≤◌, ◌==◌, Bool, if◌then◌else◌, List, [], ◌∷◌, length, take, drop, IsSome, Result, Ok, Err, refl, sym, ap, ◌∙◌, ⊎_elim, arith, length-append}
 use Rattle.std.specs.Map.{values_of}
 use Rattle.std.proofs.lemmas.Bool.{cases_Bool, eqb-true, eqb-false}
 use Rattle.std.proofs.lemmas.List.{take_all}
@@ -8,24 +8,15 @@ use Rattle.tagged_model.specs.Table as map
 use Rattle.tagged_model.specs.MapLaws.{CallsRefineValues, MapVerdictsMatchLookUps}
 use Rattle.bpf_maps.specs.declared.part.TheConstants.{STACK_AND_CONTEXT}
 use Rattle.bpf_maps.specs.Places.{PlaceTable, table_of, occurrences, IsFree, Claims, with_place, with_kept, after_run}
-use Rattle.bpf_maps.specs.Live.{LiveMap, LiveMaps, live_at, live_or, places_at, shape_at, offset_at, value_in, map_in, LiesInPart, IsLaid, SameAreas}
+use Rattle.bpf_maps.specs.Live.{LiveMaps, live_at, live_or, places_at, shape_at, offset_at, value_in, map_in, LiesInPart, IsLaid, SameAreas}
 use Rattle.bpf_maps.specs.InPart.{IsValueAt, with_value, ValueIsWritten, updated, RefinesValues}
 use Rattle.bpf_maps.proofs.Counts.{times-append, values_of-append}
-use Rattle.bpf_maps.proofs.Slots.{offsets_stay}
+use Rattle.bpf_maps.specs.LiveLaws.{laid_inside}
+use Rattle.bpf_maps.proofs.Slots.{live_is, value_stays}
 use Rattle.bpf_maps.proofs.Values.{written, table_written, agreeing_tables, used_in_entries}
 use Rattle.bpf_maps.proofs.Written.{length_same, front_same, before_same, after_same, own}
 
 -- ---- where values are
-
-live_is : (t : LiveMaps) (k : ℕ) → IsSome (live_at t k) → live_at t k ≡ Some (live_or (live_at t k))
-live_is t k live = by (live_at t k) live
-  where
-    by : (o : Option LiveMap) → IsSome o → o ≡ Some (live_or o)
-    by None h = absurd (true≢false (sym h))
-    by (Some l) h = refl
-
-inside_at : (t : LiveMaps) → IsLaid t → (k p : ℕ) → IsSome (live_at t k) → p < (shape_at t k).max_entries → LiesInPart (offset_at t k p) (shape_at t k).value_size
-inside_at t laid k p live lt = laid.inside k p (live_or (live_at t k)) (live_is t k live) lt
 
 apart_at : (t : LiveMaps) → IsLaid t → (k p j q : ℕ) → IsSome (live_at t k) → IsSome (live_at t j) → p < (shape_at t k).max_entries → q < (shape_at t j).max_entries → (k ≡ j → p ≢ q)
     → (offset_at t k p + (shape_at t k).value_size ≤ offset_at t j q) ⊎ (offset_at t j q + (shape_at t j).value_size ≤ offset_at t k p)
@@ -41,7 +32,7 @@ module _ (part : List ℕ) (t : LiveMaps) (k p : ℕ) (bytes : List ℕ) (is : I
   later = with_value part t k p bytes
 
   inside : LiesInPart start (shape_at t k).value_size
-  inside = inside_at t is.laid k p is.live is.within
+  inside = laid_inside t is.laid k p is.live is.within
 
   room : start + length bytes ≤ length part
   room = let within = inside.within in let size = is.size in let whole = is.whole in omega arith
@@ -87,15 +78,6 @@ pub value_written : (part : List ℕ) (t : LiveMaps) (k p : ℕ) (bytes : List �
 value_written = value_is_written
 
 -- ---- a map changes, and its area stays
-
-module _ (old new : LiveMaps) (k : ℕ) (areas : SameAreas old new) (live : IsSome (live_at new k)) where
-  shape_stays : shape_at new k ≡ shape_at old k
-  shape_stays = let m = areas k (live_or (live_at new k)) (live_is new k live) in m.2 ∙ ap (λ (o : Option LiveMap). (live_or o).places.shape) (sym m.1)
-
-  value_stays : (part : List ℕ) (p : ℕ) → value_in part new k p ≡ value_in part old k p
-  value_stays part p =
-      ap (λ (n : ℕ). take (shape_at new k).value_size (drop n part)) (offsets_stay old new k p areas live)
-      ∙ ap (λ s. take s.value_size (drop (offset_at old k p) part)) shape_stays
 
 module _ (along : CallsRefineValues ℕ (List ℕ)) (tell : MapVerdictsMatchLookUps ℕ) (part : List ℕ) (old new : LiveMaps) (k : ℕ) (areas : SameAreas old new) (live : IsSome (live_at new k)) where
   abbrev value : ℕ → List ℕ

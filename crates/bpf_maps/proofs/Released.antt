@@ -11,10 +11,10 @@ use Rattle.bpf_maps.specs.Live.{LiveMap, LiveMaps, live_at, live_or, shape_at, o
 use Rattle.bpf_maps.specs.Sum.{weight}
 use Rattle.bpf_maps.specs.InMaps.{live_of, live_maps_of, placed, entries_of, as_live_maps, AreKeys, closed_up, AreLaidOut, IsWellFormedMaps}
 use Rattle.bpf_maps.specs.declared.map_layout.MapLayout.{MapLayout}
-use Rattle.bpf_maps.proofs.Slots.{at_lives, some_entry, live_by, none_by, same_some}
+use Rattle.bpf_maps.proofs.Slots.{at_lives, live_by, none_by, same_some}
 use Rattle.bpf_maps.proofs.Placed.{changed_entry, changed_others, changed_keys, removed_here, removed_others, removed_keys}
 use Rattle.bpf_maps.proofs.Totals.{weight_most}
-use Rattle.bpf_maps.proofs.Changes.{told_of, IsUnder, at_place, live_here, none_held}
+use Rattle.bpf_maps.proofs.Changes.{told_of, IsUnder, at_place, live_here, live_entry, none_held}
 use Rattle.bpf_maps.proofs.Stays.{keeps_held}
 use Rattle.bpf_maps.proofs.InAreas.{value_ends, before_or_behind}
 use Rattle.bpf_maps.proofs.Written.{length_same, front_same, before_same, own}
@@ -232,13 +232,12 @@ module _ {a : Inside} {t : LiveMaps} {place map key size : ℕ} {old gone : Entr
     pub values_gone : SameValues t bytes (as_live_maps new) later
     values_gone j p old_live new_live l =
         let ne : j ≢ map = λ (s : j ≡ map). true≢false (sym new_live ∙ ap is_some (ap (live_at (as_live_maps new)) s ∙ none_now)) in
-        let f = some_entry (entries_of a) j (ap (λ (u : LiveMaps). is_some (live_at u j)) g.taken.under.view ∙ old_live) in
-        let o : live_at t j ≡ Some (live_of f.0) = ap (λ (u : LiveMaps). live_at u j) (sym g.taken.under.view) ∙ live_by (entries_of a) (entries_of a) j f.0 f.1 in
-        let n : live_at (as_live_maps new) j ≡ Some (map_without (live_of gone) (live_of f.0)) = lives_close j (λ e. ne (e ∙ g.taken.under.same)) ∙ ap (option_map (map_without (live_of gone))) o in
+        let f = live_entry a {map = j} g.taken.under.view refl old_live in
+        let n : live_at (as_live_maps new) j ≡ Some (map_without (live_of gone) (live_of f.0)) = lives_close j (λ e. ne (e ∙ g.taken.under.same)) ∙ ap (option_map (map_without (live_of gone))) f.2 in
         let m = told_of (λ x. x.places.shape.max_entries) n in
         ap (λ (x : Option LiveMap). take (live_or x).places.shape.value_size (drop (offset (live_or x) p) later)) n
         ∙ kept_at j p f.0 (λ e. ne (e ∙ g.taken.under.same)) f.1 (omega arith)
-        ∙ ap (λ (x : Option LiveMap). take (live_or x).places.shape.value_size (drop (offset (live_or x) p) bytes)) (sym o)
+        ∙ ap (λ (x : Option LiveMap). take (live_or x).places.shape.value_size (drop (offset (live_or x) p) bytes)) (sym f.2)
 
     pub others_kept : KeepsOthers map t bytes (as_live_maps new) later
     others_kept other ne = keeps_held t (as_live_maps new) bytes later other values_gone (subst AreSound g.taken.under.view (sound_at was_whole) other) (others_gone other ne)

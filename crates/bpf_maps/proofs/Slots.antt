@@ -1,8 +1,8 @@
 -- A live map among the others.
-use Rattle.std.proofs.Common.{◌≡◌, ◌≢◌, ℕ, zero, suc, ◌+◌, ◌<◌, List, [], ◌∷◌, length, Option, Some, None, option_map, refl, sym, ap, ◌∙◌, get_or, arith, Bool, true, false, IsSome, is_some, nat_eq, eqb-true, eq-eqb, true≢false, ◌*◌}
+use Rattle.std.proofs.Common.{◌≡◌, ◌≢◌, ℕ, zero, suc, ◌+◌, ◌<◌, List, [], ◌∷◌, length, take, drop, Option, Some, None, option_map, refl, sym, ap, ◌∙◌, get_or, arith, Bool, true, false, IsSome, is_some, nat_eq, eqb-true, eq-eqb, true≢false, ◌*◌}
 use Rattle.std.proofs.lemmas.Option.{none-some, same_Some}
 use Rattle.bpf_maps.specs.declared.entries.Entry.{Entry}
-use Rattle.bpf_maps.specs.Live.{LiveMap, LiveMaps, live_at, live_or, offset, offset_at, SameAreas}
+use Rattle.bpf_maps.specs.Live.{LiveMap, LiveMaps, live_at, live_or, shape_at, offset, offset_at, value_in, SameAreas}
 use Rattle.bpf_maps.specs.InMaps.{live_of, live_maps_of}
 
 pub at_lives : (xs : List (Option Entry)) (k : ℕ) → get_or (live_maps_of xs) k None ≡ option_map live_of (get_or xs k None)
@@ -47,13 +47,25 @@ offset_same l m p e f = λ i. e i + p * f i
 
 -- ---- the same areas
 
--- they keep where each value lies
-pub offsets_stay : (old new : LiveMaps) (k p : ℕ) → SameAreas old new → IsSome (live_at new k) → offset_at new k p ≡ offset_at old k p
-offsets_stay old new k p areas live = by (live_at new k) refl live
+pub live_is : (t : LiveMaps) (k : ℕ) → IsSome (live_at t k) → live_at t k ≡ Some (live_or (live_at t k))
+live_is t k live = by (live_at t k) live
   where
-    by : (o : Option LiveMap) → live_at new k ≡ o → IsSome o → offset (live_or o) p ≡ offset_at old k p
-    by None e some = absurd (true≢false (sym some))
-    by (Some l) e some = let h = areas k l e in offset_same l h.0 p h.3 h.4 ∙ ap (λ (o : Option LiveMap). offset (live_or o) p) (sym h.1)
+    by : (o : Option LiveMap) → IsSome o → o ≡ Some (live_or o)
+    by None h = absurd (true≢false (sym h))
+    by (Some l) h = refl
+
+-- they keep where each value lies, and its bytes
+module _ (old new : LiveMaps) (k : ℕ) (areas : SameAreas old new) (live : IsSome (live_at new k)) where
+  pub offsets_stay : (p : ℕ) → offset_at new k p ≡ offset_at old k p
+  offsets_stay p = let m = areas k (live_or (live_at new k)) (live_is new k live) in offset_same (live_or (live_at new k)) m.0 p m.3 m.4 ∙ ap (λ (o : Option LiveMap). offset (live_or o) p) (sym m.1)
+
+  shape_stays : shape_at new k ≡ shape_at old k
+  shape_stays = let m = areas k (live_or (live_at new k)) (live_is new k live) in m.2 ∙ ap (λ (o : Option LiveMap). (live_or o).places.shape) (sym m.1)
+
+  pub value_stays : (part : List ℕ) (p : ℕ) → value_in part new k p ≡ value_in part old k p
+  value_stays part p =
+      ap (λ (n : ℕ). take (shape_at new k).value_size (drop n part)) (offsets_stay p)
+      ∙ ap (λ s. take s.value_size (drop (offset_at old k p) part)) shape_stays
 
 -- the same key, or another
 pub same_or_other : {P : Type 0} (j k : ℕ) → (j ≡ k → P) → (j ≢ k → P) → P

@@ -1,8 +1,8 @@
 -- A call by words does what the machine's call does.
-use Rattle.std.proofs.Common.{◌≡◌, ◌≢◌, ℕ, ◌+◌, ◌-◌, ◌*◌, ◌<◌, ◌≤◌, ◌==◌, ◌&&◌, eqb, leb, false, List, length, slice_get, Option, Some, None, refl, sym, ap, subst, ◌∙◌, ⊎_elim, arith}
+use Rattle.std.proofs.Common.{◌≡◌, ◌≢◌, ℕ, ◌+◌, ◌-◌, ◌*◌, ◌<◌, ◌≤◌, ◌&&◌, eqb, leb, false, List, length, Option, Some, None, refl, sym, ap, subst, ◌∙◌, ⊎_elim, arith}
 use Rattle.std.specs.Prelude.{slice_index, unwrap_or}
-use Rattle.std.proofs.lemmas.Bool.{cond-false, ne_eqb, false≢true, and_parts, leb-true, eqb-true, eqb-false, cases_Bool}
-use Rattle.std.proofs.lemmas.Option.{same_Some, cond_some, slice_get-get_or, slice_get_within}
+use Rattle.std.proofs.lemmas.Bool.{false≢true, and_parts, leb-true, eqb-true, eqb-false, cases_Bool}
+use Rattle.std.proofs.lemmas.Option.{same_Some, cond_some}
 use Rattle.words.specs.Bytes.{bytes_at}
 use Rattle.words.specs.ByteLaws.{length-bytes_at}
 use Rattle.tagged_model.specs.declared.helper.Helper.{Helper}
@@ -21,14 +21,14 @@ use Rattle.bpf_maps.specs.Live.{LiveMaps, LiveMap, live_at, live_or, shape_at, h
 use Rattle.bpf_maps.specs.LiveLaws.{same_areas}
 use Rattle.bpf_helpers.specs.Layout.{Layout, IsWord}
 use Rattle.bpf_helpers.specs.Stands.{IsRoom, IsElsewhere, Simulates}
-use Rattle.bpf_helpers.specs.Named.{bound_map, part_place, part_input, place_named, key_named, NamedPair, pair_named}
+use Rattle.bpf_helpers.specs.Named.{part_place, part_input, place_named, key_named, NamedPair, pair_named}
 use Rattle.bpf_helpers.specs.inside.Flat.{flat_look_up, Updates, UpdatesNamed, Deletes, DeletesNamed, LoadsAt}
 use Rattle.bpf_helpers.specs.Calls.{AreArguments, ResultFollows, CallFollows}
 use Rattle.bpf_helpers.specs.inside.Laws.{GivesWord, ReturnsKeepSimulation, TaggedUpdate, update_reply}
 use Rattle.bpf_helpers.proofs.Many.{also_some}
 use Rattle.bpf_helpers.proofs.Inputs.{input_there}
 use Rattle.bpf_helpers.proofs.Words.{key_is, pair_is}
-use Rattle.bpf_helpers.proofs.LookUps.{is_given, look_ups_follow}
+use Rattle.bpf_helpers.proofs.LookUps.{is_given, IsBound, map_bound, look_ups_follow}
 use Rattle.bpf_helpers.proofs.Loads.{number_word, load_stands}
 use Rattle.bpf_helpers.proofs.Wider.{extends_itself}
 use Rattle.bpf_helpers.proofs.Updates.{updates_keep_simulation}
@@ -65,31 +65,17 @@ module _ (env : Environment) (l : Layout) (flat : FlatState) (s : RunState) (roo
       omega arith
 
   -- the map in register 1
-  record IsMap (g : GivenMap) : Type 0 where
-    index : ℕ
-    within : index < length env.bind
-    named : slice_get env.descriptors index ≡ Some g.descriptor
-    bound : bound_map env.bind (slice_index words 0) ≡ Some (slice_index env.bind index)
-    there : s.maps g.descriptor ≡ Some g.map
-    shape : shape_at flat.maps (slice_index env.bind index) ≡ g.map.table.shape
+  abbrev IsMap : GivenMap → Type 0
+  IsMap g = IsBound env l flat s room stands (slice_index words 0) g.descriptor g.map
 
   map_there : (g : GivenMap) → map_argument s 1 ≡ Some g → IsMap g
   map_there g e =
       let given = is_given s 1 g e in
-      let word = stands.values 1 (Map g.descriptor) (omega arith) given.register in
-      let w = slice_index flat.registers 1 in
-      let some = word.0 in
-      let count = stands.maps.count in
-      let fits = slice_get_within env.descriptors (w - 1) g.descriptor word.1 in
-      let h = stands.maps.each (w - 1) g.descriptor word.1 in
-      record {
-        index = w - 1;
-        within = omega arith;
-        named = word.1;
-        bound = ap (bound_map env.bind) (args 0 (omega arith)) ∙ cond-false (w == 0) None (slice_get env.bind (w - 1)) (ne_eqb w 0 (λ z. omega arith)) ∙ slice_get-get_or env.bind (w - 1) 0 (omega arith);
-        there = given.there;
-        shape = ap (λ (x : Table ℕ). x.shape) h.2.table ∙ ap (λ o. o.table.shape) (same_Some h.0 g.map (sym h.1 ∙ given.there));
-      }
+      let word : IsWord env l (Map g.descriptor) (slice_index words 0) = subst (IsWord env l (Map g.descriptor)) (sym (args 0 (omega arith))) (stands.values 1 (Map g.descriptor) (omega arith) given.register) in
+      map_bound env l flat s room stands (slice_index words 0) g.descriptor g.map word given.there
+
+  map_shape : {g : GivenMap} (m : IsMap g) → shape_at flat.maps (slice_index env.bind m.index) ≡ g.map.table.shape
+  map_shape m = ap (λ (x : Table ℕ). x.shape) m.has.table
 
   -- the bytes at the address in another register
   bytes_there : (i n size : ℕ) (bs : List ℕ) → i < 5 → size ≡ n → argument s (i + 1) (λ p. input s p n) ≡ Some bs → (part_input flat.memory env.tenant size (slice_index words i) ≡ Some bs) × (length bs ≡ n)
@@ -150,13 +136,13 @@ module _ (env : Environment) (l : Layout) (flat : FlatState) (s : RunState) (roo
             let value = asked.value in
             let flags = asked.flags in
             let k = slice_index env.bind m.index in
-            let keys = bytes_there 1 g.map.table.shape.key_size (shape_at flat.maps k).key_size key (omega arith) (ap (λ (x : MapShape). x.key_size) m.shape) second in
-            let values = bytes_there 2 g.map.table.shape.value_size (shape_at flat.maps k).value_size value (omega arith) (ap (λ (x : MapShape). x.value_size) m.shape) third in
+            let keys = bytes_there 1 g.map.table.shape.key_size (shape_at flat.maps k).key_size key (omega arith) (ap (λ (x : MapShape). x.key_size) (map_shape m)) second in
+            let values = bytes_there 2 g.map.table.shape.value_size (shape_at flat.maps k).value_size value (omega arith) (ap (λ (x : MapShape). x.value_size) (map_shape m)) third in
             let pair : NamedPair = record { map = k; key = key; value = value } in
             let is = pair_is (site_in env flat) (slice_index words 0) (slice_index words 1) (slice_index words 2) (key_is_named m key keys.0) value values.0 in
             let r : Updates (site_in env flat) pair (slice_index words 3) reply = subst (λ o. UpdatesNamed (site_in env flat) o (slice_index words 3) reply) is told in
             let flags_are : slice_index words 3 ≡ flags = args 3 (omega arith) ∙ number_word env l flat s room stands 4 flags (omega arith) fourth in
-            let st = updates_keep_simulation below env l flat s m.index asked reply room stands m.named m.there values.1 (subst (λ (f : ℕ). Updates (site_in env flat) pair f reply) flags_are r) in
+            let st = updates_keep_simulation below env l flat s m.index asked reply room stands m.named (is_given s 1 g first).there values.1 (subst (λ (f : ℕ). Updates (site_in env flat) pair f reply) flags_are r) in
             let gave = update_reply st.refused asked in
             record {
               refused = st.refused;
@@ -181,9 +167,9 @@ module _ (env : Environment) (l : Layout) (flat : FlatState) (s : RunState) (roo
         let b = also_some (argument s 2 (λ p. input s p g.map.table.shape.key_size)) (λ key. Some (replies s g.descriptor (removed g.map key))) u a.2 in
         let m = map_there g a.1 in
         let k = slice_index env.bind m.index in
-        let keys = bytes_there 1 g.map.table.shape.key_size (shape_at flat.maps k).key_size b.0 (omega arith) (ap (λ (x : MapShape). x.key_size) m.shape) b.1 in
+        let keys = bytes_there 1 g.map.table.shape.key_size (shape_at flat.maps k).key_size b.0 (omega arith) (ap (λ (x : MapShape). x.key_size) (map_shape m)) b.1 in
         let r : Deletes flat.maps (record { map = k; key = b.0 }) word new = subst (λ o. DeletesNamed flat.maps o word new) (key_is_named m b.0 keys.0) told in
-        let st = deletes_keep_simulation below env l flat s m.index g.descriptor g.map b.0 word new stands m.named m.there r in
+        let st = deletes_keep_simulation below env l flat s m.index g.descriptor g.map b.0 word new stands m.named (is_given s 1 g a.1).there r in
         let gave = removed g.map b.0 in
         not_refused Delete (answers word flat.memory new) u e
         (subst (λ (x : RunState). Simulates env l (with_answer flat (answers word flat.memory new)) x) (same_Some (replies s g.descriptor gave) u b.2)

@@ -1,5 +1,5 @@
 -- A look-up on words and bytes gives what the machine's gives.
-use Rattle.std.proofs.Common.{◌≡◌, ℕ, ◌-◌, ◌*◌, ◌<◌, ◌==◌, Bool, List, map, slice_get, Option, Some, None, option_map, refl, sym, ap, subst, ◌∙◌, arith}
+use Rattle.std.proofs.Common.{◌≡◌, ℕ, ◌-◌, ◌*◌, ◌<◌, ◌==◌, Bool, List, map, length, slice_get, Option, Some, None, option_map, refl, sym, ap, subst, ◌∙◌, arith}
 use Rattle.std.specs.Prelude.{slice_index}
 use Rattle.std.proofs.lemmas.Bool.{cond-false, ne_eqb}
 use Rattle.std.proofs.lemmas.Int.{ints}
@@ -19,7 +19,7 @@ use Rattle.bpf_maps.specs.Live.{places_at, shape_at}
 use Rattle.bpf_maps.specs.Laws.{CallsRefineValues}
 use Rattle.bpf_helpers.specs.Layout.{Layout, IsWord}
 use Rattle.bpf_helpers.specs.Stands.{IsRoom, HasMap, Simulates, stored_maps}
-use Rattle.bpf_helpers.specs.Named.{bound_map, part_input}
+use Rattle.bpf_helpers.specs.Named.{bound_map, part_input, NamedKey, key_named}
 use Rattle.bpf_helpers.specs.inside.Flat.{value_word, key_word, flat_look_up}
 use Rattle.bpf_helpers.specs.inside.Laws.{GivesWord, LookUpsFollow}
 use Rattle.bpf_helpers.proofs.Many.{also_some}
@@ -50,9 +50,11 @@ is_given s r g e =
 module _ (env : Environment) (l : Layout) (flat : FlatState) (s : RunState) (room : IsRoom env.memory env.tenant) (stands : Simulates env l flat s) where
   -- the map that a word names, and what stands for it
   pub record IsBound (w m : ℕ) (map : RunMap) : Type 0 where
-    pub key : ℕ
-    pub bound : bound_map env.bind w ≡ Some key
-    pub has : HasMap l (stored_maps (part_start env.memory env.tenant) flat.memory.bytes flat.maps) key m map
+    pub index : ℕ
+    pub within : index < length env.bind
+    pub named : slice_get env.descriptors index ≡ Some m
+    pub bound : bound_map env.bind w ≡ Some (slice_index env.bind index)
+    pub has : HasMap l (stored_maps (part_start env.memory env.tenant) flat.memory.bytes flat.maps) (slice_index env.bind index) m map
 
   pub map_bound : (w m : ℕ) (map : RunMap) → IsWord env l (Map m) w → s.maps m ≡ Some map → IsBound w m map
   map_bound w m map h e =
@@ -63,7 +65,9 @@ module _ (env : Environment) (l : Layout) (flat : FlatState) (s : RunState) (roo
       let count = stands.maps.count in
       let fits = slice_get_within env.descriptors i m h.1 in
       record {
-        key = slice_index env.bind i;
+        index = i;
+        within = omega arith;
+        named = h.1;
         bound = cond-false (w == 0) None (slice_get env.bind i) (ne_eqb w 0 (λ z. omega arith)) ∙ slice_get-get_or env.bind i 0 (omega arith);
         has = subst (HasMap l (stored_maps (part_start env.memory env.tenant) flat.memory.bytes flat.maps) (slice_index env.bind i) m) same g.2;
       }
@@ -91,6 +95,9 @@ module _ (env : Environment) (l : Layout) (flat : FlatState) (s : RunState) (roo
         subst (λ (o : Option ℕ). IsWord env l (looked_up m (look_up map.table bytes)) (value_word (site_in env flat) key o)) (sym (found_place bytes))
         (found_word (look_up map.table bytes) (λ number e. found_owned map.count bytes map.table.entries number has.owns e))
 
+  given_word : (map key : ℕ) (v : Tagged) {n : NamedKey} → key_named (site_in env flat) map key ≡ Some n → IsWord env l v (key_word (site_in env flat) n) → GivesWord env l (flat_look_up (site_in env flat) map key) (Some v)
+  given_word map key v named is = subst (λ o. GivesWord env l (option_map (key_word (site_in env flat)) o) (Some v)) (sym named) is
+
   pub follows : CallsRefineValues ℕ ℕ → (refused : Bool) (u : RunState) → called refused LookUp s ≡ Some u
       → (v : Tagged) × (u ≡ returns s v) × GivesWord env l (flat_look_up (site_in env flat) (slice_index flat.registers 1) (slice_index flat.registers 2)) (Some v)
   follows along refused u e =
@@ -100,13 +107,13 @@ module _ (env : Environment) (l : Layout) (flat : FlatState) (s : RunState) (roo
       let b = also_some (argument s 2 (λ p. input s p g.map.table.shape.key_size)) (λ key. Some (returns s (looked_up g.descriptor (look_up g.map.table key)))) u a.2 in
       let c = also_some (s.registers 2) (λ p. input s p g.map.table.shape.key_size) b.0 b.1 in
       let bound = map_bound (slice_index flat.registers 1) g.descriptor g.map (stands.values 1 (Map g.descriptor) (omega arith) given.register) given.there in
-      let size : (shape_at flat.maps bound.key).key_size ≡ g.map.table.shape.key_size = ap (λ (x : MapShape). x.key_size) (shape_same along g.descriptor bound.key g.map bound.has) in
+      let key = slice_index env.bind bound.index in
+      let size : (shape_at flat.maps key).key_size ≡ g.map.table.shape.key_size = ap (λ (x : MapShape). x.key_size) (shape_same along g.descriptor key g.map bound.has) in
       let read = input_there env l flat s room stands c.0 (slice_index flat.registers 2) g.map.table.shape.key_size b.0 (stands.values 2 c.0 (omega arith) c.1) c.2 in
-      let is : flat_look_up (site_in env flat) (slice_index flat.registers 1) (slice_index flat.registers 2) ≡ Some (value_word (site_in env flat) bound.key (look_up (table_of (places_at flat.maps bound.key)) b.0)) =
-      ap (option_map (key_word (site_in env flat))) (key_is (site_in env flat) (slice_index flat.registers 1) (slice_index flat.registers 2) bound.bound b.0 (ap (λ (n : ℕ). part_input flat.memory env.tenant n (slice_index flat.registers 2)) size ∙ read)) in (
+      let named = key_is (site_in env flat) (slice_index flat.registers 1) (slice_index flat.registers 2) bound.bound b.0 (ap (λ (n : ℕ). part_input flat.memory env.tenant n (slice_index flat.registers 2)) size ∙ read) in (
         looked_up g.descriptor (look_up g.map.table b.0),
         sym (same_Some _ u b.2),
-        subst (λ (o : Option ℕ). GivesWord env l o (Some (looked_up g.descriptor (look_up g.map.table b.0)))) (sym is) (look_up_follows along g.descriptor bound.key g.map bound.has b.0),
+        given_word (slice_index flat.registers 1) (slice_index flat.registers 2) (looked_up g.descriptor (look_up g.map.table b.0)) named (look_up_follows along g.descriptor key g.map bound.has b.0),
       )
 
 pub look_ups_follow : CallsRefineValues ℕ ℕ → LookUpsFollow

@@ -230,6 +230,27 @@ module _ (writes : WritesStayInside) (env : Environment) (l : Layout) (flat : Fl
         others = λ u differ. writes flat.memory env.tenant u (part_start env.memory env.tenant + q) new is (omega arith) (omega arith) differ ∙ stands.changed.others u differ;
       }
 
+  -- bytes are written in the stack
+  pub stack_stands : (q : ℕ) (new : List ℕ) (cells : ℕ → Cell) → q + length new ≤ 512 → HasStack env l (written_at flat.memory.bytes (part_start env.memory env.tenant + q) new) (part_start env.memory env.tenant) cells
+      → Simulates env l (with_memory flat (with_bytes flat.memory (part_start env.memory env.tenant + q) new)) (with_cells s cells)
+  stack_stands q new cells low stack =
+      let start = part_start env.memory env.tenant in
+      let long = memory_long env l flat s room stands in
+      record {
+        slot = stands.slot;
+        count = stands.count;
+        packet = stands.packet;
+        changed = changed_after q new (omega arith);
+        front = stands.front;
+        values = stands.values;
+        stack = stack;
+        words = stands.words;
+        context = words_kept env l flat.memory.bytes new (start + q) (omega arith) (stack_top env.memory env.tenant) s.words (inr (omega arith)) stands.context;
+        maps = maps_behind env l start flat.memory.bytes new flat.maps s.maps stands.maps long q low;
+        elsewhere = others_behind env.bind start env.memory.bytes flat.memory.bytes new flat.maps stands.maps.laid long stands.elsewhere q low;
+        flag = stands.flag;
+      }
+
   -- the place of what is written, and what stands then
   Written : ℕ → List ℕ → RunState → Type 0
   Written w bs u = (q : ℕ) × (place_named flat.memory env.tenant (length bs) w ≡ Some q) × Simulates env l (with_memory flat (with_bytes flat.memory (part_start flat.memory env.tenant + q) bs)) u
@@ -255,20 +276,7 @@ module _ (writes : WritesStayInside) (env : Environment) (l : Layout) (flat : Fl
       let cells = bytes_over env l flat.memory.bytes start s u x bs stands.stack (omega arith) e in
       written w (place x) bs u (omega (arith, ints)) (omega arith)
       (subst (λ (v : RunState). HasStack env l (written_at flat.memory.bytes (start + place x) bs) start v.cells → Simulates env l (with_memory flat (with_bytes flat.memory (start + place x) bs)) v) c.1
-      (λ cells. record {
-        slot = stands.slot;
-        count = stands.count;
-        packet = stands.packet;
-        changed = changed_after (place x) bs (omega arith);
-        front = stands.front;
-        values = stands.values;
-        stack = cells;
-        words = stands.words;
-        context = words_kept env l flat.memory.bytes bs (start + place x) (omega arith) (stack_top env.memory env.tenant) s.words (inr (omega arith)) stands.context;
-        maps = maps_behind env l start flat.memory.bytes bs flat.maps s.maps stands.maps long (place x) within;
-        elsewhere = others_behind env.bind start env.memory.bytes flat.memory.bytes bs flat.maps stands.maps.laid long stands.elsewhere (place x) within;
-        flag = stands.flag;
-      }) cells)
+      (stack_stands (place x) bs (λ i. cell_over i (s.cells i) (place x) bs) within) cells)
 
   object_output : (m number : ℕ) (x : ℤ) (w : ℕ) (bs : List ℕ) (u : RunState) → pos w ≡ pos (l.object_at m number) +ℤ x → number < l.counts m → object_written s m number x bs ≡ Some u → Written w bs u
   object_output m number (negsuc y) w bs u h placed e =

@@ -17,11 +17,11 @@ use Rattle.arena.specs.Apart.{WritesStayInside}
 use Rattle.arena.specs.Ranges.{IsInside}
 use Rattle.arena.specs.PartLaws.{part_within}
 use Rattle.bpf_helpers.specs.Layout.{Layout, IsWord, HasCell}
-use Rattle.bpf_helpers.specs.Stands.{stack_top, IsRoom, Simulates}
+use Rattle.bpf_helpers.specs.Stands.{IsRoom, Simulates}
 use Rattle.bpf_helpers.specs.Accesses.{address_from, PointerFits, StoresKeepSimulation}
 use Rattle.bpf_helpers.proofs.Many.{also_some}
 use Rattle.bpf_helpers.proofs.Inputs.{memory_long}
-use Rattle.bpf_helpers.proofs.Outputs.{cell_kept, words_kept, maps_behind, others_behind, changed_after, object_overwritten}
+use Rattle.bpf_helpers.proofs.Outputs.{stack_stands, cell_kept, object_overwritten}
 use Rattle.bpf_helpers.proofs.Cells.{cell_stored}
 use Rattle.bpf_helpers.proofs.Addresses.{in_front, part_place_told, is_at, in_stack, slot_of, slot_within, value_overwritten}
 use Rattle.bpf_helpers.specs.States.{Environment, FlatState, with_memory}
@@ -74,20 +74,7 @@ module _ (writes : WritesStayInside) (env : Environment) (l : Layout) (flat : Fl
         c.0,
         c.1,
         subst (λ (z : RunState). Simulates env l (with_memory flat (with_bytes flat.memory (start + q) new)) z) (same_Some _ u b.2)
-            (record {
-              slot = stands.slot;
-              count = stands.count;
-              packet = stands.packet;
-              changed = changed_after writes env l flat s room stands q new (omega arith);
-              front = stands.front;
-              values = stands.values;
-              stack = λ k lt. cells_after size q y v b.0 within is.aligned word small b.1 k lt;
-              words = stands.words;
-              context = words_kept env l flat.memory.bytes new (start + q) (omega arith) (stack_top env.memory env.tenant) s.words (inr (omega arith)) stands.context;
-              maps = maps_behind env l start flat.memory.bytes new flat.maps s.maps stands.maps long q (omega arith);
-              elsewhere = others_behind env.bind start env.memory.bytes flat.memory.bytes new flat.maps stands.maps.laid long stands.elsewhere q (omega arith);
-              flag = stands.flag;
-            }),
+            (stack_stands writes env l flat s room stands q new (set_at s.cells (q / 8) b.0) (omega arith) (λ k lt. cells_after size q y v b.0 within is.aligned word small b.1 k lt)),
       )
 
   -- ---- the values of maps

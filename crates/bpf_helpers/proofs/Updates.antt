@@ -24,7 +24,7 @@ use Rattle.bpf_helpers.specs.inside.Below.{LawsBelow}
 use Rattle.bpf_helpers.specs.Layout.{Layout, IsWord}
 use Rattle.bpf_helpers.specs.Stands.{stack_top, IsRoom, HasMap, MapsStandFor, Simulates, stored_maps}
 use Rattle.bpf_maps.specs.declared.part.TheConstants.{PART}
-use Rattle.bpf_helpers.specs.Named.{part_place, NamedPair}
+use Rattle.bpf_helpers.specs.Named.{part_place, place_named, NamedPair}
 use Rattle.bpf_helpers.specs.inside.Flat.{Updates, claim_word, with_claimed}
 use Rattle.bpf_maps.specs.LiveLaws.{laid_inside}
 use Rattle.bpf_helpers.proofs.Inputs.{part_place_is, memory_long, start_same}
@@ -108,6 +108,11 @@ module _ (below : LawsBelow) (env : Environment) (l : Layout) (flat : FlatState)
 
   -- ---- a present key
 
+  -- the value is written at the place that its address names
+  at_place : (off w : ℕ) (x : RunState) → place_named flat.memory env.tenant (length value) w ≡ Some off → (q : ℕ) × (place_named flat.memory env.tenant (length value) w ≡ Some q) × Simulates env l (with_memory flat (with_bytes flat.memory (part_start flat.memory env.tenant + q) value)) x
+      → Simulates env l (with_memory flat (with_bytes flat.memory (part_start flat.memory env.tenant + off) value)) x
+  at_place off w x named written = subst (λ (q : ℕ). Simulates env l (with_memory flat (with_bytes flat.memory (part_start flat.memory env.tenant + q) value)) x) (same_Some written.0 off (sym written.1 ∙ named)) written.2
+
   present_stands : (number : ℕ) → u.claim ≡ Ok (has.place number) → places_at reply.maps k ≡ places_at flat.maps k → number < map.count → Done (Present number)
   present_stands number told places lt =
       let start = part_start env.memory env.tenant in
@@ -129,13 +134,11 @@ module _ (below : LawsBelow) (env : Environment) (l : Layout) (flat : FlatState)
       let out : output s (Pointer (object.Value m number) (pos 0)) value ≡ Some (with_map s m (with_value map number value)) =
       ap (λ o. and_then o (λ map. and_then (value_written (map.values number) (pos 0) value) (λ x. Some (with_map s m (with_value map number x))))) is
       ∙ ap (λ o. and_then o (λ x. Some (with_map s m (with_value map number x)))) writes_value in
-      let r = outputs_keep_simulation below.writes env l flat s (with_map s m (with_value map number value)) (Pointer (object.Value m number) (pos 0)) w value room stands word_is out in
       let address = o.address in
       let begin = begins in
       let part = stands.changed.part in
       let large_part = room.room in
       let at_off : part_place (part_start flat.memory env.tenant) flat.memory.part (length value) w ≡ Some off = part_place_is (part_start flat.memory env.tenant) flat.memory.part (length value) w off (omega arith) (omega arith) in
-      let same : r.0 ≡ off = same_Some r.0 off (sym r.1 ∙ at_off) in
       let memory_is : reply.memory ≡ with_bytes flat.memory (part_start flat.memory env.tenant + off) value = u.memory_is ∙ ap (with_claimed (site_in env flat) pair) told in
       record {
         refused = false;
@@ -145,7 +148,7 @@ module _ (below : LawsBelow) (env : Environment) (l : Layout) (flat : FlatState)
         answer = u.word_is ∙ ap claim_word told;
         standing = subst (λ (n : Bytes). Simulates env l (with_held flat n reply.maps) (with_refusal (with_map s m (with_value map number value)) false)) (sym memory_is)
             (moved (with_map s m (with_value map number value)) (with_bytes flat.memory (part_start flat.memory env.tenant + off) value) (has.place number) told refl places
-            (subst (λ (q : ℕ). Simulates env l (with_memory flat (with_bytes flat.memory (part_start flat.memory env.tenant + q) value)) (with_map s m (with_value map number value))) same r.2));
+            (at_place off w (with_map s m (with_value map number value)) at_off (outputs_keep_simulation below.writes env l flat s (with_map s m (with_value map number value)) (Pointer (object.Value m number) (pos 0)) w value room stands word_is out)));
       }
 
   -- ---- a new key

@@ -6,23 +6,20 @@ use Rattle.bpf_maps.specs.declared.entries.Entry.{Entry}
 use Rattle.bpf_maps.specs.declared.map_layout.MapLayout.{MapLayout}
 use Rattle.bpf_maps.specs.Any.{places_of}
 use Rattle.bpf_maps.specs.InMaps.{layout_of, AreLaidOut}
-use Rattle.bpf_maps.proofs.Slots.{same_or_other, same_some}
+use Rattle.bpf_maps.proofs.Slots.{same_or_other, same_at}
 
 same_layout : (e f : Entry) → (places_of f.map).shape ≡ (places_of e.map).shape → f.start ≡ e.start → f.stride ≡ e.stride → layout_of e ≡ layout_of f
 same_layout e f shape start stride = λ i. let l : MapLayout = record { shape = sym shape i; start = sym start i; stride = sym stride i } in l
 
 -- one entry is changed, and the others stay
 module _ (old new : List (Option Entry)) (layouts : List MapLayout) (k : ℕ) (h : AreLaidOut old layouts) (others : (j : ℕ) → j ≢ k → get_or new j None ≡ get_or old j None) (f : Entry) (there : get_or new k None ≡ Some f) where
-  is_changed : (j : ℕ) (g : Entry) → j ≡ k → get_or new j None ≡ Some g → f ≡ g
-  is_changed j g s at = same_some (get_or new k None) f g there (ap (λ (i : ℕ). get_or new i None) (sym s) ∙ at)
-
   -- one that keeps its shape and its area
   pub replaced_out : (e : Entry) → get_or old k None ≡ Some e → f.start ≡ e.start → f.stride ≡ e.stride → (places_of f.map).shape ≡ (places_of e.map).shape → AreLaidOut new layouts
   replaced_out e here start stride shape = record {
     long = h.long;
     each = λ j g other at.
         same_or_other j k
-        (λ (s : j ≡ k). ap (λ (i : ℕ). get_or layouts i other) s ∙ h.each k e other here ∙ same_layout e f shape start stride ∙ ap layout_of (is_changed j g s at))
+        (λ (s : j ≡ k). ap (λ (i : ℕ). get_or layouts i other) s ∙ h.each k e other here ∙ same_layout e f shape start stride ∙ ap layout_of (same_at new there s at))
         (λ (ne : j ≢ k). h.each j g other (sym (others j ne) ∙ at));
   }
 
@@ -34,6 +31,6 @@ module _ (old new : List (Option Entry)) (layouts : List MapLayout) (k : ℕ) (h
         long = length-set layouts k (layout_of f) ∙ h.long;
         each = λ j g other at.
             same_or_other j k
-            (λ (s : j ≡ k). ap (λ (i : ℕ). get_or (set layouts k (layout_of f)) i other) s ∙ get_or-set_same layouts k (layout_of f) other (omega arith) ∙ ap layout_of (is_changed j g s at))
+            (λ (s : j ≡ k). ap (λ (i : ℕ). get_or (set layouts k (layout_of f)) i other) s ∙ get_or-set_same layouts k (layout_of f) other (omega arith) ∙ ap layout_of (same_at new there s at))
             (λ (ne : j ≢ k). get_or-set_other layouts k j (layout_of f) other ne ∙ h.each j g other (sym (others j ne) ∙ at));
       }

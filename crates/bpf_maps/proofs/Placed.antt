@@ -13,7 +13,7 @@ use Rattle.bpf_maps.specs.declared.maps.Maps.TheInside.{Inside}
 use Rattle.bpf_maps.specs.Live.{LiveMaps, live_at}
 use Rattle.bpf_maps.specs.InMaps.{live_of, live_maps_of, placed, entries_of, as_live_maps, AreKeys}
 use Rattle.bpf_maps.specs.LiveLaws.{same_lowest}
-use Rattle.bpf_maps.proofs.Slots.{at_lives, within, same_or_other, same_some}
+use Rattle.bpf_maps.proofs.Slots.{at_lives, within, same_or_other, same_at}
 
 -- ---- the entry at a place is the one under its key
 
@@ -184,7 +184,7 @@ module _ (keys : List (Option ℕ)) (old new : Slab Entry) (is : AreKeys keys ol
   unused q j ej s = true≢false (sym (is.there q j ej) ∙ ap (λ (i : ℕ). is_some (get old i)) s ∙ ap is_some was)
 
   is_new : (q j : ℕ) → q ≡ p → get_or more q None ≡ Some j → key ≡ j
-  is_new q j s ej = same_some (get_or more p None) key j new_key (ap (λ (i : ℕ). get_or more i None) (sym s) ∙ ej)
+  is_new q j s ej = same_at more new_key s ej
 
   pub added_here : get_or (placed more new) p None ≡ Some e
   added_here = under_key new more p key new_key ∙ there

@@ -64,7 +64,7 @@ module _ {a : Inside} {t : LiveMaps} {place map key : ℕ} {old gone : Entry} (c
   whole = c.under.whole
 
   pub is_gone : old ≡ gone
-  is_gone = same_some (get (with_value a.entries key old) key) old gone (changed_entry a.keys a.entries whole.keys place key c.under.keyed old old c.under.here) c.value
+  is_gone = same_some (changed_entry a.keys a.entries whole.keys place key c.under.keyed old old c.under.here) c.value
 
   pub was_there : get_or (entries_of a) place None ≡ Some gone
   was_there = subst (λ (e : Entry). get_or (entries_of a) place None ≡ Some e) is_gone (at_place c.under)

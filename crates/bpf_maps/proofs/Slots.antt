@@ -75,13 +75,17 @@ same_or_other {P} j k f g = by (nat_eq j k) refl
     by true e = f (eqb-true j k e)
     by false e = g (λ q. true≢false (sym (eq-eqb j k q) ∙ e))
 
-pub same_some : {A : Type 0} (o : Option A) (l m : A) → o ≡ Some l → o ≡ Some m → l ≡ m
-same_some o l m e f = same_Some l m (sym e ∙ f)
+pub same_some : {A : Type 0} {o : Option A} {l m : A} → o ≡ Some l → o ≡ Some m → l ≡ m
+same_some {l = l} {m = m} e f = same_Some l m (sym e ∙ f)
+
+-- at one place there is one element
+pub same_at : {A : Type 0} (xs : List (Option A)) {j k : ℕ} {f g : A} → get_or xs k None ≡ Some f → j ≡ k → get_or xs j None ≡ Some g → f ≡ g
+same_at xs there same at = same_some there (ap (λ (i : ℕ). get_or xs i None) (sym same) ∙ at)
 
 -- one map that keeps its shape and its area
 pub one_changed : (old new : LiveMaps) (k : ℕ) (a b : LiveMap) → live_at old k ≡ Some a → live_at new k ≡ Some b → b.places.shape ≡ a.places.shape → b.start ≡ a.start → b.stride ≡ a.stride → ((j : ℕ) → j ≢ k → live_at new j ≡ live_at old j) → SameAreas old new
 one_changed old new k a b at bt shape start stride others j l h =
     same_or_other j k
-    (λ (q : j ≡ k). let is : l ≡ b = same_some (live_at new k) l b (ap (live_at new) (sym q) ∙ h) bt in
+    (λ (q : j ≡ k). let is : l ≡ b = same_some (ap (live_at new) (sym q) ∙ h) bt in
     (a, ap (live_at old) q ∙ at, ap (λ (x : LiveMap). x.places.shape) is ∙ shape, ap (λ (x : LiveMap). x.start) is ∙ start, ap (λ (x : LiveMap). x.stride) is ∙ stride))
     (λ (ne : j ≢ k). (l, sym (others j ne) ∙ h, refl, refl, refl))

@@ -11,7 +11,7 @@ use Rattle.bpf_maps.specs.Places.{IsSound}
 use Rattle.bpf_maps.specs.Live.{LiveMap, live_at, live_or, places_at, offset, LiesInPart, IsLaid, IsPacked, area_of, areas, StandsBefore, start_without, map_without}
 use Rattle.bpf_maps.specs.Sum.{weight}
 use Rattle.bpf_maps.specs.InMaps.{live_of, live_maps_of, entries_of, as_live_maps, AreKeys, closed_up, IsInItsArea, AreLaidOut, IsWellFormedMaps}
-use Rattle.bpf_maps.proofs.Slots.{at_lives, entry_of, some_entry, live_by, none_by, others_by, same_or_other, same_some}
+use Rattle.bpf_maps.proofs.Slots.{at_lives, entry_of, some_entry, live_by, none_by, others_by, same_or_other, same_at}
 use Rattle.bpf_maps.specs.declared.map_layout.MapLayout.{MapLayout}
 use Rattle.bpf_maps.proofs.LaidOut.{replaced_out}
 use Rattle.bpf_maps.proofs.Totals.{total_but_one}
@@ -64,7 +64,7 @@ module _ {a : Inside} (h : IsWellFormedMaps a) where
   apart k j p q e f at bt ne l m =
       same_or_other k j
       (λ (s : k ≡ j).
-      let is : e ≡ f = same_some (get_or (entries_of a) k None) e f at (ap (λ (i : ℕ). get_or (entries_of a) i None) s ∙ bt) in
+      let is = same_at (entries_of a) at (sym s) bt in
       subst (λ (g : Entry). IsApart (live_of e) (live_of g) p q) is (apart_in_one k p q e at (ne s)))
       (λ (o : k ≢ j). apart_in_two k j p q e f at bt o l m)
 
@@ -112,6 +112,10 @@ module _ {a : Inside} (b : Inside) (k : ℕ) (h : IsWellFormedMaps a) (others : 
   still : (j : ℕ) (e : Entry) → j ≢ k → entry_at b j e → entry_at a j e
   still j e ne at = sym (others j ne) ∙ at
 
+  -- what holds of the entry there, and of the others, holds of each
+  by_place : (P : Entry → Type 0) {f : Entry} → entry_at b k f → P f → ((j : ℕ) (g : Entry) → entry_at a j g → P g) → (j : ℕ) (g : Entry) → entry_at b j g → P g
+  by_place P bt here there j g gt = same_or_other j k (λ (s : j ≡ k). subst P (same_at (entries_of b) bt s gt) here) (λ (o : j ≢ k). there j g (still j g o gt))
+
   changed : areas (as_live_maps b) + weight area_of (get_or (live_maps_of (entries_of a)) k None) ≡ areas (as_live_maps a) + weight area_of (get_or (live_maps_of (entries_of b)) k None)
   changed = total_but_one area_of k (live_maps_of (entries_of a)) (live_maps_of (entries_of b)) (λ j ne. ap (weight area_of) (others_by (entries_of a) (entries_of b) k others j ne))
 
@@ -129,13 +133,7 @@ module _ {a : Inside} (b : Inside) (k : ℕ) (h : IsWellFormedMaps a) (others : 
         omega arith
 
     placed_replaced : (j : ℕ) (g : Entry) → entry_at b j g → IsInItsArea b.bytes g
-    placed_replaced j g gt =
-        subst (λ (n : ℕ). IsInItsArea n g) (sym bytes)
-        (same_or_other j k
-        (λ (s : j ≡ k).
-        let is : f ≡ g = same_some (get_or (entries_of b) k None) f g bt (ap (λ (i : ℕ). get_or (entries_of b) i None) (sym s) ∙ gt) in
-        subst (λ (x : Entry). IsInItsArea a.bytes x) is placed_new)
-        (λ (o : j ≢ k). h.placed j g (still j g o gt)))
+    placed_replaced j g gt = subst (λ (n : ℕ). IsInItsArea n g) (sym bytes) (by_place (IsInItsArea a.bytes) bt placed_new h.placed j g gt)
       where
         placed_new : IsInItsArea a.bytes f
         placed_new =
@@ -154,7 +152,7 @@ module _ {a : Inside} (b : Inside) (k : ℕ) (h : IsWellFormedMaps a) (others : 
     before j g gt =
         same_or_other j k
         (λ (s : j ≡ k).
-        let is : f ≡ g = same_some (get_or (entries_of b) k None) f g bt (ap (λ (i : ℕ). get_or (entries_of b) i None) (sym s) ∙ gt) in
+        let is = same_at (entries_of b) bt s gt in
         (e, ap (λ (i : ℕ). get_or (entries_of a) i None) s ∙ at, sym start ∙ ap (λ (x : Entry). x.start) is, sym same_area ∙ ap (λ (x : Entry). area_of (live_of x)) is))
         (λ (o : j ≢ k). (g, still j g o gt, refl, refl))
 
@@ -197,17 +195,13 @@ module _ {a : Inside} (b : Inside) (k : ℕ) (h : IsWellFormedMaps a) (others : 
     aligned_now = let al = h.aligned in let r = area_aligned (places_of e.map).shape.value_size (places_of e.map).shape.max_entries in omega arith
 
     placed_added : (j : ℕ) (g : Entry) → entry_at b j g → IsInItsArea b.bytes g
-    placed_added j g gt =
-        same_or_other j k
-        (λ (s : j ≡ k).
-        let is : e ≡ g = same_some (get_or (entries_of b) k None) e g bt (ap (λ (i : ℕ). get_or (entries_of b) i None) (sym s) ∙ gt) in
-        subst (λ (x : Entry). IsInItsArea b.bytes x) is (record { behind = omega arith; within = omega arith; aligned = let al = h.aligned in omega arith; stride = stride; held = held; sound = sound }))
-        (λ (o : j ≢ k).
-        let i = h.placed j g (still j g o gt) in
-        record { behind = i.behind; within = let w = i.within in omega arith; aligned = i.aligned; stride = i.stride; held = i.held; sound = i.sound })
+    placed_added =
+        by_place (IsInItsArea b.bytes) bt
+        (record { behind = omega arith; within = omega arith; aligned = let al = h.aligned in omega arith; stride = stride; held = held; sound = sound })
+        (λ j g at. let i = h.placed j g at in record { behind = i.behind; within = let w = i.within in omega arith; aligned = i.aligned; stride = i.stride; held = i.held; sound = i.sound })
 
     is_new : (j : ℕ) (g : Entry) → j ≡ k → entry_at b j g → g ≡ e
-    is_new j g s gt = same_some (get_or (entries_of b) k None) g e (ap (λ (i : ℕ). get_or (entries_of b) i None) (sym s) ∙ gt) bt
+    is_new j g s gt = sym (same_at (entries_of b) bt s gt)
 
     -- the others stand before it
     stands_last : (j : ℕ) (g : Entry) → j ≢ k → entry_at b j g → StandsBefore (live_of g) (live_of e)

@@ -7,7 +7,7 @@ use Rattle.bpf_maps.specs.declared.part.TheConstants.{MAPS}
 use Rattle.bpf_maps.specs.declared.map_layout.MapLayout.{MapLayout}
 use Rattle.bpf_maps.specs.declared.entries.Entry.{Entry}
 use Rattle.bpf_maps.specs.InMaps.{placed, closed_up, layout_of}
-use Rattle.bpf_maps.proofs.Slots.{same_or_other, same_some}
+use Rattle.bpf_maps.proofs.Slots.{same_or_other, same_at}
 use Rattle.bpf_maps.proofs.Placed.{no_value, under_key, no_key, placed_len, in_places, changed_here, changed_others, changed_keys}
 use Rattle.bpf_maps.proofs.entries.close_gap.Invariants.{IsClosing}
 use Rattle.bpf_maps.proofs.entries.close_gap.Goals.{in-Some, in_default}
@@ -66,7 +66,7 @@ module _ (end size place : ℕ) (keys : List (Option ℕ)) (old mid : Slab Entry
             long = length-set layouts place (layout_of lower) ∙ h.laid.long;
             each = λ p g other l gt. same_or_other p place
                 (λ (s : p ≡ place).
-                let is : lower ≡ g = same_some (get_or (placed keys (with_value mid key lower)) place None) lower g there (ap (λ (i : ℕ). get_or (placed keys (with_value mid key lower)) i None) (sym s) ∙ gt) in
+                let is = same_at (placed keys (with_value mid key lower)) there s gt in
                 ap (λ (i : ℕ). get_or (set layouts place (layout_of lower)) i other) s ∙ get_or-set_same layouts place (layout_of lower) other (omega arith) ∙ ap layout_of is)
                 (λ (ne : p ≢ place). get_or-set_other layouts place p (layout_of lower) other ne ∙ h.laid.each p g other (omega arith) (sym (others p ne) ∙ gt));
           };

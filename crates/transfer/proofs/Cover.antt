@@ -38,6 +38,7 @@ use Rattle.tagged_model.specs.Table.{has_direct_value, direct_object}
 use Rattle.words.specs.Widths.{width}
 use Rattle.insn_set.specs.Atomic.{access_size}
 use Rattle.tagged_model.specs.Cells.{and_then}
+use Rattle.tagged_model.specs.Laws.{MapCallsKeep, SiteAdmits}
 use Rattle.tagged_model.specs.Values.{arithmetic, first_operand, of_number, compared}
 use Rattle.tagged_model.specs.State.{RunState, load, store}
 use Rattle.tagged_model.specs.Step.{goes, or_fault, operand_value, advanced, assigned, changed, branched, ended, act}
@@ -46,13 +47,11 @@ use Rattle.transfer.specs.Arithmetic.{check_readable, arithmetic_kind, of_scalar
 use Rattle.transfer.specs.Branches.{Edges, falls, branch_edges}
 use Rattle.transfer.specs.Effects.{assigns, load_kind, store_facts, changed_facts, map_of, value_of, known, exits_with, effect}
 use Rattle.transfer.specs.Calls.{call_facts}
-use Rattle.transfer.specs.Sound.{IsKindAt, IsSlotAt, takes_jump, TakenEdgeAdmits, CoversStep, CallIsAdmitted, TransferIsSound}
-use Rattle.transfer.proofs.Parts.{Here, Gives, IsKindOf, IsFound, IsKnown, OnFalling, IsCoveredIf, still_of, still_at, then_covered, ok_is}
+use Rattle.transfer.specs.Sound.{IsKindAt, IsSlotAt, takes_jump, TakenEdgeAdmits, CoversStep, CallIsAdmitted, CallsAreSound, TransferIsSound}
+use Rattle.transfer.proofs.Parts.{by_law, Here, Gives, IsKindOf, IsFound, IsKnown, OnFalling, IsCoveredIf, still_of, still_at, then_covered, ok_is}
 use Rattle.transfer.proofs.States.{constant_of, register_found, source_found, first_found, goes_to, assigned_covered}
 use Rattle.transfer.proofs.Values.{Results, by_number, number_agrees, arithmetic_agrees}
 use Rattle.transfer.proofs.Memory.{Accesses, IsStored, load_agrees, store_agrees, changed_agrees}
-use Rattle.transfer.proofs.HelperCalls.{all_covered}
-use Rattle.transfer.proofs.HelperCalls.{Laws as CallLaws}
 use Rattle.transfer.proofs.Jumps.{Comparisons, jump_covered, branch_covered}
 
 -- the laws that the steps stand on
@@ -60,7 +59,9 @@ pub record Laws : Type 0 where
   pub results : Results
   pub comparisons : Comparisons
   pub accesses : Accesses
-  pub calls : CallLaws
+  pub calls : CallsAreSound
+  pub map_calls : MapCallsKeep
+  pub site : SiteAdmits
 
 module _ (laws : Laws) (here : Here) (refused : Bool) (f : Facts) (s : RunState) (is_known : IsKnown here f s) (below : AreBelow s.at f) where
   -- the edge that an instruction takes, by whether it jumps
@@ -160,9 +161,9 @@ module _ (laws : Laws) (here : Here) (refused : Bool) (f : Facts) (s : RunState)
       by true g =
           let p = value_span m (pos offset) (pos offset) in
           let h = is_known.maps m shape e in
-          let there = laws.calls.map_calls.direct shape h.0 offset h.2 g in
+          let there = laws.map_calls.direct shape h.0 offset h.2 g in
           let after : Here = record { shapes = here.shapes; witness = witness_at here.witness s s.at (Scalar 0); slot = here.slot } in
-          let still = laws.calls.site here.witness f here.shapes s s.at (Scalar 0) below (still_of here f s is_known) in
+          let still = laws.site here.witness f here.shapes s s.at (Scalar 0) below (still_of here f s is_known) in
           let owned : there.0 < after.witness.objects m = subst (λ o. there.0 < objects_of o) (sym h.1) there.2 in
           let low : pos offset ≤ℤ pos offset = omega (arith, ints) in
           subst (λ o. IsCoveredIf (OnFalling here (s.at + 2)) (assigns f dst (Ok (kind.Value p))) (or_fault o (λ t. or_fault (direct_object t.table offset) (λ number. assigned 2 s dst (Pointer (object.Value m number) (pos offset)))))) (sym h.1)
@@ -173,7 +174,7 @@ module _ (laws : Laws) (here : Here) (refused : Bool) (f : Facts) (s : RunState)
 
   called_covered : (h : Helper) → IsCoveredIf Next (and_then_ok (call_facts here.shapes s.at h f) falls) (or_fault (called refused h s) (λ t. goes (advanced 1 t)))
   called_covered h =
-      then_covered Next (λ g u. CallIsAdmitted g here.shapes s u) _ _ falls (λ t. goes (advanced 1 t)) (all_covered laws.calls here.witness here.shapes f s (still_of here f s is_known) below refused h)
+      then_covered Next (λ g u. CallIsAdmitted g here.shapes s u) _ _ falls (λ t. goes (advanced 1 t)) (by_law _ _ _ (λ g ok. laws.calls here.witness refused here.shapes h f g s below (still_of here f s is_known) ok))
       (λ g u is. (ap (λ (n : ℕ). Some (n + 1)) (sym is.at), is.witness, still_at is.witness g here.shapes u is.still (u.at + 1)))
 
   helper_covered : (o : Option Helper) → IsCoveredIf Next (and_then_ok (known o) (λ h. and_then_ok (call_facts here.shapes s.at h f) falls)) (or_fault o (λ h. or_fault (called refused h s) (λ t. goes (advanced 1 t))))

@@ -36,7 +36,7 @@ use Rattle.tagged_model.specs.Laws.{StackInputAdmits, StackOutputAdmits, ObjectR
 use Rattle.transfer.specs.Arithmetic.{check_readable}
 use Rattle.tagged_model.specs.Named.{Shapes}
 use Rattle.transfer.specs.declared.calls.ShapedMap.{ShapedMap}
-use Rattle.transfer.specs.Calls.{shaped, map_kind, room_of, input_kind, output_facts, number_kind, length_kind, context_kind, any_number, call_facts}
+use Rattle.transfer.specs.Calls.{shaped, map_kind, room_of, input_kind, output_facts, number_kind, length_kind, context_kind, readable_two, readable_four, any_number, call_facts}
 use Rattle.transfer.specs.Sound.{CallIsAdmitted, CallsAreSound}
 use Rattle.transfer.proofs.Rooms.{owned, room_here}
 use Rattle.transfer.proofs.Parts.{Agree, by_law, refused, same_ok, still_noted, IsReadable}
@@ -273,50 +273,48 @@ module _ (laws : Laws) (witness : Witness) (shapes : Shapes) (f : Facts) (s : Ru
     value_size : (x : ShapedMap) (g : GivenMap) → IsMap x g → x.shape.value_size ≡ g.map.table.shape.value_size
     value_size x g is = ap (λ (t : MapShape). t.value_size) (sym is.is.shaped)
 
-    look_up_covered : (refused : Bool) → Agree (λ g u. CallIsAdmitted g shapes s u) (call_facts shapes s.at LookUp f) (called refused LookUp s)
-    look_up_covered refused =
-        readable_agree (λ g u. CallIsAdmitted g shapes s u) (kind_at f 1) _ _ (λ r1. readable_agree (λ g u. CallIsAdmitted g shapes s u) (kind_at f 2) _ _ (λ r2.
-        also_agree IsMap (λ g u. CallIsAdmitted g shapes s u) _ _ _ _ (map_agrees 1 (kind_at f 1) r1 (kinds 1)) (λ x g is.
-        also_agree (AreRead x.shape.key_size) (λ g u. CallIsAdmitted g shapes s u) _ _ _ _ (sized_agrees x.shape.key_size g.map.table.shape.key_size 2 (kind_at f 2) (key_size x g is) r2 (kinds 2)) (λ _ key read.
-        looked x g key is))))
+    abbrev IsAdmitted : Facts → RunState → Type 0
+    IsAdmitted g u = CallIsAdmitted g shapes s u
 
-    update_covered : (refused : Bool) → Agree (λ g u. CallIsAdmitted g shapes s u) (call_facts shapes s.at Update f) (called refused Update s)
-    update_covered refused =
-        readable_agree (λ g u. CallIsAdmitted g shapes s u) (kind_at f 1) _ _ (λ r1. readable_agree (λ g u. CallIsAdmitted g shapes s u) (kind_at f 2) _ _ (λ r2.
-        readable_agree (λ g u. CallIsAdmitted g shapes s u) (kind_at f 3) _ _ (λ r3. readable_agree (λ g u. CallIsAdmitted g shapes s u) (kind_at f 4) _ _ (λ r4.
-        also_agree IsMap (λ g u. CallIsAdmitted g shapes s u) _ _ _ _ (map_agrees 1 (kind_at f 1) r1 (kinds 1)) (λ x g is.
-        also_agree (AreRead x.shape.key_size) (λ g u. CallIsAdmitted g shapes s u) _ _ _ _ (sized_agrees x.shape.key_size g.map.table.shape.key_size 2 (kind_at f 2) (key_size x g is) r2 (kinds 2)) (λ _ key read.
-        also_agree (AreRead x.shape.value_size) (λ g u. CallIsAdmitted g shapes s u) _ _ _ _ (sized_agrees x.shape.value_size g.map.table.shape.value_size 3 (kind_at f 3) (value_size x g is) r3 (kinds 3)) (λ _ value got.
-        also_agree InRange (λ g u. CallIsAdmitted g shapes s u) _ _ _ _ (number_agrees 4 (kind_at f 4) r4 (kinds 4)) (λ range flags within.
-        replied x g (updated refused g.map key value flags) is (laws.map_calls.updated x.shape g.map key value flags refused is.is (bytes_of_map x g is) got.0 got.1) (put_small refused g.map key value (verdict g.map.table key flags))))))))))
+    abbrev Read : ℕ → Type 0
+    Read r = IsReadable (kind_at f r)
 
-    delete_covered : (refused : Bool) → Agree (λ g u. CallIsAdmitted g shapes s u) (call_facts shapes s.at Delete f) (called refused Delete s)
-    delete_covered refused =
-        readable_agree (λ g u. CallIsAdmitted g shapes s u) (kind_at f 1) _ _ (λ r1. readable_agree (λ g u. CallIsAdmitted g shapes s u) (kind_at f 2) _ _ (λ r2.
-        also_agree IsMap (λ g u. CallIsAdmitted g shapes s u) _ _ _ _ (map_agrees 1 (kind_at f 1) r1 (kinds 1)) (λ x g is.
-        also_agree (AreRead x.shape.key_size) (λ g u. CallIsAdmitted g shapes s u) _ _ _ _ (sized_agrees x.shape.key_size g.map.table.shape.key_size 2 (kind_at f 2) (key_size x g is) r2 (kinds 2)) (λ _ key read.
-        replied x g (removed g.map key) is (laws.map_calls.removed x.shape g.map key is.is (bytes_of_map x g is)) (taken_small g.map key (removal g.map.table key))))))
+    -- the machine takes no step for what the facts read
+    two_read : (go : Kind → Kind → Result Facts Reason) (o : Option RunState) → (Read 1 → Read 2 → Agree IsAdmitted (go (kind_at f 1) (kind_at f 2)) o) → Agree IsAdmitted (readable_two f go) o
+    two_read go o h = readable_agree IsAdmitted (kind_at f 1) _ o (λ r1. readable_agree IsAdmitted (kind_at f 2) _ o (h r1))
 
-    load_covered : (refused : Bool) → Agree (λ g u. CallIsAdmitted g shapes s u) (call_facts shapes s.at LoadBytes f) (called refused LoadBytes s)
-    load_covered refused =
-        readable_agree (λ g u. CallIsAdmitted g shapes s u) (kind_at f 1) _ _ (λ r1. readable_agree (λ g u. CallIsAdmitted g shapes s u) (kind_at f 2) _ _ (λ r2.
-        readable_agree (λ g u. CallIsAdmitted g shapes s u) (kind_at f 3) _ _ (λ r3. readable_agree (λ g u. CallIsAdmitted g shapes s u) (kind_at f 4) _ _ (λ r4.
-        also_agree Anything (λ g u. CallIsAdmitted g shapes s u) _ _ _ _ (context_agrees 1 (kind_at f 1) r1 (kinds 1)) (λ _ _ _.
-        also_agree InRange (λ g u. CallIsAdmitted g shapes s u) _ _ _ _ (number_agrees 2 (kind_at f 2) r2 (kinds 2)) (λ _ offset _.
-        also_agree InRange (λ g u. CallIsAdmitted g shapes s u) _ _ _ _ (length_agrees 4 (kind_at f 4) r4 (kinds 4)) (λ range n within.
+    four_read : (go : Kind → Kind → Kind → Kind → Result Facts Reason) (o : Option RunState) → (Read 1 → Read 2 → Read 3 → Read 4 → Agree IsAdmitted (go (kind_at f 1) (kind_at f 2) (kind_at f 3) (kind_at f 4)) o) → Agree IsAdmitted (readable_four f go) o
+    four_read go o h = two_read _ o (λ r1 r2. readable_agree IsAdmitted (kind_at f 3) _ o (λ r3. readable_agree IsAdmitted (kind_at f 4) _ o (h r1 r2 r3)))
+
+    -- a map, and a key of it
+    key_given : (go : ShapedMap → Result Facts Reason) (on : GivenMap → List ℕ → Option RunState) → Read 1 → Read 2 → ((x : ShapedMap) (g : GivenMap) (key : List ℕ) → IsMap x g → Agree IsAdmitted (go x) (on g key))
+        → Agree IsAdmitted (and_then_ok (map_kind shapes (kind_at f 1)) (λ x. and_then_ok (input_kind shapes f x.shape.key_size (kind_at f 2)) (λ _. go x))) (and_then (map_argument s 1) (λ g. and_then (argument s 2 (λ p. input s p g.map.table.shape.key_size)) (on g)))
+    key_given go on r1 r2 next =
+        also_agree IsMap IsAdmitted _ _ _ _ (map_agrees 1 (kind_at f 1) r1 (kinds 1))
+        (λ x g is. also_agree (AreRead x.shape.key_size) IsAdmitted _ _ _ _ (sized_agrees x.shape.key_size g.map.table.shape.key_size 2 (kind_at f 2) (key_size x g is) r2 (kinds 2)) (λ _ key read. next x g key is))
+
+    all_covered : (refused : Bool) (h : Helper) → Agree IsAdmitted (call_facts shapes s.at h f) (called refused h s)
+    all_covered refused LookUp = two_read _ _ (λ r1 r2. key_given _ _ r1 r2 (λ x g key is. looked x g key is))
+    all_covered refused Update =
+        four_read _ _ (λ r1 r2 r3 r4. key_given _ _ r1 r2 (λ x g key is.
+        also_agree (AreRead x.shape.value_size) IsAdmitted _ _ _ _ (sized_agrees x.shape.value_size g.map.table.shape.value_size 3 (kind_at f 3) (value_size x g is) r3 (kinds 3)) (λ _ value got.
+        also_agree InRange IsAdmitted _ _ _ _ (number_agrees 4 (kind_at f 4) r4 (kinds 4)) (λ range flags within.
+        replied x g (updated refused g.map key value flags) is (laws.map_calls.updated x.shape g.map key value flags refused is.is (bytes_of_map x g is) got.0 got.1) (put_small refused g.map key value (verdict g.map.table key flags))))))
+    all_covered refused Delete =
+        two_read _ _ (λ r1 r2. key_given _ _ r1 r2 (λ x g key is.
+        replied x g (removed g.map key) is (laws.map_calls.removed x.shape g.map key is.is (bytes_of_map x g is)) (taken_small g.map key (removal g.map.table key))))
+    all_covered refused LoadBytes =
+        four_read _ _ (λ r1 r2 r3 r4.
+        also_agree Anything IsAdmitted _ _ _ _ (context_agrees 1 (kind_at f 1) r1 (kinds 1)) (λ _ _ _.
+        also_agree InRange IsAdmitted _ _ _ _ (number_agrees 2 (kind_at f 2) r2 (kinds 2)) (λ _ offset _.
+        also_agree InRange IsAdmitted _ _ _ _ (length_agrees 4 (kind_at f 4) r4 (kinds 4)) (λ range n within.
         let bs = packet_bytes s.packet offset n in let read = packet_read s.packet offset n still.proper.packet in
-        also_agree (IsFilled bs) (λ g u. CallIsAdmitted g shapes s u) _ _ _ _ (output_agrees 3 range (kind_at f 3) bs r3 (kinds 3) read.1 (subst (λ k. IsMember k range) (sym read.0) within)) (λ g u filled.
+        also_agree (IsFilled bs) IsAdmitted _ _ _ _ (output_agrees 3 range (kind_at f 3) bs r3 (kinds 3) read.1 (subst (λ k. IsMember k range) (sym read.0) within)) (λ g u filled.
         record {
           witness = witness;
           still = laws.call witness g shapes u any_number (Scalar (packet_answer s.packet offset n)) filled.known (any_is witness (packet_answer s.packet offset n) (answer_small s.packet offset n));
           at = filled.same_at;
-        }))))))))
-
-    pub all_covered : (refused : Bool) (h : Helper) → Agree (λ g u. CallIsAdmitted g shapes s u) (call_facts shapes s.at h f) (called refused h s)
-    all_covered refused LookUp = look_up_covered refused
-    all_covered refused Update = update_covered refused
-    all_covered refused Delete = delete_covered refused
-    all_covered refused LoadBytes = load_covered refused
+        })))))
 
 pub calls_are_sound : Laws → CallsAreSound
 calls_are_sound laws witness refused shapes h f g s below still e =

@@ -33,26 +33,16 @@ use Rattle.tagged_model.specs.Laws.{NullTestAdmits}
 use Rattle.tagged_model.specs.Admits.{IsLookup}
 use Rattle.transfer.specs.Branches.{Edges, with_source, with_pair, is_same, number_edges, null_edges, settled_edges, branch_edges}
 use Rattle.transfer.specs.Sound.{EdgeAdmits, TakenEdgeAdmits}
-use Rattle.transfer.proofs.Parts.{Here, IsFound, IsKnown, OnJumping, IsCovered, IsCoveredIf}
+use Rattle.transfer.proofs.Parts.{AtBothWidths, at_width, Here, IsFound, IsKnown, OnJumping, IsCovered, IsCoveredIf}
 use Rattle.transfer.proofs.States.{scalar_of, known_more, goes_to}
 use Rattle.transfer.proofs.Values.{by_number}
 use Rattle.transfer.proofs.Words.{settled_words}
 
 -- laws of comparisons of words, and of tests of look-ups
 pub record Comparisons : Type 0 where
-  pub members_wide : EdgesKeepMembers 64
-  pub members_narrow : EdgesKeepMembers 32
-  pub words_wide : EdgesAreWords 64
-  pub words_narrow : EdgesAreWords 32
+  pub members : AtBothWidths EdgesKeepMembers
+  pub words : AtBothWidths EdgesAreWords
   pub null_tests : NullTestAdmits
-
-members : Comparisons → (wide : Bool) → EdgesKeepMembers (width wide)
-members laws true = laws.members_wide
-members laws false = laws.members_narrow
-
-words : Comparisons → (wide : Bool) → EdgesAreWords (width wide)
-words laws true = laws.words_wide
-words laws false = laws.words_narrow
 
 -- ---- one edge
 
@@ -100,8 +90,8 @@ module _ (here : Here) (laws : Comparisons) (f : Facts) (s : RunState) (known : 
     numbers_covered a b ah bh m n =
         let taken = compares (width wide) cond x y in
         let edges = refined (width wide) cond a b in
-        let keep = members laws wide cond a b x y ah bh m n in
-        let are = words laws wide cond a b ah bh in
+        let keep = at_width laws.members wide cond a b x y ah bh m n in
+        let are = at_width laws.words wide cond a b ah bh in
         let both : Edges = record { falling = Some f; jumping = Some f } in
         let each : Edges = record { falling = option_map (with_pair f dst src) edges.1; jumping = option_map (with_pair f dst src) edges.0 } in
         cond_both (is_same dst src) both each (λ e. Covered e taken)

@@ -1,5 +1,7 @@
 -- What facts answer and what the machine does go together, one operator after the other.
-use Rattle.std.proofs.Common.{◌≡◌, ℕ, ◌<◌, ◌^◌, Bool, Option, Some, None, Result, Ok, Err, refl, sym, subst}
+use Rattle.std.proofs.Common.{◌≡◌, ℕ, ◌<◌, ◌^◌, Bool, true, false, Option, Some, None, Result, Ok, Err, refl, sym, subst}
+use Rattle.std.specs.Prelude.{◌||◌}
+use Rattle.words.specs.Widths.{width}
 use Rattle.reg_kinds.specs.declared.kind.Kind.{Kind}
 use Rattle.reg_kinds.specs.declared.kind.Kind.TheVariants as kind
 use Rattle.reg_kinds.specs.declared.facts.Facts.{Facts}
@@ -14,6 +16,15 @@ use Rattle.tagged_model.specs.Named.{Shapes}
 use Rattle.tagged_model.specs.Laws.{Describes}
 use Rattle.transfer.specs.Branches.{Edges}
 use Rattle.transfer.specs.Sound.{IsKindAt, AreWellFormedAt, EdgeAdmits}
+
+-- ---- laws of operators and comparisons, on 64 and on 32 bits
+pub record AtBothWidths (Law : ℕ → Type 0) : Type 0 where
+  pub wide : Law 64
+  pub narrow : Law 32
+
+pub at_width : {Law : ℕ → Type 0} → AtBothWidths Law → (wide : Bool) → Law (width wide)
+at_width laws true = laws.wide
+at_width laws false = laws.narrow
 
 -- ---- results
 
@@ -94,21 +105,19 @@ still_of here f s known = record { admits = known.admits; proper = known.proper;
 
 -- all is known still at another slot, and where a refusal of memory is noted
 module _ (witness : Witness) (f : Facts) (shapes : Shapes) (s : RunState) (still : Describes witness f shapes s) where
-  pub still_at : (n : ℕ) → Describes witness f shapes (at_slot n s)
-  still_at n =
+  still_after : (n : ℕ) (b : Bool) → Describes witness f shapes (record s { at = n; refused = b })
+  still_after n b =
       record {
         admits = record { registers = still.admits.registers; slots = still.admits.slots; objects = still.admits.objects };
         proper = record { bytes = still.proper.bytes; words = still.proper.words; count = still.proper.count; values = still.proper.values; packet = still.proper.packet };
         maps = still.maps;
       }
 
+  pub still_at : (n : ℕ) → Describes witness f shapes (at_slot n s)
+  still_at n = still_after n s.refused
+
   pub still_noted : (b : Bool) → Describes witness f shapes (with_refusal s b)
-  still_noted b =
-      record {
-        admits = record { registers = still.admits.registers; slots = still.admits.slots; objects = still.admits.objects };
-        proper = record { bytes = still.proper.bytes; words = still.proper.words; count = still.proper.count; values = still.proper.values; packet = still.proper.packet };
-        maps = still.maps;
-      }
+  still_noted b = still_after s.at (s.refused || b)
 
 -- ---- steps: the state after one is `On` an edge
 

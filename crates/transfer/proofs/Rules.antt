@@ -23,7 +23,7 @@ use Rattle.reg_kinds.specs.declared.reason.Reason.{Reason}
 use Rattle.reg_kinds.specs.declared.reason.Reason.TheVariants.{UnknownHelper, DescriptorNotMap, NoDirectValue, PointerArithmetic, MaybeNull, ContextAccess, PointerComparison, OutsideStack, UnwrittenStack, PartOfSpill, OutsideValue, PointerStored, LengthUnbounded, UnalignedAtomic, Memory}
 use Rattle.reg_kinds.specs.Reason.{and_then_ok}
 use Rattle.reg_kinds.specs.Pointers.{value_span}
-use Rattle.reg_kinds.specs.Kinds.{is_pointer, kind_at, slot_at, with_kind, with_slot}
+use Rattle.reg_kinds.specs.Kinds.{is_pointer, kind_at, slot_at}
 use Rattle.reg_kinds.specs.Stack.{touched, loaded, read_slot, stack_read, slot_written, facts_written, stack_write}
 use Rattle.words.specs.declared.operator.Operator.TheVariants.{Binary}
 use Rattle.insn_set.specs.Atomic.{access_size}
@@ -33,9 +33,9 @@ use Rattle.transfer.specs.declared.arithmetic.Direction.{Direction}
 use Rattle.transfer.specs.declared.arithmetic.Direction.TheVariants.{Forwards, Backwards}
 use Rattle.transfer.specs.Arithmetic.{check_readable, near, stack_moved, value_by, distance, moved_offset, pointer_moved, is_maybe, of_scalars, of_scalar, sum_kind, difference_kind, unless_maybe, arithmetic_kind}
 use Rattle.transfer.specs.Branches.{Edges, falls, pointer_edges, branch_edges}
-use Rattle.transfer.specs.Effects.{source_kind, first_kind, assigns, is_word, context_read, load_kind, stored_outside, store_facts, number_or, stack_changed, is_known_multiple, value_changed, changed_facts, map_of, value_of, known, exits_with, effect}
+use Rattle.transfer.specs.Effects.{source_kind, first_kind, assigns, is_word, context_read, load_kind, store_facts, number_or, is_known_multiple, changed_facts, map_of, value_of, known, exits_with, effect}
 use Rattle.transfer.specs.Reasons.{IsSafetyReason, IsReasonOf, TransferReasons}
-use Rattle.transfer.specs.Calls.{shaped, map_kind, room_of, input_kind, output_facts, number_kind, length_kind, context_kind, any_number, call_facts}
+use Rattle.transfer.specs.Calls.{shaped, map_kind, room_of, input_kind, output_facts, number_kind, length_kind, context_kind, readable_two, readable_four, any_number, call_facts}
 use Rattle.words.specs.Words.{unsigned}
 use Rattle.words.specs.Stack.{bytes_of, is_double, is_in_stack, place, is_aligned, touches}
 use Rattle.reg_kinds.specs.declared.kind.ValuePointer.{ValuePointer}
@@ -44,6 +44,7 @@ use Rattle.tagged_model.specs.declared.helper.Helper.{Helper}
 use Rattle.tagged_model.specs.declared.helper.Helper.TheVariants.{LookUp, Update, Delete, LoadBytes}
 use Rattle.tagged_model.specs.declared.shape.MapShape.{MapShape}
 use Rattle.tagged_model.specs.Named.{Shapes}
+use Rattle.transfer.specs.declared.calls.ShapedMap.{ShapedMap}
 use Rattle.tagged_model.specs.Table.{has_direct_value}
 use Rattle.tagged_model.specs.Helpers.{helper_of}
 
@@ -62,6 +63,9 @@ readable_rule : (k : Kind) → ByRule (check_readable k)
 readable_rule kind.Unreadable = tt
 readable_rule k = tt
 
+register_rule : {A : Type 0} (f : Facts) (r : ℕ) (go : Kind → Result A Reason) → ((k : Kind) → ByRule (go k)) → ByRule (and_then_ok (check_readable (kind_at f r)) go)
+register_rule f r go next = then_rule _ _ (readable_rule (kind_at f r)) next
+
 first_rule : (op : AluOp) (k : Kind) → ByRule (first_kind op k)
 first_rule alu.Mov k = tt
 first_rule op k = readable_rule k
@@ -73,11 +77,11 @@ near_rule None = tt
 near_rule (Some x) = tt
 
 stack_moved_rule : (way : Direction) (x : ℤ) (r : Range) → ByRule (stack_moved way x r)
-stack_moved_rule way x r = then_rule (near (and_then (distance r) (λ d. moved_offset way x d.0))) (λ y. Ok (kind.Stack y)) (near_rule _) (λ y. tt)
+stack_moved_rule way x r = then_rule (near (and_then (distance r) (λ d. moved_offset way x d.0))) _ (near_rule _) (λ y. tt)
 
 moved_rule : (way : Direction) (k : Kind) (r : Range) → ByRule (pointer_moved way k r)
 moved_rule way (kind.Stack x) r = cond_both (is_constant r) (stack_moved way x r) (Err PointerArithmetic) ByRule (λ _. stack_moved_rule way x r) (λ _. tt)
-moved_rule way (kind.Value p) r = then_rule (near (and_then (distance r) (value_by way p))) (λ q. Ok (kind.Value q)) (near_rule _) (λ q. tt)
+moved_rule way (kind.Value p) r = then_rule (near (and_then (distance r) (value_by way p))) _ (near_rule _) (λ q. tt)
 moved_rule way k r = tt
 
 numbers_rule : (wide : Bool) (op : Operator) (k l : Kind) → ByRule (of_scalars wide op k l)
@@ -122,7 +126,7 @@ read_slot_rule (Bytes mask) bits size signed = cond_both (bit_and mask bits == b
 
 read_rule : (f : Facts) (offset : ℤ) (size : AccessSize) (signed : Bool) → ByRule (stack_read f offset size signed)
 read_rule f offset size signed =
-    then_rule (touched offset size) (λ t. read_slot (slot_at f t.0) t.1 size signed) (touched_rule offset size) (λ t. read_slot_rule (slot_at f t.0) t.1 size signed)
+    then_rule _ _ (touched_rule offset size) (λ t. read_slot_rule (slot_at f t.0) t.1 size signed)
 
 room_rule : (p : ValuePointer) (off : ℤ) (n : ℕ) (o : Option MapShape) → ByRule (room_of p off n o)
 room_rule p off n None = tt
@@ -131,7 +135,7 @@ room_rule p off n (Some shape) = cond_both (int_le (pos 0) (p.lo +ℤ off) && in
 load_rule : (shapes : Shapes) (f : Facts) (size : AccessSize) (signed : Bool) (off : ℤ) (k : Kind) → ByRule (load_kind shapes f size signed off k)
 load_rule shapes f size signed off (kind.Stack x) = read_rule f (x +ℤ off) size signed
 load_rule shapes f size signed off kind.Ctx = context_rule off size signed
-load_rule shapes f size signed off (kind.Value p) = then_rule (room_of p off (bytes_of size) (shapes p.map)) (λ _. Ok (loaded size signed)) (room_rule p off (bytes_of size) (shapes p.map)) (λ _. tt)
+load_rule shapes f size signed off (kind.Value p) = then_rule _ _ (room_rule p off (bytes_of size) (shapes p.map)) (λ _. tt)
 load_rule shapes f size signed off k = tt
 
 slot_rule : (s : Slot) (bits : ℕ) (size : AccessSize) (k : Kind) → ByRule (slot_written s bits size k)
@@ -141,16 +145,16 @@ slot_rule s bits size k =
     (λ _. tt)
 
 facts_rule : (f : Facts) (size : AccessSize) (k : Kind) (t : ℕ × ℕ) → ByRule (facts_written f size k t)
-facts_rule f size k t = then_rule (slot_written (slot_at f t.0) t.1 size k) (λ s. Ok (with_slot f t.0 s)) (slot_rule (slot_at f t.0) t.1 size k) (λ s. tt)
+facts_rule f size k t = then_rule _ _ (slot_rule (slot_at f t.0) t.1 size k) (λ s. tt)
 
 write_rule : (f : Facts) (offset : ℤ) (size : AccessSize) (k : Kind) → ByRule (stack_write f offset size k)
 write_rule f offset size kind.Unreadable = tt
-write_rule f offset size k = then_rule (touched offset size) (facts_written f size k) (touched_rule offset size) (facts_rule f size k)
+write_rule f offset size k = then_rule _ _ (touched_rule offset size) (facts_rule f size k)
 
 store_rule : (shapes : Shapes) (f : Facts) (size : AccessSize) (off : ℤ) (k v : Kind) → ByRule (store_facts shapes f size off k v)
 store_rule shapes f size off (kind.Stack x) v = write_rule f (x +ℤ off) size v
 store_rule shapes f size off (kind.Value p) v =
-    then_rule (room_of p off (bytes_of size) (shapes p.map)) (λ _. stored_outside f v) (room_rule p off (bytes_of size) (shapes p.map))
+    then_rule _ _ (room_rule p off (bytes_of size) (shapes p.map))
     (λ _. cond_both (is_pointer v) (Err PointerStored) (Ok f) ByRule (λ _. tt) (λ _. tt))
 store_rule shapes f size off k v = tt
 
@@ -160,12 +164,12 @@ number_or_rule reason v h = h
 
 changed_rule : (shapes : Shapes) (f : Facts) (size : AccessSize) (off : ℤ) (k v : Kind) → ByRule (changed_facts shapes f size off k v)
 changed_rule shapes f size off (kind.Stack x) v =
-    then_rule (number_or PointerArithmetic v) (λ _. stack_changed f (x +ℤ off) size) (number_or_rule PointerArithmetic v tt)
-    (λ _. then_rule (stack_read f (x +ℤ off) size false) _ (read_rule f (x +ℤ off) size false)
-    (λ k. then_rule (number_or PartOfSpill k) _ (number_or_rule PartOfSpill k tt) (λ _. write_rule f (x +ℤ off) size any_number)))
+    then_rule _ _ (number_or_rule PointerArithmetic v tt)
+    (λ _. then_rule _ _ (read_rule f (x +ℤ off) size false)
+    (λ k. then_rule _ _ (number_or_rule PartOfSpill k tt) (λ _. write_rule f (x +ℤ off) size any_number)))
 changed_rule shapes f size off (kind.Value p) v =
-    then_rule (number_or PointerArithmetic v) (λ _. value_changed f p off size (shapes p.map)) (number_or_rule PointerArithmetic v tt)
-    (λ _. then_rule (room_of p off (bytes_of size) (shapes p.map)) _ (room_rule p off (bytes_of size) (shapes p.map))
+    then_rule _ _ (number_or_rule PointerArithmetic v tt)
+    (λ _. then_rule _ _ (room_rule p off (bytes_of size) (shapes p.map))
     (λ _. cond_both (is_known_multiple p off size) (Ok f) (Err UnalignedAtomic) ByRule (λ _. tt) (λ _. tt)))
 changed_rule shapes f size off k v = tt
 
@@ -192,7 +196,7 @@ input_rule shapes f n k = tt
 
 output_rule : (shapes : Shapes) (f : Facts) (r : Range) (k : Kind) → ByRule (output_facts shapes f r k)
 output_rule shapes f r (kind.Stack x) = cond_both (is_in_stack x r.hi) (Ok (filled f x r.lo r.hi)) (Err OutsideStack) ByRule (λ _. tt) (λ _. tt)
-output_rule shapes f r (kind.Value p) = then_rule (room_of p (pos 0) r.hi (shapes p.map)) (λ _. Ok f) (room_rule p (pos 0) r.hi (shapes p.map)) (λ _. tt)
+output_rule shapes f r (kind.Value p) = then_rule _ _ (room_rule p (pos 0) r.hi (shapes p.map)) (λ _. tt)
 output_rule shapes f r k = tt
 
 number_rule : (k : Kind) → ByRule (number_kind k)
@@ -207,23 +211,27 @@ context_kind_rule : (k : Kind) → ByRule (context_kind k)
 context_kind_rule kind.Ctx = tt
 context_kind_rule k = tt
 
+two_rule : (f : Facts) (go : Kind → Kind → Result Facts Reason) → ((a b : Kind) → ByRule (go a b)) → ByRule (readable_two f go)
+two_rule f go next = register_rule f 1 _ (λ a. register_rule f 2 _ (next a))
+
+four_rule : (f : Facts) (go : Kind → Kind → Kind → Kind → Result Facts Reason) → ((a b c d : Kind) → ByRule (go a b c d)) → ByRule (readable_four f go)
+four_rule f go next = two_rule f _ (λ a b. register_rule f 3 _ (λ c. register_rule f 4 _ (next a b c)))
+
+-- a map, and a key of it
+key_rule : (shapes : Shapes) (f : Facts) (a b : Kind) (go : ShapedMap → Result Facts Reason) → ((m : ShapedMap) → ByRule (go m)) → ByRule (and_then_ok (map_kind shapes a) (λ m. and_then_ok (input_kind shapes f m.shape.key_size b) (λ _. go m)))
+key_rule shapes f a b go next =
+    then_rule _ _ (map_kind_rule shapes a)
+    (λ m. then_rule _ _ (input_rule shapes f m.shape.key_size b) (λ _. next m))
+
 call_rule : (shapes : Shapes) (at : ℕ) (h : Helper) (f : Facts) → ByRule (call_facts shapes at h f)
-call_rule shapes at LookUp f =
-    then_rule (check_readable (kind_at f 1)) _ (readable_rule (kind_at f 1)) (λ a. then_rule (check_readable (kind_at f 2)) _ (readable_rule (kind_at f 2))
-    (λ b. then_rule (map_kind shapes a) _ (map_kind_rule shapes a) (λ m. then_rule (input_kind shapes f m.shape.key_size b) _ (input_rule shapes f m.shape.key_size b) (λ _. tt))))
+call_rule shapes at LookUp f = two_rule f _ (λ a b. key_rule shapes f a b _ (λ m. tt))
 call_rule shapes at Update f =
-    then_rule (check_readable (kind_at f 1)) _ (readable_rule (kind_at f 1)) (λ a. then_rule (check_readable (kind_at f 2)) _ (readable_rule (kind_at f 2))
-    (λ b. then_rule (check_readable (kind_at f 3)) _ (readable_rule (kind_at f 3)) (λ c. then_rule (check_readable (kind_at f 4)) _ (readable_rule (kind_at f 4))
-    (λ d. then_rule (map_kind shapes a) _ (map_kind_rule shapes a) (λ m. then_rule (input_kind shapes f m.shape.key_size b) _ (input_rule shapes f m.shape.key_size b)
-    (λ _. then_rule (input_kind shapes f m.shape.value_size c) _ (input_rule shapes f m.shape.value_size c) (λ _. then_rule (number_kind d) _ (number_rule d) (λ _. tt))))))))
-call_rule shapes at Delete f =
-    then_rule (check_readable (kind_at f 1)) _ (readable_rule (kind_at f 1)) (λ a. then_rule (check_readable (kind_at f 2)) _ (readable_rule (kind_at f 2))
-    (λ b. then_rule (map_kind shapes a) _ (map_kind_rule shapes a) (λ m. then_rule (input_kind shapes f m.shape.key_size b) _ (input_rule shapes f m.shape.key_size b) (λ _. tt))))
+    four_rule f _ (λ a b c d. key_rule shapes f a b _
+    (λ m. then_rule _ _ (input_rule shapes f m.shape.value_size c) (λ _. then_rule _ _ (number_rule d) (λ _. tt))))
+call_rule shapes at Delete f = two_rule f _ (λ a b. key_rule shapes f a b _ (λ m. tt))
 call_rule shapes at LoadBytes f =
-    then_rule (check_readable (kind_at f 1)) _ (readable_rule (kind_at f 1)) (λ a. then_rule (check_readable (kind_at f 2)) _ (readable_rule (kind_at f 2))
-    (λ b. then_rule (check_readable (kind_at f 3)) _ (readable_rule (kind_at f 3)) (λ c. then_rule (check_readable (kind_at f 4)) _ (readable_rule (kind_at f 4))
-    (λ d. then_rule (context_kind a) _ (context_kind_rule a) (λ _. then_rule (number_kind b) _ (number_rule b)
-    (λ _. then_rule (length_kind d) _ (length_rule d) (λ r. then_rule (output_facts shapes f r c) _ (output_rule shapes f r c) (λ _. tt))))))))
+    four_rule f _ (λ a b c d. then_rule _ _ (context_kind_rule a) (λ _. then_rule _ _ (number_rule b)
+    (λ _. then_rule _ _ (length_rule d) (λ r. then_rule _ _ (output_rule shapes f r c) (λ _. tt)))))
 
 -- ---- the edges of comparisons, and the end
 
@@ -240,17 +248,14 @@ ends_rule k = tt
 
 module _ (shapes : Shapes) (at : ℕ) (f : Facts) where
   assigns_rule : (dst : ℕ) (r : Result Kind Reason) → ByRule r → ByRule (assigns f dst r)
-  assigns_rule dst r h = then_rule r (λ k. falls (with_kind f dst k)) h (λ k. tt)
-
-  register_rule : (r : ℕ) (go : Kind → Result Edges Reason) → ((k : Kind) → ByRule (go k)) → ByRule (and_then_ok (check_readable (kind_at f r)) go)
-  register_rule r go next = then_rule (check_readable (kind_at f r)) go (readable_rule (kind_at f r)) next
+  assigns_rule dst r h = then_rule _ _ h (λ k. tt)
 
   operand_rule : (wide : Bool) (src : Operand) (go : Kind → Result Edges Reason) → ((k : Kind) → ByRule (go k)) → ByRule (and_then_ok (check_readable (source_kind f wide src)) go)
-  operand_rule wide src go next = then_rule (check_readable (source_kind f wide src)) go (readable_rule (source_kind f wide src)) next
+  operand_rule wide src go next = then_rule _ _ (readable_rule (source_kind f wide src)) next
 
   -- an operator of one register
   one_rule : (wide : Bool) (op : Operator) (dst src : ℕ) → ByRule (and_then_ok (check_readable (kind_at f src)) (λ k. assigns f dst (of_scalar wide op k)))
-  one_rule wide op dst src = register_rule src _ (λ k. assigns_rule dst (of_scalar wide op k) (numbers_rule wide op k k))
+  one_rule wide op dst src = register_rule f src _ (λ k. assigns_rule dst (of_scalar wide op k) (numbers_rule wide op k k))
 
   -- an instruction that names neither a function nor a map
   abbrev IsPlain : Insn → Type 0
@@ -261,23 +266,23 @@ module _ (shapes : Shapes) (at : ℕ) (f : Facts) where
 
   insn_rule : (i : Insn) → IsPlain i → ByRule (effect shapes at i f)
   insn_rule (Alu wide op dst src) _ =
-      then_rule (first_kind op (kind_at f dst)) _ (first_rule op (kind_at f dst))
+      then_rule _ _ (first_rule op (kind_at f dst))
       (λ a. operand_rule wide src _ (λ b. assigns_rule dst (arithmetic_kind wide op a b) (arithmetic_rule wide op a b)))
   insn_rule (Movsx m) _ = one_rule m.wide (on_words.SignExtend m.bits) m.dst m.src
   insn_rule (Neg wide dst) _ = one_rule wide on_words.Neg dst dst
   insn_rule (End how kept dst) _ = one_rule true (on_words.End how kept) dst dst
   insn_rule (Ja off) _ = tt
   insn_rule (Jal off) _ = tt
-  insn_rule (Jump wide cond dst src off) _ = register_rule dst _ (λ a. operand_rule wide src _ (λ b. branch_rule wide cond f dst src a b))
+  insn_rule (Jump wide cond dst src off) _ = register_rule f dst _ (λ a. operand_rule wide src _ (λ b. branch_rule wide cond f dst src a b))
   insn_rule (Call id) none = absurd none
-  insn_rule Exit _ = register_rule 0 exits_with ends_rule
-  insn_rule (Load l) _ = register_rule l.src _ (λ k. assigns_rule l.dst (load_kind shapes f l.size l.signed l.off k) (load_rule shapes f l.size l.signed l.off k))
+  insn_rule Exit _ = register_rule f 0 exits_with ends_rule
+  insn_rule (Load l) _ = register_rule f l.src _ (λ k. assigns_rule l.dst (load_kind shapes f l.size l.signed l.off k) (load_rule shapes f l.size l.signed l.off k))
   insn_rule (Store size dst src off) _ =
-      register_rule dst _ (λ k. operand_rule true src _
-      (λ v. then_rule (store_facts shapes f size off k v) falls (store_rule shapes f size off k v) (λ g. tt)))
+      register_rule f dst _ (λ k. operand_rule true src _
+      (λ v. then_rule _ _ (store_rule shapes f size off k v) (λ g. tt)))
   insn_rule (Atomic size op dst src off) _ =
-      register_rule dst _ (λ k. register_rule src _
-      (λ v. then_rule (changed_facts shapes f (access_size size) off k v) falls (changed_rule shapes f (access_size size) off k v) (λ g. tt)))
+      register_rule f dst _ (λ k. register_rule f src _
+      (λ v. then_rule _ _ (changed_rule shapes f (access_size size) off k v) (λ g. tt)))
   insn_rule (Const dst value) _ = tt
   insn_rule (MapFd dst fd) none = absurd none
   insn_rule (MapValue dst fd off) none = absurd none
@@ -301,7 +306,7 @@ module _ (shapes : Shapes) (at : ℕ) (f : Facts) where
   call_tells : (id : ℤ) (o : Option Helper) → helper_of id ≡ o → Tells (Call id) (and_then_ok (known o) (λ h. and_then_ok (call_facts shapes at h f) falls))
   call_tells id None e = e
   call_tells id (Some h) e =
-      by_operands (Call id) (and_then_ok (call_facts shapes at h f) falls) (then_rule (call_facts shapes at h f) falls (call_rule shapes at h f) (λ g. tt))
+      by_operands (Call id) (and_then_ok (call_facts shapes at h f) falls) (then_rule _ _ (call_rule shapes at h f) (λ g. tt))
 
   map_tells : (dst : ℕ) (fd : ℤ) (o : Option MapShape) → shapes (unsigned 32 fd) ≡ o → Tells (MapFd dst fd) (assigns f dst (map_of (unsigned 32 fd) o))
   map_tells dst fd None e = e

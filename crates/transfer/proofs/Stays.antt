@@ -31,13 +31,14 @@ use Rattle.reg_kinds.specs.declared.reason.Reason.TheVariants.{NoDirectValue, Po
 use Rattle.reg_kinds.specs.Reason.{and_then_ok}
 use Rattle.reg_kinds.specs.Pointers.{value_span}
 use Rattle.reg_kinds.specs.Kinds.{is_pointer, kind_at, with_kind}
-use Rattle.reg_kinds.specs.Stack.{loaded, stack_read}
+use Rattle.reg_kinds.specs.Stack.{stack_read}
 use Rattle.words.specs.Words.{unsigned}
 use Rattle.words.specs.Stack.{bytes_of}
 use Rattle.tagged_model.specs.declared.helper.Helper.{Helper}
 use Rattle.tagged_model.specs.declared.helper.Helper.TheVariants.{LookUp, Update, Delete, LoadBytes}
 use Rattle.tagged_model.specs.declared.shape.MapShape.{MapShape}
 use Rattle.tagged_model.specs.Named.{Shapes}
+use Rattle.transfer.specs.declared.calls.ShapedMap.{ShapedMap}
 use Rattle.tagged_model.specs.Table.{has_direct_value}
 use Rattle.tagged_model.specs.Helpers.{helper_of}
 use Rattle.words.specs.declared.operator.Operator.TheVariants.{Binary}
@@ -49,28 +50,18 @@ use Rattle.transfer.specs.declared.arithmetic.Direction.{Direction}
 use Rattle.transfer.specs.declared.arithmetic.Direction.TheVariants.{Forwards, Backwards}
 use Rattle.transfer.specs.Arithmetic.{check_readable, near, stack_moved, value_by, distance, moved_offset, pointer_moved, is_maybe, of_scalars, of_scalar, sum_kind, difference_kind, unless_maybe, arithmetic_kind}
 use Rattle.transfer.specs.Branches.{Edges, falls, with_source, with_pair, is_same, number_edges, null_edges, pointer_edges, branch_edges}
-use Rattle.transfer.specs.Effects.{source_kind, first_kind, assigns, is_word, context_read, load_kind, stored_outside, store_facts, number_or, stack_changed, is_known_multiple, value_changed, changed_facts, map_of, value_of, known, exits_with, effect}
-use Rattle.transfer.specs.Calls.{map_kind, room_of, input_kind, output_facts, number_kind, length_kind, context_kind, any_number, call_facts}
+use Rattle.transfer.specs.Effects.{source_kind, first_kind, assigns, is_word, context_read, load_kind, store_facts, number_or, is_known_multiple, changed_facts, map_of, value_of, known, exits_with, effect}
+use Rattle.transfer.specs.Calls.{map_kind, room_of, input_kind, output_facts, number_kind, length_kind, context_kind, readable_two, readable_four, any_number, call_facts}
 use Rattle.transfer.specs.Sound.{IsKindAt, AreWellFormedAt, AreWellFormedOn, TransferKeepsWellFormed}
 use Rattle.transfer.specs.FactLaws.{facts_of_later_slots}
-use Rattle.transfer.proofs.Parts.{OkIs, then_ok, ok_is}
+use Rattle.transfer.proofs.Parts.{AtBothWidths, at_width, OkIs, then_ok, ok_is}
 use Rattle.transfer.proofs.Words.{kind_words, loaded_words, read_words, written_words, settled_words, filled_words, called_words}
 use Rattle.transfer.proofs.States.{word_of}
 
 -- laws of the results of operators, and of the edges of comparisons
 pub record WordLaws : Type 0 where
-  pub results_wide : ResultsAreWords 64
-  pub results_narrow : ResultsAreWords 32
-  pub edges_wide : EdgesAreWords 64
-  pub edges_narrow : EdgesAreWords 32
-
-results : WordLaws → (wide : Bool) → ResultsAreWords (width wide)
-results laws true = laws.results_wide
-results laws false = laws.results_narrow
-
-refined_words : WordLaws → (wide : Bool) → EdgesAreWords (width wide)
-refined_words laws true = laws.edges_wide
-refined_words laws false = laws.edges_narrow
+  pub results : AtBothWidths ResultsAreWords
+  pub edges : AtBothWidths EdgesAreWords
 
 -- `bound` is above the slot of the instruction
 module _ (bound : ℕ) (shapes : Shapes) (at : ℕ) (lt : at < bound) where
@@ -103,16 +94,14 @@ module _ (bound : ℕ) (shapes : Shapes) (at : ℕ) (lt : at < bound) where
   moved_words : (way : Direction) (k : Kind) (r : Range) → OkIs (IsKindAt bound) (pointer_moved way k r)
   moved_words way (kind.Stack x) r =
       cond_both (is_constant r) (stack_moved way x r) (Err PointerArithmetic) (OkIs (IsKindAt bound))
-      (λ _. let far = near (and_then (distance r) (λ d. moved_offset way x d.0)) in then_ok (λ y. Unit {0}) (IsKindAt bound) far (λ y. Ok (kind.Stack y)) (any_ok far) (λ y _. tt))
+      (λ _. past _ (near (and_then (distance r) (λ d. moved_offset way x d.0))) (λ y. Ok (kind.Stack y)) (λ y. tt))
       (λ _. tt)
-  moved_words way (kind.Value p) r =
-      let far = near (and_then (distance r) (value_by way p)) in
-      then_ok (λ q. Unit {0}) (IsKindAt bound) far (λ q. Ok (kind.Value q)) (any_ok far) (λ q _. tt)
+  moved_words way (kind.Value p) r = past _ (near (and_then (distance r) (value_by way p))) (λ q. Ok (kind.Value q)) (λ q. tt)
   moved_words way k r = tt
 
   module _ (laws : WordLaws) where
     numbers_words : (wide : Bool) (op : Operator) (k l : Kind) → IsKindAt bound k → IsKindAt bound l → OkIs (IsKindAt bound) (of_scalars wide op k l)
-    numbers_words wide op (kind.Scalar a) (kind.Scalar b) h g = results laws wide op a b h g
+    numbers_words wide op (kind.Scalar a) (kind.Scalar b) h g = at_width laws.results wide op a b h g
     numbers_words wide op k l h g = tt
 
     sum_words : (k l : Kind) → IsKindAt bound k → IsKindAt bound l → OkIs (IsKindAt bound) (sum_kind k l)
@@ -148,24 +137,24 @@ module _ (bound : ℕ) (shapes : Shapes) (at : ℕ) (lt : at < bound) where
   load_words : (f : Facts) (size : AccessSize) (signed : Bool) (off : ℤ) (k : Kind) → AreWellFormedAt bound f → OkIs (IsKindAt bound) (load_kind shapes f size signed off k)
   load_words f size signed off (kind.Stack x) h = read_words bound f (x +ℤ off) size signed h
   load_words f size signed off kind.Ctx h = context_words off size signed
-  load_words f size signed off (kind.Value p) h = past (IsKindAt bound) (room_of p off (bytes_of size) (shapes p.map)) (λ _. Ok (loaded size signed)) (λ _. loaded_words bound size signed)
+  load_words f size signed off (kind.Value p) h = past _ (room_of p off (bytes_of size) (shapes p.map)) _ (λ _. loaded_words bound size signed)
   load_words f size signed off k h = tt
 
   store_words : (f : Facts) (size : AccessSize) (off : ℤ) (k v : Kind) → AreWellFormedAt bound f → IsKindAt bound v → OkIs (AreWellFormedAt bound) (store_facts shapes f size off k v)
   store_words f size off (kind.Stack x) v h g = written_words bound f (x +ℤ off) size v h g
   store_words f size off (kind.Value p) v h g =
-      past (AreWellFormedAt bound) (room_of p off (bytes_of size) (shapes p.map)) (λ _. stored_outside f v)
+      past _ (room_of p off (bytes_of size) (shapes p.map)) _
       (λ _. cond_both (is_pointer v) (Err PointerStored) (Ok f) (OkIs (AreWellFormedAt bound)) (λ _. tt) (λ _. h))
   store_words f size off k v h g = tt
 
   changed_words : (f : Facts) (size : AccessSize) (off : ℤ) (k v : Kind) → AreWellFormedAt bound f → OkIs (AreWellFormedAt bound) (changed_facts shapes f size off k v)
   changed_words f size off (kind.Stack x) v h =
-      past (AreWellFormedAt bound) (number_or PointerArithmetic v) (λ _. stack_changed f (x +ℤ off) size)
-      (λ _. past (AreWellFormedAt bound) (stack_read f (x +ℤ off) size false) _
-      (λ k. past (AreWellFormedAt bound) (number_or PartOfSpill k) _ (λ _. written_words bound f (x +ℤ off) size any_number h number_words_any)))
+      past _ (number_or PointerArithmetic v) _
+      (λ _. past _ (stack_read f (x +ℤ off) size false) _
+      (λ k. past _ (number_or PartOfSpill k) _ (λ _. written_words bound f (x +ℤ off) size any_number h number_words_any)))
   changed_words f size off (kind.Value p) v h =
-      past (AreWellFormedAt bound) (number_or PointerArithmetic v) (λ _. value_changed f p off size (shapes p.map))
-      (λ _. past (AreWellFormedAt bound) (room_of p off (bytes_of size) (shapes p.map)) _
+      past _ (number_or PointerArithmetic v) _
+      (λ _. past _ (room_of p off (bytes_of size) (shapes p.map)) _
       (λ _. cond_both (is_known_multiple p off size) (Ok f) (Err UnalignedAtomic) (OkIs (AreWellFormedAt bound)) (λ _. h) (λ _. tt)))
   changed_words f size off k v h = tt
 
@@ -173,31 +162,30 @@ module _ (bound : ℕ) (shapes : Shapes) (at : ℕ) (lt : at < bound) where
 
   output_words : (f : Facts) (r : Range) (k : Kind) → AreWellFormedAt bound f → OkIs (AreWellFormedAt bound) (output_facts shapes f r k)
   output_words f r (kind.Stack x) h = filled_words bound f x r.lo r.hi h
-  output_words f r (kind.Value p) h = past (AreWellFormedAt bound) (room_of p (pos 0) r.hi (shapes p.map)) (λ _. Ok f) (λ _. h)
+  output_words f r (kind.Value p) h = past _ (room_of p (pos 0) r.hi (shapes p.map)) _ (λ _. h)
   output_words f r k h = tt
 
+  two_words : (f : Facts) (go : Kind → Kind → Result Facts Reason) → ((a b : Kind) → OkIs (AreWellFormedAt bound) (go a b)) → OkIs (AreWellFormedAt bound) (readable_two f go)
+  two_words f go next = past _ (check_readable (kind_at f 1)) _ (λ a. past _ (check_readable (kind_at f 2)) _ (next a))
+
+  four_words : (f : Facts) (go : Kind → Kind → Kind → Kind → Result Facts Reason) → ((a b c d : Kind) → OkIs (AreWellFormedAt bound) (go a b c d)) → OkIs (AreWellFormedAt bound) (readable_four f go)
+  four_words f go next = two_words f _ (λ a b. past _ (check_readable (kind_at f 3)) _ (λ c. past _ (check_readable (kind_at f 4)) _ (next a b c)))
+
+  -- a map, and a key of it
+  key_words : (f : Facts) (a b : Kind) (go : ShapedMap → Result Facts Reason) → ((m : ShapedMap) → OkIs (AreWellFormedAt bound) (go m)) → OkIs (AreWellFormedAt bound) (and_then_ok (map_kind shapes a) (λ m. and_then_ok (input_kind shapes f m.shape.key_size b) (λ _. go m)))
+  key_words f a b go next = past _ (map_kind shapes a) _ (λ m. past _ (input_kind shapes f m.shape.key_size b) _ (λ _. next m))
+
   call_words : (h : Helper) (f : Facts) → AreWellFormedAt bound f → OkIs (AreWellFormedAt bound) (call_facts shapes at h f)
-  call_words LookUp f is =
-      past (AreWellFormedAt bound) (check_readable (kind_at f 1)) _ (λ a. past (AreWellFormedAt bound) (check_readable (kind_at f 2)) _
-      (λ b. past (AreWellFormedAt bound) (map_kind shapes a) _ (λ m. past (AreWellFormedAt bound) (input_kind shapes f m.shape.key_size b) _
-      (λ _. called_words bound f (kind.MaybeValue m.descriptor at) is lt))))
+  call_words LookUp f is = two_words f _ (λ a b. key_words f a b _ (λ m. called_words bound f (kind.MaybeValue m.descriptor at) is lt))
   call_words Update f is =
-      past (AreWellFormedAt bound) (check_readable (kind_at f 1)) _ (λ a. past (AreWellFormedAt bound) (check_readable (kind_at f 2)) _
-      (λ b. past (AreWellFormedAt bound) (check_readable (kind_at f 3)) _ (λ c. past (AreWellFormedAt bound) (check_readable (kind_at f 4)) _
-      (λ d. past (AreWellFormedAt bound) (map_kind shapes a) _ (λ m. past (AreWellFormedAt bound) (input_kind shapes f m.shape.key_size b) _
-      (λ _. past (AreWellFormedAt bound) (input_kind shapes f m.shape.value_size c) _ (λ _. past (AreWellFormedAt bound) (number_kind d) _
-      (λ _. called_words bound f any_number is number_words_any))))))))
-  call_words Delete f is =
-      past (AreWellFormedAt bound) (check_readable (kind_at f 1)) _ (λ a. past (AreWellFormedAt bound) (check_readable (kind_at f 2)) _
-      (λ b. past (AreWellFormedAt bound) (map_kind shapes a) _ (λ m. past (AreWellFormedAt bound) (input_kind shapes f m.shape.key_size b) _
-      (λ _. called_words bound f any_number is number_words_any))))
+      four_words f _ (λ a b c d. key_words f a b _ (λ m. past _ (input_kind shapes f m.shape.value_size c) _
+      (λ _. past _ (number_kind d) _ (λ _. called_words bound f any_number is number_words_any))))
+  call_words Delete f is = two_words f _ (λ a b. key_words f a b _ (λ m. called_words bound f any_number is number_words_any))
   call_words LoadBytes f is =
-      past (AreWellFormedAt bound) (check_readable (kind_at f 1)) _ (λ a. past (AreWellFormedAt bound) (check_readable (kind_at f 2)) _
-      (λ b. past (AreWellFormedAt bound) (check_readable (kind_at f 3)) _ (λ c. past (AreWellFormedAt bound) (check_readable (kind_at f 4)) _
-      (λ d. past (AreWellFormedAt bound) (context_kind a) _ (λ _. past (AreWellFormedAt bound) (number_kind b) _
-      (λ _. past (AreWellFormedAt bound) (length_kind d) _
-      (λ r. then_ok (AreWellFormedAt bound) (AreWellFormedAt bound) (output_facts shapes f r c) _ (output_words f r c is)
-      (λ g too. called_words bound g any_number too number_words_any))))))))
+      four_words f _ (λ a b c d. past _ (context_kind a) _ (λ _. past _ (number_kind b) _
+      (λ _. past _ (length_kind d) _
+      (λ r. then_ok _ _ _ _ (output_words f r c is)
+      (λ g too. called_words bound g any_number too number_words_any)))))
 
   map_words : (m : ℕ) (o : Option MapShape) → OkIs (IsKindAt bound) (map_of m o)
   map_words m None = tt
@@ -227,7 +215,7 @@ module _ (bound : ℕ) (shapes : Shapes) (at : ℕ) (lt : at < bound) where
     number_words : (wide : Bool) (cond : Condition) (dst : ℕ) (src : Operand) (a b : Range) → a.hi < 2 ^ 64 → b.hi < 2 ^ 64 → AreFactsBoth (number_edges wide cond f dst src a b)
     number_words wide cond dst src a b small too =
         let edges = refined (width wide) cond a b in
-        let are = refined_words laws wide cond a b small too in
+        let are = at_width laws.edges wide cond a b small too in
         let both : Edges = record { falling = Some f; jumping = Some f } in
         let each : Edges = record { falling = option_map (with_pair f dst src) edges.1; jumping = option_map (with_pair f dst src) edges.0 } in
         cond_both (is_same dst src) both each AreFactsBoth (λ _. (h, h)) (λ _. (pair_words dst src edges.1 are.1, pair_words dst src edges.0 are.0))
@@ -248,14 +236,14 @@ module _ (bound : ℕ) (shapes : Shapes) (at : ℕ) (lt : at < bound) where
     falls_words g is = (is, tt)
 
     assigns_words : (dst : ℕ) (r : Result Kind Reason) → OkIs (IsKindAt bound) r → OkIs AreFactsBoth (assigns f dst r)
-    assigns_words dst r is = then_ok (IsKindAt bound) AreFactsBoth r (λ k. falls (with_kind f dst k)) is (λ k small. falls_words (with_kind f dst k) (kind_words bound f dst k h small))
+    assigns_words dst r is = then_ok _ _ _ _ is (λ k small. falls_words (with_kind f dst k) (kind_words bound f dst k h small))
 
     -- from the kind of a register that may be read
     register_words : (r : ℕ) (go : Kind → Result Edges Reason) → ((k : Kind) → IsKindAt bound k → OkIs AreFactsBoth (go k)) → OkIs AreFactsBoth (and_then_ok (check_readable (kind_at f r)) go)
-    register_words r go next = then_ok (IsKindAt bound) AreFactsBoth (check_readable (kind_at f r)) go (readable_words (kind_at f r) (h.registers r)) next
+    register_words r go next = then_ok _ _ _ _ (readable_words (kind_at f r) (h.registers r)) next
 
     operand_words : (wide : Bool) (src : Operand) (go : Kind → Result Edges Reason) → ((k : Kind) → IsKindAt bound k → OkIs AreFactsBoth (go k)) → OkIs AreFactsBoth (and_then_ok (check_readable (source_kind f wide src)) go)
-    operand_words wide src go next = then_ok (IsKindAt bound) AreFactsBoth (check_readable (source_kind f wide src)) go (readable_words (source_kind f wide src) (source_words f wide src h)) next
+    operand_words wide src go next = then_ok _ _ _ _ (readable_words (source_kind f wide src) (source_words f wide src h)) next
 
     ends_words : (k : Kind) → OkIs AreFactsBoth (exits_with k)
     ends_words (kind.Scalar r) = (tt, tt)
@@ -263,7 +251,7 @@ module _ (bound : ℕ) (shapes : Shapes) (at : ℕ) (lt : at < bound) where
 
     alu_words : (wide : Bool) (op : AluOp) (dst : ℕ) (src : Operand) → OkIs AreFactsBoth (effect shapes at (Alu wide op dst src) f)
     alu_words wide op dst src =
-        then_ok (IsKindAt bound) AreFactsBoth (first_kind op (kind_at f dst)) _ (first_words op (kind_at f dst) (h.registers dst))
+        then_ok _ _ _ _ (first_words op (kind_at f dst) (h.registers dst))
         (λ a small. operand_words wide src _
         (λ b too. assigns_words dst (arithmetic_kind wide op a b) (arithmetic_words laws wide op a b small too)))
 
@@ -281,12 +269,12 @@ module _ (bound : ℕ) (shapes : Shapes) (at : ℕ) (lt : at < bound) where
     stores_words : (size : AccessSize) (dst : ℕ) (src : Operand) (off : ℤ) → OkIs AreFactsBoth (effect shapes at (Store size dst src off) f)
     stores_words size dst src off =
         register_words dst _ (λ k _. operand_words true src _
-        (λ v small. then_ok (AreWellFormedAt bound) AreFactsBoth (store_facts shapes f size off k v) falls (store_words f size off k v h small) falls_words))
+        (λ v small. then_ok _ _ _ _ (store_words f size off k v h small) falls_words))
 
     changes_words : (size : AtomicSize) (op : AtomicOp) (dst src : ℕ) (off : ℤ) → OkIs AreFactsBoth (effect shapes at (Atomic size op dst src off) f)
     changes_words size op dst src off =
         register_words dst _ (λ k _. register_words src _
-        (λ v _. then_ok (AreWellFormedAt bound) AreFactsBoth (changed_facts shapes f (access_size size) off k v) falls (changed_words f (access_size size) off k v h) falls_words))
+        (λ v _. then_ok _ _ _ _ (changed_words f (access_size size) off k v h) falls_words))
 
     insn_words : (i : Insn) → IsInsn i → OkIs AreFactsBoth (effect shapes at i f)
     insn_words (Alu wide op dst src) is = alu_words wide op dst src
@@ -296,7 +284,7 @@ module _ (bound : ℕ) (shapes : Shapes) (at : ℕ) (lt : at < bound) where
     insn_words (Ja off) is = (tt, h)
     insn_words (Jal off) is = (tt, h)
     insn_words (Jump wide cond dst src off) is = jump_words wide cond dst src off
-    insn_words (Call id) is = past AreFactsBoth (known (helper_of id)) _ (λ w. then_ok (AreWellFormedAt bound) AreFactsBoth (call_facts shapes at w f) falls (call_words w f h) falls_words)
+    insn_words (Call id) is = past _ (known (helper_of id)) _ (λ w. then_ok _ _ _ _ (call_words w f h) falls_words)
     insn_words Exit is = register_words 0 exits_with (λ k _. ends_words k)
     insn_words (Load l) is = loads_words l
     insn_words (Store size dst src off) is = stores_words size dst src off

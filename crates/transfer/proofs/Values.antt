@@ -1,5 +1,5 @@
 -- Operators: if the result has a kind, the machine gives a value of that kind.
-use Rattle.std.proofs.Common.{◌≡◌, ℕ, ◌<◌, ◌^◌, Bool, true, false, Option, Some, Result, Err, refl, sym, subst, arith}
+use Rattle.std.proofs.Common.{◌≡◌, ℕ, ◌<◌, ◌^◌, ℤ, Bool, true, Option, Some, Result, Err, refl, sym, ap, subst, ◌∙◌, arith}
 use Rattle.std.specs.Prelude.{◌||◌}
 use Rattle.std.proofs.lemmas.Bool.{cond_both}
 use Rattle.interval.specs.declared.range.Range.{Range}
@@ -16,30 +16,24 @@ use Rattle.reg_kinds.specs.declared.kind.Kind.TheVariants as kind
 use Rattle.reg_kinds.specs.declared.reason.Reason.{Reason}
 use Rattle.reg_kinds.specs.declared.reason.Reason.TheVariants.{MaybeNull}
 use Rattle.tagged_model.specs.declared.value.Tagged.{Tagged}
-use Rattle.tagged_model.specs.declared.value.Tagged.TheVariants.{Scalar}
+use Rattle.tagged_model.specs.declared.value.Tagged.TheVariants.{Scalar, Pointer}
+use Rattle.tagged_model.specs.declared.value.Object.{Object}
+use Rattle.tagged_model.specs.declared.value.Object.TheVariants as object
 use Rattle.words.specs.Widths.{width}
-use Rattle.tagged_model.specs.Values.{of_numbers, sum, difference, arithmetic, of_number}
+use Rattle.words.specs.Words.{signed}
+use Rattle.tagged_model.specs.Values.{of_numbers, moved, sum, difference, arithmetic, of_number}
 use Rattle.tagged_model.specs.Admits.{IsOfKind}
+use Rattle.transfer.specs.declared.arithmetic.Direction.{Direction}
 use Rattle.transfer.specs.declared.arithmetic.Direction.TheVariants.{Forwards, Backwards}
-use Rattle.transfer.specs.Arithmetic.{is_maybe, of_scalars, sum_kind, difference_kind, unless_maybe, arithmetic_kind, of_scalar}
-use Rattle.transfer.proofs.Parts.{Here, Gives, IsKindOf}
+use Rattle.transfer.specs.Arithmetic.{pointer_moved, is_maybe, of_scalars, sum_kind, difference_kind, unless_maybe, arithmetic_kind, of_scalar}
+use Rattle.transfer.proofs.Parts.{AtBothWidths, at_width, Here, Gives, IsKindOf}
 use Rattle.transfer.proofs.States.{scalar_of}
-use Rattle.transfer.proofs.Pointers.{stack_agrees, value_agrees}
+use Rattle.transfer.proofs.Pointers.{shifted, stack_agrees, value_agrees}
 
 -- laws of the results of operators on words
 pub record Results : Type 0 where
-  pub members_wide : ResultsAreMembers 64
-  pub members_narrow : ResultsAreMembers 32
-  pub words_wide : ResultsAreWords 64
-  pub words_narrow : ResultsAreWords 32
-
-members : Results → (wide : Bool) → ResultsAreMembers (width wide)
-members laws true = laws.members_wide
-members laws false = laws.members_narrow
-
-words : Results → (wide : Bool) → ResultsAreWords (width wide)
-words laws true = laws.words_wide
-words laws false = laws.words_narrow
+  pub members : AtBothWidths ResultsAreMembers
+  pub words : AtBothWidths ResultsAreWords
 
 -- ---- one number, or two
 
@@ -52,7 +46,7 @@ by_numbers here a b v w P h g go = by_number here a v (λ v. P v w) h (λ m x. b
 module _ (here : Here) (laws : Results) where
   result_of : (wide : Bool) (op : Operator) (a b : Range) (m n : ℕ) → a.hi < 2 ^ 64 → b.hi < 2 ^ 64 → IsMember m a → IsMember n b → IsKindOf here (kind.Scalar (range_of (width wide) op a b)) (Scalar (operate (width wide) op m n))
   result_of wide op a b m n s t x y =
-      scalar_of here (range_of (width wide) op a b) (operate (width wide) op m n) (members laws wide op a b m n s t x y) (words laws wide op a b s t)
+      scalar_of here (range_of (width wide) op a b) (operate (width wide) op m n) (at_width laws.members wide op a b m n s t x y) (at_width laws.words wide op a b s t)
 
   -- two numbers make a number
   pub number_made : (wide : Bool) (op : Operator) (a b : Range) (v w : Tagged) → IsKindOf here (kind.Scalar a) v → IsKindOf here (kind.Scalar b) w
@@ -60,8 +54,8 @@ module _ (here : Here) (laws : Results) where
   number_made wide op a b v w h g =
       by_numbers here a b v w (λ v w. (n : ℕ) × (of_numbers wide op v w ≡ Some (Scalar n)) × IsKindOf here (kind.Scalar (full 64)) (Scalar n)) h.is g.is
       (λ m n x y.
-      let member = members laws wide op a b m n h.words g.words x y in
-      let word = words laws wide op a b h.words g.words in
+      let member = at_width laws.members wide op a b m n h.words g.words x y in
+      let word = at_width laws.words wide op a b h.words g.words in
       let made : ℕ = operate (width wide) op m n in
       let low : made < 2 ^ 64 = omega (arith, member.to, word) in
       (made, refl, scalar_of here (full 64) made (record { from = omega arith; to = omega (arith, low) }) (omega arith)))
@@ -80,40 +74,28 @@ module _ (here : Here) (laws : Results) where
 
   -- ---- sums and differences of 64 bits
 
+  -- a pointer that a number moves; `on` is the operator on values
+  pointer_agrees : (way : Direction) (on : Tagged → Tagged → Option Tagged) → ((o : Object) (x : ℤ) (n : ℕ) → on (Pointer o x) (Scalar n) ≡ moved o (shifted way x (signed 64 n))) → (k : Kind) (r : Range) (v w : Tagged) → IsKindOf here k v → IsKindOf here (kind.Scalar r) w → Gives here (pointer_moved way k r) (on v w)
+  pointer_agrees way on same (kind.Stack x) r v w h g =
+      by_number here r w (λ w. Gives here (pointer_moved way (kind.Stack x) r) (on v w)) g.is
+      (λ n m. subst (Gives here (pointer_moved way (kind.Stack x) r)) (sym (ap (λ v. on v (Scalar n)) h.is ∙ same object.Stack x n)) (stack_agrees here way x r n m))
+  pointer_agrees way on same (kind.Value p) r v w h g =
+      by_number here r w (λ w. Gives here (pointer_moved way (kind.Value p) r) (on v w)) g.is
+      (λ n m. subst (Gives here (pointer_moved way (kind.Value p) r)) (sym (ap (λ v. on v (Scalar n)) h.is.2 ∙ same (object.Value p.map h.is.0) h.is.1 n)) (value_agrees here way p r n h.is.0 h.is.1 m h.is.5 h.is.3 h.is.4))
+  pointer_agrees way on same k r v w h g = tt
+
   sum_agrees : (k l : Kind) (v w : Tagged) → IsKindOf here k v → IsKindOf here l w → Gives here (sum_kind k l) (sum v w)
   sum_agrees (kind.Scalar a) (kind.Scalar b) v w h g =
       by_numbers here a b v w (λ v w. Gives here (sum_kind (kind.Scalar a) (kind.Scalar b)) (sum v w)) h.is g.is (λ m n x y. result_of true (Binary alu.Add) a b m n h.words g.words x y)
-  sum_agrees (kind.Scalar a) (kind.Stack x) v w h g =
-      by_number here a v (λ v. Gives here (sum_kind (kind.Scalar a) (kind.Stack x)) (sum v w)) h.is
-      (λ n m. subst (λ w. Gives here (sum_kind (kind.Scalar a) (kind.Stack x)) (sum (Scalar n) w)) (sym g.is) (stack_agrees here Forwards x a n m))
-  sum_agrees (kind.Scalar a) (kind.Value p) v w h g =
-      by_number here a v (λ v. Gives here (sum_kind (kind.Scalar a) (kind.Value p)) (sum v w)) h.is
-      (λ n m. subst (λ w. Gives here (sum_kind (kind.Scalar a) (kind.Value p)) (sum (Scalar n) w)) (sym g.is.2) (value_agrees here Forwards p a n g.is.0 g.is.1 m g.is.5 g.is.3 g.is.4))
-  sum_agrees (kind.Stack x) (kind.Scalar b) v w h g =
-      by_number here b w (λ w. Gives here (sum_kind (kind.Stack x) (kind.Scalar b)) (sum v w)) g.is
-      (λ n m. subst (λ v. Gives here (sum_kind (kind.Stack x) (kind.Scalar b)) (sum v (Scalar n))) (sym h.is) (stack_agrees here Forwards x b n m))
-  sum_agrees (kind.Value p) (kind.Scalar b) v w h g =
-      by_number here b w (λ w. Gives here (sum_kind (kind.Value p) (kind.Scalar b)) (sum v w)) g.is
-      (λ n m. subst (λ v. Gives here (sum_kind (kind.Value p) (kind.Scalar b)) (sum v (Scalar n))) (sym h.is.2) (value_agrees here Forwards p b n h.is.0 h.is.1 m h.is.5 h.is.3 h.is.4))
-  sum_agrees kind.Unreadable (kind.Scalar b) v w h g = tt
-  sum_agrees (kind.MapRef m) (kind.Scalar b) v w h g = tt
-  sum_agrees kind.Ctx (kind.Scalar b) v w h g = tt
-  sum_agrees (kind.MaybeValue m site) (kind.Scalar b) v w h g = tt
+  sum_agrees (kind.Scalar a) l v w h g = pointer_agrees Forwards (λ w v. sum v w) (λ o x n. refl) l a w v g h
+  sum_agrees k (kind.Scalar b) v w h g = pointer_agrees Forwards sum (λ o x n. refl) k b v w h g
   sum_agrees k l v w h g = tt
 
   difference_agrees : (k l : Kind) (v w : Tagged) → IsKindOf here k v → IsKindOf here l w → Gives here (difference_kind k l) (difference v w)
   difference_agrees (kind.Scalar a) (kind.Scalar b) v w h g =
       by_numbers here a b v w (λ v w. Gives here (difference_kind (kind.Scalar a) (kind.Scalar b)) (difference v w)) h.is g.is (λ m n x y. result_of true (Binary alu.Sub) a b m n h.words g.words x y)
-  difference_agrees (kind.Stack x) (kind.Scalar b) v w h g =
-      by_number here b w (λ w. Gives here (difference_kind (kind.Stack x) (kind.Scalar b)) (difference v w)) g.is
-      (λ n m. subst (λ v. Gives here (difference_kind (kind.Stack x) (kind.Scalar b)) (difference v (Scalar n))) (sym h.is) (stack_agrees here Backwards x b n m))
-  difference_agrees (kind.Value p) (kind.Scalar b) v w h g =
-      by_number here b w (λ w. Gives here (difference_kind (kind.Value p) (kind.Scalar b)) (difference v w)) g.is
-      (λ n m. subst (λ v. Gives here (difference_kind (kind.Value p) (kind.Scalar b)) (difference v (Scalar n))) (sym h.is.2) (value_agrees here Backwards p b n h.is.0 h.is.1 m h.is.5 h.is.3 h.is.4))
-  difference_agrees kind.Unreadable (kind.Scalar b) v w h g = tt
-  difference_agrees (kind.MapRef m) (kind.Scalar b) v w h g = tt
-  difference_agrees kind.Ctx (kind.Scalar b) v w h g = tt
-  difference_agrees (kind.MaybeValue m site) (kind.Scalar b) v w h g = tt
+  difference_agrees (kind.Scalar a) l v w h g = tt
+  difference_agrees k (kind.Scalar b) v w h g = pointer_agrees Backwards difference (λ o x n. refl) k b v w h g
   difference_agrees k l v w h g = tt
 
   -- ---- all

@@ -86,24 +86,28 @@ fn stack_moved(way: Direction, offset: i32, range: Range) -> Result<Kind, Reason
     }
 }
 
-/// A pointer into a value, moved forwards by a number from `least` to `greatest`; `None` if it may be too far then.
-fn value_forwards(pointer: ValuePointer, least: i64, greatest: i64) -> Option<ValuePointer>
+/// A pointer into a value, moved by a number from `least` to `greatest`; `None` if it may be too far then.
+fn value_by(
+    way: Direction,
+    pointer: ValuePointer,
+    least: i64,
+    greatest: i64,
+) -> Option<ValuePointer>
     requires { least ≤ℤ greatest }
-    ensures { result ≡ value_by Forwards pointer (least, greatest) }
+    ensures { result ≡ value_by way pointer (least, greatest) }
 {
-    let lo = moved_forwards(pointer.lo, least)?;
-    let hi = moved_forwards(pointer.hi, greatest)?;
-    Some(ValuePointer::new(pointer.map, lo, hi))
-}
-
-/// A pointer into a value, moved backwards by a number from `least` to `greatest`; `None` if it may be too far then.
-fn value_backwards(pointer: ValuePointer, least: i64, greatest: i64) -> Option<ValuePointer>
-    requires { least ≤ℤ greatest }
-    ensures { result ≡ value_by Backwards pointer (least, greatest) }
-{
-    let lo = moved_backwards(pointer.lo, greatest)?;
-    let hi = moved_backwards(pointer.hi, least)?;
-    Some(ValuePointer::new(pointer.map, lo, hi))
+    match way {
+        Direction::Forwards => Some(ValuePointer::new(
+            pointer.map,
+            moved_forwards(pointer.lo, least)?,
+            moved_forwards(pointer.hi, greatest)?,
+        )),
+        Direction::Backwards => Some(ValuePointer::new(
+            pointer.map,
+            moved_backwards(pointer.lo, greatest)?,
+            moved_backwards(pointer.hi, least)?,
+        )),
+    }
 }
 
 /// The kind of a pointer into a value that is moved by a number in `range`. `OffsetTooLarge` if it may be too far then.
@@ -113,11 +117,7 @@ fn value_moved(way: Direction, pointer: ValuePointer, range: Range) -> Result<Ki
     let Some((least, greatest)) = distance(range) else {
         return Err(Reason::OffsetTooLarge);
     };
-    let moved = match way {
-        Direction::Forwards => value_forwards(pointer, least, greatest),
-        Direction::Backwards => value_backwards(pointer, least, greatest),
-    };
-    match moved {
+    match value_by(way, pointer, least, greatest) {
         Some(value) => Ok(Kind::Value(value)),
         None => Err(Reason::OffsetTooLarge),
     }

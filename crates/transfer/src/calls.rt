@@ -2,13 +2,12 @@
 
 ghost use Rattle.std.specs.Prelude.{◌≡◌, ◌<◌, ◌^◌, ◌+ℤ◌, pos, int_le, ◌&&◌, if◌then◌else◌, IfOk, IfErr, OnErr, OnOk, Ok, Err};
 ghost use Rattle.tagged_model.specs.Named.{shapes_named};
-ghost use Rattle.tagged_model.specs.declared.helper.Helper.TheVariants.{LookUp, Update, Delete, LoadBytes};
 ghost use Rattle.reg_kinds.specs.declared.reason.Reason.TheVariants.{OutsideValue};
 ghost use Rattle.transfer.specs.Calls.{map_kind, room_of, input_kind, output_facts, number_kind, length_kind, context_kind, any_number, call_facts};
 
 use crate::arithmetic::check_readable;
 use interval::Range;
-use reg_kinds::{Facts, Kind, Reason, ValuePointer, fill_stack, read_many};
+use reg_kinds::{Facts, Kind, Reason, ValuePointer, facts_after_call, fill_stack, read_many};
 use tagged_model::{Helper, MapShape, Named, shape_of};
 
 /// A length argument of a helper is below this: 2^29 bytes.
@@ -143,82 +142,6 @@ fn any_number() -> Kind
     Kind::Scalar(Range::full(true))
 }
 
-/// Updates the facts for a look-up at `slot`.
-fn look_up(facts: &mut Facts, named: &[Named], slot: usize) -> Result<(), Reason>
-    ensures ok { OnOk result (call_facts (shapes_named named.now) slot LookUp facts.old
-        ≡ Ok facts.new) }
-    ensures refused { IfErr result (λ reason. call_facts (shapes_named named.now) slot LookUp
-        facts.old ≡ Err reason) }
-    ensures stays { OnErr result (facts.new ≡ facts.old) }
-{
-    let first = check_readable(facts.kind(1))?;
-    let key = check_readable(facts.kind(2))?;
-    let map = map_kind(named, first)?;
-    input(named, facts, map.shape.key_size, key)?;
-    let found = Kind::MaybeValue {
-        map: map.descriptor,
-        site: slot,
-    };
-    reg_kinds::facts_after_call(facts, found);
-    Ok(())
-}
-
-/// Updates the facts for an update at `slot`.
-fn update(facts: &mut Facts, named: &[Named], slot: usize) -> Result<(), Reason>
-    ensures ok { OnOk result (call_facts (shapes_named named.now) slot Update facts.old
-        ≡ Ok facts.new) }
-    ensures refused { IfErr result (λ reason. call_facts (shapes_named named.now) slot Update
-        facts.old ≡ Err reason) }
-    ensures stays { OnErr result (facts.new ≡ facts.old) }
-{
-    let first = check_readable(facts.kind(1))?;
-    let key = check_readable(facts.kind(2))?;
-    let value = check_readable(facts.kind(3))?;
-    let flags = check_readable(facts.kind(4))?;
-    let map = map_kind(named, first)?;
-    input(named, facts, map.shape.key_size, key)?;
-    input(named, facts, map.shape.value_size, value)?;
-    check_number(flags)?;
-    reg_kinds::facts_after_call(facts, any_number());
-    Ok(())
-}
-
-/// Updates the facts for a deletion at `slot`.
-fn delete(facts: &mut Facts, named: &[Named], slot: usize) -> Result<(), Reason>
-    ensures ok { OnOk result (call_facts (shapes_named named.now) slot Delete facts.old
-        ≡ Ok facts.new) }
-    ensures refused { IfErr result (λ reason. call_facts (shapes_named named.now) slot Delete
-        facts.old ≡ Err reason) }
-    ensures stays { OnErr result (facts.new ≡ facts.old) }
-{
-    let first = check_readable(facts.kind(1))?;
-    let key = check_readable(facts.kind(2))?;
-    let map = map_kind(named, first)?;
-    input(named, facts, map.shape.key_size, key)?;
-    reg_kinds::facts_after_call(facts, any_number());
-    Ok(())
-}
-
-/// Updates the facts for a load of packet bytes at `slot`.
-fn load_bytes(facts: &mut Facts, named: &[Named], slot: usize) -> Result<(), Reason>
-    ensures ok { OnOk result (call_facts (shapes_named named.now) slot LoadBytes facts.old
-        ≡ Ok facts.new) }
-    ensures refused { IfErr result (λ reason. call_facts (shapes_named named.now) slot LoadBytes
-        facts.old ≡ Err reason) }
-    ensures stays { OnErr result (facts.new ≡ facts.old) }
-{
-    let first = check_readable(facts.kind(1))?;
-    let offset = check_readable(facts.kind(2))?;
-    let to = check_readable(facts.kind(3))?;
-    let count = check_readable(facts.kind(4))?;
-    check_context(first)?;
-    check_number(offset)?;
-    let bytes = check_length(count)?;
-    output(facts, named, bytes, to)?;
-    reg_kinds::facts_after_call(facts, any_number());
-    Ok(())
-}
-
 /// Updates the facts for a call at `slot`, if its arguments are right. Else the reason.
 pub(crate) fn call(
     facts: &mut Facts,
@@ -232,10 +155,41 @@ pub(crate) fn call(
         facts.old ≡ Err reason) }
     ensures stays { OnErr result (facts.new ≡ facts.old) }
 {
+    let first = check_readable(facts.kind(1))?;
+    let second = check_readable(facts.kind(2))?;
     match helper {
-        Helper::LookUp => look_up(facts, named, slot),
-        Helper::Update => update(facts, named, slot),
-        Helper::Delete => delete(facts, named, slot),
-        Helper::LoadBytes => load_bytes(facts, named, slot),
+        Helper::LookUp => {
+            let map = map_kind(named, first)?;
+            input(named, facts, map.shape.key_size, second)?;
+            let found = Kind::MaybeValue {
+                map: map.descriptor,
+                site: slot,
+            };
+            facts_after_call(facts, found);
+        }
+        Helper::Update => {
+            let value = check_readable(facts.kind(3))?;
+            let flags = check_readable(facts.kind(4))?;
+            let map = map_kind(named, first)?;
+            input(named, facts, map.shape.key_size, second)?;
+            input(named, facts, map.shape.value_size, value)?;
+            check_number(flags)?;
+            facts_after_call(facts, any_number());
+        }
+        Helper::Delete => {
+            let map = map_kind(named, first)?;
+            input(named, facts, map.shape.key_size, second)?;
+            facts_after_call(facts, any_number());
+        }
+        Helper::LoadBytes => {
+            let to = check_readable(facts.kind(3))?;
+            let count = check_readable(facts.kind(4))?;
+            check_context(first)?;
+            check_number(second)?;
+            let length = check_length(count)?;
+            output(facts, named, length, to)?;
+            facts_after_call(facts, any_number());
+        }
     }
+    Ok(())
 }

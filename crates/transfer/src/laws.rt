@@ -24,14 +24,9 @@ pub fn transfer_is_sound()
     tagged_model::laws::stack_write_admits();
     tagged_model::laws::value_load_admits();
     tagged_model::laws::value_store_admits();
-    tagged_model::laws::stack_input_admits();
-    tagged_model::laws::stack_output_admits();
-    tagged_model::laws::object_read_admits();
-    tagged_model::laws::object_write_admits();
     tagged_model::laws::map_calls_keep();
-    tagged_model::laws::map_change_admits();
-    tagged_model::laws::call_admits();
     tagged_model::laws::site_admits();
+    calls_are_sound();
 }
 
 /// The facts after an instruction are well formed for each later slot, if those before it are well formed for its own: ranges end

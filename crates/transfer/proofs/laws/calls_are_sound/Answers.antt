@@ -7,7 +7,7 @@ returns c = calls_are_sound (record {
   stack_output = c.stack_output_admits.ensures;
   object_read = c.object_read_admits.ensures;
   object_write = c.object_write_admits.ensures;
-  map_calls = record { direct = c.map_calls_keep.ensures.direct; owned = c.map_calls_keep.ensures.owned; updated = c.map_calls_keep.ensures.updated; removed = c.map_calls_keep.ensures.removed };
+  map_calls = c.map_calls_keep.ensures;
   map_change = c.map_change_admits.ensures;
   call = c.call_admits.ensures;
   site = c.site_admits.ensures;

@@ -1,5 +1,5 @@
 -- Boxed facts by slot, seen as a list of facts.
-use Rattle.std.proofs.Common.{◌≡◌, ℕ, ◌<◌, List, length, get_or, set, true, false, Option, Some, None, refl, sym, ap, ◌∙◌, subst, Box, Global}
+use Rattle.std.proofs.Common.{◌≡◌, ℕ, ◌<◌, List, length, get_or, set, false, Option, Some, None, refl, sym, ap, ◌∙◌, subst, Box, Global}
 use Rattle.std.specs.Prelude.{map, option_map, box_value}
 use Rattle.std.specs.Option.{is_some}
 use Rattle.std.proofs.lemmas.Bool.{false≢true}

@@ -1,29 +1,13 @@
-use Rattle.std.proofs.Common.{◌≡◌, sym, arith, ◌∙◌}
-use Rattle.interval.specs.Table.{range_of}
-use Rattle.interval.proofs.Sound.{sees_64}
-use Rattle.interval.proofs.Exact.{from_constants, from_spread, results_in, wide_range, wide_result}
+use Rattle.std.proofs.Common.{sym, arith, ◌∙◌}
+use Rattle.interval.proofs.Exact.{wide_constants, wide_spread}
 use Rattle.interval.proofs.alu.any64.Goals as goal
 
 pub returns-then-are_constants : goal.returns-then-are_constants
 returns-then-are_constants c =
-    let op = c.args.op in
-    let a = c.args.a in
-    let b = c.args.b in
-    let exact : c.constant.result ≡ range_of 64 op a b =
-    from_constants 64 op a b c.constant.result c.operate.result (sym c.are_constants.ensures ∙ c.if-are_constants.true) (c.operate.ensures ∙ wide_result op a.lo b.lo) c.constant.ensures ∙ wide_range op a b in
-    record {
-      exact = exact;
-      sound = results_in 64 op a b c.constant.result exact (omega arith) (λ x. sees_64 a x (omega arith)) (λ y. sees_64 b y (omega arith));
-    }
+    let h = wide_constants c.args.op c.args.a c.args.b c.constant.result (omega arith) (omega arith) c.operate.result (sym c.are_constants.ensures ∙ c.if-are_constants.true) c.operate.ensures c.constant.ensures in
+    record { exact = h.exact; sound = h.sound }
 
 pub returns-else-are_constants : goal.returns-else-are_constants
 returns-else-are_constants c =
-    let op = c.args.op in
-    let a = c.args.a in
-    let b = c.args.b in
-    let exact : c.general_range.result ≡ range_of 64 op a b =
-    from_spread 64 op a b c.general_range.result (sym c.are_constants.ensures ∙ c.if-are_constants.false) c.general_range.ensures ∙ wide_range op a b in
-    record {
-      exact = exact;
-      sound = results_in 64 op a b c.general_range.result exact (omega arith) (λ x. sees_64 a x (omega arith)) (λ y. sees_64 b y (omega arith));
-    }
+    let h = wide_spread c.args.op c.args.a c.args.b c.general_range.result (omega arith) (omega arith) (sym c.are_constants.ensures ∙ c.if-are_constants.false) c.general_range.ensures in
+    record { exact = h.exact; sound = h.sound }

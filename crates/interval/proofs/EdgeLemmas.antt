@@ -7,7 +7,7 @@ use Rattle.interval.specs.declared.range.Range.{Range}
 use Rattle.interval.specs.Ranges.{IsMember}
 use Rattle.interval.specs.Refine.{RangePair, swapped, where_equal, where_different, where_above, where_at_most, IsPairOn, EdgePairs, edges, unchanged, refined}
 use Rattle.words.specs.declared.operator.Condition.{Condition}
-use Rattle.words.specs.declared.operator.Condition.TheVariants.{Equal, NotEqual, Above, AboveOrEqual, Below, BelowOrEqual, SignedAbove, SignedAboveOrEqual, SignedBelow, SignedBelowOrEqual, CommonBit}
+use Rattle.words.specs.declared.operator.Condition.TheVariants.{Equal, NotEqual, Above, AboveOrEqual, Below, BelowOrEqual}
 use Rattle.words.specs.Operate.{operand_bits}
 use Rattle.words.specs.Compare.{holds, compares}
 use Rattle.interval.specs.Laws.{IsOfWords, IsPairOfWords}
@@ -46,11 +46,7 @@ edges_keep n Below a b x y h k =
     ((λ t. turned_keeps (where_above b a) x y (above_keeps b a y x k h (ltb-true x y t))), (λ t. turned_keeps (where_at_most b a) x y (at_most_keeps b a y x k h (ltb-false x y t))))
 edges_keep n AboveOrEqual a b x y h k =
     ((λ t. turned_keeps (where_at_most b a) x y (at_most_keeps b a y x k h (leb-true y x t))), (λ t. turned_keeps (where_above b a) x y (above_keeps b a y x k h (leb-false y x t))))
-edges_keep n SignedAbove a b x y h k = stay n SignedAbove a b x y h k
-edges_keep n SignedAboveOrEqual a b x y h k = stay n SignedAboveOrEqual a b x y h k
-edges_keep n SignedBelow a b x y h k = stay n SignedBelow a b x y h k
-edges_keep n SignedBelowOrEqual a b x y h k = stay n SignedBelowOrEqual a b x y h k
-edges_keep n CommonBit a b x y h k = stay n CommonBit a b x y h k
+edges_keep n condition a b x y h k = stay n condition a b x y h k
 
 -- an operand that fits is seen whole
 seen_whole : (n x : ℕ) → x < 2 ^ n → operand_bits n x ≡ x
@@ -99,11 +95,7 @@ edges_words Below a b p q =
     (turned_words (where_above b a) (above_words b a q p), turned_words (where_at_most b a) (at_most_words b a q p))
 edges_words AboveOrEqual a b p q =
     (turned_words (where_at_most b a) (at_most_words b a q p), turned_words (where_above b a) (above_words b a q p))
-edges_words SignedAbove a b p q = ((p, q), (p, q))
-edges_words SignedAboveOrEqual a b p q = ((p, q), (p, q))
-edges_words SignedBelow a b p q = ((p, q), (p, q))
-edges_words SignedBelowOrEqual a b p q = ((p, q), (p, q))
-edges_words CommonBit a b p q = ((p, q), (p, q))
+edges_words condition a b p q = ((p, q), (p, q))
 
 pub refined_words : (n : ℕ) (condition : Condition) (a b : Range) → IsOfWords a → IsOfWords b → BothWords (refined n condition a b)
 refined_words n condition a b p q =

@@ -58,16 +58,12 @@ abbrev pub IsNoEnd : Operator → Type 0
 IsNoEnd op = (how : ByteOrder) (kept : KeptBits) → op ≡ End how kept → ⊥
 
 narrow_range : (op : Operator) (a b : Range) → IsNoEnd op → result_range 32 op (operand_range 32 a) (operand_range 32 b) ≡ range_of 32 op a b
-narrow_range (Binary op) a b f = refl
-narrow_range Neg a b f = refl
-narrow_range (SignExtend from) a b f = refl
 narrow_range (End how kept) a b f = absurd (f how kept refl)
+narrow_range op a b f = refl
 
 narrow_result : (op : Operator) (x y : ℕ) → IsNoEnd op → x < 2 ^ 32 → y < 2 ^ 32 → operate 32 op x y ≡ combined 32 op x y
-narrow_result (Binary op) x y f p q = ap₂ (combined 32 (Binary op)) (mod-eq_of_lt p) (mod-eq_of_lt q)
-narrow_result Neg x y f p q = ap₂ (combined 32 Neg) (mod-eq_of_lt p) (mod-eq_of_lt q)
-narrow_result (SignExtend from) x y f p q = ap₂ (combined 32 (SignExtend from)) (mod-eq_of_lt p) (mod-eq_of_lt q)
 narrow_result (End how kept) x y f p q = absurd (f how kept refl)
+narrow_result op x y f p q = ap₂ (combined 32 op) (mod-eq_of_lt p) (mod-eq_of_lt q)
 
 -- a and b are the low halves of ranges u and v
 module _ (op : Operator) (u v a b r : Range) (no_end : IsNoEnd op) (first : a ≡ operand_range 32 u) (second : b ≡ operand_range 32 v) where

@@ -119,10 +119,8 @@ result_fits n op a b w p q =
     (λ _. general_range_fits n op a b w p q)
 
 pub table_fits : (n : ℕ) (op : Operator) (a b : Range) → 2 ^ n ≤ 2 ^ 64 → (operand_range n a).hi < 2 ^ n → (operand_range n b).hi < 2 ^ n → (range_of n op a b).hi < 2 ^ 64
-table_fits n (Binary op) a b w p q = result_fits n (Binary op) (operand_range n a) (operand_range n b) w p q
-table_fits n Neg a b w p q = result_fits n Neg (operand_range n a) (operand_range n b) w p q
-table_fits n (SignExtend from) a b w p q = result_fits n (SignExtend from) (operand_range n a) (operand_range n b) w p q
 table_fits n (End how kept) a b w p q =
     cond_both (is_constant a) (constant (combined n (End how kept) a.lo b.lo)) (full (kept_bits kept)) (λ r. r.hi < 2 ^ 64)
     (λ _. end_fits how kept a.lo)
     (λ _. kept_below kept)
+table_fits n op a b w p q = result_fits n op (operand_range n a) (operand_range n b) w p q

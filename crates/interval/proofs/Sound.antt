@@ -83,20 +83,8 @@ both n f a b x y h k t =
     ap₂ f (only_member a x parts.0 h) (only_member b y parts.1 k)
 
 alu_constants_agree : (n : ℕ) (op : AluOp) (a b : Range) (x y : ℕ) → IsMember x a → IsMember y b → are_alu_constants op a b ≡ true → alu_result n op x y ≡ alu_result n op a.lo b.lo
-alu_constants_agree n Add a b x y h k t = both n (alu_result n Add) a b x y h k t
-alu_constants_agree n Sub a b x y h k t = both n (alu_result n Sub) a b x y h k t
-alu_constants_agree n Mul a b x y h k t = both n (alu_result n Mul) a b x y h k t
-alu_constants_agree n Div a b x y h k t = both n (alu_result n Div) a b x y h k t
-alu_constants_agree n SignedDiv a b x y h k t = both n (alu_result n SignedDiv) a b x y h k t
-alu_constants_agree n Or a b x y h k t = both n (alu_result n Or) a b x y h k t
-alu_constants_agree n And a b x y h k t = both n (alu_result n And) a b x y h k t
-alu_constants_agree n ShiftLeft a b x y h k t = both n (alu_result n ShiftLeft) a b x y h k t
-alu_constants_agree n ShiftRight a b x y h k t = both n (alu_result n ShiftRight) a b x y h k t
-alu_constants_agree n Mod a b x y h k t = both n (alu_result n Mod) a b x y h k t
-alu_constants_agree n SignedMod a b x y h k t = both n (alu_result n SignedMod) a b x y h k t
-alu_constants_agree n Xor a b x y h k t = both n (alu_result n Xor) a b x y h k t
 alu_constants_agree n Mov a b x y h k t = only_member b y t k
-alu_constants_agree n SignedShiftRight a b x y h k t = both n (alu_result n SignedShiftRight) a b x y h k t
+alu_constants_agree n op a b x y h k t = both n (alu_result n op) a b x y h k t
 
 constants_agree : (n : ℕ) (op : Operator) (a b : Range) (x y : ℕ) → IsMember x a → IsMember y b → are_constants op a b ≡ true → combined n op x y ≡ combined n op a.lo b.lo
 constants_agree n (Binary op) a b x y h k t = alu_constants_agree n op a b x y h k t
@@ -121,11 +109,9 @@ pub record Sees (n : ℕ) (r : Range) (x : ℕ) : Type 0 where
   pub below : (operand_range n r).hi < 2 ^ n
 
 pub table_sound : (n : ℕ) (op : Operator) (a b : Range) (x y : ℕ) → 2 ^ n ≤ 2 ^ 64 → IsMember x a → IsMember y b → Sees n a x → Sees n b y → IsMember (operate n op x y) (range_of n op a b)
-table_sound n (Binary op) a b x y w h k s r = result_sound n (Binary op) (operand_range n a) (operand_range n b) (operand_bits n x) (operand_bits n y) w s.below r.below s.member r.member
-table_sound n Neg a b x y w h k s r = result_sound n Neg (operand_range n a) (operand_range n b) (operand_bits n x) (operand_bits n y) w s.below r.below s.member r.member
-table_sound n (SignExtend from) a b x y w h k s r = result_sound n (SignExtend from) (operand_range n a) (operand_range n b) (operand_bits n x) (operand_bits n y) w s.below r.below s.member r.member
 table_sound n (End how kept) a b x y w h k s r =
     in_result n (End how kept) a b x y h k (in_full (kept_bits kept) _ (byte_order_below how kept x))
+table_sound n op a b x y w h k s r = result_sound n op (operand_range n a) (operand_range n b) (operand_bits n x) (operand_bits n y) w s.below r.below s.member r.member
 
 -- on 64 bits all of the word
 pub sees_64 : (r : Range) (x : ℕ) → r.hi < 2 ^ 64 → IsMember x r → Sees 64 r x

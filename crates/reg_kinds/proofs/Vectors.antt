@@ -1,5 +1,5 @@
 -- Known answers: joins, loads and stores of the stack, null tests, and the numbers of reasons.
-use Rattle.std.proofs.Common.{◌≡◌, ℕ, true, false, ℤ, pos, neg_ℤ, Option, Some, None, Result, Ok, Err, refl}
+use Rattle.std.proofs.Common.{◌≡◌, ℕ, true, false, ℤ, pos, neg_ℤ, [], ◌∷◌, map, Option, Some, None, Result, Ok, Err, refl}
 use Rattle.words.specs.declared.stack.AccessSize.TheVariants.{Byte, Half, Word, Double}
 use Rattle.interval.specs.Ranges.{span, constant}
 use Rattle.reg_kinds.specs.declared.kind.Kind.{Kind}
@@ -38,26 +38,18 @@ other_lookup = MaybeValue 3 9
 
 -- ---- at the start of a program
 
-context_at_entry : kind_at entry 1 ≡ Ctx
+at_entry :
+    (kind_at entry 1 ≡ Ctx)
+    × (kind_at entry 10 ≡ Stack (pos 0))
+    × (kind_at entry 0 ≡ Unreadable)
+    × (slot_at entry 63 ≡ Bytes 0)
 unfolding tabulate
-context_at_entry = refl
-
-frame_pointer_at_entry : kind_at entry 10 ≡ Stack (pos 0)
-unfolding tabulate
-frame_pointer_at_entry = refl
-
-no_result_at_entry : kind_at entry 0 ≡ Unreadable
-unfolding tabulate
-no_result_at_entry = refl
-
-nothing_written_at_entry : slot_at entry 63 ≡ Bytes 0
-unfolding tabulate
-nothing_written_at_entry = refl
+at_entry = (refl, refl, refl, refl)
 
 -- ---- joins
 
-bytes_of_both : slot_join (Bytes 0x0f) (Bytes 0x3c) ≡ Bytes 0x0c
-bytes_of_both = refl
+of_slots : (slot_join (Bytes 0x0f) (Bytes 0x3c) ≡ Bytes 0x0c) × (slot_join (Spill Ctx) (Bytes 0xff) ≡ Bytes 0)
+of_slots = (refl, refl)
 
 offsets_of_both : value_ends (kind_join (Value (value_span 3 (pos 0) (pos 8))) (Value (value_span 3 (pos 4) (pos 16)))) ≡ Some (3, pos 0, pos 16)
 offsets_of_both = refl
@@ -65,22 +57,12 @@ offsets_of_both = refl
 look_ups_differ : kind_join lookup other_lookup ≡ Unreadable
 look_ups_differ = refl
 
-spill_and_bytes : slot_join (Spill Ctx) (Bytes 0xff) ≡ Bytes 0
-spill_and_bytes = refl
+abbrev from_two_edges : Facts
+from_two_edges = facts_join (with_kind entry 2 (Scalar (span 0 3))) (with_kind entry 2 (Scalar (span 5 9)))
 
-abbrev to_three : Facts
-to_three = with_kind entry 2 (Scalar (span 0 3))
-
-abbrev from_five : Facts
-from_five = with_kind entry 2 (Scalar (span 5 9))
-
-numbers_of_both : scalar_ends (kind_at (facts_join to_three from_five) 2) ≡ Some (0, 9)
+numbers_of_both : (scalar_ends (kind_at from_two_edges 2) ≡ Some (0, 9)) × (kind_at from_two_edges 1 ≡ Ctx)
 unfolding tabulate
-numbers_of_both = refl
-
-context_of_both : kind_at (facts_join to_three from_five) 1 ≡ Ctx
-unfolding tabulate
-context_of_both = refl
+numbers_of_both = (refl, refl)
 
 -- ---- a store of two bytes
 
@@ -91,72 +73,46 @@ scalar_read (Err e) = None
 abbrev half_written : Facts
 half_written = with_slot entry 63 (Bytes 3)
 
-half_is_written : stack_write entry (below 8) Half (Scalar (constant 7)) ≡ Ok half_written
+half_is_written :
+    (stack_write entry (below 8) Half (Scalar (constant 7)) ≡ Ok half_written)
+    × (stack_read half_written (below 8) Word false ≡ Err UnwrittenStack)
+    × (scalar_read (stack_read half_written (below 8) Half false) ≡ Some (0, 0xffff))
+    × (scalar_read (stack_read half_written (below 8) Half true) ≡ Some (0, 0xffff_ffff_ffff_ffff))
 unfolding tabulate
-half_is_written = refl
-
-word_is_not_written : stack_read half_written (below 8) Word false ≡ Err UnwrittenStack
-unfolding tabulate
-word_is_not_written = refl
-
-half_is_read : scalar_read (stack_read half_written (below 8) Half false) ≡ Some (0, 0xffff)
-unfolding tabulate
-half_is_read = refl
-
-half_is_read_with_its_sign : scalar_read (stack_read half_written (below 8) Half true) ≡ Some (0, 0xffff_ffff_ffff_ffff)
-unfolding tabulate
-half_is_read_with_its_sign = refl
+half_is_written = (refl, refl, refl, refl)
 
 -- ---- a pointer is spilled whole
 
 abbrev spilled_pointer : Facts
 spilled_pointer = with_slot entry 63 (Spill (Stack (pos 0)))
 
-pointer_is_spilled : stack_write entry (below 8) Double (Stack (pos 0)) ≡ Ok spilled_pointer
-unfolding tabulate
-pointer_is_spilled = refl
+abbrev partly_overwritten : Facts
+partly_overwritten = with_slot spilled_pointer 63 (Bytes 3)
 
-pointer_is_read : stack_read spilled_pointer (below 8) Double false ≡ Ok (Stack (pos 0))
+pointer_is_spilled :
+    (stack_write entry (below 8) Double (Stack (pos 0)) ≡ Ok spilled_pointer)
+    × (stack_read spilled_pointer (below 8) Double false ≡ Ok (Stack (pos 0)))
 unfolding tabulate
-pointer_is_read = refl
+pointer_is_spilled = (refl, refl)
 
-part_of_pointer_is_not_read : stack_read spilled_pointer (below 6) Half false ≡ Err PartOfSpill
+part_of_pointer :
+    (stack_read spilled_pointer (below 6) Half false ≡ Err PartOfSpill)
+    × (stack_write half_written (below 8) Word Ctx ≡ Err PartOfSpill)
+    × (stack_write spilled_pointer (below 8) Half (Scalar (constant 0)) ≡ Ok partly_overwritten)
+    × (stack_read partly_overwritten (below 6) Half false ≡ Err UnwrittenStack)
 unfolding tabulate
-part_of_pointer_is_not_read = refl
+part_of_pointer = (refl, refl, refl, refl)
 
-part_of_pointer_is_overwritten : stack_write spilled_pointer (below 8) Half (Scalar (constant 0)) ≡ Ok (with_slot spilled_pointer 63 (Bytes 3))
+-- ---- stores out of place: above the stack, below it, across slots; and at the lowest slot, and of nothing
+
+stores_out_of_place :
+    (stack_write entry (pos 0) Double (Scalar (constant 1)) ≡ Err OutsideStack)
+    × (stack_write entry (below 520) Double (Scalar (constant 1)) ≡ Err OutsideStack)
+    × (stack_write entry (below 12) Double (Scalar (constant 1)) ≡ Err UnalignedStack)
+    × (stack_write entry (below 512) Double (Scalar (constant 1)) ≡ Ok (with_slot entry 0 (Bytes 0xff)))
+    × (stack_write entry (below 8) Byte Unreadable ≡ Err UnreadableRegister)
 unfolding tabulate
-part_of_pointer_is_overwritten = refl
-
-rest_of_pointer_is_lost : stack_read (with_slot spilled_pointer 63 (Bytes 3)) (below 6) Half false ≡ Err UnwrittenStack
-unfolding tabulate
-rest_of_pointer_is_lost = refl
-
-part_of_pointer_is_not_stored : stack_write half_written (below 8) Word Ctx ≡ Err PartOfSpill
-unfolding tabulate
-part_of_pointer_is_not_stored = refl
-
--- ---- stores out of place
-
-store_above_the_stack : stack_write entry (pos 0) Double (Scalar (constant 1)) ≡ Err OutsideStack
-unfolding tabulate
-store_above_the_stack = refl
-
-store_below_the_stack : stack_write entry (below 520) Double (Scalar (constant 1)) ≡ Err OutsideStack
-unfolding tabulate
-store_below_the_stack = refl
-
-store_across_slots : stack_write entry (below 12) Double (Scalar (constant 1)) ≡ Err UnalignedStack
-unfolding tabulate
-store_across_slots = refl
-
-store_at_the_lowest_slot : stack_write entry (below 512) Double (Scalar (constant 1)) ≡ Ok (with_slot entry 0 (Bytes 0xff))
-unfolding tabulate
-store_at_the_lowest_slot = refl
-
-store_of_nothing : stack_write entry (below 8) Byte Unreadable ≡ Err UnreadableRegister
-unfolding tabulate
-store_of_nothing = refl
+stores_out_of_place = (refl, refl, refl, refl, refl)
 
 -- ---- a null test settles each copy of its look-up
 
@@ -169,52 +125,22 @@ null = facts_settled 5 true copies
 abbrev not_null : Facts
 not_null = facts_settled 5 false copies
 
-null_is_zero : scalar_ends (kind_at null 0) ≡ Some (0, 0)
+copies_of_null :
+    (scalar_ends (kind_at null 0) ≡ Some (0, 0))
+    × (scalar_ends (kind_at null 6) ≡ Some (0, 0))
+    × (slot_at null 4 ≡ Bytes 0xff)
+    × (kind_at null 7 ≡ other_lookup)
 unfolding tabulate
-null_is_zero = refl
+copies_of_null = (refl, refl, refl, refl)
 
-copy_of_null_is_zero : scalar_ends (kind_at null 6) ≡ Some (0, 0)
+copies_of_a_value : (value_ends (kind_at not_null 6) ≡ Some (3, pos 0, pos 0)) × (slot_at not_null 4 ≡ Spill (Value (value_span 3 (pos 0) (pos 0))))
 unfolding tabulate
-copy_of_null_is_zero = refl
-
-other_look_up_stays : kind_at null 7 ≡ other_lookup
-unfolding tabulate
-other_look_up_stays = refl
-
-spilled_null_is_written : slot_at null 4 ≡ Bytes 0xff
-unfolding tabulate
-spilled_null_is_written = refl
-
-copy_is_a_value : value_ends (kind_at not_null 6) ≡ Some (3, pos 0, pos 0)
-unfolding tabulate
-copy_is_a_value = refl
-
-spilled_copy_is_a_value : slot_at not_null 4 ≡ Spill (Value (value_span 3 (pos 0) (pos 0)))
-unfolding tabulate
-spilled_copy_is_a_value = refl
+copies_of_a_value = (refl, refl)
 
 -- ---- reasons and kinds
 
-first_of_jumps : number JumpOutside ≡ 1
-first_of_jumps = refl
+numbers_of_reasons : map number (JumpOutside ∷ NoDirectValue ∷ UnreadableRegister ∷ MaybeNull ∷ UnalignedAtomic ∷ Memory ∷ []) ≡ 1 ∷ 9 ∷ 20 ∷ 30 ∷ 36 ∷ 40 ∷ []
+numbers_of_reasons = refl
 
-last_of_descriptors : number NoDirectValue ≡ 9
-last_of_descriptors = refl
-
-first_of_values : number UnreadableRegister ≡ 20
-first_of_values = refl
-
-of_null : number MaybeNull ≡ 30
-of_null = refl
-
-last_of_safety : number UnalignedAtomic ≡ 36
-last_of_safety = refl
-
-of_memory : number Memory ≡ 40
-of_memory = refl
-
-number_is_no_pointer : is_pointer (Scalar (constant 0)) ≡ false
-number_is_no_pointer = refl
-
-look_up_is_a_pointer : is_pointer lookup ≡ true
-look_up_is_a_pointer = refl
+look_up_is_a_pointer : (is_pointer (Scalar (constant 0)) ≡ false) × (is_pointer lookup ≡ true)
+look_up_is_a_pointer = (refl, refl)

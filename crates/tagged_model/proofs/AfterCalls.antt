@@ -80,10 +80,7 @@ module _ (witness : Witness) (s : RunState) (site : ℕ) (v : Tagged) (objects :
   value_more (kind.Value p) w below h = (h.0, h.1, h.2, h.3, h.4, more_objects p.map h.0 h.5)
   value_more (kind.MaybeValue m other) w below h = (h.0 ∙ sym (gave_more other below), lookup_more m w h.1)
   value_more kind.Unreadable w below h = tt
-  value_more (kind.Scalar r) w below h = h
-  value_more (kind.MapRef m) w below h = h
-  value_more (kind.Stack x) w below h = h
-  value_more kind.Ctx w below h = h
+  value_more k w below h = h
 
   register_more : (k : Kind) (o : Option Tagged) → IsKindBelow site k → HasKind witness k o → HasKind (witness_at witness s site v) k o
   register_more kind.Unreadable o below h = tt

@@ -69,15 +69,13 @@ null_written witness m s c j v z e null small =
 pointer_written : (witness : Witness) (k : Kind) (c : Cell) (j : ℕ) (v : Tagged) → is_pointer k ≡ true → j ≡ 0 → AreBytes c → IsOfKind witness k v → IsWritten witness (slot.Spill k) c j Double v
 pointer_written witness kind.Unreadable c j v t z small h = absurd (false≢true t)
 pointer_written witness (kind.Scalar r) c j v t z small h = absurd (false≢true t)
-pointer_written witness (kind.MapRef m) c j v t z small h = whole_written witness (kind.MapRef m) c j v (subst IsKeptWhole (sym h) tt) h
-pointer_written witness (kind.Stack x) c j v t z small h = whole_written witness (kind.Stack x) c j v (subst IsKeptWhole (sym h) tt) h
-pointer_written witness kind.Ctx c j v t z small h = whole_written witness kind.Ctx c j v (subst IsKeptWhole (sym h) tt) h
 pointer_written witness (kind.Value p) c j v t z small h = whole_written witness (kind.Value p) c j v (subst IsKeptWhole (sym h.2) tt) h
 pointer_written witness (kind.MaybeValue m s) c j v t z small h =
     ⊎_elim
     (λ null. null_written witness m s c j v z h.0 null small)
     (λ start. whole_written witness (kind.MaybeValue m s) c j v (subst IsKeptWhole (sym start.1) tt) h)
     h.1
+pointer_written witness k c j v t z small h = whole_written witness k c j v (subst IsKeptWhole (sym h) tt) h
 
 -- ---- what a store leaves
 

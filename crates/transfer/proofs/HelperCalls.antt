@@ -51,12 +51,7 @@ also_agree P Q (Ok x) (Some y) go on h further = further x y h
 -- what may be read, without a step of the machine
 readable_agree : {C D : Type 0} (Q : C → D → Type 0) (k : Kind) (go : Kind → Result C Reason) (o : Option D) → (IsReadable k → Agree Q (go k) o) → Agree Q (and_then_ok (check_readable k) go) o
 readable_agree Q kind.Unreadable go o h = tt
-readable_agree Q (kind.Scalar r) go o h = h tt
-readable_agree Q (kind.MapRef m) go o h = h tt
-readable_agree Q (kind.Stack x) go o h = h tt
-readable_agree Q kind.Ctx go o h = h tt
-readable_agree Q (kind.Value p) go o h = h tt
-readable_agree Q (kind.MaybeValue m site) go o h = h tt
+readable_agree Q k go o h = h tt
 
 -- of an argument, by its value
 at_argument : {A B : Type 0} (Q : A → B → Type 0) (r : Result A Reason) (s : RunState) (n : ℕ) (on : Tagged → Option B) (v w : Tagged) → s.registers n ≡ Some v → v ≡ w → Agree Q r (on w) → Agree Q r (argument s n on)

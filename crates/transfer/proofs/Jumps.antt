@@ -165,9 +165,7 @@ module _ (here : Here) (laws : Comparisons) (f : Facts) (s : RunState) (known : 
     pub branch_covered : (k l : Kind) (v w : Tagged) → IsFound here (s.registers dst) k v → IsFound here (operand_value s wide src) l w → Holds k l v w
     branch_covered kind.Unreadable l v w h g = absurd h.readable
     branch_covered (kind.Scalar a) (kind.Scalar b) v w h g = numbers_held a b v w h g
-    branch_covered (kind.MapRef m) l v w h g = subst (λ v. Holds (kind.MapRef m) l v w) (sym h.kind.is) (pointer_covered None (Some f) known)
-    branch_covered (kind.Stack x) l v w h g = subst (λ v. Holds (kind.Stack x) l v w) (sym h.kind.is) (pointer_covered None (Some f) known)
-    branch_covered kind.Ctx l v w h g = subst (λ v. Holds kind.Ctx l v w) (sym h.kind.is) (pointer_covered None (Some f) known)
+    branch_covered (kind.Scalar a) l v w h g = tt
     branch_covered (kind.Value p) l v w h g = subst (λ v. Holds (kind.Value p) l v w) (sym h.kind.is.2) (pointer_covered None (Some f) known)
     branch_covered (kind.MaybeValue m site) l v w h g = lookup_covered m site l v w h.kind.is.0 h.kind.is.1 g.from
-    branch_covered k l v w h g = tt
+    branch_covered k l v w h g = subst (λ v. Holds k l v w) (sym h.kind.is) (pointer_covered None (Some f) known)

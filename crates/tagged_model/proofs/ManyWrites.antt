@@ -105,18 +105,12 @@ module _ (i : ℕ) (c : Cell) (p : ℕ) (new : List ℕ) where
 -- ---- the state
 
 shorter : (x : ℤ) (n hi : ℕ) → n ≤ hi → is_in_stack x hi ≡ true → is_in_stack x n ≡ true
-shorter (pos y) n hi le e =
-    let h = and_parts (int_le (negsuc 511) (pos y)) (int_le (pos y +ℤ pos hi) (pos 0)) e in
+shorter x n hi le e =
+    let h = and_parts (int_le (negsuc 511) x) (int_le (x +ℤ pos hi) (pos 0)) e in
     let p = h.1 in
-    let high : (pos y +ℤ pos hi) ≤ℤ pos 0 = grind (arith, ints) in
-    let low : (pos y +ℤ pos n) ≤ℤ pos 0 = omega (arith, ints) in
-    and_from (int_le (negsuc 511) (pos y)) (int_le (pos y +ℤ pos n) (pos 0)) h.0 (grind (arith, ints))
-shorter (negsuc y) n hi le e =
-    let h = and_parts (int_le (negsuc 511) (negsuc y)) (int_le (negsuc y +ℤ pos hi) (pos 0)) e in
-    let p = h.1 in
-    let high : (negsuc y +ℤ pos hi) ≤ℤ pos 0 = grind (arith, ints) in
-    let low : (negsuc y +ℤ pos n) ≤ℤ pos 0 = omega (arith, ints) in
-    and_from (int_le (negsuc 511) (negsuc y)) (int_le (negsuc y +ℤ pos n) (pos 0)) h.0 (grind (arith, ints))
+    let high : (x +ℤ pos hi) ≤ℤ pos 0 = grind (arith, ints) in
+    let low : (x +ℤ pos n) ≤ℤ pos 0 = omega (arith, ints) in
+    and_from (int_le (negsuc 511) x) (int_le (x +ℤ pos n) (pos 0)) h.0 (grind (arith, ints))
 
 pub stack_write_many : (witness : Witness) (f g : Facts) (s : RunState) (x : ℤ) (lo hi : ℕ) (bs : List ℕ) → IsInRange s → AdmitsBy witness f s → AreSmall bs → lo ≤ length bs → length bs ≤ hi → stack_filled f x lo hi ≡ Ok g
     → (t : RunState) × (stack_written s x bs ≡ Some t) × AdmitsBy witness g t × IsInRange t

@@ -54,18 +54,13 @@ chosen_byte =
 abbrev eight_bytes : MapsByDescriptor
 eight_bytes = only (array (10 ∷ 11 ∷ 12 ∷ 13 ∷ 14 ∷ 15 ∷ 16 ∷ 17 ∷ []))
 
-byte_3 : result_of chosen_byte eight_bytes (context 1) (3 ∷ []) ≡ Value 13
-unfolding run begins_at gathered known_helpers numbered
-byte_3 = refl
-
-no_byte_8 : result_of chosen_byte eight_bytes (context 1) (8 ∷ []) ≡ Value 9
-unfolding run begins_at gathered known_helpers numbered
-no_byte_8 = refl
-
 -- past the packet's end a zero is written
-byte_0 : result_of chosen_byte eight_bytes (context 0) [] ≡ Value 10
+chosen :
+    (result_of chosen_byte eight_bytes (context 1) (3 ∷ []) ≡ Value 13)
+    × (result_of chosen_byte eight_bytes (context 1) (8 ∷ []) ≡ Value 9)
+    × (result_of chosen_byte eight_bytes (context 0) [] ≡ Value 10)
 unfolding run begins_at gathered known_helpers numbered
-byte_0 = refl
+chosen = (refl, refl, refl)
 
 -- ---- a value that is loaded without a call
 
@@ -73,24 +68,22 @@ byte_0 = refl
 abbrev direct : ℕ → List Insn
 direct offset = MapValue 1 (pos 3) offset ∷ get Double 0 1 (pos 0) ∷ Exit ∷ []
 
-direct_value_is_read : result_of (direct 0) (only (array (5 ∷ 0 ∷ 0 ∷ 0 ∷ 0 ∷ 0 ∷ 0 ∷ 0 ∷ []))) (context 0) [] ≡ Value 5
-unfolding run begins_at gathered numbered index_key
-direct_value_is_read = refl
-
 -- r1 = map_value 3 + 4 ll; r0 = *(u32 *)(r1 + 0)
-direct_upper_half : result_of (MapValue 1 (pos 3) 4 ∷ get Word 0 1 (pos 0) ∷ Exit ∷ []) eight_bytes (context 0) [] ≡ Value 0x11100f0e
-unfolding run begins_at gathered numbered index_key
-direct_upper_half = refl
+abbrev direct_upper_half : List Insn
+direct_upper_half = MapValue 1 (pos 3) 4 ∷ get Word 0 1 (pos 0) ∷ Exit ∷ []
 
--- eight bytes from offset 4 on reach out of the value
-direct_outside : result_of (direct 4) eight_bytes (context 0) [] ≡ Fault
+direct_value_is_read :
+    (result_of (direct 0) (only (array (5 ∷ 0 ∷ 0 ∷ 0 ∷ 0 ∷ 0 ∷ 0 ∷ 0 ∷ []))) (context 0) [] ≡ Value 5)
+    × (result_of direct_upper_half eight_bytes (context 0) [] ≡ Value 0x11100f0e)
 unfolding run begins_at gathered numbered index_key
-direct_outside = refl
+direct_value_is_read = (refl, refl)
 
--- offset 8 is not in the value
-direct_behind : result_of (MapValue 1 (pos 3) 8 ∷ set 0 (pos 0) ∷ Exit ∷ []) eight_bytes (context 0) [] ≡ Fault
+-- eight bytes from offset 4 on reach out of the value, and offset 8 is not in it
+direct_outside :
+    (result_of (direct 4) eight_bytes (context 0) [] ≡ Fault)
+    × (result_of (MapValue 1 (pos 3) 8 ∷ set 0 (pos 0) ∷ Exit ∷ []) eight_bytes (context 0) [] ≡ Fault)
 unfolding run begins_at gathered numbered index_key
-direct_behind = refl
+direct_outside = (refl, refl)
 
 -- r1 = map_value 3 + 0 ll; *(u64 *)(r1 + 0) = 6; r0 = 0
 direct_value_is_written : left_with [] (MapValue 1 (pos 3) 0 ∷ put Double 1 (pos 0) (pos 6) ∷ set 0 (pos 0) ∷ Exit ∷ []) eight_bytes (context 0) [] 3 ≡ Some (array (6 ∷ 0 ∷ 0 ∷ 0 ∷ 0 ∷ 0 ∷ 0 ∷ 0 ∷ []))
@@ -105,10 +98,6 @@ two_values = record {
   deleted = 0;
 }
 
-direct_of_two : result_of (direct 0) (only two_values) (context 0) [] ≡ Fault
-unfolding run begins_at gathered numbered index_key
-direct_of_two = refl
-
 abbrev key_0 : Table (List ℕ)
 key_0 = record {
   shape = record { kind = Hash; key_size = 4; value_size = 8; max_entries = 1; listed = refl };
@@ -116,9 +105,9 @@ key_0 = record {
   deleted = 0;
 }
 
-direct_of_hash : result_of (direct 0) (only key_0) (context 0) [] ≡ Fault
+no_direct_value : (result_of (direct 0) (only two_values) (context 0) [] ≡ Fault) × (result_of (direct 0) (only key_0) (context 0) [] ≡ Fault)
 unfolding run begins_at gathered numbered index_key
-direct_of_hash = refl
+no_direct_value = (refl, refl)
 
 -- ---- bytes of the packet
 
@@ -135,26 +124,17 @@ loaded offset = result_of (four_bytes offset ++ (Exit ∷ [])) (λ m. None) (con
 abbrev loaded_bytes : Insn → Outcome
 loaded_bytes offset = result_of (four_bytes offset ++ (get Word 0 10 (minus 8) ∷ Exit ∷ [])) (λ m. None) (context 4) packet
 
-whole_packet : loaded (set 2 (pos 0)) ≡ Value 0
+whole_packet : (loaded (set 2 (pos 0)) ≡ Value 0) × (loaded_bytes (set 2 (pos 0)) ≡ Value 67305985)
 unfolding run begins_at gathered known_helpers
-whole_packet = refl
+whole_packet = (refl, refl)
 
-whole_packet_bytes : loaded_bytes (set 2 (pos 0)) ≡ Value 67305985
+-- past the end it answers -14 and leaves zeros; an offset has 31 bits
+past_the_end :
+    (loaded (set 2 (pos 1)) ≡ Value 4294967282)
+    × (loaded_bytes (set 2 (pos 1)) ≡ Value 0)
+    × (loaded (Const 2 0x8000_0000) ≡ Value 4294967282)
 unfolding run begins_at gathered known_helpers
-whole_packet_bytes = refl
-
--- past the end it answers -14 and leaves zeros
-past_the_end : loaded (set 2 (pos 1)) ≡ Value 4294967282
-unfolding run begins_at gathered known_helpers
-past_the_end = refl
-
-past_the_end_bytes : loaded_bytes (set 2 (pos 1)) ≡ Value 0
-unfolding run begins_at gathered known_helpers
-past_the_end_bytes = refl
-
-offset_of_31_bits : loaded (Const 2 0x8000_0000) ≡ Value 4294967282
-unfolding run begins_at gathered known_helpers
-offset_of_31_bits = refl
+past_the_end = (refl, refl, refl)
 
 -- ---- the grace period, in a hash map of one entry: the deleted value stays until the run ends, and counts
 
@@ -175,19 +155,13 @@ replaces_the_key =
     ++ (copy 2 10 ∷ less 2 4 ∷ MapFd 1 (pos 3) ∷ Call (pos 3) ∷ put Word 10 (minus 4) (pos 2) ∷ put Double 10 (minus 16) (pos 6) ∷ [])
     ++ (copy 2 10 ∷ less 2 4 ∷ copy 3 10 ∷ less 3 16 ∷ MapFd 1 (pos 3) ∷ set 4 (pos 0) ∷ Call (pos 2) ∷ put Double 6 (pos 0) (pos 7) ∷ Exit ∷ set 0 (pos 1) ∷ Exit ∷ [])
 
--- -7, too big
-full_with_the_deleted_key : result_of replaces_the_key key_1 (context 0) [] ≡ Value 4294967289
+-- -7, too big; after the run the map is empty
+full_with_the_deleted_key :
+    (result_of replaces_the_key key_1 (context 0) [] ≡ Value 4294967289)
+    × (left_with [] replaces_the_key key_1 (context 0) [] 3 ≡ Some (hash []))
+    × (result_of replaces_the_key (only (hash [])) (context 0) [] ≡ Value 1)
 unfolding run begins_at gathered known_helpers numbered
-full_with_the_deleted_key = refl
-
--- after the run the map is empty
-gone_after_the_run : left_with [] replaces_the_key key_1 (context 0) [] 3 ≡ Some (hash [])
-unfolding run begins_at gathered known_helpers numbered
-gone_after_the_run = refl
-
-absent_key : result_of replaces_the_key (only (hash [])) (context 0) [] ≡ Value 1
-unfolding run begins_at gathered known_helpers numbered
-absent_key = refl
+full_with_the_deleted_key = (refl, refl, refl)
 
 -- ---- a new key that is refused memory
 
@@ -201,18 +175,13 @@ key_is_put : left_with [] puts_a_key (only (hash [])) (context 0) [] 3 ≡ Some 
 unfolding run begins_at gathered known_helpers numbered
 key_is_put = refl
 
--- -12, out of memory: at the ninth step
+-- -12, out of memory, at the ninth step; the refusal is noted, and the map stays
 abbrev at_the_call : List Bool
 at_the_call = replicate 8 false ++ (true ∷ [])
 
-refused_key : result_with at_the_call puts_a_key (only (hash [])) (context 0) [] ≡ Value 4294967284
+key_is_refused :
+    (result_with at_the_call puts_a_key (only (hash [])) (context 0) [] ≡ Value 4294967284)
+    × (was_refused at_the_call puts_a_key (only (hash [])) (context 0) [] ≡ true)
+    × (left_with at_the_call puts_a_key (only (hash [])) (context 0) [] 3 ≡ Some (hash []))
 unfolding run begins_at gathered known_helpers numbered
-refused_key = refl
-
-refusal_is_noted : was_refused at_the_call puts_a_key (only (hash [])) (context 0) [] ≡ true
-unfolding run begins_at gathered known_helpers numbered
-refusal_is_noted = refl
-
-refused_map_stays : left_with at_the_call puts_a_key (only (hash [])) (context 0) [] 3 ≡ Some (hash [])
-unfolding run begins_at gathered known_helpers numbered
-refused_map_stays = refl
+key_is_refused = (refl, refl, refl)

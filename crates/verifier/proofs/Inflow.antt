@@ -6,7 +6,7 @@ use Rattle.std.proofs.lemmas.Bool.{false≢true, cases_order, cases_eq, eq-eqb, 
 use Rattle.std.proofs.lemmas.List.{get_or-replicate, length-replicate}
 use Rattle.std.proofs.lemmas.Option.{none-some}
 use Rattle.insn_set.specs.declared.insn.Insn.{Insn}
-use Rattle.insn_set.specs.declared.insn.Insn.TheVariants.{Alu, Movsx, Neg, End, Ja, Jal, Jump, Call, Exit, Load, Store, Atomic, Const, MapFd, MapValue}
+use Rattle.insn_set.specs.declared.insn.Insn.TheVariants.{Ja, Jal, Exit}
 use Rattle.insn_set.specs.Spelling.{slots}
 use Rattle.insn_set.specs.Program.{begins_at, slot_count, Adjoins}
 use Rattle.insn_set.specs.BeginLaws.{some_slots, adjoins_after, none_begins_inside, first_begins}
@@ -68,18 +68,7 @@ module _ (shapes : Shapes) where
   fall_is at (Ja off) f b = on_none b
   fall_is at (Jal off) f b = on_none b
   fall_is at Exit f b = no_fall b b (falling_of (effect shapes at Exit f)) (sym (given_end_falls (check_readable (kind_at f 0))))
-  fall_is at (Alu wide op dst src) f b = refl
-  fall_is at (Movsx m) f b = refl
-  fall_is at (Neg wide dst) f b = refl
-  fall_is at (End how kept dst) f b = refl
-  fall_is at (Jump wide cond dst src off) f b = refl
-  fall_is at (Call id) f b = refl
-  fall_is at (Load l) f b = refl
-  fall_is at (Store size dst src off) f b = refl
-  fall_is at (Atomic size op dst src off) f b = refl
-  fall_is at (Const dst value) f b = refl
-  fall_is at (MapFd dst fd) f b = refl
-  fall_is at (MapValue dst fd off) f b = refl
+  fall_is at i f b = refl
 
   -- what does not jump has no target
   target_is : (b : Bool) (o : Option ℕ) (n i : ℕ) → n < i → is_slot (if b then o else None) i ≡ (b && is_slot o i && nat_lt n i)

@@ -155,12 +155,10 @@ none_unshaped shapes (names.Value fd off) h none = true≢false (sym (h fd refl)
 
 -- a value that is loaded directly is one that the map has
 none_lacking : (shapes : Shapes) (named : List Named) (r : Reference) → ((fd : ℕ) → descriptor_by r ≡ Some fd → shapes fd ≡ shapes_named named fd) → is_no_value named r ≡ false → IsNoValue shapes r → ⊥
-none_lacking shapes named names.Nothing same has none = none
-none_lacking shapes named (names.Helper id) same has none = none
-none_lacking shapes named (names.Map fd) same has none = none
 none_lacking shapes named (names.Value fd off) same has none =
     let there : shapes_named named fd ≡ Some none.0 = sym (same fd refl) ∙ none.1 in
     true≢false (sym (ap not none.2) ∙ sym (ap (λ o. not (option_map_or (λ shape. has_direct_value shape off) o true)) there) ∙ has)
+none_lacking shapes named r same has none = none
 
 -- the shapes that are kept are those that all descriptors name
 kept_shape : (code : List Insn) (named : List Named) (n : ℕ) (i : Insn) → begins_at code n ≡ Some i → (fd : ℕ) → descriptor i ≡ Some fd → shapes_of code named fd ≡ shapes_named named fd

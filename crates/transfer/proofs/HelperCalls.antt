@@ -113,7 +113,7 @@ packet_read packet offset n small =
     zeros : (n : ℕ) → AreBytes (replicate n 0)
     zeros n k d lt = subst (λ b. b < 256) (sym (get_or-replicate n k 0 d (among k (length (replicate n 0)) n (length-replicate n 0) lt))) (omega arith)
 
-module _ (laws : Laws) (witness : Witness) (shapes : Shapes) (f : Facts) (s : RunState) (still : Describes witness f shapes s) where
+module _ (laws : Laws) {witness : Witness} {shapes : Shapes} {f : Facts} {s : RunState} (still : Describes witness f shapes s) where
   -- ---- arguments
 
   record IsMap (x : ShapedMap) (g : GivenMap) : Type 0 where
@@ -142,7 +142,7 @@ module _ (laws : Laws) (witness : Witness) (shapes : Shapes) (f : Facts) (s : Ru
   value_found p n number x None e from to lt = tt
   value_found p n number x (Some shape) e from to lt =
       by_law (AreRead n) (room_of p (pos 0) n (Some shape)) (object_bytes s p.map number x n)
-      (λ _ ok. let room = room_here p n x shape from to ok in let h = laws.object_read s p.map number shape x n still.proper (owned witness shapes f s still p.map number shape e lt) room.low room.high in (h.0, h.1, (h.2, h.3)))
+      (λ _ ok. let room = room_here p n x shape from to ok in let h = laws.object_read s p.map number shape x n still.proper (owned still p.map number shape e lt) room.low room.high in (h.0, h.1, (h.2, h.3)))
 
   input_agrees : (n r : ℕ) (k : Kind) → IsReadable k → HasKind witness k (s.registers r) → Agree (AreRead n) (input_kind shapes f n k) (argument s r (λ p. input s p n))
   input_agrees n r (kind.Stack x) _ h =
@@ -211,7 +211,7 @@ module _ (laws : Laws) (witness : Witness) (shapes : Shapes) (f : Facts) (s : Ru
       (λ g ok. let c = given_room (room_of p (pos 0) r.hi (Some shape)) g ok in
       let room = room_here p r.hi x shape from to c.0 in
       let high = room.high in let most = m.to in
-      let h = laws.object_write witness f shapes s p.map number shape x bs still.proper still.admits still.maps (owned witness shapes f s still p.map number shape e lt) small room.low (omega (arith, ints)) in
+      let h = laws.object_write witness f shapes s p.map number shape x bs still.proper still.admits still.maps (owned still p.map number shape e lt) small room.low (omega (arith, ints)) in
       (h.0, h.1, record { known = record { admits = subst (λ k. AdmitsBy witness k h.0) c.1 h.2; proper = h.3; maps = h.4 }; same_at = h.5 }))
 
   output_agrees : (n : ℕ) (r : Range) (k : Kind) (bs : List ℕ) → IsReadable k → HasKind witness k (s.registers n) → AreBytes bs → IsMember (length bs) r → Agree (IsFilled bs) (output_facts shapes f r k) (argument s n (λ p. output s p bs))
@@ -255,7 +255,7 @@ module _ (laws : Laws) (witness : Witness) (shapes : Shapes) (f : Facts) (s : Ru
         let known = laws.map_change witness f shapes s g.descriptor x.shape g.map reply.map still is.there (subst (λ m. shapes m ≡ Some x.shape) is.named is.shape_is) keeps in
         record {
           witness = witness;
-          still = laws.call witness f shapes (with_refusal changed reply.refused) any_number (Scalar reply.answer) (still_noted witness f shapes changed known reply.refused) (any_is witness reply.answer small);
+          still = laws.call witness f shapes (with_refusal changed reply.refused) any_number (Scalar reply.answer) (still_noted known reply.refused) (any_is witness reply.answer small);
           at = refl;
         }
 
@@ -313,4 +313,4 @@ module _ (laws : Laws) (witness : Witness) (shapes : Shapes) (f : Facts) (s : Ru
 
 pub calls_are_sound : Laws → CallsAreSound
 calls_are_sound laws witness refused shapes h f g s below still e =
-    from_agree (λ g u. CallIsAdmitted g shapes s u) (call_facts shapes s.at h f) (called refused h s) g (all_covered laws witness shapes f s still below refused h) e
+    from_agree (λ g u. CallIsAdmitted g shapes s u) (call_facts shapes s.at h f) (called refused h s) g (all_covered laws still below refused h) e

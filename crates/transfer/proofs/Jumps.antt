@@ -53,13 +53,13 @@ IsKnownOn here (Some f) s = IsKnown here f s
 
 on_edge : (here : Here) (o : Option Facts) (s : RunState) (n : ℕ) → IsKnownOn here o s → EdgeAdmits here.shapes o (Some n) (at_slot n s)
 on_edge here None s n h = h
-on_edge here (Some f) s n h = goes_to here f s n h
+on_edge here (Some f) s n h = goes_to here n h
 
 pub jump_covered : (here : Here) (target : Option ℕ) (e : Edges) (s : RunState) → IsSome target → IsKnownOn here e.jumping s → IsCovered (OnJumping here target) e (or_fault target (λ n. goes (at_slot n s)))
 jump_covered here None e s there h = absurd (false≢true there)
 jump_covered here (Some n) e s there h = on_edge here e.jumping s n h
 
-module _ (here : Here) (laws : Comparisons) (f : Facts) (s : RunState) (known : IsKnown here f s) (off : ℤ) (there : IsSome (natural (pos (s.at + 1) +ℤ off))) where
+module _ {here : Here} (laws : Comparisons) {f : Facts} {s : RunState} (known : IsKnown here f s) (off : ℤ) (there : IsSome (natural (pos (s.at + 1) +ℤ off))) where
   abbrev Target : Option ℕ
   Target = natural (pos (s.at + 1) +ℤ off)
 
@@ -80,11 +80,11 @@ module _ (here : Here) (laws : Comparisons) (f : Facts) (s : RunState) (known : 
   module _ (wide : Bool) (cond : Condition) (dst : ℕ) (src : Operand) (x y : ℕ) (first : s.registers dst ≡ Some (Scalar x)) (second : operand_value s wide src ≡ Some (Scalar y)) where
     source_known : (g : Facts) (src : Operand) (b : Range) → operand_value s wide src ≡ Some (Scalar y) → IsMember y b → b.hi < 2 ^ 64 → IsKnown here g s → IsKnown here (with_source g src b) s
     source_known g (Imm z) b e m h k = k
-    source_known g (Reg n) b e m h k = known_more here g s k n (kind.Scalar b) (Scalar y) e (scalar_of here b y m h)
+    source_known g (Reg n) b e m h k = known_more here k n (kind.Scalar b) (Scalar y) e (scalar_of here b y m h)
 
     pair_known : (o : Option RangePair) → IsPairOn o x y → IsPairOfWords o → IsKnownOn here (option_map (with_pair f dst src) o) s
     pair_known None m h = m
-    pair_known (Some p) m h = source_known _ src p.1 second m.1 h.1 (known_more here f s known dst (kind.Scalar p.0) (Scalar x) first (scalar_of here p.0 x m.0 h.0))
+    pair_known (Some p) m h = source_known _ src p.1 second m.1 h.1 (known_more here known dst (kind.Scalar p.0) (Scalar x) first (scalar_of here p.0 x m.0 h.0))
 
     numbers_covered : (a b : Range) → a.hi < 2 ^ 64 → b.hi < 2 ^ 64 → IsMember x a → IsMember y b → Covered (number_edges wide cond f dst src a b) (compares (width wide) cond x y)
     numbers_covered a b ah bh m n =

@@ -67,7 +67,7 @@ pub record IsStored (here : Here) (s : RunState) (g : Facts) (t : RunState) : Ty
   pub known : IsKnown here g t
   pub at : t.at ≡ s.at
 
-module _ (here : Here) (f : Facts) (s : RunState) (known : IsKnown here f s) where
+module _ {here : Here} {f : Facts} {s : RunState} (known : IsKnown here f s) where
   word_of : (w : ℕ) → w < 2 ^ 32 → IsKindOf here (kind.Scalar (full 32)) (Scalar w)
   word_of w h = scalar_of here (full 32) w (record { from = omega arith; to = omega arith }) (omega arith)
 
@@ -105,7 +105,7 @@ module _ (here : Here) (f : Facts) (s : RunState) (known : IsKnown here f s) whe
       by_law (IsKindOf here) (and_then_ok (room_of p off (bytes_of size) (Some shape)) (λ _. Ok (loaded size signed))) _
       (λ k ok. let c = given_ok (room_of p off (bytes_of size) (Some shape)) (loaded size signed) k ok in
       let room = room_at p off (bytes_of size) x shape from to c.0 in
-      let h = law here.witness s p.map number shape (x +ℤ off) size signed known.proper (owned here.witness here.shapes f s (still_of here f s known) p.map number shape e lt) room.low room.high in
+      let h = law here.witness s p.map number shape (x +ℤ off) size signed known.proper (owned (still_of known) p.map number shape e lt) room.low room.high in
       (h.0, h.1, subst (λ k. IsKindOf here k h.0) c.1 (record { is = h.2; words = loaded_words here.slot size signed })))
 
   pub load_agrees : Accesses → (size : AccessSize) (signed : Bool) (off : ℤ) (k : Kind) (v : Tagged) → IsKindOf here k v → Gives here (load_kind here.shapes f size signed off k) (load s size signed v off)
@@ -151,8 +151,8 @@ module _ (here : Here) (f : Facts) (s : RunState) (known : IsKnown here f s) whe
       by_law (IsStored here s) (and_then_ok (room_of p off (bytes_of size) (Some shape)) (λ _. Ok f)) _
       (λ g ok. let c = given_ok (room_of p off (bytes_of size) (Some shape)) f g ok in
       let room = room_at p off (bytes_of size) x shape from to c.0 in
-      let still = still_of here f s known in
-      let h = law here.witness f here.shapes s p.map number shape (x +ℤ off) size n still (owned here.witness here.shapes f s still p.map number shape e lt) room.low room.high in
+      let still = still_of known in
+      let h = law here.witness f here.shapes s p.map number shape (x +ℤ off) size n still (owned still p.map number shape e lt) room.low room.high in
       (h.0, h.1, subst (λ g. IsStored here s g h.0) c.1 (record { known = record { admits = h.2.admits; words = known.words; proper = h.2.proper; maps = h.2.maps }; at = h.3 })))
 
   -- a number is stored, and nothing else

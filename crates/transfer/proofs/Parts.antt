@@ -100,11 +100,11 @@ pub record IsKnown (here : Here) (f : Facts) (s : RunState) : Type 0 where
   pub proper : IsInRange s
   pub maps : HasMaps here.shapes s
 
-pub still_of : (here : Here) (f : Facts) (s : RunState) → IsKnown here f s → Describes here.witness f here.shapes s
-still_of here f s known = record { admits = known.admits; proper = known.proper; maps = known.maps }
+pub still_of : {here : Here} {f : Facts} {s : RunState} → IsKnown here f s → Describes here.witness f here.shapes s
+still_of known = record { admits = known.admits; proper = known.proper; maps = known.maps }
 
 -- all is known still at another slot, and where a refusal of memory is noted
-module _ (witness : Witness) (f : Facts) (shapes : Shapes) (s : RunState) (still : Describes witness f shapes s) where
+module _ {witness : Witness} {f : Facts} {shapes : Shapes} {s : RunState} (still : Describes witness f shapes s) where
   still_after : (n : ℕ) (b : Bool) → Describes witness f shapes (record s { at = n; refused = b })
   still_after n b =
       record {

@@ -15,8 +15,8 @@ use Rattle.transfer.specs.Calls.{room_of}
 use Rattle.transfer.proofs.Parts.{refused}
 
 -- an object that a pointer leads to
-pub owned : (witness : Witness) (shapes : Shapes) (f : Facts) (s : RunState) → Describes witness f shapes s → (m number : ℕ) (shape : MapShape) → shapes m ≡ Some shape → number < witness.objects m → IsObject s m number shape
-owned witness shapes f s still m number shape e lt =
+pub owned : {witness : Witness} {shapes : Shapes} {f : Facts} {s : RunState} → Describes witness f shapes s → (m number : ℕ) (shape : MapShape) → shapes m ≡ Some shape → number < witness.objects m → IsObject s m number shape
+owned {witness = witness} still m number shape e lt =
     let h = still.maps m shape e in
     let le : witness.objects m ≤ h.0.count = subst (λ o. witness.objects m ≤ objects_of o) h.1 (still.admits.objects m) in
     record { map = h.0; there = h.1; is = h.2; owned = omega arith }

@@ -61,7 +61,7 @@ module _ (here : Here) where
   found o kind.Unreadable h w = tt
   found o k h w = there o k h.0 h.1 tt h.2 w
 
-  module _ (f : Facts) (s : RunState) (known : IsKnown here f s) where
+  module _ {f : Facts} {s : RunState} (known : IsKnown here f s) where
     pub register_found : (r : ℕ) → Agree (IsFound here (s.registers r)) (check_readable (kind_at f r)) (s.registers r)
     register_found r = found (s.registers r) (kind_at f r) (known.admits.registers r) (known.words.registers r)
 
@@ -122,8 +122,8 @@ module _ (here : Here) where
           maps = known.maps;
         }
 
-  pub goes_to : (f : Facts) (s : RunState) (n : ℕ) → IsKnown here f s → EdgeAdmits here.shapes (Some f) (Some n) (at_slot n s)
-  goes_to f s n known = (refl, here.witness, still_of here f (at_slot n s) (moved_to f s known n))
+  pub goes_to : {f : Facts} {s : RunState} (n : ℕ) → IsKnown here f s → EdgeAdmits here.shapes (Some f) (Some n) (at_slot n s)
+  goes_to n known = (refl, here.witness, still_of (moved_to known n))
 
-  pub assigned_covered : (f : Facts) (s : RunState) (n r : ℕ) (k : Kind) (v : Tagged) → IsKnown here f s → IsKindOf here k v → IsCoveredIf (OnFalling here (s.at + n)) (falls (with_kind f r k)) (assigned n s r v)
-  assigned_covered f s n r k v known h = goes_to (with_kind f r k) (with_register s r v) (s.at + n) (given_value f s known r k v h)
+  pub assigned_covered : {f : Facts} {s : RunState} {k : Kind} {v : Tagged} (n r : ℕ) → IsKnown here f s → IsKindOf here k v → IsCoveredIf (OnFalling here (s.at + n)) (falls (with_kind f r k)) (assigned n s r v)
+  assigned_covered {s = s} n r known h = goes_to (s.at + n) (given_value known r _ _ h)

@@ -132,8 +132,8 @@ module _ (shapes : Shapes) where
       }
 
   -- where an instruction begins, the facts in hand are due
-  due_here : (code : List Insn) (slot : ℕ) (pass : Pass) (b : IsBefore code slot pass) (insn : Insn) → begins_at code slot ≡ Some insn → b.due ≡ slot
-  due_here code slot pass b insn begins =
+  due_here : {code : List Insn} {slot : ℕ} {pass : Pass} {insn : Insn} (b : IsBefore code slot pass) → begins_at code slot ≡ Some insn → b.due ≡ slot
+  due_here {slot = slot} {insn = insn} b begins =
       elim (cases_order b.due slot) [
         | inl same ↦ same
         | inr (inl below) ↦ absurd (omega (arith, b.ahead))
@@ -141,13 +141,13 @@ module _ (shapes : Shapes) where
       ]
 
   -- what is known before the instruction
-  pub here_is : (code : List Insn) (slot : ℕ) (pass : Pass) → IsBefore code slot pass → (insn : Insn) → begins_at code slot ≡ Some insn → slot < slot_count code → arriving_at slot pass ≡ facts_before shapes code slot
-  here_is code slot pass b insn begins lt =
-      sym (ap (λ (t : Bool). joined (only_if t pass.falling) (brought_to slot pass.entries)) (eq-eqb b.due slot (due_here code slot pass b insn begins)))
+  pub here_is : {code : List Insn} {slot : ℕ} {pass : Pass} {insn : Insn} → IsBefore code slot pass → begins_at code slot ≡ Some insn → slot < slot_count code → arriving_at slot pass ≡ facts_before shapes code slot
+  here_is {slot = slot} {pass = pass} b begins lt =
+      sym (ap (λ (t : Bool). joined (only_if t pass.falling) (brought_to slot pass.entries)) (eq-eqb b.due slot (due_here b begins)))
       ∙ b.each slot (omega arith) lt
 
-  entry_is : (code : List Insn) (slot : ℕ) (pass : Pass) (b : IsBefore code slot pass) → (i : ℕ) → slot ≤ i → i < slot_count code → (b.due ≡ i → ⊥) → brought_to i pass.entries ≡ facts_from_below shapes code i slot
-  entry_is code slot pass b i above lt other =
+  entry_is : {code : List Insn} {slot : ℕ} {pass : Pass} (b : IsBefore code slot pass) (i : ℕ) → slot ≤ i → i < slot_count code → (b.due ≡ i → ⊥) → brought_to i pass.entries ≡ facts_from_below shapes code i slot
+  entry_is {pass = pass} b i above lt other =
       sym (ap (λ (t : Bool). joined (only_if t pass.falling) (brought_to i pass.entries)) (ne_eqb b.due i other)) ∙ b.each i above lt
 
   sent_is : (code : List Insn) (n i : ℕ) (insn : Insn) (here : Option Facts) → begins_at code n ≡ Some insn → facts_sent shapes code n i here ≡ and_then here (λ f. edges_into insn n i (effect shapes n insn f))
@@ -155,15 +155,15 @@ module _ (shapes : Shapes) where
   sent_is code n i insn (Some f) begins = ap (λ (o : Option Insn). and_then o (λ insn. edges_into insn n i (effect shapes n insn f))) begins
 
   -- past an instruction that may be run
-  pub after_insn : FactsCommute → FactsAssociate → (code : List Insn) (slot : ℕ) (old new : Pass) → IsBefore code slot old → (insn : Insn) → begins_at code slot ≡ Some insn → slot < slot_count code
+  pub after_insn : {code : List Insn} {slot : ℕ} {old : Pass} {insn : Insn} → FactsCommute → FactsAssociate → (new : Pass) → IsBefore code slot old → begins_at code slot ≡ Some insn → slot < slot_count code
       → new.falling ≡ falling_from shapes slot insn (arriving_at slot old)
       → ((i : ℕ) → slot < i → Brings (jump_target insn slot) (jumping_from shapes slot insn (arriving_at slot old)) old.entries new.entries i)
       → length new.entries ≡ length old.entries → IsBefore code (slot + 1) new
-  after_insn comm assoc code slot old new b insn begins lt fall jump long =
+  after_insn {code = code} {slot = slot} {old = old} {insn = insn} comm assoc new b begins lt fall jump long =
       let here : Option Facts = arriving_at slot old in
       let falling_edge : Option Facts = falling_from shapes slot insn here in
       let jumping_edge : Option Facts = jumping_from shapes slot insn here in
-      let due = due_here code slot old b insn begins in
+      let due = due_here b begins in
       record {
         due = slot + length (slots insn);
         ahead = omega (arith, some_slots insn);
@@ -171,8 +171,8 @@ module _ (shapes : Shapes) where
         between = λ k above below. none_begins_inside code slot insn begins k (omega arith) below;
         long = long ∙ b.long;
         each = λ i above within.
-            let was : brought_to i old.entries ≡ facts_from_below shapes code i slot = entry_is code slot old b i (omega arith) within (λ e. omega arith) in
-            let known = here_is code slot old b insn begins lt in
+            let was : brought_to i old.entries ≡ facts_from_below shapes code i slot = entry_is b i (omega arith) within (λ e. omega arith) in
+            let known = here_is b begins lt in
             let fall_edge : Option Facts = only_if (falls_to insn slot == i) falling_edge in
             let jump_edge : Option Facts = only_if (is_slot (jump_target insn slot) i) jumping_edge in
             ap (λ (f : Option Facts). joined (only_if (falls_to insn slot == i) f) (brought_to i new.entries)) fall
@@ -194,8 +194,8 @@ module _ (shapes : Shapes) where
   not_first code slot (inr more) lt none = false≢true (sym (ap is_some none) ∙ more.1)
 
   -- past a slot where no instruction begins
-  pub after_none : (code : List Insn) (slot : ℕ) (pass : Pass) → IsBefore code slot pass → begins_at code slot ≡ None → slot < slot_count code → IsBefore code (slot + 1) pass
-  after_none code slot pass b none lt =
+  pub after_none : {code : List Insn} {slot : ℕ} {pass : Pass} → IsBefore code slot pass → begins_at code slot ≡ None → slot < slot_count code → IsBefore code (slot + 1) pass
+  after_none {code = code} {slot = slot} b none lt =
       let later : b.due ≡ slot → ⊥ = λ e. not_first code slot (subst (λ (n : ℕ). Adjoins code n) e b.adjoins) lt none in
       record {
         due = b.due;
@@ -212,9 +212,9 @@ module _ (shapes : Shapes) where
 
   -- ---- the fault at a slot
 
-  pub safety_is : (code : List Insn) (slot : ℕ) (insn : Insn) (here : Option Facts) (r : Option Reason) → here ≡ facts_before shapes code slot → begins_at code slot ≡ Some insn → reason_from shapes slot insn here ≡ r → safety_fault shapes code slot ≡ r
+  pub safety_is : (code : List Insn) (slot : ℕ) {insn : Insn} {here : Option Facts} {r : Option Reason} → here ≡ facts_before shapes code slot → begins_at code slot ≡ Some insn → reason_from shapes slot insn here ≡ r → safety_fault shapes code slot ≡ r
   unfolding safety_fault
-  safety_is code slot insn here r known begins is =
+  safety_is code slot {here = here} known begins is =
       ap (λ (h : Option Facts). and_then h (λ f. and_then (begins_at code slot) (λ i. reason_of (effect shapes slot i f)))) (sym known)
       ∙ ap (λ (o : Option Insn). and_then here (λ f. and_then o (λ i. reason_of (effect shapes slot i f)))) begins
       ∙ is

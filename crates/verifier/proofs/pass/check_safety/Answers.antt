@@ -46,7 +46,7 @@ returns-in_err-step-clause-refused g c =
     let begins : begins_at code slot ≡ Some c.in-Some.insn.now = sym c.get.ensures ∙ ap option_copied c.in-Some.is in
     let known = c.loop-slot.invariant.known in
     let lt : slot < slot_count code = omega (arith, c.slots-slots.ensures.count) in
-    let here = here_is (shapes_named c.args.named.now) code slot _ known c.in-Some.insn.now begins lt in
+    let here = here_is _ known begins lt in
     let old = g.W.Watcher.told c.args.watcher.now in
     let mid = g.W.Watcher.told c.loop-slot.watcher in
     let new = g.W.Watcher.told c.step.new.watcher in
@@ -58,7 +58,7 @@ returns-in_err-step-clause-refused g c =
       | inr told ↦
           inr (
             first_at (shapes_named c.args.named.now) (safety_fault (shapes_named c.args.named.now) code) c.in_err-step.field-0.0.slot slot c.in_err-step.field-0.0.reason told.0.0
-                (safety_is (shapes_named c.args.named.now) code slot c.in-Some.insn.now _ (Some c.in_err-step.field-0.0.reason) here begins told.0.1)
+                (safety_is _ code slot here begins told.0.1)
                 c.loop-slot.invariant.none_below,
             subst (λ (n : ℕ). IsToldBelow (n + 1) (shapes_named c.args.named.now) code old new) (sym told.0.0)
                 (told_next (shapes_named c.args.named.now) code slot c.in-Some.insn.now _ old mid new begins here c.loop-slot.invariant.told told.1),
@@ -75,19 +75,20 @@ loop-slot-preserved g c =
       | in-Some+in_ok-step w ↦
           let begins : begins_at code slot ≡ Some w.in-Some.insn.now = sym c.get.ensures ∙ ap option_copied w.in-Some.is in
           let told = w.in_ok-step.ensures in
+          let here = here_is _ known begins lt in
           record {
             known =
                 subst (λ (p : Pass). IsBefore (shapes_named c.args.named.now) code (slot + 1) p) (sym w.pass-is)
-                (after_insn (shapes_named c.args.named.now) c.joins_commute.ensures.facts c.joins_associate.ensures.facts code slot _ _ known w.in-Some.insn.now begins lt told.falling told.sent told.long);
-            none_below = below_more _ _ c.loop-slot.invariant.none_below (safety_is (shapes_named c.args.named.now) code slot w.in-Some.insn.now _ None (here_is (shapes_named c.args.named.now) code slot _ known w.in-Some.insn.now begins lt) begins told.ok);
-            told = told_next (shapes_named c.args.named.now) code slot w.in-Some.insn.now _ _ _ _ begins (here_is (shapes_named c.args.named.now) code slot _ known w.in-Some.insn.now begins lt) c.loop-slot.invariant.told (ap g.W.Watcher.told w.watcher-is ∙ told.told);
+                (after_insn _ c.joins_commute.ensures.facts c.joins_associate.ensures.facts _ known begins lt told.falling told.sent told.long);
+            none_below = below_more _ _ c.loop-slot.invariant.none_below (safety_is _ code slot here begins told.ok);
+            told = told_next (shapes_named c.args.named.now) code slot w.in-Some.insn.now _ _ _ _ begins here c.loop-slot.invariant.told (ap g.W.Watcher.told w.watcher-is ∙ told.told);
           }
       | in_default w ↦
           let begins : begins_at code slot ≡ None = sym c.get.ensures ∙ ap option_copied w.in_default.is in
           record {
             known =
                 subst (λ (p : Pass). IsBefore (shapes_named c.args.named.now) code (slot + 1) p) (sym w.pass-is)
-                (after_none (shapes_named c.args.named.now) code slot _ known begins lt);
+                (after_none _ known begins lt);
             none_below = below_more _ _ c.loop-slot.invariant.none_below (safe_none (shapes_named c.args.named.now) code slot begins);
             told = ap g.W.Watcher.told w.watcher-is ∙ told_past (shapes_named c.args.named.now) code slot _ _ begins c.loop-slot.invariant.told;
           }

@@ -1,11 +1,11 @@
 -- The maps at their places.
-use Rattle.std.proofs.Common.{◌≡◌, ◌≢◌, ℕ, ◌<◌, ◌≤◌, List, length, take, drop, set, get_or, Option, Some, None, IsSome, is_some, refl, sym, ap, ◌∙◌, inl, inr, arith, length-set, get_or-set_same, get_or-set_other, true≢false}
+use Rattle.std.proofs.Common.{◌≡◌, ◌≢◌, ℕ, ◌<◌, ◌≤◌, List, length, take, drop, set, get_or, Option, Some, None, IsSome, is_some, refl, sym, ap, subst, ◌∙◌, inl, inr, arith, length-set, get_or-set_same, get_or-set_other, true≢false}
 use Rattle.std.specs.Prelude.{◌⊎◌, is_none, position, option_map}
 use Rattle.std.proofs.Math.Path.{fun_ext}
 use Rattle.std.proofs.lemmas.Bool.{cases_eq, cases_lt}
 use Rattle.std.proofs.lemmas.List.{ext_get_or, get_or_past}
 use Rattle.std.proofs.lemmas.List.FromFn.{length-map-range_with_len, get_or-map-range_with_len}
-use Rattle.bpf_maps.specs.Live.{LiveMaps, LiveMap, live_or, live_at, offset, map_in}
+use Rattle.bpf_maps.specs.Live.{LiveMaps, LiveMap, live_or, live_at, holds_at, offset, map_in}
 use Rattle.bpf_maps.specs.LiveLaws.{same_lowest}
 use Rattle.bpf_maps.specs.Places.{table_of}
 use Rattle.tagged_model.specs.Table.{with_values}
@@ -13,6 +13,14 @@ use Rattle.tenant.specs.State.{Map, most_maps}
 use Rattle.tenant.specs.Kept.{at_places, map_at}
 
 -- ---- places
+
+-- what holds at one place and at each other holds at all
+pub at_each : (P : ℕ → Type 0) (m : ℕ) → P m → ((other : ℕ) → other ≢ m → P other) → (place : ℕ) → P place
+at_each P m here others place = by (cases_eq place m)
+  where
+    by : (place ≡ m) ⊎ (place ≡ m → ⊥) → P place
+    by (inl same) = subst P (sym same) here
+    by (inr other) = others place other
 
 pub length-at : (f : ℕ → Option Map) → length (at_places f) ≡ most_maps
 unfolding at_places
@@ -66,6 +74,14 @@ live_or_not (Some l) = inl refl
 
 pub not_live : (o : Option LiveMap) → IsSome o → o ≡ None → ⊥
 not_live o some none = true≢false (sym some ∙ ap (λ (x : Option LiveMap). is_some x) none)
+
+-- a map that has a reference is live
+pub held_is_live : (t : LiveMaps) (place : ℕ) → 1 ≤ holds_at t place → IsSome (live_at t place)
+held_is_live t place some = by (live_or_not (live_at t place))
+  where
+    by : IsSome (live_at t place) ⊎ (live_at t place ≡ None) → IsSome (live_at t place)
+    by (inl live) = live
+    by (inr gone) = absurd (let none : holds_at t place ≡ 0 = ap (λ (o : Option LiveMap). (live_or o).holds) gone in omega arith)
 
 pub map_there : (part : List ℕ) (t : LiveMaps) (place : ℕ) → IsSome (live_at t place) → map_at part t place ≡ Some (map_in part t place)
 map_there part t place live = by (live_at t place) live

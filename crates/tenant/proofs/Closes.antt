@@ -6,19 +6,21 @@ use Rattle.std.specs.List.{list_any}
 use Rattle.std.specs.Option.{option_map_or}
 use Rattle.std.proofs.lemmas.Bool.{eq-eqb}
 use Rattle.std.proofs.lemmas.List.{ext_get_or}
-use Rattle.std.proofs.lemmas.Option.{none-some, get_or_from_slice_get}
+use Rattle.std.proofs.lemmas.Option.{none-some, same_Some, get_or_from_slice_get}
 use Rattle.bpf_maps.specs.Live.{LiveMaps, LiveMap, live_or, live_at, holds_at}
 use Rattle.fd_table.specs.Table.{first_descriptor, named, with_closed, flattened}
 use Rattle.tenant.specs.declared.object.OpenObject.{OpenObject}
 use Rattle.tenant.specs.declared.object.OpenObject.TheVariants as object
 use Rattle.tenant.specs.Loaded.{LoadedProgram}
 use Rattle.bpf_maps.specs.Sum.{total}
+use Rattle.tenant.specs.Machine.{gives, closed}
 use Rattle.tenant.specs.State.{Map, most_maps, names, is_named, named_from, with_objects}
 use Rattle.tenant.specs.Kept.{KeptTenant, IsWellFormedTenant, IsBound, times_listed, times_named, by_descriptor, holders, at_places, map_at, state_in}
-use Rattle.tenant.proofs.AtPlaces.{length-at, at-within, live_or_not, none_there, same_map_at}
+use Rattle.tenant.proofs.AtPlaces.{length-at, at-within, live_or_not, held_is_live, none_there, same_map_at}
 use Rattle.tenant.specs.inside.Leaves.{LeavesHeldMaps}
 use Rattle.tenant.proofs.Sums.{total-unset, total-part}
 use Rattle.tenant.proofs.Opened.{unset_cases}
+use Rattle.tenant.proofs.StillKept.{with_both}
 
 -- ---- a test that is true where a number is not 0
 
@@ -102,9 +104,6 @@ still_named objects old t part later left held =
 
 -- ---- a descriptor that is closed
 
-abbrev pub kept_closed : KeptTenant → LiveMaps → ℕ → KeptTenant
-kept_closed k t fd = record { objects = with_closed k.objects fd; live = t; refused = k.refused }
-
 -- what it named stood at its place
 pub closed_at : (objects : List (Option OpenObject)) (fd : ℕ) (o : OpenObject) → named objects fd ≡ Some o → (with_closed objects fd ≡ set objects (fd - first_descriptor) None) × (get_or objects (fd - first_descriptor) None ≡ Some o)
 closed_at objects fd o opened = by_test (nat_lt fd first_descriptor) opened
@@ -123,9 +122,6 @@ unfolding times_listed
 bound_times [] fd p e = absurd (none-some p e)
 bound_times (m ∷ ms) fd p e = by_test (m.0 == fd) (λ found. bound_times ms fd p found) e
   where
-    inside : (a b : ℕ) → Some a ≡ Some b → a ≡ b
-    inside a b e = cc
-
     one_if : (b : Bool) → b ≡ true → 1 ≤ (if b then 1 else 0)
     one_if true e = omega arith
     one_if false e = absurd (let wrong : false ≡ true = e in cc wrong)
@@ -138,54 +134,59 @@ bound_times (m ∷ ms) fd p e = by_test (m.0 == fd) (λ found. bound_times ms fd
 
     by_test : (here : Bool) → (lookup (λ m. m == fd) ms ≡ Some p → 1 ≤ times_listed p (map (λ m. m.1) ms)) → (if here then Some m.1 else lookup (λ m. m == fd) ms) ≡ Some p
         → 1 ≤ (if m.1 == p then 1 else 0) + times_listed p (map (λ m. m.1) ms)
-    by_test true later e = begins (if m.1 == p then 1 else 0) (times_listed p (map (λ m. m.1) ms)) (one_if (m.1 == p) (eq-eqb m.1 p (inside m.1 p e)))
+    by_test true later e = begins (if m.1 == p then 1 else 0) (times_listed p (map (λ m. m.1) ms)) (one_if (m.1 == p) (eq-eqb m.1 p (same_Some m.1 p e)))
     by_test false later e = rest (if m.1 == p then 1 else 0) (times_listed p (map (λ m. m.1) ms)) (later e)
 
-pub closed_kept : (k : KeptTenant) (t : LiveMaps) (part later : List ℕ) (fd : ℕ) (o : OpenObject) → IsWellFormedTenant k → named k.objects fd ≡ Some o
-    → LeavesHeldMaps (record { live = k.live; part = part }) (record { live = t; part = later }) → ((q : ℕ) → holds_at t q + times_named q o ≡ holds_at k.live q)
-    → IsWellFormedTenant (kept_closed k t fd)
-closed_kept k t part later fd o is opened left fewer =
-    let (gone, there) = closed_at k.objects fd o opened in
+-- the descriptor that named an object is closed, and what the object held is released
+pub record IsClosed (k : KeptTenant) (objects : List (Option OpenObject)) (t : LiveMaps) (part later : List ℕ) (fd : ℕ) (o : OpenObject) : Type 0 where
+  pub opened : named k.objects fd ≡ Some o
+  pub closed : objects ≡ with_closed k.objects fd
+  pub left : LeavesHeldMaps (record { live = k.live; part = part }) (record { live = t; part = later })
+  pub fewer : (q : ℕ) → holds_at t q + times_named q o ≡ holds_at k.live q
+
+pub closed_kept : {k : KeptTenant} {objects : List (Option OpenObject)} {t : LiveMaps} {part later : List ℕ} {fd : ℕ} {o : OpenObject} → IsWellFormedTenant k → IsClosed k objects t part later fd o → IsWellFormedTenant (with_both k objects t)
+closed_kept {k} {objects} {t} {part} {later} {fd} {o} is c =
+    let (gone, there) = closed_at k.objects fd o c.opened in
     let n = fd - first_descriptor in
-    let objects = set k.objects n None in
-    let held : (q : ℕ) → holds_at t q ≡ holders q objects = λ q.
-    let now = fewer q in
+    let rest = set k.objects n None in
+    let held : (q : ℕ) → holds_at t q ≡ holders q rest = λ q.
+    let now = c.fewer q in
     let was = is.held q in
     let sum = total-unset (times_named q) k.objects n o there in
     omega arith in
-    let kept : IsWellFormedTenant (record { objects = objects; live = t; refused = k.refused }) = record {
+    let kept : IsWellFormedTenant (with_both k rest t) = record {
       all = length-set {A = Option OpenObject} k.objects n None ∙ is.all;
-      maps = left.held;
+      maps = c.left.held;
       held = held;
       single = λ q. let was = is.single q in let sum = total-unset (by_descriptor q) k.objects n o there in omega arith;
-      bound = λ i l at. still_bound objects held i l at (unset_cases k.objects n i (object.Program l) at).1;
+      bound = λ i l at. still_bound rest held i l at (unset_cases k.objects n i (object.Program l) at).1;
     } in
-    subst (λ (os : List (Option OpenObject)). IsWellFormedTenant (record { objects = os; live = t; refused = k.refused })) (sym gone) kept
+    subst (λ (os : List (Option OpenObject)). IsWellFormedTenant (with_both k os t)) (sym (c.closed ∙ gone)) kept
   where
-    live_of : (p : ℕ) → 1 ≤ holds_at t p → IsSome (live_at t p) ⊎ (live_at t p ≡ None) → IsSome (live_at t p)
-    live_of p some (inl live) = live
-    live_of p some (inr none) = absurd (let no : holds_at t p ≡ 0 = ap (λ (o : Option LiveMap). (live_or o).holds) none in omega arith)
-
-    still_bound : (objects : List (Option OpenObject)) → ((q : ℕ) → holds_at t q ≡ holders q objects) → (i : ℕ) (l : LoadedProgram) → get_or objects i None ≡ Some (object.Program l) → get_or k.objects i None ≡ Some (object.Program l)
+    still_bound : (rest : List (Option OpenObject)) → ((q : ℕ) → holds_at t q ≡ holders q rest) → (i : ℕ) (l : LoadedProgram) → get_or rest i None ≡ Some (object.Program l) → get_or k.objects i None ≡ Some (object.Program l)
         → IsBound t l
-    still_bound objects held i l at stood = let was = is.bound i l stood in record {
+    still_bound rest held i l at stood = let was = is.bound i l stood in record {
       each = was.each;
       once = was.once;
       shaped = λ f p found.
           let (was_live, shaped) = was.shaped f p found in
           let some = bound_times l.maps f p found in
-          let most = total-part (times_named p) objects i (object.Program l) at in
+          let most = total-part (times_named p) rest i (object.Program l) at in
           let all = held p in
-          let now = live_of p (omega arith) (live_or_not (live_at t p)) in
-          let (live, same) = left.stays p now in
+          let now = held_is_live t p (omega arith) in
+          let (live, same) = c.left.stays p now in
           (now, shaped ∙ ap (λ (m : Map). Some m.shape) (sym same));
     }
 
-pub closed_state : (k : KeptTenant) (t : LiveMaps) (part later : List ℕ) (fd : ℕ) → LeavesHeldMaps (record { live = k.live; part = part }) (record { live = t; part = later }) → IsWellFormedTenant (kept_closed k t fd)
-    → state_in later (kept_closed k t fd) ≡ with_objects (state_in part k) (with_closed k.objects fd)
-closed_state k t part later fd left now =
-    ap₂ (λ (ms : List (Option Map)) (refused : Bool). record { objects = with_closed k.objects fd; maps = ms; refused = k.refused || refused })
-    (still_named (with_closed k.objects fd) k.live t part later left now.held) left.refused
+-- the answer of the machine
+pub closed_is : {k old : KeptTenant} {objects : List (Option OpenObject)} {t : LiveMaps} {part later : List ℕ} {fd : ℕ} {o : OpenObject} → k ≡ old → IsWellFormedTenant k → IsClosed k objects t part later fd o
+    → gives [] (state_in later (with_both k objects t)) ≡ closed (state_in part old) fd (named old.objects fd)
+closed_is {k} {old} {objects} {t} {part} {later} {fd} {o} same is c =
+    let maps = still_named objects k.live t part later c.left (closed_kept is c).held in
+    ap₂ (λ (ms : List (Option Map)) (refused : Bool). gives [] (record { objects = objects; maps = ms; refused = k.refused || refused })) maps c.left.refused
+    ∙ ap (λ (os : List (Option OpenObject)). gives [] (with_objects (state_in part k) os)) c.closed
+    ∙ ap (closed (state_in part k) fd) (sym c.opened)
+    ∙ ap (λ (x : KeptTenant). closed (state_in part x) fd (named x.objects fd)) same
 
 -- a descriptor that is not open
 pub nothing_closed : (objects : List (Option OpenObject)) (fd : ℕ) → named objects fd ≡ None → with_closed objects fd ≡ objects

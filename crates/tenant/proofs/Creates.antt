@@ -1,8 +1,8 @@
 -- What a new map leaves.
 use Rattle.std.proofs.Common.{◌≡◌, ◌≢◌, ℕ, ◌+◌, ◌-◌, ◌≤◌, ◌<◌, Bool, true, false, List, [], length, get_or, Option, Some, None, IsSome, is_some, Result, Ok, Err, refl, sym, ap, ap₂, subst, ◌∙◌, inl, inr, arith, length-set}
-use Rattle.std.specs.Prelude.{◌==◌, ◌||◌, ◌⊎◌, nat_lt, is_none, if◌then◌else◌}
-use Rattle.std.proofs.lemmas.Bool.{eq-eqb, ne_eqb, cases_eq, cases_lt}
-use Rattle.std.proofs.lemmas.Option.{none-some}
+use Rattle.std.specs.Prelude.{◌||◌, ◌⊎◌, nat_lt, is_none, if◌then◌else◌}
+use Rattle.std.proofs.lemmas.Bool.{cases_lt}
+use Rattle.std.proofs.lemmas.Option.{none-some, same_Some}
 use Rattle.bpf_maps.specs.declared.part.TheConstants.{MAPS, LARGEST_SUM}
 use Rattle.bpf_maps.specs.Live as live
 use Rattle.bpf_maps.specs.Live.{LiveMaps, LiveMap, live_or, live_at, holds_at, places_at, map_in, areas, area_of, area_by, create_fault, Creates, IsCreated, KeepsMaps}
@@ -21,10 +21,11 @@ use Rattle.tenant.specs.declared.errno.Errno.TheVariants.{NoMemory}
 use Rattle.tenant.specs.Errno.{map_errno}
 use Rattle.tenant.specs.Machine.{refuses, room_for, new_map, created, created_under, created_as, created_at}
 use Rattle.tenant.specs.Kept.{KeptTenant, IsWellFormedTenant, AreHeld, IsBound, times_named, by_descriptor, holders, descriptors, at_places, map_at, state_in}
-use Rattle.tenant.proofs.AtPlaces.{at-within, at-past, set_at, free_at, map_if, map_there, none_there, live_or_not, not_live, same_map_at}
+use Rattle.tenant.proofs.AtPlaces.{at_each, at-within, at-past, set_at, free_at, map_if, map_there, none_there, live_or_not, not_live, same_map_at}
+use Rattle.tenant.proofs.Releases.{here_one, none_one}
 use Rattle.tenant.proofs.Sums.{total-each, total-less}
 use Rattle.tenant.proofs.Opened.{set_cases, place_free, descriptor_free, opened_sum}
-use Rattle.tenant.proofs.StillKept.{with_live, bound_along}
+use Rattle.tenant.proofs.StillKept.{with_live, with_both, bound_along}
 
 -- ---- room
 
@@ -61,18 +62,9 @@ room_is part k shape is all =
 
 -- there is no room where the call says so, and there is where it says nothing
 lost : (o : Option ℕ) (large : Bool) (f : MapFault) → fault_if o large ≡ Some f → (f ≡ fault.NoSpace) × ((if large then None else o) ≡ None)
-lost None true f e = (same_fault f e, refl)
-  where
-    same_fault : (g : MapFault) → Some fault.NoSpace ≡ Some g → g ≡ fault.NoSpace
-    same_fault g e = cc
-lost None false f e = (same_fault f e, refl)
-  where
-    same_fault : (g : MapFault) → Some fault.NoSpace ≡ Some g → g ≡ fault.NoSpace
-    same_fault g e = cc
-lost (Some p) true f e = (same_fault f e, refl)
-  where
-    same_fault : (g : MapFault) → Some fault.NoSpace ≡ Some g → g ≡ fault.NoSpace
-    same_fault g e = cc
+lost None true f e = (sym (same_Some fault.NoSpace f e), refl)
+lost None false f e = (sym (same_Some fault.NoSpace f e), refl)
+lost (Some p) true f e = (sym (same_Some fault.NoSpace f e), refl)
 lost (Some p) false f e = absurd (none-some f e)
 
 room : (o : Option ℕ) (large : Bool) → fault_if o large ≡ None → (place : ℕ) × (o ≡ Some place) × ((if large then None else o) ≡ Some place)
@@ -102,45 +94,36 @@ created_err None old shape fault.NoSpace new h = absurd h
 
 -- ---- a map that is new
 
-abbrev pub kept_created : KeptTenant → LiveMaps → ℕ → ℕ → KeptTenant
-kept_created k t fd m = record { objects = with_open k.objects fd (object.Map m); live = t; refused = k.refused }
-
-held_created : (old t : LiveMaps) (shape : MapShape) (m : ℕ) → AreHeld old → m < most_maps → IsCreated old shape m t → AreHeld t
-held_created old t shape m is room new = record {
-  within = λ place live. within_of place live (cases_eq place m);
-  some = λ place live. some_of place live (cases_eq place m);
-  ended = λ place. ended_of place (cases_eq place m);
+held_created : {old t : LiveMaps} {shape : MapShape} {m : ℕ} → AreHeld old → m < most_maps → IsCreated old shape m t → AreHeld t
+held_created {old} {t} {shape} {m} is room new = record {
+  within = at_each (λ q. IsSome (live_at t q) → q < most_maps) m (λ live. room) (λ q other live. is.within q (was q other live));
+  some = at_each (λ q. IsSome (live_at t q) → 1 ≤ holds_at t q) m (λ live. let one = new.holds in omega arith)
+      (λ q other live. subst (λ (n : ℕ). 1 ≤ n) (sym (ap (λ (o : Option LiveMap). (live_or o).holds) (new.others q other))) (is.some q (was q other live)));
+  ended = at_each (λ q. (places_at t q).kept ≡ []) m (ap (λ (p : PlaceTable). p.kept) new.places) (λ q other. ap (λ (o : Option LiveMap). (live_or o).places.kept) (new.others q other) ∙ is.ended q);
 }
   where
-    was : (place : ℕ) → place ≢ m → IsSome (live_at t place) → IsSome (live_at old place)
-    was place other live = ap (λ (o : Option LiveMap). is_some o) (sym (new.others place other)) ∙ live
-
-    within_of : (place : ℕ) → IsSome (live_at t place) → (place ≡ m) ⊎ (place ≡ m → ⊥) → place < most_maps
-    within_of place live (inl same) = subst (λ (n : ℕ). n < most_maps) (sym same) room
-    within_of place live (inr other) = is.within place (was place other live)
-
-    some_of : (place : ℕ) → IsSome (live_at t place) → (place ≡ m) ⊎ (place ≡ m → ⊥) → 1 ≤ holds_at t place
-    some_of place live (inl same) = subst (λ (n : ℕ). 1 ≤ n) (sym (ap (holds_at t) same ∙ new.holds)) (omega arith)
-    some_of place live (inr other) = subst (λ (n : ℕ). 1 ≤ n) (sym (ap (λ (o : Option LiveMap). (live_or o).holds) (new.others place other))) (is.some place (was place other live))
-
-    ended_of : (place : ℕ) → (place ≡ m) ⊎ (place ≡ m → ⊥) → (places_at t place).kept ≡ []
-    ended_of place (inl same) = ap (λ (n : ℕ). (places_at t n).kept) same ∙ ap (λ (p : PlaceTable). p.kept) new.places
-    ended_of place (inr other) = ap (λ (o : Option LiveMap). (live_or o).places.kept) (new.others place other) ∙ is.ended place
+    was : (q : ℕ) → q ≢ m → IsSome (live_at t q) → IsSome (live_at old q)
+    was q other live = ap (λ (o : Option LiveMap). is_some o) (sym (new.others q other)) ∙ live
 
 less_weight : (place : ℕ) (o : OpenObject) → by_descriptor place o ≤ times_named place o
 less_weight place (object.Map p) = omega arith
 less_weight place (object.Program l) = omega arith
 
 -- the place was free
-pub room_within : (k : KeptTenant) (m : ℕ) → length k.live.maps ≡ MAPS → live.free_place k.live ≡ Some m → m < most_maps
+room_within : (k : KeptTenant) (m : ℕ) → length k.live.maps ≡ MAPS → live.free_place k.live ≡ Some m → m < most_maps
 room_within k m all low = let (within, free) = place_free k.live.maps m low in omega (arith, within, all)
 
-pub created_kept : (k : KeptTenant) (t : LiveMaps) (shape : MapShape) (m fd : ℕ) → IsWellFormedTenant k → length k.live.maps ≡ MAPS → lowest k.objects ≡ Some fd → IsCreated k.live shape m t → IsWellFormedTenant (kept_created k t fd m)
-created_kept k t shape m fd is all low new = record {
+abbrev pub kept_created : KeptTenant → LiveMaps → ℕ → ℕ → KeptTenant
+kept_created k t fd m = with_both k (with_open k.objects fd (object.Map m)) t
+
+pub created_kept : {k : KeptTenant} {t : LiveMaps} {shape : MapShape} {m fd : ℕ} → IsWellFormedTenant k → length k.live.maps ≡ MAPS → lowest k.objects ≡ Some fd → IsCreated k.live shape m t → IsWellFormedTenant (kept_created k t fd m)
+created_kept {k} {t} {shape} {m} {fd} is all low new = record {
   all = length-set {A = Option OpenObject} k.objects (fd - first_descriptor) (Some (object.Map m)) ∙ is.all;
-  maps = held_created k.live t shape m is.maps (room_within k m all new.lowest) new;
-  held = λ q. held_of q (cases_eq q m);
-  single = λ q. single_of q (cases_eq q m);
+  maps = held_created is.maps (room_within k m all new.lowest) new;
+  held = at_each (λ q. holds_at t q ≡ holders q (with_open k.objects fd (object.Map m))) m
+      (new.holds ∙ sym (opened_sum (times_named m) k.objects fd (object.Map m) low ∙ ap₂ (λ (a b : ℕ). a + b) unnamed one_weight))
+      (λ q other. held_of q other (opened_sum (times_named q) k.objects fd (object.Map m) low));
+  single = at_each (λ q. descriptors q (with_open k.objects fd (object.Map m)) ≤ 1) m single_here (λ q other. single_of q other);
   bound = λ n l there. bound_of n l (set_cases k.objects (fd - first_descriptor) n (object.Map m) (object.Program l) (descriptor_free k.objects fd low).0 there);
 }
   where
@@ -149,33 +132,24 @@ created_kept k t shape m fd is all low new = record {
     unnamed = sym (is.held m) ∙ ap (λ (o : Option LiveMap). (live_or o).holds) new.was
 
     one_weight : times_named m (object.Map m) ≡ 1
-    one_weight = let same : (m == m) ≡ true = eq-eqb m m refl in rw same refl
+    one_weight = here_one m m refl
 
     no_weight : (q : ℕ) → q ≢ m → times_named q (object.Map m) ≡ 0
-    no_weight q other = let no : (m == q) ≡ false = ne_eqb m q (λ e. other (sym e)) in rw no refl
+    no_weight q other = none_one m q other
 
-    held_of : (q : ℕ) → (q ≡ m) ⊎ (q ≡ m → ⊥) → holds_at t q ≡ holders q (with_open k.objects fd (object.Map m))
-    held_of q (inl same) =
-        ap (holds_at t) same ∙ new.holds
-        ∙ sym (opened_sum (times_named m) k.objects fd (object.Map m) low ∙ ap₂ (λ (a b : ℕ). a + b) unnamed one_weight)
-        ∙ ap (λ (p : ℕ). holders p (with_open k.objects fd (object.Map m))) (sym same)
-    held_of q (inr other) =
-        ap (λ (o : Option LiveMap). (live_or o).holds) (new.others q other)
-        ∙ is.held q
-        ∙ nothing_more (holders q k.objects) (times_named q (object.Map m)) (no_weight q other)
-        ∙ sym (opened_sum (times_named q) k.objects fd (object.Map m) low)
-      where
-        nothing_more : (a b : ℕ) → b ≡ 0 → a ≡ a + b
-        nothing_more a b e = omega arith
+    held_of : (q : ℕ) → q ≢ m → holders q (with_open k.objects fd (object.Map m)) ≡ holders q k.objects + times_named q (object.Map m) → holds_at t q ≡ holders q (with_open k.objects fd (object.Map m))
+    held_of q other sum = let was = is.held q in let same = ap (λ (o : Option LiveMap). (live_or o).holds) (new.others q other) in let no = no_weight q other in omega arith
 
-    single_of : (q : ℕ) → (q ≡ m) ⊎ (q ≡ m → ⊥) → descriptors q (with_open k.objects fd (object.Map m)) ≤ 1
-    single_of q (inl same) =
+    single_here : descriptors m (with_open k.objects fd (object.Map m)) ≤ 1
+    single_here =
         let none = unnamed in
         let few : descriptors m k.objects ≤ holders m k.objects = total-less (by_descriptor m) (times_named m) k.objects (less_weight m) in
         let sum = opened_sum (by_descriptor m) k.objects fd (object.Map m) low in
         let one = one_weight in
-        subst (λ (p : ℕ). descriptors p (with_open k.objects fd (object.Map m)) ≤ 1) (sym same) (omega arith)
-    single_of q (inr other) =
+        omega arith
+
+    single_of : (q : ℕ) → q ≢ m → descriptors q (with_open k.objects fd (object.Map m)) ≤ 1
+    single_of q other =
         let was = is.single q in
         let sum = opened_sum (by_descriptor q) k.objects fd (object.Map m) low in
         let no = no_weight q other in
@@ -190,13 +164,13 @@ created_kept k t shape m fd is all low new = record {
     bound_of : (n : ℕ) (l : LoadedProgram) → ((n ≡ fd - first_descriptor) × (object.Program l ≡ object.Map m)) ⊎ ((n ≢ fd - first_descriptor) × (get_or k.objects n None ≡ Some (object.Program l))) → IsBound t l
     bound_of n l (inl (at, wrong)) = absurd (no_program l wrong)
     bound_of n l (inr (other, at)) =
-        bound_along k.live t l (λ place live. ap (λ (o : Option LiveMap). is_some o) (older place live) ∙ live) (λ place live. ap (λ (o : Option LiveMap). (live_or o).places.shape) (older place live)) (is.bound n l at)
+        bound_along (is.bound n l at) (λ place live. ap (λ (o : Option LiveMap). is_some o) (older place live) ∙ live) (λ place live. ap (λ (o : Option LiveMap). (live_or o).places.shape) (older place live))
 
 -- ---- the whole command
 
-pub state_created : (part later : List ℕ) (k : KeptTenant) (t : LiveMaps) (shape : MapShape) (m fd : ℕ) → length k.live.maps ≡ MAPS → IsCreated k.live shape m t → map_in later t m ≡ new_map shape → KeepsMaps k.live part t later
+pub state_created : (part later : List ℕ) (k : KeptTenant) {t : LiveMaps} {shape : MapShape} {m : ℕ} (fd : ℕ) → length k.live.maps ≡ MAPS → IsCreated k.live shape m t → map_in later t m ≡ new_map shape → KeepsMaps k.live part t later
     → state_in later (kept_created k t fd m) ≡ (created_at false (state_in part k) shape fd m).after
-state_created part later k t shape m fd all new fresh keeps =
+state_created part later k {t} {shape} {m} fd all new fresh keeps =
     let maps = set_at (map_at later t) (map_at part k.live) m (Some (new_map shape)) (room_within k m all new.lowest) (map_there later t m new.live ∙ ap (λ (u : Map). Some u) fresh) (λ i other. other_map i other (live_or_not (live_at k.live i))) in
     ap₂ (λ (ms : List (Option Map)) (refused : Bool). record { objects = with_open k.objects fd (object.Map m); maps = ms; refused = k.refused || refused }) maps new.refused
   where
@@ -204,17 +178,17 @@ state_created part later k t shape m fd all new fresh keeps =
     other_map i other (inl live) = let (now, same) = keeps i live in same_map_at part later k.live t i live now same
     other_map i other (inr none) = none_there later t i (new.others i other ∙ none) ∙ sym (none_there part k.live i none)
 
-pub created_is : (refused : Bool) (part : List ℕ) (k : KeptTenant) (shape : MapShape) (place fd : ℕ) → AreHeld k.live → length k.live.maps ≡ MAPS → lowest k.objects ≡ Some fd → create_fault k.live shape ≡ None → live.free_place k.live ≡ Some place
+pub created_is : (refused : Bool) (part : List ℕ) (k : KeptTenant) (shape : MapShape) {place fd : ℕ} → AreHeld k.live → length k.live.maps ≡ MAPS → lowest k.objects ≡ Some fd → create_fault k.live shape ≡ None → live.free_place k.live ≡ Some place
     → created refused (state_in part k) (Ok shape) ≡ created_at refused (state_in part k) shape fd place
-created_is refused part k shape place fd is all low none free =
+created_is refused part k shape {place} {fd} is all low none free =
     let (p, lowest_is, room_there) = room (live.free_place k.live) (nat_lt LARGEST_SUM (areas k.live + area_by shape)) none in
     ap (λ (o : Option ℕ). created_under refused (state_in part k) shape o) low
     ∙ ap (λ (o : Option ℕ). created_as refused (state_in part k) shape fd o) (room_is part k shape is all ∙ room_there ∙ sym lowest_is ∙ free)
 
 -- where there is no room, or no memory
-pub create_refused : (part : List ℕ) (k : KeptTenant) (t : LiveMaps) (shape : MapShape) (f : MapFault) (fd : ℕ) → AreHeld k.live → length k.live.maps ≡ MAPS → lowest k.objects ≡ Some fd → Creates (create_fault k.live shape) k.live shape (Err f) t
+pub create_refused : (part : List ℕ) (k : KeptTenant) (t : LiveMaps) (shape : MapShape) (f : MapFault) {fd : ℕ} → AreHeld k.live → length k.live.maps ≡ MAPS → lowest k.objects ≡ Some fd → Creates (create_fault k.live shape) k.live shape (Err f) t
     → (refused : Bool) × (refuses (map_errno f) (state_in part (with_live k t)) ≡ created refused (state_in part k) (Ok shape))
-create_refused part k t shape f fd is all low made = by_cause (created_err (create_fault k.live shape) k.live shape f t made)
+create_refused part k t shape f {fd} is all low made = by_cause (created_err (create_fault k.live shape) k.live shape f t made)
   where
     or_true : (x : Bool) → (x || true) ≡ true
     or_true true = refl
@@ -233,7 +207,7 @@ create_refused part k t shape f fd is all low made = by_cause (created_err (crea
           true,
           ap₂ (λ (g : MapFault) (u : LiveMaps). refuses (map_errno g) (state_in part (with_live k u))) which flagged
               ∙ ap (λ (b : Bool). refuses NoMemory (record { objects = k.objects; maps = at_places (map_at part k.live); refused = b })) (or_true k.refused)
-              ∙ sym (created_is true part k shape place fd is all low none free),
+              ∙ sym (created_is true part k shape is all low none free),
         )
 
 pub refused_kept : (k : KeptTenant) (t : LiveMaps) (shape : MapShape) (f : MapFault) → IsWellFormedTenant k → Creates (create_fault k.live shape) k.live shape (Err f) t → IsWellFormedTenant (with_live k t)
@@ -246,5 +220,5 @@ refused_kept k t shape f is made = by_cause (created_err (create_fault k.live sh
       maps = record { within = is.maps.within; some = is.maps.some; ended = is.maps.ended };
       held = is.held;
       single = is.single;
-      bound = λ n l there. bound_along k.live (record { maps = k.live.maps; refused = true }) l (λ place live. live) (λ place live. refl) (is.bound n l there);
+      bound = λ n l there. bound_along (is.bound n l there) (λ place live. live) (λ place live. refl);
     })

@@ -1,7 +1,8 @@
 -- What the replies to commands tell.
-use Rattle.std.proofs.Common.{Result, Ok, Err, ◌≡◌, Bool, List, ℕ, refl}
+use Rattle.std.proofs.Common.{Result, Ok, Err, ◌≡◌, Bool, List, ℕ, refl, sym, subst}
 use Rattle.command_frames.specs.declared.command.Head.{Head}
-use Rattle.command_frames.specs.Command.{Command}
+use Rattle.command_frames.specs.declared.command.Command.{Command as CodeCommand}
+use Rattle.command_frames.specs.Shown.{shown_command}
 use Rattle.tenant.specs.declared.errno.Errno.{Errno}
 use Rattle.tenant.specs.declared.reply.Reply.{Reply}
 use Rattle.tenant.specs.declared.reply.Reply.TheVariants as reply
@@ -20,12 +21,13 @@ shown_after (Ok (reply.Number number)) s = refl
 shown_after (Ok (reply.RefusedAt errno slot reason)) s = refl
 shown_after (Err errno) s = refl
 
-pub told : (command : Command) (h : Head) (bytes : List ℕ) (before after : TenantState) (refusals : List Bool) (r : Result Reply Errno) → Answers refusals before command (shown_answer r after)
-    → IsWritable r → ((s : TenantState) → Writes h bytes (shown_answer r s)) → AnswersCommand command h bytes before after
-told command h bytes before after refusals r answers writable written = record {
+-- the reply is that to the command, which is known in the code as this one
+pub told : {command known : CodeCommand} {h : Head} {bytes : List ℕ} {before after : TenantState} (refusals : List Bool) (r : Result Reply Errno) → command ≡ known → Answers refusals before (shown_command known) (shown_answer r after)
+    → IsWritable r → ((s : TenantState) → Writes h bytes (shown_answer r s)) → AnswersCommand (shown_command command) h bytes before after
+told {command} {known} {h} {bytes} {before} {after} refusals r is answers writable written = record {
   refusals = refusals;
   answer = shown_answer r after;
-  answers = answers;
+  answers = subst (λ (x : CodeCommand). Answers refusals before (shown_command x) (shown_answer r after)) (sym is) answers;
   written = written after;
   left = shown_after r after;
   no_fault = no_fault_written h bytes r after writable (written after);

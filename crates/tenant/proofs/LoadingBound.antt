@@ -1,5 +1,5 @@
 -- A program that is accepted has a place for each map that it loads.
-use Rattle.std.proofs.Common.{◌≡◌, ℕ, List, length, IsSome, refl, sym, ap, subst, ◌∙◌}
+use Rattle.std.proofs.Common.{◌≡◌, ℕ, List, length, IsSome, sym, ap, subst, ◌∙◌}
 use Rattle.std.specs.List.{zip}
 use Rattle.std.specs.Map.{keys_of}
 use Rattle.std.proofs.lemmas.Option.{slice_get_within, get_or_from_slice_get}
@@ -11,7 +11,6 @@ use Rattle.tagged_model.specs.declared.shape.Named.{Named}
 use Rattle.verifier.specs.Laws.{LoadedMapsHaveShapes, MapsAreListed}
 use Rattle.verifier.specs.Maps.{maps_of}
 use Rattle.verifier.specs.Verdict.{IsAccepted}
-use Rattle.tenant.specs.declared.object.OpenObject.TheVariants as object
 use Rattle.tenant.specs.Kept.{KeptTenant, IsWellFormedTenant, IsBound, state_in}
 use Rattle.tenant.specs.inside.Loading.{AreLive}
 use Rattle.tenant.specs.Loaded.{LoadedProgram}
@@ -30,7 +29,7 @@ loaded_is l insns named maps a b c =
 
 -- the map at a place of the program is live
 pub loaded_live : (k : KeptTenant) → IsWellFormedTenant k → (fds : List ℕ) → AreLive k.live (seconds (places_from k.objects fds))
-loaded_live k is fds place some = let (i, fd, at, opened) = times_named k.objects fds place some in (named_is_live k is fd place (object.Map place) (sym opened) refl).live
+loaded_live k is fds place some = let (i, fd, at, opened) = times_named k.objects fds place some in (named_is_live is fd opened).live
 
 are_maps : LoadedMapsHaveShapes → (k : KeptTenant) (part : List ℕ) (insns : List Insn) → IsAccepted insns (targets (state_in part k)) → AreMaps k.objects (maps_of insns)
 are_maps have k part insns accepted i fd at =
@@ -58,6 +57,6 @@ loaded_bound have listed k part insns is accepted = record {
   once = times_once k.objects (maps_of insns) is.single (λ i j fd a b. listed.once insns i j fd a b);
   shaped = λ fd place found.
       let (i, at, opened) = lookup_named k.objects (maps_of insns) fd place found in
-      let here = named_is_live k is fd place (object.Map place) (sym opened) refl in
-      (here.live, shapes_picked (maps_of insns) (targets (state_in part k)) i fd at ∙ shape_is (state_in part k) fd place (map_in part k.live place) opened (live_named part k fd place here));
+      let here = named_is_live is fd opened in
+      (here.live, shapes_picked (maps_of insns) (targets (state_in part k)) i fd at ∙ shape_is (state_in part k) fd place (map_in part k.live place) opened (live_named part here));
 }

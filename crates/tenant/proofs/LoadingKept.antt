@@ -10,12 +10,12 @@ use Rattle.tenant.specs.Loaded.{LoadedProgram, map_places}
 use Rattle.tenant.specs.inside.Loading.{IsHeldMore, with_program}
 use Rattle.tenant.specs.State.{Map}
 use Rattle.tenant.proofs.AtPlaces.{same_at}
-use Rattle.tenant.proofs.StillKept.{bound_along}
+use Rattle.tenant.proofs.StillKept.{with_both, bound_along}
 use Rattle.tenant.proofs.Opened.{set_cases, descriptor_free, opened_sum}
 use Rattle.tenant.proofs.Sums.{total-most}
 
 abbrev pub kept_opened : KeptTenant → LiveMaps → ℕ → LoadedProgram → KeptTenant
-kept_opened k t fd l = record { objects = with_open k.objects fd (object.Program l); live = t; refused = k.refused }
+kept_opened k t fd l = with_both k (with_open k.objects fd (object.Program l)) t
 
 -- ---- no more hold a map than there are descriptors
 
@@ -27,8 +27,8 @@ weight-most : (k : KeptTenant) → IsWellFormedTenant k → (q i : ℕ) (o : Ope
 weight-most k is q i (object.Map p) there = one_at_most (p == q)
 weight-most k is q i (object.Program l) there = (is.bound i l there).once q
 
-pub few_hold : (k : KeptTenant) (l : LoadedProgram) → IsWellFormedTenant k → IsBound k.live l → (q : ℕ) → holds_at k.live q + times_listed q (map_places l) < 4294967296
-few_hold k l is bound q =
+pub few_hold : {k : KeptTenant} {l : LoadedProgram} → IsWellFormedTenant k → IsBound k.live l → (q : ℕ) → holds_at k.live q + times_listed q (map_places l) < 4294967296
+few_hold {k} {l} is bound q =
     let held = is.held q in
     let most = total-most (times_named q) k.objects (λ i o there. weight-most k is q i o there) in
     let all = is.all in
@@ -37,15 +37,15 @@ few_hold k l is bound q =
 
 -- ---- what is kept
 
-still_bound : (old t : LiveMaps) (m : LoadedProgram) → IsHeldMore old t → IsBound old m → IsBound t m
-still_bound old t m more was = bound_along old t m more.live (λ place live. more.shape place) was
+still_bound : {old t : LiveMaps} {m : LoadedProgram} → IsHeldMore old t → IsBound old m → IsBound t m
+still_bound more was = bound_along was more.live (λ place live. more.shape place)
 
 same_program : (l m : LoadedProgram) → object.Program m ≡ object.Program l → l ≡ m
 same_program l m e = cc
 
-pub opened_kept : (k : KeptTenant) (t : LiveMaps) (fd : ℕ) (l : LoadedProgram) → IsWellFormedTenant k → lowest k.objects ≡ Some fd → IsBound k.live l → IsHeldMore k.live t
+pub opened_kept : {k : KeptTenant} {t : LiveMaps} {fd : ℕ} {l : LoadedProgram} → IsWellFormedTenant k → lowest k.objects ≡ Some fd → IsBound k.live l → IsHeldMore k.live t
     → ((q : ℕ) → holds_at t q ≡ holds_at k.live q + times_listed q (map_places l)) → IsWellFormedTenant (kept_opened k t fd l)
-opened_kept k t fd l is low bound more holds = record {
+opened_kept {k} {t} {fd} {l} is low bound more holds = record {
   all = length-set {A = Option OpenObject} k.objects (fd - first_descriptor) (Some (object.Program l)) ∙ is.all;
   maps = more.held;
   held = λ q. holds q ∙ ap (λ (n : ℕ). n + times_listed q (map_places l)) (is.held q) ∙ sym (opened_sum (times_named q) k.objects fd (object.Program l) low);
@@ -54,15 +54,15 @@ opened_kept k t fd l is low bound more holds = record {
 }
   where
     bound_of : (m : LoadedProgram) (n : ℕ) → ((n ≡ fd - first_descriptor) × (object.Program m ≡ object.Program l)) ⊎ ((n ≢ fd - first_descriptor) × (get_or k.objects n None ≡ Some (object.Program m))) → IsBound t m
-    bound_of m n (inl (here, same)) = subst (IsBound t) (same_program l m same) (still_bound k.live t l more bound)
-    bound_of m n (inr (other, there)) = still_bound k.live t m more (is.bound n m there)
+    bound_of m n (inl (here, same)) = subst (IsBound t) (same_program l m same) (still_bound more bound)
+    bound_of m n (inr (other, there)) = still_bound more (is.bound n m there)
 
 -- the state after it
-pub state_opened : (part : List ℕ) (k : KeptTenant) (t : LiveMaps) (fd : ℕ) (l : LoadedProgram) → IsHeldMore k.live t → state_in part (kept_opened k t fd l) ≡ with_program (state_in part k) fd l
-state_opened part k t fd l more =
+pub state_opened : (part : List ℕ) (k : KeptTenant) {t : LiveMaps} (fd : ℕ) (l : LoadedProgram) → IsHeldMore k.live t → state_in part (kept_opened k t fd l) ≡ with_program (state_in part k) fd l
+state_opened part k {t} fd l more =
     ap₂ (λ (ms : List (Option Map)) (b : Bool). record { objects = with_open k.objects fd (object.Program l); maps = ms; refused = k.refused || b })
     (same_at (map_at part t) (map_at part k.live) (more.same part)) more.refused
 
 -- what is kept where memory was refused
-pub flagged_kept : (k : KeptTenant) → IsWellFormedTenant k → IsWellFormedTenant (record { objects = k.objects; live = k.live; refused = true })
-flagged_kept k is = record { all = is.all; maps = is.maps; held = is.held; single = is.single; bound = is.bound }
+pub flagged_kept : {k : KeptTenant} → IsWellFormedTenant k → IsWellFormedTenant (record { objects = k.objects; live = k.live; refused = true })
+flagged_kept is = record { all = is.all; maps = is.maps; held = is.held; single = is.single; bound = is.bound }

@@ -1,5 +1,5 @@
 -- What an open descriptor names.
-use Rattle.std.proofs.Common.{◌≡◌, ℕ, zero, suc, ◌+◌, ◌-◌, ◌≤◌, Bool, true, false, List, [], ◌∷◌, Option, Some, None, IsSome, is_some, refl, sym, ap, subst, ◌∙◌, arith}
+use Rattle.std.proofs.Common.{◌≡◌, ℕ, zero, suc, ◌+◌, ◌-◌, ◌≤◌, Bool, true, false, List, [], ◌∷◌, Option, Some, None, refl, sym, ap, subst, ◌∙◌, arith}
 use Rattle.std.specs.Prelude.{◌==◌, nat_lt, slice_get, if◌then◌else◌}
 use Rattle.std.specs.Option.{option_map_or}
 use Rattle.std.proofs.lemmas.Bool.{eq-eqb}
@@ -9,8 +9,8 @@ use Rattle.tenant.specs.declared.object.OpenObject.{OpenObject}
 use Rattle.tenant.specs.declared.object.OpenObject.TheVariants as object
 use Rattle.tenant.specs.Kept.{KeptTenant, IsWellFormedTenant, times_named, holders}
 use Rattle.tenant.specs.inside.Named.{IsMapOf}
-use Rattle.bpf_maps.specs.Live.{LiveMap, live_or, live_at, holds_at}
 use Rattle.bpf_maps.specs.Sum.{total}
+use Rattle.tenant.proofs.AtPlaces.{held_is_live}
 
 names_once : (place : ℕ) → times_named place (object.Map place) ≡ 1
 names_once place = let same : (place == place) ≡ true = eq-eqb place place refl in rw same refl
@@ -36,20 +36,12 @@ held_by : (low : Bool) (objects : List (Option OpenObject)) (n place : ℕ) → 
 held_by true objects n place e = absurd (none-some (object.Map place) e)
 held_by false objects n place e = held_at objects n place e
 
--- a descriptor's map is named
-holds_named : (objects : List (Option OpenObject)) (fd place : ℕ) (o : OpenObject) → Some o ≡ named objects fd → o ≡ object.Map place → 1 ≤ holders place objects
-holds_named objects fd place o e is = held_by (nat_lt fd 3) objects (fd - 3) place (sym e ∙ ap Some is)
-
--- so a map is there
-pub named_is_live : (k : KeptTenant) → IsWellFormedTenant k → (fd place : ℕ) (o : OpenObject) → Some o ≡ named k.objects fd → o ≡ object.Map place → IsMapOf k fd place
-named_is_live k is fd place o opened map =
-    let live = some_live (live_at k.live place) refl (subst (λ (n : ℕ). 1 ≤ n) (sym (is.held place)) (holds_named k.objects fd place o opened map)) in
-    record { opened = sym opened ∙ ap Some map; live = live; within = is.maps.within place live }
-  where
-    some_live : (l : Option LiveMap) → live_at k.live place ≡ l → 1 ≤ holds_at k.live place → IsSome (live_at k.live place)
-    some_live None e some = absurd (let none : holds_at k.live place ≡ 0 = ap (λ (o : Option LiveMap). (live_or o).holds) e in omega arith)
-    some_live (Some l) e some = ap (λ (o : Option LiveMap). is_some o) e
+-- so a map is there that a descriptor names
+pub named_is_live : {k : KeptTenant} {place : ℕ} → IsWellFormedTenant k → (fd : ℕ) → named k.objects fd ≡ Some (object.Map place) → IsMapOf k fd place
+named_is_live {k} {place} is fd opened =
+    let live = held_is_live k.live place (subst (λ (n : ℕ). 1 ≤ n) (sym (is.held place)) (held_by (nat_lt fd 3) k.objects (fd - 3) place opened)) in
+    record { opened = opened; live = live; within = is.maps.within place live }
 
 -- what was found is in the same state
-pub map_in_state : (old k : KeptTenant) (fd place : ℕ) → k ≡ old → IsMapOf old fd place → IsMapOf k fd place
-map_in_state old k fd place same found = subst (λ (x : KeptTenant). IsMapOf x fd place) (sym same) found
+pub map_in_state : {old k : KeptTenant} {fd place : ℕ} → k ≡ old → IsMapOf old fd place → IsMapOf k fd place
+map_in_state {fd = fd} {place = place} same found = subst (λ (x : KeptTenant). IsMapOf x fd place) (sym same) found

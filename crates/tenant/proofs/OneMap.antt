@@ -1,19 +1,18 @@
 -- A command that changes one map.
-use Rattle.std.proofs.Common.{◌≡◌, ◌≢◌, ℕ, ◌<◌, Bool, List, Option, Some, IsSome, ap, ap₂, subst, sym, inl, inr, ◌∙◌}
-use Rattle.std.specs.Prelude.{◌||◌, ◌⊎◌}
-use Rattle.std.proofs.lemmas.Bool.{cases_eq}
+use Rattle.std.proofs.Common.{◌≡◌, ◌≢◌, ℕ, ◌<◌, Bool, List, Option, Some, IsSome, ap, ap₂, ◌∙◌}
+use Rattle.std.specs.Prelude.{◌||◌}
 use Rattle.bpf_maps.specs.Live.{LiveMaps, live_at, map_in}
 use Rattle.tenant.specs.State.{Map, most_maps, with_map_at}
 use Rattle.tenant.specs.Kept.{KeptTenant, map_at, state_in}
-use Rattle.tenant.proofs.AtPlaces.{set_at, same_at, same_live, map_there}
+use Rattle.tenant.proofs.AtPlaces.{at_each, set_at, same_at, same_live, same_map_at, map_there}
 use Rattle.tenant.proofs.StillKept.{with_live}
 
 -- the state after it
-pub one_map : (part later : List ℕ) (k : KeptTenant) (t : LiveMaps) (place : ℕ) (changed : Map) → place < most_maps → IsSome (live_at t place)
+pub one_map : (part later : List ℕ) (k : KeptTenant) (t : LiveMaps) (place : ℕ) {changed : Map} → place < most_maps → IsSome (live_at t place)
     → ((other : ℕ) → other ≢ place → map_at later t other ≡ map_at part k.live other)
     → map_in later t place ≡ changed → t.refused ≡ k.live.refused
     → state_in later (with_live k t) ≡ with_map_at (state_in part k) place changed
-one_map part later k t place changed within live others here flag =
+one_map part later k t place {changed} within live others here flag =
     let maps = set_at (map_at later t) (map_at part k.live) place (Some changed) within (map_there later t place live ∙ ap (λ (u : Map). Some u) here) others in
     ap₂ (λ (ms : List (Option Map)) (refused : Bool). record { objects = k.objects; maps = ms; refused = k.refused || refused }) maps flag
 
@@ -27,8 +26,5 @@ no_map part later k t same flag =
 -- where one map has the same pairs and the others are the same, all are
 pub each_same : (part : List ℕ) (old new : LiveMaps) (m : ℕ) → IsSome (live_at old m) → IsSome (live_at new m) → map_in part new m ≡ map_in part old m → ((other : ℕ) → other ≢ m → live_at new other ≡ live_at old other)
     → (place : ℕ) → map_at part new place ≡ map_at part old place
-each_same part old new m was now here others place = by (cases_eq place m)
-  where
-    by : (place ≡ m) ⊎ (place ≡ m → ⊥) → map_at part new place ≡ map_at part old place
-    by (inl same) = subst (λ (n : ℕ). map_at part new n ≡ map_at part old n) (sym same) (map_there part new m now ∙ ap (λ (u : Map). Some u) here ∙ sym (map_there part old m was))
-    by (inr other) = same_live part old new place (others place other)
+each_same part old new m was now here others =
+    at_each (λ q. map_at part new q ≡ map_at part old q) m (same_map_at part part old new m was now here) (λ q other. same_live part old new q (others q other))

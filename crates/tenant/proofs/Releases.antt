@@ -1,14 +1,14 @@
 -- What a release leaves.
 use Rattle.std.proofs.Common.{◌≡◌, ◌≢◌, ℕ, ◌+◌, ◌-◌, ◌≤◌, ◌<◌, Bool, true, false, [], List, length, Option, Some, None, IsSome, is_some, refl, sym, ap, subst, ◌∙◌, inl, inr, arith}
 use Rattle.std.specs.Prelude.{◌==◌, ◌⊎◌, nat_le, option_map, if◌then◌else◌}
-use Rattle.std.proofs.lemmas.Bool.{eq-eqb, ne_eqb, cases_eq, cases_lt}
+use Rattle.std.proofs.lemmas.Bool.{eq-eqb, ne_eqb, cases_lt}
 use Rattle.std.proofs.lemmas.Bool.Decides.{nat_tests}
 use Rattle.bpf_maps.specs.declared.part.TheConstants.{PART}
 use Rattle.bpf_maps.specs.Live.{LiveMaps, LiveMap, live_or, live_at, holds_at, places_at, map_in, MapWithoutArea, held_at, without_area, one_less, no_live, KeepsMap, KeepsOthers}
 use Rattle.bpf_maps.specs.Places.{PlaceTable}
 use Rattle.tenant.specs.Kept.{AreHeld}
 use Rattle.tenant.specs.inside.Leaves.{LeavesHeldMaps}
-use Rattle.tenant.proofs.AtPlaces.{not_live}
+use Rattle.tenant.proofs.AtPlaces.{at_each, not_live}
 
 -- ---- a map without its area
 
@@ -81,64 +81,51 @@ here_one place q same = let yes : (place == q) ≡ true = eq-eqb place q (sym sa
 pub none_one : (place q : ℕ) → q ≢ place → one_at place q ≡ 0
 none_one place q other = let no : (place == q) ≡ false = ne_eqb place q (λ e. other (sym e)) in rw no refl
 
-module _ (old new : LiveMaps) (part later : List ℕ) (place : ℕ) (is : AreHeld old) (there : IsSome (live_at old place)) (r : IsReleased old new part later place) where
+module _ {old new : LiveMaps} {part later : List ℕ} {place : ℕ} (is : AreHeld old) (there : IsSome (live_at old place)) (r : IsReleased old new part later place) where
   -- the last one, or not
   abbrev Either : Type 0
   Either = (1 < holds_at old place) ⊎ (holds_at old place ≤ 1)
 
   pub holds_released : (q : ℕ) → holds_at new q + one_at place q ≡ holds_at old q
-  holds_released q = by (cases_eq q place) (cases_lt 1 (holds_at old place))
+  holds_released = at_each (λ q. holds_at new q + one_at place q ≡ holds_at old q) place (by (cases_lt 1 (holds_at old place)))
+      (λ q other. let same = same_holds old new q (r.others q other) in let none = none_one place q other in omega arith)
     where
-      by : (q ≡ place) ⊎ (q ≡ place → ⊥) → Either → holds_at new q + one_at place q ≡ holds_at old q
-      by (inl same) (inl more) =
-          let fewer = (one_fewer old new place r.less more).0 in
-          let one = here_one place q same in
-          subst (λ (n : ℕ). holds_at new n + one_at place q ≡ holds_at old n) (sym same) (omega arith)
-      by (inl same) (inr last) =
+      by : Either → holds_at new place + one_at place place ≡ holds_at old place
+      by (inl more) = let fewer = (one_fewer old new place r.less more).0 in let one = here_one place place refl in omega arith
+      by (inr last) =
           let none : holds_at new place ≡ 0 = ap (λ (o : Option LiveMap). (live_or o).holds) (r.gone last) in
           let some = is.some place there in
-          let one = here_one place q same in
-          subst (λ (n : ℕ). holds_at new n + one_at place q ≡ holds_at old n) (sym same) (omega arith)
-      by (inr other) either =
-          let same = same_holds old new q (r.others q other) in
-          let none = none_one place q other in
+          let one = here_one place place refl in
           omega arith
 
-  was_there : (q : ℕ) → IsSome (live_at new q) → (q ≡ place) ⊎ (q ≡ place → ⊥) → IsSome (live_at old q)
-  was_there q live (inl same) = subst (λ (n : ℕ). IsSome (live_at old n)) (sym same) there
-  was_there q live (inr other) = was_live old new q (r.others q other) live
+  was_there : (q : ℕ) → IsSome (live_at new q) → IsSome (live_at old q)
+  was_there = at_each (λ q. IsSome (live_at new q) → IsSome (live_at old q)) place (λ live. there) (λ q other. was_live old new q (r.others q other))
 
   -- what is live at the place was held by more than one
   more_held : IsSome (live_at new place) → Either → 1 < holds_at old place
   more_held live (inl more) = more
   more_held live (inr last) = absurd (not_live (live_at new place) live (r.gone last))
 
-  some_hold : (q : ℕ) → IsSome (live_at new q) → (q ≡ place) ⊎ (q ≡ place → ⊥) → 1 ≤ holds_at new q
-  some_hold q live (inl same) =
-      let more = more_held (subst (λ (n : ℕ). IsSome (live_at new n)) same live) (cases_lt 1 (holds_at old place)) in
-      let fewer = (one_fewer old new place r.less more).0 in
-      subst (λ (n : ℕ). 1 ≤ holds_at new n) (sym same) (omega arith)
-  some_hold q live (inr other) = subst (λ (n : ℕ). 1 ≤ n) (sym (same_holds old new q (r.others q other))) (is.some q (was_live old new q (r.others q other) live))
+  some_hold : (q : ℕ) → IsSome (live_at new q) → 1 ≤ holds_at new q
+  some_hold = at_each (λ q. IsSome (live_at new q) → 1 ≤ holds_at new q) place
+      (λ live. let more = more_held live (cases_lt 1 (holds_at old place)) in let fewer = (one_fewer old new place r.less more).0 in omega arith)
+      (λ q other live. subst (λ (n : ℕ). 1 ≤ n) (sym (same_holds old new q (r.others q other))) (is.some q (was_live old new q (r.others q other) live)))
 
-  no_run : (q : ℕ) → (q ≡ place) ⊎ (q ≡ place → ⊥) → Either → (places_at new q).kept ≡ []
-  no_run q (inl same) (inl more) = ap (λ (n : ℕ). (places_at new n).kept) same ∙ ap (λ (p : PlaceTable). p.kept) (one_fewer old new place r.less more).1 ∙ is.ended place
-  no_run q (inl same) (inr last) = ap (λ (n : ℕ). (places_at new n).kept) same ∙ ap (λ (o : Option LiveMap). (live_or o).places.kept) (r.gone last)
-  no_run q (inr other) either = ap (λ (p : PlaceTable). p.kept) (same_places old new q (r.others q other)) ∙ is.ended q
+  no_run : (q : ℕ) → (places_at new q).kept ≡ []
+  no_run = at_each (λ q. (places_at new q).kept ≡ []) place (by (cases_lt 1 (holds_at old place))) (λ q other. ap (λ (p : PlaceTable). p.kept) (same_places old new q (r.others q other)) ∙ is.ended q)
+    where
+      by : Either → (places_at new place).kept ≡ []
+      by (inl more) = ap (λ (p : PlaceTable). p.kept) (one_fewer old new place r.less more).1 ∙ is.ended place
+      by (inr last) = ap (λ (o : Option LiveMap). (live_or o).places.kept) (r.gone last)
 
-  same_pairs : (q : ℕ) → IsSome (live_at new q) → (q ≡ place) ⊎ (q ≡ place → ⊥) → map_in later new q ≡ map_in part old q
-  same_pairs q live (inl same) =
-      let more = more_held (subst (λ (n : ℕ). IsSome (live_at new n)) same live) (cases_lt 1 (holds_at old place)) in
-      subst (λ (n : ℕ). map_in later new n ≡ map_in part old n) (sym same) (r.kept more there).1
-  same_pairs q live (inr other) = (r.maps q other (was_live old new q (r.others q other) live)).1
+  same_pairs : (q : ℕ) → IsSome (live_at new q) → map_in later new q ≡ map_in part old q
+  same_pairs = at_each (λ q. IsSome (live_at new q) → map_in later new q ≡ map_in part old q) place (λ live. (r.kept (more_held live (cases_lt 1 (holds_at old place))) there).1)
+      (λ q other live. (r.maps q other (was_live old new q (r.others q other) live)).1)
 
   pub left_released : LeavesHeldMaps (record { live = old; part = part }) (record { live = new; part = later })
   left_released = record {
-    held = record {
-      within = λ q live. is.within q (was_there q live (cases_eq q place));
-      some = λ q live. some_hold q live (cases_eq q place);
-      ended = λ q. no_run q (cases_eq q place) (cases_lt 1 (holds_at old place));
-    };
-    stays = λ q live. (was_there q live (cases_eq q place), same_pairs q live (cases_eq q place));
+    held = record { within = λ q live. is.within q (was_there q live); some = some_hold; ended = no_run };
+    stays = λ q live. (was_there q live, same_pairs q live);
     refused = r.refused;
     whole = r.whole;
   }

@@ -43,8 +43,8 @@ same_shape old new key areas live =
 
 -- ---- the invariant
 
-pub kept_after : (k : KeptTenant) (new : LiveMaps) (bind : List ℕ) → IsWellFormedTenant k → RunKeepsMaps bind k.live new → IsWellFormedTenant (with_live k new)
-kept_after k new bind is keeps = still_kept k new is (record {
+pub kept_after : {k : KeptTenant} {new : LiveMaps} {bind : List ℕ} → IsWellFormedTenant k → RunKeepsMaps bind k.live new → IsWellFormedTenant (with_live k new)
+kept_after {k} {new} {bind} is keeps = still_kept is (record {
   was = λ place now. was_of place (some_live (live_at new place) now);
   stays = λ place was. stays_of place was (stands_or_not bind place);
   holds = keeps.holds;

@@ -1,53 +1,38 @@
 -- What an update leaves.
-use Rattle.std.proofs.Common.{◌≡◌, ◌≢◌, ℕ, ◌+◌, Bool, true, false, List, [], length, take, drop, Option, IsSome, Result, Ok, Err, refl, sym, ap, subst, ◌∙◌}
-use Rattle.std.specs.Prelude.{◌==◌, ◌||◌, if◌then◌else◌}
-use Rattle.std.proofs.lemmas.Bool.{eq-eqb}
-use Rattle.bpf_maps.specs.Live.{LiveMaps, live_at, places_at, shape_at, map_in, value_in, OnlyKeysChange, is_memory}
+use Rattle.std.proofs.Common.{◌≡◌, ◌≢◌, ℕ, ◌+◌, Bool, true, false, List, [], length, take, drop, Option, Result, Ok, Err, refl, sym, ap, subst, ◌∙◌, arith, length-drop}
+use Rattle.std.specs.Prelude.{◌==◌, ◌||◌}
+use Rattle.bpf_maps.specs.Live.{LiveMaps, places_at, shape_at, map_in, value_in, OnlyKeysChange, is_memory}
 use Rattle.bpf_maps.specs.Places.{PlaceTable, table_of, Claims}
 use Rattle.bpf_maps.specs.InPart.{updated as change, IsValueAt, with_value, ValuesAreWritten, LiveMapsRefineValues}
 use Rattle.tagged_model.specs.MapLaws.{CallsRefineValues, MapVerdictsMatchLookUps}
 use Rattle.tagged_model.specs.declared.fault.MapFault.{MapFault}
 use Rattle.tagged_model.specs.declared.fault.MapFault.TheVariants as fault
+use Rattle.tagged_model.specs.declared.shape.MapShape.{MapShape}
 use Rattle.tagged_model.specs.Table.{Verdict, Refused, Present, New, verdict, verdict_with}
-use Rattle.tenant.specs.declared.errno.Errno.TheVariants.{Invalid}
 use Rattle.tenant.specs.Errno.{map_errno}
 use Rattle.tenant.specs.State.{Map, TenantState, with_map_at}
 use Rattle.tenant.specs.Machine.{Answer, refuses, gives, element_put, element_updated}
 use Rattle.tenant.specs.Kept.{KeptTenant, IsWellFormedTenant, map_at, state_in}
 use Rattle.tenant.specs.inside.Named.{IsMapOf}
 use Rattle.tenant.proofs.AtPlaces.{other_at, same_at, map_of}
-use Rattle.tenant.proofs.LookUps.{on_map_is}
+use Rattle.tenant.proofs.LookUps.{on_map_is, same_size}
 use Rattle.tenant.proofs.StillKept.{with_live, keys_kept}
 use Rattle.tenant.proofs.OneMap.{one_map, each_same}
 
-abbrev put_of : Bool → TenantState → ℕ → Map → List ℕ → ℕ → Answer
-put_of refused s place t bytes flags =
-    element_put refused s place t (take t.shape.key_size bytes) (drop t.shape.key_size bytes) (verdict t (take t.shape.key_size bytes) flags)
+-- the bytes are as many as a key and a value of the map
+abbrev pub has_sizes : List ℕ → Map → Bool
+has_sizes bytes t = length bytes == t.shape.key_size + t.shape.value_size
 
-abbrev answer_to : Bool → TenantState → ℕ → List ℕ → ℕ → Map → Answer
-answer_to refused s flags bytes place t =
-    if length bytes == t.shape.key_size + t.shape.value_size then put_of refused s place t bytes flags else refuses Invalid s
+-- the key that the bytes begin with, and the value behind it
+abbrev pub key_of : MapShape → List ℕ → List ℕ
+key_of shape bytes = take shape.key_size bytes
 
--- the answer is what the verdict comes to
-pub update_is : (refused : Bool) (part : List ℕ) (k : KeptTenant) (fd place flags : ℕ) (bytes : List ℕ) → IsMapOf k fd place → length bytes ≡ (shape_at k.live place).key_size + (shape_at k.live place).value_size
-    → let key = take (shape_at k.live place).key_size bytes in
-    element_updated refused (state_in part k) fd flags bytes
-    ≡ element_put refused (state_in part k) place (map_in part k.live place) key (drop (shape_at k.live place).key_size bytes) (verdict (map_in part k.live place) key flags)
-update_is refused part k fd place flags bytes found size =
-    let s = state_in part k in
-    let T = map_in part k.live place in
-    let right : (length bytes == (shape_at k.live place).key_size + (shape_at k.live place).value_size) ≡ true = eq-eqb (length bytes) ((shape_at k.live place).key_size + (shape_at k.live place).value_size) size in
-    on_map_is part k fd place (λ p t. answer_to refused s flags bytes p t) found
-    ∙ ap (λ (b : Bool). if b then put_of refused s place T bytes flags else refuses Invalid s) right
+abbrev pub value_of : MapShape → List ℕ → List ℕ
+value_of shape bytes = drop shape.key_size bytes
 
--- a key and a value of other sizes
-pub refused_sizes : (part : List ℕ) (k : KeptTenant) (fd place flags : ℕ) (bytes : List ℕ) → IsMapOf k fd place → (length bytes == (shape_at k.live place).key_size + (shape_at k.live place).value_size) ≡ false
-    → refuses Invalid (state_in part k) ≡ element_updated false (state_in part k) fd flags bytes
-refused_sizes part k fd place flags bytes found other =
-    let s = state_in part k in
-    let T = map_in part k.live place in
-    sym (on_map_is part k fd place (λ p t. answer_to false s flags bytes p t) found
-    ∙ ap (λ (b : Bool). if b then put_of false s place T bytes flags else refuses Invalid s) other)
+-- the answer to an update that brings a key and a value of the map
+abbrev pub put_of : Bool → TenantState → ℕ → List ℕ → ℕ → Map → Answer
+put_of refused s flags bytes place t = element_put refused s place t (key_of t.shape bytes) (value_of t.shape bytes) (verdict t (key_of t.shape bytes) flags)
 
 -- ---- the answer to a claim
 
@@ -60,28 +45,27 @@ not_ok f p e = cc
 same_fault : (f g : MapFault) → let a : Claim = Err f in let b : Claim = Err g in a ≡ b → f ≡ g
 same_fault f g e = cc
 
--- a claim keeps what is kept apart
-pub claimed_kept : (v : Verdict ℕ) (key : List ℕ) (old : PlaceTable) (r : Claim) (new : PlaceTable) → Claims v key old r new → new.kept ≡ old.kept
+-- where a key is new, memory alone is refused
+memory_alone : (key : List ℕ) (old : PlaceTable) (f : MapFault) (new : PlaceTable) → Claims New key old (Err f) new → (f ≡ fault.Memory) × (new ≡ old)
+memory_alone key old fault.Memory new same = (refl, same)
+memory_alone key old fault.NoEntry new h = absurd h
+memory_alone key old fault.TooBig new h = absurd h
+memory_alone key old fault.Exists new h = absurd h
+memory_alone key old fault.Invalid new h = absurd h
+memory_alone key old fault.NoSpace new h = absurd h
+
+-- a refused claim keeps all
+refused_claim : (v : Verdict ℕ) (key : List ℕ) (old : PlaceTable) (f : MapFault) (new : PlaceTable) → Claims v key old (Err f) new → new ≡ old
+refused_claim (Refused g) key old f new (is, same) = same
+refused_claim (Present p) key old f new (is, same) = same
+refused_claim New key old f new h = (memory_alone key old f new h).1
+
+-- and each claim what is kept apart
+claimed_kept : (v : Verdict ℕ) (key : List ℕ) (old : PlaceTable) (r : Claim) (new : PlaceTable) → Claims v key old r new → new.kept ≡ old.kept
 claimed_kept (Refused f) key old r new (is, same) = ap (λ (t : PlaceTable). t.kept) same
 claimed_kept (Present p) key old r new (is, same) = ap (λ (t : PlaceTable). t.kept) same
 claimed_kept New key old (Ok p) new (free, is) = ap (λ (t : PlaceTable). t.kept) is
-claimed_kept New key old (Err fault.Memory) new same = ap (λ (t : PlaceTable). t.kept) same
-claimed_kept New key old (Err fault.NoEntry) new h = absurd h
-claimed_kept New key old (Err fault.TooBig) new h = absurd h
-claimed_kept New key old (Err fault.Exists) new h = absurd h
-claimed_kept New key old (Err fault.Invalid) new h = absurd h
-claimed_kept New key old (Err fault.NoSpace) new h = absurd h
-
--- and a refused one all
-pub refused_claim : (v : Verdict ℕ) (key : List ℕ) (old : PlaceTable) (f : MapFault) (new : PlaceTable) → Claims v key old (Err f) new → new ≡ old
-refused_claim (Refused g) key old f new (is, same) = same
-refused_claim (Present p) key old f new (is, same) = same
-refused_claim New key old fault.Memory new same = same
-refused_claim New key old fault.NoEntry new h = absurd h
-refused_claim New key old fault.TooBig new h = absurd h
-refused_claim New key old fault.Exists new h = absurd h
-refused_claim New key old fault.Invalid new h = absurd h
-refused_claim New key old fault.NoSpace new h = absurd h
+claimed_kept New key old (Err f) new h = ap (λ (t : PlaceTable). t.kept) (memory_alone key old f new h).1
 
 -- a key that was claimed is put
 done_by : (v : Verdict ℕ) (key : List ℕ) (old : PlaceTable) (p : ℕ) (new : PlaceTable) → Claims v key old (Ok p) new → (f : ℕ → List ℕ) (s : TenantState) (place : ℕ) (T : Map) (value : List ℕ)
@@ -90,7 +74,7 @@ done_by (Refused g) key old p new (is, same) f s place T value = absurd (not_ok 
 done_by (Present q) key old p new h f s place T value = refl
 done_by New key old p new h f s place T value = refl
 
-pub done_put : (v : Verdict ℕ) (w : Verdict (List ℕ)) (key : List ℕ) (old : PlaceTable) (p : ℕ) (new : PlaceTable) → Claims v key old (Ok p) new → (f : ℕ → List ℕ) → w ≡ verdict_with f v
+done_put : (v : Verdict ℕ) (w : Verdict (List ℕ)) (key : List ℕ) (old : PlaceTable) (p : ℕ) (new : PlaceTable) → Claims v key old (Ok p) new → (f : ℕ → List ℕ) → w ≡ verdict_with f v
     → (s : TenantState) (place : ℕ) (T : Map) (value : List ℕ) → element_put false s place T key value w ≡ gives [] (with_map_at s place (change w T key value))
 done_put v w key old p new claimed f same s place T value =
     subst (λ (x : Verdict (List ℕ)). element_put false s place T key value x ≡ gives [] (with_map_at s place (change x T key value))) (sym same) (done_by v key old p new claimed f s place T value)
@@ -98,12 +82,12 @@ done_put v w key old p new claimed f same s place T value =
 -- ---- a refused claim
 
 -- the state with the flag, where memory was refused
-abbrev pub flagged : Bool → TenantState → TenantState
+abbrev flagged : Bool → TenantState → TenantState
 flagged true s = record s { refused = true }
 flagged false s = s
 
 -- the refusal is memory's, or not
-abbrev pub Fails : Verdict (List ℕ) → MapFault → List ℕ → TenantState → ℕ → Map → List ℕ → Type 0
+abbrev Fails : Verdict (List ℕ) → MapFault → List ℕ → TenantState → ℕ → Map → List ℕ → Type 0
 Fails w f key s place T value = (refused : Bool) × (is_memory (Err f) ≡ refused) × (element_put refused s place T key value w ≡ refuses (map_errno f) (flagged refused s))
 
 no_memory : (f : MapFault) → f ≢ fault.Memory → is_memory (Err f) ≡ false
@@ -120,14 +104,9 @@ failed_by (Refused other) key old f new some (is, same) g s place T value =
     let which : f ≡ other = same_fault f other is in
     (false, no_memory f (λ memory. some (ap Refused (sym which ∙ memory))), ap (λ (x : MapFault). refuses (map_errno x) s) (sym which))
 failed_by (Present p) key old f new some (is, same) g s place T value = absurd (not_ok f p is)
-failed_by New key old fault.Memory new some same g s place T value = (true, refl, refl)
-failed_by New key old fault.NoEntry new some h g s place T value = absurd h
-failed_by New key old fault.TooBig new some h g s place T value = absurd h
-failed_by New key old fault.Exists new some h g s place T value = absurd h
-failed_by New key old fault.Invalid new some h g s place T value = absurd h
-failed_by New key old fault.NoSpace new some h g s place T value = absurd h
+failed_by New key old f new some h g s place T value = subst (λ (x : MapFault). Fails New x key s place T value) (sym (memory_alone key old f new h).0) (true, refl, refl)
 
-pub failed_put : (v : Verdict ℕ) (w : Verdict (List ℕ)) (key : List ℕ) (old : PlaceTable) (f : MapFault) (new : PlaceTable) → v ≢ Refused fault.Memory → Claims v key old (Err f) new
+failed_put : (v : Verdict ℕ) (w : Verdict (List ℕ)) (key : List ℕ) (old : PlaceTable) (f : MapFault) (new : PlaceTable) → v ≢ Refused fault.Memory → Claims v key old (Err f) new
     → (g : ℕ → List ℕ) → w ≡ verdict_with g v → (s : TenantState) (place : ℕ) (T : Map) (value : List ℕ) → Fails w f key s place T value
 failed_put v w key old f new some claimed g same s place T value =
     subst (λ (x : Verdict (List ℕ)). Fails x f key s place T value) (sym same) (failed_by v key old f new some claimed g s place T value)
@@ -136,8 +115,8 @@ or_false : (x : Bool) → (x || false) ≡ x
 or_false true = refl
 or_false false = refl
 
-pub flag_of : (a b r t : Bool) → t ≡ (b || r) → (s : TenantState) (refused : Bool) → r ≡ refused → s.refused ≡ (a || b) → record s { refused = a || t } ≡ flagged refused s
-flag_of a b r t is s refused same was = by_choice refused (same)
+flag_of : (a b r t : Bool) → t ≡ (b || r) → (s : TenantState) (refused : Bool) → r ≡ refused → s.refused ≡ (a || b) → record s { refused = a || t } ≡ flagged refused s
+flag_of a b r t is s refused same was = by_choice refused same
   where
     or_true : (x y : Bool) → (x || (y || true)) ≡ true
     or_true true y = refl
@@ -150,55 +129,73 @@ flag_of a b r t is s refused same was = by_choice refused (same)
 
 -- ---- the whole command
 
--- what a claim for a key of the map under m leaves of the live maps
-pub record IsClaimed (k : KeptTenant) (t : LiveMaps) (m flags : ℕ) (key : List ℕ) (r : Claim) : Type 0 where
-  pub claimed : Claims (verdict (table_of (places_at k.live m)) key flags) key (places_at k.live m) r (places_at t m)
+-- the key that the bytes of an update begin with was claimed in the map that the descriptor names
+pub record IsClaimed (k : KeptTenant) (t : LiveMaps) (fd m flags : ℕ) (bytes : List ℕ) (r : Claim) : Type 0 where
+  pub found : IsMapOf k fd m
+  pub size : length bytes ≡ (shape_at k.live m).key_size + (shape_at k.live m).value_size
+  pub claimed : let key = key_of (shape_at k.live m) bytes in Claims (verdict (table_of (places_at k.live m)) key flags) key (places_at k.live m) r (places_at t m)
   pub rest : OnlyKeysChange m k.live t
   pub refused : t.refused ≡ (k.live.refused || is_memory r)
 
-pub still_claimed : (k : KeptTenant) (t : LiveMaps) (m flags : ℕ) (key : List ℕ) (r : Claim) → IsWellFormedTenant k → IsSome (live_at k.live m) → IsClaimed k t m flags key r → IsWellFormedTenant (with_live k t)
-still_claimed k t m flags key r is live c =
-    keys_kept k t m is live c.rest (claimed_kept (verdict (table_of (places_at k.live m)) key flags) key (places_at k.live m) r (places_at t m) c.claimed ∙ is.maps.ended m)
+-- by what the code has for the shape and for the key
+pub claimed_by : {k : KeptTenant} {t : LiveMaps} {fd m flags : ℕ} {bytes key : List ℕ} {r : Claim} {shape : MapShape} → IsMapOf k fd m → shape ≡ shape_at k.live m → length bytes ≡ shape.key_size + shape.value_size → key ≡ key_of shape bytes
+    → Claims (verdict (table_of (places_at k.live m)) key flags) key (places_at k.live m) r (places_at t m) → OnlyKeysChange m k.live t → t.refused ≡ (k.live.refused || is_memory r) → IsClaimed k t fd m flags bytes r
+claimed_by {k} {t} {fd} {m} {flags} {bytes} {key} {r} {shape} found same size key_is claimed rest refused = record {
+  found = found;
+  size = size ∙ ap (λ (s : MapShape). s.key_size + s.value_size) same;
+  claimed = subst (λ (x : List ℕ). Claims (verdict (table_of (places_at k.live m)) x flags) x (places_at k.live m) r (places_at t m)) (key_is ∙ ap (λ (s : MapShape). key_of s bytes) same) claimed;
+  rest = rest;
+  refused = refused;
+}
 
-pub updated_at : LiveMapsRefineValues → ValuesAreWritten → CallsRefineValues ℕ (List ℕ) → (part : List ℕ) (k : KeptTenant) (t : LiveMaps) (fd m flags p : ℕ) (bytes : List ℕ) → IsMapOf k fd m
-    → length bytes ≡ (shape_at k.live m).key_size + (shape_at k.live m).value_size
-    → let key = take (shape_at k.live m).key_size bytes in
-    let value = drop (shape_at k.live m).key_size bytes in
-    IsClaimed k t m flags key (Ok p) → IsValueAt part t m p value
-    → gives [] (state_in (with_value part t m p value) (with_live k t)) ≡ element_updated false (state_in part k) fd flags bytes
-updated_at along written calls part k t fd m flags p bytes found size c at =
-    let key = take (shape_at k.live m).key_size bytes in
-    let value = drop (shape_at k.live m).key_size bytes in
+pub still_claimed : {k : KeptTenant} {t : LiveMaps} {fd m flags : ℕ} {bytes : List ℕ} {r : Claim} → IsWellFormedTenant k → IsClaimed k t fd m flags bytes r → IsWellFormedTenant (with_live k t)
+still_claimed {k} {t} {fd} {m} {flags} {bytes} {r} is c =
+    let key = key_of (shape_at k.live m) bytes in
+    keys_kept is c.found.live c.rest (claimed_kept (verdict (table_of (places_at k.live m)) key flags) key (places_at k.live m) r (places_at t m) c.claimed ∙ is.maps.ended m)
+
+-- the value has the map's size
+pub value_fits : {k : KeptTenant} {t : LiveMaps} {fd m flags : ℕ} {bytes : List ℕ} {r : Claim} → IsClaimed k t fd m flags bytes r → length (value_of (shape_at k.live m) bytes) ≡ (shape_at t m).value_size
+value_fits {k} {t} {fd} {m} {flags} {bytes} {r} c =
+    let shape = shape_at k.live m in
+    let size = c.size in
+    let long : length (value_of shape bytes) ≡ shape.value_size = omega (arith, length-drop shape.key_size bytes) in
+    long ∙ sym (ap (λ (s : MapShape). s.value_size) c.rest.shape)
+
+-- the answer is what the verdict comes to
+update_is : (refused : Bool) (part : List ℕ) {k : KeptTenant} {t : LiveMaps} {fd m flags : ℕ} {bytes : List ℕ} {r : Claim} → IsClaimed k t fd m flags bytes r
+    → element_updated refused (state_in part k) fd flags bytes ≡ put_of refused (state_in part k) flags bytes m (map_in part k.live m)
+update_is refused part {k} {t} {fd} {m} {flags} {bytes} {r} c = on_map_is part (has_sizes bytes) (put_of refused (state_in part k) flags bytes) c.found (same_size (length bytes) c.size)
+
+pub updated_at : LiveMapsRefineValues → ValuesAreWritten → CallsRefineValues ℕ (List ℕ) → (part : List ℕ) {k : KeptTenant} {t : LiveMaps} {fd m flags p : ℕ} {bytes : List ℕ} → IsClaimed k t fd m flags bytes (Ok p)
+    → let value = value_of (shape_at k.live m) bytes in IsValueAt part t m p value → gives [] (state_in (with_value part t m p value) (with_live k t)) ≡ element_updated false (state_in part k) fd flags bytes
+updated_at along written calls part {k} {t} {fd} {m} {flags} {p} {bytes} c at =
+    let key = key_of (shape_at k.live m) bytes in
+    let value = value_of (shape_at k.live m) bytes in
     let s = state_in part k in
     let T = map_in part k.live m in
     let later = with_value part t m p value in
-    let v = verdict (table_of (places_at k.live m)) key flags in
     let w = verdict T key flags in
     let whole = written part t m p value at in
     let others : (other : ℕ) → other ≢ m → map_at later t other ≡ map_at part k.live other =
     λ other apart. other_at part later k.live t other (c.rest.others other apart) (λ now. whole.others other apart now ∙ ap (map_of part) (c.rest.others other apart)) in
     let state : state_in later (with_live k t) ≡ with_map_at s m (change w T key value) =
-    one_map part later k t m (change w T key value) found.within c.rest.live others ((along part k.live t m c.rest.areas c.rest.live).update flags p key value at c.claimed) (c.refused ∙ or_false k.live.refused) in
+    one_map part later k t m c.found.within c.rest.live others ((along part k.live t m c.rest.areas c.rest.live).update flags p key value at c.claimed) (c.refused ∙ or_false k.live.refused) in
     ap (gives []) state
-    ∙ sym (done_put v w key (places_at k.live m) p (places_at t m) c.claimed (value_in part k.live m) (calls.verdict (value_in part k.live m) (table_of (places_at k.live m)) key flags) s m T value)
-    ∙ sym (update_is false part k fd m flags bytes found size)
+    ∙ sym (done_put (verdict (table_of (places_at k.live m)) key flags) w key (places_at k.live m) p (places_at t m) c.claimed (value_in part k.live m) (calls.verdict (value_in part k.live m) (table_of (places_at k.live m)) key flags) s m T value)
+    ∙ sym (update_is false part c)
 
-pub update_refused : LiveMapsRefineValues → CallsRefineValues ℕ (List ℕ) → MapVerdictsMatchLookUps ℕ → (part : List ℕ) (k : KeptTenant) (t : LiveMaps) (fd m flags : ℕ) (f : MapFault) (bytes : List ℕ) → IsMapOf k fd m
-    → length bytes ≡ (shape_at k.live m).key_size + (shape_at k.live m).value_size
-    → IsClaimed k t m flags (take (shape_at k.live m).key_size bytes) (Err f)
+pub update_refused : LiveMapsRefineValues → CallsRefineValues ℕ (List ℕ) → MapVerdictsMatchLookUps ℕ → (part : List ℕ) {k : KeptTenant} {t : LiveMaps} {fd m flags : ℕ} {f : MapFault} {bytes : List ℕ} → IsClaimed k t fd m flags bytes (Err f)
     → (refused : Bool) × (refuses (map_errno f) (state_in part (with_live k t)) ≡ element_updated refused (state_in part k) fd flags bytes)
-update_refused along calls tell part k t fd m flags f bytes found size c =
-    let key = take (shape_at k.live m).key_size bytes in
-    let value = drop (shape_at k.live m).key_size bytes in
+update_refused along calls tell part {k} {t} {fd} {m} {flags} {f} {bytes} c =
+    let key = key_of (shape_at k.live m) bytes in
+    let value = value_of (shape_at k.live m) bytes in
     let s = state_in part k in
     let T = map_in part k.live m in
     let v = verdict (table_of (places_at k.live m)) key flags in
-    let w = verdict T key flags in
-    let same = refused_claim v key (places_at k.live m) f (places_at t m) c.claimed in
-    let here : map_in part t m ≡ T = (along part k.live t m c.rest.areas c.rest.live).same same in
-    let maps = same_at (map_at part t) (map_at part k.live) (each_same part k.live t m found.live c.rest.live here c.rest.others) in
-    let (refused, memory, put_is) = failed_put v w key (places_at k.live m) f (places_at t m) (tell.memory (table_of (places_at k.live m)) key flags) c.claimed (value_in part k.live m) (calls.verdict (value_in part k.live m) (table_of (places_at k.live m)) key flags) s m T value in
+    let here : map_in part t m ≡ T = (along part k.live t m c.rest.areas c.rest.live).same (refused_claim v key (places_at k.live m) f (places_at t m) c.claimed) in
+    let maps = same_at (map_at part t) (map_at part k.live) (each_same part k.live t m c.found.live c.rest.live here c.rest.others) in
+    let (refused, memory, put_is) = failed_put v (verdict T key flags) key (places_at k.live m) f (places_at t m) (tell.memory (table_of (places_at k.live m)) key flags) c.claimed (value_in part k.live m) (calls.verdict (value_in part k.live m) (table_of (places_at k.live m)) key flags) s m T value in
     let state : state_in part (with_live k t) ≡ flagged refused s =
     ap (λ (ms : List (Option Map)). record { objects = k.objects; maps = ms; refused = k.refused || t.refused }) maps
     ∙ flag_of k.refused k.live.refused (is_memory (Err f)) t.refused c.refused s refused memory refl in
-    (refused, ap (refuses (map_errno f)) state ∙ sym put_is ∙ sym (update_is refused part k fd m flags bytes found size))
+    (refused, ap (refuses (map_errno f)) state ∙ sym put_is ∙ sym (update_is refused part c))

@@ -249,8 +249,7 @@ impl Tenant {
         ensures writable { IsWritable result }
     {
         tagged_model::laws::calls_refine_values();
-        bpf_maps::laws::calls_are_those_of_a_map();
-        bpf_maps::laws::areas_keep_places();
+        bpf_maps::laws::live_maps_refine_values();
         let map = self.map_named(fd)?;
         if key.len() != self.maps.shape(map).key_size as usize {
             return Err(Errno::Invalid);

@@ -9,9 +9,7 @@ use Rattle.tenant.proofs.Opened.{some_lowest}
 use Rattle.tenant.proofs.tenant.Tenant.load.Goals as goal
 
 pub invariant_of-self : goal.invariant_of-self
-invariant_of-self c =
-    let k : KeptTenant = record { objects = c.self.inside.objects; live = c.self.inside.maps; refused = c.self.inside.refused } in
-    flagged_kept k c.self.invariant
+invariant_of-self c = flagged_kept c.self.invariant
 
 pub returns-in-Ok-clause-answer : goal.returns-in-Ok-clause-answer
 returns-in-Ok-clause-answer c = λ part.

@@ -9,7 +9,7 @@ use Rattle.tenant.specs.Replies.{shown_answer}
 use Rattle.tenant.specs.Kept.{KeptTenant, state_in}
 use Rattle.tenant.specs.Machine.{outcome_answer, run_of}
 use Rattle.tenant.specs.declared.object.OpenObject.TheVariants as object
-use Rattle.tenant.proofs.StillKept.{with_live}
+use Rattle.tenant.proofs.StillKept.{kept_in, with_live}
 use Rattle.tenant.proofs.TestRunEnds.{told_of}
 use Rattle.tenant.proofs.TestRunKept.{kept_after}
 use Rattle.tenant.proofs.TestRunKeys.{are_bound, bound_of}
@@ -18,20 +18,18 @@ use Rattle.tenant.proofs.tenant.Tenant.test_run.Goals.{in-Value, in-Fault}
 
 pub run-outcome-requires-clause-bound : goal.run-outcome-requires-clause-bound
 run-outcome-requires-clause-bound c =
-    let k : KeptTenant = record { objects = c.self.inside.objects; live = c.self.inside.maps; refused = c.self.inside.refused } in
+    let k = kept_in c.self.inside in
     let l = c.in-Some-Program.program in
     let opened : named k.objects c.args.fd ≡ Some (object.Program l) = sym c.in-Some-Program.ensures ∙ ap Some c.in-Some-Program.field-0-is in
     subst (λ (ps : List ℕ). AreBound c.program.result.now ps k.live) (sym c.maps.ensures)
     (are_bound k l c.self.invariant (bound_of k c.args.fd l c.self.invariant opened) c.maps_are_listed.ensures c.program.result.now c.program.ensures.code c.program.ensures.entries)
 
 pub invariant_of-self : goal.invariant_of-self
-invariant_of-self c =
-    let k : KeptTenant = record { objects = c.self.inside.objects; live = c.self.inside.maps; refused = c.self.inside.refused } in
-    kept_after k c.run-outcome.new.maps c.maps.result.now c.self.invariant c.run-outcome.ensures.maps
+invariant_of-self c = kept_after c.self.invariant c.run-outcome.ensures.maps
 
 pub returns-clause-answer : goal.returns-clause-answer
 returns-clause-answer c =
-    let k : KeptTenant = record { objects = c.self.inside.objects; live = c.self.inside.maps; refused = c.self.inside.refused } in
+    let k = kept_in c.self.inside in
     let l = c.in-Some-Program.program in
     let opened : named k.objects c.args.fd ≡ Some (object.Program l) = sym c.in-Some-Program.ensures ∙ ap Some c.in-Some-Program.field-0-is in
     let t = c.args.tenant in

@@ -93,11 +93,8 @@ fn skip<S: Source>(reader: &mut S, scratch: &mut [u8], count: usize) -> Result<(
     let mut left = count;
     while left > 0 {
         let wanted = left.min(scratch.len());
-        let came = fill(reader, &mut scratch[..wanted])?;
-        if came < wanted {
-            return Err(ServeFaultKind::Truncated);
-        }
-        left -= came;
+        read_whole(reader, scratch, wanted)?;
+        left -= wanted;
     }
     Ok(())
 }

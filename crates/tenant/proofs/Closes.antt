@@ -4,6 +4,7 @@ use Rattle.std.specs.Prelude.{◌==◌, ◌||◌, ◌⊎◌, nat_lt, slice_get, 
 use Rattle.std.specs.Map.{lookup}
 use Rattle.std.specs.List.{list_any}
 use Rattle.std.specs.Option.{option_map_or}
+use Rattle.std.proofs.Math.Bool.{true-or}
 use Rattle.std.proofs.lemmas.Bool.{eq-eqb}
 use Rattle.std.proofs.lemmas.List.{ext_get_or}
 use Rattle.std.proofs.lemmas.Option.{none-some, same_Some, get_or_from_slice_get}
@@ -32,11 +33,7 @@ tells_if true = inl (refl, omega arith)
 tells_if false = inr (refl, refl)
 
 tells_or : (a b : Bool) (m n : ℕ) → Tells a m → Tells b n → Tells (a || b) (m + n)
-tells_or a b m n (inl (a_is, some)) h = inl (ap (λ (x : Bool). x || b) a_is ∙ true_or b, omega arith)
-  where
-    true_or : (b : Bool) → (true || b) ≡ true
-    true_or true = refl
-    true_or false = refl
+tells_or a b m n (inl (a_is, some)) h = inl (ap (λ (x : Bool). x || b) a_is ∙ true-or b, omega arith)
 tells_or a b m n (inr (a_is, none)) (inl (b_is, some)) = inl (ap₂ (λ (x y : Bool). x || y) a_is b_is, omega arith)
 tells_or a b m n (inr (a_is, none)) (inr (b_is, too)) = inr (ap₂ (λ (x y : Bool). x || y) a_is b_is, omega arith)
 

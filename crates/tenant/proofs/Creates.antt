@@ -1,6 +1,7 @@
 -- What a new map leaves.
 use Rattle.std.proofs.Common.{◌≡◌, ◌≢◌, ℕ, ◌+◌, ◌-◌, ◌≤◌, ◌<◌, Bool, true, false, List, [], length, get_or, Option, Some, None, IsSome, is_some, Result, Ok, Err, refl, sym, ap, ap₂, subst, ◌∙◌, inl, inr, arith, length-set}
 use Rattle.std.specs.Prelude.{◌||◌, ◌⊎◌, nat_lt, is_none, if◌then◌else◌}
+use Rattle.std.proofs.Math.Bool.{or-true}
 use Rattle.std.proofs.lemmas.Bool.{cases_lt}
 use Rattle.std.proofs.lemmas.Option.{none-some, same_Some}
 use Rattle.bpf_maps.specs.declared.part.TheConstants.{MAPS, LARGEST_SUM}
@@ -190,10 +191,6 @@ pub create_refused : (part : List ℕ) (k : KeptTenant) (t : LiveMaps) (shape : 
     → (refused : Bool) × (refuses (map_errno f) (state_in part (with_live k t)) ≡ created refused (state_in part k) (Ok shape))
 create_refused part k t shape f {fd} is all low made = by_cause (created_err (create_fault k.live shape) k.live shape f t made)
   where
-    or_true : (x : Bool) → (x || true) ≡ true
-    or_true true = refl
-    or_true false = refl
-
     by_cause : ((create_fault k.live shape ≡ Some f) × (t ≡ k.live)) ⊎ ((create_fault k.live shape ≡ None) × (f ≡ fault.Memory) × (t ≡ record { maps = k.live.maps; refused = true }))
         → (refused : Bool) × (refuses (map_errno f) (state_in part (with_live k t)) ≡ created refused (state_in part k) (Ok shape))
     by_cause (inl (full, same)) =
@@ -206,7 +203,7 @@ create_refused part k t shape f {fd} is all low made = by_cause (created_err (cr
         let (place, free, room_there) = room (live.free_place k.live) (nat_lt LARGEST_SUM (areas k.live + area_by shape)) none in (
           true,
           ap₂ (λ (g : MapFault) (u : LiveMaps). refuses (map_errno g) (state_in part (with_live k u))) which flagged
-              ∙ ap (λ (b : Bool). refuses NoMemory (record { objects = k.objects; maps = at_places (map_at part k.live); refused = b })) (or_true k.refused)
+              ∙ ap (λ (b : Bool). refuses NoMemory (record { objects = k.objects; maps = at_places (map_at part k.live); refused = b })) (or-true k.refused)
               ∙ sym (created_is true part k shape is all low none free),
         )
 

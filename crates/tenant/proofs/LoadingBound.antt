@@ -17,7 +17,7 @@ use Rattle.tenant.specs.Loaded.{LoadedProgram}
 use Rattle.tenant.specs.Machine.{loaded_program, places_from, targets}
 use Rattle.tenant.proofs.LookUps.{live_named}
 use Rattle.tenant.proofs.Named.{named_is_live}
-use Rattle.tenant.proofs.LoadingPlaces.{AreMaps, seconds, places_keys, lookup_named, times_named, times_once, length-seconds, length-firsts, paired}
+use Rattle.tenant.proofs.LoadingPlaces.{seconds, places_keys, lookup_named, times_named, times_once, length-seconds, length-firsts, paired}
 use Rattle.tenant.proofs.LoadingShapes.{shapes_picked, shape_is, shaped_map}
 
 pub loaded_is : (l : LoadedProgram) (insns : List Insn) (named : List Named) (maps : List (ℕ × ℕ)) → l.insns ≡ insns → l.named ≡ named → l.maps ≡ maps
@@ -28,35 +28,28 @@ loaded_is l insns named maps a b c =
     ∙ ap (λ (ms : List (ℕ × ℕ)). record { insns = insns; named = named; maps = ms }) c
 
 -- the map at a place of the program is live
-pub loaded_live : (k : KeptTenant) → IsWellFormedTenant k → (fds : List ℕ) → AreLive k.live (seconds (places_from k.objects fds))
-loaded_live k is fds place some = let (i, fd, at, opened) = times_named k.objects fds place some in (named_is_live is fd opened).live
+pub loaded_live : {k : KeptTenant} → IsWellFormedTenant k → (fds : List ℕ) → AreLive k.live (seconds (places_from k.objects fds))
+loaded_live {k} is fds place some = let (i, fd, at, opened) = times_named k.objects fds place some in (named_is_live is fd opened).live
 
-are_maps : LoadedMapsHaveShapes → (k : KeptTenant) (part : List ℕ) (insns : List Insn) → IsAccepted insns (targets (state_in part k)) → AreMaps k.objects (maps_of insns)
-are_maps have k part insns accepted i fd at =
-    shaped_map (state_in part k) fd (subst (λ (n : ℕ). IsSome (shapes_named (targets (state_in part k)) n)) (get_or_from_slice_get (maps_of insns) i fd 0 at) (have.named insns (targets (state_in part k)) accepted i 0 (slice_get_within (maps_of insns) i fd at)))
+module _ (have : LoadedMapsHaveShapes) (k : KeptTenant) (part : List ℕ) (insns : List Insn) (accepted : IsAccepted insns (targets (state_in part k))) where
+  -- it has one for each descriptor
+  keys : keys_of (places_from k.objects (maps_of insns)) ≡ maps_of insns
+  keys = places_keys k.objects (maps_of insns) (λ i fd at.
+      shaped_map (state_in part k) fd (subst (λ (n : ℕ). IsSome (shapes_named (targets (state_in part k)) n)) (get_or_from_slice_get (maps_of insns) i fd 0 at) (have.named insns (targets (state_in part k)) accepted i 0 (slice_get_within (maps_of insns) i fd at))))
 
--- it has one for each descriptor
-pub loaded_keys : LoadedMapsHaveShapes → (k : KeptTenant) (part : List ℕ) (insns : List Insn) → IsAccepted insns (targets (state_in part k)) → keys_of (places_from k.objects (maps_of insns)) ≡ maps_of insns
-loaded_keys have k part insns accepted = places_keys k.objects (maps_of insns) (are_maps have k part insns accepted)
+  pub loaded_count : length (seconds (places_from k.objects (maps_of insns))) ≡ length (maps_of insns)
+  loaded_count = let ms = places_from k.objects (maps_of insns) in length-seconds ms ∙ sym (length-firsts ms) ∙ ap length keys
 
-pub loaded_count : LoadedMapsHaveShapes → (k : KeptTenant) (part : List ℕ) (insns : List Insn) → IsAccepted insns (targets (state_in part k)) → length (seconds (places_from k.objects (maps_of insns))) ≡ length (maps_of insns)
-loaded_count have k part insns accepted =
-    let ms = places_from k.objects (maps_of insns) in
-    length-seconds ms ∙ sym (length-firsts ms) ∙ ap length (loaded_keys have k part insns accepted)
+  -- so its descriptors and its maps, one by one, are the entries of the machine
+  pub loaded_pairs : zip (maps_of insns) (seconds (places_from k.objects (maps_of insns))) ≡ places_from k.objects (maps_of insns)
+  loaded_pairs = let ms = places_from k.objects (maps_of insns) in ap (λ (fds : List ℕ). zip fds (seconds ms)) (sym keys) ∙ paired ms
 
--- so its descriptors and its maps, one by one, are the entries of the machine
-pub loaded_pairs : LoadedMapsHaveShapes → (k : KeptTenant) (part : List ℕ) (insns : List Insn) → IsAccepted insns (targets (state_in part k))
-    → zip (maps_of insns) (seconds (places_from k.objects (maps_of insns))) ≡ places_from k.objects (maps_of insns)
-loaded_pairs have k part insns accepted =
-    let ms = places_from k.objects (maps_of insns) in
-    ap (λ (fds : List ℕ). zip fds (seconds ms)) (sym (loaded_keys have k part insns accepted)) ∙ paired ms
-
-pub loaded_bound : LoadedMapsHaveShapes → MapsAreListed → (k : KeptTenant) (part : List ℕ) (insns : List Insn) → IsWellFormedTenant k → IsAccepted insns (targets (state_in part k)) → IsBound k.live (loaded_program (state_in part k) insns)
-loaded_bound have listed k part insns is accepted = record {
-  each = loaded_keys have k part insns accepted;
-  once = times_once k.objects (maps_of insns) is.single (λ i j fd a b. listed.once insns i j fd a b);
-  shaped = λ fd place found.
-      let (i, at, opened) = lookup_named k.objects (maps_of insns) fd place found in
-      let here = named_is_live is fd opened in
-      (here.live, shapes_picked (maps_of insns) (targets (state_in part k)) i fd at ∙ shape_is (state_in part k) fd place (map_in part k.live place) opened (live_named part here));
-}
+  pub loaded_bound : MapsAreListed → IsWellFormedTenant k → IsBound k.live (loaded_program (state_in part k) insns)
+  loaded_bound listed is = record {
+    each = keys;
+    once = times_once k.objects (maps_of insns) is.single (λ i j fd a b. listed.once insns i j fd a b);
+    shaped = λ fd place found.
+        let (i, at, opened) = lookup_named k.objects (maps_of insns) fd place found in
+        let here = named_is_live is fd opened in
+        (here.live, shapes_picked (maps_of insns) (targets (state_in part k)) i fd at ∙ shape_is (state_in part k) fd place (map_in part k.live place) opened (live_named part here));
+  }

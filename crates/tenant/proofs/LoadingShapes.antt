@@ -2,9 +2,10 @@
 use Rattle.std.proofs.Common.{◌≡◌, ◌≢◌, ℕ, zero, suc, ◌+◌, ◌-◌, ◌≤◌, ◌<◌, Bool, true, false, List, [], ◌∷◌, ◌++◌, get_or, Option, Some, None, IsSome, refl, sym, ap, ◌∙◌, arith}
 use Rattle.std.specs.Prelude.{◌==◌, ◌||◌, nat_lt, slice_get, option_map, if◌then◌else◌}
 use Rattle.std.specs.List.{filter}
+use Rattle.std.proofs.Math.Bool.{or-true}
 use Rattle.std.proofs.lemmas.Bool.{eqb-true, eq-eqb, ne_eqb}
 use Rattle.std.proofs.lemmas.Bool.Decides.{nat_tests}
-use Rattle.std.proofs.lemmas.Option.{none-some}
+use Rattle.std.proofs.lemmas.Option.{none-some, same_Some}
 use Rattle.fd_table.specs.Table.{first_descriptor, named, flattened}
 use Rattle.tagged_model.specs.Cells.{and_then}
 use Rattle.tagged_model.specs.Named as at
@@ -38,15 +39,8 @@ picked p (n ∷ ns) fd is = by_test (picked p ns fd is) (p n.fd) refl
 
 among : (fds : List ℕ) (i fd : ℕ) → slice_get fds i ≡ Some fd → is_among fds fd ≡ true
 among [] i fd there = absurd (none-some fd there)
-among (x ∷ fds) zero fd there = let same : (x == fd) ≡ true = eq-eqb x fd (inside x fd there) in ap (λ (b : Bool). b || is_among fds fd) same
-  where
-    inside : (a b : ℕ) → Some a ≡ Some b → a ≡ b
-    inside a b e = cc
-among (x ∷ fds) (suc i) fd there = ap (λ (b : Bool). (x == fd) || b) (among fds i fd there) ∙ or_true (x == fd)
-  where
-    or_true : (b : Bool) → (b || true) ≡ true
-    or_true true = refl
-    or_true false = refl
+among (x ∷ fds) zero fd there = let same : (x == fd) ≡ true = eq-eqb x fd (same_Some x fd there) in ap (λ (b : Bool). b || is_among fds fd) same
+among (x ∷ fds) (suc i) fd there = ap (λ (b : Bool). (x == fd) || b) (among fds i fd there) ∙ or-true (x == fd)
 
 -- a descriptor that is picked names what it named
 pub shapes_picked : (fds : List ℕ) (ns : List Named) (i fd : ℕ) → slice_get fds i ≡ Some fd → shapes_named (entries_of fds ns) fd ≡ shapes_named ns fd

@@ -1,8 +1,7 @@
 -- What an open descriptor names.
 use Rattle.std.proofs.Common.{◌≡◌, ℕ, zero, suc, ◌+◌, ◌-◌, ◌≤◌, Bool, true, false, List, [], ◌∷◌, Option, Some, None, refl, sym, ap, subst, ◌∙◌, arith}
-use Rattle.std.specs.Prelude.{◌==◌, nat_lt, slice_get, if◌then◌else◌}
+use Rattle.std.specs.Prelude.{nat_lt, slice_get, if◌then◌else◌}
 use Rattle.std.specs.Option.{option_map_or}
-use Rattle.std.proofs.lemmas.Bool.{eq-eqb}
 use Rattle.std.proofs.lemmas.Option.{none-some}
 use Rattle.fd_table.specs.Table.{named, flattened}
 use Rattle.tenant.specs.declared.object.OpenObject.{OpenObject}
@@ -11,9 +10,7 @@ use Rattle.tenant.specs.Kept.{KeptTenant, IsWellFormedTenant, times_named, holde
 use Rattle.tenant.specs.inside.Named.{IsMapOf}
 use Rattle.bpf_maps.specs.Sum.{total}
 use Rattle.tenant.proofs.AtPlaces.{held_is_live}
-
-names_once : (place : ℕ) → times_named place (object.Map place) ≡ 1
-names_once place = let same : (place == place) ≡ true = eq-eqb place place refl in rw same refl
+use Rattle.tenant.proofs.Releases.{here_one}
 
 first_one : (a b : ℕ) → a ≡ 1 → 1 ≤ a + b
 first_one a b e = omega arith
@@ -29,7 +26,7 @@ held_at : (objects : List (Option OpenObject)) (n place : ℕ) → flattened (sl
 unfolding total
 held_at [] n place e = absurd (none-some (object.Map place) e)
 held_at (None ∷ os) zero place e = absurd (none-some (object.Map place) e)
-held_at (Some o ∷ os) zero place e = first_one (times_named place o) (holders place os) (ap (λ (x : Option OpenObject). times_named place (or_first x)) e ∙ names_once place)
+held_at (Some o ∷ os) zero place e = first_one (times_named place o) (holders place os) (ap (λ (x : Option OpenObject). times_named place (or_first x)) e ∙ here_one place place refl)
 held_at (o ∷ os) (suc n) place e = some_later (option_map_or (times_named place) o 0) (holders place os) (held_at os n place e)
 
 held_by : (low : Bool) (objects : List (Option OpenObject)) (n place : ℕ) → (if low then None else flattened (slice_get objects n)) ≡ Some (object.Map place) → 1 ≤ holders place objects

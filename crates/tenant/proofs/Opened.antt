@@ -2,14 +2,11 @@
 use Rattle.std.proofs.Common.{◌≡◌, ◌≢◌, ℕ, zero, suc, [], ◌∷◌, ◌+◌, ◌-◌, ◌<◌, true, false, List, length, set, get_or, Option, Some, None, refl, sym, ap, ◌∙◌, inl, inr, arith, get_or-set_same, get_or-set_other}
 use Rattle.std.specs.Prelude.{◌⊎◌, is_none, position, option_map}
 use Rattle.std.proofs.lemmas.Bool.{cases_eq}
-use Rattle.std.proofs.lemmas.Option.{none-some}
+use Rattle.std.proofs.lemmas.Option.{none-some, same_Some}
 use Rattle.std.proofs.lemmas.List.Quantifiers.{position-Some}
 use Rattle.fd_table.specs.Table.{first_descriptor, lowest, with_open}
 use Rattle.bpf_maps.specs.Sum.{total}
 use Rattle.tenant.proofs.Sums.{total-set}
-
-same_inside : {A : Type 0} (x y : A) → Some x ≡ Some y → y ≡ x
-same_inside x y e = cc
 
 -- what is there once a place is filled
 pub set_cases : {A : Type 0} (xs : List (Option A)) (n i : ℕ) (x y : A) → n < length xs → get_or (set xs n (Some x)) i None ≡ Some y
@@ -17,7 +14,7 @@ pub set_cases : {A : Type 0} (xs : List (Option A)) (n i : ℕ) (x y : A) → n 
 set_cases xs n i x y within there = by_place (cases_eq i n)
   where
     by_place : (i ≡ n) ⊎ (i ≡ n → ⊥) → ((i ≡ n) × (y ≡ x)) ⊎ ((i ≢ n) × (get_or xs i None ≡ Some y))
-    by_place (inl same) = inl (same, same_inside x y (sym (get_or-set_same xs n (Some x) None within) ∙ ap (λ (j : ℕ). get_or (set xs n (Some x)) j None) (sym same) ∙ there))
+    by_place (inl same) = inl (same, same_Some y x (sym (sym (get_or-set_same xs n (Some x) None within) ∙ ap (λ (j : ℕ). get_or (set xs n (Some x)) j None) (sym same) ∙ there)))
     by_place (inr other) = inr (other, sym (get_or-set_other xs n i (Some x) None other) ∙ there)
 
 pub set_here : {A : Type 0} (xs : List (Option A)) (n : ℕ) (x : A) → n < length xs → get_or (set xs n (Some x)) n None ≡ Some x
@@ -52,7 +49,7 @@ pub descriptor_free : {A : Type 0} (xs : List (Option A)) (fd : ℕ) → lowest 
 descriptor_free xs fd e = by_position (position is_none xs) refl e
   where
     place_of : (n : ℕ) → Some (3 + n) ≡ Some fd → n ≡ fd - 3
-    place_of n e = let same : fd ≡ 3 + n = same_inside (3 + n) fd e in omega arith
+    place_of n e = let same = same_Some (3 + n) fd e in omega arith
 
     by_position : (o : Option ℕ) → position is_none xs ≡ o → option_map (λ place. first_descriptor + place) o ≡ Some fd → (fd - first_descriptor < length xs) × (get_or xs (fd - first_descriptor) None ≡ None)
     by_position None p e = absurd (none-some fd e)

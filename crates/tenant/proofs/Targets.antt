@@ -2,6 +2,7 @@
 use Rattle.std.proofs.Common.{◌≡◌, ℕ, zero, suc, ◌+◌, ◌-◌, ◌≤◌, ◌<◌, Bool, false, List, [], ◌∷◌, ◌++◌, length, take, get_or, Option, None, refl, sym, ap, ap₂, ◌∙◌, arith, append_assoc}
 use Rattle.std.specs.Prelude.{nat_lt, slice_get, if◌then◌else◌}
 use Rattle.std.proofs.lemmas.Bool.Decides.{nat_tests}
+use Rattle.std.proofs.lemmas.List.{append-nil}
 use Rattle.fd_table.specs.Table.{first_descriptor, named, flattened}
 use Rattle.tagged_model.specs.Cells.{and_then}
 use Rattle.tagged_model.specs.declared.shape.Named.{Named}
@@ -20,10 +21,6 @@ named_at xs fd low =
     let no : nat_lt fd first_descriptor ≡ false = grind (arith, nat_tests) in
     ap (λ (b : Bool). if b then None else flattened (slice_get xs (fd - first_descriptor))) no ∙ flattened-get xs (fd - first_descriptor)
 
-pub with_nothing : (ns : List Named) → ns ++ [] ≡ ns
-with_nothing [] = refl
-with_nothing (n ∷ ns) = ap (λ (ms : List Named). n ∷ ms) (with_nothing ns)
-
 -- one more of them
 targets-next : (s : TenantState) (fd : ℕ) (xs : List (Option OpenObject)) (n : ℕ) → n < length xs
     → targets_from s fd (take (suc n) xs) ≡ targets_from s fd (take n xs) ++ entry_of (fd + n) (and_then (get_or xs n None) (object_target s))
@@ -31,7 +28,7 @@ unfolding targets_from
 targets-next s fd [] n within = absurd (omega arith)
 targets-next s fd (x ∷ xs) zero within =
     let e : fd ≡ fd + 0 = omega arith in
-    with_nothing (entry_of fd (and_then x (object_target s))) ∙ ap (λ (k : ℕ). entry_of k (and_then x (object_target s))) e
+    append-nil (entry_of fd (and_then x (object_target s))) ∙ ap (λ (k : ℕ). entry_of k (and_then x (object_target s))) e
 targets-next s fd (x ∷ xs) (suc n) within =
     let e : fd + 1 + n ≡ fd + suc n = omega arith in
     let rest = targets-next s (fd + 1) xs n (omega arith) in

@@ -1,6 +1,7 @@
 -- What an update leaves.
 use Rattle.std.proofs.Common.{◌≡◌, ◌≢◌, ℕ, ◌+◌, Bool, true, false, List, [], length, take, drop, Option, Result, Ok, Err, refl, sym, ap, subst, ◌∙◌, arith, length-drop}
 use Rattle.std.specs.Prelude.{◌==◌, ◌||◌}
+use Rattle.std.proofs.Math.Bool.{or-false, or-true}
 use Rattle.bpf_maps.specs.Live.{LiveMaps, places_at, shape_at, map_in, value_in, OnlyKeysChange, is_memory}
 use Rattle.bpf_maps.specs.Places.{PlaceTable, table_of, Claims}
 use Rattle.bpf_maps.specs.InPart.{updated as change, IsValueAt, with_value, ValuesAreWritten, LiveMapsRefineValues}
@@ -111,21 +112,12 @@ failed_put : (v : Verdict ℕ) (w : Verdict (List ℕ)) (key : List ℕ) (old : 
 failed_put v w key old f new some claimed g same s place T value =
     subst (λ (x : Verdict (List ℕ)). Fails x f key s place T value) (sym same) (failed_by v key old f new some claimed g s place T value)
 
-or_false : (x : Bool) → (x || false) ≡ x
-or_false true = refl
-or_false false = refl
-
 flag_of : (a b r t : Bool) → t ≡ (b || r) → (s : TenantState) (refused : Bool) → r ≡ refused → s.refused ≡ (a || b) → record s { refused = a || t } ≡ flagged refused s
 flag_of a b r t is s refused same was = by_choice refused same
   where
-    or_true : (x y : Bool) → (x || (y || true)) ≡ true
-    or_true true y = refl
-    or_true false true = refl
-    or_true false false = refl
-
     by_choice : (refused : Bool) → r ≡ refused → record s { refused = a || t } ≡ flagged refused s
-    by_choice true e = ap (λ (x : Bool). record s { refused = x }) (ap (λ (x : Bool). a || x) (is ∙ ap (λ (x : Bool). b || x) e) ∙ or_true a b)
-    by_choice false e = ap (λ (x : Bool). record s { refused = x }) (ap (λ (x : Bool). a || x) (is ∙ ap (λ (x : Bool). b || x) e ∙ or_false b) ∙ sym was)
+    by_choice true e = ap (λ (x : Bool). record s { refused = x }) (ap (λ (x : Bool). a || x) (is ∙ ap (λ (x : Bool). b || x) e) ∙ ap (λ (x : Bool). a || x) (or-true b) ∙ or-true a)
+    by_choice false e = ap (λ (x : Bool). record s { refused = x }) (ap (λ (x : Bool). a || x) (is ∙ ap (λ (x : Bool). b || x) e ∙ or-false b) ∙ sym was)
 
 -- ---- the whole command
 
@@ -179,7 +171,7 @@ updated_at along written calls part {k} {t} {fd} {m} {flags} {p} {bytes} c at =
     let others : (other : ℕ) → other ≢ m → map_at later t other ≡ map_at part k.live other =
     λ other apart. other_at part later k.live t other (c.rest.others other apart) (λ now. whole.others other apart now ∙ ap (map_of part) (c.rest.others other apart)) in
     let state : state_in later (with_live k t) ≡ with_map_at s m (change w T key value) =
-    one_map part later k t m c.found.within c.rest.live others ((along part k.live t m c.rest.areas c.rest.live).update flags p key value at c.claimed) (c.refused ∙ or_false k.live.refused) in
+    one_map part later k t m c.found.within c.rest.live others ((along part k.live t m c.rest.areas c.rest.live).update flags p key value at c.claimed) (c.refused ∙ or-false k.live.refused) in
     ap (gives []) state
     ∙ sym (done_put (verdict (table_of (places_at k.live m)) key flags) w key (places_at k.live m) p (places_at t m) c.claimed (value_in part k.live m) (calls.verdict (value_in part k.live m) (table_of (places_at k.live m)) key flags) s m T value)
     ∙ sym (update_is false part c)

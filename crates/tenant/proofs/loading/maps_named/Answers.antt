@@ -1,7 +1,8 @@
 use Rattle.std.proofs.Common.{◌≡◌, ℕ, ◌+◌, List, ◌++◌, take, get_or, Vec, Global, Option, Some, refl, sym, ap, ◌∙◌}
+use Rattle.std.proofs.lemmas.List.{append-nil, map-append}
 use Rattle.fd_table.specs.Table.{named}
 use Rattle.tenant.specs.Machine.{places_from}
-use Rattle.tenant.proofs.LoadingPlaces.{seconds, seconds_with, place_at, listed, listed_at, places_more, places_none, with_nothing}
+use Rattle.tenant.proofs.LoadingPlaces.{seconds, place_at, listed, listed_at, places_more, places_none}
 use Rattle.tenant.proofs.loading.maps_named.Goals as goal
 use Rattle.tenant.proofs.loading.maps_named.Goals.{in-Some+in_ok-push, in_default}
 
@@ -23,9 +24,9 @@ loop-fd-preserved c =
       | in-Some+in_ok-push w ↦
           ap (λ (v : Vec ℕ Global). v.items) w.found-is ∙ w.in_ok-push.ensures.items
           ∙ ap (λ (ps : List ℕ). ps ++ seconds (listed (Some w.in-Some.map) fd)) so_far
-          ∙ sym (seconds_with before (listed (Some w.in-Some.map) fd))
+          ∙ sym (map-append (λ m. m.1) before (listed (Some w.in-Some.map) fd))
           ∙ ap (λ (o : Option ℕ). seconds (before ++ listed o fd)) (sym w.in-Some.is) ∙ all
       | in_default w ↦
-          ap (λ (v : Vec ℕ Global). v.items) w.found-is ∙ so_far ∙ ap seconds (sym (with_nothing before))
+          ap (λ (v : Vec ℕ Global). v.items) w.found-is ∙ so_far ∙ ap seconds (sym (append-nil before))
           ∙ ap (λ (o : Option ℕ). seconds (before ++ listed o fd)) (sym w.in_default.is) ∙ all
     ]

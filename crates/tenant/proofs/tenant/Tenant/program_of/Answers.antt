@@ -26,32 +26,32 @@ new-requires c =
     c.in-Ok-maps_named.ensures ∙ ap₂ (λ os fds. seconds (places_from os fds)) (ap (λ (k : KeptTenant). k.objects) c.self.view_is) c.maps.ensures in
     ap length maps ∙ loaded_count c.loaded_maps_have_shapes.ensures k [] insns (subst (IsAccepted insns) listed c.in_ok-program.ensures.judges.2)
 
--- the program is the machine's
-same_program : (c : goal.After-drop-descriptors-in-Ok-maps_named) (part : List ℕ) → c.new.result ≡ loaded_program (state_in part c.args.self.now) c.in_ok-program.program.code
-same_program c part =
-    let k = c.args.self.now in
-    let insns = c.in_ok-program.program.code in
-    let listed : c.deref.result.now ≡ targets (state_in part k) = c.deref.ensures.value ∙ c.in-Ok.ensures part in
-    let maps : c.in-Ok-maps_named.maps.items ≡ seconds (places_from k.objects (maps_of insns)) =
-    c.in-Ok-maps_named.ensures ∙ ap₂ (λ os fds. seconds (places_from os fds)) (ap (λ (k : KeptTenant). k.objects) c.self.view_is) c.maps.ensures in
-    loaded_is c.new.result insns (entries_of (maps_of insns) (targets (state_in part k))) (places_from k.objects (maps_of insns)) c.new.ensures.insns
-    (c.new.ensures.named ∙ c.in_ok-program.ensures.entries ∙ ap (entries_of (maps_of insns)) listed)
-    (c.new.ensures.maps ∙ ap (zip (maps_of insns)) maps ∙ loaded_pairs c.loaded_maps_have_shapes.ensures k part insns (subst (IsAccepted insns) listed c.in_ok-program.ensures.judges.2))
+module _ (c : goal.After-drop-descriptors-in-Ok-maps_named) where
+  kept : IsWellFormedTenant c.args.self.now
+  kept = subst (λ (k : KeptTenant). IsWellFormedTenant k) c.self.view_is c.self.invariant
+
+  accepted : (part : List ℕ) → IsAccepted c.in_ok-program.program.code (targets (state_in part c.args.self.now))
+  accepted part = subst (IsAccepted c.in_ok-program.program.code) (c.deref.ensures.value ∙ c.in-Ok.ensures part) c.in_ok-program.ensures.judges.2
+
+  -- the program is the machine's
+  same_program : (part : List ℕ) → c.new.result ≡ loaded_program (state_in part c.args.self.now) c.in_ok-program.program.code
+  same_program part =
+      let k = c.args.self.now in
+      let insns = c.in_ok-program.program.code in
+      let maps : c.in-Ok-maps_named.maps.items ≡ seconds (places_from k.objects (maps_of insns)) =
+      c.in-Ok-maps_named.ensures ∙ ap₂ (λ os fds. seconds (places_from os fds)) (ap (λ (k : KeptTenant). k.objects) c.self.view_is) c.maps.ensures in
+      loaded_is c.new.result insns (entries_of (maps_of insns) (targets (state_in part k))) (places_from k.objects (maps_of insns)) c.new.ensures.insns
+      (c.new.ensures.named ∙ c.in_ok-program.ensures.entries ∙ ap (entries_of (maps_of insns)) (c.deref.ensures.value ∙ c.in-Ok.ensures part))
+      (c.new.ensures.maps ∙ ap (zip (maps_of insns)) maps ∙ loaded_pairs c.loaded_maps_have_shapes.ensures k part insns (accepted part))
 
 pub returns-in-Ok-maps_named-clause-found : goal.returns-in-Ok-maps_named-clause-found
 returns-in-Ok-maps_named-clause-found c = λ part. same_program c part ∙ ap (loaded_program (state_in part c.args.self.now)) (sym c.new.ensures.insns)
 
 pub returns-in-Ok-maps_named-clause-bound : goal.returns-in-Ok-maps_named-clause-bound
 returns-in-Ok-maps_named-clause-bound c =
-    let k = c.args.self.now in
-    let insns = c.in_ok-program.program.code in
-    let is : IsWellFormedTenant k = subst (λ (k : KeptTenant). IsWellFormedTenant k) c.self.view_is c.self.invariant in
-    let listed : c.deref.result.now ≡ targets (state_in [] k) = c.deref.ensures.value ∙ c.in-Ok.ensures [] in
-    subst (IsBound k.live) (sym (same_program c []))
-    (loaded_bound c.loaded_maps_have_shapes.ensures c.maps_are_listed.ensures k [] insns is (subst (IsAccepted insns) listed c.in_ok-program.ensures.judges.2))
+    subst (IsBound c.args.self.now.live) (sym (same_program c []))
+    (loaded_bound c.loaded_maps_have_shapes.ensures c.args.self.now [] c.in_ok-program.program.code (accepted c []) c.maps_are_listed.ensures (kept c))
 
 pub returns-in-Ok-maps_named-clause-there : goal.returns-in-Ok-maps_named-clause-there
 returns-in-Ok-maps_named-clause-there c =
-    let k = c.args.self.now in
-    let is : IsWellFormedTenant k = subst (λ (k : KeptTenant). IsWellFormedTenant k) c.self.view_is c.self.invariant in
-    subst (λ (l : LoadedProgram). AreLive k.live (map_places l)) (sym (same_program c [])) (loaded_live k is (maps_of c.in_ok-program.program.code))
+    subst (λ (l : LoadedProgram). AreLive c.args.self.now.live (map_places l)) (sym (same_program c [])) (loaded_live (kept c) (maps_of c.in_ok-program.program.code))

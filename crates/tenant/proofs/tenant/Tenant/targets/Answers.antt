@@ -1,5 +1,6 @@
 use Rattle.std.proofs.Common.{◌≡◌, ℕ, ◌+◌, ◌-◌, List, ◌++◌, length, take, Vec, Global, Option, Some, refl, sym, ap, subst, ◌∙◌, arith}
 use Rattle.std.proofs.Math.Seq.{take-length}
+use Rattle.std.proofs.lemmas.List.{append-nil}
 use Rattle.fd_table.specs.Table.{first_descriptor, named}
 use Rattle.tagged_model.specs.Cells.{and_then}
 use Rattle.tagged_model.specs.declared.shape.Named.{Named}
@@ -7,7 +8,7 @@ use Rattle.tagged_model.specs.declared.shape.Target.{Target}
 use Rattle.tenant.specs.declared.object.OpenObject.{OpenObject}
 use Rattle.tenant.specs.Kept.{KeptTenant, IsWellFormedTenant, state_in}
 use Rattle.tenant.specs.Machine.{object_target, entry_of, targets_from}
-use Rattle.tenant.proofs.Targets.{targets-none, targets-more, with_nothing}
+use Rattle.tenant.proofs.Targets.{targets-none, targets-more}
 use Rattle.tenant.proofs.tenant.Tenant.targets.Goals as goal
 use Rattle.tenant.proofs.tenant.Tenant.targets.Goals.{in-Some+in_ok-push, in_default}
 
@@ -31,7 +32,7 @@ loop-fd-preserved c = λ part.
           ∙ ap (λ (ns : List Named). ns ++ entry_of fd (Some w.in-Some.target)) before
           ∙ ap (λ (o : Option Target). before_all ++ entry_of fd o) (sym w.in-Some.is) ∙ ap (λ (ns : List Named). before_all ++ ns) told ∙ sym more
       | in_default w ↦
-          ap (λ (v : Vec Named Global). v.items) w.found-is ∙ before ∙ sym (with_nothing before_all) ∙ ap (λ (o : Option Target). before_all ++ entry_of fd o) (sym w.in_default.is) ∙ ap (λ (ns : List Named). before_all ++ ns) told ∙ sym more
+          ap (λ (v : Vec Named Global). v.items) w.found-is ∙ before ∙ sym (append-nil before_all) ∙ ap (λ (o : Option Target). before_all ++ entry_of fd o) (sym w.in_default.is) ∙ ap (λ (ns : List Named). before_all ++ ns) told ∙ sym more
     ]
 
 pub returns : goal.returns

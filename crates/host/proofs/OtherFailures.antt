@@ -14,7 +14,7 @@ use Rattle.host.specs.program.Statuses.{exit_status, failure_on, failure_after}
 use Rattle.host.specs.inside.program.Frames.{stream_end, ServesNewHost}
 use Rattle.host.specs.inside.program.Rewriting.{IsInputRefused, HasNoInput, Streams, StopsRewriting}
 use Rattle.host.specs.declared.program.failure.Failure.{Failure}
-use Rattle.host.specs.declared.program.failure.Failure.TheVariants.{WrongArguments, MapArgument, Truncated, TooManyFrames, TooLong, Line, Slot, Read, Write, Memory}
+use Rattle.host.specs.declared.program.failure.Failure.TheVariants.{TooLong, Read, Memory}
 use Rattle.host.specs.declared.program.texts.TextTask.{TextTask}
 use Rattle.host.specs.declared.program.texts.TextTask.TheVariants.{Assemble, Disassemble}
 
@@ -25,23 +25,12 @@ IsOther failure = exit_status failure ≢ 2
 -- ---- faults of a text and of slots
 
 on_line : (line : ℕ) (kind : TextFaultKind) → IsOther (failure_on line kind)
-on_line line text.Syntax = λ e. omega (arith, e)
-on_line line text.Range = λ e. omega (arith, e)
-on_line line text.UnknownLabel = λ e. omega (arith, e)
-on_line line text.LabelTwice = λ e. omega (arith, e)
-on_line line text.TooLong = λ e. omega (arith, e)
-on_line line text.Empty = λ e. omega (arith, e)
 on_line line text.Memory = λ e. omega (arith, e)
+on_line line other = λ e. omega (arith, e)
 
 at_slot : (slot : ℕ) (kind : FaultKind) → IsOther (failure_at slot kind)
-at_slot slot codec.Opcode = λ e. omega (arith, e)
-at_slot slot codec.Reserved = λ e. omega (arith, e)
-at_slot slot codec.Register = λ e. omega (arith, e)
-at_slot slot codec.SecondSlot = λ e. omega (arith, e)
-at_slot slot codec.Ragged = λ e. omega (arith, e)
-at_slot slot codec.Empty = λ e. omega (arith, e)
-at_slot slot codec.TooLong = λ e. omega (arith, e)
 at_slot slot codec.Memory = λ e. omega (arith, e)
+at_slot slot other = λ e. omega (arith, e)
 
 -- ---- refused inputs
 
@@ -59,13 +48,7 @@ unread : (failure : Failure) (old new : Streams) → HasNoInput failure old.inpu
 unread TooLong old new is = λ e. omega (arith, e)
 unread Read old new is = λ e. omega (arith, e)
 unread Memory old new is = λ e. omega (arith, e)
-unread WrongArguments old new is = absurd is
-unread (MapArgument number) old new is = absurd is
-unread (Truncated frames) old new is = absurd is
-unread TooManyFrames old new is = absurd is
-unread (Line line kind) old new is = absurd is
-unread (Slot slot kind) old new is = absurd is
-unread Write old new is = absurd is
+unread other old new is = absurd is
 
 pub stops_otherwise : (made : List ℕ → List ℕ → Type 0) (refused : List ℕ → Failure → Type 0)
     → ((input : List ℕ) (failure : Failure) → refused input failure → IsOther failure)
@@ -81,11 +64,8 @@ stops_otherwise made refused otherwise old new failure (inr (inr unwritten)) = �
 -- ---- streams
 
 stream_otherwise : (kind : ServeFaultKind) (frames : ℕ) → IsOther (failure_after kind frames)
-stream_otherwise fault.Read frames = λ e. omega (arith, e)
-stream_otherwise fault.Write frames = λ e. omega (arith, e)
-stream_otherwise fault.Truncated frames = λ e. omega (arith, e)
-stream_otherwise fault.TooManyFrames frames = λ e. omega (arith, e)
 stream_otherwise fault.Memory frames = λ e. omega (arith, e)
+stream_otherwise other frames = λ e. omega (arith, e)
 
 ends_otherwise : (served : Result ℕ ServeFault) → IfErr (stream_end served) IsOther
 ends_otherwise (Ok count) = tt

@@ -87,11 +87,7 @@ created_err (Some g) old shape f new (is, same) = inl (ap Some (same_fault f g i
     same_fault : (f g : MapFault) → let a : Result ℕ MapFault = Err f in let b : Result ℕ MapFault = Err g in a ≡ b → g ≡ f
     same_fault f g e = cc
 created_err None old shape fault.Memory new is = inr (refl, refl, is)
-created_err None old shape fault.NoEntry new h = absurd h
-created_err None old shape fault.TooBig new h = absurd h
-created_err None old shape fault.Exists new h = absurd h
-created_err None old shape fault.Invalid new h = absurd h
-created_err None old shape fault.NoSpace new h = absurd h
+created_err None old shape other new h = absurd h
 
 -- ---- a map that is new
 

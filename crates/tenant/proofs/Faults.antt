@@ -1,6 +1,6 @@
 -- An answer with the status of a fault has no payload: a test run that faults is the only command so answered.
-use Rattle.std.proofs.Common.{Result, Ok, Err, ◌≡◌, ◌≢◌, ℕ, ◌+◌, Bool, true, false, List, [], ◌++◌, length, Option, Some, None, refl, sym, ap, subst, ◌∙◌, arith, get_or, inl, inr}
-use Rattle.std.specs.Prelude.{ℤ, pos, ◌==◌, ◌||◌, nat_lt, if◌then◌else◌, MatchBool, take, drop}
+use Rattle.std.proofs.Common.{Result, Ok, Err, ◌≡◌, ◌≢◌, ℕ, Bool, true, false, List, [], ◌++◌, length, Option, Some, None, refl, sym, ap, subst, ◌∙◌, arith, get_or, inl, inr}
+use Rattle.std.specs.Prelude.{ℤ, pos, ◌==◌, nat_lt, if◌then◌else◌, MatchBool}
 use Rattle.std.specs.Int.{w32, cast_unsigned}
 use Rattle.byteorder.specs.Endian.{little_bytes}
 use Rattle.command_frames.specs.Command.{Command, map_create, map_lookup, map_update, map_delete, map_next_key, prog_load, prog_test_run, close, parsed}
@@ -27,6 +27,9 @@ use Rattle.tenant.specs.Alone.{AnswersFrame, MayReply, IsFault}
 use Rattle.tenant.specs.Errno.{status_of}
 use Rattle.tenant.specs.Machine.{Answer, targets, ran, refuses, codec_errno, verdict_errno, created_as, created_under, created, room_for, kind_of, asked_shape, of_object, of_place, on_map, gives_if_found, element_put, element_taken_out, LoadJudgement, accepted, rejected, Judges, answer_of_judgement, LoadsUnder, outcome_answer, run_of, longest_packet, closed, Answers}
 use Rattle.tenant.specs.State.{Map, TenantState, live}
+use Rattle.tenant.proofs.LookUps.{has_size}
+use Rattle.tenant.proofs.NextKeys.{is_empty_or_fits}
+use Rattle.tenant.proofs.Updates.{has_sizes, key_of, value_of, put_of}
 
 -- the lowest byte of a status
 abbrev pub low : ℤ → ℕ
@@ -40,16 +43,6 @@ IsBare a = low a.status ≡ 242 → a.payload ≡ []
 no_zero : (payload : List ℕ) → low (pos 0) ≡ 242 → payload ≡ []
 no_zero payload e = let wrong : 0 ≡ 242 = e in absurd (omega (arith, wrong))
 
-pub codec_other : (k : FaultKind) → low (status_of (codec_errno k)) ≢ 242
-codec_other kind.Opcode e = let wrong : 234 ≡ 242 = e in absurd (omega (arith, wrong))
-codec_other kind.Reserved e = let wrong : 234 ≡ 242 = e in absurd (omega (arith, wrong))
-codec_other kind.Register e = let wrong : 234 ≡ 242 = e in absurd (omega (arith, wrong))
-codec_other kind.SecondSlot e = let wrong : 234 ≡ 242 = e in absurd (omega (arith, wrong))
-codec_other kind.Ragged e = let wrong : 234 ≡ 242 = e in absurd (omega (arith, wrong))
-codec_other kind.Empty e = let wrong : 249 ≡ 242 = e in absurd (omega (arith, wrong))
-codec_other kind.TooLong e = let wrong : 249 ≡ 242 = e in absurd (omega (arith, wrong))
-codec_other kind.Memory e = let wrong : 244 ≡ 242 = e in absurd (omega (arith, wrong))
-
 invalid : ◌≢◌ {A = ℕ} 234 242
 invalid e = absurd (omega (arith, e))
 
@@ -62,34 +55,26 @@ not_open e = absurd (omega (arith, e))
 no_memory : ◌≢◌ {A = ℕ} 244 242
 no_memory e = absurd (omega (arith, e))
 
+too_big : ◌≢◌ {A = ℕ} 249 242
+too_big e = absurd (omega (arith, e))
+
+pub codec_other : (k : FaultKind) → low (status_of (codec_errno k)) ≢ 242
+codec_other kind.Empty = too_big
+codec_other kind.TooLong = too_big
+codec_other kind.Memory = no_memory
+codec_other other = invalid
+
 pub verdict_other : (why : Reason) → low (status_of (verdict_errno why)) ≢ 242
 verdict_other reason.JumpOutside = invalid
 verdict_other reason.JumpBackward = invalid
 verdict_other reason.FallsOff = invalid
 verdict_other reason.Unreachable = invalid
 verdict_other reason.UnknownHelper = invalid
-verdict_other reason.FramePointerWritten = denied
 verdict_other reason.DescriptorNotOpen = not_open
 verdict_other reason.DescriptorNotMap = invalid
 verdict_other reason.NoDirectValue = invalid
-verdict_other reason.UnreadableRegister = denied
-verdict_other reason.ResultNotScalar = denied
-verdict_other reason.NotPointer = denied
-verdict_other reason.PointerArithmetic = denied
-verdict_other reason.OffsetTooLarge = denied
-verdict_other reason.OutsideStack = denied
-verdict_other reason.UnalignedStack = denied
-verdict_other reason.UnwrittenStack = denied
-verdict_other reason.PartOfSpill = denied
-verdict_other reason.OutsideValue = denied
-verdict_other reason.MaybeNull = denied
-verdict_other reason.ContextAccess = denied
-verdict_other reason.PointerStored = denied
-verdict_other reason.PointerComparison = denied
-verdict_other reason.HelperArgument = denied
-verdict_other reason.LengthUnbounded = denied
-verdict_other reason.UnalignedAtomic = denied
 verdict_other reason.Memory = no_memory
+verdict_other other = denied
 
 -- ---- command by command
 
@@ -121,6 +106,10 @@ bare_on_map s fd f each e = of_objects (table.named s.objects fd) e
 bare_if : (right : Bool) (errno : Errno) (s : TenantState) (a : Answer) → IsBare a → IsBare (if right then a else refuses errno s)
 bare_if true errno s a bare = bare
 bare_if false errno s a bare = λ e. refl
+
+-- a command on a map, of which the sizes are tested
+bare_tested : (s : TenantState) (fd : ℕ) (fits : Map → Bool) (f : ℕ → Map → Answer) → ((place : ℕ) (t : Map) → IsBare (f place t)) → IsBare (on_map s fd (λ p t. if fits t then f p t else refuses Invalid s))
+bare_tested s fd fits f each = bare_on_map s fd _ (λ place t. bare_if (fits t) Invalid s (f place t) (each place t))
 
 bare_found : (s : TenantState) (o : Option (List ℕ)) → IsBare (gives_if_found s o)
 bare_found s None e = refl
@@ -172,15 +161,12 @@ bare_closed s fd (Some o) e = refl
 
 bare_answer : (refusals : List Bool) (s : TenantState) (command : Command) (a : Answer) → Answers refusals s command a → IsBare a
 bare_answer refusals s (map_create kind key value max flags) a h = bare_told a _ h (bare_created (refused_at_first refusals) s (asked_shape (kind_of kind) key value max flags))
-bare_answer refusals s (map_lookup fd key) a h =
-    bare_told a _ h (bare_on_map s fd _ (λ place t. bare_if (length key == t.shape.key_size) Invalid s (gives_if_found s (look_up t key)) (bare_found s (look_up t key))))
+bare_answer refusals s (map_lookup fd key) a h = bare_told a _ h (bare_tested s fd (has_size key) _ (λ place t. bare_found s (look_up t key)))
 bare_answer refusals s (map_update fd flags bytes) a h =
-    bare_told a _ h (bare_on_map s fd _ (λ place t. bare_if (length bytes == t.shape.key_size + t.shape.value_size) Invalid s _
-    (bare_put (refused_at_first refusals) s place t (take t.shape.key_size bytes) (drop t.shape.key_size bytes) (verdict t (take t.shape.key_size bytes) flags))))
-bare_answer refusals s (map_delete fd key) a h =
-    bare_told a _ h (bare_on_map s fd _ (λ place t. bare_if (length key == t.shape.key_size) Invalid s (element_taken_out s place t key (removal t key)) (bare_taken s place t key (removal t key))))
-bare_answer refusals s (map_next_key fd key) a h =
-    bare_told a _ h (bare_on_map s fd _ (λ place t. bare_if (length key == 0 || length key == t.shape.key_size) Invalid s (gives_if_found s (next_of t key)) (bare_found s (next_of t key))))
+    bare_told a _ h (bare_tested s fd (has_sizes bytes) (put_of (refused_at_first refusals) s flags bytes)
+    (λ place t. bare_put (refused_at_first refusals) s place t (key_of t.shape bytes) (value_of t.shape bytes) (verdict t (key_of t.shape bytes) flags)))
+bare_answer refusals s (map_delete fd key) a h = bare_told a _ h (bare_tested s fd (has_size key) _ (λ place t. bare_taken s place t key (removal t key)))
+bare_answer refusals s (map_next_key fd key) a h = bare_told a _ h (bare_tested s fd (is_empty_or_fits key) _ (λ place t. bare_found s (next_of t key)))
 bare_answer refusals s (prog_load kind slots) a h = bare_loads (kind == 1) (refused_at_first refusals) s slots a (refuses Invalid s) refl h
 bare_answer refusals s (prog_test_run fd words packet) a h = bare_told a _ h (bare_run refusals s words packet (table.named s.objects fd))
 bare_answer refusals s (close fd) a h = bare_told a _ h (bare_closed s fd (table.named s.objects fd))

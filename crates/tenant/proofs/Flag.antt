@@ -1,6 +1,6 @@
 -- Where a tenant's flag is clear no refusal was taken.
-use Rattle.std.proofs.Common.{Result, Ok, Err, subst, ◌≡◌, ℕ, ◌+◌, Bool, true, false, List, [], ◌∷◌, length, Option, Some, None, refl, sym, ap, ◌∙◌}
-use Rattle.std.specs.Prelude.{option_map, ◌==◌, ◌||◌, nat_lt, if◌then◌else◌, MatchBool, take, drop}
+use Rattle.std.proofs.Common.{Result, Ok, Err, subst, ◌≡◌, ℕ, Bool, true, false, List, [], ◌∷◌, length, Option, Some, None, refl, sym, ap, ◌∙◌}
+use Rattle.std.specs.Prelude.{option_map, ◌==◌, ◌||◌, nat_lt, if◌then◌else◌, MatchBool}
 use Rattle.command_frames.specs.Command.{Command, map_create, map_lookup, map_update, map_delete, map_next_key, prog_load, prog_test_run, close, parsed}
 use Rattle.fd_table.specs.Table as table
 use Rattle.tagged_model.specs.declared.shape.MapShape.{MapShape}
@@ -21,6 +21,9 @@ use Rattle.tenant.specs.State.{Map, TenantState, live}
 use Rattle.command_frames.specs.declared.command.BadFrame.{BadFrame}
 use Rattle.tenant.specs.Alone.{AnswersFrame, RepliesUnder, MayReply, IsToldAlone, AloneWithRefusals}
 use Rattle.tenant.specs.Machine.{Answer, of_object, of_place, on_map, element_put, created_at, created_as, created_under, created, room_for, kind_of, asked_shape, refuses, maps_left, maps_given, outcome_answer, ran, run_of, longest_packet, LoadsAs, LoadsUnder, Answers, LoadJudgement, accepted, rejected, answer_of_judgement, gives_if_found, element_taken_out, closed}
+use Rattle.tenant.proofs.LookUps.{has_size}
+use Rattle.tenant.proofs.NextKeys.{is_empty_or_fits}
+use Rattle.tenant.proofs.Updates.{has_sizes, key_of, value_of, put_of}
 
 -- an answer with these refusals, and the one without: where the flag is clear after the first, they are one, and it was clear
 abbrev pub Clear : TenantState → Answer → Answer → Type 0
@@ -109,89 +112,63 @@ clear_run tell r s words packet (Some (object.Program l)) e = by_length (nat_lt 
 
 -- ---- a load
 
-loads_as : (b : Bool) (s : TenantState) (fd : ℕ) (slots : List ℕ) (a : Answer) → LoadsAs b s fd slots a → a.after.refused ≡ false → LoadsAs false s fd slots a
-loads_as true s fd slots a is e = no _ (sym (ap (λ (x : Answer). x.after.refused) is) ∙ e)
-loads_as false s fd slots a is e = is
-
-loads_under : (b : Bool) (s : TenantState) (o : Option ℕ) (slots : List ℕ) (a : Answer) → LoadsUnder b s o slots a → a.after.refused ≡ false → LoadsUnder false s o slots a
-loads_under b s None slots a is e = is
-loads_under b s (Some fd) slots a is e = loads_as b s fd slots a is e
-
-loads_by : (b socket : Bool) (s : TenantState) (o : Option ℕ) (slots : List ℕ) (x a : Answer) → MatchBool socket (LoadsUnder b s o slots a) (a ≡ x) → a.after.refused ≡ false
-    → MatchBool socket (LoadsUnder false s o slots a) (a ≡ x)
-loads_by b true s o slots x a is e = loads_under b s o slots a is e
-loads_by b false s o slots x a is e = is
-
--- ---- every command
-
-told_by : (s : TenantState) (x y a : Answer) → Clear s x y → a ≡ x → a.after.refused ≡ false → a ≡ y
-told_by s x y a clear is e = is ∙ (clear (sym (ap (λ (b : Answer). b.after.refused) is) ∙ e)).0
-
--- where the flag is clear after a command, it is as if no memory might be refused
-pub clear_answer : RefusalsAreTold → (r : List Bool) (s : TenantState) (command : Command) (a : Answer) → Answers r s command a → a.after.refused ≡ false → Answers [] s command a
-clear_answer tell r s (prog_load kind slots) a is e = loads_by (refused_at_first r) (kind == 1) s (table.lowest s.objects) slots _ a is e
-clear_answer tell r s (map_create kind key value max flags) a is e = told_by s _ _ a (clear_created (refused_at_first r) s (asked_shape (kind_of kind) key value max flags)) is e
-clear_answer tell r s (map_lookup fd key) a is e = is
-clear_answer tell r s (map_update fd flags bytes) a is e =
-    told_by s _ _ a (clear_on_map s fd _ _ (λ place t. clear_if (length bytes == t.shape.key_size + t.shape.value_size) s _ _ (refuses Invalid s)
-    (clear_put (refused_at_first r) s place t (take t.shape.key_size bytes) (drop t.shape.key_size bytes) (verdict t (take t.shape.key_size bytes) flags)) refl)) is e
-clear_answer tell r s (map_delete fd key) a is e = is
-clear_answer tell r s (map_next_key fd key) a is e = is
-clear_answer tell r s (prog_test_run fd words packet) a is e = told_by s _ _ a (clear_run tell r s words packet (table.named s.objects fd)) is e
-clear_answer tell r s (close fd) a is e = is
-
--- ---- and it was clear before
-
-kept_found : (s : TenantState) (o : Option (List ℕ)) → Clear s (gives_if_found s o) (gives_if_found s o)
-kept_found s None e = (refl, e)
-kept_found s (Some v) e = (refl, e)
-
-kept_taken : (s : TenantState) (place : ℕ) (t : Map) (key : List ℕ) (r : Result (List ℕ) MapFault) → Clear s (element_taken_out s place t key r) (element_taken_out s place t key r)
-kept_taken s place t key (Err fault) e = (refl, e)
-kept_taken s place t key (Ok v) e = (refl, e)
-
-kept_closed : (s : TenantState) (fd : ℕ) (o : Option OpenObject) → Clear s (closed s fd o) (closed s fd o)
-kept_closed s fd None e = (refl, e)
-kept_closed s fd (Some o) e = (refl, e)
-
 kept_judged : (s : TenantState) (fd : ℕ) (j : LoadJudgement) → (answer_of_judgement s fd j).after.refused ≡ s.refused
 kept_judged s fd (accepted insns) = refl
 kept_judged s fd (rejected errno slot number) = refl
 
-kept_loads_as : (b : Bool) (s : TenantState) (fd : ℕ) (slots : List ℕ) (a : Answer) → LoadsAs b s fd slots a → a.after.refused ≡ false → s.refused ≡ false
-kept_loads_as true s fd slots a is e = no _ (sym (ap (λ (x : Answer). x.after.refused) is) ∙ e)
-kept_loads_as false s fd slots a (j, judges, is) e = sym (kept_judged s fd j) ∙ sym (ap (λ (x : Answer). x.after.refused) is) ∙ e
+loads_as : (b : Bool) (s : TenantState) (fd : ℕ) (slots : List ℕ) (a : Answer) → LoadsAs b s fd slots a → a.after.refused ≡ false → LoadsAs false s fd slots a × (s.refused ≡ false)
+loads_as true s fd slots a is e = no _ (sym (ap (λ (x : Answer). x.after.refused) is) ∙ e)
+loads_as false s fd slots a (j, judges, is) e = ((j, judges, is), sym (kept_judged s fd j) ∙ sym (ap (λ (x : Answer). x.after.refused) is) ∙ e)
 
-kept_loads_under : (b : Bool) (s : TenantState) (o : Option ℕ) (slots : List ℕ) (a : Answer) → LoadsUnder b s o slots a → a.after.refused ≡ false → s.refused ≡ false
-kept_loads_under b s None slots a is e = sym (ap (λ (x : Answer). x.after.refused) is) ∙ e
-kept_loads_under b s (Some fd) slots a is e = kept_loads_as b s fd slots a is e
+loads_under : (b : Bool) (s : TenantState) (o : Option ℕ) (slots : List ℕ) (a : Answer) → LoadsUnder b s o slots a → a.after.refused ≡ false → LoadsUnder false s o slots a × (s.refused ≡ false)
+loads_under b s None slots a is e = (is, sym (ap (λ (x : Answer). x.after.refused) is) ∙ e)
+loads_under b s (Some fd) slots a is e = loads_as b s fd slots a is e
 
-kept_loads : (b socket : Bool) (s : TenantState) (o : Option ℕ) (slots : List ℕ) (a : Answer) → MatchBool socket (LoadsUnder b s o slots a) (a ≡ refuses Invalid s) → a.after.refused ≡ false
-    → s.refused ≡ false
-kept_loads b true s o slots a is e = kept_loads_under b s o slots a is e
-kept_loads b false s o slots a is e = sym (ap (λ (x : Answer). x.after.refused) is) ∙ e
+loads_by : (b socket : Bool) (s : TenantState) (o : Option ℕ) (slots : List ℕ) (a : Answer) → MatchBool socket (LoadsUnder b s o slots a) (a ≡ refuses Invalid s) → a.after.refused ≡ false
+    → MatchBool socket (LoadsUnder false s o slots a) (a ≡ refuses Invalid s) × (s.refused ≡ false)
+loads_by b true s o slots a is e = loads_under b s o slots a is e
+loads_by b false s o slots a is e = (is, sym (ap (λ (x : Answer). x.after.refused) is) ∙ e)
 
-was_by : (s : TenantState) (x y a : Answer) → Clear s x y → a ≡ x → a.after.refused ≡ false → s.refused ≡ false
-was_by s x y a clear is e = (clear (sym (ap (λ (b : Answer). b.after.refused) is) ∙ e)).1
+-- ---- every command
 
-was_clear : RefusalsAreTold → (r : List Bool) (s : TenantState) (command : Command) (a : Answer) → Answers r s command a → a.after.refused ≡ false → s.refused ≡ false
-was_clear tell r s (prog_load kind slots) a is e = kept_loads (refused_at_first r) (kind == 1) s (table.lowest s.objects) slots a is e
-was_clear tell r s (map_create kind key value max flags) a is e = was_by s _ _ a (clear_created (refused_at_first r) s (asked_shape (kind_of kind) key value max flags)) is e
-was_clear tell r s (map_lookup fd key) a is e = was_by s _ _ a (clear_on_map s fd _ _ (λ place t. clear_if (length key == t.shape.key_size) s _ _ (refuses Invalid s) (kept_found s (look_up t key)) refl)) is e
-was_clear tell r s (map_update fd flags bytes) a is e =
-    was_by s _ _ a (clear_on_map s fd _ _ (λ place t. clear_if (length bytes == t.shape.key_size + t.shape.value_size) s _ _ (refuses Invalid s)
-    (clear_put (refused_at_first r) s place t (take t.shape.key_size bytes) (drop t.shape.key_size bytes) (verdict t (take t.shape.key_size bytes) flags)) refl)) is e
-was_clear tell r s (map_delete fd key) a is e = was_by s _ _ a (clear_on_map s fd _ _ (λ place t. clear_if (length key == t.shape.key_size) s _ _ (refuses Invalid s) (kept_taken s place t key (removal t key)) refl)) is e
-was_clear tell r s (map_next_key fd key) a is e =
-    was_by s _ _ a (clear_on_map s fd _ _ (λ place t. clear_if (length key == 0 || length key == t.shape.key_size) s _ _ (refuses Invalid s) (kept_found s (next_of t key)) refl)) is e
-was_clear tell r s (prog_test_run fd words packet) a is e = was_by s _ _ a (clear_run tell r s words packet (table.named s.objects fd)) is e
-was_clear tell r s (close fd) a is e = was_by s _ _ a (kept_closed s fd (table.named s.objects fd)) is e
+clear_found : (s : TenantState) (o : Option (List ℕ)) → Clear s (gives_if_found s o) (gives_if_found s o)
+clear_found s None e = (refl, e)
+clear_found s (Some v) e = (refl, e)
+
+clear_taken : (s : TenantState) (place : ℕ) (t : Map) (key : List ℕ) (r : Result (List ℕ) MapFault) → Clear s (element_taken_out s place t key r) (element_taken_out s place t key r)
+clear_taken s place t key (Err fault) e = (refl, e)
+clear_taken s place t key (Ok v) e = (refl, e)
+
+clear_closed : (s : TenantState) (fd : ℕ) (o : Option OpenObject) → Clear s (closed s fd o) (closed s fd o)
+clear_closed s fd None e = (refl, e)
+clear_closed s fd (Some o) e = (refl, e)
+
+-- a command on a map, of which the sizes are tested
+clear_tested : (s : TenantState) (fd : ℕ) (fits : Map → Bool) (f g : ℕ → Map → Answer) → ((place : ℕ) (t : Map) → Clear s (f place t) (g place t))
+    → Clear s (on_map s fd (λ p t. if fits t then f p t else refuses Invalid s)) (on_map s fd (λ p t. if fits t then g p t else refuses Invalid s))
+clear_tested s fd fits f g each = clear_on_map s fd _ _ (λ place t. clear_if (fits t) s (f place t) (g place t) (refuses Invalid s) (each place t) refl)
+
+told_by : (s : TenantState) (x y a : Answer) → Clear s x y → a ≡ x → a.after.refused ≡ false → (a ≡ y) × (s.refused ≡ false)
+told_by s x y a clear is e = let both = clear (sym (ap (λ (b : Answer). b.after.refused) is) ∙ e) in (is ∙ both.0, both.1)
+
+-- where the flag is clear after a command, it is as if no memory might be refused, and it was clear before
+pub clear_answer : RefusalsAreTold → (r : List Bool) (s : TenantState) (command : Command) (a : Answer) → Answers r s command a → a.after.refused ≡ false → Answers [] s command a × (s.refused ≡ false)
+clear_answer tell r s (prog_load kind slots) a is e = loads_by (refused_at_first r) (kind == 1) s (table.lowest s.objects) slots a is e
+clear_answer tell r s (map_create kind key value max flags) a is e = told_by s _ _ a (clear_created (refused_at_first r) s (asked_shape (kind_of kind) key value max flags)) is e
+clear_answer tell r s (map_lookup fd key) a is e = told_by s _ _ a (clear_tested s fd (has_size key) _ _ (λ place t. clear_found s (look_up t key))) is e
+clear_answer tell r s (map_update fd flags bytes) a is e =
+    told_by s _ _ a (clear_tested s fd (has_sizes bytes) (put_of (refused_at_first r) s flags bytes) (put_of false s flags bytes)
+    (λ place t. clear_put (refused_at_first r) s place t (key_of t.shape bytes) (value_of t.shape bytes) (verdict t (key_of t.shape bytes) flags))) is e
+clear_answer tell r s (map_delete fd key) a is e = told_by s _ _ a (clear_tested s fd (has_size key) _ _ (λ place t. clear_taken s place t key (removal t key))) is e
+clear_answer tell r s (map_next_key fd key) a is e = told_by s _ _ a (clear_tested s fd (is_empty_or_fits key) _ _ (λ place t. clear_found s (next_of t key))) is e
+clear_answer tell r s (prog_test_run fd words packet) a is e = told_by s _ _ a (clear_run tell r s words packet (table.named s.objects fd)) is e
+clear_answer tell r s (close fd) a is e = told_by s _ _ a (clear_closed s fd (table.named s.objects fd)) is e
 
 -- ---- frames
 
 clear_frame : RefusalsAreTold → (r : List Bool) (s : TenantState) (p : Result Command BadFrame) (a : Answer) → AnswersFrame r s p a → a.after.refused ≡ false → AnswersFrame [] s p a × (s.refused ≡ false)
 clear_frame tell r s (Err fault) a is e = (is, sym (ap (λ (x : Answer). x.after.refused) is) ∙ e)
-clear_frame tell r s (Ok command) a is e = (clear_answer tell r s command a is e, was_clear tell r s command a is e)
+clear_frame tell r s (Ok command) a is e = clear_answer tell r s command a is e
 
 -- a tenant has a state, and its flag is clear
 abbrev HasClear : Option TenantState → Type 0

@@ -3,7 +3,7 @@ use Rattle.std.proofs.Common.{◌≡◌, ℕ, ◌+◌, Bool, true, false, List, 
 use Rattle.std.specs.Prelude.{◌==◌, MatchBool}
 use Rattle.command_frames.specs.declared.command.BadFrame.{BadFrame}
 use Rattle.command_frames.specs.Frame.{reply_to}
-use Rattle.command_frames.specs.Command.{Command, map_create, map_lookup, map_update, map_delete, map_next_key, prog_load, prog_test_run, close, parsed}
+use Rattle.command_frames.specs.Command.{Command, prog_load, parsed}
 use Rattle.fd_table.specs.Table as table
 use Rattle.insn_set.specs.declared.insn.Insn.{Insn}
 use Rattle.insn_codec.specs.declared.fault.CodecFault.{CodecFault}
@@ -102,13 +102,7 @@ loads_by one false refused s o slots x a b h k = h ∙ sym k
 
 pub one_answer_is : Judgements → (refusals : List Bool) (s : TenantState) (command : Command) (a b : Answer) → Answers refusals s command a → Answers refusals s command b → a ≡ b
 one_answer_is one refusals s (prog_load kind slots) a b x y = loads_by one (kind == 1) (refused_at_first refusals) s (table.lowest s.objects) slots _ a b x y
-one_answer_is one refusals s (map_create kind key value max flags) a b x y = x ∙ sym y
-one_answer_is one refusals s (map_lookup fd key) a b x y = x ∙ sym y
-one_answer_is one refusals s (map_update fd flags bytes) a b x y = x ∙ sym y
-one_answer_is one refusals s (map_delete fd key) a b x y = x ∙ sym y
-one_answer_is one refusals s (map_next_key fd key) a b x y = x ∙ sym y
-one_answer_is one refusals s (prog_test_run fd words packet) a b x y = x ∙ sym y
-one_answer_is one refusals s (close fd) a b x y = x ∙ sym y
+one_answer_is one refusals s other a b x y = x ∙ sym y
 
 -- ---- frames
 

@@ -49,11 +49,7 @@ same_fault f g e = cc
 -- where a key is new, memory alone is refused
 memory_alone : (key : List ℕ) (old : PlaceTable) (f : MapFault) (new : PlaceTable) → Claims New key old (Err f) new → (f ≡ fault.Memory) × (new ≡ old)
 memory_alone key old fault.Memory new same = (refl, same)
-memory_alone key old fault.NoEntry new h = absurd h
-memory_alone key old fault.TooBig new h = absurd h
-memory_alone key old fault.Exists new h = absurd h
-memory_alone key old fault.Invalid new h = absurd h
-memory_alone key old fault.NoSpace new h = absurd h
+memory_alone key old other new h = absurd h
 
 -- a refused claim keeps all
 refused_claim : (v : Verdict ℕ) (key : List ℕ) (old : PlaceTable) (f : MapFault) (new : PlaceTable) → Claims v key old (Err f) new → new ≡ old
@@ -92,12 +88,8 @@ abbrev Fails : Verdict (List ℕ) → MapFault → List ℕ → TenantState → 
 Fails w f key s place T value = (refused : Bool) × (is_memory (Err f) ≡ refused) × (element_put refused s place T key value w ≡ refuses (map_errno f) (flagged refused s))
 
 no_memory : (f : MapFault) → f ≢ fault.Memory → is_memory (Err f) ≡ false
-no_memory fault.Memory other = absurd (other refl)
-no_memory fault.NoEntry other = refl
-no_memory fault.TooBig other = refl
-no_memory fault.Exists other = refl
-no_memory fault.Invalid other = refl
-no_memory fault.NoSpace other = refl
+no_memory fault.Memory apart = absurd (apart refl)
+no_memory other apart = refl
 
 failed_by : (v : Verdict ℕ) (key : List ℕ) (old : PlaceTable) (f : MapFault) (new : PlaceTable) → v ≢ Refused fault.Memory → Claims v key old (Err f) new
     → (g : ℕ → List ℕ) (s : TenantState) (place : ℕ) (T : Map) (value : List ℕ) → Fails (verdict_with g v) f key s place T value

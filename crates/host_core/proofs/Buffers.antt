@@ -1,7 +1,8 @@
 -- The front of a buffer that is filled, and the front of bytes that are written.
-use Rattle.std.proofs.Common.{◌≡◌, ℕ, ◌+◌, ◌-◌, ◌≤◌, List, ◌++◌, length, take, drop, slice_range, arith, sym, ap, ◌∙◌, le_refl, drop_at, length-take-le, append_assoc, take-append-drop}
+use Rattle.std.proofs.Common.{◌≡◌, ℕ, ◌+◌, ◌-◌, ◌≤◌, List, ◌++◌, length, take, drop, slice_range, arith, sym, ap, subst, ◌∙◌, le_refl, drop_at, length-take-le, append_assoc, take-append-drop}
 use Rattle.std.proofs.lemmas.Slice.{take-put_mid_below}
 use Rattle.std.proofs.lemmas.List.{take_rest, drop-drop}
+use Rattle.host_core.specs.inside.Reading.{IsKeptFrontOf}
 use borrow.Rule.Slice.PartMut.{put_mid, post_of}
 use lib.Seq.{take-add, take-append-le, take-append_seam}
 
@@ -41,3 +42,7 @@ drop_further n count bytes rest e = ap (drop count) e ∙ drop-drop count n byte
 -- a buffer that was filled anew as a whole
 pub refilled : (n : ℕ) (new old : List ℕ) → length new ≡ n → take n (new ++ drop (length new) old) ≡ new
 refilled n new old e = ap (λ k. take k (new ++ drop (length new) old)) (sym e) ∙ take-append_seam new (drop (length new) old)
+
+-- so it still holds what it held of a frame
+pub still_holds : (kept n : ℕ) (new old : List ℕ) {back : List ℕ} (frame : List ℕ) → back ≡ take n (new ++ drop (length new) old) → length new ≡ n → IsKeptFrontOf (take kept new) frame → IsKeptFrontOf (take kept back) frame
+still_holds kept n new old frame is long stands = subst (λ (b : List ℕ). IsKeptFrontOf (take kept b) frame) (sym (is ∙ refilled n new old long)) stands

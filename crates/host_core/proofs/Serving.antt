@@ -38,17 +38,18 @@ replies_of-push t (f ∷ fs) [] frame reply len = absurd (omega arith)
 replies_of-push t (f ∷ fs) (r ∷ rs) frame reply len =
     pushed (owner f == t) r (replies_of t (fs ++ frame ∷ []) (rs ++ reply ∷ [])) (replies_of t fs rs) (replies_of t (frame ∷ []) (reply ∷ [])) (replies_of-push t fs rs frame reply (omega arith))
 
-one_by : (same : Bool) (frame reply : List ℕ) (before after : Option TenantState) → (same ≡ true → MayReply frame reply before after) → (same ≡ false → after ≡ before)
-    → AloneWithRefusals before (if same then frame ∷ [] else []) (if same then reply ∷ [] else []) after
-one_by true frame reply before after own other = (after, own refl, refl)
-one_by false frame reply before after own other = other refl
+ahead : (same : Bool) (frame reply : List ℕ) (frames replies : List (List ℕ)) (before mid after : Option TenantState) → (same ≡ true → MayReply frame reply before mid) → (same ≡ false → mid ≡ before)
+    → AloneWithRefusals mid frames replies after → AloneWithRefusals before (if same then frame ∷ frames else frames) (if same then reply ∷ replies else replies) after
+ahead true frame reply frames replies before mid after own other rest = (mid, own refl, rest)
+ahead false frame reply frames replies before mid after own other rest = subst (λ (x : Option TenantState). AloneWithRefusals x frames replies after) (other refl) rest
 
-one_alone : (t : ℕ) (frame reply : List ℕ) (before after : List TenantState) → Handles before frame reply after
-    → AloneWithRefusals (slice_get before t) (frames_of t (frame ∷ [])) (replies_of t (frame ∷ []) (reply ∷ [])) (slice_get after t)
-one_alone t frame reply before after h =
-    one_by (owner frame == t) frame reply (slice_get before t) (slice_get after t)
-    (λ e. subst (λ (n : ℕ). MayReply frame reply (slice_get before n) (slice_get after n)) (eqb-true (owner frame) t e) h.own)
-    (λ e. h.others t (λ k. eqb-false (owner frame) t e (sym k)))
+-- a frame that is handled goes ahead of those that its tenant has behind it
+handled_first : (t : ℕ) (frame reply : List ℕ) (frames replies : List (List ℕ)) (before mid : List TenantState) (after : Option TenantState) → Handles before frame reply mid → AloneWithRefusals (slice_get mid t) frames replies after
+    → AloneWithRefusals (slice_get before t) (if owner frame == t then frame ∷ frames else frames) (if owner frame == t then reply ∷ replies else replies) after
+handled_first t frame reply frames replies before mid after h rest =
+    ahead (owner frame == t) frame reply frames replies (slice_get before t) (slice_get mid t) after
+    (λ e. subst (λ (n : ℕ). MayReply frame reply (slice_get before n) (slice_get mid n)) (eqb-true (owner frame) t e) h.own)
+    (λ e. h.others t (λ k. eqb-false (owner frame) t e (sym k))) rest
 
 pub served_none : (states : List TenantState) → EachIsToldByItsMachine states [] [] states
 served_none states t = refl
@@ -57,27 +58,18 @@ served_none states t = refl
 pub served_more : (before mid after : List TenantState) (frames replies : List (List ℕ)) (frame reply : List ℕ) → length replies ≡ length frames
     → EachIsToldByItsMachine before frames replies mid → Handles mid frame reply after → EachIsToldByItsMachine before (frames ++ frame ∷ []) (replies ++ reply ∷ []) after
 served_more before mid after frames replies frame reply len served h t =
-    let more = alone_more (slice_get before t) (slice_get mid t) (slice_get after t) (frames_of t frames) (frames_of t (frame ∷ [])) (replies_of t frames replies) (replies_of t (frame ∷ []) (reply ∷ [])) (served t) (one_alone t frame reply mid after h) in
+    let more = alone_more (slice_get before t) (slice_get mid t) (slice_get after t) (frames_of t frames) (frames_of t (frame ∷ [])) (replies_of t frames replies) (replies_of t (frame ∷ []) (reply ∷ [])) (served t) (handled_first t frame reply [] [] mid after (slice_get after t) h refl) in
     let fs : frames_of t (frames ++ frame ∷ []) ≡ frames_of t frames ++ frames_of t (frame ∷ []) = filter-append (λ f. owner f == t) frames (frame ∷ []) in
     let rs = replies_of-push t frames replies frame reply len in
     rw (fs, rs) more
 
 -- ---- calls of `handle`, one after another
 
-ahead : (same : Bool) (frame reply : List ℕ) (frames replies : List (List ℕ)) (before mid after : Option TenantState) → (same ≡ true → MayReply frame reply before mid) → (same ≡ false → mid ≡ before)
-    → AloneWithRefusals mid frames replies after → AloneWithRefusals before (if same then frame ∷ frames else frames) (if same then reply ∷ replies else replies) after
-ahead true frame reply frames replies before mid after own other rest = (mid, own refl, rest)
-ahead false frame reply frames replies before mid after own other rest = subst (λ (x : Option TenantState). AloneWithRefusals x frames replies after) (other refl) rest
-
 calls_told : (before after : List TenantState) (frames replies : List (List ℕ)) → HandlesInOrder before frames replies after → EachIsToldByItsMachine before frames replies after × NoneFaults replies
 calls_told before after [] [] same = ((λ t. ap (λ (s : List TenantState). slice_get s t) same), tt)
 calls_told before after (frame ∷ frames) (reply ∷ replies) (mid, h, rest) =
-    let (told, sound) = calls_told mid after frames replies rest in (
-      (λ t. ahead (owner frame == t) frame reply (frames_of t frames) (replies_of t frames replies) (slice_get before t) (slice_get mid t) (slice_get after t)
-          (λ e. subst (λ (n : ℕ). MayReply frame reply (slice_get before n) (slice_get mid n)) (eqb-true (owner frame) t e) h.own)
-          (λ e. h.others t (λ k. eqb-false (owner frame) t e (sym k))) (told t)),
-      (h.no_fault, sound),
-    )
+    let (told, sound) = calls_told mid after frames replies rest in
+    ((λ t. handled_first t frame reply (frames_of t frames) (replies_of t frames replies) before mid (slice_get after t) h (told t)), (h.no_fault, sound))
 calls_told before after [] (reply ∷ replies) h = absurd h
 calls_told before after (frame ∷ frames) [] h = absurd h
 

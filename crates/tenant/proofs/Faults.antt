@@ -23,13 +23,14 @@ use Rattle.tenant.specs.declared.errno.Errno.TheVariants.{NotPermitted, TooBig, 
 use Rattle.tenant.specs.declared.object.OpenObject.{OpenObject}
 use Rattle.tenant.specs.declared.object.OpenObject.TheVariants as object
 use Rattle.command_frames.specs.Frame.{owner, command_number, reply_to}
-use Rattle.tenant.specs.Alone.{AnswersFrame, MayReply, IsFault}
+use Rattle.tenant.specs.Alone.{AnswersFrame, IsFault}
 use Rattle.tenant.specs.Errno.{status_of}
 use Rattle.tenant.specs.Machine.{Answer, targets, ran, refuses, codec_errno, verdict_errno, created_as, created_under, created, room_for, kind_of, asked_shape, of_object, of_place, on_map, gives_if_found, element_put, element_taken_out, LoadJudgement, accepted, rejected, Judges, answer_of_judgement, LoadsUnder, outcome_answer, run_of, longest_packet, closed, Answers}
 use Rattle.tenant.specs.State.{Map, TenantState, live}
 use Rattle.tenant.proofs.LookUps.{has_size}
 use Rattle.tenant.proofs.NextKeys.{is_empty_or_fits}
 use Rattle.tenant.proofs.Updates.{has_sizes, key_of, value_of, put_of}
+use Rattle.tenant.specs.Laws.{FaultsHaveNoPayload}
 
 -- the lowest byte of a status
 abbrev pub low : ℤ → ℕ
@@ -187,7 +188,7 @@ same_status frame status payload e none =
     ap (λ (p : List ℕ). reply_to frame status p) none
     ∙ ap (λ (b : List ℕ). little_bytes 4 8 ++ (little_bytes 2 (owner frame) ++ (little_bytes 2 (command_number frame) ++ b))) e
 
-pub faults_have_no_payload : (frame reply : List ℕ) (before after : Option TenantState) → MayReply frame reply before after → IsFault reply → reply ≡ reply_to frame (status_of BadAddress) []
+pub faults_have_no_payload : FaultsHaveNoPayload
 faults_have_no_payload frame reply None after (refusals, (goes, told)) e = absurd (unserved (nat_lt (length frame) 4) frame (subst IsFault told e))
 faults_have_no_payload frame reply (Some s) after (refusals, (a, answers, told, goes)) e =
     let fault = subst IsFault told e in

@@ -24,6 +24,7 @@ use Rattle.tenant.specs.Machine.{Answer, of_object, of_place, on_map, element_pu
 use Rattle.tenant.proofs.LookUps.{has_size}
 use Rattle.tenant.proofs.NextKeys.{is_empty_or_fits}
 use Rattle.tenant.proofs.Updates.{has_sizes, key_of, value_of, put_of}
+use Rattle.tenant.specs.Laws.{ClearFlagMeansAlone}
 
 -- an answer with these refusals, and the one without: where the flag is clear after the first, they are one, and it was clear
 abbrev pub Clear : TenantState → Answer → Answer → Type 0
@@ -192,6 +193,5 @@ clear_both tell before after (frame ∷ frames) (reply ∷ replies) (between, to
     ((between, here.0, later.0), here.1)
 
 -- if a tenant's flag is clear at the end, its replies are those of its machine without refusals
-pub clear_flag_means_alone : RefusalsAreTold → (before : Option TenantState) (after : TenantState) (frames replies : List (List ℕ)) → AloneWithRefusals before frames replies (Some after) → after.refused ≡ false
-    → IsToldAlone before frames replies (Some after)
+pub clear_flag_means_alone : RefusalsAreTold → ClearFlagMeansAlone
 clear_flag_means_alone tell before after frames replies h e = (clear_both tell before (Some after) frames replies h e).0

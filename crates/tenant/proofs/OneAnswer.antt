@@ -17,8 +17,9 @@ use Rattle.tagged_model.specs.Step.{refused_at_first}
 use Rattle.verifier.specs.Verdict.{IsAccepted, IsRefused}
 use Rattle.tenant.specs.declared.errno.Errno.{Errno}
 use Rattle.tenant.specs.State.{TenantState}
-use Rattle.tenant.specs.Machine.{Answer, LoadJudgement, accepted, rejected, Judges, IsNoProgram, IsRefusedProgram, codec_errno, verdict_errno, answer_of_judgement, targets, LoadsAs, LoadsUnder, Answers}
-use Rattle.tenant.specs.Alone.{AnswersFrame, RepliesUnder, IsToldAlone}
+use Rattle.tenant.specs.Machine.{Answer, accepted, rejected, Judges, IsNoProgram, IsRefusedProgram, codec_errno, verdict_errno, answer_of_judgement, targets, LoadsAs, LoadsUnder}
+use Rattle.tenant.specs.Alone.{AnswersFrame, IsToldAlone}
+use Rattle.tenant.specs.Laws.{OneJudgement, OneAnswer, OneReply, OneAlone}
 
 -- ---- a load
 
@@ -76,7 +77,7 @@ same_rejected one fault none refusal named slots e f m n p q (inl x) (inr y) = a
 same_rejected one fault none refusal named slots e f m n p q (inr x) (inl y) = absurd (not_malformed none named slots f e n m q p y x)
 same_rejected one fault none refusal named slots e f m n p q (inr x) (inr y) = same_unaccepted one refusal named slots e f m n p q x y
 
-pub one_judgement_is : OneProgram → OneFault → NoFault → OneRefusal → NotRefused → (named : List Named) (slots : List ℕ) (j k : LoadJudgement) → Judges named slots j → Judges named slots k → j ≡ k
+pub one_judgement_is : OneProgram → OneFault → NoFault → OneRefusal → NotRefused → OneJudgement
 one_judgement_is one fault none refusal accept named slots (accepted a) (accepted b) x y = ap accepted (one a b x.0 y.0 (sym x.1 ∙ y.1))
 one_judgement_is one fault none refusal accept named slots (accepted a) (rejected f n q) x y = absurd (not_both one none accept named slots a f n q x y)
 one_judgement_is one fault none refusal accept named slots (rejected e m p) (accepted b) x y = absurd (not_both one none accept named slots b e m p y x)
@@ -84,45 +85,36 @@ one_judgement_is one fault none refusal accept named slots (rejected e m p) (rej
 
 -- ---- an answer
 
-abbrev Judgements : Type 0
-Judgements = (named : List Named) (slots : List ℕ) (j k : LoadJudgement) → Judges named slots j → Judges named slots k → j ≡ k
-
-loads_as : Judgements → (refused : Bool) (s : TenantState) (fd : ℕ) (slots : List ℕ) (a b : Answer) → LoadsAs refused s fd slots a → LoadsAs refused s fd slots b → a ≡ b
+loads_as : OneJudgement → (refused : Bool) (s : TenantState) (fd : ℕ) (slots : List ℕ) (a b : Answer) → LoadsAs refused s fd slots a → LoadsAs refused s fd slots b → a ≡ b
 loads_as one true s fd slots a b x y = x ∙ sym y
 loads_as one false s fd slots a b (j, is, told) (k, is_too, told_too) = told ∙ ap (answer_of_judgement s fd) (one (targets s) slots j k is is_too) ∙ sym told_too
 
-loads_under : Judgements → (refused : Bool) (s : TenantState) (o : Option ℕ) (slots : List ℕ) (a b : Answer) → LoadsUnder refused s o slots a → LoadsUnder refused s o slots b → a ≡ b
+loads_under : OneJudgement → (refused : Bool) (s : TenantState) (o : Option ℕ) (slots : List ℕ) (a b : Answer) → LoadsUnder refused s o slots a → LoadsUnder refused s o slots b → a ≡ b
 loads_under one refused s None slots a b x y = x ∙ sym y
 loads_under one refused s (Some fd) slots a b x y = loads_as one refused s fd slots a b x y
 
-loads_by : Judgements → (socket refused : Bool) (s : TenantState) (o : Option ℕ) (slots : List ℕ) (x a b : Answer) → MatchBool socket (LoadsUnder refused s o slots a) (a ≡ x)
+loads_by : OneJudgement → (socket refused : Bool) (s : TenantState) (o : Option ℕ) (slots : List ℕ) (x a b : Answer) → MatchBool socket (LoadsUnder refused s o slots a) (a ≡ x)
     → MatchBool socket (LoadsUnder refused s o slots b) (b ≡ x) → a ≡ b
 loads_by one true refused s o slots x a b h k = loads_under one refused s o slots a b h k
 loads_by one false refused s o slots x a b h k = h ∙ sym k
 
-pub one_answer_is : Judgements → (refusals : List Bool) (s : TenantState) (command : Command) (a b : Answer) → Answers refusals s command a → Answers refusals s command b → a ≡ b
+pub one_answer_is : OneJudgement → OneAnswer
 one_answer_is one refusals s (prog_load kind slots) a b x y = loads_by one (kind == 1) (refused_at_first refusals) s (table.lowest s.objects) slots _ a b x y
 one_answer_is one refusals s other a b x y = x ∙ sym y
 
 -- ---- frames
 
-abbrev AllAnswers : Type 0
-AllAnswers = (refusals : List Bool) (s : TenantState) (command : Command) (a b : Answer) → Answers refusals s command a → Answers refusals s command b → a ≡ b
-
-one_frame : AllAnswers → (refusals : List Bool) (s : TenantState) (r : Result Command BadFrame) (a b : Answer) → AnswersFrame refusals s r a → AnswersFrame refusals s r b → a ≡ b
+one_frame : OneAnswer → (refusals : List Bool) (s : TenantState) (r : Result Command BadFrame) (a b : Answer) → AnswersFrame refusals s r a → AnswersFrame refusals s r b → a ≡ b
 one_frame one refusals s (Err fault) a b x y = x ∙ sym y
 one_frame one refusals s (Ok command) a b x y = one refusals s command a b x y
 
-pub one_reply_is : AllAnswers → (refusals : List Bool) (frame x y : List ℕ) (before a b : Option TenantState) → RepliesUnder refusals frame x before a → RepliesUnder refusals frame y before b → (x ≡ y) × (a ≡ b)
+pub one_reply_is : OneAnswer → OneReply
 one_reply_is one refusals frame x y None a b h k = (h.1 ∙ sym k.1, h.0 ∙ sym k.0)
 one_reply_is one refusals frame x y (Some s) a b (p, h, x_is, a_is) (q, k, y_is, b_is) =
     let same : p ≡ q = one_frame one refusals s (parsed frame) p q h k in
     (x_is ∙ ap (λ (r : Answer). reply_to frame r.status r.payload) same ∙ sym y_is, a_is ∙ ap (λ (r : Answer). Some r.after) same ∙ sym b_is)
 
-abbrev OneReply : Type 0
-OneReply = (refusals : List Bool) (frame x y : List ℕ) (before a b : Option TenantState) → RepliesUnder refusals frame x before a → RepliesUnder refusals frame y before b → (x ≡ y) × (a ≡ b)
-
-pub one_alone_is : OneReply → (before a b : Option TenantState) (frames xs ys : List (List ℕ)) → IsToldAlone before frames xs a → IsToldAlone before frames ys b → (xs ≡ ys) × (a ≡ b)
+pub one_alone_is : OneReply → OneAlone
 one_alone_is one before a b [] [] [] h k = (refl, h ∙ sym k)
 one_alone_is one before a b [] (x ∷ xs) ys h k = absurd h
 one_alone_is one before a b [] [] (y ∷ ys) h k = absurd k

@@ -1,7 +1,9 @@
 use Rattle.std.proofs.Common.{◌≡◌, ◌<◌, List, [], length, Some, None, sym, ap, ◌∙◌, arith, to_z, of_z, w32}
 use Rattle.std.specs.Prelude.{ℤ, slice_get}
 use Rattle.arena.specs.Memory.{part_bytes}
-use Rattle.command_frames.specs.Frame.{owner, reply_bytes}
+use Rattle.command_frames.specs.Frame.{head_of, owner, reply_bytes, reply_to}
+use Rattle.tenant.specs.Alone.{unserved_errno}
+use Rattle.tenant.specs.Errno.{status_of}
 use Rattle.tenant.specs.Kept.{state_in}
 use Rattle.tenant.specs.State.{TenantState}
 use Rattle.host_core.proofs.Faults.{served_is_no_fault, refusal_is_no_fault}
@@ -11,41 +13,43 @@ use Rattle.host_core.proofs.host.Host.handle.Goals as goal
 
 -- ---- a frame without a head
 
+module _ (c : goal.After-write_reply) where
+  headless : head_of c.args.frame.now ≡ None
+  headless = sym c.head.ensures ∙ c.in_default.is
+
+  told_headless : c.write_reply.new.reply ≡ reply_to c.args.frame.now (status_of (unserved_errno c.args.frame.now)) []
+  told_headless = c.write_reply.ensures ∙ ap (λ (status : ℤ). reply_bytes 65535 65535 (to_z w32 (of_z w32 status)) []) c.status.ensures ∙ refused_headless c.args.frame.now headless
+
 pub returns-in_default-clause-own : goal.returns-in_default-clause-own
 returns-in_default-clause-own c =
     let frame = c.args.frame.now in
-    let none = sym c.head.ensures ∙ c.in_default.is in
     let many = states_length c.self.inside.arena 0 c.self.inside.tenants.items in
-    let unserved : slice_get c.args.self.now (owner frame) ≡ None =
-    no_state c.args.self.now (owner frame) (omega (arith, no_head frame none, many, ap length c.self.view_is, c.self.invariant)) in
-    tells_none c.args.self.now (owner frame) frame c.write_reply.new.reply unserved
-    (c.write_reply.ensures ∙ ap (λ (status : ℤ). reply_bytes 65535 65535 (to_z w32 (of_z w32 status)) []) c.status.ensures ∙ refused_headless frame none)
+    let unserved = no_state c.args.self.now (owner frame) (omega (arith, no_head frame (headless c), many, ap length c.self.view_is, c.self.invariant)) in
+    tells_none c.args.self.now (owner frame) frame c.write_reply.new.reply unserved (told_headless c)
 
 pub returns-in_default-clause-no_fault : goal.returns-in_default-clause-no_fault
-returns-in_default-clause-no_fault c =
-    let frame = c.args.frame.now in
-    refusal_is_no_fault frame c.write_reply.new.reply
-    (c.write_reply.ensures ∙ ap (λ (status : ℤ). reply_bytes 65535 65535 (to_z w32 (of_z w32 status)) []) c.status.ensures ∙ refused_headless frame (sym c.head.ensures ∙ c.in_default.is))
+returns-in_default-clause-no_fault c = refusal_is_no_fault c.args.frame.now c.write_reply.new.reply (told_headless c)
 
 -- ---- a tenant that is not served
+
+module _ (c : goal.After-write_reply-then-tenant-served) where
+  found : head_of c.args.frame.now ≡ Some c.in-Some.head
+  found = sym c.head.ensures ∙ c.in-Some.is
+
+  told_unserved : c.write_reply-then-tenant-served.new.reply ≡ reply_to c.args.frame.now (status_of (unserved_errno c.args.frame.now)) []
+  told_unserved =
+      let head = c.in-Some.head in
+      c.write_reply-then-tenant-served.ensures ∙ ap (λ (status : ℤ). reply_bytes head.tenant head.command (to_z w32 (of_z w32 status)) []) c.status-then-tenant-served.ensures ∙ refused_headed c.args.frame.now head found
 
 pub returns-then-tenant-served-clause-own : goal.returns-then-tenant-served-clause-own
 returns-then-tenant-served-clause-own c =
     let frame = c.args.frame.now in
-    let head = c.in-Some.head in
-    let found = sym c.head.ensures ∙ c.in-Some.is in
     let many = states_length c.self.inside.arena 0 c.self.inside.tenants.items in
-    let unserved : slice_get c.args.self.now (owner frame) ≡ None =
-    no_state c.args.self.now (owner frame) (omega (arith, owner_is frame head found, c.from-tenant.ensures, many, ap length c.self.view_is, c.len-served.ensures, c.if-tenant-served.true)) in
-    tells_none c.args.self.now (owner frame) frame c.write_reply-then-tenant-served.new.reply unserved
-    (c.write_reply-then-tenant-served.ensures ∙ ap (λ (status : ℤ). reply_bytes head.tenant head.command (to_z w32 (of_z w32 status)) []) c.status-then-tenant-served.ensures ∙ refused_headed frame head found)
+    let unserved = no_state c.args.self.now (owner frame) (omega (arith, owner_is frame c.in-Some.head (found c), c.from-tenant.ensures, many, ap length c.self.view_is, c.len-served.ensures, c.if-tenant-served.true)) in
+    tells_none c.args.self.now (owner frame) frame c.write_reply-then-tenant-served.new.reply unserved (told_unserved c)
 
 pub returns-then-tenant-served-clause-no_fault : goal.returns-then-tenant-served-clause-no_fault
-returns-then-tenant-served-clause-no_fault c =
-    let frame = c.args.frame.now in
-    let head = c.in-Some.head in
-    refusal_is_no_fault frame c.write_reply-then-tenant-served.new.reply
-    (c.write_reply-then-tenant-served.ensures ∙ ap (λ (status : ℤ). reply_bytes head.tenant head.command (to_z w32 (of_z w32 status)) []) c.status-then-tenant-served.ensures ∙ refused_headed frame head (sym c.head.ensures ∙ c.in-Some.is))
+returns-then-tenant-served-clause-no_fault c = refusal_is_no_fault c.args.frame.now c.write_reply-then-tenant-served.new.reply (told_unserved c)
 
 -- ---- a tenant that is served
 

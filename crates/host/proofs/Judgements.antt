@@ -5,6 +5,7 @@ use Rattle.reg_kinds.specs.Reason.{number as reason_number}
 use Rattle.reg_kinds.specs.declared.reason.Reason.{Reason}
 use Rattle.tagged_model.specs.declared.shape.Named.{Named}
 use Rattle.verifier.specs.Verdict.{IsAccepted, IsRefused}
+use Rattle.insn_codec.specs.Fault.{fault_number}
 use Rattle.insn_codec.specs.declared.fault.FaultKind.{FaultKind}
 use Rattle.insn_codec.specs.declared.fault.FaultKind.TheVariants as codec
 use Rattle.host.specs.program.Failure.{failure_at}
@@ -71,14 +72,8 @@ module _ (input : List ℕ) (failure : Failure) (memory : (insns : List Insn) �
   -- the failure is another one
   module _ (other : (slot kind : ℕ) → failure ≡ Slot slot kind → ⊥) where
     slot_or_memory : (slot : ℕ) (kind : FaultKind) → failure ≡ failure_at slot kind → failure ≡ Memory
-    slot_or_memory slot codec.Opcode is = absurd (other slot 1 is)
-    slot_or_memory slot codec.Reserved is = absurd (other slot 2 is)
-    slot_or_memory slot codec.Register is = absurd (other slot 3 is)
-    slot_or_memory slot codec.SecondSlot is = absurd (other slot 4 is)
-    slot_or_memory slot codec.Ragged is = absurd (other slot 5 is)
-    slot_or_memory slot codec.Empty is = absurd (other slot 6 is)
-    slot_or_memory slot codec.TooLong is = absurd (other slot 7 is)
     slot_or_memory slot codec.Memory is = is
+    slot_or_memory slot kind is = absurd (other slot (fault_number kind) is)
 
     pub memory_told : (maps : List Named) (judgement : Judgement) → IsJudgement maps input judgement → failure ≡ Memory
     memory_told maps judgement (inl (insns, text, verdict)) = memory insns text

@@ -5,7 +5,7 @@ use Rattle.std.specs.Map.{lookup}
 use Rattle.std.specs.List.{list_any}
 use Rattle.std.specs.Option.{option_map_or}
 use Rattle.std.proofs.Math.Bool.{true-or}
-use Rattle.std.proofs.lemmas.Bool.{eq-eqb}
+use Rattle.std.proofs.lemmas.Bool.{eq-eqb, ltb-false}
 use Rattle.std.proofs.lemmas.List.{ext_get_or}
 use Rattle.std.proofs.lemmas.Option.{none-some, same_Some, get_or_from_slice_get}
 use Rattle.bpf_maps.specs.Live.{LiveMaps, LiveMap, live_or, live_at, holds_at}
@@ -102,17 +102,18 @@ still_named objects old t part later left held =
 -- ---- a descriptor that is closed
 
 -- what it named stood at its place
-pub closed_at : (objects : List (Option OpenObject)) (fd : ℕ) (o : OpenObject) → named objects fd ≡ Some o → (with_closed objects fd ≡ set objects (fd - first_descriptor) None) × (get_or objects (fd - first_descriptor) None ≡ Some o)
-closed_at objects fd o opened = by_test (nat_lt fd first_descriptor) opened
+pub closed_at : (objects : List (Option OpenObject)) (fd : ℕ) (o : OpenObject) → named objects fd ≡ Some o
+    → (with_closed objects fd ≡ set objects (fd - first_descriptor) None) × (get_or objects (fd - first_descriptor) None ≡ Some o) × (first_descriptor ≤ fd)
+closed_at objects fd o opened = by_test (nat_lt fd first_descriptor) refl opened
   where
     at : (x : Option (Option OpenObject)) → slice_get objects (fd - first_descriptor) ≡ x → flattened x ≡ Some o → get_or objects (fd - first_descriptor) None ≡ Some o
     at None e opened = absurd (none-some o opened)
     at (Some x) e opened = get_or_from_slice_get objects (fd - first_descriptor) x None e ∙ opened
 
-    by_test : (low : Bool) → (if low then None else flattened (slice_get objects (fd - first_descriptor))) ≡ Some o
-        → ((if low then objects else set objects (fd - first_descriptor) None) ≡ set objects (fd - first_descriptor) None) × (get_or objects (fd - first_descriptor) None ≡ Some o)
-    by_test true e = absurd (none-some o e)
-    by_test false e = (refl, at (slice_get objects (fd - first_descriptor)) refl e)
+    by_test : (low : Bool) → nat_lt fd first_descriptor ≡ low → (if low then None else flattened (slice_get objects (fd - first_descriptor))) ≡ Some o
+        → ((if low then objects else set objects (fd - first_descriptor) None) ≡ set objects (fd - first_descriptor) None) × (get_or objects (fd - first_descriptor) None ≡ Some o) × (first_descriptor ≤ fd)
+    by_test true is e = absurd (none-some o e)
+    by_test false is e = (refl, at (slice_get objects (fd - first_descriptor)) refl e, ltb-false fd first_descriptor is)
 
 pub bound_times : (ms : List (ℕ × ℕ)) (fd p : ℕ) → lookup (λ m. m == fd) ms ≡ Some p → 1 ≤ times_listed p (map (λ m. m.1) ms)
 unfolding times_listed
@@ -143,7 +144,7 @@ pub record IsClosed (k : KeptTenant) (objects : List (Option OpenObject)) (t : L
 
 pub closed_kept : {k : KeptTenant} {objects : List (Option OpenObject)} {t : LiveMaps} {part later : List ℕ} {fd : ℕ} {o : OpenObject} → IsWellFormedTenant k → IsClosed k objects t part later fd o → IsWellFormedTenant (with_both k objects t)
 closed_kept {k} {objects} {t} {part} {later} {fd} {o} is c =
-    let (gone, there) = closed_at k.objects fd o c.opened in
+    let (gone, there, low) = closed_at k.objects fd o c.opened in
     let n = fd - first_descriptor in
     let rest = set k.objects n None in
     let held : (q : ℕ) → holds_at t q ≡ holders q rest = λ q.

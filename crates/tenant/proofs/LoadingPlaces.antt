@@ -1,13 +1,12 @@
 -- The places of the maps that descriptors name.
 use Rattle.std.proofs.Common.{◌≡◌, ◌≢◌, ℕ, zero, suc, ◌+◌, ◌-◌, ◌≤◌, ◌<◌, Bool, true, false, List, [], ◌∷◌, ◌++◌, length, take, set, map, get_or, Option, Some, None, refl, sym, ap, subst, ◌∙◌, inl, inr, arith, append_assoc}
-use Rattle.std.specs.Prelude.{◌==◌, ◌⊎◌, nat_lt, slice_get, if◌then◌else◌}
+use Rattle.std.specs.Prelude.{◌==◌, ◌⊎◌, slice_get, if◌then◌else◌}
 use Rattle.std.specs.Map.{lookup, keys_of}
 use Rattle.std.specs.List.{zip}
 use Rattle.std.proofs.lemmas.Bool.{eqb-true, cases_eq}
-use Rattle.std.proofs.lemmas.Bool.Decides.{nat_tests}
 use Rattle.std.proofs.lemmas.List.{append-nil, length-map}
 use Rattle.std.proofs.lemmas.Option.{none-some, same_Some}
-use Rattle.fd_table.specs.Table.{first_descriptor, named, flattened}
+use Rattle.fd_table.specs.Table.{first_descriptor, named}
 use Rattle.tenant.specs.declared.object.OpenObject.{OpenObject}
 use Rattle.tenant.specs.declared.object.OpenObject.TheVariants as object
 use Rattle.tenant.specs.Kept.{times_listed, by_descriptor, descriptors}
@@ -148,13 +147,6 @@ times_named objects (x ∷ fds) place some = by_first (λ more. later (times_nam
 
 -- ---- no place stands twice
 
-pub named_low : (objects : List (Option OpenObject)) (fd : ℕ) (o : OpenObject) → named objects fd ≡ Some o → first_descriptor ≤ fd
-named_low objects fd o is = by_test (nat_lt fd first_descriptor) refl is
-  where
-    by_test : (low : Bool) → nat_lt fd first_descriptor ≡ low → (if low then None else flattened (slice_get objects (fd - first_descriptor))) ≡ Some o → first_descriptor ≤ fd
-    by_test true e is = absurd (none-some o is)
-    by_test false e is = grind (arith, nat_tests)
-
 total-two : {A : Type 0} (f : A → ℕ) (xs : List (Option A)) (i j : ℕ) (x y : A) → j ≢ i → get_or xs i None ≡ Some x → get_or xs j None ≡ Some y → f x + f y ≤ total f xs
 total-two f xs i j x y apart a b =
     let less = total-unset f xs i x a in
@@ -165,14 +157,11 @@ total-two f xs i j x y apart a b =
 pub one_names : (objects : List (Option OpenObject)) (a b place : ℕ) → descriptors place objects ≤ 1 → named objects a ≡ Some (object.Map place) → named objects b ≡ Some (object.Map place) → b ≡ a
 one_names objects a b place single m n = by_place (cases_eq (b - first_descriptor) (a - first_descriptor))
   where
-    low : first_descriptor ≤ a
-    low = named_low objects a (object.Map place) m
-
-    too : first_descriptor ≤ b
-    too = named_low objects b (object.Map place) n
-
     by_place : (b - first_descriptor ≡ a - first_descriptor) ⊎ (b - first_descriptor ≡ a - first_descriptor → ⊥) → b ≡ a
-    by_place (inl same) = let p = low in let q = too in omega arith
+    by_place (inl same) =
+        let low = (closed_at objects a (object.Map place) m).2 in
+        let too = (closed_at objects b (object.Map place) n).2 in
+        omega arith
     by_place (inr other) =
         let two = total-two (by_descriptor place) objects (a - first_descriptor) (b - first_descriptor) (object.Map place) (object.Map place) other (closed_at objects a (object.Map place) m).1 (closed_at objects b (object.Map place) n).1 in
         let one = here_one place place refl in

@@ -17,9 +17,6 @@ set_cases xs n i x y within there = by_place (cases_eq i n)
     by_place (inl same) = inl (same, same_Some y x (sym (sym (get_or-set_same xs n (Some x) None within) ∙ ap (λ (j : ℕ). get_or (set xs n (Some x)) j None) (sym same) ∙ there)))
     by_place (inr other) = inr (other, sym (get_or-set_other xs n i (Some x) None other) ∙ there)
 
-pub set_here : {A : Type 0} (xs : List (Option A)) (n : ℕ) (x : A) → n < length xs → get_or (set xs n (Some x)) n None ≡ Some x
-set_here xs n x within = get_or-set_same xs n (Some x) None within
-
 pub set_there : {A : Type 0} (xs : List (Option A)) (n i : ℕ) (x : Option A) → i ≢ n → get_or (set xs n x) i None ≡ get_or xs i None
 set_there xs n i x other = get_or-set_other xs n i x None other
 

@@ -24,7 +24,7 @@ or_assoc true b c = refl
 or_assoc false b c = refl
 
 -- a packet that is not too long
-pub fits_is : (refusals : List Bool) (s : TenantState) (l : LoadedProgram) (words packet : List ℕ) → length packet ≤ longest_packet → ran refusals s l words packet ≡ run_of refusals s words packet (Some (object.Program l))
+fits_is : (refusals : List Bool) (s : TenantState) (l : LoadedProgram) (words packet : List ℕ) → length packet ≤ longest_packet → ran refusals s l words packet ≡ run_of refusals s words packet (Some (object.Program l))
 fits_is refusals s l words packet fits =
     let within : nat_lt longest_packet (length packet) ≡ false = grind (arith, nat_tests) in
     ap (λ (b : Bool). if b then refuses TooBig s else ran refusals s l words packet) (sym within)
@@ -37,18 +37,18 @@ pub record HasRun (k : KeptTenant) (l : LoadedProgram) (words packet : List ℕ)
   pub maps : RunKeepsMaps (map_places l) k.live after.maps
   pub values : KeepsValues (map_places l) (stood k.live part first) after
 
-pub ran_as : MapsAreListed → (k : KeptTenant) (l : LoadedProgram) (words packet part : List ℕ) (first : ℕ) (outcome : Outcome) (after : Standing) → HasRun k l words packet part first outcome after
+ran_as : MapsAreListed → {k : KeptTenant} {l : LoadedProgram} {words packet part : List ℕ} {first : ℕ} {outcome : Outcome} {after : Standing} → HasRun k l words packet part first outcome after
     → (refusals : List Bool) × (outcome_answer outcome (state_in after.part (with_live k after.maps)) ≡ ran refusals (state_in part k) l words packet)
-ran_as listed k l words packet part first outcome after h =
+ran_as listed {k} {l} {words} {packet} {part} {first} {outcome} {after} h =
     let s = state_in part k in
     let bind = map_places l in
     let given = maps_given s l in
     let context = length packet ∷ words in
     let input : RunInput = record { code = l.insns; bind = bind; maps = given; context = context; packet = packet } in
     let r : SimulatesRun input (stood k.live part first) outcome after =
-    subst (λ (m : MapsByDescriptor). SimulatesRun (record { code = l.insns; bind = bind; maps = m; context = context; packet = packet }) (stood k.live part first) outcome after) (given_is part k l h.kept h.bound listed) h.runs in
+    subst (λ (m : MapsByDescriptor). SimulatesRun (record { code = l.insns; bind = bind; maps = m; context = context; packet = packet }) (stood k.live part first) outcome after) (given_is part h.kept h.bound listed) h.runs in
     let refused = was_refused r.refusals l.insns given context packet in
-    let maps = left_is part after.part k after.maps l h.kept h.bound listed h.maps first after.steps h.values (left_with r.refusals l.insns given context packet) r.left in
+    let maps = left_is h.kept h.bound listed h.maps h.values (left_with r.refusals l.insns given context packet) r.left in
     let flag : (k.refused || after.maps.refused) ≡ (s.refused || refused) = ap (λ (b : Bool). k.refused || b) r.flag ∙ or_assoc k.refused k.live.refused refused in
     let state : state_in after.part (with_live k after.maps) ≡ _ = ap₂ (λ (ms : List (Option Map)) (b : Bool). record { objects = k.objects; maps = ms; refused = b }) (sym maps) flag in (
       r.refusals,
@@ -60,20 +60,24 @@ abbrev pub IsTold : (before : KeptTenant) (part : List ℕ) (fd : ℕ) (words pa
 IsTold before part fd words packet outcome later after =
     (refusals : List Bool) × (outcome_answer outcome (state_in later after) ≡ run_of refusals (state_in part before) words packet (named before.objects fd))
 
-module _ (listed : MapsAreListed) (part : List ℕ) (k : KeptTenant) (fd : ℕ) (l : LoadedProgram) (words packet : List ℕ) (kept : IsWellFormedTenant k) (opened : named k.objects fd ≡ Some (object.Program l)) (fits : length packet ≤ longest_packet) where
-  -- the run of the code and the context of a program that is open
-  pub told_of : (later : List ℕ) (new : LiveMaps) (bind : List ℕ) (code : List Insn) (context : List ℕ) (before steps : ℕ) (outcome : Outcome) → bind ≡ map_places l → code ≡ l.insns → context ≡ length packet ∷ words
-      → SimulatesRun (run_on code bind (stood k.live part before) context packet) (stood k.live part before) outcome (stood new later steps) → RunKeepsMaps bind k.live new → KeepsValues bind (stood k.live part before) (stood new later steps)
-      → IsTold k part fd words packet outcome later (with_live k new)
-  told_of later new bind code context before steps outcome places same given runs keeps values =
-      let of_context = subst (λ (ws : List ℕ). SimulatesRun (run_on code bind (stood k.live part before) ws packet) (stood k.live part before) outcome (stood new later steps)) given runs in
-      let of_code = subst (λ (is : List Insn). SimulatesRun (run_on is bind (stood k.live part before) (length packet ∷ words) packet) (stood k.live part before) outcome (stood new later steps)) same of_context in
-      let of_program = subst (λ (ps : List ℕ). SimulatesRun (run_on l.insns ps (stood k.live part before) (length packet ∷ words) packet) (stood k.live part before) outcome (stood new later steps)) places of_code in
-      let (refusals, answer) = ran_as listed k l words packet part before outcome (stood new later steps) (record {
-        kept = kept;
-        bound = bound_of k fd l kept opened;
-        runs = of_program;
-        maps = subst (λ (ps : List ℕ). RunKeepsMaps ps k.live new) places keeps;
-        values = subst (λ (ps : List ℕ). KeepsValues ps (stood k.live part before) (stood new later steps)) places values;
-      }) in
-      (refusals, answer ∙ fits_is refusals (state_in part k) l words packet fits ∙ ap (λ o. run_of refusals (state_in part k) words packet o) (sym opened))
+-- the run of the code and the context of a program that is open
+pub told_of : MapsAreListed → {part later words packet bind context : List ℕ} {k : KeptTenant} {l : LoadedProgram} {new : LiveMaps} {code : List Insn} {before steps : ℕ} {outcome : Outcome} (fd : ℕ)
+    → IsWellFormedTenant k → named k.objects fd ≡ Some (object.Program l) → length packet ≤ longest_packet → bind ≡ map_places l → code ≡ l.insns → context ≡ length packet ∷ words
+    → SimulatesRun (run_on code bind (stood k.live part before) context packet) (stood k.live part before) outcome (stood new later steps) → RunKeepsMaps bind k.live new → KeepsValues bind (stood k.live part before) (stood new later steps)
+    → IsTold k part fd words packet outcome later (with_live k new)
+told_of listed {part} {later} {words} {packet} {bind} {context} {k} {l} {new} {code} {before} {steps} {outcome} fd kept opened fits places same given runs keeps values =
+    let found = stood k.live part before in
+    let left = stood new later steps in
+    let input : run_on code bind found context packet ≡ run_on l.insns (map_places l) found (length packet ∷ words) packet =
+    ap (λ (ws : List ℕ). run_on code bind found ws packet) given
+    ∙ ap (λ (is : List Insn). run_on is bind found (length packet ∷ words) packet) same
+    ∙ ap (λ (ps : List ℕ). run_on l.insns ps found (length packet ∷ words) packet) places in
+    let has : HasRun k l words packet part before outcome left = record {
+      kept = kept;
+      bound = bound_of fd kept opened;
+      runs = subst (λ (asked : RunInput). SimulatesRun asked found outcome left) input runs;
+      maps = subst (λ (ps : List ℕ). RunKeepsMaps ps k.live new) places keeps;
+      values = subst (λ (ps : List ℕ). KeepsValues ps found left) places values;
+    } in
+    let (refusals, answer) = ran_as listed has in
+    (refusals, answer ∙ fits_is refusals (state_in part k) l words packet fits ∙ ap (λ o. run_of refusals (state_in part k) words packet o) (sym opened))

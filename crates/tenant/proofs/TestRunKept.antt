@@ -3,23 +3,21 @@ use Rattle.std.proofs.Common.{◌≡◌, ◌≢◌, ℕ, zero, suc, ◌<◌, Lis
 use Rattle.std.specs.Prelude.{◌⊎◌, slice_index}
 use Rattle.std.proofs.lemmas.Bool.{cases_eq, true≢false}
 use Rattle.bpf_maps.specs.Live.{LiveMaps, LiveMap, live_or, live_at, places_at, shape_at, SameAreas}
+use Rattle.bpf_helpers.specs.Stands.{IsElsewhere}
 use Rattle.flat_machine.specs.Runs.{RunKeepsMaps}
 use Rattle.tenant.specs.Kept.{KeptTenant, IsWellFormedTenant}
 use Rattle.tenant.proofs.StillKept.{with_live, still_kept}
 
 -- ---- whether a key is bound
 
-abbrev pub IsElsewhere : List ℕ → ℕ → Type 0
-IsElsewhere bind key = (i : ℕ) → i < length bind → slice_index bind i ≢ key
-
-abbrev pub StandsIn : List ℕ → ℕ → Type 0
+abbrev StandsIn : List ℕ → ℕ → Type 0
 StandsIn bind key = (i : ℕ) × (i < length bind) × (slice_index bind i ≡ key)
 
 elsewhere_more : (b key : ℕ) (bs : List ℕ) → b ≢ key → IsElsewhere bs key → IsElsewhere (b ∷ bs) key
 elsewhere_more b key bs other away zero lt = other
 elsewhere_more b key bs other away (suc i) lt = away i (omega arith)
 
-pub stands_or_not : (bind : List ℕ) (key : ℕ) → StandsIn bind key ⊎ IsElsewhere bind key
+stands_or_not : (bind : List ℕ) (key : ℕ) → StandsIn bind key ⊎ IsElsewhere bind key
 stands_or_not [] key = inr (λ i lt. absurd (omega arith))
 stands_or_not (b ∷ bs) key = by (cases_eq b key) (stands_or_not bs key)
   where

@@ -1,6 +1,6 @@
 -- The keys that are bound for a run.
 use Rattle.std.proofs.Common.{◌≡◌, ℕ, zero, suc, ◌-◌, ◌<◌, Bool, true, false, cond, List, [], ◌∷◌, length, Some, IsSome, refl, sym, ap, subst, ◌∙◌, arith}
-use Rattle.std.specs.Prelude.{◌==◌, slice_get, slice_index}
+use Rattle.std.specs.Prelude.{◌==◌, slice_index}
 use Rattle.std.specs.Map.{lookup, keys_of}
 use Rattle.std.proofs.lemmas.Bool.{eq-eqb, eqb-true}
 use Rattle.std.proofs.lemmas.Option.{slice_get-get_or}
@@ -16,7 +16,7 @@ use Rattle.tenant.specs.Kept.{KeptTenant, IsWellFormedTenant, IsBound}
 use Rattle.tenant.specs.State.{most_maps}
 use Rattle.tenant.specs.Loaded.{LoadedProgram, map_places}
 use Rattle.tenant.proofs.Closes.{closed_at}
-use Rattle.tenant.proofs.LoadingPlaces.{length-seconds, length-firsts}
+use Rattle.tenant.proofs.LoadingPlaces.{AreApart, length-seconds, length-firsts}
 use Rattle.tenant.proofs.TestRunPlaces.{listed_place, place_at, same_entry}
 
 abbrev pub descriptor_at : List (ℕ × ℕ) → ℕ → ℕ
@@ -24,16 +24,13 @@ descriptor_at maps i = slice_index (keys_of maps) i
 
 -- ---- the entry of a descriptor
 
-abbrev pub AreOnce : List ℕ → Type 0
-AreOnce fds = (i j fd : ℕ) → slice_get fds i ≡ Some fd → slice_get fds j ≡ Some fd → i ≡ j
+apart_later : (x : ℕ) (xs : List ℕ) → AreApart (x ∷ xs) → AreApart xs
+apart_later x xs apart i j fd a b = let e = apart (suc i) (suc j) fd a b in omega arith
 
-once_later : (x : ℕ) (xs : List ℕ) → AreOnce (x ∷ xs) → AreOnce xs
-once_later x xs once i j fd a b = let e = once (suc i) (suc j) fd a b in omega arith
-
-pub lookup_at : (maps : List (ℕ × ℕ)) → AreOnce (keys_of maps) → (i : ℕ) → i < length maps → lookup (λ m. m == descriptor_at maps i) maps ≡ Some (listed_place maps i)
+pub lookup_at : (maps : List (ℕ × ℕ)) → AreApart (keys_of maps) → (i : ℕ) → i < length maps → lookup (λ m. m == descriptor_at maps i) maps ≡ Some (listed_place maps i)
 lookup_at [] once i lt = absurd (omega arith)
 lookup_at (m ∷ ms) once zero lt = ap (λ (b : Bool). cond b (Some m.1) (lookup (λ k. k == m.0) ms)) (eq-eqb m.0 m.0 refl)
-lookup_at (m ∷ ms) once (suc i) lt = by (m.0 == descriptor_at ms i) refl (lookup_at ms (once_later m.0 (keys_of ms) once) i (omega arith))
+lookup_at (m ∷ ms) once (suc i) lt = by (m.0 == descriptor_at ms i) refl (lookup_at ms (apart_later m.0 (keys_of ms) once) i (omega arith))
   where
     by : (b : Bool) → (m.0 == descriptor_at ms i) ≡ b → lookup (λ k. k == descriptor_at ms i) ms ≡ Some (listed_place ms i)
         → cond (m.0 == descriptor_at ms i) (Some m.1) (lookup (λ k. k == descriptor_at ms i) ms) ≡ Some (listed_place ms i)
@@ -46,9 +43,9 @@ lookup_at (m ∷ ms) once (suc i) lt = by (m.0 == descriptor_at ms i) refl (look
 
 -- ---- what a program's places lead to
 
-module _ (k : KeptTenant) (l : LoadedProgram) (is : IsWellFormedTenant k) (bound : IsBound k.live l) (listed : MapsAreListed) where
-  once : AreOnce (keys_of l.maps)
-  once = subst (λ (fds : List ℕ). AreOnce fds) (sym bound.each) (λ i j fd a b. listed.once l.insns i j fd a b)
+module _ {k : KeptTenant} {l : LoadedProgram} (is : IsWellFormedTenant k) (bound : IsBound k.live l) (listed : MapsAreListed) where
+  once : AreApart (keys_of l.maps)
+  once = subst (λ (fds : List ℕ). AreApart fds) (sym bound.each) (λ i j fd a b. listed.once l.insns i j fd a b)
 
   -- a live map of the shape that was verified
   pub entry : (i : ℕ) → i < length l.maps → IsSome (live_at k.live (listed_place l.maps i)) × (shapes_named l.named (descriptor_at l.maps i) ≡ Some (shape_at k.live (listed_place l.maps i)))
@@ -79,5 +76,5 @@ module _ (k : KeptTenant) (l : LoadedProgram) (is : IsWellFormedTenant k) (bound
   }
 
 -- a program that is open
-pub bound_of : (k : KeptTenant) (fd : ℕ) (l : LoadedProgram) → IsWellFormedTenant k → named k.objects fd ≡ Some (object.Program l) → IsBound k.live l
-bound_of k fd l is opened = is.bound (fd - first_descriptor) l (closed_at k.objects fd (object.Program l) opened).1
+pub bound_of : {k : KeptTenant} {l : LoadedProgram} (fd : ℕ) → IsWellFormedTenant k → named k.objects fd ≡ Some (object.Program l) → IsBound k.live l
+bound_of {k} {l} fd is opened = is.bound (fd - first_descriptor) l (closed_at k.objects fd (object.Program l) opened).1

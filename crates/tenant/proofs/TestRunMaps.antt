@@ -8,6 +8,7 @@ use Rattle.std.proofs.lemmas.Bool.{cases_eq, cases_lt, ne_eqb, lt-ltb, ltb-true,
 use Rattle.std.proofs.lemmas.List.{ext_get_or}
 use Rattle.std.proofs.lemmas.List.Quantifiers.{position-Some}
 use Rattle.bpf_maps.specs.Live.{LiveMaps, live_at, map_in}
+use Rattle.bpf_helpers.specs.Stands.{IsElsewhere}
 use Rattle.flat_machine.specs.Runs.{Standing, given_maps, bound_key, RunKeepsMaps, KeepsValues}
 use Rattle.tagged_model.specs.Cells.{and_then}
 use Rattle.tagged_model.specs.Step.{MapsByDescriptor}
@@ -22,7 +23,6 @@ use Rattle.tenant.proofs.LookUps.{live_is}
 use Rattle.tenant.proofs.LoadingPlaces.{seconds, length-seconds, length-firsts}
 use Rattle.tenant.proofs.Releases.{one_at}
 use Rattle.tenant.proofs.TestRunPlaces.{listed_place, place_at, times_here}
-use Rattle.tenant.proofs.TestRunKept.{IsElsewhere}
 use Rattle.tenant.proofs.TestRunKeys.{descriptor_at, entry, place_within}
 
 -- ---- the maps that it is given
@@ -66,7 +66,7 @@ lookup_is (m ∷ ms) fd = by (m.0 == fd) refl (lookup_is ms fd)
         ∙ later (position (λ k. k == fd) (keys_of ms))
         ∙ sym (ap (option_map (λ i. listed_place (m ∷ ms) i)) (found_later (λ k. k == fd) m.0 (keys_of ms) e))
 
-module _ (part : List ℕ) (k : KeptTenant) (l : LoadedProgram) (is : IsWellFormedTenant k) (bound : IsBound k.live l) (listed : MapsAreListed) where
+module _ (part : List ℕ) {k : KeptTenant} {l : LoadedProgram} (is : IsWellFormedTenant k) (bound : IsBound k.live l) (listed : MapsAreListed) where
   given_at : (o : Option ℕ) → ((i : ℕ) → o ≡ Some i → i < length l.maps)
       → option_map (map_in part k.live) (option_map (λ i. slice_index (map_places l) i) o) ≡ and_then (option_map (λ i. listed_place l.maps i) o) (λ place. live (state_in part k) place)
   given_at None within = refl
@@ -74,8 +74,8 @@ module _ (part : List ℕ) (k : KeptTenant) (l : LoadedProgram) (is : IsWellForm
       let lt = within i refl in
       let place = listed_place l.maps i in
       ap (λ (n : ℕ). Some (map_in part k.live n)) (place_at l.maps i)
-      ∙ sym (map_there part k.live place (entry k l is bound listed i lt).0)
-      ∙ sym (live_is part k place (place_within k l is bound listed i lt))
+      ∙ sym (map_there part k.live place (entry is bound listed i lt).0)
+      ∙ sym (live_is part k place (place_within is bound listed i lt))
 
   stands_within : (fd i : ℕ) → position (λ m. m == fd) (keys_of l.maps) ≡ Some i → i < length l.maps
   stands_within fd i e = let there = position-Some (λ m. m == fd) (keys_of l.maps) i 0 e in let long = length-firsts l.maps in let within = there.0 in omega arith
@@ -114,8 +114,8 @@ left_all left target (m ∷ ms) maps long h rest =
 abbrev pub stood : LiveMaps → List ℕ → ℕ → Standing
 stood maps part steps = record { maps = maps; part = part; steps = steps }
 
-module _ (part later : List ℕ) (k : KeptTenant) (new : LiveMaps) (l : LoadedProgram) (is : IsWellFormedTenant k) (bound : IsBound k.live l) (listed : MapsAreListed)
-    (kept : RunKeepsMaps (map_places l) k.live new) (first last : ℕ) (values : KeepsValues (map_places l) (stood k.live part first) (stood new later last)) where
+module _ {part later : List ℕ} {k : KeptTenant} {new : LiveMaps} {l : LoadedProgram} {first last : ℕ} (is : IsWellFormedTenant k) (bound : IsBound k.live l) (listed : MapsAreListed)
+    (kept : RunKeepsMaps (map_places l) k.live new) (values : KeepsValues (map_places l) (stood k.live part first) (stood new later last)) where
   -- a place that is not the program's
   away : (place : ℕ) → times_listed place (map_places l) ≡ 0 → IsElsewhere (map_places l) place
   away place none i lt same =
@@ -137,7 +137,7 @@ module _ (part later : List ℕ) (k : KeptTenant) (new : LiveMaps) (l : LoadedPr
       let all = length-at (map_at later new) in
       let long = length-seconds l.maps in
       left_all left (at_places (map_at later new)) l.maps (at_places (map_at part k.live)) (length-at (map_at part k.live) ∙ sym all)
-      (λ i lt. let here = place_within k l is bound listed i lt in (
+      (λ i lt. let here = place_within is bound listed i lt in (
         omega arith,
         ap (λ (fds : List ℕ). left (slice_index fds i)) bound.each
             ∙ each i (omega arith)

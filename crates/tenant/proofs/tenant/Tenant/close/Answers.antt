@@ -1,14 +1,13 @@
-use Rattle.std.proofs.Common.{◌≡◌, ℕ, ◌+◌, ◌-◌, ◌≤◌, List, Option, Some, None, sym, ap, subst, ◌∙◌}
+use Rattle.std.proofs.Common.{◌≡◌, ℕ, ◌+◌, ◌≤◌, List, Option, Some, None, sym, ap, subst, ◌∙◌}
 use Rattle.bpf_maps.specs.Live.{holds_at}
-use Rattle.fd_table.specs.Table.{first_descriptor, named}
+use Rattle.fd_table.specs.Table.{named}
 use Rattle.tenant.specs.declared.errno.Errno.TheVariants.{BadDescriptor}
 use Rattle.tenant.specs.declared.object.OpenObject.{OpenObject}
 use Rattle.tenant.specs.declared.object.OpenObject.TheVariants as object
-use Rattle.tenant.specs.Kept.{KeptTenant, IsWellFormedTenant, times_listed, times_named, holders, state_in}
+use Rattle.tenant.specs.Kept.{KeptTenant, IsWellFormedTenant, times_listed, holders, state_in}
 use Rattle.tenant.specs.Machine.{refuses, closed}
-use Rattle.tenant.proofs.Sums.{total-part}
-use Rattle.tenant.proofs.Named.{named_is_live}
-use Rattle.tenant.proofs.Closes.{IsClosed, closed_at, closed_kept, closed_is, nothing_closed}
+use Rattle.tenant.proofs.Named.{named_held, named_is_live}
+use Rattle.tenant.proofs.Closes.{IsClosed, closed_kept, closed_is, nothing_closed}
 use Rattle.tenant.proofs.Releases.{IsReleased, left_released, holds_released}
 use Rattle.tenant.proofs.StillKept.{kept_in, with_both}
 use Rattle.tenant.proofs.tenant.Tenant.close.Goals as goal
@@ -65,7 +64,7 @@ release_all-requires-clause-held c = λ q.
     let o = object.Program c.in-Program.program in
     let opened : named k.objects c.args.fd ≡ Some o = sym c.close.ensures.named ∙ c.in-Some.is ∙ ap Some c.in-Program.is in
     subst (λ (n : ℕ). times_listed q c.maps.result.now ≤ n) (sym (c.self.invariant.held q))
-    (subst (λ (ps : List ℕ). times_listed q ps ≤ holders q k.objects) (sym c.maps.ensures) (total-part (times_named q) k.objects (c.args.fd - first_descriptor) o (closed_at k.objects c.args.fd o opened).1))
+    (subst (λ (ps : List ℕ). times_listed q ps ≤ holders q k.objects) (sym c.maps.ensures) (named_held k.objects c.args.fd o opened q))
 
 module _ (c : goal.After-drop-program-inside-in-Program-4) where
   program_closed : IsClosed (kept_in c.self.inside) c.close.new.self c.release_all.new.maps c.args.part.now c.release_all.new.part c.args.fd (object.Program c.in-Program.program)

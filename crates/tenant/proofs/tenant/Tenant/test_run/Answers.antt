@@ -22,7 +22,7 @@ run-outcome-requires-clause-bound c =
     let l = c.in-Some-Program.program in
     let opened : named k.objects c.args.fd ≡ Some (object.Program l) = sym c.in-Some-Program.ensures ∙ ap Some c.in-Some-Program.field-0-is in
     subst (λ (ps : List ℕ). AreBound c.program.result.now ps k.live) (sym c.maps.ensures)
-    (are_bound k l c.self.invariant (bound_of k c.args.fd l c.self.invariant opened) c.maps_are_listed.ensures c.program.result.now c.program.ensures.code c.program.ensures.entries)
+    (are_bound c.self.invariant (bound_of c.args.fd c.self.invariant opened) c.maps_are_listed.ensures c.program.result.now c.program.ensures.code c.program.ensures.entries)
 
 pub invariant_of-self : goal.invariant_of-self
 invariant_of-self c = kept_after c.self.invariant c.run-outcome.ensures.maps
@@ -43,7 +43,7 @@ returns-clause-answer c =
       | in-Value w ↦ ap (λ (r : Result Reply Errno). shown_answer r after) w.result-is ∙ ap (λ (o : Outcome). outcome_answer o after) (sym w.in-Value.is)
       | in-Fault w ↦ ap (λ (r : Result Reply Errno). shown_answer r after) w.result-is ∙ ap (λ (o : Outcome). outcome_answer o after) (sym w.in-Fault.is)
     ] in
-    let (refusals, is) = told_of c.maps_are_listed.ensures part k c.args.fd l words packet c.self.invariant opened c.if-packet-gt-LONGEST_PACKET.false later run.new.maps c.maps.result.now c.program.result.now.code c.context_words-context.result c.new-trace.result.steps run.new.trace.steps run.result
+    let (refusals, is) = told_of c.maps_are_listed.ensures c.args.fd c.self.invariant opened c.if-packet-gt-LONGEST_PACKET.false
     c.maps.ensures c.program.ensures.code c.context_words-context.ensures run.ensures.runs run.ensures.maps run.ensures.values in (
       refusals,
       same ∙ is

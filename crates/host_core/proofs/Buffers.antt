@@ -1,7 +1,7 @@
 -- The front of a buffer that is filled, and the front of bytes that are written.
-use Rattle.std.proofs.Common.{◌≡◌, ℕ, ◌+◌, ◌-◌, ◌≤◌, List, ◌++◌, length, take, drop, slice_range, arith, sym, ap, subst, ◌∙◌, le_refl, drop_at, length-take-le, append_assoc, take-append-drop}
+use Rattle.std.proofs.Common.{◌≡◌, ℕ, ◌+◌, ◌-◌, ◌≤◌, List, ◌++◌, length, take, drop, slice_range, arith, sym, ap, subst, ◌∙◌, le_refl, drop_at, length-take-le}
 use Rattle.std.proofs.lemmas.Slice.{take-put_mid_below}
-use Rattle.std.proofs.lemmas.List.{take_rest, drop-drop}
+use Rattle.std.proofs.lemmas.List.{drop-drop}
 use Rattle.host_core.specs.inside.Reading.{IsKeptFrontOf}
 use borrow.Rule.Slice.PartMut.{put_mid, post_of}
 use lib.Seq.{take-add, take-append-le, take-append_seam}
@@ -22,11 +22,6 @@ pub take-put_mid : (a k n : ℕ) (xs ys : List ℕ) → a ≤ length xs → n �
 take-put_mid a k n xs ys within fits =
     let part = slice_range-put_mid a k n xs ys within fits in
     ap (λ l. take a xs ++ l) (sym part) ∙ take_split a (a + n) xs (put_mid a k xs ys) (omega arith) (take-put_mid_below _ _ _ _ _ (le_refl _) within)
-
--- the bytes that were taken join those that went before
-pub moves_front : (all done rest : List ℕ) (n : ℕ) → all ≡ done ++ rest → all ≡ (done ++ take n rest) ++ take (length rest - n) (drop n rest)
-moves_front all done rest n e =
-    e ∙ ap (λ l. done ++ l) (sym (take-append-drop n rest)) ∙ sym (append_assoc done (take n rest) (drop n rest)) ∙ ap (λ l. (done ++ take n rest) ++ l) (sym (take_rest rest n))
 
 -- a part that is written leaves what is before it
 pub take-put_mid_same : (a k : ℕ) (xs ys : List ℕ) → a ≤ length xs → take a (put_mid a k xs ys) ≡ take a xs

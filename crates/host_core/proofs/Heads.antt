@@ -1,7 +1,7 @@
 -- Which tenant a frame belongs to.
 use Rattle.std.proofs.Common.{◌≡◌, ℕ, zero, suc, ◌≤◌, Bool, true, false, List, [], ◌∷◌, length, drop, Option, Some, None, refl, sym, ap, arith}
 use Rattle.std.specs.Prelude.{nat_lt, slice_get, if◌then◌else◌}
-use Rattle.std.proofs.lemmas.Option.{none-some}
+use Rattle.std.proofs.lemmas.Option.{none-some, same_Some}
 use Rattle.command_frames.specs.declared.command.Head.{Head}
 use Rattle.command_frames.specs.Frame.{head_of, owner, reply_bytes, reply_to}
 use Rattle.byteorder.specs.Endian.{little_number}
@@ -26,10 +26,7 @@ refused_headless frame e = headless (nat_lt (length frame) 4) (little_number 2 f
 headed : (short : Bool) (m n : ℕ) (h : Head) → head_if short m n ≡ Some h
     → reply_bytes h.tenant h.command (status_of NotPermitted) [] ≡ reply_bytes (if short then 65535 else m) (if short then 65535 else n) (status_of (if short then Invalid else NotPermitted)) []
 headed true m n h e = absurd (none-some h e)
-headed false m n h e = ap (λ (x : Head). reply_bytes x.tenant x.command (status_of NotPermitted) []) (same h (record { tenant = m; command = n }) (sym e))
-  where
-    same : (g h : Head) → Some g ≡ Some h → g ≡ h
-    same g h e = cc
+headed false m n h e = ap (λ (x : Head). reply_bytes x.tenant x.command (status_of NotPermitted) []) (same_Some h (record { tenant = m; command = n }) (sym e))
 
 -- one with a head
 pub refused_headed : (frame : List ℕ) (h : Head) → head_of frame ≡ Some h → reply_bytes h.tenant h.command (status_of NotPermitted) [] ≡ reply_to frame (status_of (unserved_errno frame)) []

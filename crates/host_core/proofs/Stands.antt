@@ -17,15 +17,15 @@ use Rattle.tenant.specs.Alone.{AnswersFrame, MayReply}
 same_byte : (xs ys : List ℕ) (k : ℕ) → k < 4 → take 4 xs ≡ take 4 ys → get_or xs k 0 ≡ get_or ys k 0
 same_byte xs ys k lt e = sym (get_or-take 4 xs k 0 lt) ∙ ap (λ (l : List ℕ). get_or l k 0) e ∙ get_or-take 4 ys k 0 lt
 
+-- a long frame has a head
+has_head : (frame : List ℕ) → longest_frame < length frame → nat_lt (length frame) 4 ≡ false
+has_head frame long = le-ltb (length frame) 4 (omega arith)
+
 long_owner : (frame : List ℕ) → longest_frame < length frame → owner frame ≡ little_number 2 frame
-long_owner frame long =
-    let headed : nat_lt (length frame) 4 ≡ false = le-ltb (length frame) 4 (omega arith) in
-    rw headed refl
+long_owner frame long = rw (has_head frame long) refl
 
 long_command : (frame : List ℕ) → longest_frame < length frame → command_number frame ≡ little_number 2 (drop 2 frame)
-long_command frame long =
-    let headed : nat_lt (length frame) 4 ≡ false = le-ltb (length frame) 4 (omega arith) in
-    rw headed refl
+long_command frame long = rw (has_head frame long) refl
 
 same_owner : (front frame : List ℕ) → longest_frame < length front → longest_frame < length frame → take 4 front ≡ take 4 frame → owner front ≡ owner frame
 same_owner front frame long_front long_frame e =
@@ -57,9 +57,7 @@ same_head front frame status payload o c =
     ap (λ (n : ℕ). reply_bytes n (command_number front) status payload) o ∙ ap (λ (n : ℕ). reply_bytes (owner frame) n status payload) c
 
 headed : (frame : List ℕ) → longest_frame < length frame → (if nat_lt (length frame) 4 then Invalid else NotPermitted) ≡ NotPermitted
-headed frame long =
-    let head : nat_lt (length frame) 4 ≡ false = le-ltb (length frame) 4 (omega arith) in
-    rw head refl
+headed frame long = rw (has_head frame long) refl
 
 none_status : (front frame : List ℕ) → owner front ≡ owner frame → command_number front ≡ command_number frame → longest_frame < length front → longest_frame < length frame
     → reply_to front (status_of (if nat_lt (length front) 4 then Invalid else NotPermitted)) [] ≡ reply_to frame (status_of (if nat_lt (length frame) 4 then Invalid else NotPermitted)) []

@@ -25,12 +25,6 @@ slice_get-set_other (y ∷ ys) zero (suc k) x ne = refl
 slice_get-set_other (y ∷ ys) (suc i) zero x ne = refl
 slice_get-set_other (y ∷ ys) (suc i) (suc k) x ne = slice_get-set_other ys i k x (λ e. ne (ap suc e))
 
--- a tenant that is served has a state
-pub slice_get_some : {X : Type 0} (xs : List X) (i : ℕ) → i < length xs → (x : X) × (slice_get xs i ≡ Some x)
-slice_get_some [] i lt = absurd (omega arith)
-slice_get_some (x ∷ xs) zero lt = (x, refl)
-slice_get_some (x ∷ xs) (suc i) lt = slice_get_some xs i (omega arith)
-
 -- what an index read is there
 pub slice_get_in : {X : Type 0} (xs : List X) (i : ℕ) (x : X) → i < length xs → x ≡ get_or xs i x → slice_get xs i ≡ Some x
 slice_get_in xs i x lt e = slice_get_read xs (length xs) i x refl lt e
@@ -79,11 +73,15 @@ others_stay m n ks i other k ne same =
 pub count_stays : (m n : Memory) (ks : List KeptTenant) (i : ℕ) (k : KeptTenant) → length (states_in n (set ks i k)) ≡ length (states_in m ks)
 count_stays m n ks i k = states_length n 0 (set ks i k) ∙ length-set ks i k ∙ sym (states_length m 0 ks)
 
--- a tenant that is served goes on in its own state
+-- the state of a tenant that is served
+state_there : (m : Memory) (ks : List KeptTenant) (states : List TenantState) (i : ℕ) (k : KeptTenant) → states_in m ks ≡ states → slice_get ks i ≡ Some k → slice_get states i ≡ Some (state_in (part_bytes m i) k)
+state_there m ks states i k is found = ap (λ (s : List TenantState). slice_get s i) (sym is) ∙ own_before m ks i k found
+
+-- it goes on in its own
 pub tells_own : (m n : Memory) (ks : List KeptTenant) (states : List TenantState) (i o : ℕ) (k l : KeptTenant) (frame reply : List ℕ) → states_in m ks ≡ states → i ≡ o → i < length ks → slice_get ks i ≡ Some k
     → MayReply frame reply (Some (state_in (part_bytes m i) k)) (Some (state_in (part_bytes n i) l)) → MayReply frame reply (slice_get states o) (slice_get (states_in n (set ks i l)) o)
 tells_own m n ks states i o k l frame reply is own lt found told =
-    let before : slice_get states i ≡ Some (state_in (part_bytes m i) k) = ap (λ (s : List TenantState). slice_get s i) (sym is) ∙ own_before m ks i k found in
+    let before = state_there m ks states i k is found in
     let after = own_after n ks i l lt in
     let here = subst (λ (x : Option TenantState). MayReply frame reply (slice_get states i) x) (sym after) (subst (λ (x : Option TenantState). MayReply frame reply x (Some (state_in (part_bytes n i) l))) (sym before) told) in
     subst (λ (j : ℕ). MayReply frame reply (slice_get states j) (slice_get (states_in n (set ks i l)) j)) own here
@@ -96,16 +94,14 @@ tells_none states i frame reply none told = subst (λ (x : Option TenantState). 
 -- ---- the flag
 
 -- what is told of the flag of a tenant that is served is told of its state
-pub told_unrefused : (m : Memory) (ks : List KeptTenant) (states : List TenantState) (i : ℕ) (k : KeptTenant) (flag : Bool) → states_in m ks ≡ states → slice_get ks i ≡ Some k
-    → ((part : List ℕ) → flag ≡ (state_in part k).refused) → flag ≡ false → IsUnrefused (slice_get states i)
-told_unrefused m ks states i k flag is found told clear =
-    subst IsUnrefused (sym (own_before m ks i k found) ∙ ap (λ (s : List TenantState). slice_get s i) is) (sym (told (part_bytes m i)) ∙ clear)
+module _ (m : Memory) (ks : List KeptTenant) (states : List TenantState) (i : ℕ) (k : KeptTenant) (is : states_in m ks ≡ states) (found : slice_get ks i ≡ Some k) (flag : Bool) (told : (part : List ℕ) → flag ≡ (state_in part k).refused) where
+  pub told_unrefused : flag ≡ false → IsUnrefused (slice_get states i)
+  told_unrefused clear = subst IsUnrefused (sym (state_there m ks states i k is found)) (sym (told (part_bytes m i)) ∙ clear)
 
-pub told_refused : (m : Memory) (ks : List KeptTenant) (states : List TenantState) (i : ℕ) (k : KeptTenant) (flag : Bool) → states_in m ks ≡ states → slice_get ks i ≡ Some k
-    → ((part : List ℕ) → flag ≡ (state_in part k).refused) → flag ≡ true → ¬ IsUnrefused (slice_get states i)
-told_refused m ks states i k flag is found told set unrefused =
-    let here : (state_in (part_bytes m i) k).refused ≡ false = subst IsUnrefused (ap (λ (s : List TenantState). slice_get s i) (sym is) ∙ own_before m ks i k found) unrefused in
-    let wrong : true ≡ false = sym set ∙ told (part_bytes m i) ∙ here in cc wrong
+  pub told_refused : flag ≡ true → ¬ IsUnrefused (slice_get states i)
+  told_refused set unrefused =
+      let here : (state_in (part_bytes m i) k).refused ≡ false = subst IsUnrefused (state_there m ks states i k is found) unrefused in
+      let wrong : true ≡ false = sym set ∙ told (part_bytes m i) ∙ here in cc wrong
 
 -- one that is not served has no state, and so no flag
 pub none_unrefused : (states : List TenantState) (i : ℕ) → length states ≤ i → IsUnrefused (slice_get states i)

@@ -14,11 +14,11 @@ found_is c =
 
 pub returns-in-Some-clause-refused : goal.returns-in-Some-clause-refused
 returns-in-Some-clause-refused c =
-    told_refused c.self.inside.arena c.self.inside.tenants.items c.args.self.now c.args.tenant c.in-Some.tenant.now c.memory_was_refused.result c.self.view_is (found_is c) c.memory_was_refused.ensures
+    told_refused c.self.inside.arena c.self.inside.tenants.items c.args.self.now c.args.tenant c.in-Some.tenant.now c.self.view_is (found_is c) c.memory_was_refused.result c.memory_was_refused.ensures
 
 pub returns-in-Some-clause-unrefused : goal.returns-in-Some-clause-unrefused
 returns-in-Some-clause-unrefused c =
-    told_unrefused c.self.inside.arena c.self.inside.tenants.items c.args.self.now c.args.tenant c.in-Some.tenant.now c.memory_was_refused.result c.self.view_is (found_is c) c.memory_was_refused.ensures
+    told_unrefused c.self.inside.arena c.self.inside.tenants.items c.args.self.now c.args.tenant c.in-Some.tenant.now c.self.view_is (found_is c) c.memory_was_refused.result c.memory_was_refused.ensures
 
 pub returns-in-None-clause-unrefused : goal.returns-in-None-clause-unrefused
 returns-in-None-clause-unrefused c = λ _.

@@ -4,65 +4,26 @@ from __future__ import annotations
 
 import argparse
 from collections.abc import Sequence
-from typing import NoReturn
 
 from bpfhost.shards.client import SECONDS
 from bpfhost.shards.directory import demand_name
 from bpfhost.shards.lease import SECONDS as LEASE_SECONDS
 from bpfhost.shards.names import MOST_ENTRIES, PREFIX
 from bpfhost.shards.worker import Settings
+from bpfhost.telling import Parser, add_program, in_range, named
 
 _ABOUT = "Serves customers by many hosts, behind Redis Streams (docs/SCALING.md)."
 _MOST_SHARD = (1 << 31) - 1
 
-
-class _Parser(argparse.ArgumentParser):
-    """Tells wrong words in one sentence, with the status 2."""
-
-    def error(self, message: str) -> NoReturn:
-        self.exit(2, f"bpfhost.shards: {message}\n")
+_shard = in_range(int, f"shard from 0 to {_MOST_SHARD}", 0, _MOST_SHARD)
+_seconds = in_range(float, "number of seconds from 0.1 on", 0.1, 1e6)
+_many = in_range(int, f"number from 1 to {MOST_ENTRIES // 2}", 1, MOST_ENTRIES // 2)
+_name = named(demand_name, "name of 1 to 255 printable characters without spaces")
 
 
-def _shard(word: str) -> int:
-    number = int(word)
-    if not 0 <= number <= _MOST_SHARD:
-        raise ValueError
-    return number
-
-
-_shard.__name__ = f"shard from 0 to {_MOST_SHARD}"
-
-
-def _name(word: str) -> str:
-    return demand_name(word)
-
-
-_name.__name__ = "name of 1 to 255 printable characters without spaces"
-
-
-def _seconds(word: str) -> float:
-    seconds = float(word)
-    if not 0.1 <= seconds <= 1e6:
-        raise ValueError
-    return seconds
-
-
-_seconds.__name__ = "number of seconds from 0.1 on"
-
-
-def _many(word: str) -> int:
-    many = int(word)
-    if not 1 <= many <= MOST_ENTRIES // 2:
-        raise ValueError
-    return many
-
-
-_many.__name__ = f"number from 1 to {MOST_ENTRIES // 2}"
-
-
-def _parser() -> _Parser:
-    parser = _Parser(prog="python3 -m bpfhost.shards", description=_ABOUT)
-    words = parser.add_subparsers(metavar="WORD", required=True, parser_class=_Parser, dest="word")
+def _parser() -> Parser:
+    parser = Parser(prog="python3 -m bpfhost.shards", description=_ABOUT)
+    words = parser.add_subparsers(metavar="WORD", required=True, parser_class=Parser, dest="word")
     _add_worker(words)
     client = words.add_parser("client", help="send the frames on standard input for a customer, and write their replies")
     move = words.add_parser("move", help="move a customer to another shard; what was begun is ended")
@@ -77,13 +38,13 @@ def _parser() -> _Parser:
     return parser
 
 
-def _add_worker(words: argparse._SubParsersAction[_Parser]) -> None:
+def _add_worker(words: argparse._SubParsersAction[Parser]) -> None:
     usual = Settings()
     parser = words.add_parser("worker", help="serve a shard until SIGTERM")
     parser.add_argument("shard", metavar="SHARD", type=_shard)
     _add_redis(parser, "the shard's Redis")
     parser.add_argument("--directory", metavar="URL", help="the directory's Redis, where it is another one")
-    parser.add_argument("--bpfhost", metavar="PATH", help="the program; else that of the variable BPFHOST, of PATH, or of this clone")
+    add_program(parser)
     parser.add_argument("--lease", metavar="S", type=_seconds, default=LEASE_SECONDS, help="the seconds of the lease (5)")
     parser.add_argument(
         "--snapshot-entries", metavar="N", type=_many, default=usual.snapshot_entries, help="calls between two snapshots (50000)"

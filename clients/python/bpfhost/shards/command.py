@@ -1,6 +1,6 @@
 """The command `python3 -m bpfhost.shards`: a worker of a shard, calls of a customer, moves, and who is where.
 
-Its status is 0 where all went well; 1 where an input is refused or a customer can't be moved; 2 where the words are wrong; 3 where the
+Its status is 0 where all went well; 1 where an input is refused, a customer can't be moved or a stream can't be written; 2 where the words are wrong; 3 where the
 host or Redis does not do its part, memory is refused, a reply does not come, or a package is missing; 4 where the lease on a shard is
 another worker's; 5 where a frame that is played again is answered otherwise, which somebody has to look at. Each error is one
 sentence on standard error.
@@ -8,13 +8,12 @@ sentence on standard error.
 
 from __future__ import annotations
 
-import os
 import signal
 import sys
 from argparse import Namespace
 from collections.abc import Callable, Sequence
+from contextlib import closing
 
-from bpfhost.errors import BpfhostError, HostError, MissingPackage
 from bpfhost.program import find_program
 from bpfhost.shards import moving
 from bpfhost.shards.arguments import parse
@@ -25,8 +24,17 @@ from bpfhost.shards.errors import LeaseHeld, LeaseLost, MemoryRefused, NoReply, 
 from bpfhost.shards.names import ShardKeys
 from bpfhost.shards.snapshot import split
 from bpfhost.shards.worker import Settings, Worker
+from bpfhost.telling import FAILED, GOOD, status_of
 
-GOOD, REFUSED, FAILED, NO_LEASE, DIFFERENT, INTERRUPTED = 0, 1, 3, 4, 5, 130
+NO_LEASE, DIFFERENT = 4, 5
+_STATUSES: dict[type[Exception], int] = {
+    LeaseHeld: NO_LEASE,
+    LeaseLost: NO_LEASE,
+    RepliesDiffer: DIFFERENT,
+    RedisError: FAILED,
+    MemoryRefused: FAILED,
+    NoReply: FAILED,
+}
 
 
 def main(words: Sequence[str] | None = None) -> int:
@@ -39,28 +47,12 @@ def main(words: Sequence[str] | None = None) -> int:
         "remove": run_remove,
         "show": run_show,
     }
-    try:
+
+    def run() -> int:
         runs[said.word](said)
-        sys.stdout.flush()
-    except BrokenPipeError:
-        os.dup2(os.open(os.devnull, os.O_WRONLY), sys.stdout.fileno())
-        return _told("what reads the output has ended", REFUSED)
-    except (LeaseHeld, LeaseLost) as error:
-        return _told(str(error), NO_LEASE)
-    except RepliesDiffer as error:
-        return _told(str(error), DIFFERENT)
-    except (HostError, MissingPackage, RedisError, MemoryRefused, NoReply) as error:
-        return _told(str(error), FAILED)
-    except (BpfhostError, ValueError) as error:
-        return _told(str(error), REFUSED)
-    except KeyboardInterrupt:
-        return _told("interrupted", INTERRUPTED)
-    return GOOD
+        return GOOD
 
-
-def _told(sentence: str, status: int) -> int:
-    print(f"bpfhost.shards: {sentence}", file=sys.stderr)
-    return status
+    return status_of("bpfhost.shards", run, _STATUSES)
 
 
 def run_worker(said: Namespace) -> None:
@@ -72,12 +64,12 @@ def run_worker(said: Namespace) -> None:
 
     for number in (signal.SIGTERM, signal.SIGINT):
         signal.signal(number, stop)
-    redis = connect(said.redis)
-    directory = Directory(connect(said.directory or said.redis), said.prefix)
-    directory.add_shard(said.shard, redis_url(said.redis) if said.directory else "")
+    with closing(connect(said.directory or said.redis)) as redis:
+        Directory(redis, said.prefix).add_shard(said.shard, redis_url(said.redis) if said.directory else "")
     settings = Settings(said.lease, said.snapshot_entries, said.keep_replies, demand_durable=not said.volatile)
-    worker = Worker(redis, ShardKeys(said.shard, said.prefix), find_program(said.bpfhost), settings, _say)
-    worker.run(lambda: stopped[0])
+    with closing(connect(said.redis)) as redis:
+        worker = Worker(redis, ShardKeys(said.shard, said.prefix), find_program(said.bpfhost), settings, _say)
+        worker.run(lambda: stopped[0])
 
 
 def _say(sentence: str) -> None:

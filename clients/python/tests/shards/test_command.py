@@ -10,6 +10,7 @@ import sys
 import time
 
 from bpfhost import Host, MapType, frames
+from bpfhost.shards.connection import connect
 from tests.common import PROGRAM
 from tests.shards.common import ShardTest
 from tests.shards.redis_server import RedisServer
@@ -93,6 +94,22 @@ class Commands(ShardTest):
             called = self.call(words[0], *([shard] if words[1:] else []), *words[2:], given=given)
             self.assertEqual(called.returncode, status, (words, called.stderr))
             self.assertRegex(called.stderr.decode(), f"^(bpfhost.shards: )?{sentence}\n$")
+
+    def test_there_is_no_room(self) -> None:
+        self.start(0)
+        for words, given in ((["show"], b""), (["client", "acme"], frames.close(0, 3) * 10_000)):
+            with open("/dev/full", "wb") as full:
+                called = subprocess.run(self.words(*words), input=given, stdout=full, stderr=subprocess.PIPE)
+            self.assertEqual(called.stderr, b"bpfhost.shards: standard input or output: No space left on device\n")
+            self.assertEqual(called.returncode, 1)
+
+    def test_a_worker_keeps_one_connection(self) -> None:
+        redis = connect(self.server.url)
+        self.addCleanup(redis.close)
+        # One line for each connection.
+        before = redis.execute_command("CLIENT", "LIST").count(b"\n")
+        self.start(0)
+        self.assertEqual(redis.execute_command("CLIENT", "LIST").count(b"\n"), before + 1)
 
     def test_a_missing_package(self) -> None:
         (self.scratch / "redis.py").write_text("raise ModuleNotFoundError(name='redis')\n")

@@ -1,0 +1,87 @@
+"""What the commands of this package share: how their words are read, and how they end: by one sentence on standard error and a status."""
+
+from __future__ import annotations
+
+import argparse
+import math
+import os
+import sys
+from collections.abc import Callable, Mapping
+from typing import NoReturn, TypeVar
+
+from bpfhost.errors import PACKAGES, BpfhostError, HostError, MissingPackage, SourceRefused
+
+GOOD, REFUSED, WRONG_WORDS, FAILED, INTERRUPTED = 0, 1, 2, 3, 130
+
+Value = TypeVar("Value")
+Number = TypeVar("Number", int, float)
+
+
+class Parser(argparse.ArgumentParser):
+    """The words of a command `python3 -m NAME`, which tells wrong ones in one sentence, with the status 2."""
+
+    def error(self, message: str) -> NoReturn:
+        self.exit(WRONG_WORDS, f"{self.prog.split()[2]}: {message}\n")
+
+
+def named(read: Callable[[str], Value], name: str) -> Callable[[str], Value]:
+    """What reads a word, and the name of what the word should be; a wrong one, which is a ValueError, is told by it."""
+
+    def value(word: str) -> Value:
+        return read(word)
+
+    value.__name__ = name
+    return value
+
+
+def in_range(read: Callable[[str], Number], name: str, least: Number, most: float = math.inf) -> Callable[[str], Number]:
+    """What reads a number between two others."""
+
+    def number(word: str) -> Number:
+        found = read(word)
+        if not least <= found <= most:
+            raise ValueError
+        return found
+
+    return named(number, name)
+
+
+def add_program(parser: argparse.ArgumentParser) -> None:
+    """The word that names the program."""
+    parser.add_argument("--bpfhost", metavar="PATH", help="the program; else that of the variable BPFHOST, of PATH, or of this clone")
+
+
+def status_of(name: str, call: Callable[[], int], statuses: Mapping[type[Exception], int] | None = None) -> int:
+    """Runs the command of a name, and gives its status. Where it ends by an error, that is told.
+
+    `statuses` are those of errors that are not as in other commands.
+    """
+    try:
+        status = call()
+        sys.stdout.flush()
+        return status
+    except BrokenPipeError:
+        # Nobody reads any more, so nothing is to be written at the end either.
+        os.dup2(os.open(os.devnull, os.O_WRONLY), sys.stdout.fileno())
+        return _told(name, "what reads the output has ended", REFUSED)
+    except ModuleNotFoundError as error:
+        module = (error.name or "").partition(".")[0]
+        if module not in PACKAGES:
+            raise
+        return _told(name, str(MissingPackage(module, PACKAGES[module])), FAILED)
+    except (BpfhostError, ValueError) as error:
+        of_kinds = {**(statuses or {}), HostError: FAILED, MissingPackage: FAILED}
+        _told(name, str(error), REFUSED)
+        if isinstance(error, SourceRefused):
+            print(error.log or "", end="", file=sys.stderr)
+        return next((status for kind, status in of_kinds.items() if isinstance(error, kind)), REFUSED)
+    except OSError as error:
+        # What has no name is one of the standard streams.
+        return _told(name, f"{error.filename or 'standard input or output'}: {error.strerror or error}", REFUSED)
+    except KeyboardInterrupt:
+        return _told(name, "interrupted", INTERRUPTED)
+
+
+def _told(name: str, sentence: str, status: int) -> int:
+    print(f"{name}: {sentence}", file=sys.stderr)
+    return status

@@ -62,7 +62,9 @@ class Client:
         """The Redis of a shard, and its keys."""
         if number not in self._shards:
             url = patiently(lambda: self.directory.server(number), time.monotonic() + SECONDS)
-            self._shards[number] = self._servers.setdefault(url, connect(url) if url else self._redis), ShardKeys(number, self._prefix)
+            if url not in self._servers:
+                self._servers[url] = connect(url)
+            self._shards[number] = self._servers[url], ShardKeys(number, self._prefix)
         return self._shards[number]
 
 

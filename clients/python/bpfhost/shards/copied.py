@@ -8,16 +8,16 @@ maps and 48 programs are open at once; so descriptors never run out. Each reply 
 
 from __future__ import annotations
 
-import struct
 from collections.abc import Iterable, Iterator
 
 from bpfhost import frames
 from bpfhost.host import Host
-from bpfhost.numbers import MOST_DESCRIPTORS, MOST_MAPS, SOCKET_FILTER, Command
+from bpfhost.numbers import FIRST_DESCRIPTOR, MOST_DESCRIPTORS, MOST_MAPS, SOCKET_FILTER, Command
 from bpfhost.program import Program
+from bpfhost.replies import Reply
 from bpfhost.shards.errors import ShardError
 from bpfhost.shards.snapshot import Pairs, read_pairs
-from bpfhost.shards.tenancy import BODY, LiveMap, OpenProgram, Tenancy, renamed_maps
+from bpfhost.shards.tenancy import BODY, LiveMap, OpenProgram, Tenancy, command_of, renamed_maps, status_of
 
 _MOST_PROGRAMS = MOST_DESCRIPTORS - MOST_MAPS
 _OF_MAPS = (Command.MAP_UPDATE_ELEM, Command.MAP_DELETE_ELEM)
@@ -64,7 +64,7 @@ class Copy:
 
     def _frames_here(self, frame: bytes, reply: bytes) -> Iterator[Asked]:
         """What stands for a frame in the copy. What was refused changes nothing, and what only reads neither."""
-        status, command = int.from_bytes(reply[8:12], "little", signed=True), int.from_bytes(frame[6:BODY], "little")
+        status, command = status_of(reply), command_of(frame)
         if status < 0 or len(frame) < BODY:
             return
         on = self._tenancy.open.get(int.from_bytes(frame[BODY : BODY + 4], "little"))
@@ -88,14 +88,14 @@ class Copy:
             yield self._close(one)
 
     def _close(self, on: LiveMap | OpenProgram) -> Asked:
-        return frames.close(0, self._numbers.pop(on)), _reply(Command.CLOSE, 0)
+        return frames.close(0, self._numbers.pop(on)), Reply(0, Command.CLOSE, 0).to_bytes()
 
     def _opened(self, on: LiveMap | OpenProgram, frame: bytes) -> Asked:
         """Gives the lowest free number to what a frame makes."""
         taken = set(self._numbers.values())
-        number = next(number for number in range(3, 3 + MOST_DESCRIPTORS) if number not in taken)
+        number = next(number for number in range(FIRST_DESCRIPTOR, FIRST_DESCRIPTOR + MOST_DESCRIPTORS) if number not in taken)
         self._numbers[on] = number
-        return frame, _reply(int.from_bytes(frame[6:BODY], "little"), number)
+        return frame, Reply(0, command_of(frame), number).to_bytes()
 
     def _loaded(self, on: OpenProgram) -> Iterator[Asked]:
         """Loads a program with the numbers that its maps have here, if it is not loaded yet; the oldest makes room for it."""
@@ -106,7 +106,3 @@ class Copy:
             yield self._close(loaded[0])
         names = {one.descriptor: self._numbers[one] for one in on.maps}
         yield self._opened(on, frames.prog_load(0, renamed_maps(on.body[4:], names), SOCKET_FILTER))
-
-
-def _reply(command: int, status: int) -> bytes:
-    return struct.pack("<IHHi", 8, 0, command, status)

@@ -14,12 +14,13 @@ from bpfhost import frames as make
 from bpfhost.host import Host
 from bpfhost.numbers import MOST_TENANTS, Command, Errno
 from bpfhost.program import Program
+from bpfhost.replies import Reply
 from bpfhost.shards.connection import Entry
 from bpfhost.shards.copied import Asked, Copy
 from bpfhost.shards.errors import MemoryRefused, ShardError
 from bpfhost.shards.names import ARRIVES, FAULT, FRAMES, LEAVES, REPLIES, TENANT
 from bpfhost.shards.snapshot import read_pairs, same_pairs, split, state_frames, wanted_status, with_tenant
-from bpfhost.shards.tenancy import Tenancy
+from bpfhost.shards.tenancy import Tenancy, command_of, status_of
 
 # An entry has at most so many frames and bytes; each of the replies may have 4,108 bytes.
 MOST_FRAMES, LONGEST_CALL = 512, 262_144
@@ -99,7 +100,7 @@ class Serving:
     def take_snapshot(self, behind: bytes) -> dict[int, bytes]:
         """The frames that make the state of each tenant that may have changed since the last snapshot; of an empty one none.
 
-        `behind` is the last entry that was played.
+        `behind` is an id above that of the last entry that was played, and not above that of the next one.
         """
         new = {tenant: self._state(tenant, behind) for tenant in sorted(self._changed)}
         for tenant, stream in new.items():
@@ -124,8 +125,8 @@ class Serving:
             yield Written(call.entry, REPLIES, b"".join(own))
 
     def _note(self, call: _Call, frame: bytes, reply: bytes) -> None:
-        status, command = int.from_bytes(reply[8:12], "little", signed=True), int.from_bytes(frame[6:8], "little")
-        if status == -Errno.ENOMEM and command in _WANTS_MEMORY:
+        status = status_of(reply)
+        if status == -Errno.ENOMEM and command_of(frame) in _WANTS_MEMORY:
             raise MemoryRefused(f"memory was refused to entry {call.entry.decode()}: its reply is not written, nor any behind it")
         if self._tenants[call.tenant].note(frame, status):
             self._changed.add(call.tenant)
@@ -155,7 +156,7 @@ class Serving:
             raise ShardError(f"tenant {tenant} is not empty, and another one arrives there")
         made = split(stream)
         for frame, reply in zip(made, self._ask(with_tenant(frame, tenant) for frame in made)):
-            status, wanted = int.from_bytes(reply[8:12], "little", signed=True), wanted_status(tenancy, frame)
+            status, wanted = status_of(reply), wanted_status(tenancy, frame)
             if status != wanted:
                 raise ShardError(f"the state of tenant {tenant} can't be made: the host answers {status} and not {wanted}")
             tenancy.note(frame, status)
@@ -166,7 +167,7 @@ class Serving:
         tenancy = self._tenants[tenant]
         closes = [make.close(0, number) for number in list(tenancy.open)]
         for frame, reply in zip(closes, self._ask(with_tenant(frame, tenant) for frame in closes)):
-            if int.from_bytes(reply[8:12], "little"):
+            if status_of(reply):
                 raise ShardError(f"the host answers {reply.hex()} to the end of tenant {tenant}")
             tenancy.note(frame, 0)
         self._changed.add(tenant)
@@ -207,7 +208,7 @@ def answered(stream: bytes) -> Iterator[Asked]:
     for frame in split(stream):
         status = wanted_status(tenancy, frame)
         tenancy.note(frame, status)
-        yield frame, (8).to_bytes(4, "little") + frame[4:8] + status.to_bytes(4, "little")
+        yield frame, Reply(0, command_of(frame), status).to_bytes()
 
 
 # Entries.

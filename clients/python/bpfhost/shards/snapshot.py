@@ -9,9 +9,9 @@ from collections.abc import Iterable, Iterator, Mapping, Sequence
 from typing import Protocol
 
 from bpfhost import frames
-from bpfhost.numbers import FIRST_DESCRIPTOR, SOCKET_FILTER, Command, Errno, MapType
+from bpfhost.numbers import FIRST_DESCRIPTOR, REPLY_HEAD, SOCKET_FILTER, Command, Errno, MapType
 from bpfhost.shards.errors import ShardError
-from bpfhost.shards.tenancy import BODY, LiveMap, OpenProgram, Tenancy
+from bpfhost.shards.tenancy import BODY, LiveMap, OpenProgram, Tenancy, command_of, status_of
 
 # r0 = 0; exit: it takes a descriptor, and none of the room for maps.
 _FILLER = frames.prog_load(0, bytes.fromhex("b700000000000000 9500000000000000"), SOCKET_FILTER)
@@ -58,8 +58,7 @@ def _filled_up_to(descriptor: int, taken: set[int]) -> Iterator[bytes]:
 
 def wanted_status(tenancy: Tenancy, frame: bytes) -> int:
     """What a frame of a snapshot is answered: the lowest free descriptor, or 0."""
-    command = int.from_bytes(frame[6:BODY], "little")
-    return tenancy.lowest_free() if command in (Command.MAP_CREATE, Command.PROG_LOAD) else 0
+    return tenancy.lowest_free() if command_of(frame) in (Command.MAP_CREATE, Command.PROG_LOAD) else 0
 
 
 def with_tenant(frame: bytes, tenant: int) -> bytes:
@@ -107,21 +106,17 @@ def _walked(host: AsksBytes, tenant: int, maps: Mapping[LiveMap, int]) -> dict[L
     while going:
         asked = (frames.map_get_next_key(tenant, fd, keys[on][-1] if keys[on] else b"") for on, fd in going.items())
         for on, reply in zip(list(going), list(host.ask_bytes(asked))):
-            if _status(reply) == -Errno.ENOENT:
+            if status_of(reply) == -Errno.ENOENT:
                 del going[on]
             else:
                 keys[on].append(_payload(reply))
     return keys
 
 
-def _status(reply: bytes) -> int:
-    return int.from_bytes(reply[8:12], "little", signed=True)
-
-
 def _payload(reply: bytes) -> bytes:
-    if _status(reply):
-        raise ShardError(f"a map can't be read: the host answers {_status(reply)}")
-    return reply[12:]
+    if status_of(reply):
+        raise ShardError(f"a map can't be read: the host answers {status_of(reply)}")
+    return reply[REPLY_HEAD:]
 
 
 def same_pairs(some: Mapping[LiveMap, Pairs], others: Mapping[LiveMap, Pairs], maps: Sequence[LiveMap]) -> bool:

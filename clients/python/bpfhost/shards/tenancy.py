@@ -23,6 +23,16 @@ _MAKES = (Command.MAP_CREATE, Command.PROG_LOAD)
 _CHANGES = (Command.MAP_UPDATE_ELEM, Command.MAP_DELETE_ELEM, Command.PROG_TEST_RUN)
 
 
+def command_of(frame: bytes) -> int:
+    """The number of the command of a frame, or of a reply."""
+    return int.from_bytes(frame[6:BODY], "little")
+
+
+def status_of(reply: bytes) -> int:
+    """The status of a reply."""
+    return int.from_bytes(reply[BODY : BODY + 4], "little", signed=True)
+
+
 @dataclass(eq=False)
 class LiveMap:
     """A map, the descriptor that it was given, and the body of the frame that made it; `number` counts what the tenant made."""
@@ -57,9 +67,9 @@ class Tenancy:
 
     def note(self, frame: bytes, status: int) -> bool:
         """Notes a frame of this tenant and the status of its reply; whether it may have changed anything."""
-        command = frame[6] | frame[7] << 8
         if status < 0 or len(frame) < BODY:
             return False
+        command = command_of(frame)
         if command in _MAKES:
             self._open(command, status, frame[BODY:])
         elif command == Command.CLOSE:

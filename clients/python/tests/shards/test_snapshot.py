@@ -13,8 +13,8 @@ from bpfhost.shards.errors import MemoryRefused, ShardError
 from bpfhost.shards.names import ARRIVES, FRAMES, LEAVES, TENANT, order
 from bpfhost.shards.serving import Serving, answered
 from bpfhost.shards.snapshot import split, state_frames, with_tenant
-from bpfhost.shards.tenancy import Tenancy, named_maps, renamed_maps
-from tests.common import PROGRAM, SECONDS, HostTest
+from bpfhost.shards.tenancy import Tenancy, named_maps, renamed_maps, status_of
+from tests.common import PROGRAM, SECONDS, HostTest, TimedTest
 from tests.shards.streams import Stream, is_without_descriptor, slots_of
 
 SERVINGS, TENANTS, LENGTH = 5, 64, 200
@@ -135,6 +135,16 @@ class Snapshots(HostTest):
                         host.play([log.add(tenant, LEAVES, b"8")])
             first.take_snapshot(b"%d-0" % (len(old.entries) + 1))
             self.assertEqual(first.snapshot, {})
+
+
+class WrongFrames(TimedTest):
+    def test_frames_that_are_too_short_change_nothing(self) -> None:
+        for length in range(8):
+            self.assertFalse(Tenancy().note(bytes(length), 0))
+
+    def test_more_is_made_than_there_are_descriptors(self) -> None:
+        statuses = [status_of(reply) for _, reply in answered(frames.map_create(0, MapType.HASH, 4, 8, 1) * 65)]
+        self.assertEqual(statuses, [*range(3, 67), -1])
 
 
 class MapsWithoutDescriptors(HostTest):

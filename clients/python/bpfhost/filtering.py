@@ -68,7 +68,6 @@ class Filter:
         """The filter by its runs for each tenant, from 0 on."""
         self._host = runs[0].host
         self._runs = list(runs)
-        self._fault: CaptureError | None = None
 
     def run(
         self,
@@ -84,16 +83,15 @@ class Filter:
         """
         outcome = Outcome()
         begun = time.perf_counter()
-        for piece, results in self._results(self._pieces(capture, limit)):
+        for piece, results in self._results(self._pieces(capture, limit, outcome)):
             outcome.add(piece, results)
             accept(piece, results)
             advanced(capture)
         outcome.seconds = time.perf_counter() - begun
-        outcome.fault = self._fault
         return outcome
 
-    def _pieces(self, capture: Capture, limit: int | None) -> Iterator[Piece]:
-        """The pieces of a capture up to a limit, or up to a fault, which is noted."""
+    def _pieces(self, capture: Capture, limit: int | None, outcome: Outcome) -> Iterator[Piece]:
+        """The pieces of a capture up to a limit, or up to a fault, which is noted in the outcome."""
         left = limit
         try:
             for piece in capture.pieces(self._runs[0].most):
@@ -105,7 +103,7 @@ class Filter:
                 if left == 0:
                     return
         except CaptureError as error:
-            self._fault = error
+            outcome.fault = error
 
     def _results(self, pieces: Iterator[Piece]) -> Iterator[tuple[Piece, tuple[int, ...]]]:
         """Each piece with its results, which all tenants have to share."""

@@ -58,7 +58,11 @@ def serve(program: Program, tenants: int, stream: bytes) -> bytes:
 
 def assemble(program: Program, text: str) -> bytes:
     """The slots, as bytes, that `bpfhost asm` makes of a program's text."""
-    return bytes.fromhex(_written(program, ["asm"], text.encode()).decode())
+    written = _written(program, ["asm"], text.encode())
+    try:
+        return bytes.fromhex(written.decode())
+    except ValueError as error:
+        raise HostError(f"{os.fspath(program)} asm does not write hex lines: it is no bpfhost", written=written, status=0) from error
 
 
 def disassemble(program: Program, slots: bytes) -> str:

@@ -12,7 +12,7 @@ from collections.abc import Iterable, Iterator, Sequence
 from typing import TYPE_CHECKING
 
 from bpfhost.errors import ReplyError
-from bpfhost.frames import NO_CONTEXT, Context
+from bpfhost.frames import NO_CONTEXT, Context, prog_test_run
 from bpfhost.numbers import LONGEST_PACKET, REPLY_HEAD, Command
 from bpfhost.packets import ETHERNET, Packets
 from bpfhost.replies import Reply
@@ -22,11 +22,9 @@ if TYPE_CHECKING:
 
 # The reply to a run that ended has four words: its length, the tenant and the command, the status, and the result.
 _REPLY_SIZE = REPLY_HEAD + 4
-# Bytes of a frame behind its length and before its packet.
-_HEAD = 48
 _ETHERNET_HEAD = 14
-# Where the word `protocol` stands in the context.
-_PROTOCOL = slice(12, 16)
+# Bytes of a frame's length, and where the context's word `protocol` stands behind it.
+_LENGTH, _PROTOCOL = 4, slice(20, 24)
 # A number below is no type but the length of IEEE 802.3, for which the kernel has a type of its own (linux/if_ether.h).
 _LEAST_TYPE, _ETH_P_802_2 = b"\x06\x00", b"\x00\x04"
 
@@ -59,25 +57,24 @@ class _Heads:
     def __init__(self, tenant: int, program: int, context: Context) -> None:
         self.lengths: list[bytes] = []
         self.contexts: dict[int | None, bytes] = {}
-        self._whose = struct.pack("<HHI", tenant, Command.PROG_TEST_RUN, program)
-        self._words = context.to_bytes()
+        self._head = prog_test_run(tenant, program, b"", context)[_LENGTH:]
 
     def learn(self, lengths: Sequence[int], types: Sequence[int | None]) -> None:
         """Takes lengths of packets, and types in their headers; a ValueError where no test run takes such a packet."""
         longest = max(lengths)
         if longest > LONGEST_PACKET:
             raise ValueError(f"a packet has {longest:,} bytes, and that of a test run has {LONGEST_PACKET:,} at most")
-        self.lengths += [struct.pack("<I", _HEAD + length) for length in range(len(self.lengths), longest + 1)]
+        self.lengths += [struct.pack("<I", len(self._head) + length) for length in range(len(self.lengths), longest + 1)]
         for ethernet_type in set(types) - self.contexts.keys():
             self.contexts[ethernet_type] = self._context(ethernet_type)
 
     def _context(self, ethernet_type: int | None) -> bytes:
-        words = bytearray(self._words)
+        head = bytearray(self._head)
         if ethernet_type is not None:
             # It stands there as in the packet.
             protocol = ethernet_type.to_bytes(2, "little")
-            words[_PROTOCOL] = (protocol if protocol >= _LEAST_TYPE else _ETH_P_802_2) + bytes(2)
-        return self._whose + words
+            head[_PROTOCOL] = (protocol if protocol >= _LEAST_TYPE else _ETH_P_802_2) + bytes(2)
+        return bytes(head)
 
 
 class TestRuns:

@@ -9,6 +9,7 @@ import json
 import os
 import pty
 import re
+import shlex
 import shutil
 import signal
 import subprocess
@@ -61,8 +62,12 @@ class CommandTest(HostTest):
 
     def process(self, *words: str, given: bytes = b"", **variables: str) -> Ended:
         """The same by `python3 -m bpfhost`, in a process of its own."""
+        return self.shell(shlex.join(words), given, **variables)
+
+    def shell(self, words: str, given: bytes = b"", **variables: str) -> Ended:
+        """The same with what the shell makes of these words, as of `replies > FILE`."""
         environment = {**os.environ, "PYTHONPATH": str(PACKAGE), "BPFHOST": PROGRAM, "VERIFIER_LOG": "", **variables}
-        call = [sys.executable, "-m", "bpfhost", *words]
+        call = ["bash", "-c", f"{shlex.quote(sys.executable)} -m bpfhost {words}"]
         ended = subprocess.run(call, input=given, capture_output=True, check=False, cwd=self.scratch, env=environment)
         return Ended(ended.stdout, ended.stderr, ended.returncode)
 
@@ -184,6 +189,8 @@ class Texts(CommandTest):
     def test_the_program_is_not_there(self) -> None:
         self.refuses(3, "/nowhere does not start: No such file or directory", "asm", "--bpfhost", "/nowhere")
         self.refuses(3, "there is no program bpfhost", "asm", BPFHOST="", PATH="") if not self.is_built() else None
+        other = self.pretender("print('what was', read())")
+        self.refuses(3, f"{other} asm does not write hex lines: it is no bpfhost", "asm", "--bpfhost", other)
 
     def is_built(self) -> bool:
         """Whether the clone that the package stands in has a program."""
@@ -201,22 +208,16 @@ class Frames(CommandTest):
 
     def test_what_is_wrong(self) -> None:
         self.refuses(1, "the bytes from 0 on begin with no whole reply", "replies", given=b"abc")
-        self.refuses(1, "standard input:1: a slot is", "load", "0", given=b"abc")
+        for given in (b"abc", b"\xff" * 16, b"9500000000000000\xff"):
+            self.refuses(1, "standard input:1: a slot is", "load", "0", given=given)
         self.refuses(1, "the tenant is 65536", "test-run", "65536", "3")
 
     def test_there_is_no_room(self) -> None:
-        call = f"{sys.executable} -m bpfhost replies > /dev/full"
-        environment = {**os.environ, "PYTHONPATH": str(PACKAGE)}
-        replies = bytes.fromhex("08000000 0000 0500 03000000")
-        ended = subprocess.run(["bash", "-c", call], input=replies, capture_output=True, check=False, env=environment)
-        told = b"bpfhost: standard input or output: No space left on device\n"
-        self.assertEqual((ended.stderr, ended.returncode), (told, 1))
+        ended = self.shell("replies > /dev/full", bytes.fromhex("08000000 0000 0500 03000000"))
+        self.is_refusal(ended, 1, "standard input or output: No space left on device")
 
     def test_nobody_reads(self) -> None:
-        replies = bytes.fromhex("08000000 0000 0500 03000000") * 100_000
-        call = f"{sys.executable} -m bpfhost replies | head -n 1"
-        environment = {**os.environ, "PYTHONPATH": str(PACKAGE)}
-        ended = subprocess.run(["bash", "-c", call], input=replies, capture_output=True, check=False, env=environment)
+        ended = self.shell("replies | head -n 1", bytes.fromhex("08000000 0000 0500 03000000") * 100_000)
         self.assertEqual(ended.stderr, b"bpfhost: what reads the output has ended\n")
 
 
@@ -308,6 +309,7 @@ class Run(CommandTest):
         before = (self.scratch / "sample.pcap").read_bytes()
         os.symlink("sample.pcap", self.scratch / "the_same")
         self.refuses(1, "can't be written over the capture", "run", "counter.o", "sample.pcap", "--accepted", "the_same")
+        self.is_refusal(self.shell("run counter.o - --accepted sample.pcap < sample.pcap"), 1, "can't be written over the capture")
         self.assertEqual((self.scratch / "sample.pcap").read_bytes(), before)
 
     def test_an_object_is_not_written_over(self) -> None:

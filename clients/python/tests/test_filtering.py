@@ -116,6 +116,15 @@ class Filtering(HostTest):
         kept = [record for record in RECORDS[:-1] if record[0]]
         self.assertEqual((self.scratch / "kept").read_bytes(), pcap(kept))
 
+    def test_a_fault_is_that_of_its_capture_alone(self) -> None:
+        (self.scratch / "cut").write_bytes(pcap(RECORDS)[:-1])
+        (self.scratch / "whole").write_bytes(pcap(RECORDS))
+        with Host(PROGRAM) as host:
+            one = Filter([TestRuns(host, 0, host.tenant().prog_load(LENGTH))])
+            for name, fault in (("cut", "it is cut off in packet 1,800"), ("whole", "None")):
+                with open_capture(self.scratch / name) as capture:
+                    self.assertRegex(str(one.run(capture).fault), fault)
+
     def test_a_fault_behind_the_limit_is_not_met(self) -> None:
         self.assertIsNone(self.run_on(pcap(RECORDS[:6])[:-1], LENGTH, limit=5).fault)
 

@@ -47,6 +47,11 @@ class Frames(TimedTest):
                 with self.assertRaisesRegex(ValueError, "a packet has 65,537 bytes, and that of a test run has 65,536 at most"):
                     runs.frames(Packets.of([bytes(65_537)], link_type))
 
+    def test_numbers_that_have_no_room(self) -> None:
+        with Host(self.pretender("read()")) as host:
+            self.assertRaisesRegex(ValueError, "the tenant is 65536, and a frame has room for 0 to 65535", TestRuns, host, 65536, 3)
+            self.assertRaisesRegex(ValueError, "the descriptor is -1, and a frame has room for 0 to 4294967295", TestRuns, host, 0, -1)
+
     def test_replies_to_something_else(self) -> None:
         for reply in ("0c000000 0100 0a00 00000000 05000000", "0c000000 0000 0100 00000000 05000000", "08000000 0000 0a00 00000000"):
             program = self.pretender(f"read(52); os.write(1, bytes.fromhex({reply!r})); read()")

@@ -19,7 +19,9 @@ def show_replies(_said: argparse.Namespace) -> int:
 
 def write_load(said: argparse.Namespace) -> int:
     """Writes a frame that loads the hex lines on standard input."""
-    sys.stdout.buffer.write(frames.prog_load(said.tenant, slots_of(sys.stdin.read())))
+    # What is not even text is refused by its line, as all that is no slot.
+    lines = sys.stdin.buffer.read().decode(errors="replace")
+    sys.stdout.buffer.write(frames.prog_load(said.tenant, slots_of(lines)))
     return 0
 
 

@@ -34,8 +34,9 @@ def run(said: argparse.Namespace) -> int:
     from bpfhost.loading import choose_program, load_program
 
     program = choose_program(object_file, said.section)
-    _refuse_loss(said)
-    with open_capture(_STANDARD_INPUT if said.capture == "-" else said.capture) as capture, Host(find_program(said.bpfhost), said.tenants) as host:
+    path = _STANDARD_INPUT if said.capture == "-" else said.capture
+    _refuse_loss(said.accepted, (said.object, "object that is run"), (path, "capture that they are read from"))
+    with open_capture(path) as capture, Host(find_program(said.bpfhost), said.tenants) as host:
         loaded = [load_program(host.tenant(number), object_file, program) for number in range(said.tenants)]
         with _accepting(said, capture) as accept, _progress(capture) as advanced:
             outcome = Filter([each.runs() for each in loaded]).run(capture, said.limit, accept, advanced)
@@ -48,11 +49,11 @@ def run(said: argparse.Namespace) -> int:
     return _noted(said.capture, outcome)
 
 
-def _refuse_loss(said: argparse.Namespace) -> None:
-    """An InputError where the packets that are kept would be written over what is read."""
-    for name, what in ((said.object, "object that is run"), (said.capture, "capture that they are read from")):
-        if said.accepted is not None and os.path.exists(said.accepted) and os.path.exists(name) and os.path.samefile(said.accepted, name):
-            raise InputError(f"{said.accepted}: the packets that are kept can't be written over the {what}")
+def _refuse_loss(accepted: str | None, *read: tuple[str, str]) -> None:
+    """An InputError where the packets that are kept would be written over one of the files that are read, each told with what it is."""
+    for path, what in read:
+        if accepted is not None and os.path.exists(accepted) and os.path.exists(path) and os.path.samefile(accepted, path):
+            raise InputError(f"{accepted}: the packets that are kept can't be written over the {what}")
 
 
 @contextlib.contextmanager

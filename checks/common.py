@@ -1,4 +1,4 @@
-"""What the checks use: the path of the client in Python, numbers as bytes, and a program that looks up index 0 of an array."""
+"""What the checks use: the path of the client in Python, numbers as bytes, and texts of calls and of a program that looks up."""
 
 import sys
 from pathlib import Path
@@ -8,13 +8,24 @@ sys.path.insert(0, str(Path(__file__).resolve().parents[1] / "clients/python"))
 # The descriptors that a tenant is given, in their order.
 MAP, SECOND, THIRD = 3, 4, 5
 
+# Helpers.
+LOOK_UP, UPDATE, DELETE = 1, 2, 3
+
+
+def calls_with_key(helper: int, fd: int, key: int = -4) -> str:
+    """The text of a call with a map and the key that stands there in the stack."""
+    return f"r2 = r10\nr2 += {key}\nr1 = map_fd {fd} ll\ncall {helper}\n"
+
+
+def updates(fd: int, flags: int = 0) -> str:
+    """The text of an update, which puts the value at r10 - 16 under the key at r10 - 4."""
+    return f"r2 = r10\nr2 += -4\nr3 = r10\nr3 += -16\nr1 = map_fd {fd} ll\nr4 = {flags}\ncall {UPDATE}\n"
+
+
 # Answers what index 0 of an array holds.
 READS_INDEX = f"""
 *(u32 *)(r10 - 4) = 0
-r2 = r10
-r2 += -4
-r1 = map_fd {MAP} ll
-call 1
+{calls_with_key(LOOK_UP, MAP)}
 if r0 != 0 goto there
 r0 = 0
 exit

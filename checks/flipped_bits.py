@@ -6,23 +6,24 @@ It is refused, or it runs to its end. Either way the other tenant finds its maps
 answered as by a host where it is alone.
 """
 
+from __future__ import annotations
+
 import sys
+from collections.abc import Iterable, Sequence
 from dataclasses import dataclass
 
 sys.dont_write_bytecode = True
 
-from common import MAP, READS_INDEX, SECOND, number  # noqa: E402
-from bpfhost import Errno, MapType, assemble, frames, read_replies, serve  # noqa: E402
+from common import DELETE, LOOK_UP, MAP, READS_INDEX, SECOND, calls_with_key, number, updates  # noqa: E402
+from bpfhost import Errno, MapType, Reply, assemble, frames, read_replies, serve  # noqa: E402
 
 FLIPPED, OTHER = 0, 1
 PACKET = bytes([1, 2, 3, 4])
-
-
 ONE = number(1, 4)
 INDEX = number(0, 4)
 
 
-def array_with(value):
+def array_with(value: bytes) -> tuple[bytes, ...]:
     return (
         frames.map_create(FLIPPED, MapType.ARRAY, 4, 8, 1),
         frames.map_update_elem(FLIPPED, MAP, INDEX, value),
@@ -35,7 +36,7 @@ class Case:
 
     name: str
     text: str
-    opening: tuple = ()
+    opening: tuple[bytes, ...] = ()
 
 
 BYTE_OF_VALUE = f"""
@@ -46,10 +47,7 @@ r4 = 1
 call 26
 r6 = *(u8 *)(r10 - 1)
 *(u32 *)(r10 - 8) = 0
-r2 = r10
-r2 += -8
-r1 = map_fd {MAP} ll
-call 1
+{calls_with_key(LOOK_UP, MAP, -8)}
 if r0 == 0 goto none
 if r6 > 7 goto none
 r0 += r6
@@ -62,25 +60,13 @@ exit
 
 WRITES_WHAT_IT_DELETED = f"""
 *(u32 *)(r10 - 4) = 1
-r2 = r10
-r2 += -4
-r1 = map_fd {MAP} ll
-call 1
+{calls_with_key(LOOK_UP, MAP)}
 if r0 == 0 goto none
 r6 = r0
-r2 = r10
-r2 += -4
-r1 = map_fd {MAP} ll
-call 3
+{calls_with_key(DELETE, MAP)}
 *(u32 *)(r10 - 4) = 2
 *(u64 *)(r10 - 16) = 6
-r2 = r10
-r2 += -4
-r3 = r10
-r3 += -16
-r1 = map_fd {MAP} ll
-r4 = 0
-call 2
+{updates(MAP)}
 *(u64 *)(r6 + 0) = 7
 exit
 none:
@@ -157,15 +143,15 @@ OTHERS_STATUSES = [MAP, 0, SECOND, 0, 0, 0]
 OTHERS_VALUES = [number(5, 8), number(1, 4)]
 
 
-def replies(bpfhost, sent):
+def replies(bpfhost: str, sent: Iterable[bytes]) -> list[Reply]:
     return list(read_replies(serve(bpfhost, 2, b"".join(sent))))
 
 
-def of(tenant, told):
+def of(tenant: int, told: Sequence[Reply]) -> list[Reply]:
     return [reply for reply in told if reply.tenant == tenant]
 
 
-def play(bpfhost, case, slots):
+def play(bpfhost: str, case: Case, slots: bytes) -> tuple[str | None, bool]:
     """What is wrong with the answers, or None; and whether the program was accepted."""
     program = SECOND if case.opening else MAP
     load = frames.prog_load(FLIPPED, slots)
@@ -186,7 +172,7 @@ def play(bpfhost, case, slots):
     return None, accepted
 
 
-def check(bpfhost, case):
+def check(bpfhost: str, case: Case) -> None:
     slots = assemble(bpfhost, case.text)
     wrong, accepted = play(bpfhost, case, slots)
     if wrong or not accepted:
@@ -202,7 +188,7 @@ def check(bpfhost, case):
     print(f"{case.name}: {8 * len(slots)} programs, of which {count} are accepted", flush=True)
 
 
-def main():
+def main() -> None:
     for case in CASES:
         check(sys.argv[1], case)
 

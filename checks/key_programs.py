@@ -8,12 +8,18 @@ from __future__ import annotations
 import random
 from collections.abc import Callable
 
-from common import number
+from common import DELETE, LOOK_UP, calls_with_key, number, updates
 from bpfhost import Update
 from model import WORD, Code, Map, answer_of
 
-LOOK_UP = "*(u32 *)(r10 - 4) = {key}\nr2 = r10\nr2 += -4\nr1 = map_fd {fd} ll\ncall 1\nif r0 != 0 goto +2\nr0 = 0\nexit\n"
-UPDATE = "r2 = r10\nr2 += -4\nr3 = r10\nr3 += -16\nr1 = map_fd {fd} ll\nr4 = {flags}\ncall 2\n"
+
+def look_up(fd: int, key: int) -> str:
+    """The text of a look-up, behind which register 0 points to the value; the answer is 0 where there is none."""
+    return put_key(key) + calls_with_key(LOOK_UP, fd) + "if r0 != 0 goto +2\nr0 = 0\nexit\n"
+
+
+def put_key(key: int) -> str:
+    return f"*(u32 *)(r10 - 4) = {key}\n"
 
 
 def read_word(value: bytes) -> int:
@@ -76,20 +82,17 @@ def write_program(draw: random.Random, fd: int, other: int, is_eight: bool) -> t
     key, value = draw.randrange(4), draw.randrange(1 << 31)
     name = number(key, 4)
     choice = draw.randrange(5 if is_eight else 3)
-    found = LOOK_UP.format(key=key, fd=fd)
+    found = look_up(fd, key)
     if choice == 0:
         return found + "r0 = *(u64 *)(r0 + 0)\nexit\n", reads(name)
     if choice == 1:
         return found + "r1 = *(u64 *)(r0 + 0)\nr1 += 7\n*(u64 *)(r0 + 0) = r1\nr0 = r1\nexit\n", adds(name)
     if choice == 2:
-        again = LOOK_UP.format(key=key, fd=other)
-        return found + "r6 = r0\n" + again + "r1 = *(u64 *)(r6 + 0)\n*(u64 *)(r0 + 0) = r1\nr0 = r1\nexit\n", copies(name)
+        return found + "r6 = r0\n" + look_up(other, key) + "r1 = *(u64 *)(r6 + 0)\n*(u64 *)(r0 + 0) = r1\nr0 = r1\nexit\n", copies(name)
     stored = f"*(u64 *)(r10 - 16) = {value}\n"
     if choice == 3:
         flags = draw.choice((0, 0, 1, 2, 3))
-        text = f"*(u32 *)(r10 - 4) = {key}\n" + stored + UPDATE.format(fd=fd, flags=flags) + "exit\n"
-        return text, puts(name, value, flags)
+        return put_key(key) + stored + updates(fd, flags) + "exit\n", puts(name, value, flags)
     second = draw.randrange(4)
-    delete = f"r6 = r0\nr2 = r10\nr2 += -4\nr1 = map_fd {fd} ll\ncall 3\n"
-    text = found + delete + f"*(u32 *)(r10 - 4) = {second}\n" + stored + UPDATE.format(fd=fd, flags=0)
+    text = found + "r6 = r0\n" + calls_with_key(DELETE, fd) + put_key(second) + stored + updates(fd)
     return text + "*(u64 *)(r6 + 0) = 9\nexit\n", replaces(name, number(second, 4), value)

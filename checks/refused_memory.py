@@ -7,18 +7,21 @@ told, once, as want of memory, and nothing else may differ: what was refused and
 been, and the other tenant is answered so from the beginning.
 """
 
+from __future__ import annotations
+
 import itertools
 import os
 import subprocess
 import sys
 import tempfile
+from collections.abc import Iterator, Sequence
 from dataclasses import dataclass
 from pathlib import Path
 
 sys.dont_write_bytecode = True
 
-from common import MAP, READS_INDEX, SECOND, THIRD, number  # noqa: E402
-from bpfhost import Errno, Host, HostError, MapType, Update, assemble, frames, hex_lines  # noqa: E402
+from common import MAP, READS_INDEX, SECOND, THIRD, number, updates  # noqa: E402
+from bpfhost import Errno, Host, HostError, MapType, Reply, Update, assemble, frames, hex_lines  # noqa: E402
 
 PROGRAM = SECOND
 TENANTS = 2
@@ -28,13 +31,7 @@ WANT_OF_MEMORY = 4
 PUTS_KEY = f"""
 *(u32 *)(r10 - 4) = 1
 *(u64 *)(r10 - 16) = 6
-r2 = r10
-r2 += -4
-r3 = r10
-r3 += -16
-r1 = map_fd {MAP} ll
-r4 = 0
-call 2
+{updates(MAP)}
 exit
 """
 
@@ -57,6 +54,9 @@ exit
 
 MAP_ARGUMENT = "3:array:4:8:1"
 
+# What a program ended with: its status, and what it wrote.
+Ended = tuple[int, bytes, bytes]
+
 
 class Differs(Exception):
     """An answer that no refusal explains."""
@@ -71,7 +71,7 @@ class Step:
     run_grows: bool = False
 
 
-def of_first_tenant(slots):
+def of_first_tenant(slots: bytes) -> list[Step]:
     """A hash map, a program that puts a key into it, and each command on the map."""
     key, other, value = number(1, 4), number(2, 4), number(8, 8)
     return [
@@ -92,7 +92,7 @@ def of_first_tenant(slots):
     ]
 
 
-def of_second_tenant(slots, direct):
+def of_second_tenant(slots: bytes, direct: bytes) -> list[Step]:
     """An array, a program that reads it, and one that counts in it by a direct load."""
     return [
         Step(frames.map_create(1, MapType.ARRAY, 4, 8, 1), grows=True),
@@ -110,21 +110,21 @@ def of_second_tenant(slots, direct):
     ]
 
 
-def in_turn(ours, theirs):
+def in_turn(ours: list[Step], theirs: list[Step]) -> list[Step]:
     return [step for both in itertools.zip_longest(ours, theirs) for step in both if step]
 
 
-def is_want_of_memory(reply, step):
+def is_want_of_memory(reply: Reply, step: Step) -> bool:
     """Whether the reply tells want of memory to a command that may have been refused some: -12, and no payload."""
     return step.grows and reply.status == -Errno.ENOMEM and not reply.payload
 
 
-def helper_was_refused(reply, step):
+def helper_was_refused(reply: Reply, step: Step) -> bool:
     """Whether a run's result is the helper's want of memory."""
     return step.run_grows and not reply.status and reply.result() == -Errno.ENOMEM % 2**32
 
 
-def ask_again(host, step, reply, wanted):
+def ask_again(host: Host, step: Step, reply: Reply, wanted: Reply) -> None:
     """What was refused is done at the second asking; the key that the helper was refused is not there before."""
     if helper_was_refused(reply, step):
         missing = host.ask(frames.map_lookup_elem(0, MAP, number(1, 4)))
@@ -137,9 +137,9 @@ def ask_again(host, step, reply, wanted):
         raise Differs(f"at the second asking {second}, in place of {wanted}")
 
 
-def play(bpfhost, steps, wanted):
+def play(bpfhost: str, steps: Sequence[Step], wanted: Sequence[Reply]) -> int | None:
     """How many steps were refused memory; None where the host ended for want of it before any reply."""
-    told = 0
+    at = told = 0
     try:
         with Host(bpfhost, TENANTS) as host:
             for at, (step, answer) in enumerate(zip(steps, wanted)):
@@ -157,12 +157,12 @@ def play(bpfhost, steps, wanted):
 class Refusals:
     """Runs in which one call for memory is refused: the first, the second, and so on until none is."""
 
-    def __init__(self, library, folder):
+    def __init__(self, library: str, folder: str) -> None:
         self._told = Path(folder) / "refused"
         os.environ["LD_PRELOAD"] = str(Path(library).resolve())
         os.environ["REFUSED_FILE"] = str(self._told)
 
-    def runs(self):
+    def runs(self) -> Iterator[int]:
         """The number of each run's call. The one that asks for the next tells whether it was refused."""
         for call in itertools.count(1):
             os.environ["REFUSED_CALL"] = str(call)
@@ -171,11 +171,11 @@ class Refusals:
             if not self._told.exists():
                 return
 
-    def refused(self):
+    def refused(self) -> bool:
         return self._told.exists()
 
 
-def check_frames(bpfhost, refusals, steps, wanted):
+def check_frames(bpfhost: str, refusals: Refusals, steps: Sequence[Step], wanted: Sequence[Reply]) -> None:
     """Each frame's answer, whichever call for memory is refused."""
     at_start = in_frames = 0
     for call in refusals.runs():
@@ -194,12 +194,12 @@ def check_frames(bpfhost, refusals, steps, wanted):
     print(f"serve: {at_start} refusals before the first frame, {in_frames} in frames")
 
 
-def ends(bpfhost, words, given):
+def ends(bpfhost: str, words: Sequence[str], given: bytes) -> Ended:
     ended = subprocess.run([bpfhost, *words], input=given, capture_output=True, timeout=60, check=False)
     return ended.returncode, ended.stdout, ended.stderr
 
 
-def check_words(program, refusals, name, words, given, wanted):
+def check_words(program: str, refusals: Refusals, name: str, words: Sequence[str], given: bytes, wanted: Ended) -> None:
     """One run of the program for each call for memory: refused, it writes one line to its standard error, and ends with 4."""
     told = 0
     for call in refusals.runs():
@@ -213,7 +213,7 @@ def check_words(program, refusals, name, words, given, wanted):
     print(f"{name}: {told} refusals")
 
 
-def logs(lines):
+def logs(lines: bytes) -> list[tuple[str, list[str], bytes, int]]:
     """Runs of verifier_log: on a program that is accepted, and on one in which a register is missing on one way, for which
     the pass over the program is made once more. With their statuses."""
     return [
@@ -223,7 +223,7 @@ def logs(lines):
     ]
 
 
-def main():
+def main() -> None:
     bpfhost, library, *verifier_log = sys.argv[1:]
     puts, reads, counts = (assemble(bpfhost, text) for text in (PUTS_KEY, READS_INDEX, COUNTS))
     steps = in_turn(of_first_tenant(puts), of_second_tenant(reads, counts))

@@ -79,7 +79,8 @@ def atomics(slots: bytes) -> list[Atomic]:
 
 def misspelled(slots: bytes) -> list[tuple[int, int]]:
     """The reasons for which slots are no instruction, or 0, in the order of the slots."""
-    return sorted((it.slot, it.misspelled()) for it in (*wide_loads(slots), *atomics(slots)))
+    found: list[WideLoad | Atomic] = [*wide_loads(slots), *atomics(slots)]
+    return sorted((it.slot, it.misspelled()) for it in found)
 
 
 # Spoiled slots.

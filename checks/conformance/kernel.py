@@ -6,12 +6,11 @@ import errno
 import os
 import re
 import struct
-import subprocess
 from collections import Counter
 from dataclasses import dataclass, field
 
-from bpfhost.errors import HostError
-from bpfhost.program import serve
+from bpfhost.numbers import Command
+from bpfhost.program import serve, verify
 from bpfhost.replies import Reply, read_replies
 from bpfhost.words import reason_words
 from conformance import bpf
@@ -19,10 +18,8 @@ from conformance.bpf import Refused
 from conformance.played import Case, Verdict
 from conformance.rules import rule_of
 
-NAMES = {0: "MAP_CREATE", 1: "MAP_LOOKUP_ELEM", 2: "MAP_UPDATE_ELEM", 3: "MAP_DELETE_ELEM", 4: "MAP_GET_NEXT_KEY", 5: "PROG_LOAD",
-         10: "PROG_TEST_RUN", 256: "CLOSE"}
+NAMES = {int(command): command.name for command in Command}
 NO_DESCRIPTOR = 1 << 20
-KINDS = {"hash": 1, "array": 2}
 
 
 @dataclass
@@ -141,7 +138,7 @@ def asked(tenant: Kernel, command: int, body: bytes) -> tuple[int, bytes, Open |
             return 0, b"", tenant.create(body) if command == bpf.MAP_CREATE else tenant.load(body), ""
         if command == bpf.TEST_RUN:
             return 0, tenant.run(body), None, ""
-        if command == 256:
+        if command == Command.CLOSE:
             tenant_fd = struct.unpack("<I", body)[0]
             if tenant_fd not in tenant.open:
                 raise Refused(errno.EBADF)
@@ -213,31 +210,20 @@ def compare(kernel: Kernel, body: bytes, reply: Reply, tally: Tally, name: str) 
         os.close(opened.fd)
 
 
-def verdict_here(program: str, each: Verdict) -> tuple[int, int] | None:
-    """The slot and the reason of a refusal, or none."""
-    words = [f"{fd}:{kind}:{key}:{value}:{entries}" for fd, (kind, key, value, entries) in each.maps.items()]
-    hex_lines = "".join(each.slots[at:at + 8].hex() + "\n" for at in range(0, len(each.slots), 8))
-    told = subprocess.run([program, "verify", *words], input=hex_lines, capture_output=True, text=True, check=False).stdout
-    found = re.fullmatch(r"refused: slot (\d+) reason (\d+)\n", told)
-    if not found and told != "accepted\n":
-        raise HostError(f"bpfhost verify {' '.join(words)} tells no verdict")
-    return (int(found[1]), int(found[2])) if found else None
-
-
 def judge(program: str, each: Verdict, tally: Tally) -> None:
     """The verdict of the program and of the kernel on one program."""
     fds: dict[int, int] = {}
     log, is_accepted = "", True
     try:
-        for fd, (kind, key, value, entries) in each.maps.items():
-            fds[fd] = bpf.map_create(KINDS[kind], key, value, entries, 0)
+        for fd, shape in each.maps.items():
+            fds[fd] = bpf.map_create(shape.map_type, shape.key_size, shape.value_size, shape.max_entries, 0)
         os.close(bpf.prog_load(with_descriptors(each.slots, fds)))
     except Refused as refused:
         log, is_accepted = refused.log, False
     finally:
         for number in fds.values():
             os.close(number)
-    here = verdict_here(program, each)
+    here = verify(program, each.slots, each.maps).refused
     found = None
     if here and is_accepted:
         found = f"refused by the host alone, reason {here[1]}: {reason_words(here[1])}"

@@ -6,7 +6,7 @@ import re
 from collections.abc import Callable, Iterator
 from dataclasses import dataclass
 
-from bpfhost import frames
+from bpfhost import MapShape, MapType, frames
 from bpfhost.program import assemble
 from conformance.cases import CRATES
 
@@ -25,11 +25,11 @@ class Case:
 
 @dataclass(frozen=True)
 class Verdict:
-    """A program's slots, and what the descriptors that it names are: kind, key, value, entries."""
+    """A program's slots, and the maps that the descriptors which it names are."""
 
     name: str
     slots: bytes
-    maps: dict[int, tuple[str, int, int, int]]
+    maps: dict[int, MapShape]
 
 
 def bytes_of(digits: str) -> bytes:
@@ -95,7 +95,7 @@ def cases(program: str) -> Iterator[Case]:
 
 def verdicts(program: str) -> Iterator[Verdict]:
     """The programs of `verifier_tests`, with the maps that their descriptors name, where they are descriptors of `bpfhost verify`."""
-    name, maps = "", dict[int, tuple[str, int, int, int]]()
+    name, maps = "", dict[int, MapShape]()
     programs = set[int]()
     for line in (CRATES / "verifier_tests/stdin").read_text().splitlines():
         word, _, rest = line.partition(" ")
@@ -106,7 +106,7 @@ def verdicts(program: str) -> Iterator[Verdict]:
         elif word == "map":
             fd, kind, *sizes = rest.split()
             if int(fd) not in programs:
-                maps.setdefault(int(fd), (kind, int(sizes[0]), int(sizes[1]), int(sizes[2])))
+                maps.setdefault(int(fd), MapShape(MapType[kind.upper()], int(sizes[0]), int(sizes[1]), int(sizes[2])))
         elif word == "program":
             programs.add(int(rest))
         elif word == "verify" and not programs and all(FIRST <= fd <= LAST for fd in maps):

@@ -10,15 +10,12 @@ the command `run` too, which asks the program of the variable BPFHOST. A capture
 
 from __future__ import annotations
 
-import argparse
 import contextlib
 import io
 import os
 import random
 import sys
-import tempfile
 import threading
-from collections import Counter
 from pathlib import Path
 
 from bpfhost import CaptureError
@@ -26,7 +23,7 @@ from bpfhost.captures import open_capture
 from bpfhost.captures.piece import Stamp
 from bpfhost.command import main as command
 from tests.capture_bytes import NANO, RAW_IP, block, enhanced, interface, old, pcap, pcapng, section, simple
-from tests.damaging import damaged, keep, limit
+from tests.damaging import Original, Trial, limit
 
 OBJECT = Path(__file__).resolve().parents[3] / "examples/capture/counter.o"
 # Lengths about those of an Ethernet header, of a word, and of what fills a block up.
@@ -36,10 +33,10 @@ _PIECES = (1, 2, 3, 1024)
 Told = tuple[list[tuple[bytes, int, Stamp]], str]
 
 
-def originals(chance: random.Random) -> dict[str, bytes]:
-    """The captures that are damaged, by names."""
+def originals(chance: random.Random) -> list[Original]:
+    """The captures that are damaged."""
     records = [(chance.randbytes(length), Stamp(length, length * 1000, 300)) for length in _LENGTHS]
-    return {
+    good = {
         "pcap": pcap(records),
         "pcap-of-nanoseconds": pcap(records, "<", NANO),
         "pcap-big-endian": pcap(records, ">"),
@@ -47,6 +44,7 @@ def originals(chance: random.Random) -> dict[str, bytes]:
         "pcapng-big-endian": pcapng(records, ">"),
         "pcapng-of-all-kinds": _all_kinds(chance) + pcapng(records, ">") + pcapng(records, "<"),
     }
+    return [Original(name, content, (range(100), range(len(content)))) for name, content in good.items()]
 
 
 def _all_kinds(chance: random.Random) -> bytes:
@@ -114,38 +112,7 @@ def outcome_of_run(path: Path, program: str) -> str:
     return f"run with status {status}"
 
 
-def run(count: int, seed: int, runs: int, program: str) -> Counter[str]:
-    """Damages so many captures, gives so many of them to `run`, and counts what came of them."""
-    chance = random.Random(seed)
-    counts: Counter[str] = Counter()
-    good = originals(chance)
-    with tempfile.TemporaryDirectory() as folder:
-        path = Path(folder) / "damaged"
-        for number in range(count):
-            name = chance.choice(list(good))
-            path.unlink(missing_ok=True)
-            path.write_bytes(damaged(good[name], (range(100), range(len(good[name]))), chance))
-            try:
-                counts[outcome_of(path)] += 1
-                if number < runs:
-                    counts[outcome_of_run(path, program)] += 1
-            except BaseException as error:
-                kept = keep(path, f"damaged-{name}-{seed}-{number}")
-                raise AssertionError(f"capture {number} of seed {seed}, of {name}, kept as {kept}: {error!r}") from error
-    return counts
-
-
-def main() -> int:
-    """The command."""
-    parser = argparse.ArgumentParser(prog="damaged_captures", description="Damages captures and reads them.")
-    parser.add_argument("--count", type=int, default=5000, help="so many captures")
-    parser.add_argument("--seed", type=int, default=1, help="of the random numbers")
-    parser.add_argument("--runs", type=int, default=0, help="so many of them for the command run")
-    said = parser.parse_args()
-    counts = run(said.count, said.seed, said.runs, os.environ.get("BPFHOST", ""))
-    print(", ".join(f"{count} {what}" for what, count in sorted(counts.items())))
-    return 0
-
+TRIAL = Trial("capture", "", lambda chance, _: originals(chance), outcome_of, outcome_of_run)
 
 if __name__ == "__main__":
-    sys.exit(main())
+    sys.exit(TRIAL.main("damaged_captures", "reads", "run"))

@@ -2,15 +2,74 @@
 
 from __future__ import annotations
 
+import argparse
 import contextlib
+import os
 import random
 import signal
 import tempfile
-from collections.abc import Iterator, Sequence
+from collections import Counter
+from collections.abc import Callable, Iterator, Sequence
+from dataclasses import dataclass
 from pathlib import Path
 
 # What takes longer hangs.
 SECONDS = 20
+
+
+@dataclass(frozen=True)
+class Original:
+    """A good file, and the ranges of its bytes that matter."""
+
+    name: str
+    content: bytes
+    places: tuple[range, ...]
+
+
+@dataclass(frozen=True)
+class Trial:
+    """What is damaged, and what is tried with it: `what` a file is, and the ending of its name.
+
+    `read` gives what comes of reading a file, and `command` what comes of a word of the command, which asks a program of this path.
+    """
+
+    what: str
+    ending: str
+    originals: Callable[[random.Random, Path], Sequence[Original]]
+    read: Callable[[Path], str]
+    command: Callable[[Path, str], str]
+
+    def run(self, count: int, seed: int, commands: int, program: str) -> Counter[str]:
+        """Damages so many files, gives so many of them to the command, and counts what came of them."""
+        chance = random.Random(seed)
+        counts: Counter[str] = Counter()
+        with tempfile.TemporaryDirectory() as folder:
+            path = Path(folder) / f"damaged{self.ending}"
+            good = self.originals(chance, Path(folder))
+            for number in range(count):
+                original = chance.choice(good)
+                path.unlink(missing_ok=True)
+                path.write_bytes(damaged(original.content, original.places, chance))
+                try:
+                    counts[self.read(path)] += 1
+                    if number < commands:
+                        counts[self.command(path, program)] += 1
+                except BaseException as error:
+                    kept = keep(path, f"damaged-{original.name}-{seed}-{number}{self.ending}")
+                    told = f"{self.what} {number} of seed {seed}, of {original.name}, kept as {kept}: {error!r}"
+                    raise AssertionError(told) from error
+        return counts
+
+    def main(self, name: str, does: str, word: str) -> int:
+        """The command that does so; the numbers of files, and of those that are given to a word of the command, are its own."""
+        parser = argparse.ArgumentParser(prog=name, description=f"Damages {self.what}s and {does} them.")
+        parser.add_argument("--count", type=int, default=5000, help=f"so many {self.what}s")
+        parser.add_argument("--seed", type=int, default=1, help="of the random numbers")
+        parser.add_argument(f"--{word}s", type=int, default=0, help=f"so many of them for the command {word}")
+        said = parser.parse_args()
+        counts = self.run(said.count, said.seed, getattr(said, f"{word}s"), os.environ.get("BPFHOST", ""))
+        print(", ".join(f"{count} {what}" for what, count in sorted(counts.items())))
+        return 0
 
 
 def damaged(good: bytes, places: Sequence[range], chance: random.Random) -> bytes:

@@ -6,7 +6,7 @@ import importlib.util
 import random
 
 from tests.common import PROGRAM, TimedTest
-from tests.damaged_captures import originals, outcome_of, run
+from tests.damaged_captures import TRIAL, originals, outcome_of
 from tests.test_captures import needs_dpkt
 
 HAS_ALL = all(map(importlib.util.find_spec, ("elftools", "dpkt")))
@@ -15,7 +15,7 @@ HAS_ALL = all(map(importlib.util.find_spec, ("elftools", "dpkt")))
 @needs_dpkt
 class Damaged(TimedTest):
     def test_each_ends_in_packets_and_a_sentence_at_most(self) -> None:
-        counts = run(1000, 37, 60 if PROGRAM and HAS_ALL else 0, PROGRAM)
+        counts = TRIAL.run(1000, 37, 60 if PROGRAM and HAS_ALL else 0, PROGRAM)
         self.assertEqual(counts["read"] + counts["refused"], 1000)
         # Damage that is never noticed, or always, would try little.
         self.assertGreater(counts["read"], 200)
@@ -23,6 +23,6 @@ class Damaged(TimedTest):
 
     def test_the_captures_are_good(self) -> None:
         path = self.scratch / "good"
-        for name, content in originals(random.Random(1)).items():
-            path.write_bytes(content)
-            self.assertEqual(outcome_of(path), "read", name)
+        for original in originals(random.Random(1)):
+            path.write_bytes(original.content)
+            self.assertEqual(outcome_of(path), "read", original.name)

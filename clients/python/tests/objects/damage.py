@@ -10,21 +10,15 @@ command `check` too, which asks the program of the variable BPFHOST. An object t
 
 from __future__ import annotations
 
-import argparse
 import contextlib
 import io
-import os
-import random
 import sys
-import tempfile
-from collections import Counter
-from dataclasses import dataclass
 from pathlib import Path
 
 from bpfhost.command import main as command
 from bpfhost.objects import ObjectError, ObjectFile, load_object
 from bpfhost.objects.elf import read_elf
-from tests.damaging import damaged, keep, limit
+from tests.damaging import Original, Trial, limit
 from tests.objects.btf_builder import BtfBuilder
 from tests.objects.common import SOURCES, clang, compile_object
 from tests.objects.elf_builder import OBJECT, SECTION, ElfBuilder
@@ -32,24 +26,15 @@ from tests.objects.elf_builder import OBJECT, SECTION, ElfBuilder
 _READ = (".symtab", ".strtab", ".BTF", ".BTF.ext", ".maps", "maps", ".data", ".rodata", ".bss", "socket")
 
 
-@dataclass(frozen=True)
-class Original:
-    """A good object, and the ranges of its bytes that matter."""
-
-    name: str
-    content: bytes
-    ranges: tuple[range, ...]
-
-    @classmethod
-    def of(cls, path: Path, name: str) -> Original:
-        """The object of a file."""
-        elf = read_elf(path)
-        ranges = [range(0, 64), range(int.from_bytes(elf.content[40:48], "little"), len(elf.content)), range(len(elf.content))]
-        for section in elf.sections:
-            is_read = section.name in _READ or section.name.startswith(".rel") and not section.name.startswith(".rel.debug")
-            if is_read and section.kind != "SHT_NOBITS" and section.size:
-                ranges.append(range(section.offset, section.offset + section.size))
-        return cls(name, elf.content, tuple(ranges))
+def original(path: Path, name: str) -> Original:
+    """The object of a file, with the parts that are read."""
+    elf = read_elf(path)
+    places = [range(0, 64), range(int.from_bytes(elf.content[40:48], "little"), len(elf.content)), range(len(elf.content))]
+    for section in elf.sections:
+        is_read = section.name in _READ or section.name.startswith(".rel") and not section.name.startswith(".rel.debug")
+        if is_read and section.kind != "SHT_NOBITS" and section.size:
+            places.append(range(section.offset, section.offset + section.size))
+    return Original(name, elf.content, tuple(places))
 
 
 def built() -> bytes:
@@ -72,9 +57,9 @@ def originals(scratch: Path) -> list[Original]:
     """The objects that are damaged."""
     path = scratch / "built.o"
     path.write_bytes(built())
-    found = [Original.of(path, "built")]
+    found = [original(path, "built")]
     for source in sorted(SOURCES.glob("*.c")) if clang() else ():
-        found.append(Original.of(compile_object(source, scratch / f"{source.stem}.o"), source.stem))
+        found.append(original(compile_object(source, scratch / f"{source.stem}.o"), source.stem))
     return found
 
 
@@ -118,39 +103,7 @@ def outcome_of_check(path: Path, program: str) -> str:
     return f"check with status {status}"
 
 
-def run(count: int, seed: int, checks: int, program: str) -> Counter[str]:
-    """Damages so many objects, gives so many of them to `check`, and counts what came of them."""
-    chance = random.Random(seed)
-    counts: Counter[str] = Counter()
-    with tempfile.TemporaryDirectory() as folder:
-        scratch = Path(folder)
-        good = originals(scratch)
-        for number in range(count):
-            original = chance.choice(good)
-            path = scratch / "damaged.o"
-            path.unlink(missing_ok=True)
-            path.write_bytes(damaged(original.content, original.ranges, chance))
-            try:
-                counts[outcome_of(path)] += 1
-                if number < checks:
-                    counts[outcome_of_check(path, program)] += 1
-            except BaseException as error:
-                kept = keep(path, f"damaged-{original.name}-{seed}-{number}.o")
-                raise AssertionError(f"object {number} of seed {seed}, of {original.name}, kept as {kept}: {error!r}") from error
-    return counts
-
-
-def main() -> int:
-    """The command."""
-    parser = argparse.ArgumentParser(prog="damage", description="Damages objects and loads them.")
-    parser.add_argument("--count", type=int, default=5000, help="so many objects")
-    parser.add_argument("--seed", type=int, default=1, help="of the random numbers")
-    parser.add_argument("--checks", type=int, default=0, help="so many of them for the command check")
-    said = parser.parse_args()
-    counts = run(said.count, said.seed, said.checks, os.environ.get("BPFHOST", ""))
-    print(", ".join(f"{count} {what}" for what, count in sorted(counts.items())))
-    return 0
-
+TRIAL = Trial("object", ".o", lambda _, scratch: originals(scratch), outcome_of, outcome_of_check)
 
 if __name__ == "__main__":
-    sys.exit(main())
+    sys.exit(TRIAL.main("damage", "loads", "check"))

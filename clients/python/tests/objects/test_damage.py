@@ -5,12 +5,12 @@ from __future__ import annotations
 from bpfhost.objects import load_object
 from tests.common import PROGRAM
 from tests.objects.common import ObjectTest
-from tests.objects.damage import built, outcome_of, run
+from tests.objects.damage import TRIAL, built, outcome_of
 
 
 class Damaged(ObjectTest):
     def test_each_ends_in_a_sentence_or_a_load(self) -> None:
-        counts = run(600, 37, 30 if PROGRAM else 0, PROGRAM)
+        counts = TRIAL.run(600, 37, 30 if PROGRAM else 0, PROGRAM)
         self.assertEqual(counts["refused"] + counts["loaded"], 600)
         # Damage that is never noticed, or always, would try little.
         self.assertGreater(counts["refused"], 100)

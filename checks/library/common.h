@@ -70,4 +70,16 @@ static inline uint32_t count_once(bpfhost *host, uint16_t tenant)
     return reply.result;
 }
 
+/* Makes a host for one tenant, which counts once if it is used, and frees it. */
+static inline void make_and_free(bool is_used)
+{
+    bpfhost host = BPFHOST_EMPTY;
+    CHECK(bpfhost_new(&host, 1) == BPFHOST_DONE);
+    if (is_used) {
+        open_counter(&host, 0);
+        CHECK(count_once(&host, 0) == 1);
+    }
+    bpfhost_free(&host);
+}
+
 #endif

@@ -4,15 +4,8 @@
 int main(int argc, char **argv)
 {
     long count = argc > 1 ? atol(argv[1]) : 100000;
-    for (long i = 0; i < count; i++) {
-        bpfhost host = BPFHOST_EMPTY;
-        CHECK(bpfhost_new(&host, 1) == BPFHOST_DONE);
-        if (i % 16 == 0) {
-            open_counter(&host, 0);
-            CHECK(count_once(&host, 0) == 1);
-        }
-        bpfhost_free(&host);
-    }
+    for (long i = 0; i < count; i++)
+        make_and_free(i % 16 == 0);
     printf("hosts: %ld made and freed\n", count);
     return 0;
 }

@@ -159,13 +159,7 @@ int main(int argc, char **argv)
     printf("refused memory: %ld calls refused in turn, %ld while the host is made; nothing is lost\n", refused - 1, without);
     refused = 0;
     for (long i = 0; i < hosts; i++) {
-        bpfhost host = BPFHOST_EMPTY;
-        CHECK(bpfhost_new(&host, 1) == BPFHOST_DONE);
-        if (i % 16 == 0) {
-            open_counter(&host, 0);
-            CHECK(count_once(&host, 0) == 1);
-        }
-        bpfhost_free(&host);
+        make_and_free(i % 16 == 0);
         CHECK(blocks == 0);
     }
     printf("refused memory: %ld hosts made and freed, no block is left\n", hosts);

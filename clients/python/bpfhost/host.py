@@ -11,7 +11,7 @@ from io import FileIO
 from types import TracebackType
 from typing import TypeVar, cast
 
-from bpfhost.errors import BpfhostError, HostError, Refused, ReplyError
+from bpfhost.errors import BpfhostError, HostError, ReplyError
 from bpfhost.numbers import LONGEST_PAYLOAD, MOST_TENANTS, REPLY_HEAD, Command
 from bpfhost.program import Program, find_program
 from bpfhost.replies import Reply, read_replies
@@ -99,8 +99,8 @@ class Host:
     ) -> Iterator[Answer]:
         """Sends each batch before the replies to the one before it are read.
 
-        The replies to a batch have `room // 2` bytes at most, or it is a single frame. Where a reply is refused, or nobody asks
-        for more, what was sent is read to its end, so that the next frame gets its own reply.
+        The replies to a batch have `room // 2` bytes at most, or it is a single frame. Where a reply is refused, a batch can't be
+        made, or nobody asks for more, what was sent is read to its end, so that the next frame gets its own reply.
         """
         ahead = 1 if self.room // 2 >= LONGEST_REPLY else 0
         sent: deque[Batch] = deque()
@@ -112,7 +112,9 @@ class Host:
                     yield receive(sent.popleft())
             while sent:
                 yield receive(sent.popleft())
-        except (Refused, GeneratorExit):
+        except (HostError, ReplyError):
+            raise
+        except (Exception, GeneratorExit):
             with contextlib.suppress(BpfhostError):
                 while sent:
                     receive(sent.popleft())

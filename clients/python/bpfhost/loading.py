@@ -74,7 +74,7 @@ class LoadedProgram:
 def load_program(tenant: Tenant, object_file: ObjectFile, program: ObjectProgram) -> LoadedProgram:
     """Makes the maps of an object, with their first values, and loads one of its programs.
 
-    A SourceRefused where the program is refused, and a Refused where a map is.
+    A SourceRefused where the program is refused at a slot, a Refused where it is for another reason, and an InputError where a map is.
     """
     maps = tuple(LoadedMap(declared, _made(tenant, declared)) for declared in object_file.maps)
     slots = program.linked([loaded.map.descriptor for loaded in maps])

@@ -95,6 +95,14 @@ class Runs(HostTest):
             self.assertTrue(refused.exception.has(Errno.EBADF))
             self.assertEqual(tenant.prog_test_run(tenant.prog_load(LENGTH), bytes(9)), 9)
 
+    def test_a_packet_that_is_too_long_leaves_the_host_of_use(self) -> None:
+        with Host(PROGRAM) as host:
+            tenant = host.tenant()
+            program = tenant.prog_load(LENGTH)
+            pieces = [Packets.of([bytes(100)] * 900), Packets.of([bytes(65_537)])]
+            self.assertRaisesRegex(ValueError, "a packet has 65,537 bytes", list, tenant.prog_test_runs(program, pieces))
+            self.assertEqual(tenant.prog_test_run(program, bytes(9)), 9)
+
     def test_whoever_stops_early_gets_the_right_reply_next(self) -> None:
         with Host(PROGRAM) as host:
             tenant = host.tenant()

@@ -6,16 +6,15 @@ import argparse
 from collections.abc import Sequence
 
 from bpfhost.shards.client import SECONDS
-from bpfhost.shards.directory import demand_name
+from bpfhost.shards.directory import MOST_SHARD, demand_name
 from bpfhost.shards.lease import SECONDS as LEASE_SECONDS
 from bpfhost.shards.names import MOST_ENTRIES, PREFIX
 from bpfhost.shards.worker import Settings
 from bpfhost.telling import Parser, add_program, in_range, named
 
 _ABOUT = "Serves customers by many hosts, behind Redis Streams (docs/SCALING.md)."
-_MOST_SHARD = (1 << 31) - 1
 
-_shard = in_range(int, f"shard from 0 to {_MOST_SHARD}", 0, _MOST_SHARD)
+_shard = in_range(int, f"shard from 0 to {MOST_SHARD}", 0, MOST_SHARD)
 _seconds = in_range(float, "number of seconds from 0.1 on", 0.1, 1e6)
 _many = in_range(int, f"number from 1 to {MOST_ENTRIES // 2}", 1, MOST_ENTRIES // 2)
 _name = named(demand_name, "name of 1 to 255 printable characters without spaces")

@@ -10,6 +10,8 @@ from bpfhost.shards.connection import Redis, told
 from bpfhost.shards.errors import MoveError, NotTaken, ShardError
 from bpfhost.shards.names import PREFIX, DirectoryKeys
 
+# The highest number of a shard.
+MOST_SHARD = (1 << 31) - 1
 NOWHERE = b"nowhere"
 _WHY = {
     b"no shards": "no shard is there: no worker has begun yet",
@@ -50,7 +52,8 @@ class Directory:
         self._redis, self._keys = redis, DirectoryKeys(prefix)
 
     def add_shard(self, shard: int, server: str = "") -> None:
-        """Makes a shard known, and the URL of its Redis where that is another one; twice is once."""
+        """Makes a shard known, and the URL of its Redis where that is another one; twice is once. A ShardError where it is no number."""
+        demand_shard(shard)
         with told():
             if server:
                 self._redis.hset(self._keys.servers, shard, server)
@@ -115,6 +118,6 @@ def demand_name(name: str) -> str:
 
 def demand_shard(shard: int) -> int:
     """The number of a shard; a ShardError where it is none."""
-    if not 0 <= shard < 1 << 31:
-        raise ShardError(f"a shard's number is 0 to {(1 << 31) - 1}, and not {shard}")
+    if not 0 <= shard <= MOST_SHARD:
+        raise ShardError(f"a shard's number is 0 to {MOST_SHARD}, and not {shard}")
     return shard

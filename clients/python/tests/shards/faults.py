@@ -188,12 +188,17 @@ class Faults:
             os.kill(host, signal.SIGKILL)
             self.counts["hosts"] += 1
 
-    def _pause(self) -> None:
-        """Pauses a worker until another one has its lease; when it wakes, it may write nothing more."""
+    def _served_shard(self) -> Supervisor:
+        """A shard, once its worker serves it."""
         shard = self._draw.choice(self.shards)
         until = time.monotonic() + _SECONDS_TO_SETTLE
         while "is served" not in shard.worker.said() and time.monotonic() < until:
             time.sleep(0.01)
+        return shard
+
+    def _pause(self) -> None:
+        """Pauses a worker until another one has its lease; when it wakes, it may write nothing more."""
+        shard = self._served_shard()
         old = shard.worker
         old.send(signal.SIGSTOP)
         shard.replace()
@@ -235,11 +240,7 @@ class Faults:
 
     def _second_worker(self) -> None:
         """Starts a second worker on a shard that is served: it ends, and says why."""
-        shard = self._draw.choice(self.shards)
-        until = time.monotonic() + _SECONDS_TO_SETTLE
-        while "is served" not in shard.worker.said() and time.monotonic() < until:
-            time.sleep(0.01)
-        second = shard.start()
+        second = self._served_shard().start()
         status = second.wait(_SECONDS_TO_SETTLE)
         if status != _NO_LEASE or "is served by another worker" not in second.said():
             raise Differs(f"a second worker ends with {status}: {second.said()}")

@@ -327,6 +327,12 @@ class Workers(ShardTest):
 
 
 class Ids(ShardTest):
+    def test_numbers_of_shards(self) -> None:
+        for number in (-1, 1 << 31):
+            told = f"a shard's number is 0 to 2147483647, and not {number}"
+            self.assertRaisesRegex(ShardError, told, self.client.directory.add_shard, number)
+        self.assertEqual(self.client.directory.loads(), {})
+
     def test_order(self) -> None:
         self.assertEqual(before(b"5-0"), b"4-18446744073709551615")
         self.assertEqual(after(b"4-18446744073709551615"), b"5-0")

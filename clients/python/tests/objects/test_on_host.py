@@ -4,9 +4,10 @@ from __future__ import annotations
 
 import struct
 
-from bpfhost import Context, Host, Map
+from bpfhost import Context, Errno, Host, InputError, Map, MapType, Refused
+from bpfhost.loading import load_program
 from bpfhost.objects import ObjectFile
-from tests.common import PROGRAM
+from tests.common import LENGTH, PROGRAM
 from tests.objects.common import ClangTest
 
 
@@ -89,6 +90,20 @@ class OnHost(ClangTest):
                 self.host.close()
                 self.host = Host(PROGRAM)
                 self.addCleanup(self.host.close)
+
+    def test_a_tenant_without_room(self) -> None:
+        tenant = self.host.tenant()
+        for _ in range(16):
+            tenant.map_create(MapType.ARRAY, 4, 8, 1)
+        found = self.source("maps.c")
+        with self.assertRaisesRegex(InputError, r"\Athe map flows is refused: ENOSPC \(-28\): no room for a map\Z"):
+            load_program(tenant, found, found.programs[0])
+        for _ in range(48):
+            tenant.prog_load(LENGTH)
+        found = self.source("sections.c")
+        with self.assertRaises(Refused) as refused:
+            load_program(tenant, found, found.programs[0])
+        self.assertTrue(refused.exception.has(Errno.EMFILE))
 
     def test_every_limit_is_the_hosts(self) -> None:
         """What is loaded at a limit is no refusal of the host."""

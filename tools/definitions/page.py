@@ -16,10 +16,12 @@ DEFINITIONS, TRUST = TOP / "docs/DEFINITIONS.md", TOP / "docs/TRUST.md"
 ROW = re.compile(r"\| *(?:\[`([\w/]+\.\w+)`\]\(.*?\))? *\| *\d* *\| (`.*?`) \| (.*) \|")
 TABLE_HEAD = ["| File | Lines | Definitions | In the field's words |", "|---|---|---|---|"]
 QUOTED = re.compile(r"(<!-- quoted: ([\w/.]+) (\w+) -->\n```\w*\n)(.*?)(^```$)", re.M | re.S)
-STOPS = re.compile(r"(<!-- stops -->\n)(.*?)(^<!-- end -->$)", re.M | re.S)
-COUNTED = re.compile(r"(<!-- counted -->\n)(.*?)(^<!-- end -->$)", re.M | re.S)
-OF_VERIFIER = re.compile(r"(<!-- of the verifier -->\n)(.*?)(^<!-- end -->$)", re.M | re.S)
-OF_KIT = re.compile(r"(<!-- of the kit -->\n)(.*?)(^<!-- end -->$)", re.M | re.S)
+
+
+def filled(page: str, mark: str, text: str) -> str:
+    """The page with this text between a mark and the next end, where it has that mark."""
+    between = re.compile(rf"(<!-- {mark} -->\n).*?(^<!-- end -->$)", re.M | re.S)
+    return between.sub(lambda match: match[1] + text + match[2], page)
 
 
 @dataclass
@@ -109,12 +111,12 @@ def definitions_page(found: list[Tier], page: str) -> str:
             fill(sections, tier)
             part = "\n".join(line for section in sections for line in shown(section)).rstrip("\n") + "\n\n"
             stops = ", ".join(f"`{stop.word}`" for stop in sorted(tier.stops, key=lambda stop: stop.word))
-            part = STOPS.sub(lambda match: f"{match[1]}{stops}\n{match[3]}", part)
+            part = filled(part, "stops", f"{stops}\n")
         made.append(part)
     missing = [tier.title for tier in found if not any(part.startswith(f"## {tier.title}\n") for part in parts)]
     if missing:
         raise ValueError(f"docs/DEFINITIONS.md has no heading {missing[0]!r}")
-    return OF_KIT.sub(lambda match: match[1] + kit_table() + match[3], "".join(made).rstrip("\n") + "\n")
+    return filled("".join(made).rstrip("\n") + "\n", "of the kit", kit_table())
 
 
 def kit_table() -> str:
@@ -150,7 +152,6 @@ def counts(found: list[Tier]) -> str:
 def trust_page(found: list[Tier], page: str) -> str:
     """docs/TRUST.md with its quotations and its figures."""
     page = QUOTED.sub(lambda match: match[1] + quotation(match[2], match[3]) + match[5], page)
-    page = COUNTED.sub(lambda match: match[1] + counts(found) + match[3], page)
+    page = filled(page, "counted", counts(found))
     rows = [f"| `{crate}` | {', '.join(f'`{word}`' for word in words)} |" for crate, words in of_verifier(found[1]).items()]
-    table = "\n".join(["| Crate | Definitions in the second tier |", "|---|---|", *rows]) + "\n"
-    return OF_VERIFIER.sub(lambda match: match[1] + table + match[3], page)
+    return filled(page, "of the verifier", "\n".join(["| Crate | Definitions in the second tier |", "|---|---|", *rows]) + "\n")

@@ -129,6 +129,19 @@ class Pcapng(CaptureTest):
         content += enhanced("<", b"a", 5_000_000_007, 1) + enhanced("<", b"b", 3 * 1024 + 512, 1, of=1)
         self.assertEqual(self.read(content), [(b"a", Stamp(5, 7, 1)), (b"b", Stamp(103, 500_000_000, 1))])
 
+    def test_options_end(self) -> None:
+        """A comment that is no UTF-8, a code that is not known, and behind the end what is none."""
+        options = struct.pack("<HH4sHHB3xHHHH", 1, 3, b"\xff\xfe\xfd", 9, 1, 9, 0xBEEF, 0, 0, 0) + b"\xff" * 8
+        content = section("<") + interface("<", options=options) + enhanced("<", b"a", 5_000_000_007, 1)
+        self.assertEqual(self.read(content), [(b"a", Stamp(5, 7, 1))])
+
+    def test_time_is_in_proportion_to_the_bytes(self) -> None:
+        """A great many interfaces, and a great many options of one: each is read once."""
+        last = enhanced("<", b"a", 5_000_000, 1, of=99_999)
+        self.assertEqual(self.read(section("<") + interface("<") * 100_000 + last), [(b"a", Stamp(5, 0, 1))])
+        options = struct.pack("<HH", 2, 0) * 1_000_000
+        self.assertEqual(self.read(section("<") + interface("<", options=options) + last[:8] + bytes(4) + last[12:]), [(b"a", Stamp(5, 0, 1))])
+
     def test_link_types_of_interfaces(self) -> None:
         content = section("<") + interface("<") + interface("<", RAW_IP)
         content += b"".join(enhanced("<", bytes([at]), 0, 1, of) for at, of in enumerate((0, 0, 1, 0)))

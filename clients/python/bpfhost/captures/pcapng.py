@@ -4,10 +4,10 @@ from __future__ import annotations
 
 import contextlib
 import struct
+from collections.abc import Sequence
 from dataclasses import dataclass, field
 from io import BufferedReader
 
-import dpkt
 from dpkt import pcapng
 
 from bpfhost.captures.piece import Capture, Piece, Stamp, low_first
@@ -17,8 +17,9 @@ from bpfhost.numbers import LONGEST_PACKET
 # The type of a section header block, the same in both byte orders.
 SECTION = b"\x0a\x0d\x0d\x0a"
 _ORDERS = {b"\x4d\x3c\x2b\x1a": "<", b"\x1a\x2b\x3c\x4d": ">"}
-# Bytes of a block without a body; of a packet's block before and around the packet; and of a simple one's before it.
-_SHORTEST_BLOCK, _BEFORE, _AROUND, _BEFORE_SIMPLE = 12, 28, 32, 12
+# Bytes of a block without a body; of a packet's block before and around the packet; of a simple one's before it; and of an interface's
+# before its options.
+_SHORTEST_BLOCK, _BEFORE, _AROUND, _BEFORE_SIMPLE, _BEFORE_OPTIONS = 12, 28, 32, 12, 16
 _ENHANCED: int = pcapng.PCAPNG_BT_EPB
 # A longer block is taken for a lie.
 _LONGEST_BLOCK = 1 << 24
@@ -37,11 +38,11 @@ class _Interface:
 
 @dataclass(frozen=True)
 class _PcapngPiece(Piece):
-    """Packets of blocks of one kind, in one section."""
+    """Packets of blocks of one kind, in one section, to whose interfaces others may still come."""
 
     kind: int = field(kw_only=True)
     order: str = field(kw_only=True)
-    interfaces: tuple[_Interface, ...] = field(kw_only=True)
+    interfaces: Sequence[_Interface] = field(kw_only=True)
 
     def stamp(self, at: int) -> Stamp:
         if self.kind == pcapng.PCAPNG_BT_SPB:
@@ -62,8 +63,12 @@ class PcapngCapture(Capture):
     def __init__(self, name: str, file: BufferedReader, magic: bytes) -> None:
         """Reads nothing; `magic` is what was read of the file."""
         super().__init__(name, file, magic)
-        self._interfaces: tuple[_Interface, ...] = ()
+        self._begin_section()
         self._has_order("<")
+
+    def _begin_section(self) -> None:
+        self._interfaces: list[_Interface] = []
+        self._link_types: list[int] = []
 
     def _has_order(self, order: str) -> None:
         self._order = order
@@ -106,7 +111,7 @@ class PcapngCapture(Capture):
         lengths: list[int] = []
         types: list[int] = []
         unpack, link_type, interface = self._end_and_enhanced, -1, -1
-        link_types = [each.link_type for each in self._interfaces]
+        link_types = self._link_types
         with contextlib.suppress(struct.error):
             kind, block, number, length, ethernet_type = self._enhanced_with_type(data, at)
             for _ in range(most):
@@ -151,9 +156,10 @@ class PcapngCapture(Capture):
         """Reads a whole block, and gives its packet, where it has one."""
         kind: int = self._pair(data, at)[0]
         if kind == pcapng.PCAPNG_BT_SHB:
-            self._interfaces = ()
+            self._begin_section()
         if kind == pcapng.PCAPNG_BT_IDB:
-            self._interfaces += (self._interface(data[at:end]),)
+            self._interfaces.append(self._interface(data[at:end]))
+            self._link_types.append(self._interfaces[-1].link_type)
         if kind == pcapng.PCAPNG_BT_SPB:
             return self._simple_packet(data, at, end)
         if kind in (pcapng.PCAPNG_BT_EPB, pcapng.PCAPNG_BT_PB):
@@ -186,13 +192,26 @@ class PcapngCapture(Capture):
         return self.error(f"the block of {self._next_packet()} has not what it says")
 
     def _interface(self, block: bytes) -> _Interface:
-        kind = pcapng.InterfaceDescriptionBlockLE if self._order == "<" else pcapng.InterfaceDescriptionBlock
+        body = block[:-4]
         try:
-            read = kind(block)
-            options = {option.code: option.data for option in read.opts}
+            link_type, longest = struct.unpack_from(f"{self._order}HxxI", body, 8)
+            options = self._options(body)
             parts = options.get(pcapng.PCAPNG_OPT_IF_TSRESOL, b"\x06")[0]
             (offset,) = struct.unpack(f"{self._order}q", options.get(pcapng.PCAPNG_OPT_IF_TSOFFSET, bytes(8)))
-        except (dpkt.Error, struct.error, IndexError, ValueError) as error:
+        except (struct.error, IndexError) as error:
             raise self.error("it has an interface whose block is wrong") from error
         per_second = 2 ** (parts & 0x7F) if parts & 0x80 else 10**parts
-        return _Interface(read.linktype, read.snaplen, per_second, offset)
+        return _Interface(link_type, longest, per_second, offset)
+
+    def _options(self, body: bytes) -> dict[int, bytes]:
+        """The options of an interface by their codes, in one pass: dpkt copies what is left for each. A struct.error where one is cut off."""
+        options: dict[int, bytes] = {}
+        unpack, at = struct.Struct(f"{self._order}HH").unpack_from, _BEFORE_OPTIONS
+        while at < len(body):
+            code, length = unpack(body, at)
+            if code == pcapng.PCAPNG_OPT_ENDOFOPT:
+                break
+            at += 4
+            options[code] = body[at : at + length]
+            at += length + -length % 4
+        return options

@@ -6,7 +6,7 @@ from collections.abc import Iterable, Iterator
 from typing import TYPE_CHECKING
 
 from bpfhost import frames
-from bpfhost.errors import Refused
+from bpfhost.errors import Refused, ReplyError
 from bpfhost.frames import NO_CONTEXT, Context
 from bpfhost.maps import Map
 from bpfhost.numbers import Errno, MapType, Update
@@ -22,7 +22,8 @@ if TYPE_CHECKING:
 class Tenant:
     """What speaks for one tenant of a host. Each command that the host refuses is a Refused, which has its reply.
 
-    docs/PROTOCOL.md tells each command's errors. A refused command changes nothing.
+    docs/PROTOCOL.md tells each command's errors. A refused command changes nothing. A reply to another command or another tenant is a
+    ReplyError.
     """
 
     def __init__(self, host: Host, number: int) -> None:
@@ -76,5 +77,8 @@ class Tenant:
 
     def _done(self, frame: bytes) -> Reply:
         reply = self.host.ask(frame)
+        # The tenant and the command stand in both.
+        if reply.to_bytes()[4:8] != frame[4:8]:
+            raise ReplyError(f"a command has the reply of something else: {reply}")
         reply.done()
         return reply

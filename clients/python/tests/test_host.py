@@ -156,6 +156,15 @@ class Ends(TimedTest):
             with self.assertRaisesRegex(ReplyError, "with which no reply begins"), Host(program) as host:
                 list(host.ask_bytes([frames.close(0, 3)]))
 
+    def test_it_answers_something_else(self) -> None:
+        """A close that is done, where a close of another tenant or a look-up was asked."""
+        program = self.pretender("read(12); os.write(1, bytes.fromhex('0800000000000001 00000000')); read()")
+        told = "a command has the reply of something else: tenant 0, CLOSE: done"
+        with self.assertRaisesRegex(ReplyError, told), Host(program, 2) as host:
+            host.tenant(1).close(3)
+        with self.assertRaisesRegex(ReplyError, told), Host(program, 2) as host:
+            host.tenant().map_lookup_elem(3, b"")
+
     def test_it_answers_more_than_was_asked(self) -> None:
         program = self.pretender("read(12); os.write(1, bytes.fromhex('0800000000000001 00000000') * 2); read()")
         with self.assertRaisesRegex(ReplyError, "wrote 12 bytes more than the replies"), Host(program) as host:

@@ -35,7 +35,7 @@ def named(read: Callable[[str], Value], name: str) -> Callable[[str], Value]:
 
 
 def in_range(read: Callable[[str], Number], name: str, least: Number, most: float = math.inf) -> Callable[[str], Number]:
-    """What reads a number between two others."""
+    """The same of a number, which is not below `least` and not above `most`."""
 
     def number(word: str) -> Number:
         found = read(word)
@@ -52,9 +52,9 @@ def add_program(parser: argparse.ArgumentParser) -> None:
 
 
 def status_of(name: str, call: Callable[[], int], statuses: Mapping[type[Exception], int] | None = None) -> int:
-    """Runs the command of a name, and gives its status. Where it ends by an error, that is told.
+    """Runs the command of a name, and gives its status; an error is told behind the name.
 
-    `statuses` are those of errors that are not as in other commands.
+    `statuses` has those of this command's own errors.
     """
     try:
         status = call()
@@ -71,10 +71,10 @@ def status_of(name: str, call: Callable[[], int], statuses: Mapping[type[Excepti
         return _told(name, str(MissingPackage(module, PACKAGES[module])), FAILED)
     except (BpfhostError, ValueError) as error:
         of_kinds = {**(statuses or {}), HostError: FAILED, MissingPackage: FAILED}
-        _told(name, str(error), REFUSED)
+        status = _told(name, str(error), next((each for kind, each in of_kinds.items() if isinstance(error, kind)), REFUSED))
         if isinstance(error, SourceRefused):
             print(error.log or "", end="", file=sys.stderr)
-        return next((status for kind, status in of_kinds.items() if isinstance(error, kind)), REFUSED)
+        return status
     except OSError as error:
         # What has no name is one of the standard streams.
         return _told(name, f"{error.filename or 'standard input or output'}: {error.strerror or error}", REFUSED)

@@ -77,8 +77,7 @@ class Tenant:
 
     def _done(self, frame: bytes) -> Reply:
         reply = self.host.ask(frame)
-        # The tenant and the command stand in both.
-        if reply.to_bytes()[4:8] != frame[4:8]:
+        if reply.tenant | reply.command << 16 != int.from_bytes(frame[4:8], "little"):
             raise ReplyError(f"a command has the reply of something else: {reply}")
         reply.done()
         return reply

@@ -259,6 +259,7 @@ class Check(CommandTest):
         self.assertTrue(text.startswith("// keep_class, section socket\n// refused.c:"), text)
         self.assertIn("return table[class];\n", text)
         self.refuses(1, "an object is read from a file that is named", "dis", given=(EXAMPLE / "refused.o").read_bytes())
+        self.is_refusal(self.shell("dis <(cat refused.o)"), 1, "an object is read from a regular file, and not from a pipe")
 
 
 @needs_packages

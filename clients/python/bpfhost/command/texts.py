@@ -79,6 +79,8 @@ def _refused(error: HostError, name: str, text: str) -> BpfhostError:
 def _dis_object(said: argparse.Namespace, program: str) -> int:
     if not said.file:
         raise InputError("an object is read from a file that is named, and not from standard input")
+    if not Path(said.file).is_file():
+        raise InputError(f"{said.file}: an object is read from a regular file, and not from a pipe")
     object_file = read_object(said.file)
     for each in object_file.programs:
         print(f"// {each.name}, section {each.section}")

@@ -23,6 +23,7 @@ from bpfhost.shards.connection import Away, Redis, connect, entries_behind, last
 from bpfhost.shards.directory import Directory, Seat, demand_name
 from bpfhost.shards.errors import NoReply, NotTaken, ReplyGone, ShardError
 from bpfhost.shards.names import FAULT, MOST_BYTES, MOST_ENTRIES, PREFIX, REPLIES, ShardKeys, before, order
+from bpfhost.shards.parts import in_parts
 from bpfhost.shards.serving import LONGEST_CALL, MOST_FRAMES, whole_frames
 from bpfhost.shards.snapshot import split
 from bpfhost.tenant import Tenant
@@ -103,8 +104,8 @@ class Customer:
 
     def ask_bytes(self, frames: Iterable[bytes]) -> Iterator[bytes]:
         """The same, with each reply as the bytes that the host wrote."""
-        for stream in _calls(frames):
-            yield from self.wait(self.post(stream))
+        for call in in_parts(frames, len, LONGEST_CALL, MOST_FRAMES):
+            yield from self.wait(self.post(b"".join(call)))
 
     def tenant(self) -> Tenant:
         """The commands by their names, and maps as mappings."""
@@ -229,17 +230,3 @@ class CustomersTenant(Tenant):
         for piece in pieces:
             replies = self.host.ask_all(make.prog_test_run(0, descriptor, packet, context) for packet in piece)
             yield tuple(reply.result() for reply in replies if not reply.done())
-
-
-def _calls(frames: Iterable[bytes]) -> Iterator[bytes]:
-    """Frames in pieces that are one call each."""
-    piece: list[bytes] = []
-    size = 0
-    for frame in frames:
-        if piece and (len(piece) == MOST_FRAMES or size + len(frame) > LONGEST_CALL):
-            yield b"".join(piece)
-            piece, size = [], 0
-        piece.append(frame)
-        size += len(frame)
-    if piece:
-        yield b"".join(piece)

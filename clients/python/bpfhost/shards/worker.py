@@ -18,6 +18,7 @@ from bpfhost.shards.copied import Asked
 from bpfhost.shards.errors import LeaseLost, RedisError, RepliesDiffer, ShardError
 from bpfhost.shards.lease import SECONDS, Lease
 from bpfhost.shards.names import ARRIVES, FRAMES, LEAVES, MOST_BYTES, MOST_ENTRIES, REPLIES, START, TENANT, ShardKeys, after, before, order
+from bpfhost.shards.parts import in_parts
 from bpfhost.shards.serving import MOST_ASKED, Serving, Written, answered
 from bpfhost.shards.snapshot import split
 
@@ -109,7 +110,7 @@ class Worker:
             return entries_behind(self._redis, self._keys.frames, self._place, _READ_AT_ONCE, wait)
 
         for entries in _parted(patiently(read, time.monotonic() + _SECONDS_FOR_REDIS)):
-            for written in _pieces(serving.play(entries)):
+            for written in in_parts(serving.play(entries), _size, _WRITTEN_AT_ONCE):
                 self._write(written)
                 self._bytes += sum(len(one.value) for one in written)
             self._count(entries)
@@ -231,29 +232,13 @@ def _parted(entries: Sequence[Entry]) -> Iterator[list[Entry]]:
 
 def _parts(snapshot: Mapping[int, bytes]) -> list[list[str | bytes]]:
     """Fields of a snapshot with their bytes, in parts that a script is given at once; one at least."""
-    parts: list[list[str | bytes]] = [[]]
-    size = 0
-    for tenant, stream in snapshot.items():
-        if parts[-1] and size + len(stream) > _WRITTEN_AT_ONCE:
-            parts.append([])
-            size = 0
-        parts[-1] += (f"{_TENANT}{tenant}", stream)
-        size += len(stream)
-    return parts
+    fields: Iterator[list[str | bytes]] = ([f"{_TENANT}{tenant}", stream] for tenant, stream in snapshot.items())
+    parts = in_parts(fields, lambda field: len(field[1]), _WRITTEN_AT_ONCE)
+    return [[word for field in part for word in field] for part in parts] or [[]]
 
 
-def _pieces(written: Sequence[Written]) -> Iterator[list[Written]]:
-    """Replies in pieces that a script is given at once."""
-    piece: list[Written] = []
-    size = 0
-    for one in written:
-        piece.append(one)
-        size += len(one.value) + sum(map(len, one.kept.values()))
-        if size > _WRITTEN_AT_ONCE:
-            yield piece
-            piece, size = [], 0
-    if piece:
-        yield piece
+def _size(written: Written) -> int:
+    return len(written.value) + sum(map(len, written.kept.values()))
 
 
 def _shown(value: bytes) -> str:

@@ -6,12 +6,13 @@ import errno
 import os
 import re
 import struct
-from collections import Counter
+from collections import Counter, defaultdict
 from dataclasses import dataclass, field
 
 from bpfhost.numbers import Command
 from bpfhost.program import serve, verify
 from bpfhost.replies import Reply, read_replies
+from bpfhost.slots import renamed_maps
 from bpfhost.words import reason_words
 from conformance import bpf
 from conformance.bpf import Refused
@@ -58,16 +59,7 @@ class Tally:
 
 def with_descriptors(slots: bytes, fds: dict[int, int]) -> bytes:
     """The slots with the kernel's descriptors in the loads of maps and of their values."""
-    found, is_second = [], False
-    for at in range(0, len(slots) - len(slots) % 8, 8):
-        slot = slots[at:at + 8]
-        if not is_second and slot[0] == 0x18 and slot[1] >> 4 in (1, 2):
-            number = struct.unpack_from("<I", slot, 4)[0]
-            found.append(slot[:4] + struct.pack("<I", fds.get(number, NO_DESCRIPTOR)))
-        else:
-            found.append(slot)
-        is_second = not is_second and slot[0] == 0x18
-    return b"".join(found) + slots[len(slots) - len(slots) % 8:]
+    return renamed_maps(slots, defaultdict(lambda: NO_DESCRIPTOR, fds))
 
 
 def reads_context(slots: bytes) -> bool:

@@ -5,13 +5,12 @@ Source: RFC 9669; docs/INSTRUCTIONS.md for what the host has. What is no instruc
 
 from __future__ import annotations
 
-from collections.abc import Iterator
-
 from bpfhost.numbers import SLOT_SIZE
 from bpfhost.objects.place import Place
+from bpfhost.slots import WIDE_LOAD, first_slots
 
 HELPERS = (1, 2, 3, 26)
-_CALL, _CALL_REGISTER, _WIDE_LOAD = 0x85, 0x8D, 0x18
+_CALL, _CALL_REGISTER = 0x85, 0x8D
 _ATOMIC = (0xC3, 0xDB)
 _ATOMIC_OPERATIONS = (0x00, 0x40, 0x50, 0xA0)
 _FETCH = {
@@ -29,23 +28,15 @@ _PACKET_ACCESS = (0x20, 0x28, 0x30, 0x40, 0x48, 0x50)
 def is_wide_load(slots: bytes | bytearray, slot: int) -> bool:
     """Whether a wide load of a number stands at a slot, whole."""
     at = SLOT_SIZE * slot
-    return at + 16 <= len(slots) and slots[at] == _WIDE_LOAD and slots[at + 1] >> 4 == 0
+    return at + 16 <= len(slots) and slots[at] == WIDE_LOAD and slots[at + 1] >> 4 == 0
 
 
 def check_instructions(slots: bytes, place: Place) -> None:
     """Refuses the first instruction that asks for what the host does not have, in a sentence."""
-    for slot in _first_slots(slots):
+    for slot in first_slots(slots):
         lacks = _lacks(slots[SLOT_SIZE * slot : SLOT_SIZE * (slot + 1)], slot, place)
         if lacks:
             raise place.refused(slot, lacks)
-
-
-def _first_slots(slots: bytes) -> Iterator[int]:
-    """The slots at which instructions begin: a wide load has two."""
-    slot = 0
-    while slot < len(slots) // SLOT_SIZE:
-        yield slot
-        slot += 2 if slots[SLOT_SIZE * slot] == _WIDE_LOAD else 1
 
 
 def _lacks(instruction: bytes, slot: int, place: Place) -> str | None:

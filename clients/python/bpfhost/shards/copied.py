@@ -17,7 +17,8 @@ from bpfhost.program import Program
 from bpfhost.replies import Reply
 from bpfhost.shards.errors import ShardError
 from bpfhost.shards.snapshot import Pairs, read_pairs
-from bpfhost.shards.tenancy import BODY, LiveMap, OpenProgram, Tenancy, command_of, renamed_maps, status_of
+from bpfhost.shards.tenancy import BODY, LiveMap, OpenProgram, Tenancy, command_of, status_of
+from bpfhost.slots import renamed_maps
 
 _MOST_PROGRAMS = MOST_DESCRIPTORS - MOST_MAPS
 _OF_MAPS = (Command.MAP_UPDATE_ELEM, Command.MAP_DELETE_ELEM)

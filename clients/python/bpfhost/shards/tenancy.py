@@ -9,15 +9,13 @@ from __future__ import annotations
 import struct
 from dataclasses import dataclass
 
-from bpfhost.numbers import FIRST_DESCRIPTOR, MOST_DESCRIPTORS, SLOT_SIZE, Command, MapType
+from bpfhost.numbers import FIRST_DESCRIPTOR, MOST_DESCRIPTORS, Command, MapType
 from bpfhost.program import MapShape
+from bpfhost.slots import named_maps
 
 # Where the body of a frame begins, behind its length, tenant and command.
 BODY = 8
 _SHAPE = struct.Struct("<4I")
-_WIDE = 0x18
-# What the second half of the byte of registers says of a wide load: of a map, or of an address in a map's value.
-_OF_MAPS = (1, 2)
 _MAKES = (Command.MAP_CREATE, Command.PROG_LOAD)
 # Commands that change what is in a map.
 _CHANGES = (Command.MAP_UPDATE_ELEM, Command.MAP_DELETE_ELEM, Command.PROG_TEST_RUN)
@@ -105,27 +103,3 @@ class Tenancy:
     def is_open(self, on: LiveMap) -> bool:
         """Whether a descriptor names the map."""
         return self.open.get(on.descriptor) is on
-
-
-def _map_loads(slots: bytes) -> list[int]:
-    """Where in a program's slots, in bytes, wide loads of maps begin. The program is one that was accepted."""
-    found, at = [], 0
-    while at < len(slots):
-        is_wide = slots[at] == _WIDE
-        if is_wide and slots[at + 1] >> 4 in _OF_MAPS:
-            found.append(at)
-        at += SLOT_SIZE * (2 if is_wide else 1)
-    return found
-
-
-def named_maps(slots: bytes) -> list[int]:
-    """The descriptors that wide loads of an accepted program name, in their order."""
-    return [int.from_bytes(slots[at + 4 : at + 8], "little") for at in _map_loads(slots)]
-
-
-def renamed_maps(slots: bytes, names: dict[int, int]) -> bytes:
-    """The same program with other numbers for its maps' descriptors."""
-    renamed = bytearray(slots)
-    for at in _map_loads(slots):
-        renamed[at + 4 : at + 8] = names[int.from_bytes(slots[at + 4 : at + 8], "little")].to_bytes(4, "little")
-    return bytes(renamed)

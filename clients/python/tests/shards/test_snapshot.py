@@ -13,7 +13,8 @@ from bpfhost.shards.errors import MemoryRefused, ShardError
 from bpfhost.shards.names import ARRIVES, FRAMES, LEAVES, TENANT, order
 from bpfhost.shards.serving import Serving, answered
 from bpfhost.shards.snapshot import split, state_frames, with_tenant
-from bpfhost.shards.tenancy import Tenancy, named_maps, renamed_maps, status_of
+from bpfhost.shards.tenancy import Tenancy, status_of
+from bpfhost.slots import named_maps, renamed_maps
 from tests.common import PROGRAM, SECONDS, HostTest, TimedTest
 from tests.shards.streams import Stream, is_without_descriptor, slots_of
 

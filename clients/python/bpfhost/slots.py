@@ -1,0 +1,40 @@
+"""The slots of a program, and its wide loads of maps (docs/INSTRUCTIONS.md, "Wide loads")."""
+
+from __future__ import annotations
+
+from collections.abc import Iterator, Mapping
+
+from bpfhost.numbers import SLOT_SIZE
+
+WIDE_LOAD = 0x18
+# What the second half of the byte of registers says of a wide load: of a map, or of an address in a map's value.
+_OF_MAPS = (1, 2)
+
+
+def first_slots(slots: bytes) -> Iterator[int]:
+    """The whole slots at which instructions begin: a wide load has two."""
+    slot = 0
+    while slot < len(slots) // SLOT_SIZE:
+        yield slot
+        slot += 2 if slots[SLOT_SIZE * slot] == WIDE_LOAD else 1
+
+
+def _map_loads(slots: bytes) -> Iterator[slice]:
+    """Where the descriptors stand that wide loads name, in bytes."""
+    for slot in first_slots(slots):
+        at = SLOT_SIZE * slot
+        if slots[at] == WIDE_LOAD and slots[at + 1] >> 4 in _OF_MAPS:
+            yield slice(at + 4, at + 8)
+
+
+def named_maps(slots: bytes) -> list[int]:
+    """The descriptors that wide loads name, in their order."""
+    return [int.from_bytes(slots[place], "little") for place in _map_loads(slots)]
+
+
+def renamed_maps(slots: bytes, names: Mapping[int, int]) -> bytes:
+    """The same program with other numbers for its maps' descriptors."""
+    renamed = bytearray(slots)
+    for place in _map_loads(slots):
+        renamed[place] = names[int.from_bytes(slots[place], "little")].to_bytes(4, "little")
+    return bytes(renamed)

@@ -5,7 +5,7 @@ use clap::{Arg, ArgAction, ArgMatches, Command};
 use std::alloc::{AllocError, Global};
 
 /// The form of the input's program.
-#[derive(Clone, Copy, Debug, PartialEq, Eq)]
+#[derive(Clone, Copy)]
 pub(crate) enum ProgramForm {
     /// A slot on each line, as hex digits.
     Hex,
@@ -21,43 +21,60 @@ fn flag<'a>(alloc: Global, name: &'a str, help: &'a str) -> Arg<'a> {
         .action(ArgAction::SetTrue)
 }
 
-/// Parses the arguments with clap.
-pub(crate) fn parse_arguments<'a>(
-    alloc: Global,
-    arguments: &'a [&'a str],
-) -> Result<ArgMatches<'a>, clap::Error> {
-    let maps = Arg::new(alloc, "map")
-        .value_name("MAP")
-        .help("What a descriptor names, as FD:KIND:KEY:VALUE:MAX: 3:array:4:8:1, or 4:hash:4:16:64")
-        .action(ArgAction::Append);
-    let hex = flag(alloc, "hex", "Read hex lines, whatever the first line is").conflicts_with(
-        "text",
-    )?;
-    let program = Command::new(alloc, "verifier_log")
+/// The program without its options.
+fn program<'a>(alloc: Global) -> Command<'a> {
+    Command::new(alloc, "verifier_log")
         .about(
             "Reads a program, hex lines or text, and writes what the verifier knows before each instruction, and the verdict",
         )
         .version("0.1.0")
         .no_binary_name(true)
-        .arg(flag(
-            alloc,
-            "all",
-            "Write all that is known, and not what is new alone",
-        ))?
-        .arg(flag(
-            alloc,
-            "dot",
-            "Write the control flow as a graph, for Graphviz",
-        )
-        .conflicts_with("all")?)?
-        .arg(hex)?
-        .arg(flag(
-            alloc,
-            "text",
-            "Read the text of a program, whatever the first line is",
-        ))?
-        .arg(maps)?;
-    program.try_get_matches_from(arguments)
+}
+
+/// Adds the options for what is written.
+fn with_styles<'a>(alloc: Global, program: Command<'a>) -> Result<Command<'a>, AllocError> {
+    let all = flag(
+        alloc,
+        "all",
+        "Write all that is known, and not what is new alone",
+    );
+    let program = program.arg(all)?;
+    let dot = flag(
+        alloc,
+        "dot",
+        "Write the control flow as a graph, for Graphviz",
+    );
+    program.arg(dot.conflicts_with("all")?)
+}
+
+/// Adds the options for the form of the input.
+fn with_forms<'a>(alloc: Global, program: Command<'a>) -> Result<Command<'a>, AllocError> {
+    let hex = flag(alloc, "hex", "Read hex lines, whatever the first line is");
+    let program = program.arg(hex.conflicts_with("text")?)?;
+    program.arg(flag(
+        alloc,
+        "text",
+        "Read the text of a program, whatever the first line is",
+    ))
+}
+
+/// Adds the arguments that name maps.
+fn with_maps<'a>(alloc: Global, program: Command<'a>) -> Result<Command<'a>, AllocError> {
+    let maps = Arg::new(alloc, "map")
+        .value_name("MAP")
+        .help("What a descriptor names, as FD:KIND:KEY:VALUE:MAX: 3:array:4:8:1, or 4:hash:4:16:64")
+        .action(ArgAction::Append);
+    program.arg(maps)
+}
+
+/// Parses the arguments with clap.
+pub(crate) fn parse_arguments<'a>(
+    alloc: Global,
+    arguments: &'a [&'a str],
+) -> Result<ArgMatches<'a>, clap::Error> {
+    let program = with_styles(alloc, program(alloc))?;
+    let program = with_forms(alloc, program)?;
+    with_maps(alloc, program)?.try_get_matches_from(arguments)
 }
 
 /// The style of the log that the options ask for.

@@ -5,7 +5,7 @@ use insn_codec::{Insn, MAX_SLOTS, Program, Successors};
 use std::alloc::{AllocError, Global};
 
 /// The edge of a jump. Edges are ordered by their targets.
-#[derive(Clone, Copy, Debug, PartialEq, Eq, PartialOrd, Ord)]
+#[derive(Clone, Copy, PartialEq, Eq, PartialOrd, Ord)]
 pub(crate) struct JumpEdge {
     pub to: usize,
     pub from: usize,

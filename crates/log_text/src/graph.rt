@@ -12,6 +12,10 @@ use std::fmt::Write;
 /// The style of an edge that no run takes, and of a block that no run reaches.
 const UNREACHED: &str = "style=dashed, color=gray50, fontcolor=gray50";
 
+/// The first lines of a graph.
+const HEAD: &str =
+    "digraph program {\n    node [shape=box, fontname=\"monospace\"];\n    edge [fontname=\"monospace\"];\n";
+
 /// What is known of an edge.
 #[derive(Clone, Copy)]
 enum Edge<'a> {
@@ -43,6 +47,16 @@ struct Block {
     is_refused: bool,
 }
 
+/// Writes the style of an edge, and its label.
+fn write_style(text: &mut String, name: &str, edge: Edge<'_>) -> Result<(), AllocError> {
+    match edge {
+        Edge::Dead => write!(text, " [{UNREACHED}]"),
+        Edge::Taken(told) if !told.is_empty() => write!(text, " [label=\"{name}:\\n{told}\"]"),
+        _ if name.is_empty() => Ok(()),
+        _ => write!(text, " [label=\"{name}\"]"),
+    }
+}
+
 /// Writes an edge.
 fn write_edge(
     text: &mut String,
@@ -52,14 +66,7 @@ fn write_edge(
     edge: Edge<'_>,
 ) -> Result<(), AllocError> {
     write!(text, "    block_{from} -> block_{to}")?;
-    match edge {
-        Edge::Dead => write!(text, " [{UNREACHED}]")?,
-        Edge::Taken(told) if !told.is_empty() => {
-            write!(text, " [label=\"{name}:\\n{told}\"]")?;
-        }
-        _ if name.is_empty() => {}
-        _ => write!(text, " [label=\"{name}\"]")?,
-    }
+    write_style(text, name, edge)?;
     text.push_str(";\n")
 }
 
@@ -107,7 +114,7 @@ struct Graph<'a> {
     story: &'a Story<'a>,
     refusal: Option<&'a Refusal<'a>>,
     /// For each slot whether a block begins there.
-    starts: Vec<bool>,
+    starts: &'a [bool],
     /// The index of the next step.
     next: usize,
     block: Block,
@@ -168,6 +175,19 @@ impl<'a> Graph<'a> {
         text.push_str("];\n")
     }
 
+    /// Writes the instruction at a slot into the label.
+    fn write_line(
+        &mut self,
+        text: &mut String,
+        slot: usize,
+        insn: &Insn,
+    ) -> Result<(), AllocError> {
+        write!(text, "{slot}: ")?;
+        write_insn(text, insn)?;
+        text.push_str("\\l")?;
+        self.write_fault(text, slot)
+    }
+
     /// Writes the instruction at a slot, and the beginning and the end of a block there.
     fn write_slot(
         &mut self,
@@ -179,10 +199,7 @@ impl<'a> Graph<'a> {
         if self.is_start(slot) {
             self.begin(text, slot, step.is_some())?;
         }
-        write!(text, "{slot}: ")?;
-        write_insn(text, insn)?;
-        text.push_str("\\l")?;
-        self.write_fault(text, slot)?;
+        self.write_line(text, slot, insn)?;
         if self.is_start(slot.saturating_add(insn.slots())) {
             self.end(text)?;
             let step = step.filter(|_| !self.block.is_refused);
@@ -190,6 +207,17 @@ impl<'a> Graph<'a> {
         }
         Ok(())
     }
+}
+
+/// Writes the blocks of a program and their edges.
+fn write_blocks(text: &mut String, mut graph: Graph<'_>) -> Result<(), AllocError> {
+    let program = graph.story.program;
+    for slot in 0..program.slots() {
+        if let Some(insn) = program.get(slot) {
+            graph.write_slot(text, slot, insn)?;
+        }
+    }
+    Ok(())
 }
 
 /// Writes the graph of a program: its basic blocks with their instructions, and the edges between them with what is new on each.
@@ -200,11 +228,12 @@ pub(crate) fn write_graph(
     story: &Story<'_>,
     refusal: Option<&Refusal<'_>>,
 ) -> Result<(), AllocError> {
-    let mut graph = Graph {
+    let starts = block_starts(alloc, story.program)?;
+    let graph = Graph {
         alloc,
         story,
         refusal,
-        starts: block_starts(alloc, story.program)?,
+        starts: &starts,
         next: 0,
         block: Block {
             first: 0,
@@ -212,13 +241,7 @@ pub(crate) fn write_graph(
             is_refused: false,
         },
     };
-    text.push_str("digraph program {\n")?;
-    text.push_str("    node [shape=box, fontname=\"monospace\"];\n")?;
-    text.push_str("    edge [fontname=\"monospace\"];\n")?;
-    for slot in 0..story.program.slots() {
-        if let Some(insn) = story.program.get(slot) {
-            graph.write_slot(text, slot, insn)?;
-        }
-    }
+    text.push_str(HEAD)?;
+    write_blocks(text, graph)?;
     text.push_str("}\n")
 }

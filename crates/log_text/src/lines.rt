@@ -155,6 +155,22 @@ fn write_notes(
     }
 }
 
+/// Writes the line of an instruction.
+fn write_line(
+    text: &mut String,
+    story: &Story<'_>,
+    place: &mut Place,
+    insn: &Insn,
+    slot: usize,
+) -> Result<(), AllocError> {
+    let begin = text.len();
+    write!(text, "{slot}: ")?;
+    write_insn(text, insn)?;
+    let end = text.len();
+    write_notes(text, story, place, insn, slot, Line { begin, end })?;
+    text.push_str("\n")
+}
+
 /// Writes the lines of the instructions from slot 0 to slot `last`.
 pub(crate) fn write_lines(
     text: &mut String,
@@ -170,12 +186,7 @@ pub(crate) fn write_lines(
         if slot <= last
             && let Some(insn) = story.program.get(slot)
         {
-            let begin = text.len();
-            write!(text, "{slot}: ")?;
-            write_insn(text, insn)?;
-            let end = text.len();
-            write_notes(text, story, &mut place, insn, slot, Line { begin, end })?;
-            text.push_str("\n")?;
+            write_line(text, story, &mut place, insn, slot)?;
         }
     }
     Ok(())

@@ -9,7 +9,7 @@ use transfer::{Flow, apply};
 use verifier::Watcher;
 
 /// An instruction that a run may reach.
-#[derive(Debug, Drop)]
+#[derive(Drop)]
 pub(crate) struct Step {
     pub slot: usize,
     /// What is known before it.
@@ -80,11 +80,19 @@ impl<'a> Recorder<'a> {
         steps
     }
 
-    /// What is new in the facts on an edge.
-    fn edge(&self, old: &Facts, new: &Facts) -> Result<String, AllocError> {
+    /// What is new in facts.
+    fn news(&self, old: &Facts, new: &Facts) -> Result<String, AllocError> {
         let mut text = String::new(self.alloc);
         write_known(&mut text, 0, old, new)?;
         Ok(text)
+    }
+
+    /// What is new in the facts on an edge, if a run may take it.
+    fn edge(&self, old: &Facts, new: Option<&Facts>) -> Result<Option<String>, AllocError> {
+        match new {
+            Some(new) => Ok(Some(self.news(old, new)?)),
+            None => Ok(None),
+        }
     }
 
     /// Notes the edges of a conditional jump.
@@ -97,20 +105,18 @@ impl<'a> Recorder<'a> {
             step.slot,
             insn,
         );
-        match flow {
-            Ok(Flow::Falls) => step.falling = Some(self.edge(facts, &self.falling)?),
+        let (falling, jumping) = match flow {
+            Ok(Flow::Falls) => (Some(&self.falling), None),
             // The facts in hand are those of the one edge that can be taken.
-            Ok(Flow::Jumps) => step.jumping = Some(self.edge(facts, &self.falling)?),
-            Ok(Flow::Branches { falls, jumps }) => {
-                if falls {
-                    step.falling = Some(self.edge(facts, &self.falling)?);
-                }
-                if jumps {
-                    step.jumping = Some(self.edge(facts, &self.jumping)?);
-                }
-            }
-            Ok(Flow::Ends) | Err(_) => {}
-        }
+            Ok(Flow::Jumps) => (None, Some(&self.falling)),
+            Ok(Flow::Branches { falls, jumps }) => (
+                falls.then_some(&self.falling),
+                jumps.then_some(&self.jumping),
+            ),
+            Ok(Flow::Ends) | Err(_) => (None, None),
+        };
+        step.falling = self.edge(facts, falling)?;
+        step.jumping = self.edge(facts, jumping)?;
         Ok(())
     }
 
@@ -124,21 +130,25 @@ impl<'a> Recorder<'a> {
         }
         Ok(())
     }
-}
 
-impl Watcher for Recorder<'_> {
-    fn before(&mut self, slot: usize, facts: &Facts) -> Result<(), AllocError> {
-        let mut known = String::new(self.alloc);
-        write_known(&mut known, 0, &self.shown, facts)?;
+    /// The step of the instruction at a slot, with its edges.
+    fn step(&mut self, slot: usize, facts: &Facts) -> Result<Step, AllocError> {
         let mut step = Step {
             slot,
-            known,
+            known: self.news(&self.shown, facts)?,
             falling: None,
             jumping: None,
         };
         if let Some(insn) = self.program.get(slot) {
             self.leave(&mut step, insn, facts)?;
         }
+        Ok(step)
+    }
+}
+
+impl Watcher for Recorder<'_> {
+    fn before(&mut self, slot: usize, facts: &Facts) -> Result<(), AllocError> {
+        let step = self.step(slot, facts)?;
         if !self.is_whole {
             self.shown = *facts;
         }

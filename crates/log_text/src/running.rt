@@ -1,7 +1,7 @@
 //! The command-line program: it reads a program and writes its log.
 
 use crate::arguments::{ProgramForm, form_of, parse_arguments, style_of};
-use crate::log::{Log, log_of};
+use crate::log::{Log, LogStyle, log_of};
 use clap::ArgMatches;
 use host::{Failure, hex_program, maps_named, text_program, whole_input};
 use insn_codec::Program;
@@ -41,6 +41,18 @@ fn no_program(alloc: Global, slot: usize, kind: u16) -> Result<Answer, Failure> 
     })
 }
 
+/// The log of a program.
+fn logged(
+    alloc: Global,
+    program: &Program,
+    maps: &[Named],
+    style: LogStyle,
+) -> Result<Answer, AllocError> {
+    let Log { text, is_accepted } = log_of(alloc, program, maps, style)?;
+    let status = if is_accepted { 0 } else { 1 };
+    Ok(Answer { text, status })
+}
+
 /// The log of the program of an input.
 fn log_answer<I: Read + Drop>(
     alloc: Global,
@@ -50,11 +62,7 @@ fn log_answer<I: Read + Drop>(
     let maps = maps_given(alloc, matches)?;
     let input = whole_input(alloc, input)?;
     match program_in(alloc, matches, &input) {
-        Ok(program) => {
-            let Log { text, is_accepted } = log_of(alloc, &program, &maps, style_of(matches))?;
-            let status = if is_accepted { 0 } else { 1 };
-            Ok(Answer { text, status })
-        }
+        Ok(program) => Ok(logged(alloc, &program, &maps, style_of(matches))?),
         Err(Failure::Slot { slot, kind }) => no_program(alloc, slot, kind),
         Err(failure) => Err(failure),
     }

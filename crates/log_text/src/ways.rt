@@ -12,7 +12,7 @@ use verifier::{VerifyFault, Watcher, verify_watched};
 use words::STACK_SLOTS;
 
 /// What an instruction needs: a readable value.
-#[derive(Clone, Copy, Debug, PartialEq, Eq)]
+#[derive(Clone, Copy)]
 pub(crate) enum Wanted {
     /// In the register of this number.
     Register(u8),
@@ -52,7 +52,7 @@ impl Wanted {
 }
 
 /// Why something is missing before an instruction.
-#[derive(Clone, Copy, Debug, PartialEq, Eq)]
+#[derive(Clone, Copy)]
 enum Cause {
     /// It was never written.
     Never,
@@ -65,7 +65,7 @@ enum Cause {
 }
 
 /// Whether it is present on the edges to a slot.
-#[derive(Clone, Copy, Debug)]
+#[derive(Clone, Copy)]
 struct Arrival {
     /// Whether it is present on some edge.
     is_there: bool,
@@ -191,33 +191,27 @@ fn cause_of(refusal: &Refusal<'_>, wanted: Wanted) -> Result<Option<Cause>, Allo
     }
 }
 
-/// Writes why a register is not readable.
-fn write_register_cause(text: &mut String, cause: Cause) -> Result<(), AllocError> {
-    match cause {
-        Cause::Never => text.push_str("was never written"),
-        Cause::Way(slot) => write!(text, "may not be written yet on the way from slot {slot}"),
-        Cause::Taken(slot) => write!(text, "is lost at slot {slot}"),
-        Cause::Joined(slot) => {
-            write!(
-                text,
-                "holds values of different kinds on the ways to slot {slot}"
-            )
-        }
-    }
+/// The verbs of what is missing: of one thing or of several.
+#[derive(Clone, Copy)]
+struct Verbs {
+    was: &'static str,
+    is: &'static str,
+    holds: &'static str,
 }
 
-/// Writes why bytes of the stack are not readable.
-fn write_stack_cause(text: &mut String, cause: Cause) -> Result<(), AllocError> {
-    match cause {
-        Cause::Never => text.push_str("were never written"),
-        Cause::Way(slot) => write!(text, "may not be written yet on the way from slot {slot}"),
-        Cause::Taken(slot) => write!(text, "are lost at slot {slot}"),
-        Cause::Joined(slot) => {
-            write!(
-                text,
-                "hold values of different kinds on the ways to slot {slot}"
-            )
-        }
+/// The verbs of what an instruction needs.
+fn verbs_of(wanted: Wanted) -> Verbs {
+    match wanted {
+        Wanted::Register(_) => Verbs {
+            was: "was",
+            is: "is",
+            holds: "holds",
+        },
+        Wanted::Stack { .. } => Verbs {
+            was: "were",
+            is: "are",
+            holds: "hold",
+        },
     }
 }
 
@@ -227,9 +221,16 @@ pub(crate) fn write_way(
     refusal: &Refusal<'_>,
     wanted: Wanted,
 ) -> Result<(), AllocError> {
-    let cause = cause_of(refusal, wanted)?.unwrap_or(Cause::Never);
-    match wanted {
-        Wanted::Register(_) => write_register_cause(text, cause),
-        Wanted::Stack { .. } => write_stack_cause(text, cause),
+    let Verbs { was, is, holds } = verbs_of(wanted);
+    match cause_of(refusal, wanted)?.unwrap_or(Cause::Never) {
+        Cause::Never => write!(text, "{was} never written"),
+        Cause::Way(slot) => write!(text, "may not be written yet on the way from slot {slot}"),
+        Cause::Taken(slot) => write!(text, "{is} lost at slot {slot}"),
+        Cause::Joined(slot) => {
+            write!(
+                text,
+                "{holds} values of different kinds on the ways to slot {slot}"
+            )
+        }
     }
 }

@@ -5,7 +5,7 @@ use crate::needs::Refusal;
 use crate::needs::arithmetic::write_maybe_null;
 use crate::needs::registers::{kind_of, register_of, write_register};
 use crate::ways::{Wanted, is_written, write_way};
-use insn_codec::Insn;
+use insn_codec::{AccessSize, Insn, Reg};
 use reg_kinds::{Facts, Kind, Reason, Slot, ValuePointer};
 use std::alloc::AllocError;
 use std::fmt::Write;
@@ -13,7 +13,7 @@ use tagged_model::{Named, shape_of};
 use words::STACK_SLOTS;
 
 /// What an access does.
-#[derive(Clone, Copy, Debug, PartialEq, Eq)]
+#[derive(Clone, Copy, PartialEq, Eq)]
 enum Deed {
     Load,
     /// A load that extends the sign.
@@ -45,62 +45,73 @@ struct Access {
     deed: Deed,
 }
 
+/// The access to this many bytes at an offset from a base register.
+fn access_at(base: Reg, off: i16, size: AccessSize, given: Option<u8>, deed: Deed) -> Access {
+    Access {
+        base: base.number(),
+        offset: i64::from(off),
+        bytes: i64::from(size.bytes()),
+        given,
+        deed,
+    }
+}
+
+/// What a load does.
+fn load_deed(is_signed: bool) -> Deed {
+    if is_signed {
+        Deed::SignedLoad
+    } else {
+        Deed::Load
+    }
+}
+
 /// The access of an instruction; `None` if it accesses no memory.
 fn access_of(insn: &Insn) -> Option<Access> {
     match *insn {
-        Insn::Load(ref load) => Some(Access {
-            base: load.src.number(),
-            offset: i64::from(load.off),
-            bytes: i64::from(load.size.bytes()),
-            given: None,
-            deed: if load.signed {
-                Deed::SignedLoad
-            } else {
-                Deed::Load
-            },
-        }),
+        Insn::Load(ref load) => Some(access_at(
+            load.src,
+            load.off,
+            load.size,
+            None,
+            load_deed(load.signed),
+        )),
         Insn::Store {
             size,
             dst,
             src,
             off,
-        } => Some(Access {
-            base: dst.number(),
-            offset: i64::from(off),
-            bytes: i64::from(size.bytes()),
-            given: register_of(src),
-            deed: Deed::Store,
-        }),
+        } => Some(access_at(dst, off, size, register_of(src), Deed::Store)),
         Insn::Atomic {
             size,
             dst,
             src,
             off,
             ..
-        } => Some(Access {
-            base: dst.number(),
-            offset: i64::from(off),
-            bytes: i64::from(size.access().bytes()),
-            given: Some(src.number()),
-            deed: Deed::Change,
-        }),
+        } => Some(access_at(dst, off, size.access(), Some(src.number()), Deed::Change)),
         _ => None,
     }
 }
 
-/// The first and the last byte that an access may touch, from the start of its pointer's object, or from the stack's upper end.
-fn touched(access: Access, kind: Kind) -> (i64, i64) {
+/// The first and the last byte that an access of so many bytes at an offset from a pointer may touch, from the start of the
+/// pointer's object, or from the stack's upper end.
+pub(crate) fn touched(kind: Kind, offset: i64, bytes: i64) -> (i64, i64) {
     let (low, high) = match kind {
         Kind::Stack(offset) => (offset, offset),
         Kind::Value(pointer) => (pointer.lo, pointer.hi),
         _ => (0, 0),
     };
-    let first = i64::from(low).saturating_add(access.offset);
+    let first = i64::from(low).saturating_add(offset);
     let last = i64::from(high)
-        .saturating_add(access.offset)
-        .saturating_add(access.bytes)
+        .saturating_add(offset)
+        .saturating_add(bytes)
         .saturating_sub(1);
     (first, last)
+}
+
+/// Writes which bytes are touched.
+fn write_touched(text: &mut String, verb: &str, first: i64, last: i64) -> Result<(), AllocError> {
+    write!(text, "it {verb} ")?;
+    write_bytes(text, first, last)
 }
 
 /// Writes that bytes lie outside the stack.
@@ -110,8 +121,7 @@ pub(crate) fn write_outside_stack(
     first: i64,
     last: i64,
 ) -> Result<(), AllocError> {
-    write!(text, "it {verb} ")?;
-    write_bytes(text, first, last)?;
+    write_touched(text, verb, first, last)?;
     text.push_str(" of the stack, whose bytes are -512 to -1")
 }
 
@@ -157,6 +167,17 @@ fn spill_among(facts: &Facts, first: i64, last: i64) -> Option<(i64, Kind)> {
     None
 }
 
+/// Writes where a spill is, and what it holds.
+fn write_spill(text: &mut String, lowest: i64, kind: Kind) -> Result<(), AllocError> {
+    let highest = lowest.saturating_add(7);
+    write!(
+        text,
+        ", and bytes {lowest} to {highest} are a spilled pointer ("
+    )?;
+    write_kind(text, kind)?;
+    text.push_str("), which a load of these 8 bytes alone reads")
+}
+
 /// Writes which spill a range of stack bytes overlaps.
 pub(crate) fn write_part_of_spill(
     text: &mut String,
@@ -165,19 +186,10 @@ pub(crate) fn write_part_of_spill(
     first: i64,
     last: i64,
 ) -> Result<(), AllocError> {
-    write!(text, "it {verb} ")?;
-    write_bytes(text, first, last)?;
+    write_touched(text, verb, first, last)?;
     text.push_str(" of the stack")?;
     match spill_among(facts, first, last) {
-        Some((lowest, kind)) => {
-            let highest = lowest.saturating_add(7);
-            write!(
-                text,
-                ", and bytes {lowest} to {highest} are a spilled pointer ("
-            )?;
-            write_kind(text, kind)?;
-            text.push_str("), which a load of these 8 bytes alone reads")
-        }
+        Some((lowest, kind)) => write_spill(text, lowest, kind),
         None => Ok(()),
     }
 }
@@ -193,6 +205,14 @@ fn write_part_stored(
     write!(text, ", and is stored by 8 bytes, not by {bytes}")
 }
 
+/// The size of the values of a map; 0 if the descriptor names no map.
+pub(crate) fn value_size_of(named: &[Named], fd: u32) -> u32 {
+    match shape_of(named, fd) {
+        Some(shape) => shape.value_size,
+        None => 0,
+    }
+}
+
 /// Writes that bytes lie outside a map's value.
 pub(crate) fn write_outside_value(
     text: &mut String,
@@ -202,9 +222,8 @@ pub(crate) fn write_outside_value(
     first: i64,
     last: i64,
 ) -> Result<(), AllocError> {
-    write!(text, "it {verb} ")?;
-    write_bytes(text, first, last)?;
-    let size = shape_of(named, map).map_or(0, |shape| shape.value_size);
+    write_touched(text, verb, first, last)?;
+    let size = value_size_of(named, map);
     write!(text, " of a value of {size} bytes (map {map})")
 }
 
@@ -293,7 +312,7 @@ fn write_access_need(
 ) -> Result<(), AllocError> {
     let facts = refusal.facts;
     let kind = kind_of(facts, access.base);
-    let (first, last) = touched(access, kind);
+    let (first, last) = touched(kind, access.offset, access.bytes);
     match (refusal.fault.reason, kind) {
         (Reason::MaybeNull, _) => write_maybe_null(text, access.base),
         (Reason::ContextAccess, _) => write_context(text, access),

@@ -3,7 +3,8 @@
 use crate::kinds::write_range;
 use crate::needs::Refusal;
 use crate::needs::access::{
-    write_outside_stack, write_outside_value, write_part_of_spill, write_unwritten,
+    touched, value_size_of, write_outside_stack, write_outside_value, write_part_of_spill,
+    write_unwritten,
 };
 use crate::needs::arithmetic::write_maybe_null;
 use crate::needs::registers::{kind_of, write_register};
@@ -16,7 +17,7 @@ use tagged_model::{Helper, Named, known_helper, shape_of};
 const LENGTHS_END: u64 = 0x2000_0000;
 
 /// What an argument is for.
-#[derive(Clone, Copy, Debug, PartialEq, Eq)]
+#[derive(Clone, Copy, PartialEq, Eq)]
 enum Role {
     Map,
     Context,
@@ -30,7 +31,7 @@ enum Role {
 }
 
 /// An argument: its register and its role.
-#[derive(Clone, Copy, Debug, PartialEq, Eq)]
+#[derive(Clone, Copy)]
 struct Argument {
     register: u8,
     role: Role,
@@ -57,25 +58,10 @@ fn count_of(named: &[Named], facts: &Facts, role: Role) -> u32 {
     let (map, length) = (kind_of(facts, 1), kind_of(facts, 4));
     match (role, map, length) {
         (Role::Key, Kind::MapRef(fd), _) => shape_of(named, fd).map_or(0, |shape| shape.key_size),
-        (Role::Value, Kind::MapRef(fd), _) => {
-            shape_of(named, fd).map_or(0, |shape| shape.value_size)
-        }
+        (Role::Value, Kind::MapRef(fd), _) => value_size_of(named, fd),
         (Role::Room, _, Kind::Scalar(range)) => u32::try_from(range.hi).unwrap_or(0),
         _ => 0,
     }
-}
-
-/// The first and the last byte that an argument points to.
-fn touched(kind: Kind, count: u32) -> (i64, i64) {
-    let (low, high) = match kind {
-        Kind::Stack(offset) => (offset, offset),
-        Kind::Value(pointer) => (pointer.lo, pointer.hi),
-        _ => (0, 0),
-    };
-    let last = i64::from(high)
-        .saturating_add(i64::from(count))
-        .saturating_sub(1);
-    (i64::from(low), last)
 }
 
 /// Whether some of the bytes lie outside the stack.
@@ -86,7 +72,7 @@ fn is_outside_stack(first: i64, last: i64) -> bool {
 /// Why the bytes that an argument points to may not be read or written, if they may not.
 fn bytes_reason(named: &[Named], facts: &Facts, role: Role, kind: Kind) -> Option<Reason> {
     let count = count_of(named, facts, role);
-    let (first, last) = touched(kind, count);
+    let (first, last) = touched(kind, 0, i64::from(count));
     match kind {
         Kind::Stack(_) if role == Role::Room && is_outside_stack(first, last) => {
             Some(Reason::OutsideStack)
@@ -94,8 +80,7 @@ fn bytes_reason(named: &[Named], facts: &Facts, role: Role, kind: Kind) -> Optio
         Kind::Stack(_) if role == Role::Room => None,
         Kind::Stack(offset) => read_many(facts, offset, count).err(),
         Kind::Value(pointer) => {
-            let size = shape_of(named, pointer.map).map_or(0, |shape| shape.value_size);
-            if first < 0 || last >= i64::from(size) {
+            if first < 0 || last >= i64::from(value_size_of(named, pointer.map)) {
                 Some(Reason::OutsideValue)
             } else {
                 None
@@ -167,7 +152,8 @@ fn write_argument(
 ) -> Result<(), AllocError> {
     let (register, role, facts) = (argument.register, argument.role, refusal.facts);
     let kind = kind_of(facts, register);
-    let (first, last) = touched(kind, count_of(refusal.named, facts, role));
+    let count = count_of(refusal.named, facts, role);
+    let (first, last) = touched(kind, 0, i64::from(count));
     let verb = if role == Role::Room {
         "writes"
     } else {

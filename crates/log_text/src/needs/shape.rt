@@ -42,6 +42,34 @@ fn fd_of(insn: &Insn) -> u32 {
     insn.profile().reference.descriptor().unwrap_or(0)
 }
 
+/// Writes what a descriptor names instead of a map.
+fn write_no_map(text: &mut String, insn: &Insn, what: &str) -> Result<(), AllocError> {
+    let fd = fd_of(insn);
+    write!(text, "descriptor {fd} names {what}, and a map is needed")
+}
+
+/// Writes that control leaves the program at its end.
+fn write_falls_off(text: &mut String, refusal: &Refusal<'_>) -> Result<(), AllocError> {
+    let next = refusal.program.slots();
+    write!(
+        text,
+        "there is no slot {next}: an exit is needed, or a jump"
+    )
+}
+
+/// Writes which helper there is not.
+fn write_unknown_helper(text: &mut String, insn: &Insn) -> Result<(), AllocError> {
+    match insn.profile().reference {
+        Reference::Helper(id) => {
+            write!(
+                text,
+                "there is no helper {id}, and those are 1, 2, 3 and 26"
+            )
+        }
+        _ => Ok(()),
+    }
+}
+
 /// Writes why the address of a direct value can't be loaded.
 fn write_no_value(text: &mut String, named: &[Named], insn: &Insn) -> Result<(), AllocError> {
     let fd = fd_of(insn);
@@ -78,32 +106,12 @@ pub(crate) fn write_need(
     match refusal.fault.reason {
         Reason::JumpOutside => write_outside(text, refusal, insn),
         Reason::JumpBackward => write_backward(text, refusal, insn),
-        Reason::FallsOff => {
-            let next = refusal.program.slots();
-            write!(
-                text,
-                "there is no slot {next}: an exit is needed, or a jump"
-            )
-        }
+        Reason::FallsOff => write_falls_off(text, refusal),
         Reason::Unreachable => write!(text, "none leads from slot 0 to slot {slot}"),
-        Reason::UnknownHelper => match insn.profile().reference {
-            Reference::Helper(id) => {
-                write!(
-                    text,
-                    "there is no helper {id}, and those are 1, 2, 3 and 26"
-                )
-            }
-            _ => Ok(()),
-        },
+        Reason::UnknownHelper => write_unknown_helper(text, insn),
         Reason::FramePointerWritten => text.push_str("r10 may be read only"),
-        Reason::DescriptorNotOpen => {
-            let fd = fd_of(insn);
-            write!(text, "descriptor {fd} names nothing, and a map is needed")
-        }
-        Reason::DescriptorNotMap => {
-            let fd = fd_of(insn);
-            write!(text, "descriptor {fd} names a program, and a map is needed")
-        }
+        Reason::DescriptorNotOpen => write_no_map(text, insn, "nothing"),
+        Reason::DescriptorNotMap => write_no_map(text, insn, "a program"),
         _ => write_no_value(text, refusal.named, insn),
     }
 }

@@ -2,9 +2,9 @@
 use Rattle.std.proofs.Common.{◌≡◌, ◌≤◌, ◌<◌, ◌^◌, ℕ, suc, Bool, true, false, ℤ, pos, negsuc, [], ◌∷◌, codes, Some, FitsSigned, refl, arith, w16, w32}
 use Rattle.std.proofs.lemmas.Int.{ints}
 use Rattle.words.specs.declared.operator.AluOp.{AluOp}
-use Rattle.words.specs.declared.operator.AluOp.TheVariants.{Add, Sub, Mul, Div, SignedDiv, Or, And, ShiftLeft, ShiftRight, Mod, SignedMod, Xor, Mov, SignedShiftRight}
+use Rattle.words.specs.declared.operator.AluOp.TheVariants.{Add}
 use Rattle.words.specs.declared.operator.Condition.{Condition}
-use Rattle.words.specs.declared.operator.Condition.TheVariants.{Equal, Above, AboveOrEqual, CommonBit, NotEqual, SignedAbove, SignedAboveOrEqual, Below, BelowOrEqual, SignedBelow, SignedBelowOrEqual}
+use Rattle.words.specs.declared.operator.Condition.TheVariants.{Equal}
 use Rattle.words.specs.declared.operator.ByteOrder.{ByteOrder}
 use Rattle.words.specs.declared.operator.ByteOrder.TheVariants.{Little, Big, Swap}
 use Rattle.words.specs.declared.operator.KeptBits.{KeptBits}
@@ -30,44 +30,21 @@ use Rattle.text_line.specs.Written.{number_of, source_of, written, printed_insn}
 use Rattle.text_line.specs.Law.{IsPrinted}
 use Rattle.text_line.proofs.Fronts.{is_long_name}
 use Rattle.text_line.proofs.Layouts.{IsApart, is_sign, ends_word, ends_sign, laid_tokens, laid_ascii, laid_one_line}
-use Rattle.text_line.proofs.Spelled.{below_eleven}
+use Rattle.text_line.proofs.Spelled.{above_ten}
 
 -- ---- names
 
 operator_sign : (op : AluOp) → is_sign (operator_name op) ≡ true
 operator_sign Add = refl
-operator_sign Sub = refl
-operator_sign Mul = refl
-operator_sign Div = refl
-operator_sign SignedDiv = refl
-operator_sign Or = refl
-operator_sign And = refl
-operator_sign ShiftLeft = refl
-operator_sign ShiftRight = refl
-operator_sign Mod = refl
-operator_sign SignedMod = refl
-operator_sign Xor = refl
-operator_sign Mov = refl
-operator_sign SignedShiftRight = refl
+operator_sign _ = refl
 
 condition_sign : (c : Condition) → is_sign (condition_name c) ≡ true
 condition_sign Equal = refl
-condition_sign Above = refl
-condition_sign AboveOrEqual = refl
-condition_sign CommonBit = refl
-condition_sign NotEqual = refl
-condition_sign SignedAbove = refl
-condition_sign SignedAboveOrEqual = refl
-condition_sign Below = refl
-condition_sign BelowOrEqual = refl
-condition_sign SignedBelow = refl
-condition_sign SignedBelowOrEqual = refl
+condition_sign _ = refl
 
 atomic_sign : (op : AtomicOp) → is_sign (atomic_name op) ≡ true
 atomic_sign atomic.Add = refl
-atomic_sign atomic.Or = refl
-atomic_sign atomic.And = refl
-atomic_sign atomic.Xor = refl
+atomic_sign _ = refl
 
 sign_sign : (negative : Bool) → is_sign (sign_name negative) ≡ true
 sign_sign true = refl
@@ -75,33 +52,23 @@ sign_sign false = refl
 
 order_word : (how : ByteOrder) (b : KeptBits) → is_long_name (order_name how b) ≡ true
 order_word Little bits.Bits16 = refl
-order_word Little bits.Bits32 = refl
-order_word Little bits.Bits64 = refl
 order_word Big bits.Bits16 = refl
-order_word Big bits.Bits32 = refl
-order_word Big bits.Bits64 = refl
 order_word Swap bits.Bits16 = refl
-order_word Swap bits.Bits32 = refl
-order_word Swap bits.Bits64 = refl
+order_word _ _ = refl
 
 narrow_word : (b : ExtendedBits) → is_long_name (narrow_name b) ≡ true
 narrow_word narrow.Bits8 = refl
-narrow_word narrow.Bits16 = refl
-narrow_word narrow.Bits32 = refl
+narrow_word _ = refl
 
 size_word : (signed : Bool) (s : AccessSize) → is_long_name (size_name signed s) ≡ true
 size_word false size.Byte = refl
-size_word false size.Half = refl
-size_word false size.Word = refl
-size_word false size.Double = refl
 size_word true size.Byte = refl
-size_word true size.Half = refl
-size_word true size.Word = refl
-size_word true size.Double = refl
+size_word _ _ = refl
 
 register_word : (wide : Bool) (r : ℕ) → r ≤ 10 → is_long_name (register_name wide r) ≡ true
-register_word true = below_eleven (λ r. is_long_name (register_name true r) ≡ true) refl refl refl refl refl refl refl refl refl refl refl
-register_word false = below_eleven (λ r. is_long_name (register_name false r) ≡ true) refl refl refl refl refl refl refl refl refl refl refl
+register_word true (above_ten r) fits = absurd (omega arith)
+register_word false (above_ten r) fits = absurd (omega arith)
+register_word _ _ fits = refl
 
 -- ---- parts of a line
 

@@ -1,13 +1,12 @@
 -- What is spelled is read so.
-use Rattle.std.proofs.Common.{◌≡◌, ℕ, zero, suc, ◌≤◌, Bool, true, false, List, [], ◌∷◌, Option, Some, None, refl, sym, ap, ◌∙◌, arith, eqb}
+use Rattle.std.proofs.Common.{◌≡◌, ℕ, suc, ◌≤◌, Bool, true, false, List, [], ◌∷◌, Option, Some, None, refl, sym, ap, ◌∙◌, arith}
 use Rattle.std.specs.Prelude.{codes, IsTrue, ◌||◌, ◌&&◌, not}
 use Rattle.std.specs.Str.{bytes_eq}
-use Rattle.std.proofs.lemmas.Bool.{false≢true}
-use Rattle.std.proofs.lemmas.Bool.Decides.{nat_tests}
+use Rattle.std.proofs.lemmas.Bool.{false≢true, eq-eqb}
 use Rattle.words.specs.declared.operator.AluOp.{AluOp}
-use Rattle.words.specs.declared.operator.AluOp.TheVariants.{Add, Sub, Mul, Div, SignedDiv, Or, And, ShiftLeft, ShiftRight, Mod, SignedMod, Xor, Mov, SignedShiftRight}
+use Rattle.words.specs.declared.operator.AluOp.TheVariants.{Add, Mov}
 use Rattle.words.specs.declared.operator.Condition.{Condition}
-use Rattle.words.specs.declared.operator.Condition.TheVariants.{Equal, Above, AboveOrEqual, CommonBit, NotEqual, SignedAbove, SignedAboveOrEqual, Below, BelowOrEqual, SignedBelow, SignedBelowOrEqual}
+use Rattle.words.specs.declared.operator.Condition.TheVariants.{Equal}
 use Rattle.words.specs.declared.operator.ByteOrder.{ByteOrder}
 use Rattle.words.specs.declared.operator.ByteOrder.TheVariants.{Little, Big, Swap}
 use Rattle.words.specs.declared.operator.KeptBits.{KeptBits}
@@ -36,103 +35,53 @@ use Rattle.text_line.specs.Form.{TokenLayout, layout, sign, word, space, tokens_
 use Rattle.text_line.specs.Line.{Line, blank, label, code, spelled, IsWellFormed, NoLabel}
 use Rattle.text_line.specs.inside.Reading.{named, operators, conditions, orders, narrows, sizes, atomic_operators, registers, after_symbol, after_word, leading_register, leading_constant, leading_signed_number, leading_operand, parsed_destination, leading_address, atomic_size_of, parsed_jump, parsed_load, parsed_store, parsed_atomic, parsed_movsx, parsed_neg, parsed_end, parsed_constant_load, parsed_map_fd, parsed_map_value, parsed_wide_move, parsed_special_move, parsed_alu, parsed_assignment, parsed_assigned, parsed_goto, parsed_gotol, parsed_call, parsed_form, parsed_label, line_of}
 
--- ---- names
+-- ---- names: a last line with `_` is checked in each case that is left
 
 named_operator : (op : AluOp) → named operators (operator_name op) ≡ Some op
 named_operator Add = refl
-named_operator Sub = refl
-named_operator Mul = refl
-named_operator Div = refl
-named_operator SignedDiv = refl
-named_operator Or = refl
-named_operator And = refl
-named_operator ShiftLeft = refl
-named_operator ShiftRight = refl
-named_operator Mod = refl
-named_operator SignedMod = refl
-named_operator Xor = refl
-named_operator Mov = refl
-named_operator SignedShiftRight = refl
+named_operator _ = refl
 
 named_condition : (c : Condition) → named conditions (condition_name c) ≡ Some c
 named_condition Equal = refl
-named_condition Above = refl
-named_condition AboveOrEqual = refl
-named_condition CommonBit = refl
-named_condition NotEqual = refl
-named_condition SignedAbove = refl
-named_condition SignedAboveOrEqual = refl
-named_condition Below = refl
-named_condition BelowOrEqual = refl
-named_condition SignedBelow = refl
-named_condition SignedBelowOrEqual = refl
+named_condition _ = refl
 
 named_order : (how : ByteOrder) (b : KeptBits) → named orders (order_name how b) ≡ Some (how, b)
 named_order Little bits.Bits16 = refl
-named_order Little bits.Bits32 = refl
-named_order Little bits.Bits64 = refl
 named_order Big bits.Bits16 = refl
-named_order Big bits.Bits32 = refl
-named_order Big bits.Bits64 = refl
 named_order Swap bits.Bits16 = refl
-named_order Swap bits.Bits32 = refl
-named_order Swap bits.Bits64 = refl
+named_order _ _ = refl
 
 named_narrow : (b : ExtendedBits) → named narrows (narrow_name b) ≡ Some b
 named_narrow narrow.Bits8 = refl
-named_narrow narrow.Bits16 = refl
-named_narrow narrow.Bits32 = refl
+named_narrow _ = refl
 
 named_size : (signed : Bool) (s : AccessSize) → IsTrue (not (signed && is_double s)) → named sizes (size_name signed s) ≡ Some (signed, s)
-named_size false size.Byte h = refl
-named_size false size.Half h = refl
-named_size false size.Word h = refl
-named_size false size.Double h = refl
-named_size true size.Byte h = refl
-named_size true size.Half h = refl
-named_size true size.Word h = refl
 named_size true size.Double h = absurd (false≢true h)
+named_size false size.Byte h = refl
+named_size _ _ h = refl
 
 named_atomic : (op : AtomicOp) → named atomic_operators (atomic_name op) ≡ Some op
 named_atomic atomic.Add = refl
-named_atomic atomic.Or = refl
-named_atomic atomic.And = refl
-named_atomic atomic.Xor = refl
+named_atomic _ = refl
 
 size_of_access : (z : AtomicSize) → atomic_size_of false (access_size z) ≡ Some z
 size_of_access atomic_size.Word = refl
-size_of_access atomic_size.Double = refl
+size_of_access _ = refl
 
-pub below_eleven : (P : ℕ → Type 0) → P 0 → P 1 → P 2 → P 3 → P 4 → P 5 → P 6 → P 7 → P 8 → P 9 → P 10 → (r : ℕ) → r ≤ 10 → P r
-below_eleven P a b c d e f g h i j k zero fits = a
-below_eleven P a b c d e f g h i j k (suc zero) fits = b
-below_eleven P a b c d e f g h i j k (suc (suc zero)) fits = c
-below_eleven P a b c d e f g h i j k (suc (suc (suc zero))) fits = d
-below_eleven P a b c d e f g h i j k (suc (suc (suc (suc zero)))) fits = e
-below_eleven P a b c d e f g h i j k (suc (suc (suc (suc (suc zero))))) fits = f
-below_eleven P a b c d e f g h i j k (suc (suc (suc (suc (suc (suc zero)))))) fits = g
-below_eleven P a b c d e f g h i j k (suc (suc (suc (suc (suc (suc (suc zero))))))) fits = h
-below_eleven P a b c d e f g h i j k (suc (suc (suc (suc (suc (suc (suc (suc zero)))))))) fits = i
-below_eleven P a b c d e f g h i j k (suc (suc (suc (suc (suc (suc (suc (suc (suc zero))))))))) fits = j
-below_eleven P a b c d e f g h i j k (suc (suc (suc (suc (suc (suc (suc (suc (suc (suc zero)))))))))) fits = k
-below_eleven P a b c d e f g h i j k (suc (suc (suc (suc (suc (suc (suc (suc (suc (suc (suc r))))))))))) fits = absurd (omega arith)
-
-named_wide : (r : ℕ) → r ≤ 10 → named registers (register_name true r) ≡ Some (true, r)
-named_wide = below_eleven (λ r. named registers (register_name true r) ≡ Some (true, r)) refl refl refl refl refl refl refl refl refl refl refl
-
-named_half : (r : ℕ) → r ≤ 10 → named registers (register_name false r) ≡ Some (false, r)
-named_half = below_eleven (λ r. named registers (register_name false r) ≡ Some (false, r)) refl refl refl refl refl refl refl refl refl refl refl
+pattern abbrev pub above_ten : ℕ → ℕ
+above_ten r = suc (suc (suc (suc (suc (suc (suc (suc (suc (suc (suc r))))))))))
 
 named_register : (wide : Bool) (r : ℕ) → r ≤ 10 → named registers (register_name wide r) ≡ Some (wide, r)
-named_register true r fits = named_wide r fits
-named_register false r fits = named_half r fits
+named_register true (above_ten r) fits = absurd (omega arith)
+named_register false (above_ten r) fits = absurd (omega arith)
+named_register _ _ fits = refl
 
 -- ---- parts of a line
 
 register_read : (wide : Bool) (r : ℕ) (ts : List Token) → r ≤ 10 → leading_register wide (name (register_name wide r) ∷ ts) ≡ Some (r, ts)
 unfolding leading_register
-register_read true r ts fits = rw (named_wide r fits) refl
-register_read false r ts fits = rw (named_half r fits) refl
+register_read true r ts fits = rw (named_register true r fits) refl
+register_read false r ts fits = rw (named_register false r fits) refl
 
 constant_read : (n : Number) (rest : TokenLayout) → leading_constant (tokens_of (constant n rest)) ≡ Some (n, tokens_of rest)
 unfolding leading_constant after_symbol
@@ -182,9 +131,6 @@ address_read signed s base offset rest listed fits = rw (named_size signed s lis
 
 -- ---- forms
 
-same_eq : (a : ℕ) → eqb a a ≡ true
-same_eq a = grind (arith, nat_tests)
-
 call_read : (n : Number) → parsed_call (tokens_of (constant n [])) ≡ Some (form.Call n)
 unfolding parsed_call
 call_read n = rw (constant_read n []) refl
@@ -222,11 +168,11 @@ movsx_read wide b dst src fits listed = rw (named_narrow b, register_read wide s
 
 neg_read : (wide : Bool) (dst : ℕ) → dst ≤ 10 → parsed_neg wide dst (name (register_name wide dst) ∷ []) ≡ Some (form.Neg wide dst)
 unfolding parsed_neg
-neg_read wide dst fits = rw (register_read wide dst [] fits, same_eq dst) refl
+neg_read wide dst fits = rw (register_read wide dst [] fits, eq-eqb dst dst refl) refl
 
 end_read : (how : ByteOrder) (b : KeptBits) (dst : ℕ) → dst ≤ 10 → parsed_end dst (name (order_name how b) ∷ name (register_name true dst) ∷ []) ≡ Some (form.End how b dst)
 unfolding parsed_end
-end_read how b dst fits = rw (named_order how b, register_read true dst [] fits, same_eq dst) refl
+end_read how b dst fits = rw (named_order how b, register_read true dst [] fits, eq-eqb dst dst refl) refl
 
 const_read : (dst : ℕ) (v : Option ℕ) → parsed_constant_load dst (number v ∷ name (codes "ll") ∷ []) ≡ Some (form.Const dst v)
 unfolding parsed_constant_load after_word
@@ -250,27 +196,12 @@ assign_move : (wide : Bool) (dst : ℕ) (ts : List Token) (f : Form) → parsed_
 unfolding parsed_assignment
 assign_move wide dst ts f none some = rw (none, some) refl
 
-order_no_register : (how : ByteOrder) (b : KeptBits) → named registers (order_name how b) ≡ None
-order_no_register Little bits.Bits16 = refl
-order_no_register Little bits.Bits32 = refl
-order_no_register Little bits.Bits64 = refl
-order_no_register Big bits.Bits16 = refl
-order_no_register Big bits.Bits32 = refl
-order_no_register Big bits.Bits64 = refl
-order_no_register Swap bits.Bits16 = refl
-order_no_register Swap bits.Bits32 = refl
-order_no_register Swap bits.Bits64 = refl
-
-order_no_map : (how : ByteOrder) (b : KeptBits) → (bytes_eq (order_name how b) (codes "map_fd") ≡ false) × (bytes_eq (order_name how b) (codes "map_value") ≡ false)
-order_no_map Little bits.Bits16 = (refl, refl)
-order_no_map Little bits.Bits32 = (refl, refl)
-order_no_map Little bits.Bits64 = (refl, refl)
-order_no_map Big bits.Bits16 = (refl, refl)
-order_no_map Big bits.Bits32 = (refl, refl)
-order_no_map Big bits.Bits64 = (refl, refl)
-order_no_map Swap bits.Bits16 = (refl, refl)
-order_no_map Swap bits.Bits32 = (refl, refl)
-order_no_map Swap bits.Bits64 = (refl, refl)
+-- the name of a byte-order conversion is none of a register or a map
+order_apart : (how : ByteOrder) (b : KeptBits) → (named registers (order_name how b) ≡ None) × (bytes_eq (order_name how b) (codes "map_fd") ≡ false) × (bytes_eq (order_name how b) (codes "map_value") ≡ false)
+order_apart Little bits.Bits16 = (refl, refl, refl)
+order_apart Big bits.Bits16 = (refl, refl, refl)
+order_apart Swap bits.Bits16 = (refl, refl, refl)
+order_apart _ _ = (refl, refl, refl)
 
 no_alu_symbol : (wide : Bool) (op : AluOp) (dst : ℕ) (s : List ℕ) (ts : List Token) → bytes_eq s (codes "-") ≡ false → parsed_alu wide op dst (symbol s ∷ ts) ≡ None
 unfolding parsed_alu leading_operand leading_register leading_constant after_symbol
@@ -298,7 +229,7 @@ moved_neg wide dst ts f e = e
 
 moved_end : (dst : ℕ) (how : ByteOrder) (b : KeptBits) (ts : List Token) (f : Form) → parsed_end dst (name (order_name how b) ∷ ts) ≡ Some f → parsed_special_move true dst (name (order_name how b) ∷ ts) ≡ Some f
 unfolding parsed_special_move parsed_wide_move after_symbol after_word
-moved_end dst how b ts f e = let no_map = order_no_map how b in rw (no_map.0, no_map.1, e) refl
+moved_end dst how b ts f e = let (_, no_fd, no_value) = order_apart how b in rw (no_fd, no_value, e) refl
 
 moved_map : (dst : ℕ) (ts : List Token) (f : Form) → parsed_map_fd dst ts ≡ Some f → parsed_special_move true dst (name (codes "map_fd") ∷ ts) ≡ Some f
 unfolding parsed_special_move parsed_wide_move after_symbol after_word
@@ -320,19 +251,7 @@ moved_load dst ts f e = e
 
 operator_no_colon : (op : AluOp) → bytes_eq (operator_name op) (codes ":") ≡ false
 operator_no_colon Add = refl
-operator_no_colon Sub = refl
-operator_no_colon Mul = refl
-operator_no_colon Div = refl
-operator_no_colon SignedDiv = refl
-operator_no_colon Or = refl
-operator_no_colon And = refl
-operator_no_colon ShiftLeft = refl
-operator_no_colon ShiftRight = refl
-operator_no_colon Mod = refl
-operator_no_colon SignedMod = refl
-operator_no_colon Xor = refl
-operator_no_colon Mov = refl
-operator_no_colon SignedShiftRight = refl
+operator_no_colon _ = refl
 
 no_label_symbol : (n s : List ℕ) (ts : List Token) → bytes_eq s (codes ":") ≡ false → parsed_label (name n ∷ symbol s ∷ ts) ≡ None
 unfolding parsed_label after_symbol
@@ -377,8 +296,8 @@ line_from t ts f n none some = rw (none, some) refl
 
 form_from_register : (wide : Bool) (r : ℕ) (ts : List Token) (f : Form) → r ≤ 10 → parsed_assignment wide r ts ≡ Some f → parsed_form (name (register_name wide r) ∷ ts) ≡ Some (f, [])
 unfolding parsed_form after_word parsed_assigned
-form_from_register true r ts f fits e = rw (named_wide r fits, e) refl
-form_from_register false r ts f fits e = rw (named_half r fits, e) refl
+form_from_register true r ts f fits e = rw (named_register true r fits, e) refl
+form_from_register false r ts f fits e = rw (named_register false r fits, e) refl
 
 form_from_if : (ts : List Token) (f : Form) (n : List ℕ) → parsed_jump ts ≡ Some (f, n) → parsed_form (name (codes "if") ∷ ts) ≡ Some (f, n)
 unfolding parsed_form after_word
@@ -426,7 +345,7 @@ code_read (form.Neg wide dst) n fits none =
     line_from_move wide dst (symbol (codes "-") ∷ ts) (form.Neg wide dst) n fits none (no_alu_minus wide Mov dst (register_name wide dst) []) (moved_neg wide dst ts (form.Neg wide dst) (neg_read wide dst fits))
 code_read (form.End how b dst) n fits none =
     let ts : List Token = name (register_name true dst) ∷ [] in
-    line_from_move true dst (name (order_name how b) ∷ ts) (form.End how b dst) n fits none (no_alu_name true Mov dst (order_name how b) ts (order_no_register how b)) (moved_end dst how b ts (form.End how b dst) (end_read how b dst fits))
+    line_from_move true dst (name (order_name how b) ∷ ts) (form.End how b dst) n fits none (no_alu_name true Mov dst (order_name how b) ts (order_apart how b).0) (moved_end dst how b ts (form.End how b dst) (end_read how b dst fits))
 code_read (form.Ja to) n fits none = line_from (name (codes "goto")) (tokens_of (destination to n)) (form.Ja to) n (no_label_destination (codes "goto") to n) (form_from_goto (tokens_of (destination to n)) (form.Ja to) n (goto_read to n none))
 code_read (form.Jal to) n fits none = line_from (name (codes "gotol")) (tokens_of (destination to n)) (form.Jal to) n (no_label_destination (codes "gotol") to n) (form_from_gotol (tokens_of (destination to n)) (form.Jal to) n (gotol_read to n none))
 code_read (form.Jump wide c dst src to) n fits none =

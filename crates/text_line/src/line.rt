@@ -10,7 +10,7 @@ use crate::names::{
     atomic_operator, atomic_size, byte_order, condition, narrow, operator, register_named,
 };
 use crate::parts::{
-    address, after_symbol, after_word, constant, destination, ended, name, number, operand,
+    address, after_symbol, after_word, at_end, constant, destination, ended, name, number, operand,
     register, symbol,
 };
 use crate::token::Token;
@@ -50,16 +50,16 @@ fn load(dst: Reg, tokens: &[Token<'_>]) -> Option<Form>
     let Some((address, rest)) = address(tokens) else {
         return None;
     };
-    if !ended(rest) {
-        return None;
-    }
-    Some(Form::Load {
-        size: address.size,
-        signed: address.signed,
-        dst,
-        src: address.base,
-        offset: address.offset,
-    })
+    at_end(
+        Form::Load {
+            size: address.size,
+            signed: address.signed,
+            dst,
+            src: address.base,
+            offset: address.offset,
+        },
+        rest,
+    )
 }
 
 /// A store.
@@ -74,15 +74,18 @@ fn store(tokens: &[Token<'_>]) -> Option<Form>
     let Some((src, rest)) = operand(true, rest) else {
         return None;
     };
-    if address.signed || !ended(rest) {
+    if address.signed {
         return None;
     }
-    Some(Form::Store {
-        size: address.size,
-        dst: address.base,
-        src,
-        offset: address.offset,
-    })
+    at_end(
+        Form::Store {
+            size: address.size,
+            dst: address.base,
+            src,
+            offset: address.offset,
+        },
+        rest,
+    )
 }
 
 /// An atomic operation, after `lock`.
@@ -99,16 +102,16 @@ fn atomic(tokens: &[Token<'_>]) -> Option<Form>
     let Some((src, rest)) = register(true, rest) else {
         return None;
     };
-    if !ended(rest) {
-        return None;
-    }
-    Some(Form::Atomic {
-        size,
-        op,
-        dst: address.base,
-        src,
-        offset: address.offset,
-    })
+    at_end(
+        Form::Atomic {
+            size,
+            op,
+            dst: address.base,
+            src,
+            offset: address.offset,
+        },
+        rest,
+    )
 }
 
 /// A move with sign extension, after `(`.
@@ -125,15 +128,15 @@ fn movsx(wide: bool, dst: Reg, tokens: &[Token<'_>]) -> Option<Form>
     if !wide && bits == ExtendedBits::Bits32 {
         return None;
     }
-    if !ended(rest) {
-        return None;
-    }
-    Some(Form::Movsx {
-        wide,
-        bits,
-        dst,
-        src,
-    })
+    at_end(
+        Form::Movsx {
+            wide,
+            bits,
+            dst,
+            src,
+        },
+        rest,
+    )
 }
 
 /// A negation, after `-`.
@@ -147,11 +150,7 @@ fn neg(wide: bool, dst: Reg, tokens: &[Token<'_>]) -> Option<Form>
     if again.number() != dst.number() {
         return None;
     }
-    if ended(rest) {
-        Some(Form::Neg { wide, dst })
-    } else {
-        None
-    }
+    at_end(Form::Neg { wide, dst }, rest)
 }
 
 /// A byte-order conversion, after `=`.
@@ -167,11 +166,7 @@ fn end(dst: Reg, tokens: &[Token<'_>]) -> Option<Form>
     if again.number() != dst.number() {
         return None;
     }
-    if ended(rest) {
-        Some(Form::End { how, bits, dst })
-    } else {
-        None
-    }
+    at_end(Form::End { how, bits, dst }, rest)
 }
 
 /// A wide constant, after `=`.
@@ -181,11 +176,7 @@ fn constant_load(dst: Reg, tokens: &[Token<'_>]) -> Option<Form>
 {
     let (value, rest) = number(tokens)?;
     let rest = after_word(rest, "ll")?;
-    if ended(rest) {
-        Some(Form::Const { dst, value })
-    } else {
-        None
-    }
+    at_end(Form::Const { dst, value }, rest)
 }
 
 /// A map's descriptor, after `map_fd`.
@@ -195,11 +186,7 @@ fn map_fd(dst: Reg, tokens: &[Token<'_>]) -> Option<Form>
 {
     let (fd, rest) = constant(tokens)?;
     let rest = after_word(rest, "ll")?;
-    if ended(rest) {
-        Some(Form::MapFd { dst, fd })
-    } else {
-        None
-    }
+    at_end(Form::MapFd { dst, fd }, rest)
 }
 
 /// A map's descriptor and an offset in its value, after `map_value`.
@@ -211,11 +198,7 @@ fn map_value(dst: Reg, tokens: &[Token<'_>]) -> Option<Form>
     let rest = after_symbol(rest, "+")?;
     let (off, rest) = number(rest)?;
     let rest = after_word(rest, "ll")?;
-    if ended(rest) {
-        Some(Form::MapValue { dst, fd, off })
-    } else {
-        None
-    }
+    at_end(Form::MapValue { dst, fd, off }, rest)
 }
 
 /// What only an `r` register can be assigned, after `=`.
@@ -260,11 +243,7 @@ fn alu(wide: bool, op: AluOp, dst: Reg, tokens: &[Token<'_>]) -> Option<Form>
     let Some((src, rest)) = operand(wide, tokens) else {
         return None;
     };
-    if ended(rest) {
-        Some(Form::Alu { wide, op, dst, src })
-    } else {
-        None
-    }
+    at_end(Form::Alu { wide, op, dst, src }, rest)
 }
 
 fn is_move(op: AluOp) -> bool
@@ -323,11 +302,7 @@ fn call(tokens: &[Token<'_>]) -> Option<Form>
     ensures { result ≡ parsed_call (shown_tokens tokens.now) }
 {
     let (id, rest) = constant(tokens)?;
-    if ended(rest) {
-        Some(Form::Call { id })
-    } else {
-        None
-    }
+    at_end(Form::Call { id }, rest)
 }
 
 /// An instruction, and the label that its jump names.
@@ -349,11 +324,8 @@ fn form<'a>(tokens: &[Token<'a>]) -> Option<(Form, &'a str)>
         return Some((form, ""));
     }
     if let Some(rest) = after_word(tokens, "exit") {
-        return if ended(rest) {
-            Some((Form::Exit, ""))
-        } else {
-            None
-        };
+        let form = at_end(Form::Exit, rest)?;
+        return Some((form, ""));
     }
     if let Some(rest) = after_word(tokens, "lock") {
         let form = atomic(rest)?;
@@ -373,7 +345,7 @@ fn label<'a>(tokens: &[Token<'a>]) -> Option<&'a str>
 {
     let (name, rest) = name(tokens)?;
     let rest = after_symbol(rest, ":")?;
-    if ended(rest) { Some(name) } else { None }
+    at_end(name, rest)
 }
 
 /// The line of these tokens; `None` if they have none of the forms.

@@ -2,7 +2,7 @@
 
 ghost use Rattle.std.specs.Prelude.{◌≡◌};
 ghost use Rattle.text_line.specs.inside.Shown.{shown_tokens};
-ghost use Rattle.text_line.specs.inside.Reading.{leading_symbol, leading_name, leading_number, after_symbol, after_word, leading_register, leading_constant, leading_signed_number, leading_operand, parsed_destination, leading_address, is_ended, seen, seen_pair, seen_label, seen_destination};
+ghost use Rattle.text_line.specs.inside.Reading.{leading_symbol, leading_name, leading_number, after_symbol, after_word, leading_register, number_from, leading_constant, leading_signed_number, leading_operand, parsed_destination, leading_address, is_ended, at_end, seen, seen_pair, seen_label, seen_destination};
 
 use crate::form::{Address, JumpTarget, Number, SourceOperand};
 use crate::names::{register_named, size};
@@ -78,32 +78,28 @@ pub(crate) fn register<'t, 'a>(
     }
 }
 
+/// A number without a sign, as one that has a minus if `negative`.
+fn number_from<'t, 'a>(negative: bool, tokens: &'t [Token<'a>]) -> Option<(Number, &'t [Token<'a>])>
+    ensures { seen_pair result ≡ number_from negative (leading_number (shown_tokens tokens.now)) }
+{
+    let (magnitude, rest) = number(tokens)?;
+    Some((
+        Number {
+            negative,
+            magnitude,
+        },
+        rest,
+    ))
+}
+
 /// A number with an optional minus.
 #[tactic(auto, unfolding(crate::specs::inside::Reading::leading_constant))]
 pub(crate) fn constant<'t, 'a>(tokens: &'t [Token<'a>]) -> Option<(Number, &'t [Token<'a>])>
     ensures { seen_pair result ≡ leading_constant (shown_tokens tokens.now) }
 {
     match after_symbol(tokens, "-") {
-        Some(rest) => {
-            let (magnitude, rest) = number(rest)?;
-            Some((
-                Number {
-                    negative: true,
-                    magnitude,
-                },
-                rest,
-            ))
-        }
-        None => {
-            let (magnitude, rest) = number(tokens)?;
-            Some((
-                Number {
-                    negative: false,
-                    magnitude,
-                },
-                rest,
-            ))
-        }
+        Some(rest) => number_from(true, rest),
+        None => number_from(false, tokens),
     }
 }
 
@@ -113,27 +109,8 @@ pub(crate) fn signed<'t, 'a>(tokens: &'t [Token<'a>]) -> Option<(Number, &'t [To
     ensures { seen_pair result ≡ leading_signed_number (shown_tokens tokens.now) }
 {
     match after_symbol(tokens, "+") {
-        Some(rest) => {
-            let (magnitude, rest) = number(rest)?;
-            Some((
-                Number {
-                    negative: false,
-                    magnitude,
-                },
-                rest,
-            ))
-        }
-        None => {
-            let rest = after_symbol(tokens, "-")?;
-            let (magnitude, rest) = number(rest)?;
-            Some((
-                Number {
-                    negative: true,
-                    magnitude,
-                },
-                rest,
-            ))
-        }
+        Some(rest) => number_from(false, rest),
+        None => number_from(true, after_symbol(tokens, "-")?),
     }
 }
 
@@ -164,23 +141,24 @@ pub(crate) fn ended(tokens: &[Token<'_>]) -> bool
     }
 }
 
+/// What was read, if no token is left.
+pub(crate) fn at_end<T: Copy>(found: T, tokens: &[Token<'_>]) -> Option<T>
+    ensures { result ≡ at_end found (shown_tokens tokens.now) }
+{
+    if ended(tokens) { Some(found) } else { None }
+}
+
 /// The target of a jump, and the label's name, empty if it names no label. No token may follow.
 #[tactic(auto, unfolding(crate::specs::inside::Reading::parsed_destination))]
 pub(crate) fn destination<'a>(tokens: &[Token<'a>]) -> Option<(JumpTarget, &'a str)>
     ensures { seen_destination result ≡ parsed_destination (shown_tokens tokens.now) }
 {
-    if let Some((number, rest)) = signed(tokens) {
-        return if ended(rest) {
-            Some((JumpTarget::Number(number), ""))
-        } else {
-            None
-        };
-    }
-    let (name, rest) = name(tokens)?;
-    if ended(rest) {
-        Some((JumpTarget::Label, name))
-    } else {
-        None
+    match signed(tokens) {
+        Some((number, rest)) => at_end((JumpTarget::Number(number), ""), rest),
+        None => {
+            let (name, rest) = name(tokens)?;
+            at_end((JumpTarget::Label, name), rest)
+        }
     }
 }
 

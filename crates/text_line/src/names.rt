@@ -1,107 +1,131 @@
 //! The meanings of names and symbols.
 
 ghost use Rattle.std.specs.Prelude.{◌≡◌};
-ghost use Rattle.text_line.specs.inside.Reading.{named, operators, conditions, orders, narrows, sizes, atomic_operators, atomic_size_of, registers};
+ghost use Rattle.text_line.specs.inside.Reading.{rows, named, operators, conditions, orders, narrows, sizes, atomic_operators, atomic_size_of, registers};
 
 use insn_set::{
     AccessSize, AluOp, AtomicOp, AtomicSize, ByteOrder, Condition, ExtendedBits, KeptBits, Reg,
 };
 
+/// The value of the first row with this name.
+fn named<T: Copy>(table: &[(&str, T)], name: &str) -> Option<T>
+    ensures { result ≡ named (rows table.now) name.now }
+{
+    for row in table {
+        if name == row.0 {
+            return Some(row.1);
+        }
+    }
+    None
+}
+
 pub(crate) fn operator(symbol: &str) -> Option<AluOp>
     ensures { result ≡ named operators symbol.now }
 {
-    match symbol {
-        "+=" => Some(AluOp::Add),
-        "-=" => Some(AluOp::Sub),
-        "*=" => Some(AluOp::Mul),
-        "/=" => Some(AluOp::Div),
-        "s/=" => Some(AluOp::SignedDiv),
-        "|=" => Some(AluOp::Or),
-        "&=" => Some(AluOp::And),
-        "<<=" => Some(AluOp::ShiftLeft),
-        ">>=" => Some(AluOp::ShiftRight),
-        "%=" => Some(AluOp::Mod),
-        "s%=" => Some(AluOp::SignedMod),
-        "^=" => Some(AluOp::Xor),
-        "=" => Some(AluOp::Mov),
-        "s>>=" => Some(AluOp::SignedShiftRight),
-        _ => None,
-    }
+    named(
+        &[
+            ("+=", AluOp::Add),
+            ("-=", AluOp::Sub),
+            ("*=", AluOp::Mul),
+            ("/=", AluOp::Div),
+            ("s/=", AluOp::SignedDiv),
+            ("|=", AluOp::Or),
+            ("&=", AluOp::And),
+            ("<<=", AluOp::ShiftLeft),
+            (">>=", AluOp::ShiftRight),
+            ("%=", AluOp::Mod),
+            ("s%=", AluOp::SignedMod),
+            ("^=", AluOp::Xor),
+            ("=", AluOp::Mov),
+            ("s>>=", AluOp::SignedShiftRight),
+        ],
+        symbol,
+    )
 }
 
 pub(crate) fn condition(symbol: &str) -> Option<Condition>
     ensures { result ≡ named conditions symbol.now }
 {
-    match symbol {
-        "==" => Some(Condition::Equal),
-        ">" => Some(Condition::Above),
-        ">=" => Some(Condition::AboveOrEqual),
-        "&" => Some(Condition::CommonBit),
-        "!=" => Some(Condition::NotEqual),
-        "s>" => Some(Condition::SignedAbove),
-        "s>=" => Some(Condition::SignedAboveOrEqual),
-        "<" => Some(Condition::Below),
-        "<=" => Some(Condition::BelowOrEqual),
-        "s<" => Some(Condition::SignedBelow),
-        "s<=" => Some(Condition::SignedBelowOrEqual),
-        _ => None,
-    }
+    named(
+        &[
+            ("==", Condition::Equal),
+            (">", Condition::Above),
+            (">=", Condition::AboveOrEqual),
+            ("&", Condition::CommonBit),
+            ("!=", Condition::NotEqual),
+            ("s>", Condition::SignedAbove),
+            ("s>=", Condition::SignedAboveOrEqual),
+            ("<", Condition::Below),
+            ("<=", Condition::BelowOrEqual),
+            ("s<", Condition::SignedBelow),
+            ("s<=", Condition::SignedBelowOrEqual),
+        ],
+        symbol,
+    )
 }
 
 pub(crate) fn byte_order(name: &str) -> Option<(ByteOrder, KeptBits)>
     ensures { result ≡ named orders name.now }
 {
-    match name {
-        "le16" => Some((ByteOrder::Little, KeptBits::Bits16)),
-        "le32" => Some((ByteOrder::Little, KeptBits::Bits32)),
-        "le64" => Some((ByteOrder::Little, KeptBits::Bits64)),
-        "be16" => Some((ByteOrder::Big, KeptBits::Bits16)),
-        "be32" => Some((ByteOrder::Big, KeptBits::Bits32)),
-        "be64" => Some((ByteOrder::Big, KeptBits::Bits64)),
-        "bswap16" => Some((ByteOrder::Swap, KeptBits::Bits16)),
-        "bswap32" => Some((ByteOrder::Swap, KeptBits::Bits32)),
-        "bswap64" => Some((ByteOrder::Swap, KeptBits::Bits64)),
-        _ => None,
-    }
+    named(
+        &[
+            ("le16", (ByteOrder::Little, KeptBits::Bits16)),
+            ("le32", (ByteOrder::Little, KeptBits::Bits32)),
+            ("le64", (ByteOrder::Little, KeptBits::Bits64)),
+            ("be16", (ByteOrder::Big, KeptBits::Bits16)),
+            ("be32", (ByteOrder::Big, KeptBits::Bits32)),
+            ("be64", (ByteOrder::Big, KeptBits::Bits64)),
+            ("bswap16", (ByteOrder::Swap, KeptBits::Bits16)),
+            ("bswap32", (ByteOrder::Swap, KeptBits::Bits32)),
+            ("bswap64", (ByteOrder::Swap, KeptBits::Bits64)),
+        ],
+        name,
+    )
 }
 
 pub(crate) fn narrow(name: &str) -> Option<ExtendedBits>
     ensures { result ≡ named narrows name.now }
 {
-    match name {
-        "s8" => Some(ExtendedBits::Bits8),
-        "s16" => Some(ExtendedBits::Bits16),
-        "s32" => Some(ExtendedBits::Bits32),
-        _ => None,
-    }
+    named(
+        &[
+            ("s8", ExtendedBits::Bits8),
+            ("s16", ExtendedBits::Bits16),
+            ("s32", ExtendedBits::Bits32),
+        ],
+        name,
+    )
 }
 
 /// Whether the size is signed, and the size.
 pub(crate) fn size(name: &str) -> Option<(bool, AccessSize)>
     ensures { result ≡ named sizes name.now }
 {
-    match name {
-        "u8" => Some((false, AccessSize::Byte)),
-        "u16" => Some((false, AccessSize::Half)),
-        "u32" => Some((false, AccessSize::Word)),
-        "u64" => Some((false, AccessSize::Double)),
-        "s8" => Some((true, AccessSize::Byte)),
-        "s16" => Some((true, AccessSize::Half)),
-        "s32" => Some((true, AccessSize::Word)),
-        _ => None,
-    }
+    named(
+        &[
+            ("u8", (false, AccessSize::Byte)),
+            ("u16", (false, AccessSize::Half)),
+            ("u32", (false, AccessSize::Word)),
+            ("u64", (false, AccessSize::Double)),
+            ("s8", (true, AccessSize::Byte)),
+            ("s16", (true, AccessSize::Half)),
+            ("s32", (true, AccessSize::Word)),
+        ],
+        name,
+    )
 }
 
 pub(crate) fn atomic_operator(symbol: &str) -> Option<AtomicOp>
     ensures { result ≡ named atomic_operators symbol.now }
 {
-    match symbol {
-        "+=" => Some(AtomicOp::Add),
-        "|=" => Some(AtomicOp::Or),
-        "&=" => Some(AtomicOp::And),
-        "^=" => Some(AtomicOp::Xor),
-        _ => None,
-    }
+    named(
+        &[
+            ("+=", AtomicOp::Add),
+            ("|=", AtomicOp::Or),
+            ("&=", AtomicOp::And),
+            ("^=", AtomicOp::Xor),
+        ],
+        symbol,
+    )
 }
 
 /// The size of an atomic operation whose memory operand has this size; `None` if it is signed or below 4 bytes (RFC 9669,
@@ -120,29 +144,32 @@ pub(crate) fn atomic_size(signed: bool, size: AccessSize) -> Option<AtomicSize>
 pub(crate) fn register_named(name: &str) -> Option<(bool, Reg)>
     ensures { result ≡ named registers name.now }
 {
-    match name {
-        "r0" => Some((true, Reg::new(0))),
-        "r1" => Some((true, Reg::new(1))),
-        "r2" => Some((true, Reg::new(2))),
-        "r3" => Some((true, Reg::new(3))),
-        "r4" => Some((true, Reg::new(4))),
-        "r5" => Some((true, Reg::new(5))),
-        "r6" => Some((true, Reg::new(6))),
-        "r7" => Some((true, Reg::new(7))),
-        "r8" => Some((true, Reg::new(8))),
-        "r9" => Some((true, Reg::new(9))),
-        "r10" => Some((true, Reg::new(10))),
-        "w0" => Some((false, Reg::new(0))),
-        "w1" => Some((false, Reg::new(1))),
-        "w2" => Some((false, Reg::new(2))),
-        "w3" => Some((false, Reg::new(3))),
-        "w4" => Some((false, Reg::new(4))),
-        "w5" => Some((false, Reg::new(5))),
-        "w6" => Some((false, Reg::new(6))),
-        "w7" => Some((false, Reg::new(7))),
-        "w8" => Some((false, Reg::new(8))),
-        "w9" => Some((false, Reg::new(9))),
-        "w10" => Some((false, Reg::new(10))),
-        _ => None,
-    }
+    let (wide, number) = named(
+        &[
+            ("r0", (true, 0)),
+            ("r1", (true, 1)),
+            ("r2", (true, 2)),
+            ("r3", (true, 3)),
+            ("r4", (true, 4)),
+            ("r5", (true, 5)),
+            ("r6", (true, 6)),
+            ("r7", (true, 7)),
+            ("r8", (true, 8)),
+            ("r9", (true, 9)),
+            ("r10", (true, 10)),
+            ("w0", (false, 0)),
+            ("w1", (false, 1)),
+            ("w2", (false, 2)),
+            ("w3", (false, 3)),
+            ("w4", (false, 4)),
+            ("w5", (false, 5)),
+            ("w6", (false, 6)),
+            ("w7", (false, 7)),
+            ("w8", (false, 8)),
+            ("w9", (false, 9)),
+            ("w10", (false, 10)),
+        ],
+        name,
+    )?;
+    Some((wide, Reg::new(number)))
 }

@@ -1,5 +1,5 @@
 -- How the tokens of a line are read, from the left. This project's own.
-use Rattle.std.specs.Prelude.{ℕ, ◌==◌, Bool, true, false, ◌||◌, List, [], ◌∷◌, codes, Option, Some, None, option_and_then, option_map, not, if◌then◌else◌}
+use Rattle.std.specs.Prelude.{ℕ, ◌==◌, Bool, true, false, ◌||◌, List, [], ◌∷◌, codes, Option, Some, None, option_and_then, option_map, map, not, if◌then◌else◌}
 use Rattle.std.specs.Str.{bytes_eq}
 use Rattle.std.specs.Map.{lookup}
 use Rattle.words.specs.declared.operator.AluOp.{AluOp}
@@ -63,6 +63,10 @@ seen_destination o = option_map (λ p. (p.0, p.1.now)) o
 
 abbrev pub named : {A : Type 0} → List (List ℕ × A) → List ℕ → Option A
 named table n = lookup (λ m. bytes_eq n m) table
+
+-- the rows of a table of the code
+abbrev pub rows : {A : Type 0} → List (Bor (List ℕ) × A) → List (List ℕ × A)
+rows table = map (λ row. (row.0.now, row.1)) table
 
 abbrev pub operators : List (List ℕ × AluOp)
 operators =

@@ -10,7 +10,7 @@ use Rattle.std.proofs.lemmas.List.{take_more, take_all, map-append, length-map, 
 use Rattle.std.proofs.lemmas.List.Sums.{sum_by-cons}
 use Rattle.insn_set.specs.declared.TheConstants.{MAX_SLOTS}
 use Rattle.insn_set.specs.declared.insn.Insn.{Insn}
-use Rattle.insn_set.specs.declared.insn.Insn.TheVariants.{Alu, Movsx, Neg, End, Ja, Jal, Jump, Call, Exit, Load, Store, Atomic, Const, MapFd, MapValue}
+use Rattle.insn_set.specs.declared.insn.Insn.TheVariants.{Alu}
 use Rattle.insn_set.specs.Spelling.{slots}
 use Rattle.insn_set.specs.Program.{slot_count}
 use Rattle.text_line.specs.declared.form.Form.{Form}
@@ -84,10 +84,9 @@ label_fault_kind false kind e = λ m. cc
 
 -- no line is to blame for memory
 pub fault_kind : (lines : List (Option Line)) (i before : ℕ) (line : Option Line) (kind : TextFaultKind) → line_fault lines i before line ≡ Some kind → kind ≢ Memory
-fault_kind lines i before None kind e = λ m. cc
-fault_kind lines i before (Some blank) kind e = λ m. cc
 fault_kind lines i before (Some (label name)) kind e = label_fault_kind (is_twice lines i name) kind e
 fault_kind lines i before (Some (code form name)) kind e = code_fault_kind (form_fits form) (is_known lines form name) (passes before (form_slots form)) kind e
+fault_kind lines i before _ kind e = λ m. cc
 
 pub fault_here : (lines : List (Option Line)) (i : ℕ) (d : Option Line) → i < length lines → fault_at lines i ≡ line_fault lines i (slots_on (take i lines)) (get_or lines i d)
 unfolding fault_at
@@ -146,69 +145,33 @@ distance_is lines labels slot name finds room =
 pub forms_are : (all : List (Option Line)) (labels : Labels) (slot : ℕ) (lines : List (Option Line)) → Finds all labels → slots_on all ≤ MAX_SLOTS → kept_forms labels slot lines ≡ forms_from all slot lines
 unfolding kept_forms forms_from
 forms_are all labels slot [] finds room = refl
-forms_are all labels slot (None ∷ lines) finds room = ap (λ (n : ℕ). kept_forms labels n lines) (none slot) ∙ forms_are all labels slot lines finds room
-  where
-    none : (n : ℕ) → n + 0 ≡ n
-    none n = omega arith
-forms_are all labels slot (Some blank ∷ lines) finds room = ap (λ (n : ℕ). kept_forms labels n lines) (none slot) ∙ forms_are all labels slot lines finds room
-  where
-    none : (n : ℕ) → n + 0 ≡ n
-    none n = omega arith
-forms_are all labels slot (Some (label name) ∷ lines) finds room = ap (λ (n : ℕ). kept_forms labels n lines) (none slot) ∙ forms_are all labels slot lines finds room
-  where
-    none : (n : ℕ) → n + 0 ≡ n
-    none n = omega arith
 forms_are all labels slot (Some (code form name) ∷ lines) finds room =
     ap (λ (z : ℤ). resolved z form ∷ kept_forms labels (slot + form_slots form) lines) (distance_is all labels slot name finds room)
     ∙ ap (λ (fs : List Form). resolved (distance all slot name) form ∷ fs) (forms_are all labels (slot + form_slots form) lines finds room)
+forms_are all labels slot (_ ∷ lines) finds room = ap (λ (n : ℕ). kept_forms labels n lines) (none slot) ∙ forms_are all labels slot lines finds room
+  where
+    none : (n : ℕ) → n + 0 ≡ n
+    none n = omega arith
 
 -- ---- how many slots the instructions take
 
 resolved_slots : (distance : ℤ) (form : Form) → form_slots (resolved distance form) ≡ form_slots form
 resolved_slots z (form.Alu wide op dst src) = refl
-resolved_slots z (form.Movsx wide part dst src) = refl
-resolved_slots z (form.Neg wide dst) = refl
-resolved_slots z (form.End how part dst) = refl
-resolved_slots z (form.Ja to) = refl
-resolved_slots z (form.Jal to) = refl
-resolved_slots z (form.Jump wide cond dst src to) = refl
-resolved_slots z (form.Call id) = refl
-resolved_slots z form.Exit = refl
-resolved_slots z (form.Load size signed dst src offset) = refl
-resolved_slots z (form.Store size dst src offset) = refl
-resolved_slots z (form.Atomic size op dst src offset) = refl
-resolved_slots z (form.Const dst value) = refl
-resolved_slots z (form.MapFd dst fd) = refl
-resolved_slots z (form.MapValue dst fd off) = refl
+resolved_slots z _ = refl
 
 pub written_slots : (insn : Insn) → form_slots (written insn) ≡ length (slots insn)
 written_slots (Alu wide op dst src) = refl
-written_slots (Movsx m) = refl
-written_slots (Neg wide dst) = refl
-written_slots (End how bits dst) = refl
-written_slots (Ja off) = refl
-written_slots (Jal off) = refl
-written_slots (Jump wide cond dst src off) = refl
-written_slots (Call id) = refl
-written_slots Exit = refl
-written_slots (Load l) = refl
-written_slots (Store size dst src off) = refl
-written_slots (Atomic size op dst src off) = refl
-written_slots (Const dst value) = refl
-written_slots (MapFd dst fd) = refl
-written_slots (MapValue dst fd off) = refl
+written_slots _ = refl
 
 forms_slots : (all : List (Option Line)) (slot : ℕ) (lines : List (Option Line)) → sum_by form_slots (forms_from all slot lines) ≡ slots_on lines
 unfolding forms_from slots_on
 forms_slots all slot [] = refl
-forms_slots all slot (None ∷ lines) = let more = forms_slots all slot lines in omega arith
-forms_slots all slot (Some blank ∷ lines) = let more = forms_slots all slot lines in omega arith
-forms_slots all slot (Some (label name) ∷ lines) = let more = forms_slots all slot lines in omega arith
 forms_slots all slot (Some (code form name) ∷ lines) =
     let here : Form = resolved (distance all slot name) form in
     let rest : List Form = forms_from all (slot + form_slots form) lines in
     let parts : sum_by form_slots (here ∷ rest) ≡ form_slots here + sum_by form_slots rest = sum_by-cons form_slots here rest in
     omega (arith, parts, forms_slots all (slot + form_slots form) lines, resolved_slots (distance all slot name) form)
+forms_slots all slot (_ ∷ lines) = let more = forms_slots all slot lines in omega arith
 
 insns_slots : (insns : List Insn) → sum_by form_slots (map written insns) ≡ slot_count insns
 insns_slots [] = refl
@@ -243,10 +206,8 @@ code_room true false before slots h e = absurd (let no : Some UnknownLabel ≡ N
 code_room false known before slots h e = absurd (let no : Some Range ≡ None = e in cc no)
 
 line_room : (labels : Labels) (here : Place) (line : Option Line) → here.slot ≤ MAX_SLOTS → kept_fault labels here line ≡ None → here.slot + line_slots line ≤ MAX_SLOTS
-line_room labels here None h e = omega arith
-line_room labels here (Some blank) h e = omega arith
-line_room labels here (Some (label name)) h e = omega arith
 line_room labels here (Some (code form name)) h e = code_room (form_fits form) (not (names_label form) || is_some (place_of labels name)) here.slot (form_slots form) h e
+line_room labels here _ h e = omega arith
 
 pub goes_on : (labels : Labels) (lines : List (Option Line)) (i slot more_slots : ℕ) (line : Option Line) (insns new : List Insn) (one : Option Insn) → Finds lines labels → i < length lines → line ≡ get_or lines i line → more_slots ≡ line_slots line
     → new ≡ insns ++ option_to_list one → map written (option_to_list one) ≡ kept_form labels slot line → kept_fault labels (record { line = i; slot = slot }) line ≡ None

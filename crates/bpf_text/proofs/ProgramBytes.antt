@@ -4,9 +4,9 @@ use Rattle.std.specs.Int.{byte_at}
 use Rattle.std.specs.List.{AllByRecursion}
 use Rattle.hex.specs.Hex.{IsBytes}
 use Rattle.words.specs.declared.operator.AluOp.{AluOp}
-use Rattle.words.specs.declared.operator.AluOp.TheVariants.{Add, Sub, Mul, Div, SignedDiv, Or, And, ShiftLeft, ShiftRight, Mod, SignedMod, Xor, Mov, SignedShiftRight}
+use Rattle.words.specs.declared.operator.AluOp.TheVariants.{Add}
 use Rattle.words.specs.declared.operator.ByteOrder.{ByteOrder}
-use Rattle.words.specs.declared.operator.ByteOrder.TheVariants.{Little, Big, Swap}
+use Rattle.words.specs.declared.operator.ByteOrder.TheVariants.{Little}
 use Rattle.words.specs.declared.stack.AccessSize.{AccessSize}
 use Rattle.words.specs.declared.stack.AccessSize.TheVariants as size
 use Rattle.insn_set.specs.declared.insn.Operand.{Operand}
@@ -58,19 +58,7 @@ opcode_small code source class a b c = omega arith
 
 alu_code : (op : AluOp) → alu_number op ≤ 13
 alu_code Add = lit≤ tt
-alu_code Sub = lit≤ tt
-alu_code Mul = lit≤ tt
-alu_code Div = lit≤ tt
-alu_code SignedDiv = lit≤ tt
-alu_code Or = lit≤ tt
-alu_code And = lit≤ tt
-alu_code ShiftLeft = lit≤ tt
-alu_code ShiftRight = lit≤ tt
-alu_code Mod = lit≤ tt
-alu_code SignedMod = lit≤ tt
-alu_code Xor = lit≤ tt
-alu_code Mov = lit≤ tt
-alu_code SignedShiftRight = lit≤ tt
+alu_code _ = lit≤ tt
 
 source_small : (src : Operand) → source_bit src ≤ 1
 source_small (Imm n) = lit≤ tt
@@ -82,14 +70,11 @@ src_small (Reg r) h = h
 
 end_small : (how : ByteOrder) → end_opcode how < 256
 end_small Little = lit< tt
-end_small Big = lit< tt
-end_small Swap = lit< tt
+end_small _ = lit< tt
 
 size_small : (s : AccessSize) → size_number s ≤ 3
 size_small size.Byte = lit≤ tt
-size_small size.Half = lit≤ tt
-size_small size.Word = lit≤ tt
-size_small size.Double = lit≤ tt
+size_small _ = lit≤ tt
 
 mode_small : (signed : Bool) → load_mode signed ≤ 6
 mode_small true = lit≤ tt

@@ -1,13 +1,14 @@
 //! The disassembler: programs to text.
 
-ghost use Rattle.std.specs.Prelude.{◌≡◌, ◌++◌, [], true, false, IfOk, OnOk};
+ghost use Rattle.std.specs.Prelude.{◌≡◌, ◌++◌, [], true, false, Some, IfOk, OnOk};
+ghost use Rattle.std.specs.Fmt.{decimal};
 ghost use Rattle.std.specs.String.{string_bytes};
-ghost use Rattle.text_line.specs.Names.{operator_name, condition_name, order_name, narrow_name, size_name, atomic_name, register_name};
+ghost use Rattle.text_line.specs.Names.{operator_name, condition_name, order_name, narrow_name, size_name, atomic_name, register_name, sign_name};
+ghost use Rattle.text_line.specs.Token.{number};
 ghost use Rattle.text_line.specs.Form.{operand_layout, constant as constant_layout};
-ghost use Rattle.text_line.specs.Written.{number_of, source_of, laid_out, printed_insn};
+ghost use Rattle.text_line.specs.Written.{number_of, source_of, piece, laid_out, printed_insn};
 ghost use Rattle.bpf_text.specs.Assembly.{IsAssembled};
 ghost use Rattle.bpf_text.specs.Printed.{printed};
-ghost use Rattle.bpf_text.specs.inside.Signs.{signed_bytes};
 
 use crate::laws;
 use insn_codec::{
@@ -162,14 +163,13 @@ fn write_constant(text: &mut String, n: i32) -> Result<(), AllocError>
     write!(text, "{n}")
 }
 
-/// Writes a number with its sign, `+` or `-`, and `gap` between the two.
-fn write_signed(text: &mut String, n: i32, gap: &str) -> Result<(), AllocError>
-    ensures { OnOk result (string_bytes text.new ≡ string_bytes text.old
-        ++ signed_bytes n gap.now) }
+/// The sign of a number, `+` or `-`, and its magnitude.
+fn signed_parts(n: i32) -> (&'static str, u32)
+    ensures sign { result.0.now ≡ sign_name (number_of n).negative }
+    ensures digits { decimal result.1 ≡ piece (Some (number (number_of n).magnitude)) }
 {
     let sign = if n < 0 { "-" } else { "+" };
-    let magnitude = n.unsigned_abs();
-    write!(text, "{sign}{gap}{magnitude}")
+    (sign, n.unsigned_abs())
 }
 
 /// Writes the second operand.
@@ -236,10 +236,10 @@ fn write_jump(
         ++ printed_insn (Insn.Jump wide cond dst src off)) }
 {
     let (dst, cond) = (register_name(wide, dst), condition_name(cond));
+    let (sign, slots) = signed_parts(i32::from(off));
     write!(text, "if {dst} {cond} ")?;
     write_operand(text, wide, src)?;
-    text.push_str(" goto ")?;
-    write_signed(text, i32::from(off), "")
+    write!(text, " goto {sign}{slots}")
 }
 
 /// Writes a load.
@@ -256,9 +256,8 @@ fn write_load(text: &mut String, load: &Load) -> Result<(), AllocError>
         off,
     } = *load;
     let (dst, size, base) = (wide_name(dst), size_name(signed, size), wide_name(src));
-    write!(text, "{dst} = *({size} *)({base} ")?;
-    write_signed(text, i32::from(off), " ")?;
-    text.push_str(")")
+    let (sign, offset) = signed_parts(i32::from(off));
+    write!(text, "{dst} = *({size} *)({base} {sign} {offset})")
 }
 
 /// Writes a store.
@@ -274,9 +273,8 @@ fn write_store(
         ++ printed_insn (Insn.Store size dst src off)) }
 {
     let (size, base) = (size_name(false, size), wide_name(dst));
-    write!(text, "*({size} *)({base} ")?;
-    write_signed(text, i32::from(off), " ")?;
-    text.push_str(") = ")?;
+    let (sign, offset) = signed_parts(i32::from(off));
+    write!(text, "*({size} *)({base} {sign} {offset}) = ")?;
     write_operand(text, true, src)
 }
 
@@ -294,10 +292,9 @@ fn write_atomic(
         ++ printed_insn (Insn.Atomic size op dst src off)) }
 {
     let (size, base) = (size_name(false, size.access()), wide_name(dst));
-    write!(text, "lock *({size} *)({base} ")?;
-    write_signed(text, i32::from(off), " ")?;
+    let (sign, offset) = signed_parts(i32::from(off));
     let (op, src) = (atomic_name(op), wide_name(src));
-    write!(text, ") {op} {src}")
+    write!(text, "lock *({size} *)({base} {sign} {offset}) {op} {src}")
 }
 
 /// Writes a load of a map by its descriptor.
@@ -344,12 +341,12 @@ pub fn write_insn(text: &mut String, insn: &Insn) -> Result<(), AllocError>
             write!(text, "{dst} = {order} {dst}")
         }
         Insn::Ja { off } => {
-            text.push_str("goto ")?;
-            write_signed(text, i32::from(off), "")
+            let (sign, slots) = signed_parts(i32::from(off));
+            write!(text, "goto {sign}{slots}")
         }
         Insn::Jal { off } => {
-            text.push_str("gotol ")?;
-            write_signed(text, off, "")
+            let (sign, slots) = signed_parts(off);
+            write!(text, "gotol {sign}{slots}")
         }
         Insn::Jump {
             wide,

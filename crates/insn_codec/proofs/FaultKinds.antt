@@ -8,7 +8,7 @@ use Rattle.std.proofs.Math.Seq.{take-append_seam}
 use Rattle.insn_set.specs.declared.insn.Operand.{Operand}
 use Rattle.insn_set.specs.declared.insn.Operand.TheVariants.{Imm, Reg}
 use Rattle.insn_set.specs.declared.insn.Insn.{Insn}
-use Rattle.insn_set.specs.declared.insn.Insn.TheVariants.{Alu, Movsx, Neg, End, Jump, Load, Store, Atomic, Const, MapFd, MapValue}
+use Rattle.insn_set.specs.declared.insn.Insn.TheVariants.{Alu, Jump, Store}
 use Rattle.insn_codec.specs.declared.fault.CodecFault.{CodecFault}
 use Rattle.insn_codec.specs.declared.fault.FaultKind.{FaultKind}
 use Rattle.insn_codec.specs.declared.fault.FaultKind.TheVariants.{Opcode, Reserved, Register, SecondSlot, Ragged, Empty, TooLong, Memory}
@@ -35,17 +35,9 @@ more_operands (Reg r) h = omega arith
 
 more_insns : (i : Insn) → IsInsnUpTo 10 i → IsInsnUpTo 15 i
 more_insns (Alu wide op dst src) h = (omega (arith, h.0), more_operands src h.1)
-more_insns (Movsx m) h = (omega (arith, h.0), omega (arith, h.1))
-more_insns (Neg wide dst) h = omega arith
-more_insns (End how width dst) h = omega arith
 more_insns (Jump wide cond dst src off) h = (omega (arith, h.0), more_operands src h.1, h.2)
-more_insns (Load l) h = (omega (arith, h.0), omega (arith, h.1), h.2)
 more_insns (Store s dst src off) h = (omega (arith, h.0), more_operands src h.1, h.2)
-more_insns (Atomic s o dst src off) h = (omega (arith, h.0), omega (arith, h.1), h.2)
-more_insns (Const dst value) h = (omega (arith, h.0), h.1)
-more_insns (MapFd dst fd) h = (omega (arith, h.0), h.1)
-more_insns (MapValue dst fd off) h = (omega (arith, h.0), h.1, h.2)
-more_insns _ h = h
+more_insns _ h = grind arith
 
 more_first_slots : (bytes : List ℕ) → HasFirstSlot 10 bytes → HasFirstSlot 15 bytes
 more_first_slots bytes h = (h.0, more_insns h.0 h.1, h.2)

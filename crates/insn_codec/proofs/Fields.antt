@@ -16,7 +16,7 @@ use Rattle.insn_set.specs.declared.insn.AtomicOp.TheVariants as atomic
 use Rattle.insn_set.specs.declared.insn.Operand.{Operand}
 use Rattle.insn_set.specs.declared.insn.Operand.TheVariants as operand
 use Rattle.insn_set.specs.declared.insn.Insn.{Insn}
-use Rattle.insn_set.specs.declared.insn.Insn.TheVariants.{Alu, Movsx, Neg, End, Ja, Jal, Jump, Call, Exit, Load, Store, Atomic, Const, MapFd, MapValue}
+use Rattle.insn_set.specs.declared.insn.Insn.TheVariants.{Alu, Movsx, End, Jump, Store, Atomic}
 use Rattle.insn_codec.specs.declared.opcode.SourceBit.TheVariants as source
 use Rattle.insn_codec.specs.declared.opcode.AluCode.TheVariants as code
 use Rattle.insn_codec.specs.declared.form.OpcodeForm.TheVariants as form
@@ -104,19 +104,11 @@ pub record IsFront (top : ℕ) (s : SlotFields) : Type 0 where
 pub IsFront-first : (top : ℕ) (i : Insn) → 2 ≤ top → IsInsnUpTo top i → IsFront top (first i)
 IsFront-first top (Alu wide o dst src) some h = record { dst = h.0; src = src_field_le top src h.1; offset = omega (arith, alu_offset_le o); imm = imm_field_lt top src h.1 }
 IsFront-first top (Movsx m) some h = record { dst = h.0; src = h.1; offset = omega (arith, extended_bits_le m.bits); imm = lit< tt }
-IsFront-first top (Neg wide dst) some h = record { dst = h; src = zero_le top; offset = lit< tt; imm = lit< tt }
 IsFront-first top (End how width dst) some h = record { dst = h; src = zero_le top; offset = lit< tt; imm = omega (arith, kept_bits_le width) }
-IsFront-first top (Ja off) some h = record { dst = zero_le top; src = zero_le top; offset = offset_bits_lt off h; imm = lit< tt }
-IsFront-first top (Jal off) some h = record { dst = zero_le top; src = zero_le top; offset = lit< tt; imm = imm_bits_lt off h }
 IsFront-first top (Jump wide condition dst src off) some h = record { dst = h.0; src = src_field_le top src h.1; offset = offset_bits_lt off h.2; imm = imm_field_lt top src h.1 }
-IsFront-first top (Call id) some h = record { dst = zero_le top; src = zero_le top; offset = lit< tt; imm = imm_bits_lt id h }
-IsFront-first top Exit some h = record { dst = zero_le top; src = zero_le top; offset = lit< tt; imm = lit< tt }
-IsFront-first top (Load l) some h = record { dst = h.0; src = h.1; offset = offset_bits_lt l.off h.2; imm = lit< tt }
 IsFront-first top (Store s dst src off) some h = record { dst = h.0; src = src_field_le top src h.1; offset = offset_bits_lt off h.2; imm = imm_field_lt top src h.1 }
 IsFront-first top (Atomic s o dst src off) some h = record { dst = h.0; src = h.1; offset = offset_bits_lt off h.2; imm = atomic_number_lt o }
-IsFront-first top (Const dst value) some h = record { dst = h.0; src = zero_le top; offset = lit< tt; imm = omega arith }
-IsFront-first top (MapFd dst fd) some h = record { dst = h.0; src = omega (arith, some); offset = lit< tt; imm = imm_bits_lt fd h.1 }
-IsFront-first top (MapValue dst fd off) some h = record { dst = h.0; src = some; offset = lit< tt; imm = imm_bits_lt fd h.1 }
+IsFront-first top _ some h = record { dst = omega arith; src = omega arith; offset = omega (arith, ints); imm = omega (arith, ints) }
 
 pub IsSlot-front : {top : ℕ} {s : SlotFields} → top ≤ 15 → IsFront top s → IsSlot s
 IsSlot-front few h = record { dst = omega (arith, h.dst, few); src = omega (arith, h.src, few); offset = h.offset; imm = h.imm }

@@ -80,7 +80,7 @@ module _ (below : LawsBelow) (env : Environment) (l : Layout) (flat : FlatState)
   unfolding Done
   done (Err fault) e c = (
     d.word_is ∙ ap removal_word c.0,
-    with_maps map (maps_again env l (part_start env.memory env.tenant) flat.memory.bytes new s.maps m map is (maps_moved env l (part_start env.memory env.tenant) flat.memory.bytes flat.maps new k d.rest below.areas s.maps c.1 stands.maps)),
+    with_maps map (maps_again m is (maps_moved d.rest below.areas c.1 stands.maps)),
   )
   done (Ok number) e c =
       let there : look_up (table_of (places_at flat.maps k)) key ≡ Some (has.place number) =
@@ -88,7 +88,7 @@ module _ (below : LawsBelow) (env : Environment) (l : Layout) (flat : FlatState)
       (ap (λ (x : Table ℕ). removal x key) has.table ∙ below.along.removal has.place map.table key ∙ ap (result_map_both has.place (λ fault. fault)) e) in (
         d.word_is ∙ ap removal_word c.0,
         with_maps (without_key map key)
-            (map_replaced env l (part_start env.memory env.tenant) flat.memory.bytes flat.maps new s.maps i m (without_key map key) stands.maps named d.rest
+            (map_replaced i m stands.maps named d.rest
             (map_without below l (part_start env.memory env.tenant) flat.memory.bytes flat.maps new k m map key (has.place number) has there c.1 d.rest)),
       )
 

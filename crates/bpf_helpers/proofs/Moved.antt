@@ -12,37 +12,36 @@ use Rattle.bpf_maps.specs.Places.{PlaceTable, table_of, occurrences}
 use Rattle.bpf_maps.specs.Live.{LiveMaps, LiveMap, live_at, live_or, places_at, shape_at, offset, offset_at, OnlyKeysChange}
 use Rattle.bpf_maps.specs.Laws.{AreasKeepPlaces}
 use Rattle.bpf_helpers.specs.Layout.{Layout}
-use Rattle.bpf_helpers.specs.Stands.{HasMap, MapsStandFor, KeepsUnboundValues, Simulates, stored_maps}
+use Rattle.bpf_helpers.specs.Stands.{HasObject, HasMap, MapsStandFor, StoredMaps, KeepsUnboundValues, Simulates, stored_maps}
 use Rattle.bpf_helpers.specs.States.{Environment, FlatState, with_held}
 
 -- the maps of other descriptors have other keys
-pub other_key : (env : Environment) (l : Layout) (start : ℕ) (memory : List ℕ) (tenant : LiveMaps) (maps : ℕ → Option RunMap) → MapsStandFor env l (stored_maps start memory tenant) maps → (i m j n : ℕ) → slice_get env.descriptors i ≡ Some m → slice_get env.descriptors j ≡ Some n → n ≢ m → slice_index env.bind j ≢ slice_index env.bind i
-other_key env l start memory tenant maps has i m j n named e differ same =
+pub other_key : {env : Environment} {l : Layout} {stored : StoredMaps} {maps : ℕ → Option RunMap} → MapsStandFor env l stored maps → (i m j n : ℕ) → slice_get env.descriptors i ≡ Some m → slice_get env.descriptors j ≡ Some n → n ≢ m → slice_index env.bind j ≢ slice_index env.bind i
+other_key {env} has i m j n named e differ same =
     let count = has.count in
     let a = slice_get_within env.descriptors j n e in
     let b = slice_get_within env.descriptors i m named in
     let one : j ≡ i = has.keys j i (omega arith) (omega arith) same in
     differ (same_Some n m (sym e ∙ ap (λ (x : ℕ). slice_get env.descriptors x) one ∙ named))
 
-module _ (l : Layout) (start : ℕ) (memory : List ℕ) (old new : LiveMaps) (k m : ℕ) (t : RunMap) where
-  -- its places are the same, and begin where they did
-  map_moved : places_at new k ≡ places_at old k → ((p : ℕ) → offset_at new k p ≡ offset_at old k p) → IsSome (live_at new k) → HasMap l (stored_maps start memory old) k m t → HasMap l (stored_maps start memory new) k m t
-  map_moved places offsets live h = record {
-    live = live;
-    place = h.place;
-    table = ap table_of places ∙ h.table;
-    owns = h.owns;
-    counted = h.counted;
-    objects = λ number lt.
-        let o = h.objects number lt in
-        record {
-          within = subst (λ (x : PlaceTable). h.place number < x.shape.max_entries) (sym places) o.within;
-          in_use = subst (λ (x : PlaceTable). 1 ≤ occurrences (h.place number) (values_of x.entries) + occurrences (h.place number) x.kept) (sym places) o.in_use;
-          address = o.address ∙ ap (λ (a : ℕ). base + (start + a)) (sym (offsets (h.place number)));
-          bytes = ap (λ (a : ℕ). bytes_at memory (start + a) (shape_at new k).value_size) (offsets (h.place number)) ∙ ap (λ (x : PlaceTable). bytes_at memory (start + offset_at old k (h.place number)) x.shape.value_size) places ∙ o.bytes;
-        };
-    apart = h.apart;
-  }
+-- its places are the same, and begin where they did
+map_moved : {l : Layout} {start : ℕ} {memory : List ℕ} {old new : LiveMaps} {k m : ℕ} {t : RunMap} → places_at new k ≡ places_at old k → ((p : ℕ) → offset_at new k p ≡ offset_at old k p) → IsSome (live_at new k) → HasMap l (stored_maps start memory old) k m t → HasMap l (stored_maps start memory new) k m t
+map_moved {start = start} {memory = memory} {old = old} {new = new} {k = k} places offsets live h = record {
+  live = live;
+  place = h.place;
+  table = ap table_of places ∙ h.table;
+  owns = h.owns;
+  counted = h.counted;
+  objects = λ number lt.
+      let o = h.objects number lt in
+      record {
+        within = subst (λ (x : PlaceTable). h.place number < x.shape.max_entries) (sym places) o.within;
+        in_use = subst (λ (x : PlaceTable). 1 ≤ occurrences (h.place number) (values_of x.entries) + occurrences (h.place number) x.kept) (sym places) o.in_use;
+        address = o.address ∙ ap (λ (a : ℕ). base + (start + a)) (sym (offsets (h.place number)));
+        bytes = ap (λ (a : ℕ). bytes_at memory (start + a) (shape_at new k).value_size) (offsets (h.place number)) ∙ ap (λ (x : PlaceTable). bytes_at memory (start + offset_at old k (h.place number)) x.shape.value_size) places ∙ o.bytes;
+      };
+  apart = h.apart;
+}
 
 live_places : (old new : LiveMaps) (k : ℕ) → live_at new k ≡ live_at old k → places_at new k ≡ places_at old k
 live_places old new k e = ap (λ (o : Option LiveMap). (live_or o).places) e
@@ -50,22 +49,26 @@ live_places old new k e = ap (λ (o : Option LiveMap). (live_or o).places) e
 live_offsets : (old new : LiveMaps) (k p : ℕ) → live_at new k ≡ live_at old k → offset_at new k p ≡ offset_at old k p
 live_offsets old new k p e = ap (λ (o : Option LiveMap). offset (live_or o) p) e
 
--- the maps other than the one under key k are as they were, and so are the places of this one
-module _ (env : Environment) (l : Layout) (start : ℕ) (memory : List ℕ) (old new : LiveMaps) (k : ℕ) (rest : OnlyKeysChange k old new) where
-  pub other_moved : (j n : ℕ) (u : RunMap) → j ≢ k → HasMap l (stored_maps start memory old) j n u → HasMap l (stored_maps start memory new) j n u
-  other_moved j n u differ h =
-      map_moved l start memory old new j n u (live_places old new j (rest.others j differ)) (λ p. live_offsets old new j p (rest.others j differ)) (subst IsSome (sym (rest.others j differ)) h.live) h
+-- the bytes are others, and maybe the values with them; the keys and their places are the same
+pub other_bytes : {l : Layout} {start : ℕ} {before after : List ℕ} {tenant : LiveMaps} {k m : ℕ} {t : RunMap} {values : ℕ → List ℕ} (h : HasMap l (stored_maps start before tenant) k m t) → ((number : ℕ) → number < t.count → HasObject (stored_maps start after tenant) k (h.place number) (l.object_at m number) (values number))
+    → HasMap l (stored_maps start after tenant) k m (record t { values = values })
+other_bytes h objects = record { live = h.live; place = h.place; table = h.table; owns = h.owns; counted = h.counted; objects = objects; apart = h.apart }
 
-  pub maps_moved : AreasKeepPlaces → (maps : ℕ → Option RunMap) → places_at new k ≡ places_at old k → MapsStandFor env l (stored_maps start memory old) maps → MapsStandFor env l (stored_maps start memory new) maps
-  maps_moved keep maps places has = record {
+-- the maps other than the one under key k are as they were, and so are the places of this one
+module _ {old new : LiveMaps} {k : ℕ} (rest : OnlyKeysChange k old new) where
+  pub other_moved : {l : Layout} {start : ℕ} {memory : List ℕ} {j n : ℕ} {u : RunMap} → j ≢ k → HasMap l (stored_maps start memory old) j n u → HasMap l (stored_maps start memory new) j n u
+  other_moved {j = j} differ h = map_moved (live_places old new j (rest.others j differ)) (λ p. live_offsets old new j p (rest.others j differ)) (subst IsSome (sym (rest.others j differ)) h.live) h
+
+  pub maps_moved : AreasKeepPlaces → places_at new k ≡ places_at old k → {env : Environment} {l : Layout} {start : ℕ} {memory : List ℕ} {maps : ℕ → Option RunMap} → MapsStandFor env l (stored_maps start memory old) maps → MapsStandFor env l (stored_maps start memory new) maps
+  maps_moved keep places {env} {l} {start} {memory} has = record {
     count = has.count;
     each = λ i m e. let g = has.each i m e in (
       g.0,
       g.1,
       ⊎_elim
           (λ b. let same : slice_index env.bind i ≡ k = eqb-true (slice_index env.bind i) k b in
-          subst (λ (j : ℕ). HasMap l (stored_maps start memory new) j m g.0) (sym same) (map_moved l start memory old new k m g.0 places (λ p. keep old new k p rest.areas rest.live) rest.live (subst (λ (j : ℕ). HasMap l (stored_maps start memory old) j m g.0) same g.2)))
-          (λ b. other_moved (slice_index env.bind i) m g.0 (eqb-false (slice_index env.bind i) k b) g.2)
+          subst (λ (j : ℕ). HasMap l (stored_maps start memory new) j m g.0) (sym same) (map_moved places (λ p. keep old new k p rest.areas rest.live) rest.live (subst (λ (j : ℕ). HasMap l (stored_maps start memory old) j m g.0) same g.2)))
+          (λ b. other_moved (eqb-false (slice_index env.bind i) k b) g.2)
           (cases_Bool (eqb (slice_index env.bind i) k)),
     );
     listed = has.listed;
@@ -75,11 +78,11 @@ module _ (env : Environment) (l : Layout) (start : ℕ) (memory : List ℕ) (old
   }
 
 -- the same map again
-pub maps_again : (env : Environment) (l : Layout) (start : ℕ) (memory : List ℕ) (tenant : LiveMaps) (maps : ℕ → Option RunMap) (m : ℕ) (t : RunMap) → maps m ≡ Some t → MapsStandFor env l (stored_maps start memory tenant) maps → MapsStandFor env l (stored_maps start memory tenant) (set_at maps m (Some t))
-maps_again env l start memory tenant maps m t is has = record {
+pub maps_again : {env : Environment} {l : Layout} {stored : StoredMaps} {maps : ℕ → Option RunMap} (m : ℕ) {t : RunMap} → maps m ≡ Some t → MapsStandFor env l stored maps → MapsStandFor env l stored (set_at maps m (Some t))
+maps_again {env} {l} {stored} {maps} m {t} is has = record {
   count = has.count;
   each = λ i n e. let g = has.each i n e in
-      cond_both (n == m) (Some t) (maps n) (λ o. (u : RunMap) × (o ≡ Some u) × HasMap l (stored_maps start memory tenant) (slice_index env.bind i) n u)
+      cond_both (n == m) (Some t) (maps n) (λ o. (u : RunMap) × (o ≡ Some u) × HasMap l stored (slice_index env.bind i) n u)
       (λ b. (g.0, sym is ∙ ap maps (sym (eqb-true n m b)) ∙ g.1, g.2))
       (λ _. g);
   listed = has.listed;
@@ -89,7 +92,7 @@ maps_again env l start memory tenant maps m t is has = record {
 }
 
 -- one map is another
-module _ (env : Environment) (l : Layout) (start : ℕ) (memory : List ℕ) (old new : LiveMaps) (maps : ℕ → Option RunMap) (i m : ℕ) (t : RunMap) (has : MapsStandFor env l (stored_maps start memory old) maps) (named : slice_get env.descriptors i ≡ Some m)
+module _ {env : Environment} {l : Layout} {start : ℕ} {memory : List ℕ} {old new : LiveMaps} {maps : ℕ → Option RunMap} (i m : ℕ) {t : RunMap} (has : MapsStandFor env l (stored_maps start memory old) maps) (named : slice_get env.descriptors i ≡ Some m)
     (rest : OnlyKeysChange (slice_index env.bind i) old new) (own : HasMap l (stored_maps start memory new) (slice_index env.bind i) m t) where
   pub map_replaced : MapsStandFor env l (stored_maps start memory new) (set_at maps m (Some t))
   map_replaced = record {
@@ -98,7 +101,7 @@ module _ (env : Environment) (l : Layout) (start : ℕ) (memory : List ℕ) (old
         cond_both (n == m) (Some t) (maps n) (λ o. (v : RunMap) × (o ≡ Some v) × HasMap l (stored_maps start memory new) (slice_index env.bind j) n v)
         (λ b. let same : m ≡ n = sym (eqb-true n m b) in let one : i ≡ j = has.names i j m named (e ∙ ap (λ (x : ℕ). Some x) (sym same)) in
         (t, refl, subst (λ (x : ℕ). HasMap l (stored_maps start memory new) (slice_index env.bind x) n t) one (subst (λ (x : ℕ). HasMap l (stored_maps start memory new) (slice_index env.bind i) x t) same own)))
-        (λ b. (g.0, g.1, other_moved env l start memory old new (slice_index env.bind i) rest (slice_index env.bind j) n g.0 (other_key env l start memory old maps has i m j n named e (eqb-false n m b)) g.2));
+        (λ b. (g.0, g.1, other_moved rest (other_key has i m j n named e (eqb-false n m b)) g.2));
     listed = has.listed;
     keys = has.keys;
     names = has.names;

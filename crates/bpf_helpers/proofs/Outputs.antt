@@ -24,6 +24,7 @@ use Rattle.bpf_helpers.specs.Stands.{stack_top, IsRoom, IsOnlyChanged, HasObject
 use Rattle.bpf_helpers.specs.Named.{place_named}
 use Rattle.bpf_helpers.specs.inside.Laws.{OutputsKeepSimulation}
 use Rattle.bpf_helpers.proofs.Many.{also_some, bytes_over}
+use Rattle.bpf_helpers.proofs.Moved.{other_key, other_bytes}
 use Rattle.bpf_maps.specs.LiveLaws.{laid_inside}
 use Rattle.bpf_helpers.proofs.Inputs.{part_place_is, start_same, memory_long}
 use Rattle.bpf_helpers.specs.States.{Environment, FlatState, with_memory}
@@ -83,19 +84,13 @@ module _ (env : Environment) (l : Layout) (start : ℕ) (memory new : List ℕ) 
   maps_behind q low = record { count = has.count; each = each; listed = has.listed; keys = has.keys; names = has.names; laid = has.laid }
     where
       one : (key m : ℕ) (t : RunMap) → HasMap l (stored_maps start memory tenant) key m t → HasMap l (stored_maps start (written_at memory (start + q) new) tenant) key m t
-      one key m t h = record {
-        live = h.live;
-        place = h.place;
-        table = h.table;
-        owns = h.owns;
-        counted = h.counted;
-        objects = λ number lt.
-            let o = h.objects number lt in
-            let is = laid_inside tenant has.laid key (h.place number) h.live o.within in
-            let within = is.within in let behind = is.behind in
-            object_kept env l memory new (start + q) (omega arith) start tenant key m number (t.values number) (h.place number) (inr (omega arith)) o;
-        apart = h.apart;
-      }
+      one key m t h =
+          other_bytes h
+          (λ number lt.
+          let o = h.objects number lt in
+          let is = laid_inside tenant has.laid key (h.place number) h.live o.within in
+          let within = is.within in let behind = is.behind in
+          object_kept env l memory new (start + q) (omega arith) start tenant key m number (t.values number) (h.place number) (inr (omega arith)) o)
 
       each : (i m : ℕ) → slice_get env.descriptors i ≡ Some m → (t : RunMap) × (maps m ≡ Some t) × HasMap l (stored_maps start (written_at memory (start + q) new) tenant) (slice_index env.bind i) m t
       each i m e = let g = has.each i m e in (g.0, g.1, one (slice_index env.bind i) m g.0 g.2)
@@ -142,39 +137,14 @@ module _ (env : Environment) (l : Layout) (start : ℕ) (memory new : List ℕ) 
         (⊎_elim (λ below. inl (omega arith)) (λ above. inr (omega arith)) (laid_apart tenant has.laid other p key (h.place number) live h.live o.within (h.objects number lt).within differ)) o
 
     own_after : HasMap l (stored_maps start after tenant) key m (with_value t number (written_at (t.values number) y new))
-    own_after = record {
-      live = h.live;
-      place = h.place;
-      table = h.table;
-      owns = h.owns;
-      counted = h.counted;
-      objects = λ k few. cond_both (k == number) (written_at (t.values number) y new) (t.values k) (λ v. HasObject (stored_maps start after tenant) key (h.place k) (l.object_at m k) v)
-          (λ e. let same : number ≡ k = sym (eqb-true k number e) in subst (λ x. HasObject (stored_maps start after tenant) key (h.place x) (l.object_at m x) (written_at (t.values number) y new)) same value_after)
-          (λ e. other_after key m k (t.values k) (h.place k) h.live (λ _ same. eqb-false k number e (h.apart k number few lt same)) (h.objects k few));
-      apart = h.apart;
-    }
+    own_after =
+        other_bytes h
+        (λ k few. cond_both (k == number) (written_at (t.values number) y new) (t.values k) (λ v. HasObject (stored_maps start after tenant) key (h.place k) (l.object_at m k) v)
+        (λ e. let same : number ≡ k = sym (eqb-true k number e) in subst (λ x. HasObject (stored_maps start after tenant) key (h.place x) (l.object_at m x) (written_at (t.values number) y new)) same value_after)
+        (λ e. other_after key m k (t.values k) (h.place k) h.live (λ _ same. eqb-false k number e (h.apart k number few lt same)) (h.objects k few)))
 
     others_after : (j n : ℕ) (u : RunMap) → slice_get env.descriptors j ≡ Some n → n ≢ m → HasMap l (stored_maps start memory tenant) (slice_index env.bind j) n u → HasMap l (stored_maps start after tenant) (slice_index env.bind j) n u
-    others_after j n u e differ g = record {
-      live = g.live;
-      place = g.place;
-      table = g.table;
-      owns = g.owns;
-      counted = g.counted;
-      objects = λ k few. other_after (slice_index env.bind j) n k (u.values k) (g.place k) g.live (λ same. absurd (other_key same)) (g.objects k few);
-      apart = g.apart;
-    }
-      where
-        other_key : slice_index env.bind j ≡ key → ⊥
-        other_key same =
-            let count = has.count in
-            let j_in = within j n e in
-            let i_in = within i m at in
-            let one : j ≡ i = has.keys j i (omega arith) (omega arith) same in
-            differ (same_Some n m (sym e ∙ ap (λ (x : ℕ). slice_get env.descriptors x) one ∙ at))
-          where
-            within : (x n : ℕ) → slice_get env.descriptors x ≡ Some n → x < length env.descriptors
-            within x n e = slice_get_within env.descriptors x n e
+    others_after j n u e differ g = other_bytes g (λ k few. other_after (slice_index env.bind j) n k (u.values k) (g.place k) g.live (λ same. absurd (other_key has i m j n at e differ same)) (g.objects k few))
 
     maps_over : MapsStandFor env l (stored_maps start after tenant) (set_at maps m (Some (with_value t number (written_at (t.values number) y new))))
     maps_over = record { count = has.count; each = each; listed = has.listed; keys = has.keys; names = has.names; laid = has.laid }

@@ -33,7 +33,7 @@ use Rattle.bpf_helpers.specs.Calls.{Extends}
 use Rattle.bpf_helpers.specs.inside.Laws.{UpdateKeepsSimulation, UpdatesKeepSimulation}
 use Rattle.bpf_helpers.proofs.Verdicts.{present_found, never_memory}
 use Rattle.bpf_helpers.proofs.Flags.{or_once_more}
-use Rattle.bpf_helpers.proofs.Moved.{other_key, other_moved, maps_moved, maps_again, others_moved, maps_stand}
+use Rattle.bpf_helpers.proofs.Moved.{other_key, other_bytes, other_moved, maps_moved, maps_again, others_moved, maps_stand}
 use Rattle.bpf_helpers.proofs.Wider.{extends_itself, extended, extends, word_more, cell_more, map_extended}
 use Rattle.bpf_helpers.proofs.Added.{map_with_new}
 use Rattle.bpf_helpers.specs.States.{CallAnswer, Environment, FlatState, site_in, with_held, with_memory}
@@ -81,7 +81,7 @@ module _ (below : LawsBelow) (env : Environment) (l : Layout) (flat : FlatState)
       subst (λ (y : RunState). Simulates env l (with_held flat reply.memory reply.maps) y) (sym e)
       (subst (λ (n : Bytes). Simulates env l (with_held flat n reply.maps) (with_refusal (with_map s m map) refused)) (sym same)
       (maps_stand stands i m named reply.maps u.rest (set_at s.maps m (Some map)) (s.refused || refused)
-      (maps_again env l (part_start env.memory env.tenant) flat.memory.bytes reply.maps s.maps m map is (maps_moved env l (part_start env.memory env.tenant) flat.memory.bytes flat.maps reply.maps k u.rest below.areas s.maps places stands.maps))
+      (maps_again m is (maps_moved u.rest below.areas places stands.maps))
       flag))
 
   refused_stands : (fault : MapFault) (refused : Bool) (v : Verdict ℕ) → (refused ≡ true → v ≡ New) → is_memory (Err fault) ≡ refused → u.claim ≡ Err fault → places_at reply.maps k ≡ places_at flat.maps k → (put refused map key value v).answer ≡ negative (errno fault) → (put refused map key value v).map ≡ map → (put refused map key value v).refused ≡ refused → Done v
@@ -97,7 +97,7 @@ module _ (below : LawsBelow) (env : Environment) (l : Layout) (flat : FlatState)
 
   moved : (x : RunState) (n : Bytes) (p : ℕ) → u.claim ≡ Ok p → x.refused ≡ s.refused → places_at reply.maps k ≡ places_at flat.maps k → Simulates env l (with_memory flat n) x → Simulates env l (with_held flat n reply.maps) (with_refusal x false)
   moved x n p told same places st =
-      maps_stand st i m named reply.maps u.rest x.maps (x.refused || false) (maps_moved env l (part_start env.memory env.tenant) n.bytes flat.maps reply.maps k u.rest below.areas x.maps places st.maps)
+      maps_stand st i m named reply.maps u.rest x.maps (x.refused || false) (maps_moved u.rest below.areas places st.maps)
       (flag_after (Ok p) false told refl ∙ ap (λ b. env.maps.refused || (b || false)) (sym same))
 
   long_memory : part_start env.memory env.tenant + PART ≤ length flat.memory.bytes
@@ -194,18 +194,10 @@ module _ (below : LawsBelow) (env : Environment) (l : Layout) (flat : FlatState)
 
     other : (j n : ℕ) (v : RunMap) → slice_get env.descriptors j ≡ Some n → n ≢ m → HasMap l (stored_maps begin flat.memory.bytes flat.maps) (slice_index env.bind j) n v → HasMap wider (stored_maps begin bytes reply.maps) (slice_index env.bind j) n v
     other j n v e differ h =
-        let key_differs = other_key env l begin flat.memory.bytes flat.maps s.maps stands.maps i m j n named e differ in
+        let key_differs = other_key stands.maps i m j n named e differ in
         map_extended l begin bytes reply.maps m (base + (begin + off)) (slice_index env.bind j) n v differ
-        (other_moved env l begin bytes flat.maps reply.maps k u.rest (slice_index env.bind j) n v key_differs
-        (record {
-          live = h.live;
-          place = h.place;
-          table = h.table;
-          owns = h.owns;
-          counted = h.counted;
-          objects = λ number lt. let o = h.objects number lt in record { within = o.within; in_use = o.in_use; address = o.address; bytes = place_kept (slice_index env.bind j) (h.place number) h.live o.within (λ same. absurd (key_differs same)) ∙ o.bytes };
-          apart = h.apart;
-        }))
+        (other_moved u.rest key_differs
+        (other_bytes h (λ number lt. let o = h.objects number lt in record { within = o.within; in_use = o.in_use; address = o.address; bytes = place_kept (slice_index env.bind j) (h.place number) h.live o.within (λ same. absurd (key_differs same)) ∙ o.bytes })))
 
     maps_after : MapsStandFor env wider (stored_maps begin bytes reply.maps) (set_at s.maps m (Some (with_object map key value)))
     maps_after = record {

@@ -8,19 +8,13 @@ use Rattle.tagged_model.specs.declared.shape.MapShape.{MapShape}
 use Rattle.tagged_model.specs.declared.fault.MapFault.{MapFault}
 use Rattle.tagged_model.specs.declared.fault.MapFault.TheVariants.{NoEntry, TooBig, Exists, Invalid}
 use Rattle.tagged_model.specs.Table.{look_up, is_full, of_absent, of_found, verdict, removal, removal_of, Verdict, Refused, Present, New, no_exist, exist}
-use Rattle.bpf_maps.specs.Places.{PlaceTable, table_of, occurrences, IsSound, IsFree, with_place, with_kept, Claims, Removes}
+use Rattle.bpf_maps.specs.Places.{PlaceTable, table_of, occurrences, IsSound, IsFree, with_place, Claims, Removes}
 use Rattle.bpf_maps.proofs.Counts.{in_use}
 
 pub same_table : (s : MapShape) {es fs : List (List ℕ × ℕ)} {ks ls : List ℕ} → es ≡ fs → ks ≡ ls → (let t : PlaceTable = record { shape = s; entries = es; kept = ks } in t) ≡ (let t : PlaceTable = record { shape = s; entries = fs; kept = ls } in t)
 same_table s e k i = record { shape = s; entries = e i; kept = k i }
 
 -- ---- a delete from a hash map
-
-pub removes_some : (key : List ℕ) (old seen new : PlaceTable) (p : ℕ) → old ≡ seen → old.shape.kind ≡ Hash → look_up (table_of old) key ≡ Some p → new ≡ with_kept old key p → Removes (removal (table_of seen) key) key seen (Ok tt) new
-removes_some key old seen new p v k e h =
-    subst (λ (t : PlaceTable). Removes (removal (table_of t) key) key t (Ok tt) new) v
-    (subst (λ (d : MapKind). Removes (removal_of d (look_up (table_of old) key)) key old (Ok tt) new) (sym k)
-    (subst (λ (o : Option ℕ). Removes (removal_of Hash o) key old (Ok tt) new) (sym e) (refl, h)))
 
 pub removes_none : (key : List ℕ) (old seen new : PlaceTable) → old ≡ seen → old.shape.kind ≡ Hash → look_up (table_of old) key ≡ None → new ≡ old → Removes (removal (table_of seen) key) key seen (Err NoEntry) new
 removes_none key old seen new v k e h =
@@ -34,12 +28,6 @@ pub claims_new : (key : List ℕ) (old seen new : PlaceTable) (p : ℕ) → old 
 claims_new key old seen new p v room free h =
     subst (λ (t : PlaceTable). Claims (of_absent Hash (is_full (table_of t)) 0) key t (Ok p) new) v
     (subst (λ (b : Bool). Claims (of_absent Hash b 0) key old (Ok p) new) (sym room) (free, h))
-
--- ---- the verdict of an update, by what is found
-
-pub by_found : (t : PlaceTable) (key : List ℕ) (flags : ℕ) (o : Option ℕ) → nat_le flags exist ≡ true → look_up (table_of t) key ≡ o → verdict (table_of t) key flags ≡ of_found (table_of t) flags o
-by_found t key flags o few is =
-    ap (λ (b : Bool). if b then of_found (table_of t) flags (look_up (table_of t) key) else Refused Invalid) few ∙ ap (of_found (table_of t) flags) is
 
 -- ---- the place of a present key is below the most
 

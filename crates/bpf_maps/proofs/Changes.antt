@@ -128,7 +128,7 @@ module _ {a : Inside} {t : LiveMaps} {place map key : ℕ} {old new : Entry} (c 
   -- ---- a change of the holds alone
 
   module _ (same : new.map ≡ old.map) where
-    pub places_stay : places_at (as_live_maps now) map ≡ places_at t map
+    places_stay : places_at (as_live_maps now) map ≡ places_at t map
     places_stay = part_stays (λ l. l.places) (ap places_of same)
 
     pub itself_keeps : (bytes : List ℕ) → KeepsMap map t bytes (as_live_maps now) bytes

@@ -168,9 +168,6 @@ module _ {a : Inside} {t : LiveMaps} {shape : MapShape} {size place : ℕ} (r : 
     value_of : (places_of e.map).shape.value_size ≡ shape.value_size
     value_of = ap (λ (q : PlaceTable). q.shape.value_size) d.places
 
-    most_of : (places_of e.map).shape.max_entries ≡ shape.max_entries
-    most_of = ap (λ (q : PlaceTable). q.shape.max_entries) d.places
-
     round : e.stride ≡ ((places_of e.map).shape.value_size + 7) / 8 * 8
     round = stride ∙ ap (λ (v : ℕ). (v + 7) / 8 * 8) (sym value_of)
 

@@ -17,7 +17,7 @@ use Rattle.bpf_maps.proofs.Totals.{weight_most}
 use Rattle.bpf_maps.proofs.Changes.{told_of, IsUnder, at_place, live_here, live_entry, none_held}
 use Rattle.bpf_maps.proofs.Stays.{keeps_held}
 use Rattle.bpf_maps.proofs.InAreas.{value_ends, before_or_behind}
-use Rattle.bpf_maps.proofs.Written.{length_same, front_same, before_same, own}
+use Rattle.bpf_maps.proofs.Written.{front_same, before_same, own}
 use Rattle.bpf_maps.proofs.Whole.{laid, sound_at, offset_of, offset_without, beside, whole_removed}
 
 -- the entry that is taken out is the one that was there
@@ -63,14 +63,14 @@ module _ {a : Inside} {t : LiveMaps} {place map key : ℕ} {old gone : Entry} (c
   abbrev whole : IsWellFormedMaps a
   whole = c.under.whole
 
-  pub is_gone : old ≡ gone
+  is_gone : old ≡ gone
   is_gone = same_some (changed_entry a.keys a.entries whole.keys place key c.under.keyed old old c.under.here) c.value
 
-  pub was_there : get_or (entries_of a) place None ≡ Some gone
+  was_there : get_or (entries_of a) place None ≡ Some gone
   was_there = subst (λ (e : Entry). get_or (entries_of a) place None ≡ Some e) is_gone (at_place c.under)
 
   -- its area
-  pub gone_behind : STACK_AND_CONTEXT ≤ gone.start
+  gone_behind : STACK_AND_CONTEXT ≤ gone.start
   gone_behind = (whole.placed place gone was_there).behind
 
   pub gone_within : gone.start + area_of (live_of gone) ≤ STACK_AND_CONTEXT + a.bytes
@@ -90,10 +90,10 @@ module _ {a : Inside} {t : LiveMaps} {place map key : ℕ} {old gone : Entry} (c
     pub left_keys : AreKeys (set a.keys place None) left
     left_keys = removed_keys a.keys (with_value a.entries key old) left keys_before place key c.under.keyed l.gap l.others l.len
 
-    pub none_left : get_or (placed (set a.keys place None) left) place None ≡ None
+    none_left : get_or (placed (set a.keys place None) left) place None ≡ None
     none_left = removed_here a.keys (with_value a.entries key old) left keys_before place key c.under.keyed l.gap l.others
 
-    pub others_left : (p : ℕ) → p ≢ place → get_or (placed (set a.keys place None) left) p None ≡ get_or (entries_of a) p None
+    others_left : (p : ℕ) → p ≢ place → get_or (placed (set a.keys place None) left) p None ≡ get_or (entries_of a) p None
     others_left p ne =
         removed_others a.keys (with_value a.entries key old) left keys_before place key c.under.keyed l.gap l.others p ne
         ∙ changed_others a.keys a.entries whole.keys place key c.under.keyed old old c.under.here p ne
@@ -183,9 +183,6 @@ module _ {a : Inside} {t : LiveMaps} {place map key size : ℕ} {old gone : Entr
 
     room : gone.start + many ≤ length bytes
     room = let w = gone_within g.taken in let p = in_part in omega arith
-
-    pub length_gone : length later ≡ PART
-    length_gone = ap length written ∙ length_same bytes moved gone.start many long_moved room ∙ long
 
     pub front_gone : take STACK_AND_CONTEXT later ≡ take STACK_AND_CONTEXT bytes
     front_gone = ap (take STACK_AND_CONTEXT) written ∙ front_same bytes moved gone.start many long_moved room STACK_AND_CONTEXT (gone_behind g.taken)

@@ -1,8 +1,7 @@
 -- The results of an index on its keys are those on the bytes that the keys represent.
-use Rattle.std.proofs.Common.{◌≡◌, ℕ, suc, ◌+◌, ◌<◌, Bool, true, false, cond, not, List, [], ◌∷◌, ◌++◌, length, Option, Some, None, is_some, option_map, Result, Ok, Err, OnOk, is_err, true≢false, refl, sym, ap, subst, ◌∙◌, nat_lt, slice_get, if◌then◌else◌, arith}
+use Rattle.std.proofs.Common.{◌≡◌, ℕ, suc, ◌+◌, ◌<◌, Bool, true, false, cond, not, List, [], ◌∷◌, ◌++◌, length, Some, None, is_some, Result, Ok, Err, OnOk, is_err, true≢false, refl, sym, ap, subst, ◌∙◌, nat_lt, slice_get, if◌then◌else◌, arith}
 use Rattle.std.specs.List.{position, position_or_len}
 use Rattle.std.specs.Map.{lookup, remove_entry, keys_of}
-use Rattle.std.proofs.lemmas.Option.{slice_get-map}
 use Rattle.indexmap.specs.IndexMap.{IndexMap, insert_entry}
 use Rattle.indexmap.proofs.CallerLemmas.{insert_entry-new}
 use Rattle.tagged_model.specs.Table.{is_key, found, without, with_key, first_key, key_behind, key_after}
@@ -29,14 +28,6 @@ module _ {K : Type 0} (bytes : K → List ℕ) where
   shown_by-append : (es fs : List (K × ℕ)) → view (es ++ fs) ≡ view es ++ view fs
   shown_by-append [] fs = refl
   shown_by-append (e ∷ es) fs = ap (λ r. (bytes e.0, e.1) ∷ r) (shown_by-append es fs)
-
-  -- the bytes of the key of an entry
-  pub key_shown : (es : List (K × ℕ)) (i : ℕ) (o : Option (K × ℕ)) → o ≡ slice_get es i → option_map (λ e. bytes e.0) o ≡ key_of (slice_get (view es) i)
-  key_shown es i o h = ap (option_map (λ e. bytes e.0)) h ∙ by (slice_get es i) ∙ ap key_of (sym (slice_get-map (λ e. (bytes e.0, e.1)) es i))
-    where
-      by : (o : Option (K × ℕ)) → option_map (λ e. bytes e.0) o ≡ key_of (option_map (λ e. (bytes e.0, e.1)) o)
-      by None = refl
-      by (Some e) = refl
 
   module _ (key : List ℕ) (test : K → Bool) where
     -- a key passes the test exactly if its bytes are `key`

@@ -53,7 +53,7 @@ module _ (env : Environment) (l : Layout) (memory new : List ℕ) (from : ℕ) (
       apart (inl below) = inl (omega arith)
       apart (inr above) = inr (omega arith)
 
-  pub object_kept : (start : ℕ) (tenant : LiveMaps) (key m number : ℕ) (value : List ℕ) (place : ℕ) → IsApart (start + offset_at tenant key place) (shape_at tenant key).value_size
+  object_kept : (start : ℕ) (tenant : LiveMaps) (key m number : ℕ) (value : List ℕ) (place : ℕ) → IsApart (start + offset_at tenant key place) (shape_at tenant key).value_size
       → HasObject (stored_maps start memory tenant) key place (l.object_at m number) value → HasObject (stored_maps start (written_at memory from new) tenant) key place (l.object_at m number) value
   object_kept start tenant key m number value place away has =
       record {
@@ -80,7 +80,7 @@ module _ (tenant : LiveMaps) (laid : IsLaid tenant) where
 
 module _ (env : Environment) (l : Layout) (start : ℕ) (memory new : List ℕ) (tenant : LiveMaps) (maps : ℕ → Option RunMap) (has : MapsStandFor env l (stored_maps start memory tenant) maps) (long : start + PART ≤ length memory) where
   -- what is written lies in the front of the part
-  pub maps_behind : (q : ℕ) → q + length new ≤ 512 → MapsStandFor env l (stored_maps start (written_at memory (start + q) new) tenant) maps
+  maps_behind : (q : ℕ) → q + length new ≤ 512 → MapsStandFor env l (stored_maps start (written_at memory (start + q) new) tenant) maps
   maps_behind q low = record { count = has.count; each = each; listed = has.listed; keys = has.keys; names = has.names; laid = has.laid }
     where
       one : (key m : ℕ) (t : RunMap) → HasMap l (stored_maps start memory tenant) key m t → HasMap l (stored_maps start (written_at memory (start + q) new) tenant) key m t
@@ -163,7 +163,7 @@ module _ (env : Environment) (l : Layout) (start : ℕ) (memory new : List ℕ) 
 -- ---- the maps that the run does not name
 
 module _ (bind : List ℕ) (start : ℕ) (old memory new : List ℕ) (tenant : LiveMaps) (laid : IsLaid tenant) (long : start + PART ≤ length memory) (has : KeepsUnboundValues bind old (stored_maps start memory tenant)) where
-  pub others_behind : (q : ℕ) → q + length new ≤ 512 → KeepsUnboundValues bind old (stored_maps start (written_at memory (start + q) new) tenant)
+  others_behind : (q : ℕ) → q + length new ≤ 512 → KeepsUnboundValues bind old (stored_maps start (written_at memory (start + q) new) tenant)
   others_behind q low key p away live lt =
       let is = laid_inside tenant laid key p live lt in
       let within = is.within in let behind = is.behind in

@@ -15,10 +15,10 @@ module _ (memory : Memory) (t size n address : ℕ) (same : n ≡ size) where
   place_is : (o : Option ℕ) → o ≡ place_named memory t n address → place_named memory t size address ≡ o
   place_is o e = ap (λ (k : ℕ). place_named memory t k address) (sym same) ∙ sym e
 
-  pub input_is : (at : ℕ) → Some at ≡ place_named memory t n address → part_input memory t size address ≡ Some (bytes_at memory.bytes (part_start memory t + at) size)
+  input_is : (at : ℕ) → Some at ≡ place_named memory t n address → part_input memory t size address ≡ Some (bytes_at memory.bytes (part_start memory t + at) size)
   input_is at e = ap (λ o. and_then o (λ p. Some (bytes_at memory.bytes (part_start memory t + p) size))) (place_is (Some at) e)
 
-  pub no_input : None ≡ place_named memory t n address → part_input memory t size address ≡ None
+  no_input : None ≡ place_named memory t n address → part_input memory t size address ≡ None
   no_input e = ap (λ o. and_then o (λ p. Some (bytes_at memory.bytes (part_start memory t + p) size))) (place_is None e)
 
 -- a range of a part

@@ -208,6 +208,22 @@ same_map argument fd kind key_size value_size max_entries descriptor shape cut n
     let fd_is : descriptor ≡ map.fd = some_same _ _ _ _ (sym number) is.descriptor (ap descriptor_number (sym same.fd_is)) in
     ap (λ fd. named_with fd (Map shape)) fd_is ∙ ap (named_with map.fd) (ap Map shape_is ∙ sym is.target)
 
+-- an argument of these fields names the map that they say
+pub named_by : (argument fd kind key_size value_size max_entries : Text) {descriptor : ℕ} {shape : MapShape} → argument ≡ join_with_byte colon (fd ∷ kind ∷ key_size ∷ value_size ∷ max_entries ∷ [])
+    → descriptor_number fd ≡ Some descriptor → IsShapeOf shape kind key_size value_size max_entries → IsMapArgument argument (record { fd = descriptor; target = Map shape })
+named_by argument fd kind key_size value_size max_entries {descriptor} {shape} spelled number shaped = record {
+  fd = fd;
+  kind = kind;
+  key_size = key_size;
+  value_size = value_size;
+  max_entries = max_entries;
+  shape = shape;
+  spelled = spelled;
+  descriptor = number;
+  target = refl;
+  shaped = shaped;
+}
+
 -- the argument names this map and no other
 pub one_named : (argument fd kind key_size value_size max_entries : Text) (descriptor : ℕ) (shape : MapShape)
     → map_fields argument ≡ fd ∷ kind ∷ key_size ∷ value_size ∷ map_fields max_entries → Some descriptor ≡ descriptor_number fd
@@ -215,19 +231,11 @@ pub one_named : (argument fd kind key_size value_size max_entries : Text) (descr
     → (map : Named) → (Some (record { fd = descriptor; target = Map shape }) ≡ Some map → IsMapArgument argument map)
     × (IsMapArgument argument map → Some (record { fd = descriptor; target = Map shape }) ≡ Some map)
 one_named argument fd kind key_size value_size max_entries descriptor shape cut number shaped map =
-    let is : IsMapArgument argument (record { fd = descriptor; target = Map shape }) = record {
-      fd = fd;
-      kind = kind;
-      key_size = key_size;
-      value_size = value_size;
-      max_entries = max_entries;
-      shape = shape;
-      spelled = sym (join_with_byte-slice_split colon argument)
-          ∙ ap (join_with_byte colon) (cut ∙ ap (λ rest. fd ∷ kind ∷ key_size ∷ value_size ∷ rest) (one_field max_entries (number_lacks max_entries _ shaped.max_entries_is)));
-      descriptor = sym number;
-      target = refl;
-      shaped = shaped;
-    } in
+    let is : IsMapArgument argument (record { fd = descriptor; target = Map shape }) =
+    named_by argument fd kind key_size value_size max_entries
+    (sym (join_with_byte-slice_split colon argument)
+    ∙ ap (join_with_byte colon) (cut ∙ ap (λ rest. fd ∷ kind ∷ key_size ∷ value_size ∷ rest) (one_field max_entries (number_lacks max_entries _ shaped.max_entries_is))))
+    (sym number) shaped in
     ((λ e. subst (IsMapArgument argument) (some_map _ _ e) is), (λ other. ap Some (same_map argument fd kind key_size value_size max_entries descriptor shape cut number shaped map other)))
 
 -- two maps that an argument names are one

@@ -1,30 +1,13 @@
 -- Words that name maps, and arguments that name none.
-use Rattle.std.proofs.Common.{◌≡◌, ℕ, ◌∷◌, [], Some, None, codes, refl}
-use Rattle.std.specs.List.{join_with_byte}
+use Rattle.std.proofs.Common.{◌≡◌, ◌∷◌, [], Some, None, codes, refl}
 use Rattle.clap.proofs.OnLiterals.{clap_on_literals}
-use Rattle.clap.specs.Words.{Text}
 use Rattle.tagged_model.specs.declared.shape.MapKind.TheVariants.{Array, Hash}
 use Rattle.tagged_model.specs.declared.shape.MapShape.{MapShape}
 use Rattle.tagged_model.specs.declared.shape.Target.TheVariants.{Map}
 use Rattle.host.specs.program.Decimal.{decimal_number}
-use Rattle.host.specs.program.Shapes.{colon, descriptor_number, IsShapeOf, IsMapArgument}
+use Rattle.host.specs.program.Shapes.{descriptor_number, IsMapArgument}
+use Rattle.host.proofs.MapArguments.{named_by}
 use Rattle.host.specs.program.Arguments.{Verifies, asked_by_arguments, chosen_subcommand, refusal_kinds}
-
--- five fields, with colons between them
-map_word : (fd kind key_size value_size max_entries : Text) (shape : MapShape) {n : ℕ} → descriptor_number fd ≡ Some n → IsShapeOf shape kind key_size value_size max_entries
-    → IsMapArgument (join_with_byte colon (fd ∷ kind ∷ key_size ∷ value_size ∷ max_entries ∷ [])) (record { fd = n; target = Map shape })
-map_word fd kind key_size value_size max_entries shape descriptor shaped = record {
-  fd = fd;
-  kind = kind;
-  key_size = key_size;
-  value_size = value_size;
-  max_entries = max_entries;
-  shape = shape;
-  spelled = refl;
-  descriptor = descriptor;
-  target = refl;
-  shaped = shaped;
-}
 
 array_of_8_bytes : MapShape
 array_of_8_bytes = record { kind = Array; key_size = 4; value_size = 8; max_entries = 1; listed = refl }
@@ -32,14 +15,16 @@ array_of_8_bytes = record { kind = Array; key_size = 4; value_size = 8; max_entr
 -- leading zeros count for nothing
 array_word : IsMapArgument (codes "003:array:04:8:1") (record { fd = 3; target = Map array_of_8_bytes })
 unfolding array_of_8_bytes
-array_word = map_word (codes "003") (codes "array") (codes "04") (codes "8") (codes "1") array_of_8_bytes refl (record { kind_is = refl; key_size_is = refl; value_size_is = refl; max_entries_is = refl })
+array_word =
+    named_by (codes "003:array:04:8:1") (codes "003") (codes "array") (codes "04") (codes "8") (codes "1") refl refl (record { kind_is = refl; key_size_is = refl; value_size_is = refl; max_entries_is = refl })
 
 largest_hash_map : MapShape
 largest_hash_map = record { kind = Hash; key_size = 512; value_size = 4096; max_entries = 16; listed = refl }
 
 hash_word : IsMapArgument (codes "66:hash:512:4096:16") (record { fd = 66; target = Map largest_hash_map })
 unfolding largest_hash_map
-hash_word = map_word (codes "66") (codes "hash") (codes "512") (codes "4096") (codes "16") largest_hash_map refl (record { kind_is = refl; key_size_is = refl; value_size_is = refl; max_entries_is = refl })
+hash_word =
+    named_by (codes "66:hash:512:4096:16") (codes "66") (codes "hash") (codes "512") (codes "4096") (codes "16") refl refl (record { kind_is = refl; key_size_is = refl; value_size_is = refl; max_entries_is = refl })
 
 -- numbers
 no_digit : decimal_number (codes "") ≡ None

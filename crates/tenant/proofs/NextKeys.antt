@@ -31,6 +31,6 @@ next_is along part {k} {fd} {place} key {size} {empty} {r} found size_is e eithe
     ∙ sym (on_map_is part (is_empty_or_fits key) (λ p t. gives_if_found s (next_of t key)) found (right_size (length key) (shape_at k.live place).key_size size empty e size_is either))
 
 -- a key of another size
-pub no_size : (part : List ℕ) {k : KeptTenant} {fd place : ℕ} (key : List ℕ) → IsMapOf k fd place → (length key == 0) ≡ false → (length key == (shape_at k.live place).key_size) ≡ false
+pub refused_key : (part : List ℕ) {k : KeptTenant} {fd place : ℕ} (key : List ℕ) → IsMapOf k fd place → (length key == 0) ≡ false → (length key == (shape_at k.live place).key_size) ≡ false
     → refuses Invalid (state_in part k) ≡ given_next (state_in part k) fd key
-no_size part {k} key found full other = sym (on_map_is part (is_empty_or_fits key) (λ p t. gives_if_found (state_in part k) (next_of t key)) found (ap₂ (λ (a b : Bool). a || b) full other))
+refused_key part {k} key found full other = sym (on_map_is part (is_empty_or_fits key) (λ p t. gives_if_found (state_in part k) (next_of t key)) found (ap₂ (λ (a b : Bool). a || b) full other))

@@ -6,7 +6,7 @@ use Rattle.tenant.specs.Kept.{KeptTenant, state_in}
 use Rattle.tenant.specs.Machine.{gives_if_found, given_next}
 use Rattle.tenant.proofs.LookUps.{other_size}
 use Rattle.tenant.proofs.Named.{map_in_state}
-use Rattle.tenant.proofs.NextKeys.{next_is, no_size}
+use Rattle.tenant.proofs.NextKeys.{next_is, refused_key}
 use Rattle.tenant.proofs.tenant.Tenant.next_key.Goals as goal
 
 pub returns-in-Some-clause-answer : goal.returns-in-Some-clause-answer
@@ -26,4 +26,4 @@ returns-then-key-size-clause-answer c = λ part.
     let k = c.args.self.now in
     let key = c.args.key.now in
     let shape : c.shape-size.result ≡ shape_at k.live c.in_ok-map.map = c.shape-size.ensures ∙ ap (λ (x : KeptTenant). shape_at x.live c.in_ok-map.map) c.self.view_is in
-    no_size part key c.in_ok-map.ensures.found (sym c.is_empty.ensures ∙ c.if-not-is_empty.true) (other_size (length key) c.if-key-size.true (ap (λ (s : MapShape). s.key_size) shape))
+    refused_key part key c.in_ok-map.ensures.found (sym c.is_empty.ensures ∙ c.if-not-is_empty.true) (other_size (length key) c.if-key-size.true (ap (λ (s : MapShape). s.key_size) shape))

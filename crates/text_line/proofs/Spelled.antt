@@ -1,5 +1,5 @@
 -- What is spelled is read so.
-use Rattle.std.proofs.Common.{◌≡◌, ℕ, suc, ◌≤◌, Bool, true, false, List, [], ◌∷◌, Option, Some, None, refl, sym, ap, ◌∙◌, arith}
+use Rattle.std.proofs.Common.{◌≡◌, ℕ, suc, ◌≤◌, Bool, true, false, List, [], ◌∷◌, Option, Some, None, refl, sym, ap, arith}
 use Rattle.std.specs.Prelude.{codes, IsTrue, ◌||◌, ◌&&◌, not}
 use Rattle.std.specs.Str.{bytes_eq}
 use Rattle.std.proofs.lemmas.Bool.{false≢true, eq-eqb}
@@ -131,25 +131,13 @@ address_read signed s base offset rest listed fits = rw (named_size signed s lis
 
 -- ---- forms
 
-call_read : (n : Number) → parsed_call (tokens_of (constant n [])) ≡ Some (form.Call n)
-unfolding parsed_call
-call_read n = rw (constant_read n []) refl
-
-goto_read : (to : JumpTarget) (n : List ℕ) → NoLabel (to_label to) n → parsed_goto (tokens_of (destination to n)) ≡ Some (form.Ja to, n)
-unfolding parsed_goto
-goto_read to n none = rw (destination_read to n none) refl
-
-gotol_read : (to : JumpTarget) (n : List ℕ) → NoLabel (to_label to) n → parsed_gotol (tokens_of (destination to n)) ≡ Some (form.Jal to, n)
-unfolding parsed_gotol
-gotol_read to n none = rw (destination_read to n none) refl
-
 jump_read : (wide : Bool) (c : Condition) (dst : ℕ) (src : SourceOperand) (to : JumpTarget) (n : List ℕ) → dst ≤ 10 → IsSource src → NoLabel (to_label to) n
     → parsed_jump (name (register_name wide dst) ∷ symbol (condition_name c) ∷ tokens_of (operand_layout wide src (space ∷ word (codes "goto") ∷ space ∷ destination to n))) ≡ Some (form.Jump wide c dst src to, n)
 unfolding parsed_jump after_word
 jump_read wide c dst src to n fits s none = rw (named_register wide dst fits, named_condition c, operand_read wide src (space ∷ word (codes "goto") ∷ space ∷ destination to n) s, destination_read to n none) refl
 
-load_read : (size : AccessSize) (signed : Bool) (dst src : ℕ) (offset : Number) → src ≤ 10 → IsTrue (not (signed && is_double size)) → parsed_load dst (tokens_of (address (size_name signed size) src offset [])) ≡ Some (form.Load size signed dst src offset)
-unfolding parsed_load
+load_read : (size : AccessSize) (signed : Bool) (dst src : ℕ) (offset : Number) → src ≤ 10 → IsTrue (not (signed && is_double size)) → parsed_special_move true dst (tokens_of (address (size_name signed size) src offset [])) ≡ Some (form.Load size signed dst src offset)
+unfolding parsed_special_move parsed_wide_move parsed_end parsed_constant_load parsed_load after_symbol after_word
 load_read size signed dst src offset fits listed = rw (address_read signed size src offset [] listed fits) refl
 
 store_read : (size : AccessSize) (dst : ℕ) (src : SourceOperand) (offset : Number) → dst ≤ 10 → IsSource src → parsed_store (tokens_of (address (size_name false size) dst offset (space ∷ sign (codes "=") ∷ space ∷ operand_layout true src []))) ≡ Some (form.Store size dst src offset)
@@ -162,28 +150,35 @@ unfolding parsed_atomic
 atomic_read z op dst src offset dst_fits src_fits =
     rw (address_read false (access_size z) dst offset (space ∷ sign (atomic_name op) ∷ space ∷ reg true src ∷ []) refl dst_fits, size_of_access z, named_atomic op, register_read true src [] src_fits) refl
 
-movsx_read : (wide : Bool) (b : ExtendedBits) (dst src : ℕ) → src ≤ 10 → IsTrue (wide || is_short b) → parsed_movsx wide dst (name (narrow_name b) ∷ symbol (codes ")") ∷ name (register_name wide src) ∷ []) ≡ Some (form.Movsx wide b dst src)
-unfolding parsed_movsx after_symbol
+movsx_read : (wide : Bool) (b : ExtendedBits) (dst src : ℕ) → src ≤ 10 → IsTrue (wide || is_short b) → parsed_special_move wide dst (symbol (codes "(") ∷ name (narrow_name b) ∷ symbol (codes ")") ∷ name (register_name wide src) ∷ []) ≡ Some (form.Movsx wide b dst src)
+unfolding parsed_special_move parsed_movsx after_symbol
 movsx_read wide b dst src fits listed = rw (named_narrow b, register_read wide src [] fits, listed) refl
 
-neg_read : (wide : Bool) (dst : ℕ) → dst ≤ 10 → parsed_neg wide dst (name (register_name wide dst) ∷ []) ≡ Some (form.Neg wide dst)
-unfolding parsed_neg
+neg_read : (wide : Bool) (dst : ℕ) → dst ≤ 10 → parsed_special_move wide dst (symbol (codes "-") ∷ name (register_name wide dst) ∷ []) ≡ Some (form.Neg wide dst)
+unfolding parsed_special_move parsed_neg after_symbol
 neg_read wide dst fits = rw (register_read wide dst [] fits, eq-eqb dst dst refl) refl
 
-end_read : (how : ByteOrder) (b : KeptBits) (dst : ℕ) → dst ≤ 10 → parsed_end dst (name (order_name how b) ∷ name (register_name true dst) ∷ []) ≡ Some (form.End how b dst)
-unfolding parsed_end
-end_read how b dst fits = rw (named_order how b, register_read true dst [] fits, eq-eqb dst dst refl) refl
+-- the name of a byte-order conversion is none of a register or a map
+order_apart : (how : ByteOrder) (b : KeptBits) → (named registers (order_name how b) ≡ None) × (bytes_eq (order_name how b) (codes "map_fd") ≡ false) × (bytes_eq (order_name how b) (codes "map_value") ≡ false)
+order_apart Little bits.Bits16 = (refl, refl, refl)
+order_apart Big bits.Bits16 = (refl, refl, refl)
+order_apart Swap bits.Bits16 = (refl, refl, refl)
+order_apart _ _ = (refl, refl, refl)
 
-const_read : (dst : ℕ) (v : Option ℕ) → parsed_constant_load dst (number v ∷ name (codes "ll") ∷ []) ≡ Some (form.Const dst v)
-unfolding parsed_constant_load after_word
+end_read : (how : ByteOrder) (b : KeptBits) (dst : ℕ) → dst ≤ 10 → parsed_special_move true dst (name (order_name how b) ∷ name (register_name true dst) ∷ []) ≡ Some (form.End how b dst)
+unfolding parsed_special_move parsed_wide_move parsed_end after_symbol after_word
+end_read how b dst fits = let (_, no_fd, no_value) = order_apart how b in rw (no_fd, no_value, named_order how b, register_read true dst [] fits, eq-eqb dst dst refl) refl
+
+const_read : (dst : ℕ) (v : Option ℕ) → parsed_special_move true dst (number v ∷ name (codes "ll") ∷ []) ≡ Some (form.Const dst v)
+unfolding parsed_special_move parsed_wide_move parsed_end parsed_constant_load after_symbol after_word
 const_read dst v = refl
 
-map_fd_read : (dst : ℕ) (n : Number) → parsed_map_fd dst (tokens_of (constant n (space ∷ word (codes "ll") ∷ []))) ≡ Some (form.MapFd dst n)
-unfolding parsed_map_fd after_word
+map_fd_read : (dst : ℕ) (n : Number) → parsed_special_move true dst (name (codes "map_fd") ∷ tokens_of (constant n (space ∷ word (codes "ll") ∷ []))) ≡ Some (form.MapFd dst n)
+unfolding parsed_special_move parsed_wide_move parsed_map_fd after_symbol after_word
 map_fd_read dst n = rw (constant_read n (space ∷ word (codes "ll") ∷ [])) refl
 
-map_value_read : (dst : ℕ) (n : Number) (v : Option ℕ) → parsed_map_value dst (tokens_of (constant n (space ∷ sign (codes "+") ∷ space ∷ Some (number v) ∷ space ∷ word (codes "ll") ∷ []))) ≡ Some (form.MapValue dst n v)
-unfolding parsed_map_value after_symbol after_word
+map_value_read : (dst : ℕ) (n : Number) (v : Option ℕ) → parsed_special_move true dst (name (codes "map_value") ∷ tokens_of (constant n (space ∷ sign (codes "+") ∷ space ∷ Some (number v) ∷ space ∷ word (codes "ll") ∷ []))) ≡ Some (form.MapValue dst n v)
+unfolding parsed_special_move parsed_wide_move parsed_map_value after_symbol after_word
 map_value_read dst n v = rw (constant_read n (space ∷ sign (codes "+") ∷ space ∷ Some (number v) ∷ space ∷ word (codes "ll") ∷ [])) refl
 
 -- ---- what is assigned
@@ -192,16 +187,9 @@ alu_read : (wide : Bool) (op : AluOp) (dst : ℕ) (src : SourceOperand) → IsSo
 unfolding parsed_assignment parsed_alu
 alu_read wide op dst src s = rw (named_operator op, operand_read wide src [] s) refl
 
-assign_move : (wide : Bool) (dst : ℕ) (ts : List Token) (f : Form) → parsed_alu wide Mov dst ts ≡ None → parsed_special_move wide dst ts ≡ Some f → parsed_assignment wide dst (symbol (codes "=") ∷ ts) ≡ Some f
+assign_move : (wide : Bool) (dst : ℕ) (ts : List Token) {f : Form} → parsed_alu wide Mov dst ts ≡ None → parsed_special_move wide dst ts ≡ Some f → parsed_assignment wide dst (symbol (codes "=") ∷ ts) ≡ Some f
 unfolding parsed_assignment
-assign_move wide dst ts f none some = rw (none, some) refl
-
--- the name of a byte-order conversion is none of a register or a map
-order_apart : (how : ByteOrder) (b : KeptBits) → (named registers (order_name how b) ≡ None) × (bytes_eq (order_name how b) (codes "map_fd") ≡ false) × (bytes_eq (order_name how b) (codes "map_value") ≡ false)
-order_apart Little bits.Bits16 = (refl, refl, refl)
-order_apart Big bits.Bits16 = (refl, refl, refl)
-order_apart Swap bits.Bits16 = (refl, refl, refl)
-order_apart _ _ = (refl, refl, refl)
+assign_move wide dst ts none some = rw (none, some) refl
 
 no_alu_symbol : (wide : Bool) (op : AluOp) (dst : ℕ) (s : List ℕ) (ts : List Token) → bytes_eq s (codes "-") ≡ false → parsed_alu wide op dst (symbol s ∷ ts) ≡ None
 unfolding parsed_alu leading_operand leading_register leading_constant after_symbol
@@ -219,59 +207,11 @@ no_alu_const : (wide : Bool) (op : AluOp) (dst : ℕ) (v : Option ℕ) → parse
 unfolding parsed_alu leading_operand leading_register leading_constant after_symbol
 no_alu_const wide op dst v = refl
 
-moved_movsx : (wide : Bool) (dst : ℕ) (ts : List Token) (f : Form) → parsed_movsx wide dst ts ≡ Some f → parsed_special_move wide dst (symbol (codes "(") ∷ ts) ≡ Some f
-unfolding parsed_special_move after_symbol
-moved_movsx wide dst ts f e = e
-
-moved_neg : (wide : Bool) (dst : ℕ) (ts : List Token) (f : Form) → parsed_neg wide dst ts ≡ Some f → parsed_special_move wide dst (symbol (codes "-") ∷ ts) ≡ Some f
-unfolding parsed_special_move after_symbol
-moved_neg wide dst ts f e = e
-
-moved_end : (dst : ℕ) (how : ByteOrder) (b : KeptBits) (ts : List Token) (f : Form) → parsed_end dst (name (order_name how b) ∷ ts) ≡ Some f → parsed_special_move true dst (name (order_name how b) ∷ ts) ≡ Some f
-unfolding parsed_special_move parsed_wide_move after_symbol after_word
-moved_end dst how b ts f e = let (_, no_fd, no_value) = order_apart how b in rw (no_fd, no_value, e) refl
-
-moved_map : (dst : ℕ) (ts : List Token) (f : Form) → parsed_map_fd dst ts ≡ Some f → parsed_special_move true dst (name (codes "map_fd") ∷ ts) ≡ Some f
-unfolding parsed_special_move parsed_wide_move after_symbol after_word
-moved_map dst ts f e = e
-
-moved_map_value : (dst : ℕ) (ts : List Token) (f : Form) → parsed_map_value dst ts ≡ Some f → parsed_special_move true dst (name (codes "map_value") ∷ ts) ≡ Some f
-unfolding parsed_special_move parsed_wide_move after_symbol after_word
-moved_map_value dst ts f e = e
-
-moved_const : (dst : ℕ) (v : Option ℕ) (ts : List Token) (f : Form) → parsed_constant_load dst (number v ∷ ts) ≡ Some f → parsed_special_move true dst (number v ∷ ts) ≡ Some f
-unfolding parsed_special_move parsed_wide_move after_symbol after_word parsed_end
-moved_const dst v ts f e = rw e refl
-
-moved_load : (dst : ℕ) (ts : List Token) (f : Form) → parsed_load dst (symbol (codes "*") ∷ ts) ≡ Some f → parsed_special_move true dst (symbol (codes "*") ∷ ts) ≡ Some f
-unfolding parsed_special_move parsed_wide_move after_symbol after_word parsed_end parsed_constant_load
-moved_load dst ts f e = e
-
 -- ---- whole lines
 
 operator_no_colon : (op : AluOp) → bytes_eq (operator_name op) (codes ":") ≡ false
 operator_no_colon Add = refl
 operator_no_colon _ = refl
-
-no_label_symbol : (n s : List ℕ) (ts : List Token) → bytes_eq s (codes ":") ≡ false → parsed_label (name n ∷ symbol s ∷ ts) ≡ None
-unfolding parsed_label after_symbol
-no_label_symbol n s ts h = rw h refl
-
-no_label_name : (n m : List ℕ) (ts : List Token) → parsed_label (name n ∷ name m ∷ ts) ≡ None
-unfolding parsed_label after_symbol
-no_label_name n m ts = refl
-
-no_label_number : (n : List ℕ) (v : Option ℕ) (ts : List Token) → parsed_label (name n ∷ number v ∷ ts) ≡ None
-unfolding parsed_label after_symbol
-no_label_number n v ts = refl
-
-no_label_end : (n : List ℕ) → parsed_label (name n ∷ []) ≡ None
-unfolding parsed_label after_symbol
-no_label_end n = refl
-
-no_label_front : (s : List ℕ) (ts : List Token) → parsed_label (symbol s ∷ ts) ≡ None
-unfolding parsed_label
-no_label_front s ts = refl
 
 no_label_constant : (w : List ℕ) (n : Number) → parsed_label (name w ∷ tokens_of (constant n [])) ≡ None
 unfolding parsed_label after_symbol
@@ -290,87 +230,43 @@ no_label_destination w (target.Number m) n =
     ]
 no_label_destination w target.Label n = refl
 
-line_from : (t : Token) (ts : List Token) (f : Form) (n : List ℕ) → parsed_label (t ∷ ts) ≡ None → parsed_form (t ∷ ts) ≡ Some (f, n) → line_of (t ∷ ts) ≡ Some (code f n)
-unfolding line_of
-line_from t ts f n none some = rw (none, some) refl
-
-form_from_register : (wide : Bool) (r : ℕ) (ts : List Token) (f : Form) → r ≤ 10 → parsed_assignment wide r ts ≡ Some f → parsed_form (name (register_name wide r) ∷ ts) ≡ Some (f, [])
-unfolding parsed_form after_word parsed_assigned
-form_from_register true r ts f fits e = rw (named_register true r fits, e) refl
-form_from_register false r ts f fits e = rw (named_register false r fits, e) refl
-
-form_from_if : (ts : List Token) (f : Form) (n : List ℕ) → parsed_jump ts ≡ Some (f, n) → parsed_form (name (codes "if") ∷ ts) ≡ Some (f, n)
-unfolding parsed_form after_word
-form_from_if ts f n e = e
-
-form_from_goto : (ts : List Token) (f : Form) (n : List ℕ) → parsed_goto ts ≡ Some (f, n) → parsed_form (name (codes "goto") ∷ ts) ≡ Some (f, n)
-unfolding parsed_form after_word
-form_from_goto ts f n e = e
-
-form_from_gotol : (ts : List Token) (f : Form) (n : List ℕ) → parsed_gotol ts ≡ Some (f, n) → parsed_form (name (codes "gotol") ∷ ts) ≡ Some (f, n)
-unfolding parsed_form after_word
-form_from_gotol ts f n e = e
-
-form_from_call : (ts : List Token) (f : Form) → parsed_call ts ≡ Some f → parsed_form (name (codes "call") ∷ ts) ≡ Some (f, [])
-unfolding parsed_form after_word
-form_from_call ts f e = rw e refl
-
-form_from_exit : parsed_form (name (codes "exit") ∷ []) ≡ Some (form.Exit, [])
-unfolding parsed_form after_word
-form_from_exit = refl
-
-form_from_lock : (ts : List Token) (f : Form) → parsed_atomic ts ≡ Some f → parsed_form (name (codes "lock") ∷ ts) ≡ Some (f, [])
-unfolding parsed_form after_word
-form_from_lock ts f e = rw e refl
-
-form_from_store : (ts : List Token) (f : Form) → parsed_store (symbol (codes "*") ∷ ts) ≡ Some f → parsed_form (symbol (codes "*") ∷ ts) ≡ Some (f, [])
-unfolding parsed_form after_word parsed_assigned
-form_from_store ts f e = rw e refl
-
 -- a register and what is assigned to it
-line_from_register : (wide : Bool) (r : ℕ) (s : List ℕ) (ts : List Token) (f : Form) (n : List ℕ) → r ≤ 10 → bytes_eq s (codes ":") ≡ false → n ≡ [] → parsed_assignment wide r (symbol s ∷ ts) ≡ Some f → line_of (name (register_name wide r) ∷ symbol s ∷ ts) ≡ Some (code f n)
-line_from_register wide r s ts f n fits colon none e =
-    line_from (name (register_name wide r)) (symbol s ∷ ts) f [] (no_label_symbol (register_name wide r) s ts colon) (form_from_register wide r (symbol s ∷ ts) f fits e) ∙ ap (λ (l : List ℕ). Some (code f l)) (sym none)
+line_from_register : (wide : Bool) (r : ℕ) (s : List ℕ) (ts : List Token) {f : Form} {n : List ℕ} → r ≤ 10 → bytes_eq s (codes ":") ≡ false → n ≡ [] → parsed_assignment wide r (symbol s ∷ ts) ≡ Some f → line_of (name (register_name wide r) ∷ symbol s ∷ ts) ≡ Some (code f n)
+unfolding line_of parsed_label parsed_form parsed_assigned after_symbol after_word
+line_from_register true r s ts fits colon none e = rw (colon, named_register true r fits, e, none) refl
+line_from_register false r s ts fits colon none e = rw (colon, named_register false r fits, e, none) refl
 
-line_from_move : (wide : Bool) (r : ℕ) (ts : List Token) (f : Form) (n : List ℕ) → r ≤ 10 → n ≡ [] → parsed_alu wide Mov r ts ≡ None → parsed_special_move wide r ts ≡ Some f → line_of (name (register_name wide r) ∷ symbol (codes "=") ∷ ts) ≡ Some (code f n)
-line_from_move wide r ts f n fits none alu e = line_from_register wide r (codes "=") ts f n fits refl none (assign_move wide r ts f alu e)
+line_from_move : (wide : Bool) (r : ℕ) (ts : List Token) {f : Form} {n : List ℕ} → r ≤ 10 → n ≡ [] → parsed_alu wide Mov r ts ≡ None → parsed_special_move wide r ts ≡ Some f → line_of (name (register_name wide r) ∷ symbol (codes "=") ∷ ts) ≡ Some (code f n)
+line_from_move wide r ts fits none alu e = line_from_register wide r (codes "=") ts fits refl none (assign_move wide r ts alu e)
 
 code_read : (f : Form) (n : List ℕ) → IsForm f → NoLabel (names_label f) n → line_of (tokens_of (layout f n)) ≡ Some (code f n)
-code_read (form.Alu wide op dst src) n fits none = line_from_register wide dst (operator_name op) (tokens_of (operand_layout wide src [])) (form.Alu wide op dst src) n fits.0 (operator_no_colon op) none (alu_read wide op dst src fits.1)
+unfolding line_of parsed_label parsed_form parsed_assigned parsed_goto parsed_gotol parsed_call after_symbol after_word
+code_read (form.Alu wide op dst src) n fits none = line_from_register wide dst (operator_name op) (tokens_of (operand_layout wide src [])) fits.0 (operator_no_colon op) none (alu_read wide op dst src fits.1)
 code_read (form.Movsx wide b dst src) n fits none =
     let ts : List Token = name (narrow_name b) ∷ symbol (codes ")") ∷ name (register_name wide src) ∷ [] in
-    line_from_move wide dst (symbol (codes "(") ∷ ts) (form.Movsx wide b dst src) n fits.0 none (no_alu_symbol wide Mov dst (codes "(") ts refl) (moved_movsx wide dst ts (form.Movsx wide b dst src) (movsx_read wide b dst src fits.1 fits.2))
+    line_from_move wide dst (symbol (codes "(") ∷ ts) fits.0 none (no_alu_symbol wide Mov dst (codes "(") ts refl) (movsx_read wide b dst src fits.1 fits.2)
 code_read (form.Neg wide dst) n fits none =
-    let ts : List Token = name (register_name wide dst) ∷ [] in
-    line_from_move wide dst (symbol (codes "-") ∷ ts) (form.Neg wide dst) n fits none (no_alu_minus wide Mov dst (register_name wide dst) []) (moved_neg wide dst ts (form.Neg wide dst) (neg_read wide dst fits))
+    line_from_move wide dst (symbol (codes "-") ∷ name (register_name wide dst) ∷ []) fits none (no_alu_minus wide Mov dst (register_name wide dst) []) (neg_read wide dst fits)
 code_read (form.End how b dst) n fits none =
     let ts : List Token = name (register_name true dst) ∷ [] in
-    line_from_move true dst (name (order_name how b) ∷ ts) (form.End how b dst) n fits none (no_alu_name true Mov dst (order_name how b) ts (order_apart how b).0) (moved_end dst how b ts (form.End how b dst) (end_read how b dst fits))
-code_read (form.Ja to) n fits none = line_from (name (codes "goto")) (tokens_of (destination to n)) (form.Ja to) n (no_label_destination (codes "goto") to n) (form_from_goto (tokens_of (destination to n)) (form.Ja to) n (goto_read to n none))
-code_read (form.Jal to) n fits none = line_from (name (codes "gotol")) (tokens_of (destination to n)) (form.Jal to) n (no_label_destination (codes "gotol") to n) (form_from_gotol (tokens_of (destination to n)) (form.Jal to) n (gotol_read to n none))
-code_read (form.Jump wide c dst src to) n fits none =
-    let ts : List Token = symbol (condition_name c) ∷ tokens_of (operand_layout wide src (space ∷ word (codes "goto") ∷ space ∷ destination to n)) in
-    line_from (name (codes "if")) (name (register_name wide dst) ∷ ts) (form.Jump wide c dst src to) n (no_label_name (codes "if") (register_name wide dst) ts) (form_from_if (name (register_name wide dst) ∷ ts) (form.Jump wide c dst src to) n (jump_read wide c dst src to n fits.0 fits.1 none))
-code_read (form.Call id) n fits none =
-    line_from (name (codes "call")) (tokens_of (constant id [])) (form.Call id) [] (no_label_constant (codes "call") id) (form_from_call (tokens_of (constant id [])) (form.Call id) (call_read id)) ∙ ap (λ (l : List ℕ). Some (code (form.Call id) l)) (sym none)
-code_read form.Exit n fits none = line_from (name (codes "exit")) [] form.Exit [] (no_label_end (codes "exit")) form_from_exit ∙ ap (λ (l : List ℕ). Some (code form.Exit l)) (sym none)
+    line_from_move true dst (name (order_name how b) ∷ ts) fits none (no_alu_name true Mov dst (order_name how b) ts (order_apart how b).0) (end_read how b dst fits)
+code_read (form.Ja to) n fits none = rw (no_label_destination (codes "goto") to n, destination_read to n none) refl
+code_read (form.Jal to) n fits none = rw (no_label_destination (codes "gotol") to n, destination_read to n none) refl
+code_read (form.Jump wide c dst src to) n fits none = rw (jump_read wide c dst src to n fits.0 fits.1 none) refl
+code_read (form.Call id) n fits none = rw (no_label_constant (codes "call") id, constant_read id [], none) refl
+code_read form.Exit n fits none = rw none refl
 code_read (form.Load size signed dst src offset) n fits none =
     let ts : List Token = symbol (codes "(") ∷ name (size_name signed size) ∷ symbol (codes "*") ∷ symbol (codes ")") ∷ symbol (codes "(") ∷ name (register_name true src) ∷ symbol (sign_name offset.negative) ∷ number offset.magnitude ∷ symbol (codes ")") ∷ [] in
-    line_from_move true dst (symbol (codes "*") ∷ ts) (form.Load size signed dst src offset) n fits.0 none (no_alu_symbol true Mov dst (codes "*") ts refl) (moved_load dst ts (form.Load size signed dst src offset) (load_read size signed dst src offset fits.1 fits.2))
-code_read (form.Store size dst src offset) n fits none =
-    let ts : List Token = symbol (codes "(") ∷ name (size_name false size) ∷ symbol (codes "*") ∷ symbol (codes ")") ∷ symbol (codes "(") ∷ name (register_name true dst) ∷ symbol (sign_name offset.negative) ∷ number offset.magnitude ∷ symbol (codes ")") ∷ symbol (codes "=") ∷ tokens_of (operand_layout true src []) in
-    line_from (symbol (codes "*")) ts (form.Store size dst src offset) [] (no_label_front (codes "*") ts) (form_from_store ts (form.Store size dst src offset) (store_read size dst src offset fits.0 fits.1)) ∙ ap (λ (l : List ℕ). Some (code (form.Store size dst src offset) l)) (sym none)
-code_read (form.Atomic z op dst src offset) n fits none =
-    let ts : List Token = symbol (codes "(") ∷ name (size_name false (access_size z)) ∷ symbol (codes "*") ∷ symbol (codes ")") ∷ symbol (codes "(") ∷ name (register_name true dst) ∷ symbol (sign_name offset.negative) ∷ number offset.magnitude ∷ symbol (codes ")") ∷ symbol (atomic_name op) ∷ name (register_name true src) ∷ [] in
-    line_from (name (codes "lock")) (symbol (codes "*") ∷ ts) (form.Atomic z op dst src offset) [] (no_label_symbol (codes "lock") (codes "*") ts refl) (form_from_lock (symbol (codes "*") ∷ ts) (form.Atomic z op dst src offset) (atomic_read z op dst src offset fits.0 fits.1)) ∙ ap (λ (l : List ℕ). Some (code (form.Atomic z op dst src offset) l)) (sym none)
-code_read (form.Const dst v) n fits none =
-    line_from_move true dst (number v ∷ name (codes "ll") ∷ []) (form.Const dst v) n fits none (no_alu_const true Mov dst v) (moved_const dst v (name (codes "ll") ∷ []) (form.Const dst v) (const_read dst v))
+    line_from_move true dst (symbol (codes "*") ∷ ts) fits.0 none (no_alu_symbol true Mov dst (codes "*") ts refl) (load_read size signed dst src offset fits.1 fits.2)
+code_read (form.Store size dst src offset) n fits none = rw (store_read size dst src offset fits.0 fits.1, none) refl
+code_read (form.Atomic z op dst src offset) n fits none = rw (atomic_read z op dst src offset fits.0 fits.1, none) refl
+code_read (form.Const dst v) n fits none = line_from_move true dst (number v ∷ name (codes "ll") ∷ []) fits none (no_alu_const true Mov dst v) (const_read dst v)
 code_read (form.MapFd dst fd) n fits none =
     let ts : List Token = tokens_of (constant fd (space ∷ word (codes "ll") ∷ [])) in
-    line_from_move true dst (name (codes "map_fd") ∷ ts) (form.MapFd dst fd) n fits none (no_alu_name true Mov dst (codes "map_fd") ts refl) (moved_map dst ts (form.MapFd dst fd) (map_fd_read dst fd))
+    line_from_move true dst (name (codes "map_fd") ∷ ts) fits none (no_alu_name true Mov dst (codes "map_fd") ts refl) (map_fd_read dst fd)
 code_read (form.MapValue dst fd off) n fits none =
     let ts : List Token = tokens_of (constant fd (space ∷ sign (codes "+") ∷ space ∷ Some (number off) ∷ space ∷ word (codes "ll") ∷ [])) in
-    line_from_move true dst (name (codes "map_value") ∷ ts) (form.MapValue dst fd off) n fits none (no_alu_name true Mov dst (codes "map_value") ts refl) (moved_map_value dst ts (form.MapValue dst fd off) (map_value_read dst fd off))
+    line_from_move true dst (name (codes "map_value") ∷ ts) fits none (no_alu_name true Mov dst (codes "map_value") ts refl) (map_value_read dst fd off)
 
 -- What is spelled is read so.
 pub line_read : (line : Line) → IsWellFormed line → line_of (spelled line) ≡ Some line

@@ -27,14 +27,14 @@ use Rattle.text_line.specs.Form.{TokenLayout, layout, sign, word, space, tokens_
 use Rattle.text_line.specs.Line.{Line, blank, label, spelled, IsWellFormed, NoLabel}
 use Rattle.text_line.specs.inside.Reading.{named, operators, conditions, orders, narrows, sizes, atomic_operators, registers, leading_symbol, leading_name, leading_number, after_symbol, after_word, leading_register, number_from, leading_constant, leading_signed_number, leading_operand, parsed_destination, leading_address, atomic_size_of, at_end, match_option, parsed_jump, parsed_load, parsed_store, parsed_atomic, parsed_movsx, parsed_neg, parsed_end, parsed_constant_load, parsed_map_fd, parsed_map_value, parsed_wide_move, parsed_special_move, is_move, parsed_alu, parsed_assignment, parsed_assigned, parsed_goto, parsed_gotol, parsed_call, without_label, parsed_form, parsed_label, line_of, bool_eq, ◌>>=◌}
 
--- ---- options
+-- ---- options and tests, where a value comes out
 
 map_some : {A B : Type 0} (o : Option A) (f : A → B) (y : B) → option_map f o ≡ Some y → (x : A) × (o ≡ Some x) × (f x ≡ y)
 map_some None f y e = absurd (none-some y e)
 map_some (Some x) f y e = (x, refl, same_Some (f x) y e)
 
-either : {A B : Type 0} (o : Option A) (d : Option B) (f : A → Option B) (y : B) → match_option o d f ≡ Some y → ((o ≡ None) × (d ≡ Some y)) ⊎ ((x : A) × (o ≡ Some x) × (f x ≡ Some y))
-either None d f y e = inl (refl, e)
+either : {A B : Type 0} (o : Option A) (d : Option B) (f : A → Option B) (y : B) → match_option o d f ≡ Some y → (d ≡ Some y) ⊎ ((x : A) × (o ≡ Some x) × (f x ≡ Some y))
+either None d f y e = inl e
 either (Some x) d f y e = inr (x, refl, e)
 
 if_true : {A : Type 0} (b : Bool) (o : Option A) (y : A) → cond b o None ≡ Some y → (b ≡ true) × (o ≡ Some y)
@@ -73,7 +73,7 @@ register_is n r e = (named_is (λ r. register_name r.0 r.1) registers n r refl e
 size_listed : (n : List ℕ) (s : Bool × AccessSize) → named sizes n ≡ Some s → IsTrue (not (s.0 && is_double s.1))
 size_listed n s e = named_passes (λ _ s. not (s.0 && is_double s.1)) sizes n s refl e
 
--- ---- tokens
+-- ---- tokens: they begin with what is read first, and the reading goes on behind it
 
 symbol_then : {B P : Type 0} (ts : List Token) (k : List ℕ × List Token → Option B) (y : B) → (leading_symbol ts >>= k) ≡ Some y → ((s : List ℕ) (rest : List Token) → ts ≡ symbol s ∷ rest → k (s, rest) ≡ Some y → P) → P
 symbol_then (symbol s ∷ ts) k y e then = then s ts refl e
@@ -111,14 +111,14 @@ after_word_then w ts k y e then = option_and_then_some k (after_word w ts) y e (
 symbol_or : {B : Type 0} (P : List Token → Type 0) (s : List ℕ) (ts : List Token) (d : Option B) (k : List Token → Option B) (y : B) → match_option (after_symbol s ts) d k ≡ Some y
     → ((rest : List Token) → k rest ≡ Some y → P (symbol s ∷ rest)) → (d ≡ Some y → P ts) → P ts
 symbol_or P s ts d k y e behind without = elim (either (after_symbol s ts) d k y e) [
-  | inl (_, e) ↦ without e
+  | inl e ↦ without e
   | inr (rest, found, e) ↦ subst P (sym (after_symbol_is s ts rest found)) (behind rest e)
 ]
 
 word_or : {B : Type 0} (P : List Token → Type 0) (w : List ℕ) (ts : List Token) (d : Option B) (k : List Token → Option B) (y : B) → match_option (after_word w ts) d k ≡ Some y
     → ((rest : List Token) → k rest ≡ Some y → P (name w ∷ rest)) → (d ≡ Some y → P ts) → P ts
 word_or P w ts d k y e behind without = elim (either (after_word w ts) d k y e) [
-  | inl (_, e) ↦ without e
+  | inl e ↦ without e
   | inr (rest, found, e) ↦ subst P (sym (after_word_is w ts rest found)) (behind rest e)
 ]
 
@@ -133,17 +133,17 @@ same_width false false e = refl
 
 -- ---- parts of a line: the tokens are the part and what follows it
 
-abbrev Register : Bool → List Token → ℕ × List Token → Type 0
-Register wide ts p = (ts ≡ name (register_name wide p.0) ∷ p.1) × (p.0 ≤ 10)
+abbrev RegisterRead : Bool → List Token → ℕ × List Token → Type 0
+RegisterRead wide ts p = (ts ≡ name (register_name wide p.0) ∷ p.1) × (p.0 ≤ 10)
 
-register_read : (wide : Bool) (ts : List Token) (p : ℕ × List Token) → leading_register wide ts ≡ Some p → Register wide ts p
+register_read : (wide : Bool) (ts : List Token) (p : ℕ × List Token) → leading_register wide ts ≡ Some p → RegisterRead wide ts p
 unfolding leading_register
 register_read wide ts p e =
     name_then ts _ p e (λ n us is e.
     option_and_then_some _ (named registers n) p e (λ r found e.
     let (width, same) = cond_some (bool_eq r.0 wide) (r.1, us) p e in
     let (named, bound) = register_is n r found in
-    subst (Register wide ts) same (cc (same_width r.0 wide width), bound)))
+    subst (RegisterRead wide ts) same (cc (same_width r.0 wide width), bound)))
 
 number_read : (negative : Bool) (ts : List Token) (p : Number × List Token) → number_from negative (leading_number ts) ≡ Some p → (p.0.negative ≡ negative) × (ts ≡ number p.0.magnitude ∷ p.1)
 number_read negative (number v ∷ ts) p e = subst (λ p. (p.0.negative ≡ negative) × (number v ∷ ts ≡ number p.0.magnitude ∷ p.1)) (same_Some _ p e) (refl, refl)
@@ -152,14 +152,14 @@ number_read negative _ p e = absurd (none-some p e)
 constant_read : (ts : List Token) (p : Number × List Token) → leading_constant ts ≡ Some p → (rest : TokenLayout) → tokens_of rest ≡ p.1 → ts ≡ tokens_of (constant p.0 rest)
 unfolding leading_constant
 constant_read ts p e rest after = elim (either (after_symbol (codes "-") ts) _ _ p e) [
-  | inl (_, e) ↦ let (sign, is) = number_read false ts p e in rw (sign, after) is
+  | inl e ↦ let (sign, is) = number_read false ts p e in rw (sign, after) is
   | inr (us, found, e) ↦ let (sign, is) = number_read true us p e in rw (sign, after) (after_symbol_is (codes "-") ts us found ∙ ap (λ l. symbol (codes "-") ∷ l) is)
 ]
 
 signed_number_read : (ts : List Token) (p : Number × List Token) → leading_signed_number ts ≡ Some p → ts ≡ symbol (sign_name p.0.negative) ∷ number p.0.magnitude ∷ p.1
 unfolding leading_signed_number
 signed_number_read ts p e = elim (either (after_symbol (codes "+") ts) _ _ p e) [
-  | inl (_, e) ↦
+  | inl e ↦
       after_symbol_then (codes "-") ts _ p e (λ us minus e.
       let (sign, is) = number_read true us p e in
       minus ∙ ap (λ l. symbol (codes "-") ∷ l) is ∙ ap (λ b. symbol (sign_name b) ∷ number p.0.magnitude ∷ p.1) (sym sign))
@@ -172,25 +172,25 @@ OperandRead wide ts p = ((rest : TokenLayout) → tokens_of rest ≡ p.1 → ts 
 operand_read : (wide : Bool) (ts : List Token) (p : SourceOperand × List Token) → leading_operand wide ts ≡ Some p → OperandRead wide ts p
 unfolding leading_operand
 operand_read wide ts p e = elim (either (leading_register wide ts) _ _ p e) [
-  | inl (_, e) ↦ let (n, found, same) = map_some (leading_constant ts) _ p e in subst (OperandRead wide ts) same (constant_read ts n found, tt)
+  | inl e ↦ let (n, found, same) = map_some (leading_constant ts) _ p e in subst (OperandRead wide ts) same (constant_read ts n found, tt)
   | inr (r, found, e) ↦
       let (is, bound) = register_read wide ts r found in
       subst (OperandRead wide ts) (same_Some _ p e) ((λ rest after. is ∙ ap (λ l. name (register_name wide r.0) ∷ l) (sym after)), bound)
 ]
 
-abbrev Destination : List Token → JumpTarget × List ℕ → Type 0
-Destination ts p = (ts ≡ tokens_of (destination p.0 p.1)) × NoLabel (to_label p.0) p.1
+abbrev DestinationRead : List Token → JumpTarget × List ℕ → Type 0
+DestinationRead ts p = (ts ≡ tokens_of (destination p.0 p.1)) × NoLabel (to_label p.0) p.1
 
-destination_read : (ts : List Token) (p : JumpTarget × List ℕ) → parsed_destination ts ≡ Some p → Destination ts p
+destination_read : (ts : List Token) (p : JumpTarget × List ℕ) → parsed_destination ts ≡ Some p → DestinationRead ts p
 unfolding parsed_destination
 destination_read ts p e = elim (either (leading_signed_number ts) _ _ p e) [
-  | inl (_, e) ↦
+  | inl e ↦
       name_then ts _ p e (λ n us is e.
       let (end, same) = end_is us _ p e in
-      subst (Destination ts) same (is ∙ ap (λ l. name n ∷ l) end, tt))
+      subst (DestinationRead ts) same (is ∙ ap (λ l. name n ∷ l) end, tt))
   | inr (n, found, e) ↦
       let (end, same) = end_is n.1 _ p e in
-      subst (Destination ts) same (signed_number_read ts n found ∙ ap (λ l. symbol (sign_name n.0.negative) ∷ number n.0.magnitude ∷ l) end, refl)
+      subst (DestinationRead ts) same (signed_number_read ts n found ∙ ap (λ l. symbol (sign_name n.0.negative) ∷ number n.0.magnitude ∷ l) end, refl)
 ]
 
 abbrev AddressRead : List Token → Address × List Token → Type 0
@@ -366,9 +366,9 @@ wide_is dst ts f fits e =
     word_or P (codes "map_value") ts _ _ f e (λ rest e. map_value_is dst rest f fits e) (λ e.
     elim (either (parsed_end dst ts) _ _ f e) [
       | inr (g, found, e) ↦ end_form_is dst ts f fits (found ∙ e)
-      | inl (_, e) ↦ elim (either (parsed_constant_load dst ts) _ _ f e) [
+      | inl e ↦ elim (either (parsed_constant_load dst ts) _ _ f e) [
         | inr (g, found, e) ↦ const_is dst ts f fits (found ∙ e)
-        | inl (_, e) ↦ load_is dst ts f fits e
+        | inl e ↦ load_is dst ts f fits e
       ]
     ]))
 
@@ -399,7 +399,7 @@ operated_is : (wide : Bool) (dst : ℕ) (op : AluOp) (ts : List Token) (f : Form
     → match_option (parsed_alu wide op dst ts) (cond (is_move op) (parsed_special_move wide dst ts) None) (λ f. Some f) ≡ Some f → Spelled (name (register_name wide dst) ∷ symbol (operator_name op) ∷ ts) f
 operated_is wide dst op ts f fits e = elim (either (parsed_alu wide op dst ts) _ _ f e) [
   | inr (g, found, e) ↦ alu_is wide op dst ts f fits (found ∙ e)
-  | inl (_, e) ↦ let (moves, e) = if_true (is_move op) _ f e in rw (move_name op moves) (moved_is wide dst ts f fits e)
+  | inl e ↦ let (moves, e) = if_true (is_move op) _ f e in rw (move_name op moves) (moved_is wide dst ts f fits e)
 ]
 
 assignment_is : (wide : Bool) (dst : ℕ) (ts : List Token) (f : Form) → dst ≤ 10 → parsed_assignment wide dst ts ≡ Some f → Spelled (name (register_name wide dst) ∷ ts) f
@@ -456,7 +456,7 @@ form_is ts f e =
     word_or P (codes "lock") ts _ _ f e (λ rest e. plain (name (codes "lock") ∷ rest) (parsed_atomic rest) f e (atomic_is rest)) (λ e.
     elim (either (parsed_assigned ts) _ _ f e) [
       | inr (g, found, e) ↦ plain ts (parsed_assigned ts) f (ap without_label found ∙ e) (assigned_is ts)
-      | inl (_, e) ↦ plain ts (parsed_store ts) f e (store_is ts)
+      | inl e ↦ plain ts (parsed_store ts) f e (store_is ts)
     ]))))))
   where
     exit_is : (rest : List Token) (f : Form × List ℕ) → at_end (form.Exit, []) rest ≡ Some f → Whole (name (codes "exit") ∷ rest) f
@@ -476,7 +476,7 @@ unfolding line_of
 line_is [] line e = subst (λ line. ([] ≡ spelled line) × IsWellFormed line) (same_Some blank line e) (refl, tt)
 line_is (t ∷ ts) line e = elim (either (parsed_label (t ∷ ts)) _ _ line e) [
   | inr (n, found, e) ↦ subst (λ line. (t ∷ ts ≡ spelled line) × IsWellFormed line) (same_Some (label n) line e) (label_is (t ∷ ts) n found, tt)
-  | inl (_, e) ↦
+  | inl e ↦
       let (f, found, same) = map_some (parsed_form (t ∷ ts)) _ line e in
       let (is, form, labelled) = form_is (t ∷ ts) f found in
       subst (λ line. (t ∷ ts ≡ spelled line) × IsWellFormed line) same (is, (form, labelled))

@@ -14,7 +14,7 @@ ghost use Rattle.text_line.specs.Form.{IsForm};
 ghost use Rattle.text_line.specs.Ranges.{resolved};
 ghost use Rattle.text_line.specs.Written.{written};
 
-use crate::fault::{TextFault, TextFaultKind};
+use crate::fault::{NO_SLOT, OUT_OF_MEMORY, TextFault, TextFaultKind};
 use crate::laws;
 use crate::lines::split_lines;
 use insn_codec::{Insn, MAX_SLOTS, Program};
@@ -209,19 +209,11 @@ fn program(alloc: Global, insns: &[Insn]) -> Result<Program, TextFault>
         ⊎ ((e ≡ empty_fault) × (slot_count insns.now ≡ 0))) }
 {
     if insns.is_empty() {
-        return Err(TextFault {
-            line: 0,
-            kind: TextFaultKind::Empty,
-        });
+        return Err(NO_SLOT);
     }
     match Program::new(alloc, insns) {
         Ok(program) => Ok(program),
-        Err(_) => {
-            Err(TextFault {
-                line: 0,
-                kind: TextFaultKind::Memory,
-            })
-        }
+        Err(_) => Err(OUT_OF_MEMORY),
     }
 }
 

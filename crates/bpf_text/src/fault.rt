@@ -49,6 +49,18 @@ pub struct TextFault {
     pub kind: TextFaultKind,
 }
 
+/// Out of memory.
+pub(crate) const OUT_OF_MEMORY: TextFault = TextFault {
+    line: 0,
+    kind: TextFaultKind::Memory,
+};
+
+/// The text has no slot.
+pub(crate) const NO_SLOT: TextFault = TextFault {
+    line: 0,
+    kind: TextFaultKind::Empty,
+};
+
 impl TextFault {
     ghost use Rattle.bpf_text.specs.inside.Faults.{fault_on};
 
@@ -72,10 +84,7 @@ impl From<AllocError> for TextFault {
     ghost from_gives = { λ _ e. e ≡ memory_fault };
 
     fn from(_e: AllocError) -> TextFault {
-        TextFault {
-            line: 0,
-            kind: TextFaultKind::Memory,
-        }
+        OUT_OF_MEMORY
     }
 }
 
@@ -85,9 +94,6 @@ impl<T: Drop> From<AllocFailed<T>> for TextFault {
     ghost from_gives = { λ _ e. e ≡ memory_fault };
 
     fn from(_e: AllocFailed<T>) -> TextFault {
-        TextFault {
-            line: 0,
-            kind: TextFaultKind::Memory,
-        }
+        OUT_OF_MEMORY
     }
 }

@@ -8,7 +8,7 @@ ghost use Rattle.bpf_text.specs.Fault.{IsFirstFaultyLine, NoneBelow, memory_faul
 ghost use Rattle.bpf_text.specs.declared.fault.TextFault.{TextFault as AnyFault};
 ghost use Rattle.bpf_text.specs.HexText.{hex_text, hex_line, hex_bytes, hex_fault, hex_fault_at, IsHexText, IsHexFault};
 
-use crate::fault::{TextFault, TextFaultKind};
+use crate::fault::{NO_SLOT, TextFault, TextFaultKind};
 use crate::laws;
 use crate::lines::split_lines;
 use hex::FromHex;
@@ -65,10 +65,7 @@ pub fn from_hex_lines(alloc: Global, text: &str) -> Result<Vec<u8>, TextFault>
     let lines = split_lines(alloc, text)?;
     let bytes = slots_on(alloc, &lines)?;
     if bytes.is_empty() {
-        return Err(TextFault {
-            line: 0,
-            kind: TextFaultKind::Empty,
-        });
+        return Err(NO_SLOT);
     }
     Ok(bytes)
 }

@@ -62,8 +62,44 @@ impl Pass {
         Ok(())
     }
 
-    /// Joins all facts that arrive at `slot`, passes them to the watcher, and moves past the instruction there, if it may be run with
-    /// them. If there are none, no run reaches it.
+    /// Passes the current facts to the watcher, and moves past the instruction at `slot`, if it may be run with them. If there
+    /// are no facts, no run reaches it.
+    #[inline(always)]
+    fn go_past<W: Watcher>(
+        &mut self,
+        named: &[Named],
+        insn: &Insn,
+        slot: usize,
+        watcher: &mut W,
+    ) -> Result<(), VerifyFault>
+        requires room { slot < MAX_SLOTS }
+        requires lands { IfSome (jump_target insn.now slot) (λ to. to < length self.old.entries) }
+        ensures ok { OnOk result
+            (MayRun (shapes_named named.now) slot insn.now self.old.falling) }
+        ensures falling { OnOk result (self.new.falling
+            ≡ falling_from (shapes_named named.now) slot insn.now self.old.falling) }
+        ensures sent { OnOk result ((i : ℕ) → Brings (jump_target insn.now slot)
+            (jumping_from (shapes_named named.now) slot insn.now self.old.falling)
+            self.old.entries self.new.entries i) }
+        ensures long { OnOk result (length self.new.entries ≡ length self.old.entries) }
+        ensures told { OnOk result (W.told watcher.new
+            ≡ with_more (W.told watcher.old) (known_at slot self.old.falling)) }
+        ensures refused { IfErr result (λ e. StopsTelling (W.told watcher.old) (W.told watcher.new)
+            slot self.old.falling e
+            ⊎ IsFaultTold (shapes_named named.now) slot insn.now self.old.falling
+            (W.told watcher.old) (W.told watcher.new) e) }
+    {
+        if self.falling.is_known {
+            watcher.before(slot, &self.falling.facts)?;
+            match apply(&mut self.falling.facts, &mut self.taken, named, slot, insn) {
+                Ok(flow) => self.leave(flow, insn, slot)?,
+                Err(reason) => return Err(VerifyFault { slot, reason }),
+            }
+        }
+        Ok(())
+    }
+
+    /// Joins all facts that arrive at `slot`, and moves past the instruction there, if it may be run with them.
     fn step<W: Watcher>(
         &mut self,
         named: &[Named],
@@ -90,14 +126,7 @@ impl Pass {
             (W.told watcher.old) (W.told watcher.new) e) }
     {
         self.entries.join_at(slot, &mut self.falling)?;
-        if self.falling.is_known {
-            watcher.before(slot, &self.falling.facts)?;
-            match apply(&mut self.falling.facts, &mut self.taken, named, slot, insn) {
-                Ok(flow) => self.leave(flow, insn, slot)?,
-                Err(reason) => return Err(VerifyFault { slot, reason }),
-            }
-        }
-        Ok(())
+        self.go_past(named, insn, slot, watcher)
     }
 }
 

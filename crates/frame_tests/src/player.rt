@@ -3,7 +3,7 @@
 use crate::streams::{cut, program, stream};
 use anyhow::{Result, bail};
 use bpf_text::assemble;
-use case_lines::{GROUP, Player, bytes_of, first_word, hex_groups, program_lines};
+use case_lines::{GROUP, LineFault, Player, bytes_of, first_word, hex_groups, program_lines};
 use host::{Host, MOST_TENANTS, ReplyBuf};
 use insn_codec::write_program;
 use std::alloc::{AllocError, Global};
@@ -56,6 +56,25 @@ fn frame(
     Ok(frame)
 }
 
+/// Numbers of four bytes each.
+fn numbers(alloc: Global, words: &str) -> Result<Vec<u8>> {
+    let mut bytes = Vec::new(alloc);
+    for word in words.split_whitespace() {
+        let number: u32 = word.parse()?;
+        bytes.extend_from_slice(&number.to_le_bytes())?;
+    }
+    Ok(bytes)
+}
+
+/// These bytes, and those of hex digits after them.
+fn before(alloc: Global, front: &[u8], digits: &str) -> Result<Vec<u8>, LineFault> {
+    let rest = bytes_of(alloc, digits)?;
+    let mut bytes = Vec::new(alloc);
+    bytes.extend_from_slice(front)?;
+    bytes.extend_from_slice(&rest)?;
+    Ok(bytes)
+}
+
 /// The slots of a program's text.
 fn slots_of(alloc: Global, text: &str) -> Result<Vec<u8>> {
     let lines = program_lines(alloc, text)?;
@@ -90,38 +109,33 @@ impl HostPlayer {
         hex_groups(self.alloc, reply.bytes(), GROUP)
     }
 
+    /// The reply to the frame of hex digits.
+    fn reply_to_digits(&mut self, digits: &str) -> Result<String> {
+        let frame = bytes_of(self.alloc, digits)?;
+        Ok(self.reply(&frame)?)
+    }
+
+    /// The reply to a command: the words of its tenant and of the number at the front of its body, and the bytes after it.
+    fn command(&mut self, tenant: &str, command: u16, number: &str, rest: &[u8]) -> Result<String> {
+        let tenant = tenant.parse()?;
+        let frame = frame(self.alloc, tenant, command, number.parse()?, rest)?;
+        Ok(self.reply(&frame)?)
+    }
+
     /// The reply to a command on a descriptor: a tenant, the descriptor, and the bytes that follow it.
     fn on_descriptor(&mut self, command: u16, rest: &str) -> Result<String> {
         let (tenant, rest) = first_word(rest);
         let (descriptor, digits) = first_word(rest);
         let bytes = bytes_of(self.alloc, digits)?;
-        let frame = frame(
-            self.alloc,
-            tenant.parse()?,
-            command,
-            descriptor.parse()?,
-            &bytes,
-        )?;
-        Ok(self.reply(&frame)?)
+        self.command(tenant, command, descriptor, &bytes)
     }
 
     /// The reply to a new map: a tenant, and the five numbers of the body.
     fn create(&mut self, rest: &str) -> Result<String> {
         let (tenant, rest) = first_word(rest);
         let (kind, sizes) = first_word(rest);
-        let mut bytes = Vec::new(self.alloc);
-        for number in sizes.split_whitespace() {
-            let number: u32 = number.parse()?;
-            bytes.extend_from_slice(&number.to_le_bytes())?;
-        }
-        let frame = frame(
-            self.alloc,
-            tenant.parse()?,
-            MAP_CREATE,
-            kind.parse()?,
-            &bytes,
-        )?;
-        Ok(self.reply(&frame)?)
+        let bytes = numbers(self.alloc, sizes)?;
+        self.command(tenant, MAP_CREATE, kind, &bytes)
     }
 
     /// The reply to an update: a tenant, a descriptor, the flags, and the bytes of the key and the value.
@@ -130,60 +144,52 @@ impl HostPlayer {
         let (descriptor, rest) = first_word(rest);
         let (flags, digits) = first_word(rest);
         let flags: u64 = flags.parse()?;
-        let mut bytes = Vec::new(self.alloc);
-        bytes.extend_from_slice(&flags.to_le_bytes())?;
-        bytes.extend_from_slice(&bytes_of(self.alloc, digits)?)?;
-        let frame = frame(
-            self.alloc,
-            tenant.parse()?,
-            MAP_UPDATE_ELEM,
-            descriptor.parse()?,
-            &bytes,
-        )?;
-        Ok(self.reply(&frame)?)
+        let bytes = before(self.alloc, &flags.to_le_bytes(), digits)?;
+        self.command(tenant, MAP_UPDATE_ELEM, descriptor, &bytes)
     }
 
     /// The reply to a load of these slots.
-    fn load(&mut self, tenant: u16, slots: &[u8]) -> Result<String, AllocError> {
+    fn load_slots(&mut self, tenant: u16, slots: &[u8]) -> Result<String, AllocError> {
         let frame = frame(self.alloc, tenant, PROG_LOAD, SOCKET_FILTER, slots)?;
         self.reply(&frame)
+    }
+
+    /// The reply to a load: a tenant, and the program's text.
+    fn load(&mut self, rest: &str) -> Result<String> {
+        let (tenant, text) = first_word(rest);
+        let tenant = tenant.parse()?;
+        let slots = slots_of(self.alloc, text)?;
+        Ok(self.load_slots(tenant, &slots)?)
+    }
+
+    /// The reply to a load: a tenant, and the bytes of the slots.
+    fn load_digits(&mut self, rest: &str) -> Result<String> {
+        let (tenant, digits) = first_word(rest);
+        let tenant = tenant.parse()?;
+        let slots = bytes_of(self.alloc, digits)?;
+        Ok(self.load_slots(tenant, &slots)?)
     }
 
     /// The reply to a test run: a tenant, a descriptor and a packet.
     fn run(&mut self, rest: &str) -> Result<String> {
         let (tenant, rest) = first_word(rest);
         let (descriptor, packet) = first_word(rest);
-        let mut input = self.words.clone()?;
-        input.extend_from_slice(&bytes_of(self.alloc, packet)?)?;
-        let frame = frame(
-            self.alloc,
-            tenant.parse()?,
-            PROG_TEST_RUN,
-            descriptor.parse()?,
-            &input,
-        )?;
-        Ok(self.reply(&frame)?)
+        let input = before(self.alloc, &self.words, packet)?;
+        self.command(tenant, PROG_TEST_RUN, descriptor, &input)
     }
 
     /// The reply to the frame that a line asks for.
     fn told(&mut self, word: &str, rest: &str) -> Result<String> {
-        let alloc = self.alloc;
         match word {
-            "frame" => Ok(self.reply(&bytes_of(alloc, rest)?)?),
+            "frame" => self.reply_to_digits(rest),
             "create" => self.create(rest),
             "lookup" => self.on_descriptor(MAP_LOOKUP_ELEM, rest),
             "update" => self.update(rest),
             "delete" => self.on_descriptor(MAP_DELETE_ELEM, rest),
             "next" => self.on_descriptor(MAP_GET_NEXT_KEY, rest),
             "close" => self.on_descriptor(CLOSE, rest),
-            "load" => {
-                let (tenant, text) = first_word(rest);
-                Ok(self.load(tenant.parse()?, &slots_of(alloc, text)?)?)
-            }
-            "slots" => {
-                let (tenant, digits) = first_word(rest);
-                Ok(self.load(tenant.parse()?, &bytes_of(alloc, digits)?)?)
-            }
+            "load" => self.load(rest),
+            "slots" => self.load_digits(rest),
             "run" => self.run(rest),
             _ => bail!("unknown line"),
         }
@@ -202,49 +208,52 @@ impl HostPlayer {
         Ok(replies)
     }
 
+    /// The replies of the first round that differ from these, with its number.
+    fn other_round(&mut self, lines: &str, count: u32, first: &str) -> Result<Option<String>> {
+        for number in 1..count {
+            let replies = self.round(lines)?;
+            if replies.as_str() != first {
+                return Ok(Some(format!(in self.alloc; "after {number} rounds: {replies}")?));
+            }
+        }
+        Ok(None)
+    }
+
     /// The replies to lines that are played a number of times, if they are the same each time.
     fn rounds(&mut self, rest: &str) -> Result<String> {
-        let alloc = self.alloc;
         let (count, lines) = first_word(rest);
         let count: u32 = count.parse()?;
         let first = self.round(lines)?;
-        for number in 1..count {
-            let replies = self.round(lines)?;
-            if replies != first {
-                return Ok(format!(in alloc; "after {number} rounds: {replies}")?);
-            }
+        match self.other_round(lines, count, &first)? {
+            Some(answer) => Ok(answer),
+            None => Ok(format!(in self.alloc; "{count} rounds: {first}")?),
         }
-        Ok(format!(in alloc; "{count} rounds: {first}")?)
     }
 
-    /// The answer to a line by its first word; `None` if it has no answer.
-    fn answer(&mut self, word: &str, rest: &str) -> Result<Option<String>> {
-        let alloc = self.alloc;
-        let answer = match word {
-            "new" => {
-                self.host = new_host(alloc, rest)?;
-                return Ok(None);
-            }
-            "words" => {
-                self.words = bytes_of(alloc, rest)?;
-                return Ok(None);
-            }
-            "rounds" => self.rounds(rest)?,
-            "stream" => stream(alloc, rest)?,
-            "cut" => cut(alloc, rest)?,
-            "program" => program(alloc, rest)?,
-            _ => self.told(word, rest)?,
-        };
-        Ok(Some(answer))
+    /// Plays the lines that follow on a new host; the answer is the line itself.
+    fn begin(&mut self, line: &str, tenants: &str) -> Result<String> {
+        self.host = new_host(self.alloc, tenants)?;
+        Ok(line.to_string(self.alloc)?)
+    }
+
+    /// Sets the context words of the runs that follow; the answer is the line itself.
+    fn set_words(&mut self, line: &str, digits: &str) -> Result<String> {
+        self.words = bytes_of(self.alloc, digits)?;
+        Ok(line.to_string(self.alloc)?)
     }
 }
 
 impl Player for HostPlayer {
     fn play(&mut self, line: &str) -> Result<String> {
         let (word, rest) = first_word(line);
-        match self.answer(word, rest)? {
-            Some(answer) => Ok(answer),
-            None => Ok(line.to_string(self.alloc)?),
+        match word {
+            "new" => self.begin(line, rest),
+            "words" => self.set_words(line, rest),
+            "rounds" => self.rounds(rest),
+            "stream" => stream(self.alloc, rest),
+            "cut" => cut(self.alloc, rest),
+            "program" => program(self.alloc, rest),
+            _ => self.told(word, rest),
         }
     }
 }

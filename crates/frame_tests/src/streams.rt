@@ -18,26 +18,39 @@ fn end_of(alloc: Global, end: Result<u32, ServeFault>) -> Result<String, AllocEr
     }
 }
 
+/// How a stream ended, and what was written.
+fn ended(alloc: Global, end: Result<u32, ServeFault>, output: &[u8]) -> Result<String, AllocError> {
+    let end = end_of(alloc, end)?;
+    let output = hex_groups(alloc, output, GROUP)?;
+    format!(in alloc; "{end} [{output}]")
+}
+
 /// How `serve` ends on these bytes, and what it wrote.
-fn served(alloc: Global, mut host: Host, limit: &str, input: &[u8]) -> Result<String> {
+fn served(alloc: Global, host: &mut Host, limit: &str, input: &[u8]) -> Result<String> {
     let limit: u32 = limit.parse()?;
     if limit > MOST_FRAMES {
         bail!("no such limit");
     }
     let mut reader = Counted::new(input);
     let mut writer = Counted::new(Vec::new(alloc));
-    let end = serve(alloc, &mut host, &mut reader, &mut writer, limit);
-    let end = end_of(alloc, end)?;
-    let output = hex_groups(alloc, &writer.into_inner(), GROUP)?;
-    Ok(format!(in alloc; "{end} [{output}]")?)
+    let end = serve(alloc, host, &mut reader, &mut writer, limit);
+    Ok(ended(alloc, end, &writer.into_inner())?)
 }
 
 /// How `serve` ends, for a number of tenants, a limit and a stream's bytes.
 pub fn stream(alloc: Global, line: &str) -> Result<String> {
     let (tenants, rest) = first_word(line);
     let (limit, digits) = first_word(rest);
-    let host = new_host(alloc, tenants)?;
-    served(alloc, host, limit, &bytes_of(alloc, digits)?)
+    let mut host = new_host(alloc, tenants)?;
+    let input = bytes_of(alloc, digits)?;
+    served(alloc, &mut host, limit, &input)
+}
+
+/// The first bytes of those of hex digits.
+fn front(alloc: Global, count: &str, digits: &str) -> Result<Vec<u8>> {
+    let mut input = bytes_of(alloc, digits)?;
+    input.truncate(count.parse()?);
+    Ok(input)
 }
 
 /// How `serve` ends on a stream that is cut short, for a number of bytes and then the stream's bytes.
@@ -45,15 +58,31 @@ pub fn cut(alloc: Global, line: &str) -> Result<String> {
     let (tenants, rest) = first_word(line);
     let (limit, rest) = first_word(rest);
     let (count, digits) = first_word(rest);
-    let host = new_host(alloc, tenants)?;
-    let mut input = bytes_of(alloc, digits)?;
-    input.truncate(count.parse()?);
-    served(alloc, host, limit, &input)
+    let mut host = new_host(alloc, tenants)?;
+    let input = front(alloc, count, digits)?;
+    served(alloc, &mut host, limit, &input)
 }
 
 /// The argument that a word of a line represents.
 fn word_of(word: &str) -> &str {
     if word == "\"\"" { "" } else { word }
+}
+
+/// The status of a run, its output and its fault line.
+fn outcome(alloc: Global, status: u8, output: &[u8], faults: &[u8]) -> Result<String> {
+    let Ok(fault) = str::from_utf8(faults) else {
+        bail!("the fault line is no text");
+    };
+    let output = hex_groups(alloc, output, GROUP)?;
+    Ok(format!(in alloc; "{status} [{output}] {fault:?}")?)
+}
+
+/// A run of the program on these arguments and this input.
+fn ran(alloc: Global, words: &[&str], input: &[u8]) -> Result<String> {
+    let mut output = Vec::new(alloc);
+    let mut faults = Vec::new(alloc);
+    let status = run_words(alloc, words, input, &mut output, &mut faults);
+    outcome(alloc, status, &output, &faults)
 }
 
 /// A run of the program, for its arguments and, after `<`, its input.
@@ -63,12 +92,5 @@ pub fn program(alloc: Global, line: &str) -> Result<String> {
     };
     let words: Vec<&str> = words.split_whitespace().map(word_of).collect(alloc)?;
     let input = bytes_of(alloc, digits)?;
-    let mut output = Vec::new(alloc);
-    let mut faults = Vec::new(alloc);
-    let status = run_words(alloc, &words, input.as_slice(), &mut output, &mut faults);
-    let output = hex_groups(alloc, &output, GROUP)?;
-    let Ok(fault) = String::from_utf8(faults) else {
-        bail!("the fault line is no text");
-    };
-    Ok(format!(in alloc; "{status} [{output}] {fault:?}")?)
+    ran(alloc, &words, &input)
 }

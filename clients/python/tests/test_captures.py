@@ -180,6 +180,7 @@ class Pcapng(CaptureTest):
             section("<")[:8] + bytes(20): "it has a section of no byte order",
             begun + packet + begun[:8] + bytes(20): "it has a section of no byte order",
             section("<") + block(1, b"", "<"): "it has an interface whose block is wrong",
+            section("<") + interface("<", options=b"\x01\x00\x05\x00text"): "it has an interface whose block is wrong",
             section("<") + interface("<", options=struct.pack("<HH", 9, 0)): "it has an interface whose block is wrong",
         }
         for content, fault in wrong.items():

@@ -212,6 +212,8 @@ class PcapngCapture(Capture):
             if code == pcapng.PCAPNG_OPT_ENDOFOPT:
                 break
             at += 4
+            if at + length > len(body):
+                raise struct.error("an option is longer than its block")
             options[code] = body[at : at + length]
             at += length + -length % 4
         return options

@@ -4,8 +4,8 @@ use Rattle.words.specs.declared.operator.AluOp.TheVariants.{Mov}
 use Rattle.words.specs.declared.operator.Condition.TheVariants.{SignedBelow}
 use Rattle.insn_set.specs.declared.insn.Operand.TheVariants.{Imm, Reg}
 use Rattle.words.specs.declared.stack.AccessSize.TheVariants.{Half, Byte}
-use Rattle.insn_set.specs.declared.insn.AtomicSize.TheVariants as atomic_size
-use Rattle.insn_set.specs.declared.insn.AtomicOp.TheVariants as atomic
+use Rattle.insn_set.specs.declared.atomic.AtomicSize.TheVariants as atomic_size
+use Rattle.insn_set.specs.declared.atomic.AtomicOp.TheVariants as atomic
 use Rattle.insn_set.specs.declared.insn.Insn.TheVariants.{Alu, Jump, Exit, Load, Store, Atomic, Const, MapFd, MapValue}
 use Rattle.std.specs.Fmt.{digits}
 use Rattle.hex.proofs.OnLiterals.{hex_on_literals}

@@ -3,7 +3,7 @@
 ghost use Rattle.std.specs.Prelude.{◌≡◌, ◌++◌, [], true, false, Some, IfOk, OnOk};
 ghost use Rattle.std.specs.Fmt.{decimal};
 ghost use Rattle.std.specs.String.{string_bytes};
-ghost use Rattle.text_line.specs.Names.{operator_name, condition_name, order_name, narrow_name, size_name, atomic_name, register_name, sign_name};
+ghost use Rattle.text_line.specs.Names.{operator_name, condition_name, order_name, narrow_name, size_name, register_name, sign_name};
 ghost use Rattle.text_line.specs.Token.{number};
 ghost use Rattle.text_line.specs.Form.{operand_layout, constant as constant_layout};
 ghost use Rattle.text_line.specs.Written.{number_of, source_of, piece, laid_out, printed_insn};
@@ -97,17 +97,6 @@ fn size_name(signed: bool, size: AccessSize) -> &'static str
         (true, AccessSize::Half) => "s16",
         (true, AccessSize::Word) => "s32",
         (true, AccessSize::Double) => "s64",
-    }
-}
-
-fn atomic_name(op: AtomicOp) -> &'static str
-    ensures { result.now ≡ atomic_name op }
-{
-    match op {
-        AtomicOp::Add => "+=",
-        AtomicOp::Or => "|=",
-        AtomicOp::And => "&=",
-        AtomicOp::Xor => "^=",
     }
 }
 
@@ -293,7 +282,7 @@ fn write_atomic(
 {
     let (size, base) = (size_name(false, size.access()), wide_name(dst));
     let (sign, offset) = signed_parts(i32::from(off));
-    let (op, src) = (atomic_name(op), wide_name(src));
+    let (op, src) = (op.symbol(), wide_name(src));
     write!(text, "lock *({size} *)({base} {sign} {offset}) {op} {src}")
 }
 

@@ -11,8 +11,8 @@ use Rattle.words.specs.declared.operator.KeptBits.{KeptBits}
 use Rattle.words.specs.declared.operator.KeptBits.TheVariants as bits
 use Rattle.words.specs.declared.operator.ExtendedBits.{ExtendedBits}
 use Rattle.words.specs.declared.operator.ExtendedBits.TheVariants as narrow
-use Rattle.insn_set.specs.declared.insn.AtomicOp.{AtomicOp}
-use Rattle.insn_set.specs.declared.insn.AtomicOp.TheVariants as atomic
+use Rattle.insn_set.specs.declared.atomic.AtomicOp.{AtomicOp}
+use Rattle.insn_set.specs.declared.atomic.AtomicOp.TheVariants as atomic
 use Rattle.insn_set.specs.declared.insn.Operand.{Operand}
 use Rattle.insn_set.specs.declared.insn.Operand.TheVariants as operand
 use Rattle.insn_set.specs.declared.insn.Insn.{Insn}
@@ -21,13 +21,15 @@ use Rattle.insn_codec.specs.declared.opcode.SourceBit.TheVariants as source
 use Rattle.insn_codec.specs.declared.opcode.AluCode.TheVariants as code
 use Rattle.insn_codec.specs.declared.form.OpcodeForm.TheVariants as form
 use Rattle.insn_set.specs.Sizes.{is_short}
-use Rattle.insn_set.specs.Numbers.{opcode, alu_class, jump_class, alu_number, alu_offset, condition_number, end_opcode, memory_opcode, atomic_number, offset_bits, imm_bits}
+use Rattle.insn_set.specs.Numbers.{opcode, alu_class, jump_class, alu_number, alu_offset, condition_number, end_opcode, memory_opcode, offset_bits, imm_bits}
 use Rattle.words.specs.Operate.{extended_bits, kept_bits}
 use Rattle.insn_codec.specs.inside.Form.{listed, one_operand, offset_listed}
 use Rattle.insn_set.specs.Slot.{slot}
 use Rattle.insn_codec.proofs.Slots.{IsSlot}
 use Rattle.insn_set.specs.Spelling.{first, source_bit, src_field, imm_field, IsOperandUpTo, IsInsnUpTo}
-use Rattle.insn_codec.proofs.Opcodes.{code_of, source_of, form_of, atomic_again}
+use Rattle.insn_set.specs.Atomic.{atomic_number}
+use Rattle.insn_set.specs.AtomicRows.{atomic_number_again}
+use Rattle.insn_codec.proofs.Opcodes.{code_of, source_of, form_of}
 
 -- ---- which the form lists
 
@@ -56,7 +58,7 @@ listed-first (Movsx m) = offset_listed-movsx m.wide m.bits m.listed
 listed-first (End how width dst) = bits_listed width (end_opcode how) dst how
 listed-first (Jump wide condition dst src off) = one_operand-fields src (opcode (condition_number condition) (source_bit src) (jump_class wide)) dst (offset_bits off)
 listed-first (Store s dst src off) = one_operand-fields src (memory_opcode 3 s (2 + source_bit src)) dst (offset_bits off)
-listed-first (Atomic s o dst src off) = ap is_some (atomic_again o)
+listed-first (Atomic s o dst src off) = ap is_some (atomic_number_again o)
 listed-first _ = refl
 
 -- ---- each field of the first slot fits its bits

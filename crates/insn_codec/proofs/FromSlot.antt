@@ -10,8 +10,7 @@ use Rattle.insn_set.specs.declared.slot.SlotFields.{SlotFields}
 use Rattle.words.specs.declared.operator.ExtendedBits.{ExtendedBits}
 use Rattle.words.specs.declared.operator.ExtendedBits.TheVariants as narrow
 use Rattle.insn_set.specs.declared.insn.Insn.TheVariants.{Alu}
-use Rattle.insn_set.specs.declared.insn.AtomicOp.{AtomicOp}
-use Rattle.insn_set.specs.declared.insn.AtomicOp.TheVariants as atomic
+use Rattle.insn_set.specs.declared.atomic.AtomicOp.{AtomicOp}
 use Rattle.insn_codec.specs.declared.opcode.SourceBit.{SourceBit}
 use Rattle.insn_codec.specs.declared.opcode.SourceBit.TheVariants as source
 use Rattle.insn_codec.specs.declared.opcode.AluCode.{AluCode}
@@ -23,10 +22,12 @@ use Rattle.insn_codec.specs.declared.opcode.WideKind.TheVariants.{Number, Map, M
 use Rattle.insn_codec.specs.declared.form.OpcodeForm.{OpcodeForm}
 use Rattle.insn_codec.specs.declared.form.OpcodeForm.TheVariants as form
 use Rattle.insn_set.specs.Sizes.{is_short}
-use Rattle.insn_set.specs.Numbers.{opcode, alu_class, alu_number, alu_offset, atomic_number, offset_bits, imm_bits}
+use Rattle.insn_set.specs.Numbers.{opcode, alu_class, alu_number, alu_offset, offset_bits, imm_bits}
+use Rattle.insn_set.specs.Atomic.{atomic_number}
+use Rattle.insn_set.specs.AtomicRows.{atomic_by_number, atomic_number_is}
 use Rattle.words.specs.Operate.{extended_bits, kept_bits}
 use Rattle.insn_codec.specs.inside.Opcodes.{code_number, load_opcode, opcode_of}
-use Rattle.insn_codec.specs.inside.Form.{listed, one_operand, offset_listed, wide_at, atomic_at}
+use Rattle.insn_codec.specs.inside.Form.{listed, one_operand, offset_listed, wide_at}
 use Rattle.insn_set.specs.Slot.{slot}
 use Rattle.insn_set.specs.Spelling.{first, source_bit, src_field, imm_field, IsOperandUpTo, IsInsnUpTo}
 use Rattle.insn_codec.proofs.ReadBack.{op_at, narrow_at, bits_at, movsx_at, load_insn, atomic_insn, wide_insn, insn_at}
@@ -133,17 +134,9 @@ load_up_to top load.Word dst src offset d s h = (d, s, half_fits offset h)
 load_up_to top _ dst src offset d s h = (d, s, half_fits offset h)
 
 -- the operation of an immediate
-atomic_imm : (imm : ℕ) → is_some (atomic_at imm) ≡ true → (imm ≡ 0x00) ⊎ ((imm ≡ 0x40) ⊎ ((imm ≡ 0x50) ⊎ (imm ≡ 0xa0)))
-atomic_imm imm h = grind (arith, nat_tests)
-
-atomic_of : (imm : ℕ) → is_some (atomic_at imm) ≡ true → (o : AtomicOp) × (atomic_at imm ≡ Some o) × (imm ≡ atomic_number o)
-atomic_of imm h =
-    elim (atomic_imm imm h) [
-      | inl e ↦ (atomic.Add, rw e refl, e)
-      | inr (inl e) ↦ (atomic.Or, rw e refl, e)
-      | inr (inr (inl e)) ↦ (atomic.And, rw e refl, e)
-      | inr (inr (inr e)) ↦ (atomic.Xor, rw e refl, e)
-    ]
+pub atomic_of : (imm : ℕ) (o : Option AtomicOp) → atomic_by_number imm ≡ o → is_some o ≡ true → (op : AtomicOp) × (atomic_by_number imm ≡ Some op) × (imm ≡ atomic_number op)
+atomic_of imm None e h = absurd cc
+atomic_of imm (Some op) e h = (op, e, sym (atomic_number_is imm op e))
 
 -- the source field of a wide load
 wide_src : (src : ℕ) → is_some (wide_at src) ≡ true → (src ≡ 0) ⊎ ((src ≡ 1) ⊎ (src ≡ 2))
@@ -194,7 +187,7 @@ first-insn_at (form.Load kind) s h = first-load_insn kind s.dst s.src s.offset h
 first-insn_at (form.Store size z) s h =
     slot_same s (rw (source_bit-operand_at z s) h.opcode) refl (src_field-operand_at z s h.listed) (offset_same s h.offset) (imm_field-operand_at z s h.listed h.imm)
 first-insn_at (form.Atomic size) s h =
-    let o = atomic_of s.imm h.listed in
+    let o = atomic_of s.imm (atomic_by_number s.imm) refl h.listed in
     ap (λ k. first (atomic_insn size k s)) o.1 ∙ slot_same s h.opcode refl refl (offset_same s h.offset) o.2
 first-insn_at form.Wide s h = first-wide h
 
@@ -212,6 +205,6 @@ insn_at_up_to top form.Exit s h dst src = tt
 insn_at_up_to top (form.Load kind) s h dst src = load_up_to top kind s.dst s.src s.offset dst src h.offset
 insn_at_up_to top (form.Store size z) s h dst src = (dst, operand_up_to top z s src h.imm, half_fits s.offset h.offset)
 insn_at_up_to top (form.Atomic size) s h dst src =
-    let o = atomic_of s.imm h.listed in
+    let o = atomic_of s.imm (atomic_by_number s.imm) refl h.listed in
     rw o.1 (dst, src, half_fits s.offset h.offset)
 insn_at_up_to top form.Wide s h dst src = wide_up_to top (wide_at s.src) s dst h.imm

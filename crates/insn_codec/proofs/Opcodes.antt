@@ -7,9 +7,7 @@ use Rattle.words.specs.declared.operator.ByteOrder.TheVariants.{Little}
 use Rattle.words.specs.declared.operator.Condition.TheVariants as conditions
 use Rattle.words.specs.declared.stack.AccessSize.{AccessSize}
 use Rattle.words.specs.declared.stack.AccessSize.TheVariants as size
-use Rattle.insn_set.specs.declared.insn.AtomicSize.TheVariants as atomic_size
-use Rattle.insn_set.specs.declared.insn.AtomicOp.{AtomicOp}
-use Rattle.insn_set.specs.declared.insn.AtomicOp.TheVariants as atomic
+use Rattle.insn_set.specs.declared.atomic.AtomicSize.TheVariants as atomic_size
 use Rattle.insn_set.specs.declared.insn.Operand.{Operand}
 use Rattle.insn_set.specs.declared.insn.Operand.TheVariants as operand
 use Rattle.insn_set.specs.declared.insn.Insn.{Insn}
@@ -23,10 +21,10 @@ use Rattle.insn_codec.specs.declared.opcode.LoadKind.TheVariants as load
 use Rattle.insn_codec.specs.declared.form.OpcodeForm.{OpcodeForm}
 use Rattle.insn_codec.specs.declared.form.OpcodeForm.TheVariants as form
 use Rattle.words.specs.Stack.{is_double}
-use Rattle.insn_set.specs.Numbers.{alu_number, load_mode, memory_opcode, atomic_number}
+use Rattle.insn_set.specs.Numbers.{alu_number, load_mode, memory_opcode}
 use Rattle.insn_codec.specs.Spelled.{source_number, is_opcode}
 use Rattle.insn_codec.specs.inside.Opcodes.{code_number, load_opcode, opcode_of}
-use Rattle.insn_codec.specs.inside.Form.{form_at, atomic_at}
+use Rattle.insn_codec.specs.inside.Form.{form_at}
 use Rattle.insn_set.specs.Spelling.{first, source_bit}
 
 -- ---- the form of an instruction
@@ -101,12 +99,6 @@ form_at-opcode_of f = (known f).0
 
 pub is_opcode-opcode_of : (f : OpcodeForm) → is_opcode (opcode_of f) ≡ true
 is_opcode-opcode_of f = (known f).1
-
--- ---- the operation of an immediate
-
-pub atomic_again : (o : AtomicOp) → atomic_at (atomic_number o) ≡ Some o
-atomic_again atomic.Add = refl
-atomic_again _ = refl
 
 -- ---- an instruction's first slot is of its form
 

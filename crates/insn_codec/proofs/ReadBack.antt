@@ -13,8 +13,8 @@ use Rattle.words.specs.declared.operator.ExtendedBits.{ExtendedBits}
 use Rattle.words.specs.declared.operator.ExtendedBits.TheVariants as narrow
 use Rattle.words.specs.declared.stack.AccessSize.{AccessSize}
 use Rattle.words.specs.declared.stack.AccessSize.TheVariants as size
-use Rattle.insn_set.specs.declared.insn.AtomicSize.{AtomicSize}
-use Rattle.insn_set.specs.declared.insn.AtomicOp.{AtomicOp}
+use Rattle.insn_set.specs.declared.atomic.AtomicSize.{AtomicSize}
+use Rattle.insn_set.specs.declared.atomic.AtomicOp.{AtomicOp}
 use Rattle.insn_set.specs.declared.insn.Operand.{Operand}
 use Rattle.insn_set.specs.declared.insn.Operand.TheVariants as operand
 use Rattle.insn_set.specs.declared.insn.Insn.{Insn}
@@ -30,12 +30,13 @@ use Rattle.words.specs.Stack.{is_double}
 use Rattle.insn_codec.specs.Spelled.{operand_at}
 use Rattle.insn_set.specs.Numbers.{opcode, alu_class, jump_class, alu_number, alu_offset, condition_number, memory_opcode, offset_bits, imm_bits}
 use Rattle.words.specs.Operate.{extended_bits, kept_bits}
-use Rattle.insn_codec.specs.inside.Form.{wide_at, atomic_at}
+use Rattle.insn_set.specs.AtomicRows.{atomic_by_number, atomic_number_again}
+use Rattle.insn_codec.specs.inside.Form.{wide_at}
 use Rattle.insn_set.specs.Slot.{slot}
 use Rattle.insn_set.specs.Spelling.{first, source_bit, src_field, imm_field, IsOperand, IsInsn}
 use Rattle.insn_codec.specs.declared.opcode.WideKind.{WideKind}
 use Rattle.insn_codec.specs.declared.opcode.WideKind.TheVariants as wide_kind
-use Rattle.insn_codec.proofs.Opcodes.{code_of, source_of, kind_of, form_of, atomic_again}
+use Rattle.insn_codec.proofs.Opcodes.{code_of, source_of, kind_of, form_of}
 
 -- ---- reading back
 
@@ -96,7 +97,7 @@ insn_at form.Call s next = Call (cast_signed w32 s.imm)
 insn_at form.Exit s next = Exit
 insn_at (form.Load kind) s next = load_insn kind s.dst s.src (cast_signed w16 s.offset)
 insn_at (form.Store z y) s next = Store z s.dst (operand_at y s) (cast_signed w16 s.offset)
-insn_at (form.Atomic z) s next = atomic_insn z (atomic_at s.imm) s
+insn_at (form.Atomic z) s next = atomic_insn z (atomic_by_number s.imm) s
 insn_at form.Wide s next = wide_insn (wide_at s.src) s next
 
 abbrev pub next : Insn → ℕ
@@ -159,7 +160,7 @@ insn_at-first (Call id) h = ap Call (imm_again id h)
 insn_at-first Exit h = refl
 insn_at-first (Load l) h = rw (offset_again l.off h.2) (load_again l.size l.signed l.dst l.src l.off l.listed)
 insn_at-first (Store s dst src off) h = rw (operand_again src (memory_opcode 3 s (2 + source_bit src)) dst (offset_bits off) h.1, offset_again off h.2) refl
-insn_at-first (Atomic z o dst src off) h = rw (atomic_again o, offset_again off h.2) refl
+insn_at-first (Atomic z o dst src off) h = rw (atomic_number_again o, offset_again off h.2) refl
 insn_at-first (Const dst value) h = ap (Const dst) (omega arith)
 insn_at-first (MapFd dst fd) h = ap (MapFd dst) (imm_again fd h.1)
 insn_at-first (MapValue dst fd off) h = ap (λ (z : ℤ). MapValue dst z off) (imm_again fd h.1)

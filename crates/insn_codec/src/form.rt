@@ -2,7 +2,7 @@
 
 ghost use Rattle.std.specs.Prelude.{◌≡◌, ◌≢◌, ◌+◌, ◌%◌, ◌≤◌, [], ◌∷◌, IfSome, IsTrue};
 
-use crate::opcode::{AluCode, LoadKind, SourceBit, WideKind, atomic_at, condition_at, size_at};
+use crate::opcode::{AluCode, LoadKind, SourceBit, WideKind, condition_at, size_at};
 use insn_set::{AtomicOp, AtomicSize, Insn, Load, Movsx, Reg, SlotFields};
 use words::{AccessSize, ByteOrder, Condition, ExtendedBits, KeptBits};
 
@@ -193,7 +193,7 @@ impl OpcodeForm {
             OpcodeForm::Call => slot.dst == 0 && slot.src == 0 && slot.offset == 0,
             OpcodeForm::Exit => slot.dst == 0 && slot.src == 0 && slot.offset == 0 && slot.imm == 0,
             OpcodeForm::Load { kind: _ } => slot.imm == 0,
-            OpcodeForm::Atomic { size: _ } => atomic_at(slot.imm).is_some(),
+            OpcodeForm::Atomic { size: _ } => AtomicOp::from_number(slot.imm).is_some(),
             OpcodeForm::Wide => slot.offset == 0 && WideKind::of(slot.src).is_some(),
         }
     }
@@ -284,7 +284,7 @@ impl OpcodeForm {
                 };
             }
             OpcodeForm::Atomic { size } => {
-                let Some(op) = atomic_at(slot.imm) else {
+                let Some(op) = AtomicOp::from_number(slot.imm) else {
                     unreachable!();
                 };
                 *entry = Insn::Atomic {

@@ -1,10 +1,10 @@
 //! The parts of an opcode, and the tables of their codes.
 
 ghost use Rattle.std.specs.Prelude.{◌≡◌, ◌≢◌, ◌<◌, ◌≤◌, IfSome, IsTrue, not, ◌&&◌, false};
-ghost use Rattle.insn_codec.specs.inside.Form.{condition_at, size_at, atomic_at};
-ghost use Rattle.insn_set.specs.Numbers.{condition_number, size_number, atomic_number};
+ghost use Rattle.insn_codec.specs.inside.Form.{condition_at, size_at};
+ghost use Rattle.insn_set.specs.Numbers.{condition_number, size_number};
 
-use insn_set::{AtomicOp, Insn, Operand, Reg, SlotFields};
+use insn_set::{Insn, Operand, Reg, SlotFields};
 use words::{AccessSize, AluOp, Condition};
 
 /// Which of the two operand fields is used: the source bit (RFC 9669, section 4).
@@ -202,20 +202,6 @@ pub fn size_at(code: u8) -> AccessSize
         1 => AccessSize::Half,
         2 => AccessSize::Byte,
         _ => AccessSize::Double,
-    }
-}
-
-/// The atomic operation with this immediate, if there is one (RFC 9669, section 5.3).
-pub fn atomic_at(imm: u32) -> Option<AtomicOp>
-    ensures value { result ≡ atomic_at imm }
-    ensures number { IfSome result (λ op. atomic_number op ≡ imm) }
-{
-    match imm {
-        0x00 => Some(AtomicOp::Add),
-        0x40 => Some(AtomicOp::Or),
-        0x50 => Some(AtomicOp::And),
-        0xa0 => Some(AtomicOp::Xor),
-        _ => None,
     }
 }
 

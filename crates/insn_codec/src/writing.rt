@@ -4,9 +4,9 @@ ghost use Rattle.std.specs.Prelude.{◌≡◌, ◌+◌, ◌*◌, ◌≤◌, ◌<
 ghost use Rattle.std.specs.Option.{option_to_list};
 ghost use Rattle.insn_set.specs.Slot.{slot as slot_from};
 ghost use Rattle.insn_set.specs.Spelling.{first as first_slot, second as second_slot, spelling, source_bit, src_field, imm_field};
-ghost use Rattle.insn_set.specs.Numbers.{opcode as opcode_from, memory_opcode, alu_class, jump_class, alu_number, alu_offset, condition_number, size_number, end_opcode, atomic_number};
+ghost use Rattle.insn_set.specs.Numbers.{opcode as opcode_from, memory_opcode, alu_class, jump_class, alu_number, alu_offset, condition_number, size_number, end_opcode};
 
-use insn_set::{AtomicOp, Insn, Operand, SlotFields};
+use insn_set::{Insn, Operand, SlotFields};
 use words::{AccessSize, AluOp, ByteOrder, Condition};
 
 /// The code of an operator (RFC 9669, section 4.1).
@@ -81,18 +81,6 @@ fn end_opcode(how: ByteOrder) -> u8
         ByteOrder::Little => 0xd4,
         ByteOrder::Big => 0xdc,
         ByteOrder::Swap => 0xd7,
-    }
-}
-
-/// The immediate of an atomic operation (RFC 9669, section 5.3).
-fn atomic_number(op: AtomicOp) -> u32
-    ensures { result ≡ atomic_number op }
-{
-    match op {
-        AtomicOp::Add => 0x00,
-        AtomicOp::Or => 0x40,
-        AtomicOp::And => 0x50,
-        AtomicOp::Xor => 0xa0,
     }
 }
 
@@ -255,7 +243,7 @@ fn first(insn: &Insn) -> SlotFields
                 dst.number(),
                 src.number(),
                 off.cast_unsigned(),
-                atomic_number(op),
+                op.number(),
             )
         }
         Insn::Const { dst, value } => {

@@ -1,15 +1,30 @@
--- The operator of an atomic operation, and the number of bytes that it changes: RFC 9669, section 5.3.
-use Rattle.std.specs.Prelude.{Bool}
+-- The number, the symbol and the operator of an atomic operation, and the number of bytes that it changes: RFC 9669, section 5.3. The
+-- symbols are this project's own.
+use Rattle.std.specs.Prelude.{ℕ, Bool, List, codes}
 use Rattle.words.specs.declared.operator.AluOp.TheVariants.{Add, Or, And, Xor}
 use Rattle.words.specs.declared.operator.Operator.{Operator}
 use Rattle.words.specs.declared.operator.Operator.TheVariants.{Binary}
 use Rattle.words.specs.declared.stack.AccessSize.{AccessSize}
 use Rattle.words.specs.declared.stack.AccessSize.TheVariants.{Word, Double}
 use Rattle.words.specs.Stack.{is_double}
-use Rattle.insn_set.specs.declared.insn.AtomicSize.{AtomicSize}
-use Rattle.insn_set.specs.declared.insn.AtomicSize.TheVariants as size
-use Rattle.insn_set.specs.declared.insn.AtomicOp.{AtomicOp}
-use Rattle.insn_set.specs.declared.insn.AtomicOp.TheVariants as atomic
+use Rattle.insn_set.specs.declared.atomic.AtomicSize.{AtomicSize}
+use Rattle.insn_set.specs.declared.atomic.AtomicSize.TheVariants as size
+use Rattle.insn_set.specs.declared.atomic.AtomicOp.{AtomicOp}
+use Rattle.insn_set.specs.declared.atomic.AtomicOp.TheVariants as atomic
+
+-- its immediate: its arithmetic code, shifted as in an opcode
+abbrev pub atomic_number : AtomicOp → ℕ
+atomic_number atomic.Add = 0x00
+atomic_number atomic.Or = 0x40
+atomic_number atomic.And = 0x50
+atomic_number atomic.Xor = 0xa0
+
+-- its symbol in a line of text, that of the operator on registers
+abbrev pub atomic_symbol : AtomicOp → List ℕ
+atomic_symbol atomic.Add = codes "+="
+atomic_symbol atomic.Or = codes "|="
+atomic_symbol atomic.And = codes "&="
+atomic_symbol atomic.Xor = codes "^="
 
 abbrev pub atomic_operator : AtomicOp → Operator
 atomic_operator atomic.Add = Binary Add

@@ -1,5 +1,8 @@
 pub mod Sizes
 pub mod Atomic
+pub mod Table
+pub mod TableLaws
+pub mod AtomicRows
 pub mod Numbers
 pub mod Slot
 pub mod Spelling

@@ -10,8 +10,6 @@ use Rattle.words.specs.declared.operator.Condition.{Condition}
 use Rattle.words.specs.declared.operator.Condition.TheVariants.{Equal, Above, AboveOrEqual, CommonBit, NotEqual, SignedAbove, SignedAboveOrEqual, Below, BelowOrEqual, SignedBelow, SignedBelowOrEqual}
 use Rattle.words.specs.declared.stack.AccessSize.{AccessSize}
 use Rattle.words.specs.declared.stack.AccessSize.TheVariants as size
-use Rattle.insn_set.specs.declared.insn.AtomicOp.{AtomicOp}
-use Rattle.insn_set.specs.declared.insn.AtomicOp.TheVariants as atomic
 
 -- arithmetic and jumps, section 4: four bits of code, one of source, three of class
 abbrev pub opcode : ℕ → ℕ → ℕ → ℕ
@@ -85,13 +83,6 @@ load_mode true = 4
 -- loads and stores, section 5: three bits of mode, two of size, three of class
 abbrev pub memory_opcode : ℕ → AccessSize → ℕ → ℕ
 memory_opcode mode s class = 32 * mode + 8 * size_number s + class
-
--- section 5.3: the immediate of an atomic operation is its arithmetic code, shifted as in an opcode
-abbrev pub atomic_number : AtomicOp → ℕ
-atomic_number atomic.Add = 0x00
-atomic_number atomic.Or = 0x40
-atomic_number atomic.And = 0x50
-atomic_number atomic.Xor = 0xa0
 
 -- section 3.1: the bits of a signed field
 abbrev pub offset_bits : ℤ → ℕ

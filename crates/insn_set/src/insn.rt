@@ -7,6 +7,7 @@ ghost use Rattle.std.specs.Prelude.{◌≡◌, ◌≤◌, ◌<◌, ◌^◌, ℕ,
 ghost use Rattle.words.specs.Stack.{is_double};
 ghost use Rattle.insn_set.specs.Sizes.{is_short};
 
+use crate::atomic::{AtomicOp, AtomicSize};
 use std::marker::Model;
 use words::{AccessSize, AluOp, ByteOrder, Condition, ExtendedBits, KeptBits};
 
@@ -52,22 +53,6 @@ pub enum Operand {
     Imm(i32),
     /// The value of the source register.
     Reg(Reg),
-}
-
-/// The number of bytes that an atomic operation changes (RFC 9669, section 5.3): a word has four.
-#[derive(Clone, Copy, Debug, PartialEq, Eq)]
-pub enum AtomicSize {
-    Word,
-    Double,
-}
-
-/// The effect of an atomic operation on the bytes in memory, without FETCH (RFC 9669, section 5.3).
-#[derive(Clone, Copy, Debug, PartialEq, Eq)]
-pub enum AtomicOp {
-    Add,
-    Or,
-    And,
-    Xor,
 }
 
 /// A move with sign extension (RFC 9669, section 4.1). Only the wide one may start from 32 bits.
@@ -258,32 +243,6 @@ fn offset_in_range(offset: u32)
     ensures { offset < 2 ^ 32 }
 {
     let _ = offset;
-}
-
-impl AtomicSize {
-    ghost use Rattle.insn_set.specs.Atomic.{access_size, is_wide_atomic};
-
-    /// The access size of its load and of its store.
-    #[inline(always)]
-    pub fn access(self) -> AccessSize
-        ensures { result ≡ access_size self }
-    {
-        match self {
-            AtomicSize::Word => AccessSize::Word,
-            AtomicSize::Double => AccessSize::Double,
-        }
-    }
-
-    /// Whether it works on 64 bits.
-    #[inline(always)]
-    pub fn is_wide(self) -> bool
-        ensures { result ≡ is_wide_atomic self }
-    {
-        match self {
-            AtomicSize::Word => false,
-            AtomicSize::Double => true,
-        }
-    }
 }
 
 impl Operand {

@@ -4,12 +4,15 @@
 //! A table has a row for each instruction, [`Profile`], with what no register value affects. `insn_codec` reads and writes the slots.
 #![tactic(auto)]
 
+mod atomic;
 mod insn;
 mod known_answers;
 mod profile;
 mod slot;
+mod table;
 
-pub use insn::{AtomicOp, AtomicSize, Insn, Load, Movsx, Operand, Reg};
+pub use atomic::{AtomicOp, AtomicSize};
+pub use insn::{Insn, Load, Movsx, Operand, Reg};
 pub use profile::{Profile, Reference, Successors};
 pub use slot::{RawSlot, SlotFields};
 pub use words::{AccessSize, AluOp, ByteOrder, Condition, ExtendedBits, KeptBits};

@@ -10,10 +10,11 @@ use Rattle.words.specs.declared.operator.AluOp.{AluOp}
 use Rattle.words.specs.declared.operator.AluOp.TheVariants.{Mov}
 use Rattle.words.specs.declared.stack.AccessSize.{AccessSize}
 use Rattle.words.specs.declared.stack.AccessSize.TheVariants as size
-use Rattle.insn_set.specs.declared.insn.AtomicSize.{AtomicSize}
-use Rattle.insn_set.specs.declared.insn.AtomicSize.TheVariants as atomic_size
+use Rattle.insn_set.specs.declared.atomic.AtomicSize.{AtomicSize}
+use Rattle.insn_set.specs.declared.atomic.AtomicSize.TheVariants as atomic_size
 use Rattle.insn_set.specs.Sizes.{is_short}
-use Rattle.insn_set.specs.Atomic.{access_size}
+use Rattle.insn_set.specs.Atomic.{access_size, atomic_symbol}
+use Rattle.insn_set.specs.AtomicRows.{atomic_by_symbol, atomic_symbol_is}
 use Rattle.words.specs.Stack.{is_double}
 use Rattle.text_line.specs.declared.form.Number.{Number}
 use Rattle.text_line.specs.declared.form.SourceOperand.{SourceOperand}
@@ -22,10 +23,10 @@ use Rattle.text_line.specs.declared.form.Form.{Form}
 use Rattle.text_line.specs.declared.form.Form.TheVariants as form
 use Rattle.text_line.specs.declared.form.Address.{Address}
 use Rattle.text_line.specs.Token.{Token, name, number, symbol}
-use Rattle.text_line.specs.Names.{operator_name, condition_name, order_name, narrow_name, size_name, atomic_name, register_name, sign_name}
+use Rattle.text_line.specs.Names.{operator_name, condition_name, order_name, narrow_name, size_name, register_name, sign_name}
 use Rattle.text_line.specs.Form.{TokenLayout, layout, sign, word, space, tokens_of, reg, to_label, constant, operand_layout, destination, address, IsForm, IsSource, names_label}
 use Rattle.text_line.specs.Line.{Line, blank, label, spelled, IsWellFormed, NoLabel}
-use Rattle.text_line.specs.inside.Reading.{named, operators, conditions, orders, narrows, sizes, atomic_operators, registers, leading_symbol, leading_name, leading_number, after_symbol, after_word, leading_register, number_from, leading_constant, leading_signed_number, leading_operand, parsed_destination, leading_address, atomic_size_of, at_end, match_option, parsed_jump, parsed_load, parsed_store, parsed_atomic, parsed_movsx, parsed_neg, parsed_end, parsed_constant_load, parsed_map_fd, parsed_map_value, parsed_wide_move, parsed_special_move, is_move, parsed_alu, parsed_assignment, parsed_assigned, parsed_goto, parsed_gotol, parsed_call, without_label, parsed_form, parsed_label, line_of, bool_eq, ◌>>=◌}
+use Rattle.text_line.specs.inside.Reading.{named, operators, conditions, orders, narrows, sizes, registers, leading_symbol, leading_name, leading_number, after_symbol, after_word, leading_register, number_from, leading_constant, leading_signed_number, leading_operand, parsed_destination, leading_address, atomic_size_of, at_end, match_option, parsed_jump, parsed_load, parsed_store, parsed_atomic, parsed_movsx, parsed_neg, parsed_end, parsed_constant_load, parsed_map_fd, parsed_map_value, parsed_wide_move, parsed_special_move, is_move, parsed_alu, parsed_assignment, parsed_assigned, parsed_goto, parsed_gotol, parsed_call, without_label, parsed_form, parsed_label, line_of, bool_eq, ◌>>=◌}
 
 -- ---- options and tests, where a value comes out
 
@@ -271,12 +272,13 @@ atomic_is ts f e =
     option_and_then_some _ (leading_address ts) f e (λ a found e.
     option_and_then_some _ (atomic_size_of a.0.signed a.0.size) f e (λ z is_z e.
     symbol_then a.1 _ f e (λ s b is_a e.
-    named_then atomic_name atomic_operators s _ f refl e (λ op is_op e.
+    option_and_then_some _ (atomic_by_symbol s) f e (λ op found_op e.
+    let is_op = atomic_symbol_is s op found_op in
     option_and_then_some _ (leading_register true b) f e (λ src read e.
     let (end, same) = end_is src.1 _ f e in
     let (is, bound, _) = address_read ts a found in
     let (is_src, src_bound) = register_read true b src read in
-    let rest : TokenLayout = space ∷ sign (atomic_name op) ∷ space ∷ reg true src.0 ∷ [] in
+    let rest : TokenLayout = space ∷ sign (atomic_symbol op) ∷ space ∷ reg true src.0 ∷ [] in
     let after : tokens_of rest ≡ a.1 = cc in
     let size = ap (λ n. tokens_of (address n a.0.base a.0.offset rest)) (atomic_size_is a.0.signed a.0.size z is_z) in
     subst (Spelled (name (codes "lock") ∷ ts)) same (ap (λ l. name (codes "lock") ∷ l) (is rest after ∙ size), (bound, src_bound)))))))

@@ -13,16 +13,16 @@ use Rattle.words.specs.declared.operator.ExtendedBits.{ExtendedBits}
 use Rattle.words.specs.declared.operator.ExtendedBits.TheVariants as narrow
 use Rattle.words.specs.declared.stack.AccessSize.{AccessSize}
 use Rattle.words.specs.declared.stack.AccessSize.TheVariants as size
-use Rattle.insn_set.specs.declared.insn.AtomicOp.{AtomicOp}
-use Rattle.insn_set.specs.declared.insn.AtomicOp.TheVariants as atomic
+use Rattle.insn_set.specs.declared.atomic.AtomicOp.{AtomicOp}
+use Rattle.insn_set.specs.declared.atomic.AtomicOp.TheVariants as atomic
 use Rattle.insn_set.specs.declared.insn.Operand.{Operand}
 use Rattle.insn_set.specs.declared.insn.Operand.TheVariants.{Imm, Reg}
 use Rattle.insn_set.specs.declared.insn.Insn.{Insn}
 use Rattle.insn_set.specs.declared.insn.Insn.TheVariants.{Alu, Movsx, Neg, End, Ja, Jal, Jump, Call, Exit, Load, Store, Atomic, Const, MapFd, MapValue}
 use Rattle.insn_set.specs.Spelling.{IsInsn, IsOperand}
-use Rattle.insn_set.specs.Atomic.{access_size}
+use Rattle.insn_set.specs.Atomic.{access_size, atomic_symbol}
 use Rattle.text_line.specs.declared.form.JumpTarget.TheVariants as target
-use Rattle.text_line.specs.Names.{operator_name, condition_name, order_name, narrow_name, size_name, atomic_name, register_name, sign_name}
+use Rattle.text_line.specs.Names.{operator_name, condition_name, order_name, narrow_name, size_name, register_name, sign_name}
 use Rattle.text_line.specs.Form.{TokenLayout, layout, sign, word, reg, space, constant, operand_layout, destination, address, IsSource}
 use Rattle.text_line.specs.Line.{code, IsWellFormed}
 use Rattle.text_line.specs.Token.{number}
@@ -42,7 +42,7 @@ condition_sign : (c : Condition) → is_sign (condition_name c) ≡ true
 condition_sign Equal = refl
 condition_sign _ = refl
 
-atomic_sign : (op : AtomicOp) → is_sign (atomic_name op) ≡ true
+atomic_sign : (op : AtomicOp) → is_sign (atomic_symbol op) ≡ true
 atomic_sign atomic.Add = refl
 atomic_sign _ = refl
 
@@ -132,7 +132,7 @@ printed_apart (Call id) h = (refl, refl, constant_apart id [] (fits_32 id h) (re
 printed_apart Exit h = (refl, refl, tt)
 printed_apart (Load l) h = (register_word true l.dst h.0, refl, (refl, refl, address_apart l.signed l.size l.src l.off [] h.1 (fits_16 l.off h.2) refl tt))
 printed_apart (Store s dst src off) h = address_apart false s dst off (space ∷ sign (codes "=") ∷ space ∷ operand_layout true (source_of src) []) h.0 (fits_16 off h.2) refl (refl, refl, operand_apart true src [] h.1 (refl, tt))
-printed_apart (Atomic size op dst src off) h = (refl, refl, address_apart false (access_size size) dst off (space ∷ sign (atomic_name op) ∷ space ∷ reg true src ∷ []) h.0 (fits_16 off h.2) refl (atomic_sign op, refl, register_apart true src [] h.1 (refl, tt)))
+printed_apart (Atomic size op dst src off) h = (refl, refl, address_apart false (access_size size) dst off (space ∷ sign (atomic_symbol op) ∷ space ∷ reg true src ∷ []) h.0 (fits_16 off h.2) refl (atomic_sign op, refl, register_apart true src [] h.1 (refl, tt)))
 printed_apart (Const dst value) h = (register_word true dst h.0, refl, (refl, refl, (h.1, refl, (refl, refl, tt))))
 printed_apart (MapFd dst fd) h = (register_word true dst h.0, refl, (refl, refl, (refl, refl, constant_apart fd (space ∷ word (codes "ll") ∷ []) (fits_32 fd h.1) (refl, (refl, refl, tt)))))
 printed_apart (MapValue dst fd off) h =

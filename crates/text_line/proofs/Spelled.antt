@@ -15,12 +15,12 @@ use Rattle.words.specs.declared.operator.ExtendedBits.{ExtendedBits}
 use Rattle.words.specs.declared.operator.ExtendedBits.TheVariants as narrow
 use Rattle.words.specs.declared.stack.AccessSize.{AccessSize}
 use Rattle.words.specs.declared.stack.AccessSize.TheVariants as size
-use Rattle.insn_set.specs.declared.insn.AtomicSize.{AtomicSize}
-use Rattle.insn_set.specs.declared.insn.AtomicSize.TheVariants as atomic_size
-use Rattle.insn_set.specs.declared.insn.AtomicOp.{AtomicOp}
-use Rattle.insn_set.specs.declared.insn.AtomicOp.TheVariants as atomic
+use Rattle.insn_set.specs.declared.atomic.AtomicSize.{AtomicSize}
+use Rattle.insn_set.specs.declared.atomic.AtomicSize.TheVariants as atomic_size
+use Rattle.insn_set.specs.declared.atomic.AtomicOp.{AtomicOp}
 use Rattle.insn_set.specs.Sizes.{is_short}
-use Rattle.insn_set.specs.Atomic.{access_size}
+use Rattle.insn_set.specs.Atomic.{access_size, atomic_symbol}
+use Rattle.insn_set.specs.AtomicRows.{atomic_symbol_again}
 use Rattle.words.specs.Stack.{is_double}
 use Rattle.text_line.specs.declared.form.Number.{Number}
 use Rattle.text_line.specs.declared.form.SourceOperand.{SourceOperand}
@@ -30,10 +30,10 @@ use Rattle.text_line.specs.declared.form.JumpTarget.TheVariants as target
 use Rattle.text_line.specs.declared.form.Form.{Form}
 use Rattle.text_line.specs.declared.form.Form.TheVariants as form
 use Rattle.text_line.specs.Token.{Token, name, number, symbol}
-use Rattle.text_line.specs.Names.{operator_name, condition_name, order_name, narrow_name, size_name, atomic_name, register_name, sign_name}
+use Rattle.text_line.specs.Names.{operator_name, condition_name, order_name, narrow_name, size_name, register_name, sign_name}
 use Rattle.text_line.specs.Form.{TokenLayout, layout, sign, word, space, tokens_of, reg, minus, to_label, constant, operand_layout, destination, address, IsForm, IsSource, names_label}
 use Rattle.text_line.specs.Line.{Line, blank, label, code, spelled, IsWellFormed, NoLabel}
-use Rattle.text_line.specs.inside.Reading.{named, operators, conditions, orders, narrows, sizes, atomic_operators, registers, after_symbol, after_word, leading_register, leading_constant, leading_signed_number, leading_operand, parsed_destination, leading_address, atomic_size_of, parsed_jump, parsed_load, parsed_store, parsed_atomic, parsed_movsx, parsed_neg, parsed_end, parsed_constant_load, parsed_map_fd, parsed_map_value, parsed_wide_move, parsed_special_move, parsed_alu, parsed_assignment, parsed_assigned, parsed_goto, parsed_gotol, parsed_call, parsed_form, parsed_label, line_of}
+use Rattle.text_line.specs.inside.Reading.{named, operators, conditions, orders, narrows, sizes, registers, after_symbol, after_word, leading_register, leading_constant, leading_signed_number, leading_operand, parsed_destination, leading_address, atomic_size_of, parsed_jump, parsed_load, parsed_store, parsed_atomic, parsed_movsx, parsed_neg, parsed_end, parsed_constant_load, parsed_map_fd, parsed_map_value, parsed_wide_move, parsed_special_move, parsed_alu, parsed_assignment, parsed_assigned, parsed_goto, parsed_gotol, parsed_call, parsed_form, parsed_label, line_of}
 
 -- ---- names: a last line with `_` is checked in each case that is left
 
@@ -59,10 +59,6 @@ named_size : (signed : Bool) (s : AccessSize) → IsTrue (not (signed && is_doub
 named_size true size.Double h = absurd (false≢true h)
 named_size false size.Byte h = refl
 named_size _ _ h = refl
-
-named_atomic : (op : AtomicOp) → named atomic_operators (atomic_name op) ≡ Some op
-named_atomic atomic.Add = refl
-named_atomic _ = refl
 
 size_of_access : (z : AtomicSize) → atomic_size_of false (access_size z) ≡ Some z
 size_of_access atomic_size.Word = refl
@@ -145,10 +141,10 @@ unfolding parsed_store after_symbol
 store_read size dst src offset fits s = rw (address_read false size dst offset (space ∷ sign (codes "=") ∷ space ∷ operand_layout true src []) refl fits, operand_read true src [] s) refl
 
 atomic_read : (z : AtomicSize) (op : AtomicOp) (dst src : ℕ) (offset : Number) → dst ≤ 10 → src ≤ 10
-    → parsed_atomic (tokens_of (address (size_name false (access_size z)) dst offset (space ∷ sign (atomic_name op) ∷ space ∷ reg true src ∷ []))) ≡ Some (form.Atomic z op dst src offset)
+    → parsed_atomic (tokens_of (address (size_name false (access_size z)) dst offset (space ∷ sign (atomic_symbol op) ∷ space ∷ reg true src ∷ []))) ≡ Some (form.Atomic z op dst src offset)
 unfolding parsed_atomic
 atomic_read z op dst src offset dst_fits src_fits =
-    rw (address_read false (access_size z) dst offset (space ∷ sign (atomic_name op) ∷ space ∷ reg true src ∷ []) refl dst_fits, size_of_access z, named_atomic op, register_read true src [] src_fits) refl
+    rw (address_read false (access_size z) dst offset (space ∷ sign (atomic_symbol op) ∷ space ∷ reg true src ∷ []) refl dst_fits, size_of_access z, atomic_symbol_again op, register_read true src [] src_fits) refl
 
 movsx_read : (wide : Bool) (b : ExtendedBits) (dst src : ℕ) → src ≤ 10 → IsTrue (wide || is_short b) → parsed_special_move wide dst (symbol (codes "(") ∷ name (narrow_name b) ∷ symbol (codes ")") ∷ name (register_name wide src) ∷ []) ≡ Some (form.Movsx wide b dst src)
 unfolding parsed_special_move parsed_movsx after_symbol

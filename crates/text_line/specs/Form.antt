@@ -1,7 +1,7 @@
 -- The forms of a line: the table of the grammar, for reading and for printing. It is this project's own.
 use Rattle.std.specs.Prelude.{ℕ, ◌≤◌, Bool, true, false, ◌&&◌, ◌||◌, not, IsTrue, List, [], ◌∷◌, codes, Option, Some, None}
 use Rattle.insn_set.specs.Sizes.{is_short}
-use Rattle.insn_set.specs.Atomic.{access_size}
+use Rattle.insn_set.specs.Atomic.{access_size, atomic_symbol}
 use Rattle.words.specs.Stack.{is_double}
 use Rattle.text_line.specs.declared.form.Number.{Number}
 use Rattle.text_line.specs.declared.form.SourceOperand.{SourceOperand}
@@ -11,7 +11,7 @@ use Rattle.text_line.specs.declared.form.JumpTarget.TheVariants as target
 use Rattle.text_line.specs.declared.form.Form.{Form}
 use Rattle.text_line.specs.declared.form.Form.TheVariants.{Alu, Movsx, Neg, End, Ja, Jal, Jump, Call, Exit, Load, Store, Atomic, Const, MapFd, MapValue}
 use Rattle.text_line.specs.Token.{Token, name, number, symbol}
-use Rattle.text_line.specs.Names.{operator_name, condition_name, order_name, narrow_name, size_name, atomic_name, register_name, sign_name}
+use Rattle.text_line.specs.Names.{operator_name, condition_name, order_name, narrow_name, size_name, register_name, sign_name}
 
 -- A line is laid out as tokens and single spaces (`None`). On reading, any blanks may stand between tokens.
 abbrev pub TokenLayout : Type 0
@@ -66,7 +66,7 @@ layout (Call id) label = word (codes "call") ∷ space ∷ constant id []
 layout Exit label = word (codes "exit") ∷ []
 layout (Load size signed dst src offset) label = reg true dst ∷ space ∷ sign (codes "=") ∷ space ∷ address (size_name signed size) src offset []
 layout (Store size dst src offset) label = address (size_name false size) dst offset (space ∷ sign (codes "=") ∷ space ∷ operand_layout true src [])
-layout (Atomic size op dst src offset) label = word (codes "lock") ∷ space ∷ address (size_name false (access_size size)) dst offset (space ∷ sign (atomic_name op) ∷ space ∷ reg true src ∷ [])
+layout (Atomic size op dst src offset) label = word (codes "lock") ∷ space ∷ address (size_name false (access_size size)) dst offset (space ∷ sign (atomic_symbol op) ∷ space ∷ reg true src ∷ [])
 layout (Const dst value) label = reg true dst ∷ space ∷ sign (codes "=") ∷ space ∷ Some (number value) ∷ space ∷ word (codes "ll") ∷ []
 layout (MapFd dst fd) label = reg true dst ∷ space ∷ sign (codes "=") ∷ space ∷ word (codes "map_fd") ∷ space ∷ constant fd (space ∷ word (codes "ll") ∷ [])
 layout (MapValue dst fd off) label = reg true dst ∷ space ∷ sign (codes "=") ∷ space ∷ word (codes "map_value") ∷ space ∷ constant fd (space ∷ sign (codes "+") ∷ space ∷ Some (number off) ∷ space ∷ word (codes "ll") ∷ [])

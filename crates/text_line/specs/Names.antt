@@ -12,8 +12,6 @@ use Rattle.words.specs.declared.operator.ExtendedBits.{ExtendedBits}
 use Rattle.words.specs.declared.operator.ExtendedBits.TheVariants as narrow
 use Rattle.words.specs.declared.stack.AccessSize.{AccessSize}
 use Rattle.words.specs.declared.stack.AccessSize.TheVariants as size
-use Rattle.insn_set.specs.declared.insn.AtomicOp.{AtomicOp}
-use Rattle.insn_set.specs.declared.insn.AtomicOp.TheVariants as atomic
 
 abbrev pub operator_name : AluOp → List ℕ
 operator_name Add = codes "+="
@@ -70,13 +68,6 @@ size_name true size.Byte = codes "s8"
 size_name true size.Half = codes "s16"
 size_name true size.Word = codes "s32"
 size_name true size.Double = codes "s64"
-
--- the atomic operations (RFC 9669, section 5.3), as the operators on registers
-abbrev pub atomic_name : AtomicOp → List ℕ
-atomic_name atomic.Add = codes "+="
-atomic_name atomic.Or = codes "|="
-atomic_name atomic.And = codes "&="
-atomic_name atomic.Xor = codes "^="
 
 -- a register's 64 bits, or its low half
 abbrev pub register_letter : Bool → ℕ

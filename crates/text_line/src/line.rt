@@ -7,14 +7,14 @@ ghost use Rattle.text_line.specs.inside.Reading.{parsed_jump, parsed_load, parse
 
 use crate::form::{Form, Line};
 use crate::names::{
-    atomic_operator, atomic_size, byte_order, condition, narrow, operator, register_named,
+    atomic_size, byte_order, condition, narrow, operator, register_named,
 };
 use crate::parts::{
     address, after_symbol, after_word, at_end, constant, destination, ended, name, number, operand,
     register, symbol,
 };
 use crate::token::Token;
-use insn_set::{AluOp, ExtendedBits, Reg};
+use insn_set::{AluOp, AtomicOp, ExtendedBits, Reg};
 
 /// A conditional jump, after `if`.
 #[tactic(auto, unfolding(crate::specs::inside::Reading::parsed_jump))]
@@ -98,7 +98,7 @@ fn atomic(tokens: &[Token<'_>]) -> Option<Form>
     };
     let size = atomic_size(address.signed, address.size)?;
     let (symbol, rest) = symbol(rest)?;
-    let op = atomic_operator(symbol)?;
+    let op = AtomicOp::from_symbol(symbol)?;
     let Some((src, rest)) = register(true, rest) else {
         return None;
     };

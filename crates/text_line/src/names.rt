@@ -1,10 +1,10 @@
 //! The meanings of names and symbols.
 
 ghost use Rattle.std.specs.Prelude.{◌≡◌};
-ghost use Rattle.text_line.specs.inside.Reading.{rows, named, operators, conditions, orders, narrows, sizes, atomic_operators, atomic_size_of, registers};
+ghost use Rattle.text_line.specs.inside.Reading.{rows, named, operators, conditions, orders, narrows, sizes, atomic_size_of, registers};
 
 use insn_set::{
-    AccessSize, AluOp, AtomicOp, AtomicSize, ByteOrder, Condition, ExtendedBits, KeptBits, Reg,
+    AccessSize, AluOp, AtomicSize, ByteOrder, Condition, ExtendedBits, KeptBits, Reg,
 };
 
 /// The value of the first row with this name.
@@ -111,20 +111,6 @@ pub(crate) fn size(name: &str) -> Option<(bool, AccessSize)>
             ("s32", (true, AccessSize::Word)),
         ],
         name,
-    )
-}
-
-pub(crate) fn atomic_operator(symbol: &str) -> Option<AtomicOp>
-    ensures { result ≡ named atomic_operators symbol.now }
-{
-    named(
-        &[
-            ("+=", AtomicOp::Add),
-            ("|=", AtomicOp::Or),
-            ("&=", AtomicOp::And),
-            ("^=", AtomicOp::Xor),
-        ],
-        symbol,
     )
 }
 

@@ -5,8 +5,8 @@ use Rattle.interval.specs.Ranges.{constant}
 use Rattle.words.specs.declared.operator.AluOp.{AluOp}
 use Rattle.words.specs.declared.stack.AccessSize.{AccessSize}
 use Rattle.insn_set.specs.declared.insn.Operand.{Operand}
-use Rattle.insn_set.specs.declared.insn.AtomicSize.{AtomicSize}
-use Rattle.insn_set.specs.declared.insn.AtomicOp.{AtomicOp}
+use Rattle.insn_set.specs.declared.atomic.AtomicSize.{AtomicSize}
+use Rattle.insn_set.specs.declared.atomic.AtomicOp.{AtomicOp}
 use Rattle.insn_set.specs.declared.insn.Insn.{Insn}
 use Rattle.insn_set.specs.declared.insn.Insn.TheVariants.{Alu, Movsx, Neg, End, Ja, Jal, Jump, Call, Exit, Load, Store, Atomic, Const, MapFd, MapValue}
 use Rattle.reg_kinds.specs.declared.kind.Kind.{Kind}

@@ -6,9 +6,8 @@ use Rattle.words.specs.declared.operator.Condition.{Condition}
 use Rattle.words.specs.declared.operator.Condition.TheVariants.{Equal, Above, AboveOrEqual, CommonBit, NotEqual, SignedAbove, SignedAboveOrEqual, Below, BelowOrEqual, SignedBelow, SignedBelowOrEqual}
 use Rattle.words.specs.declared.stack.AccessSize.{AccessSize}
 use Rattle.words.specs.declared.stack.AccessSize.TheVariants as size
-use Rattle.insn_set.specs.declared.insn.AtomicSize.TheVariants as atomic_size
-use Rattle.insn_set.specs.declared.insn.AtomicOp.{AtomicOp}
-use Rattle.insn_set.specs.declared.insn.AtomicOp.TheVariants as atomic
+use Rattle.insn_set.specs.declared.atomic.AtomicSize.TheVariants as atomic_size
+use Rattle.insn_set.specs.AtomicRows.{atomic_by_number}
 use Rattle.insn_codec.specs.declared.opcode.SourceBit.{SourceBit}
 use Rattle.insn_codec.specs.declared.opcode.SourceBit.TheVariants.{Imm, Reg}
 use Rattle.insn_codec.specs.declared.opcode.AluCode.{AluCode}
@@ -124,14 +123,6 @@ form_at opcode =
 abbrev pub wide_at : ℕ → Option WideKind
 wide_at src = if src == 0 then Some Number else (if src == 1 then Some Map else (if src == 2 then Some MapValue else None))
 
--- section 5.3: the operation with an immediate, without FETCH
-abbrev pub atomic_at : ℕ → Option AtomicOp
-atomic_at imm =
-    if imm == 0x00 then Some atomic.Add else
-    (if imm == 0x40 then Some atomic.Or else
-    (if imm == 0x50 then Some atomic.And else
-    (if imm == 0xa0 then Some atomic.Xor else None)))
-
 -- section 4: the unused operand field is zero
 abbrev pub one_operand : SourceBit → SlotFields → Bool
 one_operand Imm s = s.src == 0
@@ -156,5 +147,5 @@ listed form.Call s = (s.dst == 0 && s.src == 0) && s.offset == 0
 listed form.Exit s = (s.dst == 0 && s.src == 0) && s.offset == 0 && s.imm == 0
 listed (form.Load kind) s = s.imm == 0
 listed (form.Store size source) s = one_operand source s
-listed (form.Atomic size) s = is_some (atomic_at s.imm)
+listed (form.Atomic size) s = is_some (atomic_by_number s.imm)
 listed form.Wide s = s.offset == 0 && is_some (wide_at s.src)

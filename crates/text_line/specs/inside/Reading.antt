@@ -14,10 +14,9 @@ use Rattle.words.specs.declared.operator.ExtendedBits.{ExtendedBits}
 use Rattle.words.specs.declared.operator.ExtendedBits.TheVariants as narrow
 use Rattle.words.specs.declared.stack.AccessSize.{AccessSize}
 use Rattle.words.specs.declared.stack.AccessSize.TheVariants as size
-use Rattle.insn_set.specs.declared.insn.AtomicSize.{AtomicSize}
-use Rattle.insn_set.specs.declared.insn.AtomicSize.TheVariants as atomic_size
-use Rattle.insn_set.specs.declared.insn.AtomicOp.{AtomicOp}
-use Rattle.insn_set.specs.declared.insn.AtomicOp.TheVariants as atomic
+use Rattle.insn_set.specs.declared.atomic.AtomicSize.{AtomicSize}
+use Rattle.insn_set.specs.declared.atomic.AtomicSize.TheVariants as atomic_size
+use Rattle.insn_set.specs.AtomicRows.{atomic_by_symbol}
 use Rattle.text_line.specs.declared.form.Number.{Number}
 use Rattle.text_line.specs.declared.form.SourceOperand.{SourceOperand}
 use Rattle.text_line.specs.declared.form.SourceOperand.TheVariants as source
@@ -91,10 +90,6 @@ abbrev pub sizes : List (List ℕ × (Bool × AccessSize))
 sizes =
     (codes "u8", (false, size.Byte)) ∷ (codes "u16", (false, size.Half)) ∷ (codes "u32", (false, size.Word)) ∷ (codes "u64", (false, size.Double))
     ∷ (codes "s8", (true, size.Byte)) ∷ (codes "s16", (true, size.Half)) ∷ (codes "s32", (true, size.Word)) ∷ []
-
--- the operators that may follow the memory operand of an atomic operation (RFC 9669, section 5.3)
-abbrev pub atomic_operators : List (List ℕ × AtomicOp)
-atomic_operators = (codes "+=", atomic.Add) ∷ (codes "|=", atomic.Or) ∷ (codes "&=", atomic.And) ∷ (codes "^=", atomic.Xor) ∷ []
 
 abbrev pub registers : List (List ℕ × (Bool × ℕ))
 registers =
@@ -210,7 +205,7 @@ parsed_atomic ts = do
   a ← leading_address ts
   z ← atomic_size_of a.0.signed a.0.size
   s ← leading_symbol a.1
-  op ← named atomic_operators s.0
+  op ← atomic_by_symbol s.0
   src ← leading_register true s.1
   at_end (form.Atomic z op a.0.base src.0 a.0.offset) src.1
 

@@ -1,0 +1,22 @@
+-- Tables: a row for each value of a family, with its number and its symbol. This project's own.
+use Rattle.std.specs.Prelude.{ℕ, ◌==◌, List, [], ◌∷◌, map, Option, Some, None, if◌then◌else◌}
+use Rattle.std.specs.Str.{bytes_eq}
+use Rattle.std.specs.Borrow.{Bor}
+
+-- a value, its number and its symbol
+abbrev pub Row : Type 0 → Type 0
+Row A = A × ℕ × List ℕ
+
+-- the rows of a table of the code
+abbrev pub shown : {A : Type 0} → List (A × ℕ × Bor (List ℕ)) → List (Row A)
+shown rows = map (λ row. (row.0, row.1, row.2.now)) rows
+
+-- the value of the first row with this number
+abbrev pub by_number : {A : Type 0} → List (Row A) → ℕ → Option A
+by_number [] n = None
+by_number (row ∷ rows) n = if row.1 == n then Some row.0 else by_number rows n
+
+-- the value of the first row with this symbol
+abbrev pub by_symbol : {A : Type 0} → List (Row A) → List ℕ → Option A
+by_symbol [] s = None
+by_symbol (row ∷ rows) s = if bytes_eq s row.2 then Some row.0 else by_symbol rows s

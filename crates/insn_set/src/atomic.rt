@@ -1,0 +1,92 @@
+//! Atomic operations without FETCH (RFC 9669, section 5.3): a row for each, with its number and its symbol.
+
+ghost use Rattle.std.specs.Prelude.{◌≡◌, IfSome};
+
+use crate::table::{by_number, by_symbol};
+use words::AccessSize;
+
+/// The effect of an atomic operation on the bytes in memory, without FETCH (RFC 9669, section 5.3).
+#[derive(Clone, Copy, Debug, PartialEq, Eq)]
+pub enum AtomicOp {
+    Add,
+    Or,
+    And,
+    Xor,
+}
+
+/// The number of bytes that an atomic operation changes (RFC 9669, section 5.3): a word has four.
+#[derive(Clone, Copy, Debug, PartialEq, Eq)]
+pub enum AtomicSize {
+    Word,
+    Double,
+}
+
+/// Each operation in the order of its variants, its immediate (RFC 9669, section 5.3), and the symbol that a line of text has for it.
+const OPERATIONS: [(AtomicOp, u32, &str); 4] = [
+    (AtomicOp::Add, 0x00, "+="),
+    (AtomicOp::Or, 0x40, "|="),
+    (AtomicOp::And, 0x50, "&="),
+    (AtomicOp::Xor, 0xa0, "^="),
+];
+
+impl AtomicOp {
+    ghost use Rattle.insn_set.specs.Atomic.{atomic_number, atomic_symbol};
+    ghost use Rattle.insn_set.specs.AtomicRows.{atomic_by_number, atomic_by_symbol};
+
+    /// Its immediate.
+    #[inline(always)]
+    pub fn number(self) -> u32
+        ensures { result ≡ atomic_number self }
+    {
+        OPERATIONS[self as usize].1
+    }
+
+    /// The operation with this immediate, if there is one.
+    pub fn from_number(number: u32) -> Option<AtomicOp>
+        ensures value { result ≡ atomic_by_number number }
+        ensures inverse { IfSome result (λ op. atomic_number op ≡ number) }
+    {
+        by_number(&OPERATIONS, number)
+    }
+
+    /// Its symbol in a line of text.
+    pub fn symbol(self) -> &'static str
+        ensures { result.now ≡ atomic_symbol self }
+    {
+        OPERATIONS[self as usize].2
+    }
+
+    /// The operation with this symbol, if there is one.
+    pub fn from_symbol(symbol: &str) -> Option<AtomicOp>
+        ensures value { result ≡ atomic_by_symbol symbol.now }
+        ensures inverse { IfSome result (λ op. atomic_symbol op ≡ symbol.now) }
+    {
+        by_symbol(&OPERATIONS, symbol)
+    }
+}
+
+impl AtomicSize {
+    ghost use Rattle.insn_set.specs.Atomic.{access_size, is_wide_atomic};
+
+    /// The access size of its load and of its store.
+    #[inline(always)]
+    pub fn access(self) -> AccessSize
+        ensures { result ≡ access_size self }
+    {
+        match self {
+            AtomicSize::Word => AccessSize::Word,
+            AtomicSize::Double => AccessSize::Double,
+        }
+    }
+
+    /// Whether it works on 64 bits.
+    #[inline(always)]
+    pub fn is_wide(self) -> bool
+        ensures { result ≡ is_wide_atomic self }
+    {
+        match self {
+            AtomicSize::Word => false,
+            AtomicSize::Double => true,
+        }
+    }
+}

@@ -1,0 +1,29 @@
+//! Tables: a row for each value of a family, with its number and its symbol.
+
+ghost use Rattle.std.specs.Prelude.{◌≡◌};
+ghost use Rattle.insn_set.specs.Table.{shown, by_number, by_symbol};
+
+/// The value of the first row with this number.
+#[inline(always)]
+pub(crate) fn by_number<T: Copy>(rows: &[(T, u32, &str)], number: u32) -> Option<T>
+    ensures { result ≡ by_number (shown rows.now) number }
+{
+    for row in rows {
+        if row.1 == number {
+            return Some(row.0);
+        }
+    }
+    None
+}
+
+/// The value of the first row with this symbol.
+pub(crate) fn by_symbol<T: Copy>(rows: &[(T, u32, &str)], symbol: &str) -> Option<T>
+    ensures { result ≡ by_symbol (shown rows.now) symbol.now }
+{
+    for row in rows {
+        if symbol == row.2 {
+            return Some(row.0);
+        }
+    }
+    None
+}

@@ -3,7 +3,7 @@
 ghost use Rattle.std.specs.Prelude.{◌≡◌, ◌++◌, [], true, false, Some, IfOk, OnOk};
 ghost use Rattle.std.specs.Fmt.{decimal};
 ghost use Rattle.std.specs.String.{string_bytes};
-ghost use Rattle.text_line.specs.Names.{operator_name, condition_name, order_name, narrow_name, size_name, register_name, sign_name};
+ghost use Rattle.text_line.specs.Names.{operator_name, order_name, narrow_name, size_name, register_name, sign_name};
 ghost use Rattle.text_line.specs.Token.{number};
 ghost use Rattle.text_line.specs.Form.{operand_layout, constant as constant_layout};
 ghost use Rattle.text_line.specs.Written.{number_of, source_of, piece, laid_out, printed_insn};
@@ -15,6 +15,7 @@ use insn_codec::{
     AccessSize, AluOp, AtomicOp, AtomicSize, ByteOrder, Condition, ExtendedBits, Insn, KeptBits,
     Load, Movsx, Operand, Program, Reg,
 };
+use insn_set::condition_symbol;
 use std::alloc::{AllocError, Global};
 use std::fmt::Write;
 
@@ -38,24 +39,6 @@ fn operator_name(op: AluOp) -> &'static str
         AluOp::Xor => "^=",
         AluOp::Mov => "=",
         AluOp::SignedShiftRight => "s>>=",
-    }
-}
-
-fn condition_name(cond: Condition) -> &'static str
-    ensures { result.now ≡ condition_name cond }
-{
-    match cond {
-        Condition::Equal => "==",
-        Condition::Above => ">",
-        Condition::AboveOrEqual => ">=",
-        Condition::CommonBit => "&",
-        Condition::NotEqual => "!=",
-        Condition::SignedAbove => "s>",
-        Condition::SignedAboveOrEqual => "s>=",
-        Condition::Below => "<",
-        Condition::BelowOrEqual => "<=",
-        Condition::SignedBelow => "s<",
-        Condition::SignedBelowOrEqual => "s<=",
     }
 }
 
@@ -224,7 +207,7 @@ fn write_jump(
     ensures { OnOk result (string_bytes text.new ≡ string_bytes text.old
         ++ printed_insn (Insn.Jump wide cond dst src off)) }
 {
-    let (dst, cond) = (register_name(wide, dst), condition_name(cond));
+    let (dst, cond) = (register_name(wide, dst), condition_symbol(cond));
     let (sign, slots) = signed_parts(i32::from(off));
     write!(text, "if {dst} {cond} ")?;
     write_operand(text, wide, src)?;

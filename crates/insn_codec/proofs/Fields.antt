@@ -21,7 +21,8 @@ use Rattle.insn_codec.specs.declared.opcode.SourceBit.TheVariants as source
 use Rattle.insn_codec.specs.declared.opcode.AluCode.TheVariants as code
 use Rattle.insn_codec.specs.declared.form.OpcodeForm.TheVariants as form
 use Rattle.insn_set.specs.Sizes.{is_short}
-use Rattle.insn_set.specs.Numbers.{opcode, alu_class, jump_class, alu_number, alu_offset, condition_number, end_opcode, memory_opcode, offset_bits, imm_bits}
+use Rattle.insn_set.specs.Numbers.{opcode, alu_class, jump_class, alu_number, alu_offset, end_opcode, memory_opcode, offset_bits, imm_bits}
+use Rattle.insn_set.specs.Condition.{condition_number}
 use Rattle.words.specs.Operate.{extended_bits, kept_bits}
 use Rattle.insn_codec.specs.inside.Form.{listed, one_operand, offset_listed}
 use Rattle.insn_set.specs.Slot.{slot}

@@ -28,7 +28,8 @@ use Rattle.insn_codec.specs.declared.form.OpcodeForm.TheVariants as form
 use Rattle.insn_set.specs.Sizes.{is_short}
 use Rattle.words.specs.Stack.{is_double}
 use Rattle.insn_codec.specs.Spelled.{operand_at}
-use Rattle.insn_set.specs.Numbers.{opcode, alu_class, jump_class, alu_number, alu_offset, condition_number, memory_opcode, offset_bits, imm_bits}
+use Rattle.insn_set.specs.Numbers.{opcode, alu_class, jump_class, alu_number, alu_offset, memory_opcode, offset_bits, imm_bits}
+use Rattle.insn_set.specs.Condition.{condition_number}
 use Rattle.words.specs.Operate.{extended_bits, kept_bits}
 use Rattle.insn_set.specs.AtomicRows.{atomic_by_number, atomic_number_again}
 use Rattle.insn_codec.specs.inside.Form.{wide_at}

@@ -2,8 +2,8 @@
 
 ghost use Rattle.std.specs.Prelude.{◌≡◌, ◌≢◌, ◌+◌, ◌%◌, ◌≤◌, [], ◌∷◌, IfSome, IsTrue};
 
-use crate::opcode::{AluCode, LoadKind, SourceBit, WideKind, condition_at, size_at};
-use insn_set::{AtomicOp, AtomicSize, Insn, Load, Movsx, Reg, SlotFields};
+use crate::opcode::{AluCode, LoadKind, SourceBit, WideKind, size_at};
+use insn_set::{AtomicOp, AtomicSize, Insn, Load, Movsx, Reg, SlotFields, condition_by_number};
 use words::{AccessSize, ByteOrder, Condition, ExtendedBits, KeptBits};
 
 /// The form of an opcode: what it alone determines of its instruction.
@@ -93,7 +93,7 @@ impl OpcodeForm {
             (8, SourceBit::Imm) if wide => Some(OpcodeForm::Call),
             (9, SourceBit::Imm) if wide => Some(OpcodeForm::Exit),
             _ => {
-                let cond = condition_at(code)?;
+                let cond = condition_by_number(code)?;
                 Some(OpcodeForm::Jump { wide, cond, source })
             }
         }

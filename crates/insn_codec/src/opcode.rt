@@ -1,11 +1,11 @@
 //! The parts of an opcode, and the tables of their codes.
 
 ghost use Rattle.std.specs.Prelude.{◌≡◌, ◌≢◌, ◌<◌, ◌≤◌, IfSome, IsTrue, not, ◌&&◌, false};
-ghost use Rattle.insn_codec.specs.inside.Form.{condition_at, size_at};
-ghost use Rattle.insn_set.specs.Numbers.{condition_number, size_number};
+ghost use Rattle.insn_codec.specs.inside.Form.{size_at};
+ghost use Rattle.insn_set.specs.Numbers.{size_number};
 
 use insn_set::{Insn, Operand, Reg, SlotFields};
-use words::{AccessSize, AluOp, Condition};
+use words::{AccessSize, AluOp};
 
 /// Which of the two operand fields is used: the source bit (RFC 9669, section 4).
 #[derive(Clone, Copy, Debug, PartialEq, Eq)]
@@ -167,27 +167,6 @@ impl SourceBit {
             SourceBit::Imm => Operand::Imm(slot.imm.cast_signed()),
             SourceBit::Reg => Operand::Reg(src),
         }
-    }
-}
-
-/// The condition with this code, if there is one (RFC 9669, section 4.3).
-pub fn condition_at(code: u8) -> Option<Condition>
-    ensures value { result ≡ condition_at code }
-    ensures number { IfSome result (λ c. condition_number c ≡ code) }
-{
-    match code {
-        1 => Some(Condition::Equal),
-        2 => Some(Condition::Above),
-        3 => Some(Condition::AboveOrEqual),
-        4 => Some(Condition::CommonBit),
-        5 => Some(Condition::NotEqual),
-        6 => Some(Condition::SignedAbove),
-        7 => Some(Condition::SignedAboveOrEqual),
-        10 => Some(Condition::Below),
-        11 => Some(Condition::BelowOrEqual),
-        12 => Some(Condition::SignedBelow),
-        13 => Some(Condition::SignedBelowOrEqual),
-        _ => None,
     }
 }
 

@@ -4,10 +4,10 @@ ghost use Rattle.std.specs.Prelude.{◌≡◌, ◌+◌, ◌*◌, ◌≤◌, ◌<
 ghost use Rattle.std.specs.Option.{option_to_list};
 ghost use Rattle.insn_set.specs.Slot.{slot as slot_from};
 ghost use Rattle.insn_set.specs.Spelling.{first as first_slot, second as second_slot, spelling, source_bit, src_field, imm_field};
-ghost use Rattle.insn_set.specs.Numbers.{opcode as opcode_from, memory_opcode, alu_class, jump_class, alu_number, alu_offset, condition_number, size_number, end_opcode};
+ghost use Rattle.insn_set.specs.Numbers.{opcode as opcode_from, memory_opcode, alu_class, jump_class, alu_number, alu_offset, size_number, end_opcode};
 
-use insn_set::{Insn, Operand, SlotFields};
-use words::{AccessSize, AluOp, ByteOrder, Condition};
+use insn_set::{Insn, Operand, SlotFields, condition_number};
+use words::{AccessSize, AluOp, ByteOrder};
 
 /// The code of an operator (RFC 9669, section 4.1).
 fn alu_number(op: AluOp) -> u8
@@ -37,26 +37,6 @@ fn alu_offset(op: AluOp) -> u16
     match op {
         AluOp::SignedDiv | AluOp::SignedMod => 1,
         _ => 0,
-    }
-}
-
-/// The code of a condition (RFC 9669, section 4.3).
-fn condition_number(condition: Condition) -> u8
-    ensures value { result ≡ condition_number condition }
-    ensures bound { result ≤ 13 }
-{
-    match condition {
-        Condition::Equal => 1,
-        Condition::Above => 2,
-        Condition::AboveOrEqual => 3,
-        Condition::CommonBit => 4,
-        Condition::NotEqual => 5,
-        Condition::SignedAbove => 6,
-        Condition::SignedAboveOrEqual => 7,
-        Condition::Below => 10,
-        Condition::BelowOrEqual => 11,
-        Condition::SignedBelow => 12,
-        Condition::SignedBelowOrEqual => 13,
     }
 }
 

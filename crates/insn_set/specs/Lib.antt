@@ -3,6 +3,8 @@ pub mod Atomic
 pub mod Table
 pub mod TableLaws
 pub mod AtomicRows
+pub mod Condition
+pub mod ConditionRows
 pub mod Numbers
 pub mod Slot
 pub mod Spelling

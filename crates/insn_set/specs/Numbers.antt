@@ -6,8 +6,6 @@ use Rattle.words.specs.declared.operator.AluOp.{AluOp}
 use Rattle.words.specs.declared.operator.AluOp.TheVariants.{Add, Sub, Mul, Div, SignedDiv, Or, And, ShiftLeft, ShiftRight, Mod, SignedMod, Xor, Mov, SignedShiftRight}
 use Rattle.words.specs.declared.operator.ByteOrder.{ByteOrder}
 use Rattle.words.specs.declared.operator.ByteOrder.TheVariants.{Little, Big, Swap}
-use Rattle.words.specs.declared.operator.Condition.{Condition}
-use Rattle.words.specs.declared.operator.Condition.TheVariants.{Equal, Above, AboveOrEqual, CommonBit, NotEqual, SignedAbove, SignedAboveOrEqual, Below, BelowOrEqual, SignedBelow, SignedBelowOrEqual}
 use Rattle.words.specs.declared.stack.AccessSize.{AccessSize}
 use Rattle.words.specs.declared.stack.AccessSize.TheVariants as size
 
@@ -47,20 +45,6 @@ abbrev pub alu_offset : AluOp → ℕ
 alu_offset SignedDiv = 1
 alu_offset SignedMod = 1
 alu_offset _ = 0
-
--- section 4.3, the table of codes
-abbrev pub condition_number : Condition → ℕ
-condition_number Equal = 1
-condition_number Above = 2
-condition_number AboveOrEqual = 3
-condition_number CommonBit = 4
-condition_number NotEqual = 5
-condition_number SignedAbove = 6
-condition_number SignedAboveOrEqual = 7
-condition_number Below = 10
-condition_number BelowOrEqual = 11
-condition_number SignedBelow = 12
-condition_number SignedBelowOrEqual = 13
 
 -- section 5, the sizes
 abbrev pub size_number : AccessSize → ℕ

@@ -5,6 +5,7 @@
 #![tactic(auto)]
 
 mod atomic;
+mod condition;
 mod insn;
 mod known_answers;
 mod profile;
@@ -12,6 +13,7 @@ mod slot;
 mod table;
 
 pub use atomic::{AtomicOp, AtomicSize};
+pub use condition::{condition_by_number, condition_by_symbol, condition_number, condition_symbol};
 pub use insn::{Insn, Load, Movsx, Operand, Reg};
 pub use profile::{Profile, Reference, Successors};
 pub use slot::{RawSlot, SlotFields};

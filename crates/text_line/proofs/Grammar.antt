@@ -14,6 +14,7 @@ use Rattle.insn_set.specs.declared.atomic.AtomicSize.{AtomicSize}
 use Rattle.insn_set.specs.declared.atomic.AtomicSize.TheVariants as atomic_size
 use Rattle.insn_set.specs.Sizes.{is_short}
 use Rattle.insn_set.specs.Atomic.{access_size, atomic_symbol}
+use Rattle.insn_set.specs.ConditionRows.{condition_by_symbol, condition_symbol_is}
 use Rattle.insn_set.specs.AtomicRows.{atomic_by_symbol, atomic_symbol_is}
 use Rattle.words.specs.Stack.{is_double}
 use Rattle.text_line.specs.declared.form.Number.{Number}
@@ -23,10 +24,10 @@ use Rattle.text_line.specs.declared.form.Form.{Form}
 use Rattle.text_line.specs.declared.form.Form.TheVariants as form
 use Rattle.text_line.specs.declared.form.Address.{Address}
 use Rattle.text_line.specs.Token.{Token, name, number, symbol}
-use Rattle.text_line.specs.Names.{operator_name, condition_name, order_name, narrow_name, size_name, register_name, sign_name}
+use Rattle.text_line.specs.Names.{operator_name, order_name, narrow_name, size_name, register_name, sign_name}
 use Rattle.text_line.specs.Form.{TokenLayout, layout, sign, word, space, tokens_of, reg, to_label, constant, operand_layout, destination, address, IsForm, IsSource, names_label}
 use Rattle.text_line.specs.Line.{Line, blank, label, spelled, IsWellFormed, NoLabel}
-use Rattle.text_line.specs.inside.Reading.{named, operators, conditions, orders, narrows, sizes, registers, leading_symbol, leading_name, leading_number, after_symbol, after_word, leading_register, number_from, leading_constant, leading_signed_number, leading_operand, parsed_destination, leading_address, atomic_size_of, at_end, match_option, parsed_jump, parsed_load, parsed_store, parsed_atomic, parsed_movsx, parsed_neg, parsed_end, parsed_constant_load, parsed_map_fd, parsed_map_value, parsed_wide_move, parsed_special_move, is_move, parsed_alu, parsed_assignment, parsed_assigned, parsed_goto, parsed_gotol, parsed_call, without_label, parsed_form, parsed_label, line_of, bool_eq, ◌>>=◌}
+use Rattle.text_line.specs.inside.Reading.{named, operators, orders, narrows, sizes, registers, leading_symbol, leading_name, leading_number, after_symbol, after_word, leading_register, number_from, leading_constant, leading_signed_number, leading_operand, parsed_destination, leading_address, atomic_size_of, at_end, match_option, parsed_jump, parsed_load, parsed_store, parsed_atomic, parsed_movsx, parsed_neg, parsed_end, parsed_constant_load, parsed_map_fd, parsed_map_value, parsed_wide_move, parsed_special_move, is_move, parsed_alu, parsed_assignment, parsed_assigned, parsed_goto, parsed_gotol, parsed_call, without_label, parsed_form, parsed_label, line_of, bool_eq, ◌>>=◌}
 
 -- ---- options and tests, where a value comes out
 
@@ -289,7 +290,8 @@ jump_is ts f e =
     name_then ts _ f e (λ n a is_n e.
     option_and_then_some _ (named registers n) f e (λ r found e.
     symbol_then a _ f e (λ s b is_s e.
-    named_then condition_name conditions s _ f refl e (λ c is_c e.
+    option_and_then_some _ (condition_by_symbol s) f e (λ c found_c e.
+    let is_c = condition_symbol_is s c found_c in
     option_and_then_some _ (leading_operand r.0 b) f e (λ src read e.
     after_word_then (codes "goto") src.1 _ f e (λ g is_g e.
     option_and_then_some _ (parsed_destination g) f e (λ to leads e.

@@ -20,9 +20,10 @@ use Rattle.insn_set.specs.declared.insn.Operand.TheVariants.{Imm, Reg}
 use Rattle.insn_set.specs.declared.insn.Insn.{Insn}
 use Rattle.insn_set.specs.declared.insn.Insn.TheVariants.{Alu, Movsx, Neg, End, Ja, Jal, Jump, Call, Exit, Load, Store, Atomic, Const, MapFd, MapValue}
 use Rattle.insn_set.specs.Spelling.{IsInsn, IsOperand}
+use Rattle.insn_set.specs.Condition.{condition_symbol}
 use Rattle.insn_set.specs.Atomic.{access_size, atomic_symbol}
 use Rattle.text_line.specs.declared.form.JumpTarget.TheVariants as target
-use Rattle.text_line.specs.Names.{operator_name, condition_name, order_name, narrow_name, size_name, register_name, sign_name}
+use Rattle.text_line.specs.Names.{operator_name, order_name, narrow_name, size_name, register_name, sign_name}
 use Rattle.text_line.specs.Form.{TokenLayout, layout, sign, word, reg, space, constant, operand_layout, destination, address, IsSource}
 use Rattle.text_line.specs.Line.{code, IsWellFormed}
 use Rattle.text_line.specs.Token.{number}
@@ -38,7 +39,7 @@ operator_sign : (op : AluOp) → is_sign (operator_name op) ≡ true
 operator_sign Add = refl
 operator_sign _ = refl
 
-condition_sign : (c : Condition) → is_sign (condition_name c) ≡ true
+condition_sign : (c : Condition) → is_sign (condition_symbol c) ≡ true
 condition_sign Equal = refl
 condition_sign _ = refl
 

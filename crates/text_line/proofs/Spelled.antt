@@ -6,7 +6,6 @@ use Rattle.std.proofs.lemmas.Bool.{false≢true, eq-eqb}
 use Rattle.words.specs.declared.operator.AluOp.{AluOp}
 use Rattle.words.specs.declared.operator.AluOp.TheVariants.{Add, Mov}
 use Rattle.words.specs.declared.operator.Condition.{Condition}
-use Rattle.words.specs.declared.operator.Condition.TheVariants.{Equal}
 use Rattle.words.specs.declared.operator.ByteOrder.{ByteOrder}
 use Rattle.words.specs.declared.operator.ByteOrder.TheVariants.{Little, Big, Swap}
 use Rattle.words.specs.declared.operator.KeptBits.{KeptBits}
@@ -19,7 +18,9 @@ use Rattle.insn_set.specs.declared.atomic.AtomicSize.{AtomicSize}
 use Rattle.insn_set.specs.declared.atomic.AtomicSize.TheVariants as atomic_size
 use Rattle.insn_set.specs.declared.atomic.AtomicOp.{AtomicOp}
 use Rattle.insn_set.specs.Sizes.{is_short}
+use Rattle.insn_set.specs.Condition.{condition_symbol}
 use Rattle.insn_set.specs.Atomic.{access_size, atomic_symbol}
+use Rattle.insn_set.specs.ConditionRows.{condition_symbol_again}
 use Rattle.insn_set.specs.AtomicRows.{atomic_symbol_again}
 use Rattle.words.specs.Stack.{is_double}
 use Rattle.text_line.specs.declared.form.Number.{Number}
@@ -30,20 +31,16 @@ use Rattle.text_line.specs.declared.form.JumpTarget.TheVariants as target
 use Rattle.text_line.specs.declared.form.Form.{Form}
 use Rattle.text_line.specs.declared.form.Form.TheVariants as form
 use Rattle.text_line.specs.Token.{Token, name, number, symbol}
-use Rattle.text_line.specs.Names.{operator_name, condition_name, order_name, narrow_name, size_name, register_name, sign_name}
+use Rattle.text_line.specs.Names.{operator_name, order_name, narrow_name, size_name, register_name, sign_name}
 use Rattle.text_line.specs.Form.{TokenLayout, layout, sign, word, space, tokens_of, reg, minus, to_label, constant, operand_layout, destination, address, IsForm, IsSource, names_label}
 use Rattle.text_line.specs.Line.{Line, blank, label, code, spelled, IsWellFormed, NoLabel}
-use Rattle.text_line.specs.inside.Reading.{named, operators, conditions, orders, narrows, sizes, registers, after_symbol, after_word, leading_register, leading_constant, leading_signed_number, leading_operand, parsed_destination, leading_address, atomic_size_of, parsed_jump, parsed_load, parsed_store, parsed_atomic, parsed_movsx, parsed_neg, parsed_end, parsed_constant_load, parsed_map_fd, parsed_map_value, parsed_wide_move, parsed_special_move, parsed_alu, parsed_assignment, parsed_assigned, parsed_goto, parsed_gotol, parsed_call, parsed_form, parsed_label, line_of}
+use Rattle.text_line.specs.inside.Reading.{named, operators, orders, narrows, sizes, registers, after_symbol, after_word, leading_register, leading_constant, leading_signed_number, leading_operand, parsed_destination, leading_address, atomic_size_of, parsed_jump, parsed_load, parsed_store, parsed_atomic, parsed_movsx, parsed_neg, parsed_end, parsed_constant_load, parsed_map_fd, parsed_map_value, parsed_wide_move, parsed_special_move, parsed_alu, parsed_assignment, parsed_assigned, parsed_goto, parsed_gotol, parsed_call, parsed_form, parsed_label, line_of}
 
 -- ---- names: a last line with `_` is checked in each case that is left
 
 named_operator : (op : AluOp) → named operators (operator_name op) ≡ Some op
 named_operator Add = refl
 named_operator _ = refl
-
-named_condition : (c : Condition) → named conditions (condition_name c) ≡ Some c
-named_condition Equal = refl
-named_condition _ = refl
 
 named_order : (how : ByteOrder) (b : KeptBits) → named orders (order_name how b) ≡ Some (how, b)
 named_order Little bits.Bits16 = refl
@@ -128,9 +125,9 @@ address_read signed s base offset rest listed fits = rw (named_size signed s lis
 -- ---- forms
 
 jump_read : (wide : Bool) (c : Condition) (dst : ℕ) (src : SourceOperand) (to : JumpTarget) (n : List ℕ) → dst ≤ 10 → IsSource src → NoLabel (to_label to) n
-    → parsed_jump (name (register_name wide dst) ∷ symbol (condition_name c) ∷ tokens_of (operand_layout wide src (space ∷ word (codes "goto") ∷ space ∷ destination to n))) ≡ Some (form.Jump wide c dst src to, n)
+    → parsed_jump (name (register_name wide dst) ∷ symbol (condition_symbol c) ∷ tokens_of (operand_layout wide src (space ∷ word (codes "goto") ∷ space ∷ destination to n))) ≡ Some (form.Jump wide c dst src to, n)
 unfolding parsed_jump after_word
-jump_read wide c dst src to n fits s none = rw (named_register wide dst fits, named_condition c, operand_read wide src (space ∷ word (codes "goto") ∷ space ∷ destination to n) s, destination_read to n none) refl
+jump_read wide c dst src to n fits s none = rw (named_register wide dst fits, condition_symbol_again c, operand_read wide src (space ∷ word (codes "goto") ∷ space ∷ destination to n) s, destination_read to n none) refl
 
 load_read : (size : AccessSize) (signed : Bool) (dst src : ℕ) (offset : Number) → src ≤ 10 → IsTrue (not (signed && is_double size)) → parsed_special_move true dst (tokens_of (address (size_name signed size) src offset [])) ≡ Some (form.Load size signed dst src offset)
 unfolding parsed_special_move parsed_wide_move parsed_end parsed_constant_load parsed_load after_symbol after_word

@@ -1,6 +1,7 @@
 -- The forms of a line: the table of the grammar, for reading and for printing. It is this project's own.
 use Rattle.std.specs.Prelude.{ℕ, ◌≤◌, Bool, true, false, ◌&&◌, ◌||◌, not, IsTrue, List, [], ◌∷◌, codes, Option, Some, None}
 use Rattle.insn_set.specs.Sizes.{is_short}
+use Rattle.insn_set.specs.Condition.{condition_symbol}
 use Rattle.insn_set.specs.Atomic.{access_size, atomic_symbol}
 use Rattle.words.specs.Stack.{is_double}
 use Rattle.text_line.specs.declared.form.Number.{Number}
@@ -11,7 +12,7 @@ use Rattle.text_line.specs.declared.form.JumpTarget.TheVariants as target
 use Rattle.text_line.specs.declared.form.Form.{Form}
 use Rattle.text_line.specs.declared.form.Form.TheVariants.{Alu, Movsx, Neg, End, Ja, Jal, Jump, Call, Exit, Load, Store, Atomic, Const, MapFd, MapValue}
 use Rattle.text_line.specs.Token.{Token, name, number, symbol}
-use Rattle.text_line.specs.Names.{operator_name, condition_name, order_name, narrow_name, size_name, register_name, sign_name}
+use Rattle.text_line.specs.Names.{operator_name, order_name, narrow_name, size_name, register_name, sign_name}
 
 -- A line is laid out as tokens and single spaces (`None`). On reading, any blanks may stand between tokens.
 abbrev pub TokenLayout : Type 0
@@ -61,7 +62,7 @@ layout (Neg wide dst) label = reg wide dst ∷ space ∷ sign (codes "=") ∷ sp
 layout (End how bits dst) label = reg true dst ∷ space ∷ sign (codes "=") ∷ space ∷ word (order_name how bits) ∷ space ∷ reg true dst ∷ []
 layout (Ja to) label = word (codes "goto") ∷ space ∷ destination to label
 layout (Jal to) label = word (codes "gotol") ∷ space ∷ destination to label
-layout (Jump wide cond dst src to) label = word (codes "if") ∷ space ∷ reg wide dst ∷ space ∷ sign (condition_name cond) ∷ space ∷ operand_layout wide src (space ∷ word (codes "goto") ∷ space ∷ destination to label)
+layout (Jump wide cond dst src to) label = word (codes "if") ∷ space ∷ reg wide dst ∷ space ∷ sign (condition_symbol cond) ∷ space ∷ operand_layout wide src (space ∷ word (codes "goto") ∷ space ∷ destination to label)
 layout (Call id) label = word (codes "call") ∷ space ∷ constant id []
 layout Exit label = word (codes "exit") ∷ []
 layout (Load size signed dst src offset) label = reg true dst ∷ space ∷ sign (codes "=") ∷ space ∷ address (size_name signed size) src offset []

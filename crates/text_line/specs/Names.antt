@@ -2,8 +2,6 @@
 use Rattle.std.specs.Prelude.{ℕ, ◌+◌, ◌==◌, Bool, true, false, List, [], ◌∷◌, codes, if◌then◌else◌}
 use Rattle.words.specs.declared.operator.AluOp.{AluOp}
 use Rattle.words.specs.declared.operator.AluOp.TheVariants.{Add, Sub, Mul, Div, SignedDiv, Or, And, ShiftLeft, ShiftRight, Mod, SignedMod, Xor, Mov, SignedShiftRight}
-use Rattle.words.specs.declared.operator.Condition.{Condition}
-use Rattle.words.specs.declared.operator.Condition.TheVariants.{Equal, Above, AboveOrEqual, CommonBit, NotEqual, SignedAbove, SignedAboveOrEqual, Below, BelowOrEqual, SignedBelow, SignedBelowOrEqual}
 use Rattle.words.specs.declared.operator.ByteOrder.{ByteOrder}
 use Rattle.words.specs.declared.operator.ByteOrder.TheVariants.{Little, Big, Swap}
 use Rattle.words.specs.declared.operator.KeptBits.{KeptBits}
@@ -28,19 +26,6 @@ operator_name SignedMod = codes "s%="
 operator_name Xor = codes "^="
 operator_name Mov = codes "="
 operator_name SignedShiftRight = codes "s>>="
-
-abbrev pub condition_name : Condition → List ℕ
-condition_name Equal = codes "=="
-condition_name Above = codes ">"
-condition_name AboveOrEqual = codes ">="
-condition_name CommonBit = codes "&"
-condition_name NotEqual = codes "!="
-condition_name SignedAbove = codes "s>"
-condition_name SignedAboveOrEqual = codes "s>="
-condition_name Below = codes "<"
-condition_name BelowOrEqual = codes "<="
-condition_name SignedBelow = codes "s<"
-condition_name SignedBelowOrEqual = codes "s<="
 
 -- `le16` and its like
 abbrev pub order_name : ByteOrder → KeptBits → List ℕ

@@ -6,15 +6,13 @@ ghost use Rattle.text_line.specs.Shown.{seen_line};
 ghost use Rattle.text_line.specs.inside.Reading.{parsed_jump, parsed_load, parsed_store, parsed_atomic, parsed_movsx, parsed_neg, parsed_end, parsed_constant_load, parsed_map_fd, parsed_map_value, parsed_wide_move, parsed_special_move, is_move, parsed_alu, parsed_assignment, parsed_assigned, parsed_goto, parsed_gotol, parsed_call, parsed_form, parsed_label, line_of, seen_destination};
 
 use crate::form::{Form, Line};
-use crate::names::{
-    atomic_size, byte_order, condition, narrow, operator, register_named,
-};
+use crate::names::{atomic_size, byte_order, narrow, operator, register_named};
 use crate::parts::{
     address, after_symbol, after_word, at_end, constant, destination, ended, name, number, operand,
     register, symbol,
 };
 use crate::token::Token;
-use insn_set::{AluOp, AtomicOp, ExtendedBits, Reg};
+use insn_set::{AluOp, AtomicOp, ExtendedBits, Reg, condition_by_symbol};
 
 /// A conditional jump, after `if`.
 #[tactic(auto, unfolding(crate::specs::inside::Reading::parsed_jump))]
@@ -24,7 +22,7 @@ fn jump<'a>(tokens: &[Token<'a>]) -> Option<(Form, &'a str)>
     let (name, rest) = name(tokens)?;
     let (wide, dst) = register_named(name)?;
     let (symbol, rest) = symbol(rest)?;
-    let cond = condition(symbol)?;
+    let cond = condition_by_symbol(symbol)?;
     let Some((src, rest)) = operand(wide, rest) else {
         return None;
     };

@@ -1,11 +1,9 @@
 //! The meanings of names and symbols.
 
 ghost use Rattle.std.specs.Prelude.{◌≡◌};
-ghost use Rattle.text_line.specs.inside.Reading.{rows, named, operators, conditions, orders, narrows, sizes, atomic_size_of, registers};
+ghost use Rattle.text_line.specs.inside.Reading.{rows, named, operators, orders, narrows, sizes, atomic_size_of, registers};
 
-use insn_set::{
-    AccessSize, AluOp, AtomicSize, ByteOrder, Condition, ExtendedBits, KeptBits, Reg,
-};
+use insn_set::{AccessSize, AluOp, AtomicSize, ByteOrder, ExtendedBits, KeptBits, Reg};
 
 /// The value of the first row with this name.
 fn named<T: Copy>(table: &[(&str, T)], name: &str) -> Option<T>
@@ -38,27 +36,6 @@ pub(crate) fn operator(symbol: &str) -> Option<AluOp>
             ("^=", AluOp::Xor),
             ("=", AluOp::Mov),
             ("s>>=", AluOp::SignedShiftRight),
-        ],
-        symbol,
-    )
-}
-
-pub(crate) fn condition(symbol: &str) -> Option<Condition>
-    ensures { result ≡ named conditions symbol.now }
-{
-    named(
-        &[
-            ("==", Condition::Equal),
-            (">", Condition::Above),
-            (">=", Condition::AboveOrEqual),
-            ("&", Condition::CommonBit),
-            ("!=", Condition::NotEqual),
-            ("s>", Condition::SignedAbove),
-            ("s>=", Condition::SignedAboveOrEqual),
-            ("<", Condition::Below),
-            ("<=", Condition::BelowOrEqual),
-            ("s<", Condition::SignedBelow),
-            ("s<=", Condition::SignedBelowOrEqual),
         ],
         symbol,
     )

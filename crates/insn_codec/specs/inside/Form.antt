@@ -2,11 +2,10 @@
 use Rattle.std.specs.Prelude.{ℕ, ◌/◌, ◌%◌, Bool, true, false, ◌&&◌, ◌||◌, Option, Some, None, is_some, nat_le, ◌==◌, if◌then◌else◌, option_and_then}
 use Rattle.insn_set.specs.declared.slot.SlotFields.{SlotFields}
 use Rattle.words.specs.declared.operator.ByteOrder.TheVariants.{Little, Big, Swap}
-use Rattle.words.specs.declared.operator.Condition.{Condition}
-use Rattle.words.specs.declared.operator.Condition.TheVariants.{Equal, Above, AboveOrEqual, CommonBit, NotEqual, SignedAbove, SignedAboveOrEqual, Below, BelowOrEqual, SignedBelow, SignedBelowOrEqual}
 use Rattle.words.specs.declared.stack.AccessSize.{AccessSize}
 use Rattle.words.specs.declared.stack.AccessSize.TheVariants as size
 use Rattle.insn_set.specs.declared.atomic.AtomicSize.TheVariants as atomic_size
+use Rattle.insn_set.specs.ConditionRows.{condition_by_number}
 use Rattle.insn_set.specs.AtomicRows.{atomic_by_number}
 use Rattle.insn_codec.specs.declared.opcode.SourceBit.{SourceBit}
 use Rattle.insn_codec.specs.declared.opcode.SourceBit.TheVariants.{Imm, Reg}
@@ -34,21 +33,6 @@ alu_code_at code =
     (if code == 11 then Some Mov else
     (if code == 12 then Some SignedShiftRight else None)))))))))))
 
--- section 4.3
-abbrev pub condition_at : ℕ → Option Condition
-condition_at code =
-    if code == 1 then Some Equal else
-    (if code == 2 then Some Above else
-    (if code == 3 then Some AboveOrEqual else
-    (if code == 4 then Some CommonBit else
-    (if code == 5 then Some NotEqual else
-    (if code == 6 then Some SignedAbove else
-    (if code == 7 then Some SignedAboveOrEqual else
-    (if code == 10 then Some Below else
-    (if code == 11 then Some BelowOrEqual else
-    (if code == 12 then Some SignedBelow else
-    (if code == 13 then Some SignedBelowOrEqual else None))))))))))
-
 -- section 5
 abbrev pub size_at : ℕ → AccessSize
 size_at code = if code == 0 then size.Word else (if code == 1 then size.Half else (if code == 2 then size.Byte else size.Double))
@@ -72,7 +56,7 @@ alu_at wide source code =
 
 -- section 4.3
 abbrev pub jump_by_condition : Bool → SourceBit → ℕ → Option OpcodeForm
-jump_by_condition wide source code = option_and_then (λ c. Some (form.Jump wide c source)) (condition_at code)
+jump_by_condition wide source code = option_and_then (λ c. Some (form.Jump wide c source)) (condition_by_number code)
 
 abbrev pub jump_at : Bool → SourceBit → ℕ → Option OpcodeForm
 jump_at wide Reg code = jump_by_condition wide Reg code

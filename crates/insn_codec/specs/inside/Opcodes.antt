@@ -7,7 +7,8 @@ use Rattle.insn_codec.specs.declared.opcode.LoadKind.TheVariants as load
 use Rattle.insn_codec.specs.declared.form.OpcodeForm.{OpcodeForm}
 use Rattle.insn_codec.specs.declared.form.OpcodeForm.TheVariants as form
 use Rattle.insn_set.specs.Atomic.{access_size}
-use Rattle.insn_set.specs.Numbers.{opcode, alu_class, jump_class, condition_number, end_opcode, memory_opcode}
+use Rattle.insn_set.specs.Numbers.{opcode, alu_class, jump_class, end_opcode, memory_opcode}
+use Rattle.insn_set.specs.Condition.{condition_number}
 use Rattle.insn_codec.specs.Spelled.{source_number}
 
 -- section 4.1

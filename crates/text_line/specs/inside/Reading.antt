@@ -4,8 +4,6 @@ use Rattle.std.specs.Str.{bytes_eq}
 use Rattle.std.specs.Map.{lookup}
 use Rattle.words.specs.declared.operator.AluOp.{AluOp}
 use Rattle.words.specs.declared.operator.AluOp.TheVariants.{Add, Sub, Mul, Div, SignedDiv, Or, And, ShiftLeft, ShiftRight, Mod, SignedMod, Xor, Mov, SignedShiftRight}
-use Rattle.words.specs.declared.operator.Condition.{Condition}
-use Rattle.words.specs.declared.operator.Condition.TheVariants.{Equal, Above, AboveOrEqual, CommonBit, NotEqual, SignedAbove, SignedAboveOrEqual, Below, BelowOrEqual, SignedBelow, SignedBelowOrEqual}
 use Rattle.words.specs.declared.operator.ByteOrder.{ByteOrder}
 use Rattle.words.specs.declared.operator.ByteOrder.TheVariants.{Little, Big, Swap}
 use Rattle.words.specs.declared.operator.KeptBits.{KeptBits}
@@ -16,6 +14,7 @@ use Rattle.words.specs.declared.stack.AccessSize.{AccessSize}
 use Rattle.words.specs.declared.stack.AccessSize.TheVariants as size
 use Rattle.insn_set.specs.declared.atomic.AtomicSize.{AtomicSize}
 use Rattle.insn_set.specs.declared.atomic.AtomicSize.TheVariants as atomic_size
+use Rattle.insn_set.specs.ConditionRows.{condition_by_symbol}
 use Rattle.insn_set.specs.AtomicRows.{atomic_by_symbol}
 use Rattle.text_line.specs.declared.form.Number.{Number}
 use Rattle.text_line.specs.declared.form.SourceOperand.{SourceOperand}
@@ -71,11 +70,6 @@ abbrev pub operators : List (List ℕ × AluOp)
 operators =
     (codes "+=", Add) ∷ (codes "-=", Sub) ∷ (codes "*=", Mul) ∷ (codes "/=", Div) ∷ (codes "s/=", SignedDiv) ∷ (codes "|=", Or) ∷ (codes "&=", And)
     ∷ (codes "<<=", ShiftLeft) ∷ (codes ">>=", ShiftRight) ∷ (codes "%=", Mod) ∷ (codes "s%=", SignedMod) ∷ (codes "^=", Xor) ∷ (codes "=", Mov) ∷ (codes "s>>=", SignedShiftRight) ∷ []
-
-abbrev pub conditions : List (List ℕ × Condition)
-conditions =
-    (codes "==", Equal) ∷ (codes ">", Above) ∷ (codes ">=", AboveOrEqual) ∷ (codes "&", CommonBit) ∷ (codes "!=", NotEqual) ∷ (codes "s>", SignedAbove)
-    ∷ (codes "s>=", SignedAboveOrEqual) ∷ (codes "<", Below) ∷ (codes "<=", BelowOrEqual) ∷ (codes "s<", SignedBelow) ∷ (codes "s<=", SignedBelowOrEqual) ∷ []
 
 abbrev pub orders : List (List ℕ × (ByteOrder × KeptBits))
 orders =
@@ -183,7 +177,7 @@ parsed_jump ts = do
   n ← leading_name ts
   r ← named registers n.0
   s ← leading_symbol n.1
-  c ← named conditions s.0
+  c ← condition_by_symbol s.0
   src ← leading_operand r.0 s.1
   ts ← after_word (codes "goto") src.1
   to ← parsed_destination ts

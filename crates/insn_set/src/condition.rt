@@ -1,0 +1,54 @@
+//! The conditions of jumps (RFC 9669, section 4.3): a row for each, with its number and its symbol.
+
+ghost use Rattle.std.specs.Prelude.{◌≡◌, ◌≤◌, IfSome};
+ghost use Rattle.insn_set.specs.Condition.{condition_number, condition_symbol};
+ghost use Rattle.insn_set.specs.ConditionRows.{condition_by_number, condition_by_symbol};
+
+use crate::table::{by_number, by_symbol};
+use words::Condition;
+
+/// Each condition in the order of its variants, its code (RFC 9669, section 4.3), and the symbol that a line of text has for it.
+const CONDITIONS: [(Condition, u32, &str); 11] = [
+    (Condition::Equal, 1, "=="),
+    (Condition::NotEqual, 5, "!="),
+    (Condition::Above, 2, ">"),
+    (Condition::AboveOrEqual, 3, ">="),
+    (Condition::Below, 10, "<"),
+    (Condition::BelowOrEqual, 11, "<="),
+    (Condition::SignedAbove, 6, "s>"),
+    (Condition::SignedAboveOrEqual, 7, "s>="),
+    (Condition::SignedBelow, 12, "s<"),
+    (Condition::SignedBelowOrEqual, 13, "s<="),
+    (Condition::CommonBit, 4, "&"),
+];
+
+/// The code of a condition.
+pub fn condition_number(condition: Condition) -> u8
+    ensures value { result ≡ condition_number condition }
+    ensures bound { result ≤ 13 }
+{
+    CONDITIONS[condition as usize].1 as u8
+}
+
+/// The condition with this code, if there is one.
+pub fn condition_by_number(number: u8) -> Option<Condition>
+    ensures value { result ≡ condition_by_number number }
+    ensures inverse { IfSome result (λ c. condition_number c ≡ number) }
+{
+    by_number(&CONDITIONS, u32::from(number))
+}
+
+/// The symbol of a condition in a line of text.
+pub fn condition_symbol(condition: Condition) -> &'static str
+    ensures { result.now ≡ condition_symbol condition }
+{
+    CONDITIONS[condition as usize].2
+}
+
+/// The condition with this symbol, if there is one.
+pub fn condition_by_symbol(symbol: &str) -> Option<Condition>
+    ensures value { result ≡ condition_by_symbol symbol.now }
+    ensures inverse { IfSome result (λ c. condition_symbol c ≡ symbol.now) }
+{
+    by_symbol(&CONDITIONS, symbol)
+}

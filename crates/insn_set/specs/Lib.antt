@@ -8,7 +8,9 @@ pub mod ConditionRows
 pub mod Numbers
 pub mod Slot
 pub mod Spelling
+pub mod View
 pub mod Profile
+pub mod ViewLaws
 pub mod Flow
 pub mod Program
 pub mod BeginLaws

@@ -1,13 +1,12 @@
 -- The properties of an instruction that no register value affects: a table with a row for each. RFC 9669, section 4 (arithmetic and
 -- jumps) and section 5 (loads, stores, atomic operations); that it is one table is this project's own.
 use Rattle.std.specs.Prelude.{ℕ, Option, Some, None}
-use Rattle.words.specs.Words.{unsigned}
 use Rattle.insn_set.specs.declared.insn.Operand.{Operand}
 use Rattle.insn_set.specs.declared.insn.Operand.TheVariants.{Imm, Reg}
 use Rattle.words.specs.declared.operator.AluOp.{AluOp}
 use Rattle.words.specs.declared.operator.AluOp.TheVariants.{Mov}
 use Rattle.insn_set.specs.declared.insn.Insn.{Insn}
-use Rattle.insn_set.specs.declared.insn.Insn.TheVariants.{Alu, Movsx, Neg, End, Ja, Jal, Jump, Call, Exit, Load, Store, Atomic, Const, MapFd, MapValue}
+use Rattle.insn_set.specs.View.{View, Access, WideValue, binary, unary, jump, branch, access, wide_load, call, exit, loads, stores, changes, immediate, map_ref, value_ref, view}
 use Rattle.insn_set.specs.declared.profile.Successors.{Successors}
 use Rattle.insn_set.specs.declared.profile.Successors.TheVariants as to
 use Rattle.insn_set.specs.declared.profile.Reference.{Reference}
@@ -30,19 +29,33 @@ abbrev pub first_operand : AluOp → ℕ → Option ℕ
 first_operand Mov dst = None
 first_operand op dst = Some dst
 
+-- what a wide load names
+abbrev pub reference_of : WideValue → Reference
+reference_of (immediate n) = names.Nothing
+reference_of (map_ref fd) = names.Map fd
+reference_of (value_ref fd off) = names.Value fd off
+
+-- the register of the value that an access writes, if it is in one
+abbrev pub stored_register : Access → Option ℕ
+stored_register (loads size signed dst) = None
+stored_register (stores size src) = register_of src
+stored_register (changes size op src) = Some src
+
+-- the register that it writes
+abbrev pub loaded_register : Access → Option ℕ
+loaded_register (loads size signed dst) = Some dst
+loaded_register (stores size src) = None
+loaded_register (changes size op src) = None
+
+abbrev pub profile_of : View → Profile
+profile_of (binary wide op dst src) = row (first_operand op dst) (register_of src) (Some dst) to.Next names.Nothing 1
+profile_of (unary wide op dst src) = row (Some src) None (Some dst) to.Next names.Nothing 1
+profile_of (jump off) = row None None None (to.Jump off) names.Nothing 1
+profile_of (branch wide cond dst src off) = row (Some dst) (register_of src) None (to.NextOrJump off) names.Nothing 1
+profile_of (access what base off) = row (Some base) (stored_register what) (loaded_register what) to.Next names.Nothing 1
+profile_of (wide_load dst value) = row None None (Some dst) to.Next (reference_of value) 2
+profile_of (call id) = row None None None to.Next (names.Helper id) 1
+profile_of exit = row (Some 0) None None to.Nothing names.Nothing 1
+
 abbrev pub profile : Insn → Profile
-profile (Alu wide op dst src) = row (first_operand op dst) (register_of src) (Some dst) to.Next names.Nothing 1
-profile (Movsx m) = row None (Some m.src) (Some m.dst) to.Next names.Nothing 1
-profile (Neg wide dst) = row (Some dst) None (Some dst) to.Next names.Nothing 1
-profile (End how width dst) = row (Some dst) None (Some dst) to.Next names.Nothing 1
-profile (Ja off) = row None None None (to.Jump off) names.Nothing 1
-profile (Jal off) = row None None None (to.Jump off) names.Nothing 1
-profile (Jump wide cond dst src off) = row (Some dst) (register_of src) None (to.NextOrJump off) names.Nothing 1
-profile (Call id) = row None None None to.Next (names.Helper id) 1
-profile Exit = row (Some 0) None None to.Nothing names.Nothing 1
-profile (Load l) = row None (Some l.src) (Some l.dst) to.Next names.Nothing 1
-profile (Store size dst src off) = row (Some dst) (register_of src) None to.Next names.Nothing 1
-profile (Atomic size op dst src off) = row (Some dst) (Some src) None to.Next names.Nothing 1
-profile (Const dst value) = row None None (Some dst) to.Next names.Nothing 2
-profile (MapFd dst fd) = row None None (Some dst) to.Next (names.Map (unsigned 32 fd)) 2
-profile (MapValue dst fd off) = row None None (Some dst) to.Next (names.Value (unsigned 32 fd) off) 2
+profile i = profile_of (view i)

@@ -36,10 +36,10 @@ pub enum Reference {
 /// The properties of an instruction that no register value affects.
 #[derive(Clone, Copy, Debug, PartialEq, Eq)]
 pub struct Profile {
-    /// The register of its first operand, if it reads one.
+    /// The register of its first or only operand, or of the address of an access, if it reads one.
     pub first_read: Option<Reg>,
-    /// The register of its second operand, or of the address of a load, if it reads one. A call also reads its helper's
-    /// arguments, which are not included here.
+    /// The register of its second operand, or of the value that an access writes, if it reads one. A call also reads its
+    /// helper's arguments, which are not included here.
     pub second_read: Option<Reg>,
     /// The register that it writes. A call's effect on registers 0 to 5 is not included here.
     pub written: Option<Reg>,
@@ -115,15 +115,21 @@ impl Insn {
                 1,
             ),
             Insn::Movsx(Movsx { dst, src, .. }) => row(
-                None,
                 Some(src),
+                None,
                 Some(dst),
                 Next,
                 Nothing,
                 1,
             ),
-            Insn::Neg { dst, .. } => row(Some(dst), None, Some(dst), Next, Nothing, 1),
-            Insn::End { dst, .. } => row(Some(dst), None, Some(dst), Next, Nothing, 1),
+            Insn::Neg { dst, .. } | Insn::End { dst, .. } => row(
+                Some(dst),
+                None,
+                Some(dst),
+                Next,
+                Nothing,
+                1,
+            ),
             Insn::Ja { off } => row(None, None, None, Jump(i32::from(off)), Nothing, 1),
             Insn::Jal { off } => row(None, None, None, Jump(off), Nothing, 1),
             Insn::Jump { dst, src, off, .. } => row(
@@ -143,7 +149,7 @@ impl Insn {
                 Nothing,
                 1,
             ),
-            Insn::Load(Load { dst, src, .. }) => row(None, Some(src), Some(dst), Next, Nothing, 1),
+            Insn::Load(Load { dst, src, .. }) => row(Some(src), None, Some(dst), Next, Nothing, 1),
             Insn::Store { dst, src, .. } => row(
                 Some(dst),
                 register_of(src),

@@ -3,10 +3,9 @@ use Rattle.std.proofs.Common.{◌≡◌, ℕ, zero, suc, ◌+◌, ◌/◌, ◌%�
 use Rattle.std.proofs.Math.Bool.{or-false}
 use Rattle.std.proofs.lemmas.Bool.{or_parts, or_from, true≢false, cond_both}
 use Rattle.words.specs.declared.stack.AccessSize.{AccessSize}
-use Rattle.words.specs.Words.{unsigned}
 use Rattle.words.specs.Stack.{is_in_stack, place}
 use Rattle.insn_set.specs.declared.insn.Insn.{Insn}
-use Rattle.insn_set.specs.declared.insn.Insn.TheVariants.{Alu, Movsx, Neg, End, Ja, Jal, Jump, Call, Exit, Load, Store, Atomic, Const, MapFd, MapValue}
+use Rattle.insn_set.specs.View.{View, Access, WideValue, binary, unary, jump, branch, access, wide_load, call, exit, loads, stores, changes, immediate, map_ref, value_ref, view}
 use Rattle.insn_set.specs.Program.{begins_at, slot_count}
 use Rattle.tagged_model.specs.declared.fault.MapFault.{MapFault}
 use Rattle.tagged_model.specs.declared.helper.Helper.{Helper}
@@ -22,7 +21,7 @@ use Rattle.tagged_model.specs.Table.{Verdict, Refused, Present, New, verdict, re
 use Rattle.tagged_model.specs.Cells.{and_then, write_cell, cell_over}
 use Rattle.tagged_model.specs.State.{RunState, RunMap, with_cells, with_register, stack_place, stack_store, stack_written, value_written, object_written, object_stored, load, store, input, output}
 use Rattle.tagged_model.specs.Helpers.{helper_of, MapReply, put, updated, taken_out, removed, packet_bytes, packet_answer, number_given, length_given, context_given, map_given, argument, GivenMap, map_argument, returns, replies, called}
-use Rattle.tagged_model.specs.Step.{Step, goes, ends, faults, or_fault, operand_value, jumped, branched, ended, advanced, assigned, changed, act, step, refused_at_first, refused_later, Ending, one_step_more, ending_after, run, first_map, start_of_run}
+use Rattle.tagged_model.specs.Step.{Step, goes, ends, faults, or_fault, operand_value, jumped, branched, ended, advanced, assigned, changed, accessed, loaded_wide, act_of, step, refused_at_first, refused_later, Ending, one_step_more, ending_after, run, first_map, start_of_run}
 use Rattle.insn_set.specs.Flow.{natural}
 use Rattle.tagged_model.specs.RunLaws.{RefusalsAreTold}
 
@@ -205,25 +204,28 @@ module _ (refused : Bool) (s : RunState) where
   ended_tells (Scalar n) = refl
   ended_tells v = refl
 
-  act_tells : (i : Insn) → StepTells (act refused i s) (act false i s)
-  act_tells (Alu wide op dst src) = need_tells (first_operand op (s.registers dst)) _ _ (λ a. need_tells (operand_value s wide src) _ _ (λ b. assigned_tells 1 dst (arithmetic wide op a b)))
-  act_tells (Movsx m) = need_tells (s.registers m.src) _ _ (λ b. assigned_tells 1 m.dst _)
-  act_tells (Neg wide dst) = need_tells (s.registers dst) _ _ (λ a. assigned_tells 1 dst _)
-  act_tells (End how bits dst) = need_tells (s.registers dst) _ _ (λ a. assigned_tells 1 dst _)
-  act_tells (Ja off) = jumped_tells off
-  act_tells (Jal off) = jumped_tells off
-  act_tells (Jump wide cond dst src off) = need_tells (s.registers dst) _ _ (λ a. need_tells (operand_value s wide src) _ _ (λ b. need_tells (compared wide cond src a b) _ _ (λ yes. branched_tells off yes)))
-  act_tells (Call id) = need_tells (helper_of id) _ _ (λ h. next_tells (called refused h s) (called false h s) (called_tells h))
-  act_tells Exit = need_tells (s.registers 0) _ _ ended_tells
-  act_tells (Load l) = need_tells (s.registers l.src) _ _ (λ p. assigned_tells 1 l.dst _)
-  act_tells (Store size dst src off) = need_tells (s.registers dst) _ _ (λ p. need_tells (operand_value s true src) _ _ (λ v. next_like (store s size p off v) (store_like size p off v)))
-  act_tells (Atomic size op dst src off) = need_tells (s.registers dst) _ _ (λ p. need_tells (s.registers src) _ _ (λ v. next_like (changed s size op p off v) (changed_like size op p off v)))
-  act_tells (Const dst value) = kept _ _ refl refl refl
-  act_tells (MapFd dst fd) = need_tells (s.maps (unsigned 32 fd)) _ _ (λ t. kept _ _ refl refl refl)
-  act_tells (MapValue dst fd off) = need_tells (s.maps (unsigned 32 fd)) _ _ (λ t. need_tells (direct_object t.table off) _ _ (λ number. kept _ _ refl refl refl))
+  accessed_tells : (what : Access) (p : Tagged) (off : ℤ) → StepTells (accessed s what p off) (accessed s what p off)
+  accessed_tells (loads size signed dst) p off = assigned_tells 1 dst _
+  accessed_tells (stores size src) p off = need_tells (operand_value s true src) _ _ (λ v. next_like (store s size p off v) (store_like size p off v))
+  accessed_tells (changes size op src) p off = need_tells (s.registers src) _ _ (λ v. next_like (changed s size op p off v) (changed_like size op p off v))
+
+  wide_tells : (dst : ℕ) (value : WideValue) → StepTells (loaded_wide s dst value) (loaded_wide s dst value)
+  wide_tells dst (immediate n) = kept _ _ refl refl refl
+  wide_tells dst (map_ref m) = need_tells (s.maps m) _ _ (λ t. kept _ _ refl refl refl)
+  wide_tells dst (value_ref m off) = need_tells (s.maps m) _ _ (λ t. need_tells (direct_object t.table off) _ _ (λ number. kept _ _ refl refl refl))
+
+  act_tells : (v : View) → StepTells (act_of refused v s) (act_of false v s)
+  act_tells (binary wide op dst src) = need_tells (first_operand op (s.registers dst)) _ _ (λ a. need_tells (operand_value s wide src) _ _ (λ b. assigned_tells 1 dst (arithmetic wide op a b)))
+  act_tells (unary wide op dst src) = need_tells (s.registers src) _ _ (λ a. assigned_tells 1 dst _)
+  act_tells (jump off) = jumped_tells off
+  act_tells (branch wide cond dst src off) = need_tells (s.registers dst) _ _ (λ a. need_tells (operand_value s wide src) _ _ (λ b. need_tells (compared wide cond src a b) _ _ (λ yes. branched_tells off yes)))
+  act_tells (access what base off) = need_tells (s.registers base) _ _ (λ p. accessed_tells what p off)
+  act_tells (wide_load dst value) = wide_tells dst value
+  act_tells (call id) = need_tells (helper_of id) _ _ (λ h. next_tells (called refused h s) (called false h s) (called_tells h))
+  act_tells exit = need_tells (s.registers 0) _ _ ended_tells
 
   step_tells : (code : List Insn) → StepTells (step refused code s) (step false code s)
-  step_tells code = need_tells (begins_at code s.at) _ _ act_tells
+  step_tells code = need_tells (begins_at code s.at) _ _ (λ i. act_tells (view i))
 
   -- ---- a step, and the rest of the run
 

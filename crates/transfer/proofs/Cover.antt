@@ -1,20 +1,17 @@
 -- Each instruction is covered.
-use Rattle.std.proofs.Common.{◌≡◌, ℕ, ◌+◌, ◌<◌, ◌≤ℤ◌, ℤ, pos, ◌+ℤ◌, Bool, true, false, Option, Some, None, Result, Ok, Err, if◌then◌else◌, refl, sym, ap, subst, ◌∙◌, arith}
+use Rattle.std.proofs.Common.{◌≡◌, ℕ, length, ◌+◌, ◌<◌, ◌≤ℤ◌, ℤ, pos, ◌+ℤ◌, Bool, true, false, Option, Some, None, Result, Ok, Err, if◌then◌else◌, refl, sym, ap, subst, ◌∙◌, arith}
 use Rattle.std.specs.Option.{IsSome, unwrap_or}
 use Rattle.std.proofs.lemmas.Int.{ints}
-use Rattle.words.specs.declared.operator.Operator.TheVariants as on_words
 use Rattle.words.specs.declared.operator.Operator.{Operator}
-use Rattle.words.specs.Operate.{operate, byte_order}
+use Rattle.words.specs.Operate.{operate}
 use Rattle.words.specs.declared.operator.AluOp.{AluOp}
 use Rattle.words.specs.declared.operator.Condition.{Condition}
-use Rattle.words.specs.declared.stack.AccessSize.{AccessSize}
 use Rattle.insn_set.specs.declared.insn.Operand.{Operand}
-use Rattle.insn_set.specs.declared.insn.Load.{Load as LoadInsn}
-use Rattle.insn_set.specs.declared.atomic.AtomicSize.{AtomicSize}
-use Rattle.insn_set.specs.declared.atomic.AtomicOp.{AtomicOp}
 use Rattle.insn_set.specs.declared.insn.Insn.{Insn}
-use Rattle.insn_set.specs.declared.insn.Insn.TheVariants.{Alu, Movsx, Neg, End, Ja, Jal, Jump, Call, Exit, Load, Store, Atomic, Const, MapFd, MapValue}
-use Rattle.insn_set.specs.Spelling.{IsInsn}
+use Rattle.insn_set.specs.View.{View, Access, WideValue, binary, unary, jump, branch, access, wide_load, call, exit, loads, stores, changes, immediate, map_ref, value_ref, view, IsView}
+use Rattle.insn_set.specs.ViewLaws.{profile_slots, view_is}
+use Rattle.insn_set.specs.Profile.{profile_of}
+use Rattle.insn_set.specs.Spelling.{slots, IsInsn}
 use Rattle.reg_kinds.specs.declared.kind.Kind.{Kind}
 use Rattle.reg_kinds.specs.declared.kind.Kind.TheVariants as kind
 use Rattle.reg_kinds.specs.declared.facts.Facts.{Facts}
@@ -27,7 +24,6 @@ use Rattle.tagged_model.specs.Admits.{IsKindBelow, IsSlotBelow, AreBelow, object
 use Rattle.tagged_model.specs.declared.helper.Helper.{Helper}
 use Rattle.tagged_model.specs.declared.shape.MapShape.{MapShape}
 use Rattle.tagged_model.specs.Helpers.{helper_of, called}
-use Rattle.words.specs.Words.{unsigned}
 use Rattle.reg_kinds.specs.declared.kind.Slot.{Slot}
 use Rattle.reg_kinds.specs.declared.kind.Slot.TheVariants.{Bytes, Spill}
 use Rattle.tagged_model.specs.declared.value.Tagged.{Tagged}
@@ -40,13 +36,13 @@ use Rattle.tagged_model.specs.Cells.{and_then}
 use Rattle.tagged_model.specs.Laws.{MapCallsKeep, SiteAdmits}
 use Rattle.tagged_model.specs.Values.{arithmetic, first_operand, of_number, compared}
 use Rattle.tagged_model.specs.State.{RunState, load, store}
-use Rattle.tagged_model.specs.Step.{Step, goes, or_fault, operand_value, advanced, assigned, changed, branched, ended, act}
-use Rattle.insn_set.specs.Flow.{natural, falls_to, jumps_to}
+use Rattle.tagged_model.specs.Step.{Step, goes, or_fault, operand_value, advanced, assigned, changed, branched, ended, accessed, act_of, act}
+use Rattle.insn_set.specs.Flow.{natural, offset_by, jumps_to}
 use Rattle.transfer.specs.Arithmetic.{check_readable, arithmetic_kind, of_scalar}
 use Rattle.transfer.specs.Branches.{Edges, falls, branch_edges}
-use Rattle.transfer.specs.Effects.{source_kind, assigns, load_kind, store_facts, changed_facts, map_of, value_of, known, exits_with, effect}
+use Rattle.transfer.specs.Effects.{source_kind, assigns, load_kind, store_facts, changed_facts, map_of, value_of, known, exits_with, access_edges, effect_of, effect}
 use Rattle.transfer.specs.Calls.{call_facts}
-use Rattle.transfer.specs.Sound.{IsKindAt, IsSlotAt, takes_jump, TakenEdgeAdmits, CoversStep, CallIsAdmitted, CallsAreSound, TransferIsSound}
+use Rattle.transfer.specs.Sound.{IsKindAt, IsSlotAt, jumps_in, TakenEdgeAdmits, CoversStep, CallIsAdmitted, CallsAreSound, TransferIsSound}
 use Rattle.transfer.proofs.Parts.{by_law, Here, Gives, IsKindOf, IsFound, IsKnown, OnFalling, IsCoveredIf, still_of, still_at, then_covered, ok_is}
 use Rattle.transfer.proofs.States.{constant_of, register_found, source_found, first_found, goes_to, assigned_covered}
 use Rattle.transfer.proofs.Values.{Results, by_number, number_agrees, arithmetic_agrees}
@@ -63,13 +59,20 @@ pub record Laws : Type 0 where
   pub site : SiteAdmits
 
 module _ (laws : Laws) (here : Here) (refused : Bool) (f : Facts) (s : RunState) (is_known : IsKnown here f s) (below : AreBelow s.at f) where
-  -- the edge that an instruction takes, by whether it jumps
-  abbrev OnTaken : Insn → Bool → Edges → RunState → Type 0
-  OnTaken i jumps = TakenEdgeAdmits jumps here.shapes (falls_to i s.at) (jumps_to i s.at)
+  -- the slot to which a jump leads
+  abbrev target_of : View → Option ℕ
+  target_of v = natural (pos (s.at + 1) +ℤ offset_by (profile_of v).successors)
+
+  -- the edge that an instruction of this many slots takes, by whether it jumps
+  abbrev OnTaken : View → ℕ → Bool → Edges → RunState → Type 0
+  OnTaken v slots jumps = TakenEdgeAdmits jumps here.shapes (s.at + slots) (target_of v)
 
   -- the instruction, where the facts let it be run
-  abbrev Covered : Insn → Type 0
-  Covered i = IsCoveredIf (OnTaken i (takes_jump i s)) (effect here.shapes s.at i f) (act refused i s)
+  abbrev CoveredBy : View → ℕ → Type 0
+  CoveredBy v slots = IsCoveredIf (OnTaken v slots (jumps_in v s)) (effect_of here.shapes s.at v f) (act_of refused v s)
+
+  abbrev Covered : View → Type 0
+  Covered v = CoveredBy v (profile_of v).slots
 
   -- the edge to the next slot
   abbrev Next : Edges → RunState → Type 0
@@ -89,60 +92,52 @@ module _ (laws : Laws) (here : Here) (refused : Bool) (f : Facts) (s : RunState)
   left_in : (dst : ℕ) (r : Result Kind Reason) (o : Option Tagged) → Gives here r o → IsCoveredIf Next (assigns f dst r) (or_fault o (assigned 1 s dst))
   left_in dst r o h = then_covered Next (IsKindOf here) r o (λ k. falls (with_kind f dst k)) (assigned 1 s dst) h (λ k v is. assigned_covered here 1 dst is_known is)
 
-  alu_covered : (wide : Bool) (op : AluOp) (dst : ℕ) (src : Operand) → Covered (Alu wide op dst src)
-  alu_covered wide op dst src =
+  binary_covered : (wide : Bool) (op : AluOp) (dst : ℕ) (src : Operand) → Covered (binary wide op dst src)
+  binary_covered wide op dst src =
       then_covered Next (IsFound here (first_operand op (s.registers dst))) _ _ _ _ (first_found here is_known op dst)
       (λ k v h. operand_covered Next wide src _ _
       (λ l w g. left_in dst (arithmetic_kind wide op k l) (arithmetic wide op v w) (arithmetic_agrees here laws.results wide op k l v w h.kind g.kind)))
 
-  -- an operator of one register
-  one_covered : (wide : Bool) (op : Operator) (dst src : ℕ) (g : ℕ → ℕ) → ((n : ℕ) → operate (width wide) op n n ≡ g n) → IsCoveredIf Next (and_then_ok (check_readable (kind_at f src)) (λ k. assigns f dst (of_scalar wide op k))) (or_fault (s.registers src) (λ v. or_fault (of_number g v) (assigned 1 s dst)))
-  one_covered wide op dst src g same =
+  unary_covered : (wide : Bool) (op : Operator) (dst src : ℕ) → Covered (unary wide op dst src)
+  unary_covered wide op dst src =
       register_covered Next src _ _
-      (λ k v h. left_in dst (of_scalar wide op k) (of_number g v) (number_agrees here laws.results wide op g same k v h.kind))
+      (λ k v h. left_in dst (of_scalar wide op k) (of_number (λ n. operate (width wide) op n n) v) (number_agrees here laws.results wide op _ (λ n. refl) k v h.kind))
 
   -- ---- memory
-
-  load_covered : (l : LoadInsn) → Covered (Load l)
-  load_covered l =
-      register_covered Next l.src _ _
-      (λ k v h. left_in l.dst (load_kind here.shapes f l.size l.signed l.off k) (load s l.size l.signed v l.off) (load_agrees is_known laws.accesses l.size l.signed l.off k v h.kind))
 
   stored_covered : (g : Facts) (t : RunState) → IsStored here s g t → IsCoveredIf Next (falls g) (goes (advanced 1 t))
   stored_covered g t h = subst (λ n. IsCoveredIf (OnFalling here (n + 1)) (falls g) (goes (advanced 1 t))) h.at (goes_to here (t.at + 1) h.known)
 
-  store_covered : (size : AccessSize) (dst : ℕ) (src : Operand) (off : ℤ) → Covered (Store size dst src off)
-  store_covered size dst src off =
-      register_covered Next dst _ _
-      (λ k p h. operand_covered Next true src _ _
-      (λ l v g. then_covered Next (IsStored here s) (store_facts here.shapes f size off k l) (store s size p off v) falls (λ t. goes (advanced 1 t)) (store_agrees is_known laws.accesses size off k l p v h.kind g.kind g.readable) stored_covered))
-
-  change_covered : (size : AtomicSize) (op : AtomicOp) (dst src : ℕ) (off : ℤ) → Covered (Atomic size op dst src off)
-  change_covered size op dst src off =
-      register_covered Next dst _ _
-      (λ k p h. register_covered Next src _ _
-      (λ l v g. then_covered Next (IsStored here s) (changed_facts here.shapes f (access_size size) off k l) (changed s size op p off v) falls (λ t. goes (advanced 1 t)) (changed_agrees is_known laws.accesses laws.results size op off k l p v h.kind g.kind) stored_covered))
+  access_covered : (what : Access) (off : ℤ) (k : Kind) (p : Tagged) → IsKindOf here k p → IsCoveredIf Next (access_edges here.shapes f what off k) (accessed s what p off)
+  access_covered (loads size signed dst) off k p is =
+      left_in dst (load_kind here.shapes f size signed off k) (load s size signed p off) (load_agrees is_known laws.accesses size signed off k p is)
+  access_covered (stores size src) off k p is =
+      operand_covered Next true src _ _
+      (λ l v g. then_covered Next (IsStored here s) (store_facts here.shapes f size off k l) (store s size p off v) falls (λ t. goes (advanced 1 t)) (store_agrees is_known laws.accesses size off k l p v is g.kind g.readable) stored_covered)
+  access_covered (changes size op src) off k p is =
+      register_covered Next src _ _
+      (λ l v g. then_covered Next (IsStored here s) (changed_facts here.shapes f (access_size size) off k l) (changed s size op p off v) falls (λ t. goes (advanced 1 t)) (changed_agrees is_known laws.accesses laws.results size op off k l p v is g.kind) stored_covered)
 
   -- ---- jumps, and the end
 
   -- a conditional jump jumps where its comparison of the values holds
-  jumps_if_compared : (wide : Bool) (cond : Condition) (dst : ℕ) (src : Operand) (off : ℤ) (v w : Tagged) → s.registers dst ≡ Some v → operand_value s wide src ≡ Some w → takes_jump (Jump wide cond dst src off) s ≡ unwrap_or (compared wide cond src v w) false
+  jumps_if_compared : (wide : Bool) (cond : Condition) (dst : ℕ) (src : Operand) (off : ℤ) (v w : Tagged) → s.registers dst ≡ Some v → operand_value s wide src ≡ Some w → jumps_in (branch wide cond dst src off) s ≡ unwrap_or (compared wide cond src v w) false
   jumps_if_compared wide cond dst src off v w first second =
       ap (λ o. unwrap_or (and_then o (λ a. and_then (operand_value s wide src) (compared wide cond src a))) false) first ∙ ap (λ o. unwrap_or (and_then o (compared wide cond src v)) false) second
 
-  branches_covered : (wide : Bool) (cond : Condition) (dst : ℕ) (src : Operand) (off : ℤ) → IsSome (natural (pos (s.at + 1) +ℤ off)) → Covered (Jump wide cond dst src off)
+  branches_covered : (wide : Bool) (cond : Condition) (dst : ℕ) (src : Operand) (off : ℤ) → IsSome (natural (pos (s.at + 1) +ℤ off)) → Covered (branch wide cond dst src off)
   branches_covered wide cond dst src off there =
-      let i = Jump wide cond dst src off in
-      register_covered (OnTaken i (takes_jump i s)) dst _ _
-      (λ k v h. operand_covered (OnTaken i (takes_jump i s)) wide src _ _
-      (λ l w g. subst (λ jumps. IsCoveredIf (OnTaken i jumps) (branch_edges wide cond f dst src k l) (or_fault (compared wide cond src v w) (branched s off))) (sym (jumps_if_compared wide cond dst src off v w h.from g.from))
+      let i = branch wide cond dst src off in
+      register_covered (OnTaken i 1 (jumps_in i s)) dst _ _
+      (λ k v h. operand_covered (OnTaken i 1 (jumps_in i s)) wide src _ _
+      (λ l w g. subst (λ jumps. IsCoveredIf (OnTaken i 1 jumps) (branch_edges wide cond f dst src k l) (or_fault (compared wide cond src v w) (branched s off))) (sym (jumps_if_compared wide cond dst src off v w h.from g.from))
       (branch_covered laws.comparisons is_known off there wide cond dst src k l v w h g)))
 
   ended_covered : (k : Kind) (v : Tagged) → IsKindOf here k v → IsCoveredIf Next (exits_with k) (ended v)
   ended_covered (kind.Scalar r) v h = by_number here r v (λ v. IsCoveredIf Next (exits_with (kind.Scalar r)) (ended v)) h.is (λ n m. omega arith)
   ended_covered k v h = tt
 
-  exit_covered : Covered Exit
+  exit_covered : Covered exit
   exit_covered =
       register_covered Next 0 _ _
       (λ k v h. ended_covered k v h.kind)
@@ -190,22 +185,23 @@ module _ (laws : Laws) (here : Here) (refused : Bool) (f : Facts) (s : RunState)
 
   -- ---- all
 
-  insn_covered : (i : Insn) → IsInsn i → IsSome (jumps_to i s.at) → Covered i
-  insn_covered (Alu wide op dst src) is there = alu_covered wide op dst src
-  insn_covered (Movsx m) is there = one_covered m.wide (on_words.SignExtend m.bits) m.dst m.src (λ n. operate (width m.wide) (on_words.SignExtend m.bits) 0 n) (λ n. refl)
-  insn_covered (Neg wide dst) is there = one_covered wide on_words.Neg dst dst (λ n. operate (width wide) on_words.Neg n 0) (λ n. refl)
-  insn_covered (End how kept dst) is there = one_covered true (on_words.End how kept) dst dst (byte_order how kept) (λ n. refl)
-  insn_covered (Ja off) is there = jump_covered here (natural (pos (s.at + 1) +ℤ off)) (record { falling = None; jumping = Some f }) s there is_known
-  insn_covered (Jal off) is there = jump_covered here (natural (pos (s.at + 1) +ℤ off)) (record { falling = None; jumping = Some f }) s there is_known
-  insn_covered (Jump wide cond dst src off) is there = branches_covered wide cond dst src off there
-  insn_covered (Call id) is there = helper_covered (helper_of id)
-  insn_covered Exit is there = exit_covered
-  insn_covered (Load l) is there = load_covered l
-  insn_covered (Store size dst src off) is there = store_covered size dst src off
-  insn_covered (Atomic size op dst src off) is there = change_covered size op dst src off
-  insn_covered (Const dst value) is there = assigned_covered here 2 dst is_known (constant_of here value is.1)
-  insn_covered (MapFd dst fd) is there = map_covered dst (unsigned 32 fd) (here.shapes (unsigned 32 fd)) refl
-  insn_covered (MapValue dst fd off) is there = value_covered dst (unsigned 32 fd) off (here.shapes (unsigned 32 fd)) refl
+  wide_covered : (dst : ℕ) (value : WideValue) → IsView (wide_load dst value) → Covered (wide_load dst value)
+  wide_covered dst (immediate n) is = assigned_covered here 2 dst is_known (constant_of here n is)
+  wide_covered dst (map_ref m) is = map_covered dst m (here.shapes m) refl
+  wide_covered dst (value_ref m off) is = value_covered dst m off (here.shapes m) refl
+
+  view_covered : (v : View) → IsView v → IsSome (target_of v) → Covered v
+  view_covered (binary wide op dst src) is there = binary_covered wide op dst src
+  view_covered (unary wide op dst src) is there = unary_covered wide op dst src
+  view_covered (jump off) is there = jump_covered here (natural (pos (s.at + 1) +ℤ off)) (record { falling = None; jumping = Some f }) s there is_known
+  view_covered (branch wide cond dst src off) is there = branches_covered wide cond dst src off there
+  view_covered (access what base off) is there = register_covered Next base _ _ (λ k p h. access_covered what off k p h.kind)
+  view_covered (wide_load dst value) is there = wide_covered dst value is
+  view_covered (call id) is there = helper_covered (helper_of id)
+  view_covered exit is there = exit_covered
+
+  insn_covered : (i : Insn) → IsInsn i → IsSome (jumps_to i s.at) → CoveredBy (view i) (length (slots i))
+  insn_covered i is there = subst (CoveredBy (view i)) (profile_slots i) (view_covered (view i) (view_is i is) there)
 
 -- the sites of facts before a slot are below it
 kind_below : (n : ℕ) (k : Kind) → IsKindAt n k → IsKindBelow n k

@@ -4,7 +4,6 @@ use Rattle.std.specs.Prelude.{◌||◌, ◌&&◌, ◌^◌, pos, int_le, nat_le, 
 use Rattle.std.proofs.lemmas.Bool.{cond_both}
 use Rattle.interval.specs.declared.range.Range.{Range}
 use Rattle.words.specs.declared.operator.Operator.{Operator}
-use Rattle.words.specs.declared.operator.Operator.TheVariants as on_words
 use Rattle.words.specs.declared.stack.AccessSize.{AccessSize}
 use Rattle.words.specs.declared.stack.AccessSize.TheVariants.{Word}
 use Rattle.interval.specs.Ranges.{is_constant, full}
@@ -13,7 +12,7 @@ use Rattle.words.specs.declared.operator.AluOp.TheVariants as alu
 use Rattle.words.specs.declared.operator.Condition.{Condition}
 use Rattle.insn_set.specs.declared.insn.Operand.{Operand}
 use Rattle.insn_set.specs.declared.insn.Insn.{Insn}
-use Rattle.insn_set.specs.declared.insn.Insn.TheVariants.{Alu, Movsx, Neg, End, Ja, Jal, Jump, Call, Exit, Load, Store, Atomic, Const, MapFd, MapValue}
+use Rattle.insn_set.specs.View.{View, Access, WideValue, binary, unary, jump, branch, access, wide_load, call, exit, loads, stores, changes, immediate, map_ref, value_ref, view}
 use Rattle.reg_kinds.specs.declared.kind.Kind.{Kind}
 use Rattle.reg_kinds.specs.declared.kind.Kind.TheVariants as kind
 use Rattle.reg_kinds.specs.declared.kind.Slot.{Slot}
@@ -33,10 +32,9 @@ use Rattle.transfer.specs.declared.arithmetic.Direction.{Direction}
 use Rattle.transfer.specs.declared.arithmetic.Direction.TheVariants.{Forwards, Backwards}
 use Rattle.transfer.specs.Arithmetic.{check_readable, near, stack_moved, value_by, distance, moved_offset, pointer_moved, is_maybe, of_scalars, of_scalar, sum_kind, difference_kind, unless_maybe, arithmetic_kind}
 use Rattle.transfer.specs.Branches.{Edges, falls, pointer_edges, branch_edges}
-use Rattle.transfer.specs.Effects.{source_kind, first_kind, assigns, is_word, context_read, load_kind, store_facts, number_or, is_known_multiple, changed_facts, map_of, value_of, known, exits_with, effect}
-use Rattle.transfer.specs.Reasons.{IsSafetyReason, IsReasonOf, TransferReasons}
+use Rattle.transfer.specs.Effects.{source_kind, first_kind, assigns, is_word, context_read, load_kind, store_facts, number_or, is_known_multiple, changed_facts, map_of, value_of, known, exits_with, access_edges, wide_kind, effect_of, effect}
+use Rattle.transfer.specs.Reasons.{IsSafetyReason, IsReasonFor, IsReasonOf, TransferReasons}
 use Rattle.transfer.specs.Calls.{shaped, map_kind, room_of, input_kind, output_facts, number_kind, length_kind, context_kind, readable_two, readable_four, any_number, call_facts}
-use Rattle.words.specs.Words.{unsigned}
 use Rattle.words.specs.Stack.{bytes_of, is_double, is_in_stack, place, is_aligned, touches}
 use Rattle.reg_kinds.specs.declared.kind.ValuePointer.{ValuePointer}
 use Rattle.reg_kinds.specs.Many.{bits_in, any_below, is_touched_spill, lacks, stack_input, filled}
@@ -253,84 +251,68 @@ module _ (shapes : Shapes) (at : ℕ) (f : Facts) where
   operand_rule : (wide : Bool) (src : Operand) (go : Kind → Result Edges Reason) → ((k : Kind) → ByRule (go k)) → ByRule (and_then_ok (check_readable (source_kind f wide src)) go)
   operand_rule wide src go next = then_rule _ _ (readable_rule (source_kind f wide src)) next
 
-  -- an operator of one register
-  one_rule : (wide : Bool) (op : Operator) (dst src : ℕ) → ByRule (and_then_ok (check_readable (kind_at f src)) (λ k. assigns f dst (of_scalar wide op k)))
-  one_rule wide op dst src = register_rule f src _ (λ k. assigns_rule dst (of_scalar wide op k) (numbers_rule wide op k k))
-
-  -- an instruction that names neither a function nor a map
-  abbrev IsPlain : Insn → Type 0
-  IsPlain (Call id) = ⊥
-  IsPlain (MapFd dst fd) = ⊥
-  IsPlain (MapValue dst fd off) = ⊥
-  IsPlain i = Unit {0}
-
-  insn_rule : (i : Insn) → IsPlain i → ByRule (effect shapes at i f)
-  insn_rule (Alu wide op dst src) _ =
-      then_rule _ _ (first_rule op (kind_at f dst))
-      (λ a. operand_rule wide src _ (λ b. assigns_rule dst (arithmetic_kind wide op a b) (arithmetic_rule wide op a b)))
-  insn_rule (Movsx m) _ = one_rule m.wide (on_words.SignExtend m.bits) m.dst m.src
-  insn_rule (Neg wide dst) _ = one_rule wide on_words.Neg dst dst
-  insn_rule (End how kept dst) _ = one_rule true (on_words.End how kept) dst dst
-  insn_rule (Ja off) _ = tt
-  insn_rule (Jal off) _ = tt
-  insn_rule (Jump wide cond dst src off) _ = register_rule f dst _ (λ a. operand_rule wide src _ (λ b. branch_rule wide cond f dst src a b))
-  insn_rule (Call id) none = absurd none
-  insn_rule Exit _ = register_rule f 0 exits_with ends_rule
-  insn_rule (Load l) _ = register_rule f l.src _ (λ k. assigns_rule l.dst (load_kind shapes f l.size l.signed l.off k) (load_rule shapes f l.size l.signed l.off k))
-  insn_rule (Store size dst src off) _ =
-      register_rule f dst _ (λ k. operand_rule true src _
-      (λ v. then_rule _ _ (store_rule shapes f size off k v) (λ g. tt)))
-  insn_rule (Atomic size op dst src off) _ =
-      register_rule f dst _ (λ k. register_rule f src _
-      (λ v. then_rule _ _ (changed_rule shapes f (access_size size) off k v) (λ g. tt)))
-  insn_rule (Const dst value) _ = tt
-  insn_rule (MapFd dst fd) none = absurd none
-  insn_rule (MapValue dst fd off) none = absurd none
+  access_rule : (what : Access) (off : ℤ) (k : Kind) → ByRule (access_edges shapes f what off k)
+  access_rule (loads size signed dst) off k = assigns_rule dst (load_kind shapes f size signed off k) (load_rule shapes f size signed off k)
+  access_rule (stores size src) off k = operand_rule true src _ (λ v. then_rule _ _ (store_rule shapes f size off k v) (λ g. tt))
+  access_rule (changes size op src) off k = register_rule f src _ (λ v. then_rule _ _ (changed_rule shapes f (access_size size) off k v) (λ g. tt))
 
   -- ---- the reasons of each instruction
 
-  abbrev Tells : Insn → Result Edges Reason → Type 0
-  Tells i (Ok edges) = Unit {0}
-  Tells i (Err reason) = IsReasonOf shapes i reason
+  abbrev Tells : View → Result Edges Reason → Type 0
+  Tells v (Ok edges) = Unit {0}
+  Tells v (Err reason) = IsReasonFor shapes v reason
 
-  of_operands : (i : Insn) (reason : Reason) → IsSafetyReason reason → IsReasonOf shapes i reason
+  of_operands : (v : View) (reason : Reason) → IsSafetyReason reason → IsReasonFor shapes v reason
   of_operands i UnknownHelper h = absurd h
   of_operands i DescriptorNotMap h = absurd h
   of_operands i NoDirectValue h = absurd h
   of_operands i reason h = h
 
-  by_operands : (i : Insn) (r : Result Edges Reason) → ByRule r → Tells i r
+  by_operands : (i : View) (r : Result Edges Reason) → ByRule r → Tells i r
   by_operands i (Ok edges) h = tt
   by_operands i (Err reason) h = of_operands i reason h
 
-  call_tells : (id : ℤ) (o : Option Helper) → helper_of id ≡ o → Tells (Call id) (and_then_ok (known o) (λ h. and_then_ok (call_facts shapes at h f) falls))
+  call_tells : (id : ℤ) (o : Option Helper) → helper_of id ≡ o → Tells (call id) (and_then_ok (known o) (λ h. and_then_ok (call_facts shapes at h f) falls))
   call_tells id None e = e
   call_tells id (Some h) e =
-      by_operands (Call id) (and_then_ok (call_facts shapes at h f) falls) (then_rule _ _ (call_rule shapes at h f) (λ g. tt))
+      by_operands (call id) (and_then_ok (call_facts shapes at h f) falls) (then_rule _ _ (call_rule shapes at h f) (λ g. tt))
 
-  map_tells : (dst : ℕ) (fd : ℤ) (o : Option MapShape) → shapes (unsigned 32 fd) ≡ o → Tells (MapFd dst fd) (assigns f dst (map_of (unsigned 32 fd) o))
-  map_tells dst fd None e = e
-  map_tells dst fd (Some shape) e = tt
-
-  value_tells : (dst : ℕ) (fd : ℤ) (off : ℕ) (o : Option MapShape) → shapes (unsigned 32 fd) ≡ o → Tells (MapValue dst fd off) (assigns f dst (value_of (unsigned 32 fd) off o))
+  wide_tells : (dst : ℕ) (value : WideValue) → Tells (wide_load dst value) (assigns f dst (wide_kind shapes value))
   unfolding value_of
-  value_tells dst fd off None e = e
-  value_tells dst fd off (Some shape) e =
-      let m = unsigned 32 fd in
-      cond_both (has_direct_value shape off) (Ok (kind.Value (value_span m (pos off) (pos off)))) (Err NoDirectValue) (λ r. Tells (MapValue dst fd off) (assigns f dst r)) (λ _. tt) (λ none. (shape, e, none))
+  wide_tells dst (immediate n) = tt
+  wide_tells dst (map_ref m) = map_tells (shapes m) refl
+    where
+      map_tells : (o : Option MapShape) → shapes m ≡ o → Tells (wide_load dst (map_ref m)) (assigns f dst (map_of m o))
+      map_tells None e = e
+      map_tells (Some shape) e = tt
+  wide_tells dst (value_ref m off) = value_tells (shapes m) refl
+    where
+      value_tells : (o : Option MapShape) → shapes m ≡ o → Tells (wide_load dst (value_ref m off)) (assigns f dst (value_of m off o))
+      value_tells None e = e
+      value_tells (Some shape) e =
+          cond_both (has_direct_value shape off) (Ok (kind.Value (value_span m (pos off) (pos off)))) (Err NoDirectValue) (λ r. Tells (wide_load dst (value_ref m off)) (assigns f dst r)) (λ _. tt) (λ none. (shape, e, none))
 
-  insn_tells : (i : Insn) → Tells i (effect shapes at i f)
-  insn_tells (Call id) = call_tells id (helper_of id) refl
-  insn_tells (MapFd dst fd) = map_tells dst fd (shapes (unsigned 32 fd)) refl
-  insn_tells (MapValue dst fd off) = value_tells dst fd off (shapes (unsigned 32 fd)) refl
-  insn_tells i = by_operands i (effect shapes at i f) (insn_rule i tt)
+  view_tells : (v : View) → Tells v (effect_of shapes at v f)
+  view_tells (binary wide op dst src) =
+      by_operands (binary wide op dst src) _
+      (then_rule _ _ (first_rule op (kind_at f dst))
+      (λ a. operand_rule wide src _ (λ b. assigns_rule dst (arithmetic_kind wide op a b) (arithmetic_rule wide op a b))))
+  view_tells (unary wide op dst src) = by_operands (unary wide op dst src) _ (register_rule f src _ (λ k. assigns_rule dst (of_scalar wide op k) (numbers_rule wide op k k)))
+  view_tells (jump off) = tt
+  view_tells (branch wide cond dst src off) =
+      by_operands (branch wide cond dst src off) _
+      (register_rule f dst _ (λ a. operand_rule wide src _ (λ b. branch_rule wide cond f dst src a b)))
+  view_tells (access what base off) = by_operands (access what base off) _ (register_rule f base _ (access_rule what off))
+  view_tells (wide_load dst value) = wide_tells dst value
+  view_tells (call id) = call_tells id (helper_of id) refl
+  view_tells exit = by_operands exit _ (register_rule f 0 exits_with ends_rule)
 
-  witness : (i : Insn) (r : Result Edges Reason) (reason : Reason) → Tells i r → r ≡ Err reason → IsReasonOf shapes i reason
+  witness : (v : View) (r : Result Edges Reason) (reason : Reason) → Tells v r → r ≡ Err reason → IsReasonFor shapes v reason
   witness i (Ok edges) reason h e = absurd (let z : ⊥ = cc in z)
-  witness i (Err other) reason h e = let same : other ≡ reason = cc in subst (IsReasonOf shapes i) same h
+  witness i (Err other) reason h e = let same : other ≡ reason = cc in subst (IsReasonFor shapes i) same h
 
 pub reasons_told : TransferReasons
-reasons_told shapes at i f reason e = witness shapes at f i (effect shapes at i f) reason (insn_tells shapes at f i) e
+reasons_told shapes at i f reason e = witness shapes at f (view i) (effect shapes at i f) reason (view_tells shapes at f (view i)) e
 
 pub need_no_memory : TransferReasons → (shapes : Shapes) (at : ℕ) (i : Insn) (f : Facts) (reason : Reason) → effect shapes at i f ≡ Err reason → reason ≢ Memory
 need_no_memory law shapes at i f reason e same = subst (IsReasonOf shapes i) same (law shapes at i f reason e)

@@ -5,7 +5,6 @@ use Rattle.std.specs.Option.{option_map}
 use Rattle.std.proofs.lemmas.Bool.{cond_both}
 use Rattle.interval.specs.declared.range.Range.{Range}
 use Rattle.words.specs.declared.operator.Operator.{Operator}
-use Rattle.words.specs.declared.operator.Operator.TheVariants as on_words
 use Rattle.words.specs.declared.stack.AccessSize.{AccessSize}
 use Rattle.words.specs.declared.stack.AccessSize.TheVariants.{Word}
 use Rattle.interval.specs.Ranges.{is_constant, full}
@@ -17,12 +16,8 @@ use Rattle.words.specs.declared.operator.Condition.{Condition}
 use Rattle.words.specs.declared.stack.AccessSize.{AccessSize}
 use Rattle.insn_set.specs.declared.insn.Operand.{Operand}
 use Rattle.insn_set.specs.declared.insn.Operand.TheVariants.{Imm, Reg}
-use Rattle.insn_set.specs.declared.insn.Load.{Load as LoadInsn}
-use Rattle.insn_set.specs.declared.atomic.AtomicSize.{AtomicSize}
-use Rattle.insn_set.specs.declared.atomic.AtomicOp.{AtomicOp}
-use Rattle.insn_set.specs.declared.insn.Insn.{Insn}
-use Rattle.insn_set.specs.declared.insn.Insn.TheVariants.{Alu, Movsx, Neg, End, Ja, Jal, Jump, Call, Exit, Load, Store, Atomic, Const, MapFd, MapValue}
-use Rattle.insn_set.specs.Spelling.{IsInsn}
+use Rattle.insn_set.specs.View.{View, Access, WideValue, binary, unary, jump, branch, access, wide_load, call, exit, loads, stores, changes, immediate, map_ref, value_ref, view, IsView}
+use Rattle.insn_set.specs.ViewLaws.{view_is}
 use Rattle.reg_kinds.specs.declared.kind.Kind.{Kind}
 use Rattle.reg_kinds.specs.declared.kind.Kind.TheVariants as kind
 use Rattle.reg_kinds.specs.declared.facts.Facts.{Facts}
@@ -32,7 +27,6 @@ use Rattle.reg_kinds.specs.Reason.{and_then_ok}
 use Rattle.reg_kinds.specs.Pointers.{value_span}
 use Rattle.reg_kinds.specs.Kinds.{is_pointer, kind_at, with_kind}
 use Rattle.reg_kinds.specs.Stack.{stack_read}
-use Rattle.words.specs.Words.{unsigned}
 use Rattle.words.specs.Stack.{bytes_of}
 use Rattle.tagged_model.specs.declared.helper.Helper.{Helper}
 use Rattle.tagged_model.specs.declared.helper.Helper.TheVariants.{LookUp, Update, Delete, LoadBytes}
@@ -50,7 +44,7 @@ use Rattle.transfer.specs.declared.arithmetic.Direction.{Direction}
 use Rattle.transfer.specs.declared.arithmetic.Direction.TheVariants.{Forwards, Backwards}
 use Rattle.transfer.specs.Arithmetic.{check_readable, near, stack_moved, value_by, distance, moved_offset, pointer_moved, is_maybe, of_scalars, of_scalar, sum_kind, difference_kind, unless_maybe, arithmetic_kind}
 use Rattle.transfer.specs.Branches.{Edges, falls, with_source, with_pair, is_same, number_edges, null_edges, pointer_edges, branch_edges}
-use Rattle.transfer.specs.Effects.{source_kind, first_kind, assigns, is_word, context_read, load_kind, store_facts, number_or, is_known_multiple, changed_facts, map_of, value_of, known, exits_with, effect}
+use Rattle.transfer.specs.Effects.{source_kind, first_kind, assigns, is_word, context_read, load_kind, store_facts, number_or, is_known_multiple, changed_facts, map_of, value_of, known, exits_with, access_edges, wide_kind, effect_of, effect}
 use Rattle.transfer.specs.Calls.{map_kind, room_of, input_kind, output_facts, number_kind, length_kind, context_kind, readable_two, readable_four, any_number, call_facts}
 use Rattle.transfer.specs.Sound.{IsKindAt, AreWellFormedAt, AreWellFormedOn, TransferKeepsWellFormed}
 use Rattle.transfer.specs.FactLaws.{facts_of_later_slots}
@@ -249,52 +243,37 @@ module _ (bound : ℕ) (shapes : Shapes) (at : ℕ) (lt : at < bound) where
     ends_words (kind.Scalar r) = (tt, tt)
     ends_words k = tt
 
-    alu_words : (wide : Bool) (op : AluOp) (dst : ℕ) (src : Operand) → OkIs AreFactsBoth (effect shapes at (Alu wide op dst src) f)
-    alu_words wide op dst src =
+    binary_words : (wide : Bool) (op : AluOp) (dst : ℕ) (src : Operand) → OkIs AreFactsBoth (effect_of shapes at (binary wide op dst src) f)
+    binary_words wide op dst src =
         then_ok _ _ _ _ (first_words op (kind_at f dst) (h.registers dst))
         (λ a small. operand_words wide src _
         (λ b too. assigns_words dst (arithmetic_kind wide op a b) (arithmetic_words laws wide op a b small too)))
 
-    -- an operator of one register
-    one_words : (wide : Bool) (op : Operator) (dst src : ℕ) → OkIs AreFactsBoth (and_then_ok (check_readable (kind_at f src)) (λ k. assigns f dst (of_scalar wide op k)))
-    one_words wide op dst src = register_words src _ (λ k small. assigns_words dst (of_scalar wide op k) (numbers_words laws wide op k k small small))
+    branches_words : (wide : Bool) (cond : Condition) (dst : ℕ) (src : Operand) (off : ℤ) → OkIs AreFactsBoth (effect_of shapes at (branch wide cond dst src off) f)
+    branches_words wide cond dst src off = register_words dst _ (λ a small. operand_words wide src _ (λ b too. branch_words wide cond dst src a b small too))
 
-    jump_words : (wide : Bool) (cond : Condition) (dst : ℕ) (src : Operand) (off : ℤ) → OkIs AreFactsBoth (effect shapes at (Jump wide cond dst src off) f)
-    jump_words wide cond dst src off =
-        register_words dst _ (λ a small. operand_words wide src _ (λ b too. branch_words wide cond dst src a b small too))
+    access_words : (what : Access) (off : ℤ) (k : Kind) → OkIs AreFactsBoth (access_edges shapes f what off k)
+    access_words (loads size signed dst) off k = assigns_words dst (load_kind shapes f size signed off k) (load_words f size signed off k h)
+    access_words (stores size src) off k = operand_words true src _ (λ v small. then_ok _ _ _ _ (store_words f size off k v h small) falls_words)
+    access_words (changes size op src) off k = register_words src _ (λ v _. then_ok _ _ _ _ (changed_words f (access_size size) off k v h) falls_words)
 
-    loads_words : (l : LoadInsn) → OkIs AreFactsBoth (effect shapes at (Load l) f)
-    loads_words l = register_words l.src _ (λ k _. assigns_words l.dst (load_kind shapes f l.size l.signed l.off k) (load_words f l.size l.signed l.off k h))
+    wide_words : (dst : ℕ) (value : WideValue) → IsView (wide_load dst value) → OkIs (IsKindAt bound) (wide_kind shapes value)
+    wide_words dst (immediate n) is = is
+    wide_words dst (map_ref m) is = map_words m (shapes m)
+    wide_words dst (value_ref m off) is = value_words m off (shapes m)
 
-    stores_words : (size : AccessSize) (dst : ℕ) (src : Operand) (off : ℤ) → OkIs AreFactsBoth (effect shapes at (Store size dst src off) f)
-    stores_words size dst src off =
-        register_words dst _ (λ k _. operand_words true src _
-        (λ v small. then_ok _ _ _ _ (store_words f size off k v h small) falls_words))
-
-    changes_words : (size : AtomicSize) (op : AtomicOp) (dst src : ℕ) (off : ℤ) → OkIs AreFactsBoth (effect shapes at (Atomic size op dst src off) f)
-    changes_words size op dst src off =
-        register_words dst _ (λ k _. register_words src _
-        (λ v _. then_ok _ _ _ _ (changed_words f (access_size size) off k v h) falls_words))
-
-    insn_words : (i : Insn) → IsInsn i → OkIs AreFactsBoth (effect shapes at i f)
-    insn_words (Alu wide op dst src) is = alu_words wide op dst src
-    insn_words (Movsx m) is = one_words m.wide (on_words.SignExtend m.bits) m.dst m.src
-    insn_words (Neg wide dst) is = one_words wide on_words.Neg dst dst
-    insn_words (End how kept dst) is = one_words true (on_words.End how kept) dst dst
-    insn_words (Ja off) is = (tt, h)
-    insn_words (Jal off) is = (tt, h)
-    insn_words (Jump wide cond dst src off) is = jump_words wide cond dst src off
-    insn_words (Call id) is = past _ (known (helper_of id)) _ (λ w. then_ok _ _ _ _ (call_words w f h) falls_words)
-    insn_words Exit is = register_words 0 exits_with (λ k _. ends_words k)
-    insn_words (Load l) is = loads_words l
-    insn_words (Store size dst src off) is = stores_words size dst src off
-    insn_words (Atomic size op dst src off) is = changes_words size op dst src off
-    insn_words (Const dst value) is = falls_words _ (kind_words bound f dst _ h is.1)
-    insn_words (MapFd dst fd) is = assigns_words dst (map_of (unsigned 32 fd) (shapes (unsigned 32 fd))) (map_words (unsigned 32 fd) (shapes (unsigned 32 fd)))
-    insn_words (MapValue dst fd off) is = assigns_words dst (value_of (unsigned 32 fd) off (shapes (unsigned 32 fd))) (value_words (unsigned 32 fd) off (shapes (unsigned 32 fd)))
+    view_words : (v : View) → IsView v → OkIs AreFactsBoth (effect_of shapes at v f)
+    view_words (binary wide op dst src) is = binary_words wide op dst src
+    view_words (unary wide op dst src) is = register_words src _ (λ k small. assigns_words dst (of_scalar wide op k) (numbers_words laws wide op k k small small))
+    view_words (jump off) is = (tt, h)
+    view_words (branch wide cond dst src off) is = branches_words wide cond dst src off
+    view_words (access what base off) is = register_words base _ (λ k _. access_words what off k)
+    view_words (wide_load dst value) is = assigns_words dst (wide_kind shapes value) (wide_words dst value is)
+    view_words (call id) is = past _ (known (helper_of id)) _ (λ w. then_ok _ _ _ _ (call_words w f h) falls_words)
+    view_words exit is = register_words 0 exits_with (λ k _. ends_words k)
 
 -- ---- what an instruction leaves
 
 pub transfer_keeps_well_formed : WordLaws → TransferKeepsWellFormed
 transfer_keeps_well_formed laws shapes at n i f edges is h lt e =
-    ok_is (λ (e : Edges). AreWellFormedOn n e.falling × AreWellFormedOn n e.jumping) (effect shapes at i f) edges (insn_words n shapes at lt laws f (facts_of_later_slots at n f lt h) i is) e
+    ok_is (λ (e : Edges). AreWellFormedOn n e.falling × AreWellFormedOn n e.jumping) (effect shapes at i f) edges (view_words n shapes at lt laws f (facts_of_later_slots at n f lt h) (view i) (view_is i is)) e

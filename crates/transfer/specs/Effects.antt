@@ -2,7 +2,6 @@
 -- The conditions are tried in the order in which they are written. The rules and their order are this project's own.
 use Rattle.std.specs.Prelude.{ℕ, ◌*◌, ◌%◌, ℤ, pos, negsuc, ◌+ℤ◌, ◌==◌, unsigned_abs, Bool, true, false, ◌&&◌, nat_lt, if◌then◌else◌, Option, Some, None, Result, Ok, Err}
 use Rattle.std.specs.Ordering.{int_eq}
-use Rattle.words.specs.declared.operator.Operator.TheVariants as on_words
 use Rattle.words.specs.declared.stack.AccessSize.{AccessSize}
 use Rattle.words.specs.declared.stack.AccessSize.TheVariants.{Word}
 use Rattle.interval.specs.Ranges.{constant, full}
@@ -13,7 +12,7 @@ use Rattle.words.specs.declared.operator.AluOp.TheVariants as alu
 use Rattle.insn_set.specs.declared.insn.Operand.{Operand}
 use Rattle.insn_set.specs.declared.insn.Operand.TheVariants.{Imm, Reg}
 use Rattle.insn_set.specs.declared.insn.Insn.{Insn}
-use Rattle.insn_set.specs.declared.insn.Insn.TheVariants.{Alu, Movsx, Neg, End, Ja, Jal, Jump, Call, Exit, Load, Store, Atomic, Const, MapFd, MapValue}
+use Rattle.insn_set.specs.View.{View, Access, WideValue, binary, unary, jump, branch, access, wide_load, call, exit, loads, stores, changes, immediate, map_ref, value_ref, view}
 use Rattle.reg_kinds.specs.declared.kind.Kind.{Kind}
 use Rattle.reg_kinds.specs.declared.kind.Kind.TheVariants as kind
 use Rattle.reg_kinds.specs.declared.kind.ValuePointer.{ValuePointer}
@@ -134,21 +133,31 @@ exit_edges f = and_then_ok (check_readable (kind_at f 0)) exits_with
 abbrev pub operator_edges : Bool → AluOp → ℕ → Operand → Facts → Result Edges Reason
 operator_edges wide op dst src f = and_then_ok (first_kind op (kind_at f dst)) (λ a. and_then_ok (check_readable (source_kind f wide src)) (λ b. assigns f dst (arithmetic_kind wide op a b)))
 
--- ---- the transfer function of each instruction, at a slot
+-- ---- accesses and wide loads
 
+-- at an address of this kind
+abbrev pub access_edges : Shapes → Facts → Access → ℤ → Kind → Result Edges Reason
+access_edges shapes f (loads size signed dst) off k = assigns f dst (load_kind shapes f size signed off k)
+access_edges shapes f (stores size src) off k = and_then_ok (check_readable (source_kind f true src)) (λ v. and_then_ok (store_facts shapes f size off k v) falls)
+access_edges shapes f (changes size op src) off k = and_then_ok (check_readable (kind_at f src)) (λ v. and_then_ok (changed_facts shapes f (access_size size) off k v) falls)
+
+abbrev pub wide_kind : Shapes → WideValue → Result Kind Reason
+wide_kind shapes (immediate n) = Ok (kind.Scalar (constant n))
+wide_kind shapes (map_ref m) = map_of m (shapes m)
+wide_kind shapes (value_ref m off) = value_of m off (shapes m)
+
+-- ---- the transfer function of each group of instructions, at a slot
+
+abbrev pub effect_of : Shapes → ℕ → View → Facts → Result Edges Reason
+effect_of shapes at (binary wide op dst src) f = operator_edges wide op dst src f
+effect_of shapes at (unary wide op dst src) f = and_then_ok (check_readable (kind_at f src)) (λ k. assigns f dst (of_scalar wide op k))
+effect_of shapes at (jump off) f = Ok (record { falling = None; jumping = Some f })
+effect_of shapes at (branch wide cond dst src off) f = and_then_ok (check_readable (kind_at f dst)) (λ a. and_then_ok (check_readable (source_kind f wide src)) (λ b. branch_edges wide cond f dst src a b))
+effect_of shapes at (access what base off) f = and_then_ok (check_readable (kind_at f base)) (access_edges shapes f what off)
+effect_of shapes at (wide_load dst value) f = assigns f dst (wide_kind shapes value)
+effect_of shapes at (call id) f = and_then_ok (known (helper_of id)) (λ h. and_then_ok (call_facts shapes at h f) falls)
+effect_of shapes at exit f = exit_edges f
+
+-- of an instruction
 abbrev pub effect : Shapes → ℕ → Insn → Facts → Result Edges Reason
-effect shapes at (Alu wide op dst src) f = operator_edges wide op dst src f
-effect shapes at (Movsx m) f = and_then_ok (check_readable (kind_at f m.src)) (λ k. assigns f m.dst (of_scalar m.wide (on_words.SignExtend m.bits) k))
-effect shapes at (Neg wide dst) f = and_then_ok (check_readable (kind_at f dst)) (λ k. assigns f dst (of_scalar wide on_words.Neg k))
-effect shapes at (End how kept dst) f = and_then_ok (check_readable (kind_at f dst)) (λ k. assigns f dst (of_scalar true (on_words.End how kept) k))
-effect shapes at (Ja off) f = Ok (record { falling = None; jumping = Some f })
-effect shapes at (Jal off) f = Ok (record { falling = None; jumping = Some f })
-effect shapes at (Jump wide cond dst src off) f = and_then_ok (check_readable (kind_at f dst)) (λ a. and_then_ok (check_readable (source_kind f wide src)) (λ b. branch_edges wide cond f dst src a b))
-effect shapes at (Call id) f = and_then_ok (known (helper_of id)) (λ h. and_then_ok (call_facts shapes at h f) falls)
-effect shapes at Exit f = exit_edges f
-effect shapes at (Load l) f = and_then_ok (check_readable (kind_at f l.src)) (λ k. assigns f l.dst (load_kind shapes f l.size l.signed l.off k))
-effect shapes at (Store size dst src off) f = and_then_ok (check_readable (kind_at f dst)) (λ k. and_then_ok (check_readable (source_kind f true src)) (λ v. and_then_ok (store_facts shapes f size off k v) falls))
-effect shapes at (Atomic size op dst src off) f = and_then_ok (check_readable (kind_at f dst)) (λ k. and_then_ok (check_readable (kind_at f src)) (λ v. and_then_ok (changed_facts shapes f (access_size size) off k v) falls))
-effect shapes at (Const dst value) f = falls (with_kind f dst (kind.Scalar (constant value)))
-effect shapes at (MapFd dst fd) f = assigns f dst (map_of (unsigned 32 fd) (shapes (unsigned 32 fd)))
-effect shapes at (MapValue dst fd off) f = assigns f dst (value_of (unsigned 32 fd) off (shapes (unsigned 32 fd)))
+effect shapes at i f = effect_of shapes at (view i) f

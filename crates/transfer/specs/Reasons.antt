@@ -3,7 +3,8 @@ use Rattle.std.specs.Prelude.{◌≡◌, ℕ, false, None, Some, Err}
 use Rattle.insn_set.specs.declared.insn.Insn.{Insn}
 use Rattle.insn_set.specs.declared.profile.Reference.{Reference}
 use Rattle.insn_set.specs.declared.profile.Reference.TheVariants as names
-use Rattle.insn_set.specs.Profile.{profile}
+use Rattle.insn_set.specs.View.{View, view}
+use Rattle.insn_set.specs.Profile.{profile_of}
 use Rattle.reg_kinds.specs.declared.facts.Facts.{Facts}
 use Rattle.reg_kinds.specs.declared.reason.Reason.{Reason}
 use Rattle.reg_kinds.specs.declared.reason.Reason.TheVariants.{JumpOutside, JumpBackward, FallsOff, Unreachable, UnknownHelper, FramePointerWritten, DescriptorNotOpen, DescriptorNotMap, NoDirectValue, Memory}
@@ -49,11 +50,14 @@ IsNoValue shapes (names.Map fd) = ⊥
 IsNoValue shapes (names.Value fd off) = (shape : MapShape) × (shapes fd ≡ Some shape) × (has_direct_value shape off ≡ false)
 
 -- the reason is one of these, and applies to the instruction, or it is from the kinds of the operands
+abbrev pub IsReasonFor : Shapes → View → Reason → Type 0
+IsReasonFor shapes v UnknownHelper = IsUnknownHelper (profile_of v).reference
+IsReasonFor shapes v DescriptorNotMap = IsUnshapedMap shapes (profile_of v).reference
+IsReasonFor shapes v NoDirectValue = IsNoValue shapes (profile_of v).reference
+IsReasonFor shapes v reason = IsSafetyReason reason
+
 abbrev pub IsReasonOf : Shapes → Insn → Reason → Type 0
-IsReasonOf shapes i UnknownHelper = IsUnknownHelper (profile i).reference
-IsReasonOf shapes i DescriptorNotMap = IsUnshapedMap shapes (profile i).reference
-IsReasonOf shapes i NoDirectValue = IsNoValue shapes (profile i).reference
-IsReasonOf shapes i reason = IsSafetyReason reason
+IsReasonOf shapes i reason = IsReasonFor shapes (view i) reason
 
 -- an instruction is refused only for such a reason
 abbrev pub TransferReasons : Type 0

@@ -2,7 +2,7 @@
 -- 9669, section 4.3; the rest is this project's own.
 use Rattle.std.specs.Prelude.{◌≡◌, ℕ, ◌<◌, ◌^◌, Bool, true, false, Option, Some, None, IsSome, unwrap_or, Ok}
 use Rattle.insn_set.specs.declared.insn.Insn.{Insn}
-use Rattle.insn_set.specs.declared.insn.Insn.TheVariants.{Ja, Jal, Jump}
+use Rattle.insn_set.specs.View.{View, jump, branch, view}
 use Rattle.insn_set.specs.Spelling.{IsInsn}
 use Rattle.reg_kinds.specs.declared.kind.Kind.{Kind}
 use Rattle.reg_kinds.specs.declared.kind.Kind.TheVariants.{Scalar, MaybeValue}
@@ -42,11 +42,13 @@ pub record AreWellFormedAt (n : ℕ) (f : Facts) : Type 0 where
 -- ---- the edge that a step takes
 
 -- whether an instruction jumps in this state: a conditional jump does if its condition holds
+abbrev pub jumps_in : View → RunState → Bool
+jumps_in (jump off) s = true
+jumps_in (branch wide cond dst src off) s = unwrap_or (and_then (s.registers dst) (λ a. and_then (operand_value s wide src) (λ b. compared wide cond src a b))) false
+jumps_in v s = false
+
 abbrev pub takes_jump : Insn → RunState → Bool
-takes_jump (Ja off) s = true
-takes_jump (Jal off) s = true
-takes_jump (Jump wide cond dst src off) s = unwrap_or (and_then (s.registers dst) (λ a. and_then (operand_value s wide src) (λ b. compared wide cond src a b))) false
-takes_jump i s = false
+takes_jump i s = jumps_in (view i) s
 
 -- ---- the state after a step
 

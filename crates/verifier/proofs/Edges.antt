@@ -1,30 +1,23 @@
 -- Facts are on an edge only where the instruction leads there.
-use Rattle.std.proofs.Common.{◌≡◌, ℕ, ℤ, Bool, true, Option, Some, None, Result, Ok, Err, refl, subst}
-use Rattle.words.specs.declared.operator.Operator.TheVariants as on_words
-use Rattle.interval.specs.Ranges.{constant}
-use Rattle.words.specs.declared.operator.AluOp.{AluOp}
-use Rattle.words.specs.declared.stack.AccessSize.{AccessSize}
-use Rattle.insn_set.specs.declared.insn.Operand.{Operand}
-use Rattle.insn_set.specs.declared.atomic.AtomicSize.{AtomicSize}
-use Rattle.insn_set.specs.declared.atomic.AtomicOp.{AtomicOp}
+use Rattle.std.proofs.Common.{◌≡◌, ℕ, ℤ, true, Option, Some, None, Result, Ok, Err, refl, subst}
 use Rattle.insn_set.specs.declared.insn.Insn.{Insn}
-use Rattle.insn_set.specs.declared.insn.Insn.TheVariants.{Alu, Movsx, Neg, End, Ja, Jal, Jump, Call, Exit, Load, Store, Atomic, Const, MapFd, MapValue}
+use Rattle.insn_set.specs.View.{View, Access, binary, unary, jump, branch, access, wide_load, call, exit, loads, stores, changes, view}
+use Rattle.insn_set.specs.Profile.{profile_of}
 use Rattle.reg_kinds.specs.declared.kind.Kind.{Kind}
 use Rattle.reg_kinds.specs.declared.kind.Kind.TheVariants as kind
 use Rattle.reg_kinds.specs.declared.facts.Facts.{Facts}
 use Rattle.reg_kinds.specs.declared.reason.Reason.{Reason}
 use Rattle.reg_kinds.specs.Reason.{and_then_ok}
-use Rattle.reg_kinds.specs.Kinds.{kind_at, with_kind}
+use Rattle.reg_kinds.specs.Kinds.{kind_at}
 use Rattle.insn_set.specs.Atomic.{access_size}
 use Rattle.transfer.specs.Branches.{Edges}
 use Rattle.transfer.specs.Branches.{falls as falls_on}
 use Rattle.transfer.specs.Arithmetic.{check_readable, arithmetic_kind, of_scalar}
-use Rattle.transfer.specs.Effects.{source_kind, first_kind, assigns, load_kind, store_facts, changed_facts, map_of, value_of, known, exits_with, effect}
+use Rattle.transfer.specs.Effects.{source_kind, first_kind, assigns, load_kind, store_facts, changed_facts, access_edges, wide_kind, known, exits_with, effect_of, effect}
 use Rattle.transfer.specs.Calls.{call_facts}
 use Rattle.tagged_model.specs.Named.{Shapes}
 use Rattle.tagged_model.specs.Helpers.{helper_of}
-use Rattle.words.specs.Words.{unsigned}
-use Rattle.insn_set.specs.Flow.{falls, jumps}
+use Rattle.insn_set.specs.Flow.{falls_by, jumps_by}
 
 -- ---- facts are there
 
@@ -33,9 +26,9 @@ AreThere None = ⊥
 AreThere (Some f) = Unit {0}
 
 -- only where the instruction leads there
-pub record LeadOnly (i : Insn) (e : Edges) : Type 0 where
-  pub falling : AreThere e.falling → falls i ≡ true
-  pub jumping : AreThere e.jumping → jumps i ≡ true
+pub record LeadOnly (v : View) (e : Edges) : Type 0 where
+  pub falling : AreThere e.falling → falls_by (profile_of v).successors ≡ true
+  pub jumping : AreThere e.jumping → jumps_by (profile_of v).successors ≡ true
 
 abbrev IfOk : (Edges → Type 0) → Result Edges Reason → Type 0
 IfOk P (Err r) = Unit {0}
@@ -50,62 +43,41 @@ if_ok P (Err reason) e h q = absurd (let z : ⊥ = cc in z)
 if_ok P (Ok d) e h q = let same : d ≡ e = cc in subst P same h
 
 -- what falls alone
-falls_alone : (i : Insn) (f : Facts) → falls i ≡ true → LeadOnly i (record { falling = Some f; jumping = None })
-falls_alone i f h = record { falling = λ _. h; jumping = λ z. absurd z }
+falls_alone : (v : View) (f : Facts) → falls_by (profile_of v).successors ≡ true → LeadOnly v (record { falling = Some f; jumping = None })
+falls_alone v f h = record { falling = λ _. h; jumping = λ z. absurd z }
 
-assigned_alone : (i : Insn) (f : Facts) (dst : ℕ) (r : Result Kind Reason) → falls i ≡ true → IfOk (LeadOnly i) (assigns f dst r)
-assigned_alone i f dst r h = after_given (LeadOnly i) r _ (λ k. falls_alone i _ h)
+assigned_alone : (v : View) (f : Facts) (dst : ℕ) (r : Result Kind Reason) → falls_by (profile_of v).successors ≡ true → IfOk (LeadOnly v) (assigns f dst r)
+assigned_alone v f dst r h = after_given (LeadOnly v) r _ (λ k. falls_alone v _ h)
 
-ends_nowhere : (k : Kind) → IfOk (LeadOnly Exit) (exits_with k)
+ends_nowhere : (k : Kind) → IfOk (LeadOnly exit) (exits_with k)
 ends_nowhere (kind.Scalar r) = record { falling = λ z. absurd z; jumping = λ z. absurd z }
 ends_nowhere k = tt
 
-jumps_alone : (i : Insn) (f : Facts) → jumps i ≡ true → LeadOnly i (record { falling = None; jumping = Some f })
-jumps_alone i f h = record { falling = λ z. absurd z; jumping = λ _. h }
+either_way : (v : View) (r : Result Edges Reason) → falls_by (profile_of v).successors ≡ true → jumps_by (profile_of v).successors ≡ true → IfOk (LeadOnly v) r
+either_way v (Err e) h g = tt
+either_way v (Ok e) h g = record { falling = λ _. h; jumping = λ _. g }
 
-either_way : (i : Insn) (r : Result Edges Reason) → falls i ≡ true → jumps i ≡ true → IfOk (LeadOnly i) r
-either_way i (Err e) h g = tt
-either_way i (Ok e) h g = record { falling = λ _. h; jumping = λ _. g }
+module _ (shapes : Shapes) (at : ℕ) (f : Facts) where
+  access_leads : (v : View) (what : Access) (off : ℤ) (k : Kind) → falls_by (profile_of v).successors ≡ true → IfOk (LeadOnly v) (access_edges shapes f what off k)
+  access_leads v (loads size signed dst) off k h = assigned_alone v f dst (load_kind shapes f size signed off k) h
+  access_leads v (stores size src) off k h =
+      after_given (LeadOnly v) (check_readable (source_kind f true src)) _ (λ l. after_given (LeadOnly v) (store_facts shapes f size off k l) _ (λ g. falls_alone v g h))
+  access_leads v (changes size op src) off k h =
+      after_given (LeadOnly v) (check_readable (kind_at f src)) _ (λ l. after_given (LeadOnly v) (changed_facts shapes f (access_size size) off k l) _ (λ g. falls_alone v g h))
 
--- an operator of one register
-one_leads : (i : Insn) (f : Facts) (dst src : ℕ) (of : Kind → Result Kind Reason) → falls i ≡ true → IfOk (LeadOnly i) (and_then_ok (check_readable (kind_at f src)) (λ k. assigns f dst (of k)))
-one_leads i f dst src of h = after_given (LeadOnly i) (check_readable (kind_at f src)) (λ k. assigns f dst (of k)) (λ k. assigned_alone i f dst (of k) h)
+  view_leads : (v : View) → IfOk (LeadOnly v) (effect_of shapes at v f)
+  view_leads (binary wide op dst src) =
+      let v = binary wide op dst src in
+      after_given (LeadOnly v) (first_kind op (kind_at f dst)) _
+      (λ a. after_given (LeadOnly v) (check_readable (source_kind f wide src)) _
+      (λ b. assigned_alone v f dst (arithmetic_kind wide op a b) refl))
+  view_leads (unary wide op dst src) = after_given (LeadOnly (unary wide op dst src)) (check_readable (kind_at f src)) _ (λ k. assigned_alone (unary wide op dst src) f dst (of_scalar wide op k) refl)
+  view_leads (jump off) = record { falling = λ z. absurd z; jumping = λ _. refl }
+  view_leads (branch wide cond dst src off) = either_way (branch wide cond dst src off) (effect_of shapes at (branch wide cond dst src off) f) refl refl
+  view_leads (access what base off) = after_given (LeadOnly (access what base off)) (check_readable (kind_at f base)) _ (λ k. access_leads (access what base off) what off k refl)
+  view_leads (wide_load dst value) = assigned_alone (wide_load dst value) f dst (wide_kind shapes value) refl
+  view_leads (call id) = after_given (LeadOnly (call id)) (known (helper_of id)) _ (λ h. after_given (LeadOnly (call id)) (call_facts shapes at h f) falls_on (λ g. falls_alone (call id) g refl))
+  view_leads exit = after_given (LeadOnly exit) (check_readable (kind_at f 0)) exits_with ends_nowhere
 
-module _ (shapes : Shapes) (at : ℕ) where
-  alu_leads : (wide : Bool) (op : AluOp) (dst : ℕ) (src : Operand) (f : Facts) → IfOk (LeadOnly (Alu wide op dst src)) (effect shapes at (Alu wide op dst src) f)
-  alu_leads wide op dst src f =
-      after_given (LeadOnly (Alu wide op dst src)) (first_kind op (kind_at f dst)) _
-      (λ a. after_given (LeadOnly (Alu wide op dst src)) (check_readable (source_kind f wide src)) _
-      (λ b. assigned_alone (Alu wide op dst src) f dst (arithmetic_kind wide op a b) refl))
-
-  store_leads : (size : AccessSize) (dst : ℕ) (src : Operand) (off : ℤ) (f : Facts) → IfOk (LeadOnly (Store size dst src off)) (effect shapes at (Store size dst src off) f)
-  store_leads size dst src off f =
-      after_given (LeadOnly (Store size dst src off)) (check_readable (kind_at f dst)) _
-      (λ k. after_given (LeadOnly (Store size dst src off)) (check_readable (source_kind f true src)) _
-      (λ v. after_given (LeadOnly (Store size dst src off)) (store_facts shapes f size off k v) _ (λ g. falls_alone (Store size dst src off) g refl)))
-
-  change_leads : (size : AtomicSize) (op : AtomicOp) (dst src : ℕ) (off : ℤ) (f : Facts) → IfOk (LeadOnly (Atomic size op dst src off)) (effect shapes at (Atomic size op dst src off) f)
-  change_leads size op dst src off f =
-      after_given (LeadOnly (Atomic size op dst src off)) (check_readable (kind_at f dst)) _
-      (λ k. after_given (LeadOnly (Atomic size op dst src off)) (check_readable (kind_at f src)) _
-      (λ v. after_given (LeadOnly (Atomic size op dst src off)) (changed_facts shapes f (access_size size) off k v) _ (λ g. falls_alone (Atomic size op dst src off) g refl)))
-
-  effect_leads : (i : Insn) (f : Facts) → IfOk (LeadOnly i) (effect shapes at i f)
-  effect_leads (Alu wide op dst src) f = alu_leads wide op dst src f
-  effect_leads (Movsx m) f = one_leads (Movsx m) f m.dst m.src (of_scalar m.wide (on_words.SignExtend m.bits)) refl
-  effect_leads (Neg wide dst) f = one_leads (Neg wide dst) f dst dst (of_scalar wide on_words.Neg) refl
-  effect_leads (End how kept dst) f = one_leads (End how kept dst) f dst dst (of_scalar true (on_words.End how kept)) refl
-  effect_leads (Ja off) f = jumps_alone (Ja off) f refl
-  effect_leads (Jal off) f = jumps_alone (Jal off) f refl
-  effect_leads (Jump wide cond dst src off) f = either_way (Jump wide cond dst src off) (effect shapes at (Jump wide cond dst src off) f) refl refl
-  effect_leads (Call id) f = after_given (LeadOnly (Call id)) (known (helper_of id)) _ (λ h. after_given (LeadOnly (Call id)) (call_facts shapes at h f) falls_on (λ g. falls_alone (Call id) g refl))
-  effect_leads Exit f = after_given (LeadOnly Exit) (check_readable (kind_at f 0)) exits_with ends_nowhere
-  effect_leads (Load l) f = one_leads (Load l) f l.dst l.src (load_kind shapes f l.size l.signed l.off) refl
-  effect_leads (Store size dst src off) f = store_leads size dst src off f
-  effect_leads (Atomic size op dst src off) f = change_leads size op dst src off f
-  effect_leads (Const dst value) f = falls_alone (Const dst value) (with_kind f dst (kind.Scalar (constant value))) refl
-  effect_leads (MapFd dst fd) f = assigned_alone (MapFd dst fd) f dst (map_of (unsigned 32 fd) (shapes (unsigned 32 fd))) refl
-  effect_leads (MapValue dst fd off) f = assigned_alone (MapValue dst fd off) f dst (value_of (unsigned 32 fd) off (shapes (unsigned 32 fd))) refl
-
-  pub leads_only : (i : Insn) (f : Facts) (e : Edges) → effect shapes at i f ≡ Ok e → LeadOnly i e
-  leads_only i f e q = if_ok (LeadOnly i) (effect shapes at i f) e (effect_leads i f) q
+pub leads_only : (shapes : Shapes) (at : ℕ) (i : Insn) (f : Facts) (e : Edges) → effect shapes at i f ≡ Ok e → LeadOnly (view i) e
+leads_only shapes at i f e q = if_ok (LeadOnly (view i)) (effect shapes at i f) e (view_leads shapes at f (view i)) q

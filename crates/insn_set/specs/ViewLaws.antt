@@ -1,0 +1,17 @@
+-- Laws of `view`, of the definitions of `View`, `Profile` and `Spelling`, proved here for the proofs of the crates above. This project's
+-- own. No contract cites them, so there is nothing in them to believe.
+use Rattle.std.proofs.Common.{◌≡◌, length, refl}
+use Rattle.insn_set.specs.declared.insn.Insn.{Insn}
+use Rattle.insn_set.specs.declared.insn.Insn.TheVariants.{Alu, Const}
+use Rattle.insn_set.specs.View.{view, IsView}
+use Rattle.insn_set.specs.Profile.{profile}
+use Rattle.insn_set.specs.Spelling.{slots, IsInsn}
+
+-- the number of slots in the row of an instruction is right
+pub profile_slots : (i : Insn) → (profile i).slots ≡ length (slots i)
+profile_slots (Alu wide op dst src) = refl
+profile_slots _ = refl
+
+pub view_is : (i : Insn) → IsInsn i → IsView (view i)
+view_is (Const dst value) h = h.1
+view_is _ h = tt

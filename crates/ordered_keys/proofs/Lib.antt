@@ -1,0 +1,4 @@
+pub mod Rings
+pub mod Links
+pub mod Ordered
+pub mod Tables

@@ -1,0 +1,62 @@
+-- Places and keys in an order. This project's own.
+use Rattle.std.specs.Prelude.{◌≡◌, ℕ, ◌+◌, Bool, true, nat_eq, if◌then◌else◌, List, [], ◌∷◌, Option, Some, None, is_some, refl}
+use Rattle.std.specs.Coded.{Coded, code_by, coded×, coded_list, coded_ℕ}
+use Rattle.std.specs.Map.{lookup}
+
+-- ---- places
+
+-- the number of times that a list has a place
+abbrev pub occurrences : ℕ → List ℕ → ℕ
+occurrences p [] = 0
+occurrences p (x ∷ xs) = (if nat_eq p x then 1 else 0) + occurrences p xs
+
+-- places less than a bound, in order
+pub record Order : Type 0 where
+  pub bound : ℕ
+  pub places : List ℕ
+
+abbrev pub first_place : List ℕ → Option ℕ
+first_place [] = None
+first_place (x ∷ xs) = Some x
+
+-- the place that follows p
+abbrev pub following : ℕ → List ℕ → Option ℕ
+following p [] = None
+following p (x ∷ xs) = if nat_eq p x then first_place xs else following p xs
+
+-- without p; the others keep their order
+abbrev pub taken_out : ℕ → List ℕ → List ℕ
+taken_out p [] = []
+taken_out p (x ∷ xs) = if nat_eq p x then xs else x ∷ taken_out p xs
+
+-- ---- keys
+
+-- keys with their places, which are less than a bound, in order
+pub record BoundedKeys (K : Type 0) : Type 0 where
+  pub bound : ℕ
+  pub entries : List (K × ℕ)
+
+abbrev pub bounded_keys : {K : Type 0} → ℕ → List (K × ℕ) → BoundedKeys K
+bounded_keys bound es = record { bound = bound; entries = es }
+
+abbrev pub bounded_keys_code : {K : Type 0} → Coded K → Coded (BoundedKeys K)
+bounded_keys_code {K} k = code_by (ℕ × List (K × ℕ)) (coded× coded_ℕ (coded_list (coded× k coded_ℕ))) (λ b. (b.bound, b.entries)) (λ p. bounded_keys p.0 p.1) (λ _. refl)
+
+-- any two keys that pass the test are equal
+abbrev pub IsSole : {K : Type 0} → (K → K → Bool) → (K → Bool) → Type 0
+IsSole {K} eq test = (x y : K) → test x ≡ true → test y ≡ true → eq x y ≡ true
+
+module _ {K : Type 0} where
+  abbrev pub first_key_of : List (K × ℕ) → Option K
+  first_key_of [] = None
+  first_key_of (e ∷ es) = Some e.0
+
+  module _ (test : K → Bool) where
+    -- the key that follows the one that passes the test
+    abbrev pub key_behind_passing : List (K × ℕ) → Option K
+    key_behind_passing [] = None
+    key_behind_passing (e ∷ es) = if test e.0 then first_key_of es else key_behind_passing es
+
+    -- if no key passes, it is the first
+    abbrev pub key_following : List (K × ℕ) → Option K
+    key_following es = if is_some (lookup test es) then key_behind_passing es else first_key_of es

@@ -1,0 +1,3 @@
+-- Definitions for private contracts and proofs. No public contract names them.
+pub mod Links
+pub mod Ordered

@@ -1,0 +1,34 @@
+-- A table of keys in any order, and the order of their places. This project's own.
+use Rattle.std.specs.Prelude.{◌≡◌, ℕ, ◌<◌, ◌≤◌, ◌^◌, List, [], ◌∷◌, ◌++◌, length, Option, Some, None, option_map, slice_get, slice_index_or, option_to_list}
+use Rattle.ordered_keys.specs.Orders.{Order, occurrences}
+use Rattle.ordered_keys.specs.inside.Links.{AreWithin}
+
+module _ {K : Type 0} where
+  -- the entry of a place
+  abbrev pub entry_of : List (K × ℕ) → List ℕ → ℕ → Option (K × ℕ)
+  entry_of es indices p = slice_get es (slice_index_or indices p 0)
+
+  -- the key of a place, if there is one
+  abbrev pub key_of : List (K × ℕ) → List ℕ → Option ℕ → Option K
+  key_of es indices None = None
+  key_of es indices (Some p) = option_map (λ e. e.0) (entry_of es indices p)
+
+  -- the entries of these places, in order
+  abbrev pub in_order : List (K × ℕ) → List ℕ → List ℕ → List (K × ℕ)
+  in_order es indices [] = []
+  in_order es indices (p ∷ ps) = option_to_list (entry_of es indices p) ++ in_order es indices ps
+
+  -- each place has an entry
+  abbrev pub HaveEntries : List (K × ℕ) → List ℕ → List ℕ → Type 0
+  HaveEntries es indices [] = Unit {0}
+  HaveEntries es indices (p ∷ ps) = ((k : K) × (entry_of es indices p ≡ Some (k, p))) × HaveEntries es indices ps
+
+  -- the places of the order are those of the entries, and the index of each is known
+  pub record IsIndexed (es : List (K × ℕ)) (indices : List ℕ) (order : Order) : Type 0 where
+    pub long : length indices ≡ order.bound
+    pub small : order.bound < 2 ^ 32
+    pub many : length es ≡ length order.places
+    pub few : length order.places ≤ order.bound
+    pub within : AreWithin order.bound order.places
+    pub placed : HaveEntries es indices order.places
+    pub listed : (i : ℕ) (e : K × ℕ) → slice_get es i ≡ Some e → (occurrences e.1 order.places ≡ 1) × (slice_index_or indices e.1 0 ≡ i)

@@ -1,0 +1,158 @@
+//! A map from keys to places that keeps its keys in the order in which they were added. A removal costs as much as an insertion.
+
+ghost use Rattle.std.specs.Prelude.{◌≡◌, ℕ, ◌<◌, true, [], ◌∷◌, ◌++◌, length, option_map, slice_get, None, IfSome, IfOk, OnOk, OnErr};
+ghost use Rattle.std.specs.Option.{option_map_or};
+ghost use Rattle.std.specs.Map.{lookup, remove_entry, values_of};
+ghost use Rattle.ordered_keys.specs.Orders.{occurrences, IsSole, first_key_of, key_following};
+ghost use Rattle.ordered_keys.specs.inside.Ordered.{key_of};
+
+use crate::place_order::PlaceOrder;
+use indexmap::{Equivalent, IndexMap};
+use std::alloc::{AllocError, Global};
+use std::hash::{BuildHasher, Hash};
+use std::marker::Model;
+
+/// Keys, each with a place of its own less than a bound, in the order in which they were added.
+///
+/// The table has the keys in any order: the last key takes the index of one that is removed. The order of the keys is that of their
+/// places.
+#[derive(Drop)]
+pub struct OrderedMap<K: Eq + Hash, S: BuildHasher> {
+    table: IndexMap<K, u32, S>,
+    // The index in the table of the key of each place.
+    indices: Vec<u32>,
+    order: PlaceOrder,
+}
+
+impl<K: Eq + Hash, S: BuildHasher> Model for OrderedMap<K, S> {
+    ghost use Rattle.ordered_keys.specs.Orders.{BoundedKeys, bounded_keys_code};
+
+    ghost Value = { BoundedKeys K };
+
+    ghost coded = { bounded_keys_code K.code };
+
+    ghost use Rattle.ordered_keys.specs.Orders.{bounded_keys};
+    ghost use Rattle.ordered_keys.specs.inside.Ordered.{in_order, IsIndexed};
+
+    ghost view = { λ m. bounded_keys m.order.bound (in_order m.table.entries m.indices.items m.order.places) };
+
+    ghost invariant = { λ m. IsIndexed m.table.entries m.indices.items m.order };
+}
+
+impl<K: Eq + Hash, S: BuildHasher> OrderedMap<K, S> {
+    /// A map without keys, for places less than `bound`. Allocates room for their order. `AllocError`: out of memory.
+    pub fn new(alloc: Global, bound: u32, hash_builder: S) -> Result<OrderedMap<K, S>, AllocError>
+    where
+        S: Drop,
+        ensures bound { IfOk result (λ map. map.bound ≡ bound) }
+        ensures entries { IfOk result (λ map. map.entries ≡ []) }
+    {
+        let indices = vec![in alloc; 0; bound as usize]?;
+        let order = PlaceOrder::new(alloc, bound)?;
+        Ok(OrderedMap {
+            table: IndexMap::with_hasher(alloc, hash_builder),
+            indices,
+            order,
+        })
+    }
+
+    pub fn allocator(&self) -> Global {
+        *self.table.allocator()
+    }
+
+    /// The place of a key; `None` if the key is absent.
+    #[inline(always)]
+    pub fn get<Q: Equivalent<K>>(&self, key: Q) -> Option<u32>
+        requires { IsSole K.eq (Q.equivalent key) }
+        ensures { result ≡ lookup (Q.equivalent key) self.now.entries }
+    {
+        // The table's keys differ: its length says so.
+        let _len = self.table.len();
+        self.table.get(key).copied()
+    }
+
+    /// The key that follows a key, if there is one. After an absent key it is the first.
+    pub fn key_after<Q: Equivalent<K>>(&self, key: Q) -> Option<&K>
+        requires { IsSole K.eq (Q.equivalent key) }
+        ensures { option_map (λ k. k.now) result ≡ key_following (Q.equivalent key) self.now.entries }
+    {
+        let _len = self.table.len();
+        let Some(place) = self.table.get(key) else {
+            return self.first();
+        };
+        key_at(&self.table, &self.indices, self.order.after(*place))
+    }
+
+    /// The first key, if there is one.
+    pub fn first(&self) -> Option<&K>
+        ensures { option_map (λ k. k.now) result ≡ first_key_of self.now.entries }
+    {
+        key_at(&self.table, &self.indices, self.order.first())
+    }
+
+    /// Adds a new key at the end. `AllocError`: out of memory. Then nothing has changed.
+    pub fn insert(&mut self, key: K, place: u32) -> Result<(), AllocError>
+    where
+        K: Drop,
+        requires absent { lookup (K.eq key) self.old.entries ≡ None }
+        requires within { place < self.old.bound }
+        requires free { occurrences place (values_of self.old.entries) ≡ 0 }
+        requires few { length self.old.entries < self.old.bound }
+        ensures added { OnOk result (self.new.entries ≡ self.old.entries ++ (key, place) ∷ []) }
+        ensures refused { OnErr result (self.new.entries ≡ self.old.entries) }
+        ensures bound { self.new.bound ≡ self.old.bound }
+    {
+        let index = self.table.len() as u32;
+        self.table.insert(key, place)?;
+        self.indices[place as usize] = index;
+        self.order.push(place);
+        Ok(())
+    }
+
+    /// Removes a key and returns its place; `None` if the key is absent. The others keep their order.
+    pub fn remove<Q: Equivalent<K>>(&mut self, key: Q) -> Option<u32>
+    where
+        K: Drop,
+        requires { IsSole K.eq (Q.equivalent key) }
+        ensures place { result ≡ lookup (Q.equivalent key) self.old.entries }
+        ensures left { self.new.entries ≡ remove_entry (Q.equivalent key) self.old.entries }
+        ensures bound { self.new.bound ≡ self.old.bound }
+    {
+        let index = self.table.get_index_of(key)?;
+        let Some((_key, place)) = self.table.swap_remove_index(index) else {
+            unreachable!()
+        };
+        let moved = place_at(&self.table, index, place);
+        self.indices[moved as usize] = index as u32;
+        self.order.remove(place);
+        Some(place)
+    }
+}
+
+/// The key of a place, by its index in the table.
+fn key_at<'a, K: Eq + Hash, S: BuildHasher>(
+    table: &'a IndexMap<K, u32, S>,
+    indices: &[u32],
+    place: Option<u32>,
+) -> Option<&'a K>
+    requires { IfSome place (λ p. p < length indices.now) }
+    ensures { option_map (λ k. k.now) result ≡ key_of table.now.entries indices.now place }
+{
+    let index = indices[place? as usize];
+    let (key, _) = table.get_index(index as usize)?;
+    Some(key)
+}
+
+/// The place of the entry at an index of the table; `otherwise` if there is none.
+fn place_at<K: Eq + Hash, S: BuildHasher>(
+    table: &IndexMap<K, u32, S>,
+    index: usize,
+    otherwise: u32,
+) -> u32
+    ensures { result ≡ option_map_or (λ e. e.1) (slice_get table.now.entries index) otherwise }
+{
+    match table.get_index(index) {
+        Some((_, place)) => *place,
+        None => otherwise,
+    }
+}

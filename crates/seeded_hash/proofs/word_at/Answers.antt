@@ -1,0 +1,6 @@
+use Rattle.seeded_hash.specs.Hashing.{word_at}
+use Rattle.seeded_hash.proofs.word_at.Goals as goal
+
+pub returns : goal.returns
+unfolding word_at
+returns c = rw (c.half_at.ensures, c.half_at-2.ensures)

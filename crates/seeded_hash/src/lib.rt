@@ -1,0 +1,137 @@
+//! A hash function with a seed, so that nobody who does not know the seed can choose keys that collide.
+#![tactic(auto)]
+
+ghost use Rattle.std.specs.Prelude.{◌≡◌, ◌+◌, ◌≤◌, length};
+ghost use Rattle.seeded_hash.specs.Hashing as hashing;
+
+use std::hash::{BuildHasher, Hasher};
+use std::io;
+use std::random::RandomSource;
+
+/// The seed of the hash function, which makes its hashers. No contract of a map speaks of it: what a map returns does not depend
+/// on its seed, only the time that it takes does. It has no `Debug`, so that it is not printed.
+#[derive(Clone, Copy, Drop)]
+pub struct HashSeed {
+    state: u64,
+    factor: u64,
+}
+
+impl HashSeed {
+    /// The seed of these two words. For an attacker not to know it, both have to be random.
+    pub fn new(state: u64, factor: u64) -> HashSeed {
+        HashSeed { state, factor }
+    }
+
+    /// A seed of the system's random bytes.
+    ///
+    /// # Errors
+    ///
+    /// That of the source.
+    pub fn random(source: &impl RandomSource) -> io::Result<HashSeed> {
+        let mut state = [0; 8];
+        source.fill_bytes(&mut state)?;
+        let mut factor = [0; 8];
+        source.fill_bytes(&mut factor)?;
+        Ok(HashSeed::new(u64::from_le_bytes(state), u64::from_le_bytes(factor)))
+    }
+}
+
+impl BuildHasher for HashSeed {
+    type Hasher = SeededHasher;
+
+    ghost build_hasher = { hashing.started };
+
+    #[inline(always)]
+    fn build_hasher(&self) -> SeededHasher {
+        SeededHasher {
+            state: self.state,
+            factor: self.factor,
+        }
+    }
+}
+
+/// A hasher that multiplies sixteen bytes at a time to 128 bits, and joins the halves by exclusive or. Both factors have a part of
+/// the seed in them. A short key is in both factors, and a long one has a product more: one product that is linear in the key may
+/// leave keys that differ by equal steps in few groups of a table.
+#[derive(Clone, Copy, Drop)]
+pub struct SeededHasher {
+    state: u64,
+    factor: u64,
+}
+
+impl Hasher for SeededHasher {
+    ghost write = { hashing.written };
+
+    ghost finish = { hashing.finished };
+
+    #[inline(always)]
+    fn finish(&self) -> u64 {
+        self.state
+    }
+
+    #[inline(always)]
+    fn write(&mut self, bytes: &[u8]) {
+        let len = bytes.len();
+        let mut state = self.state.wrapping_add(len as u64);
+        if len <= 8 {
+            let word = short_word(bytes);
+            self.state = folded_product(word ^ state, word.rotate_left(32) ^ self.factor);
+            return;
+        }
+        let mut at = 0;
+        while len - at > 16 {
+            state = folded_product(
+                word_at(bytes, at) ^ state,
+                word_at(bytes, at + 8) ^ self.factor,
+            );
+            at += 16;
+        }
+        let last = folded_product(
+            word_at(bytes, len.saturating_sub(16)) ^ state,
+            word_at(bytes, len - 8) ^ self.factor,
+        );
+        self.state = folded_product(last, self.factor);
+    }
+}
+
+/// The two halves of a product of 128 bits, joined by exclusive or.
+#[inline(always)]
+fn folded_product(a: u64, b: u64) -> u64
+    ensures { result ≡ hashing.folded_product a b }
+{
+    let product = a as u128 * b as u128;
+    (product & 0xFFFF_FFFF_FFFF_FFFF) as u64 ^ (product >> 64) as u64
+}
+
+/// Four bytes as a number, little-endian.
+#[inline(always)]
+fn half_at(bytes: &[u8], at: usize) -> u64
+    requires { at + 4 ≤ length bytes.now }
+    ensures { result ≡ hashing.half_at bytes.now at }
+{
+    u32::from_le_bytes([bytes[at], bytes[at + 1], bytes[at + 2], bytes[at + 3]]) as u64
+}
+
+/// Eight bytes as a number, little-endian.
+#[inline(always)]
+fn word_at(bytes: &[u8], at: usize) -> u64
+    requires { at + 8 ≤ length bytes.now }
+    ensures { result ≡ hashing.word_at bytes.now at }
+{
+    half_at(bytes, at) | half_at(bytes, at + 4) << 32
+}
+
+/// At most eight bytes as one number, by reads that may overlap.
+#[inline(always)]
+fn short_word(bytes: &[u8]) -> u64
+    ensures { result ≡ hashing.short_word bytes.now }
+{
+    let len = bytes.len();
+    if len >= 4 {
+        half_at(bytes, 0) | half_at(bytes, len - 4) << 32
+    } else if len > 0 {
+        bytes[0] as u64 | (bytes[len / 2] as u64) << 8 | (bytes[len - 1] as u64) << 16
+    } else {
+        0
+    }
+}

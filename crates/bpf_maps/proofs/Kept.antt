@@ -1,13 +1,13 @@
 -- The places stay whole: each is in use, or kept apart, or free.
-use Rattle.std.proofs.Common.{◌≡◌, ℕ, ◌+◌, ◌-◌, ◌<◌, ◌==◌, Bool, true, false, List, [], ◌∷◌, ◌++◌, length, Option, Some, slice_get, get_or, option_to_list, refl, sym, ap, subst, ◌∙◌, nat_lt, if◌then◌else◌, arith, vec_capacity, length-append}
+use Rattle.std.proofs.Common.{◌≡◌, ℕ, suc, ◌+◌, ◌-◌, ◌<◌, ◌==◌, Bool, true, false, List, [], ◌∷◌, ◌++◌, length, Option, Some, slice_get, get_or, option_to_list, refl, sym, ap, subst, ◌∙◌, nat_lt, if◌then◌else◌, arith, vec_capacity, length-append}
 use Rattle.std.proofs.lemmas.Bool.{ltb-true}
 use Rattle.std.proofs.lemmas.List.{length-map}
-use Rattle.std.proofs.lemmas.Option.{none-some, get_or_from_slice_get}
+use Rattle.std.proofs.lemmas.Option.{none-some, same_Some, get_or_from_slice_get}
 use Rattle.std.proofs.lemmas.Bool.Decides.{nat_tests}
 use Rattle.std.specs.Map.{values_of}
 use Rattle.tagged_model.specs.Table.{found, without, with_key, is_full}
 use Rattle.bpf_maps.specs.Places.{table_of, occurrences, IsSound, IsSized, IsFree}
-use Rattle.bpf_maps.specs.Index.{entries_of, TakesKeys, IsWellFormedHash, shown}
+use Rattle.bpf_maps.specs.Index.{entries_of, bound_of, TakesKeys, IsWellFormedHash, shown}
 use Rattle.bpf_maps.specs.declared.hash_map.HashMapIx.TheInside.{Inside}
 use Rattle.bpf_maps.specs.declared.key_index.KeyIndex.{KeyIndex}
 use Rattle.tagged_model.specs.declared.shape.MapShape.{MapShape}
@@ -33,12 +33,13 @@ abbrev SamePlaces : Inside → Inside → Type 0
 SamePlaces a b = (f : List ℕ → ℕ) → IsSum f → sum_of f b ≡ sum_of f a
 
 -- then the map stays whole, with the same room and keys of its size
-kept_whole : {a : Inside} (b : Inside) → IsWellFormedHash a → b.shape ≡ a.shape → SamePlaces a b → vec_capacity b.kept ≡ vec_capacity a.kept → vec_capacity b.free ≡ vec_capacity a.free → TakesKeys b.index a.shape.key_size → IsSized a.shape.key_size (entries_of b.index) → IsWellFormedHash b
-kept_whole {a} b h shape places kept free takes sized =
+kept_whole : {a : Inside} (b : Inside) → IsWellFormedHash a → b.shape ≡ a.shape → SamePlaces a b → vec_capacity b.kept ≡ vec_capacity a.kept → vec_capacity b.free ≡ vec_capacity a.free → TakesKeys b.index a.shape.key_size → bound_of b.index ≡ bound_of a.index → IsSized a.shape.key_size (entries_of b.index) → IsWellFormedHash b
+kept_whole {a} b h shape places kept free takes bound sized =
     let most : b.shape.max_entries ≡ a.shape.max_entries = ap (λ (s : MapShape). s.max_entries) shape in
     record {
       kind = ap (λ (s : MapShape). s.kind) shape ∙ h.kind;
       takes = subst (λ (s : MapShape). TakesKeys b.index s.key_size) (sym shape) takes;
+      bound = bound ∙ h.bound ∙ sym most;
       once = λ p. places (occurrences p) (times-append p) ∙ h.once p ∙ ap (λ (m : ℕ). if nat_lt p m then 1 else 0) (sym most);
       all =
           let same = places length length-append in
@@ -52,15 +53,15 @@ kept_whole {a} b h shape places kept free takes sized =
     }
 
 -- another index with the same entries
-pub kept_by_same : {a : Inside} (index : KeyIndex) → IsWellFormedHash a → entries_of index ≡ entries_of a.index → TakesKeys index a.shape.key_size → IsWellFormedHash (record a { index = index })
-kept_by_same {a} index h same takes =
-    kept_whole (record a { index = index }) h refl (λ f sum. ap (λ (es : List (List ℕ × ℕ)). f (values_of es) + f a.kept.items + f a.free.items) same) refl refl takes
+pub kept_by_same : {a : Inside} (index : KeyIndex) → IsWellFormedHash a → entries_of index ≡ entries_of a.index → TakesKeys index a.shape.key_size → bound_of index ≡ bound_of a.index → IsWellFormedHash (record a { index = index })
+kept_by_same {a} index h same takes bound =
+    kept_whole (record a { index = index }) h refl (λ f sum. ap (λ (es : List (List ℕ × ℕ)). f (values_of es) + f a.kept.items + f a.free.items) same) refl refl takes bound
     (subst (IsSized a.shape.key_size) (sym same) h.sized)
 
 -- a key that is taken out, and its place kept apart
 pub kept_by_remove : {a : Inside} (b : Inside) → IsWellFormedHash a → (key : List ℕ) {place : ℕ} → found key (entries_of a.index) ≡ Some place → b.shape ≡ a.shape → entries_of b.index ≡ without key (entries_of a.index) → b.kept.items ≡ a.kept.items ++ place ∷ [] → vec_capacity b.kept ≡ vec_capacity a.kept → b.free ≡ a.free
-    → TakesKeys b.index a.shape.key_size → IsWellFormedHash b
-kept_by_remove {a} b h key {place} at shape index kept cap free takes =
+    → TakesKeys b.index a.shape.key_size → bound_of b.index ≡ bound_of a.index → IsWellFormedHash b
+kept_by_remove {a} b h key {place} at shape index kept cap free takes bound =
     kept_whole b h shape
     (λ f sum.
     let less = sum-without f sum key place (entries_of a.index) at in
@@ -68,7 +69,7 @@ kept_by_remove {a} b h key {place} at shape index kept cap free takes =
     let more = ap f kept ∙ sum a.kept.items (place ∷ []) in
     let same = ap (λ v. f v.items) free in
     omega arith)
-    cap (ap vec_capacity free) takes
+    cap (ap vec_capacity free) takes bound
     (subst (IsSized a.shape.key_size) (sym index) (sized-without a.shape.key_size key (entries_of a.index) h.sized))
 
 -- the last free place is not in use
@@ -104,8 +105,8 @@ module _ {a : Inside} (h : IsWellFormedHash a) (place : ℕ) (rest : List ℕ) (
       unequal n m l = grind (arith, nat_tests)
 
   -- a new key gets it
-  pub kept_by_add : (b : Inside) (key : List ℕ) → length key ≡ a.shape.key_size → b.shape ≡ a.shape → entries_of b.index ≡ with_key key place (entries_of a.index) → b.kept ≡ a.kept → b.free.items ≡ rest → vec_capacity b.free ≡ vec_capacity a.free → TakesKeys b.index a.shape.key_size → IsWellFormedHash b
-  kept_by_add b key size shape index kept free cap takes =
+  pub kept_by_add : (b : Inside) (key : List ℕ) → length key ≡ a.shape.key_size → b.shape ≡ a.shape → entries_of b.index ≡ with_key key place (entries_of a.index) → b.kept ≡ a.kept → b.free.items ≡ rest → vec_capacity b.free ≡ vec_capacity a.free → TakesKeys b.index a.shape.key_size → bound_of b.index ≡ bound_of a.index → IsWellFormedHash b
+  kept_by_add b key size shape index kept free cap takes bound =
       kept_whole b h shape
       (λ f sum.
       let added : List (List ℕ × ℕ) = (key, place) ∷ [] in
@@ -114,7 +115,7 @@ module _ {a : Inside} (h : IsWellFormedHash a) (place : ℕ) (rest : List ℕ) (
       let less = ap f last ∙ sum rest (place ∷ []) in
       let now = ap f free in
       omega arith)
-      (ap vec_capacity kept) cap takes
+      (ap vec_capacity kept) cap takes bound
       (subst (IsSized a.shape.key_size) (sym index) (sized-with a.shape.key_size key place (entries_of a.index) size h.sized))
 
 -- a place that was kept apart is free again
@@ -126,7 +127,7 @@ kept_by_free {a} b place h shape index kept free ck cf =
     let less = ap f kept ∙ sum b.kept.items (place ∷ []) in
     let more = ap f free ∙ sum a.free.items (place ∷ []) in
     omega arith)
-    ck cf (subst (λ (i : KeyIndex). TakesKeys i a.shape.key_size) (sym index) h.takes)
+    ck cf (subst (λ (i : KeyIndex). TakesKeys i a.shape.key_size) (sym index) h.takes) (ap bound_of index)
     (subst (λ (i : KeyIndex). IsSized a.shape.key_size (entries_of i)) (sym index) h.sized)
 
 -- what `pop` takes is what `last` showed
@@ -137,3 +138,12 @@ last_is (x ∷ xs) ys r n place l h e v =
     let k : n - 1 ≡ length (x ∷ xs) - 1 = omega arith in
     let s : get_or (x ∷ xs) (n - 1) 0 ≡ place = ap (λ (i : ℕ). get_or (x ∷ xs) i 0) k ∙ get_or_from_slice_get (x ∷ xs) (length (x ∷ xs) - 1) place 0 h in
     e ∙ ap (λ (o : Option ℕ). ys ++ option_to_list o) (q ∙ ap (λ (z : ℕ). let o : Option ℕ = Some z in o) s)
+
+-- the list before what `last` shows
+pub ends_with : (xs : List ℕ) (place : ℕ) → slice_get xs (length xs - 1) ≡ Some place → (rest : List ℕ) × (xs ≡ rest ++ place ∷ [])
+ends_with [] place h = absurd (none-some place h)
+ends_with (x ∷ []) place h = ([], ap (λ (y : ℕ). y ∷ []) (same_Some x place h))
+ends_with (x ∷ y ∷ xs) place h =
+    let e : length (x ∷ y ∷ xs) - 1 ≡ suc (length (y ∷ xs) - 1) = omega arith in
+    let r = ends_with (y ∷ xs) place (subst (λ (i : ℕ). slice_get (x ∷ y ∷ xs) i ≡ Some place) e h) in
+    (x ∷ r.0, ap (λ (ys : List ℕ). x ∷ ys) r.1)

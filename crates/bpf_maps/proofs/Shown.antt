@@ -1,25 +1,13 @@
 -- The results of an index on its keys are those on the bytes that the keys represent.
-use Rattle.std.proofs.Common.{◌≡◌, ℕ, suc, ◌+◌, ◌<◌, Bool, true, false, cond, not, List, [], ◌∷◌, ◌++◌, length, Some, None, is_some, Result, Ok, Err, OnOk, is_err, true≢false, refl, sym, ap, subst, ◌∙◌, nat_lt, slice_get, if◌then◌else◌, arith}
-use Rattle.std.specs.List.{position, position_or_len}
-use Rattle.std.specs.Map.{lookup, remove_entry, keys_of}
-use Rattle.indexmap.specs.IndexMap.{IndexMap, insert_entry}
-use Rattle.indexmap.proofs.CallerLemmas.{insert_entry-new}
+use Rattle.std.proofs.Common.{◌≡◌, ℕ, suc, Bool, true, false, cond, List, [], ◌∷◌, ◌++◌, length, Option, Some, None, is_some, option_map, Result, Ok, Err, OnOk, OnErr, ◌⊎◌, inl, inr, is_err, true≢false, refl, sym, ap, ◌∙◌, if◌then◌else◌}
+use Rattle.std.specs.Map.{lookup, remove_entry, values_of}
 use Rattle.tagged_model.specs.Table.{is_key, found, without, with_key, first_key, key_behind, key_after}
-use Rattle.bpf_maps.specs.inside.Keys.{key_of}
+use Rattle.ordered_keys.specs.Orders.{first_key_of, key_behind_passing, key_following}
 use Rattle.bpf_maps.specs.KeyLists.{shown_by}
 
 cond_map : {A B : Type 0} (f : A → B) (b : Bool) (x y : A) → f (cond b x y) ≡ cond b (f x) (f y)
 cond_map f true x y = refl
 cond_map f false x y = refl
-
-first_is : (es : List (List ℕ × ℕ)) → key_of (slice_get es 0) ≡ first_key es
-first_is [] = refl
-first_is (e ∷ es) = refl
-
--- the index that was found
-found_at : (b : Bool) (n i : ℕ) → cond b (Some n) None ≡ Some i → n ≡ i
-found_at true n i h = cc
-found_at false n i h = cc
 
 module _ {K : Type 0} (bytes : K → List ℕ) where
   abbrev view : List (K × ℕ) → List (List ℕ × ℕ)
@@ -28,6 +16,10 @@ module _ {K : Type 0} (bytes : K → List ℕ) where
   shown_by-append : (es fs : List (K × ℕ)) → view (es ++ fs) ≡ view es ++ view fs
   shown_by-append [] fs = refl
   shown_by-append (e ∷ es) fs = ap (λ r. (bytes e.0, e.1) ∷ r) (shown_by-append es fs)
+
+  first_shown : (es : List (K × ℕ)) → option_map bytes (first_key_of es) ≡ first_key (view es)
+  first_shown [] = refl
+  first_shown (e ∷ es) = refl
 
   module _ (key : List ℕ) (test : K → Bool) where
     -- a key passes the test exactly if its bytes are `key`
@@ -49,63 +41,52 @@ module _ {K : Type 0} (bytes : K → List ℕ) where
 
     -- ---- the key that follows
 
-    abbrev at : List (K × ℕ) → ℕ
-    at es = position_or_len test (keys_of es)
-
-    behind : (es : List (K × ℕ)) → Tests es → at es < length es → key_of (slice_get (view es) (at es + 1)) ≡ key_behind key (view es)
-    behind [] t h = absurd (omega arith)
-    behind (e ∷ es) t h =
-        by (test e.0) h (behind es t.1) ∙ ap (λ (b : Bool). if b then first_key (view es) else key_behind key (view es)) t.0
+    pub behind_shown : (es : List (K × ℕ)) → Tests es → option_map bytes (key_behind_passing test es) ≡ key_behind key (view es)
+    behind_shown [] h = refl
+    behind_shown (e ∷ es) h =
+        by (test e.0) (behind_shown es h.1) ∙ ap (λ (b : Bool). if b then first_key (view es) else key_behind key (view es)) h.0
       where
-        by : (b : Bool) → cond (not b) (1 + at es) 0 < length (e ∷ es) → (at es < length es → key_of (slice_get (view es) (at es + 1)) ≡ key_behind key (view es))
-            → key_of (slice_get ((bytes e.0, e.1) ∷ view es) (cond (not b) (1 + at es) 0 + 1)) ≡ (if b then first_key (view es) else key_behind key (view es))
-        by true l r = first_is (view es)
-        by false l r =
-            let q : 1 + at es + 1 ≡ suc (at es + 1) = omega arith in
-            ap (λ (i : ℕ). key_of (slice_get ((bytes e.0, e.1) ∷ view es) i)) q ∙ r (omega arith)
+        by : (b : Bool) → option_map bytes (key_behind_passing test es) ≡ key_behind key (view es)
+            → option_map bytes (if b then first_key_of es else key_behind_passing test es) ≡ (if b then first_key (view es) else key_behind key (view es))
+        by true r = first_shown es
+        by false r = r
 
-    pub after_known : (es : List (K × ℕ)) (i : ℕ) → Tests es → Some i ≡ position test (keys_of es) → i < length es → is_some (lookup test es) ≡ true → key_of (slice_get (view es) (i + 1)) ≡ key_after key (view es)
-    after_known es i t p l h =
-        let same : at es ≡ i = found_at (nat_lt (at es) (length (keys_of es))) (at es) i (sym p) in
-        ap (λ (j : ℕ). key_of (slice_get (view es) (j + 1))) (sym same)
-        ∙ behind es t (omega arith)
-        ∙ ap (λ (b : Bool). if b then key_behind key (view es) else first_key (view es)) (sym (ap is_some (sym (found_shown es t)) ∙ h))
+    pub following_shown : (es : List (K × ℕ)) → Tests es → option_map bytes (key_following test es) ≡ key_after key (view es)
+    following_shown es h =
+        by (is_some (lookup test es)) ∙ ap (λ (o : Option ℕ). if is_some o then key_behind key (view es) else first_key (view es)) (found_shown es h)
+      where
+        by : (b : Bool) → option_map bytes (if b then key_behind_passing test es else first_key_of es) ≡ (if b then key_behind key (view es) else first_key (view es))
+        by true = behind_shown es h
+        by false = first_shown es
 
-    pub after_unknown : (es : List (K × ℕ)) → Tests es → is_some (lookup test es) ≡ false → key_of (slice_get (view es) 0) ≡ key_after key (view es)
-    after_unknown es t h =
-        first_is (view es) ∙ ap (λ (b : Bool). if b then key_behind key (view es) else first_key (view es)) (sym (ap is_some (sym (found_shown es t)) ∙ h))
+    -- the first key follows one that is found nowhere
+    pub first_follows : (es : List (K × ℕ)) → Tests es → lookup test es ≡ None → option_map bytes (first_key_of es) ≡ key_after key (view es)
+    first_follows es h none =
+        first_shown es ∙ ap (λ (o : Option ℕ). if is_some o then key_behind key (view es) else first_key (view es)) (sym (sym (found_shown es h) ∙ none))
 
-    -- ---- a new key
+  -- ---- a new key
 
-    pub added_shown : {S : Type 0} (eq : K → K → Bool) (m : IndexMap K ℕ S) (own : K) (place : ℕ) (es : List (K × ℕ)) → eq own ≡ test → bytes own ≡ key → Tests m.entries → found key (view m.entries) ≡ None
-        → es ≡ insert_entry eq m.entries own place → view es ≡ with_key key place (view m.entries)
-    added_shown eq m own place es same is t none e =
-        let absent : lookup (eq own) m.entries ≡ None = ap (λ (f : K → Bool). lookup f m.entries) same ∙ found_shown m.entries t ∙ none in
-        ap view (e ∙ insert_entry-new eq m own place absent)
-        ∙ shown_by-append m.entries ((own, place) ∷ [])
-        ∙ ap (λ (k : List ℕ). view m.entries ++ (k, place) ∷ []) is
+  pub added_shown : (es fs : List (K × ℕ)) (own : K) (key : List ℕ) (place : ℕ) → bytes own ≡ key → fs ≡ es ++ (own, place) ∷ [] → view fs ≡ with_key key place (view es)
+  added_shown es fs own key place is e =
+      ap view e ∙ shown_by-append es ((own, place) ∷ []) ∙ ap (λ (k : List ℕ). view es ++ (k, place) ∷ []) is
 
--- ---- keys that are kept as bytes
+  pub values_shown : (es : List (K × ℕ)) → values_of (view es) ≡ values_of es
+  values_shown [] = refl
+  values_shown (e ∷ es) = ap (λ (xs : List ℕ). e.1 ∷ xs) (values_shown es)
 
-abbrev itself : List ℕ → List ℕ
-itself key = key
+  pub length_shown : (es : List (K × ℕ)) → length (view es) ≡ length es
+  length_shown [] = refl
+  length_shown (e ∷ es) = ap suc (length_shown es)
 
-itself_shown : (es : List (List ℕ × ℕ)) → shown_by itself es ≡ es
-itself_shown [] = refl
-itself_shown (e ∷ es) = ap (λ (r : List (List ℕ × ℕ)). e ∷ r) (itself_shown es)
+-- ---- results
 
-module _ (key : List ℕ) where
-  bytes_tests : (es : List (List ℕ × ℕ)) → Tests itself key (is_key key) es
-  bytes_tests [] = tt
-  bytes_tests (e ∷ es) = (refl, bytes_tests es)
+pub ok_or_err : {X E : Type 0} {P Q : Type 0} (r : Result X E) → OnOk r P → OnErr r Q → P ⊎ Q
+ok_or_err (Ok x) p q = inl p
+ok_or_err (Err e) p q = inr q
 
-  pub behind_bytes : (es : List (List ℕ × ℕ)) (i : ℕ) → Some i ≡ position (is_key key) (keys_of es) → i < length es → is_some (found key es) ≡ true → key_of (slice_get es (i + 1)) ≡ key_after key es
-  behind_bytes es i p l h =
-      subst (λ (fs : List (List ℕ × ℕ)). key_of (slice_get fs (i + 1)) ≡ key_after key fs) (itself_shown es) (after_known itself key (is_key key) es i (bytes_tests es) p l h)
-
-  pub first_bytes : (es : List (List ℕ × ℕ)) → is_some (found key es) ≡ false → key_of (slice_get es 0) ≡ key_after key es
-  first_bytes es h =
-      subst (λ (fs : List (List ℕ × ℕ)). key_of (slice_get fs 0) ≡ key_after key fs) (itself_shown es) (after_unknown itself key (is_key key) es (bytes_tests es) h)
+pub on_ok_then : {X E : Type 0} {P Q : Type 0} (r : Result X E) → (P → Q) → OnOk r P → OnOk r Q
+on_ok_then (Ok x) f p = f p
+on_ok_then (Err e) f p = p
 
 pub on_ok : {X E : Type 0} {P : Type 0} (r : Result X E) → is_err r ≡ false → OnOk r P → P
 on_ok (Ok x) e p = p

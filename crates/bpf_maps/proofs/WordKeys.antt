@@ -1,16 +1,15 @@
 -- A key of at most eight bytes is the number that its bytes make.
-use Rattle.std.proofs.Common.{◌≡◌, ℕ, zero, suc, ◌+◌, ◌*◌, ◌/◌, ◌%◌, ◌<◌, ◌≤◌, ◌^◌, Bool, true, false, cond, List, [], ◌∷◌, ◌++◌, length, take, replicate, get_or, is_some, slice_get, refl, sym, ap, subst, ◌∙◌, nat_eq, if◌then◌else◌, arith, eqb-true, eq-eqb}
+use Rattle.std.proofs.Common.{◌≡◌, ℕ, zero, suc, ◌+◌, ◌*◌, ◌/◌, ◌%◌, ◌<◌, ◌≤◌, ◌^◌, Bool, true, false, cond, List, [], ◌∷◌, ◌++◌, length, take, replicate, get_or, None, option_map, refl, sym, ap, subst, ◌∙◌, nat_eq, arith, eqb-true, eq-eqb}
 use Rattle.std.specs.Cmp.Lexicographic.{bytes_decides}
 use Rattle.std.specs.Int.{w64, to_le_bytes}
 use Rattle.std.specs.Map.{lookup, remove_entry}
-use Rattle.indexmap.specs.IndexMap.{insert_entry}
+use Rattle.ordered_keys.specs.Orders.{first_key_of}
 use Rattle.words.specs.Bytes.{number_of, low_bytes}
 use Rattle.words.specs.ByteLaws.{length-low_bytes, number_of-low_bytes, low_bytes_of_number, number_below}
 use Rattle.tagged_model.specs.Table.{is_key, key_after}
 use Rattle.bpf_maps.specs.KeyLists.{shown_by}
 use Rattle.bpf_maps.specs.Words.{AreBelow}
-use Rattle.bpf_maps.specs.inside.Keys.{key_of}
-use Rattle.bpf_maps.proofs.Shown.{Tests, after_unknown}
+use Rattle.bpf_maps.proofs.Shown.{Tests, first_follows}
 
 abbrev pub AreBytes : List ℕ → Type 0
 AreBytes bs = (i : ℕ) → i < length bs → get_or bs i 0 < 256
@@ -52,13 +51,9 @@ module _ (size : ℕ) (key : List ℕ) (small : AreBytes key) (long : length key
 
 -- ---- the numbers stay below
 
-pub below-insert : (bound word place : ℕ) (es : List (ℕ × ℕ)) → AreBelow bound es → word < bound → AreBelow bound (insert_entry nat_eq es word place)
-below-insert bound word place [] h l = (l, tt)
-below-insert bound word place (e ∷ es) h l = by (nat_eq word e.0) (below-insert bound word place es h.1 l)
-  where
-    by : (b : Bool) → AreBelow bound (insert_entry nat_eq es word place) → AreBelow bound (if b then (e.0, place) ∷ es else e ∷ insert_entry nat_eq es word place)
-    by true r = h
-    by false r = (h.0, r)
+pub below-append : (bound word place : ℕ) (es : List (ℕ × ℕ)) → AreBelow bound es → word < bound → AreBelow bound (es ++ (word, place) ∷ [])
+below-append bound word place [] h l = (l, tt)
+below-append bound word place (e ∷ es) h l = (h.0, below-append bound word place es h.1 l)
 
 pub below-remove : (bound : ℕ) (test : ℕ → Bool) (es : List (ℕ × ℕ)) → AreBelow bound es → AreBelow bound (remove_entry test es)
 below-remove bound test [] h = tt
@@ -77,13 +72,13 @@ other_size key size word differ = by (is_key key (low_bytes size word)) refl
     by false e = refl
     by true e = absurd (differ (ap length ((bytes_decides key (low_bytes size word)).0 e) ∙ length-low_bytes size word))
 
-none_passes : (es : List (ℕ × ℕ)) → is_some (lookup (λ (word : ℕ). false) es) ≡ false
+none_passes : (es : List (ℕ × ℕ)) → lookup (λ (word : ℕ). false) es ≡ None
 none_passes [] = refl
 none_passes (e ∷ es) = none_passes es
 
 -- a key of another size is followed by the first
-pub after_other_size : (key : List ℕ) (size : ℕ) (es : List (ℕ × ℕ)) → (length key ≡ size → ⊥) → key_of (slice_get (shown_by (low_bytes size) es) 0) ≡ key_after key (shown_by (low_bytes size) es)
-after_other_size key size es differ = after_unknown (low_bytes size) key (λ (word : ℕ). false) es (tests es) (none_passes es)
+pub after_other_size : (key : List ℕ) (size : ℕ) (es : List (ℕ × ℕ)) → (length key ≡ size → ⊥) → option_map (low_bytes size) (first_key_of es) ≡ key_after key (shown_by (low_bytes size) es)
+after_other_size key size es differ = first_follows (low_bytes size) key (λ (word : ℕ). false) es (tests es) (none_passes es)
   where
     tests : (es : List (ℕ × ℕ)) → Tests (low_bytes size) key (λ (word : ℕ). false) es
     tests [] = tt

@@ -10,12 +10,17 @@ use Rattle.bpf_maps.specs.declared.hash_map.HashMapIx.TheInside.{Inside}
 -- the bytes of each key, with its place
 abbrev pub entries_of : KeyIndex → List (List ℕ × ℕ)
 entries_of (Words keys) = keys.entries
-entries_of (Bytes es) = es
+entries_of (Bytes keys) = keys.entries
+
+-- its places are less than this
+abbrev pub bound_of : KeyIndex → ℕ
+bound_of (Words keys) = keys.bound
+bound_of (Bytes keys) = keys.bound
 
 -- the index takes keys of this size in bytes
 abbrev pub TakesKeys : KeyIndex → ℕ → Type 0
 TakesKeys (Words keys) size = size ≡ keys.size
-TakesKeys (Bytes es) size = Unit {0}
+TakesKeys (Bytes keys) size = Unit {0}
 
 abbrev pub shown : Inside → PlaceTable
 shown a = record { shape = a.shape; entries = entries_of a.index; kept = a.kept.items }
@@ -24,6 +29,7 @@ shown a = record { shape = a.shape; entries = entries_of a.index; kept = a.kept.
 pub record IsWellFormedHash (a : Inside) : Type 0 where
   pub kind : a.shape.kind ≡ Hash
   pub takes : TakesKeys a.index a.shape.key_size
+  pub bound : bound_of a.index ≡ a.shape.max_entries
   pub once : (p : ℕ) → occurrences p (values_of (entries_of a.index)) + occurrences p a.kept.items + occurrences p a.free.items ≡ (if nat_lt p a.shape.max_entries then 1 else 0)
   pub all : length (entries_of a.index) + length a.kept.items + length a.free.items ≡ a.shape.max_entries
   pub kept_room : a.shape.max_entries ≤ vec_capacity a.kept

@@ -5,7 +5,8 @@ use Rattle.std.specs.Prelude.{ℕ, List, map}
 abbrev pub shown_by : {K : Type 0} → (K → List ℕ) → List (K × ℕ) → List (List ℕ × ℕ)
 shown_by bytes es = map (λ e. (bytes e.0, e.1)) es
 
--- keys of one size with their places, in order
+-- keys of one size with their places, which are less than a bound, in order
 pub record SizedKeys : Type 0 where
   pub size : ℕ
+  pub bound : ℕ
   pub entries : List (List ℕ × ℕ)

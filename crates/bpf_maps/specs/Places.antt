@@ -1,6 +1,8 @@
 -- A map whose objects are places, and the possible results and effects of its calls. The place of a key that a run deletes is kept
 -- apart until the run ends. The calls are those of bpf(2); places are this project's own.
-use Rattle.std.specs.Prelude.{◌≡◌, ℕ, ◌+◌, ◌<◌, ◌≤◌, nat_eq, nat_lt, if◌then◌else◌, List, [], ◌∷◌, ◌++◌, drop, length, Option, Some, None, Result, Ok, Err}
+-- The number of times that a list has a place is `occurrences`.
+pub use Rattle.ordered_keys.specs.Orders.{occurrences}
+use Rattle.std.specs.Prelude.{◌≡◌, ℕ, ◌+◌, ◌<◌, ◌≤◌, nat_lt, if◌then◌else◌, List, [], ◌∷◌, ◌++◌, drop, length, Option, Some, None, Result, Ok, Err}
 use Rattle.std.specs.Map.{keys_of, values_of}
 use Rattle.tagged_model.specs.declared.shape.MapKind.TheVariants.{Array}
 use Rattle.tagged_model.specs.declared.shape.MapShape.{MapShape}
@@ -23,11 +25,6 @@ abbrev pub new_places : MapShape → PlaceTable
 new_places shape = record { shape = shape; entries = new_entries (λ i. i) shape.kind shape.max_entries; kept = [] }
 
 -- ---- the invariant
-
--- the number of times that a list has a place
-abbrev pub occurrences : ℕ → List ℕ → ℕ
-occurrences p [] = 0
-occurrences p (x ∷ xs) = (if nat_eq p x then 1 else 0) + occurrences p xs
 
 -- each key has n bytes
 abbrev pub IsSized : ℕ → List (List ℕ × ℕ) → Type 0

@@ -6,7 +6,7 @@ use Rattle.bpf_maps.specs.declared.word_index.WordIndex.TheInside.{Inside}
 
 -- a number represents its low bytes, as many as a key has
 abbrev pub words_shown : Inside → SizedKeys
-words_shown w = record { size = w.size; entries = shown_by (low_bytes w.size) w.map.entries }
+words_shown w = record { size = w.size; bound = w.map.bound; entries = shown_by (low_bytes w.size) w.map.entries }
 
 -- each key is a number less than `bound`
 abbrev pub AreBelow : ℕ → List (ℕ × ℕ) → Type 0

@@ -11,6 +11,7 @@ use crate::array_map::ArrayMap;
 use crate::given_key::GivenKey;
 use crate::hash_map::HashMapIx;
 use crate::value_map::ValueMap;
+use seeded_hash::HashSeed;
 use std::alloc::{AllocError, Global};
 use tagged_model::{MapFault, MapKind, MapShape};
 
@@ -22,13 +23,13 @@ pub enum AnyMap {
 }
 
 impl AnyMap {
-    /// Makes a map of this shape. Only a hash map takes memory. `AllocError`: out of memory.
-    pub fn new(alloc: Global, shape: MapShape) -> Result<AnyMap, AllocError>
+    /// Makes a map of this shape. Only a hash map takes memory and the seed. `AllocError`: out of memory.
+    pub fn new(alloc: Global, shape: MapShape, seed: HashSeed) -> Result<AnyMap, AllocError>
         ensures { IfOk result (λ map. places_of map ≡ new_places shape) }
     {
         match shape.kind {
             MapKind::Array => Ok(AnyMap::Array(ArrayMap::new(shape))),
-            MapKind::Hash => Ok(AnyMap::Hash(HashMapIx::new(alloc, shape)?)),
+            MapKind::Hash => Ok(AnyMap::Hash(HashMapIx::new(alloc, shape, seed)?)),
         }
     }
 

@@ -1,82 +1,81 @@
 //! The places of keys of any length.
 
-ghost use Rattle.std.specs.Prelude.{◌≡◌, None, OnOk, OnErr, [], slice_get, option_map};
+ghost use Rattle.std.specs.Prelude.{◌≡◌, ◌<◌, None, IfOk, OnOk, OnErr, [], length, option_map};
+ghost use Rattle.std.specs.Map.{values_of};
 ghost use Rattle.tagged_model.specs.Table.{found, with_key, without, key_after};
-ghost use Rattle.bpf_maps.specs.inside.Keys.{key_of, lent_key};
+ghost use Rattle.bpf_maps.specs.Places.{occurrences};
+ghost use Rattle.bpf_maps.specs.inside.Keys.{lent_key};
 
 use crate::long_key::{KeyBytes, LongKey};
-use indexmap::IndexMap;
+use ordered_keys::OrderedMap;
+use seeded_hash::HashSeed;
 use std::alloc::{AllocError, Global};
 use std::marker::Model;
 
 /// Keys of any length, each with its place, in the order in which they were added. Contracts see the keys' bytes with their places.
 #[derive(Drop)]
 pub struct BytesIndex {
-    map: IndexMap<LongKey, u32>,
+    map: OrderedMap<LongKey, HashSeed>,
 }
 
 impl Model for BytesIndex {
     ghost use Rattle.std.specs.Prelude.{ℕ, List};
+    ghost use Rattle.std.specs.Coded.{coded_list, coded_ℕ};
+    ghost use Rattle.ordered_keys.specs.Orders.{BoundedKeys, bounded_keys_code};
 
-    ghost Value = { List (List ℕ × ℕ) };
+    ghost Value = { BoundedKeys (List ℕ) };
 
-    ghost view = { λ b. b.map.entries };
+    ghost coded = { bounded_keys_code (coded_list coded_ℕ) };
+
+    ghost view = { λ b. b.map };
 }
 
 impl BytesIndex {
-    /// Makes an index without keys.
-    pub(crate) fn new(alloc: Global) -> BytesIndex
-        ensures { result ≡ [] }
+    /// Makes an index without keys, for places less than `bound`. `AllocError`: out of memory.
+    pub(crate) fn new(alloc: Global, bound: u32, seed: HashSeed) -> Result<BytesIndex, AllocError>
+        ensures bound { IfOk result (λ index. index.bound ≡ bound) }
+        ensures entries { IfOk result (λ index. index.entries ≡ []) }
     {
-        BytesIndex {
-            map: IndexMap::new(alloc),
-        }
+        let map = OrderedMap::new(alloc, bound, seed)?;
+        Ok(BytesIndex { map })
     }
 
     /// Returns the place of a key; `None` if the key is absent.
     #[inline(always)]
     pub(crate) fn get(&self, key: &[u8]) -> Option<u32>
-        ensures { result ≡ found key.now self.now }
+        ensures { result ≡ found key.now self.now.entries }
     {
-        self.map.get(KeyBytes { bytes: key }).copied()
-    }
-
-    /// The index of the entry that follows a key. After an absent key it is the first.
-    fn index_after(&self, key: &[u8]) -> usize
-        ensures { key_of (slice_get self.now result) ≡ key_after key.now self.now }
-    {
-        // An index is less than the number of keys, so the next one doesn't overflow.
-        let _count = self.map.len();
-        match self.map.get_index_of(KeyBytes { bytes: key }) {
-            Some(index) => index + 1,
-            None => 0,
-        }
+        self.map.get(KeyBytes { bytes: key })
     }
 
     /// Returns the key that follows a key, if there is one. After an absent key it is the first.
     pub(crate) fn key_after(&self, key: &[u8]) -> Option<&[u8]>
-        ensures { option_map lent_key result ≡ key_after key.now self.now }
+        ensures { option_map lent_key result ≡ key_after key.now self.now.entries }
     {
-        let (following, _) = self.map.get_index(self.index_after(key))?;
+        let following = self.map.key_after(KeyBytes { bytes: key })?;
         Some(following.bytes())
     }
 
     /// Adds a new key at the end. `AllocError`: out of memory. Then nothing has changed.
     pub(crate) fn insert(&mut self, key: &[u8], place: u32) -> Result<(), AllocError>
-        requires { found key.now self.old ≡ None }
-        ensures added { OnOk result (self.new ≡ with_key key.now place self.old) }
-        ensures refused { OnErr result (self.new ≡ self.old) }
+        requires absent { found key.now self.old.entries ≡ None }
+        requires within { place < self.old.bound }
+        requires free { occurrences place (values_of self.old.entries) ≡ 0 }
+        requires few { length self.old.entries < self.old.bound }
+        ensures added { OnOk result (self.new.entries ≡ with_key key.now place self.old.entries) }
+        ensures refused { OnErr result (self.new.entries ≡ self.old.entries) }
+        ensures bound { self.new.bound ≡ self.old.bound }
     {
-        let own = LongKey::copy_of(*self.map.allocator(), key)?;
-        self.map.insert(own, place)?;
-        Ok(())
+        let own = LongKey::copy_of(self.map.allocator(), key)?;
+        self.map.insert(own, place)
     }
 
     /// Removes a key and returns its place; `None` if the key is absent. The others keep their order.
     pub(crate) fn remove(&mut self, key: &[u8]) -> Option<u32>
-        ensures place { result ≡ found key.now self.old }
-        ensures left { self.new ≡ without key.now self.old }
+        ensures place { result ≡ found key.now self.old.entries }
+        ensures left { self.new.entries ≡ without key.now self.old.entries }
+        ensures bound { self.new.bound ≡ self.old.bound }
     {
-        self.map.shift_remove(KeyBytes { bytes: key })
+        self.map.remove(KeyBytes { bytes: key })
     }
 }

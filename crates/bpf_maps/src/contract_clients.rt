@@ -10,6 +10,7 @@ ghost use Rattle.bpf_maps.specs.InPart.{updated_in};
 use crate::laws;
 use crate::maps::{MapKey, Maps};
 use crate::value_map::ANY;
+use seeded_hash::HashSeed;
 use std::alloc::Global;
 use tagged_model::{MapFault, MapShape};
 
@@ -71,7 +72,7 @@ fn make_first(alloc: Global, shape: MapShape, part: &mut [u8]) -> Result<MapKey,
     ensures room { result ≢ Err NoSpace }
     ensures first { IfOk result (λ map. map ≡ 0) }
 {
-    let Ok(mut maps) = Maps::new(alloc) else {
+    let Ok(mut maps) = Maps::new(alloc, HashSeed::new(0, 0)) else {
         return Err(MapFault::Memory);
     };
     let _area = shape.area();

@@ -8,6 +8,7 @@ ghost use Rattle.bpf_maps.specs.Places.{PlaceTable, table_of, IsSound, Claims, R
 use crate::given_key::GivenKey;
 use crate::key_index::KeyIndex;
 use crate::value_map::{EXIST, NOEXIST, ValueMap};
+use seeded_hash::HashSeed;
 use std::alloc::{AllocError, Global};
 use std::marker::Model;
 use tagged_model::{MapFault, MapShape};
@@ -36,16 +37,18 @@ impl Model for HashMapIx {
 }
 
 impl HashMapIx {
-    /// Makes a map of this shape without keys. Allocates room to keep all places apart. `AllocError`: out of memory.
-    pub fn new(alloc: Global, shape: MapShape) -> Result<HashMapIx, AllocError>
+    /// Makes a map of this shape without keys, whose keys are hashed with this seed. Allocates room to keep all places apart and in
+    /// order. `AllocError`: out of memory.
+    pub fn new(alloc: Global, shape: MapShape, seed: HashSeed) -> Result<HashMapIx, AllocError>
         requires { shape.kind ≡ Hash }
         ensures { IfOk result (λ map. map ≡ new_places shape) }
     {
         let free = all_places(alloc, shape.max_entries)?;
         let kept = Vec::with_capacity(alloc, shape.max_entries as usize)?;
+        let index = KeyIndex::new(alloc, shape.key_size as usize, shape.max_entries, seed)?;
         Ok(HashMapIx {
             shape,
-            index: KeyIndex::new(alloc, shape.key_size as usize),
+            index,
             kept,
             free,
         })

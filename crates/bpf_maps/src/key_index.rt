@@ -1,13 +1,16 @@
 //! The index of a hash map: the places of keys of one size.
 
-ghost use Rattle.std.specs.Prelude.{◌≡◌, None, OnOk, OnErr, [], length, option_map};
+ghost use Rattle.std.specs.Prelude.{◌≡◌, ◌<◌, None, IfOk, OnOk, OnErr, [], length, option_map};
+ghost use Rattle.std.specs.Map.{values_of};
 ghost use Rattle.tagged_model.specs.Table.{found, with_key, without, key_after};
 ghost use Rattle.bpf_maps.specs.Given.{given_bytes};
-ghost use Rattle.bpf_maps.specs.Index.{entries_of, TakesKeys};
+ghost use Rattle.bpf_maps.specs.Places.{occurrences};
+ghost use Rattle.bpf_maps.specs.Index.{entries_of, bound_of, TakesKeys};
 
 use crate::bytes_index::BytesIndex;
 use crate::given_key::GivenKey;
 use crate::word_index::{LONGEST_WORD, WordIndex};
+use seeded_hash::HashSeed;
 use std::alloc::{AllocError, Global};
 
 /// The keys of a hash map, each with its place, in the order in which they were added. Short keys are kept as numbers, longer ones
@@ -19,15 +22,21 @@ pub enum KeyIndex {
 }
 
 impl KeyIndex {
-    /// Makes an index without keys, for keys of `key_size` bytes.
-    pub(crate) fn new(alloc: Global, key_size: usize) -> KeyIndex
-        ensures entries { entries_of result ≡ [] }
-        ensures takes { TakesKeys result key_size }
+    /// Makes an index without keys, for keys of `key_size` bytes and places less than `bound`. `AllocError`: out of memory.
+    pub(crate) fn new(
+        alloc: Global,
+        key_size: usize,
+        bound: u32,
+        seed: HashSeed,
+    ) -> Result<KeyIndex, AllocError>
+        ensures entries { IfOk result (λ index. entries_of index ≡ []) }
+        ensures takes { IfOk result (λ index. TakesKeys index key_size) }
+        ensures bound { IfOk result (λ index. bound_of index ≡ bound) }
     {
         if key_size <= LONGEST_WORD {
-            KeyIndex::Words(WordIndex::new(alloc, key_size))
+            Ok(KeyIndex::Words(WordIndex::new(alloc, key_size, bound, seed)?))
         } else {
-            KeyIndex::Bytes(BytesIndex::new(alloc))
+            Ok(KeyIndex::Bytes(BytesIndex::new(alloc, bound, seed)?))
         }
     }
 
@@ -57,10 +66,14 @@ impl KeyIndex {
     pub(crate) fn insert(&mut self, key: &[u8], place: u32) -> Result<(), AllocError>
         requires takes { TakesKeys self.old (length key.now) }
         requires absent { found key.now (entries_of self.old) ≡ None }
+        requires within { place < bound_of self.old }
+        requires free { occurrences place (values_of (entries_of self.old)) ≡ 0 }
+        requires few { length (entries_of self.old) < bound_of self.old }
         ensures added { OnOk result (entries_of self.new
             ≡ with_key key.now place (entries_of self.old)) }
         ensures refused { OnErr result (entries_of self.new ≡ entries_of self.old) }
         ensures takes { TakesKeys self.new (length key.now) }
+        ensures bound { bound_of self.new ≡ bound_of self.old }
     {
         match self {
             KeyIndex::Words(words) => words.insert(key, place),
@@ -74,6 +87,7 @@ impl KeyIndex {
         ensures place { result ≡ found key.now (entries_of self.old) }
         ensures left { entries_of self.new ≡ without key.now (entries_of self.old) }
         ensures takes { TakesKeys self.new (length key.now) }
+        ensures bound { bound_of self.new ≡ bound_of self.old }
     {
         match self {
             KeyIndex::Words(words) => words.remove(key),

@@ -16,6 +16,7 @@ use crate::given_key::GivenKey;
 use crate::map_layout::{Layouts, MapLayout};
 use crate::part::{KEY_ROOM, LARGEST_SUM, MAPS, PART, STACK_AND_CONTEXT, clear};
 use crate::value_map::ValueMap;
+use seeded_hash::HashSeed;
 use slab::Slab;
 use std::alloc::{AllocError, Global};
 use std::marker::Model;
@@ -42,6 +43,7 @@ impl Model for MapKey {
 #[derive(Drop)]
 pub struct Maps {
     alloc: Global,
+    seed: HashSeed,
     entries: Slab<Entry>,
     // The layout of the map at each place. It is what calls read, and is contiguous in memory, apart from the entries.
     layouts: Layouts,
@@ -66,8 +68,9 @@ impl Model for Maps {
 }
 
 impl Maps {
-    /// No live maps. Allocates room for `MAPS` of them. `AllocError`: out of memory.
-    pub fn new(alloc: Global) -> Result<Maps, AllocError>
+    /// No live maps; the keys of those to come are hashed with this seed. Allocates room for `MAPS` of them. `AllocError`: out of
+    /// memory.
+    pub fn new(alloc: Global, seed: HashSeed) -> Result<Maps, AllocError>
         ensures maps { IfOk result (λ new. new.maps ≡ replicate MAPS None) }
         ensures none { IfOk result (λ maps. (k : ℕ) → live_at maps k ≡ None) }
         ensures bytes { IfOk result (λ maps. areas maps ≡ 0) }
@@ -77,6 +80,7 @@ impl Maps {
         let layouts = Layouts::new(alloc, MAPS)?;
         Ok(Maps {
             alloc,
+            seed,
             entries,
             layouts,
             keys: [None; MAPS],
@@ -166,7 +170,7 @@ impl Maps {
         if self.bytes + size > LARGEST_SUM {
             return Err(MapFault::NoSpace);
         }
-        let Ok(map) = AnyMap::new(self.alloc, shape) else {
+        let Ok(map) = AnyMap::new(self.alloc, shape, self.seed) else {
             self.refused = true;
             return Err(MapFault::Memory);
         };

@@ -1,12 +1,14 @@
 //! The places of keys of at most eight bytes.
 
-ghost use Rattle.std.specs.Prelude.{◌≡◌, ◌≤◌, None, OnOk, OnErr, [], length, slice_get, option_map};
+ghost use Rattle.std.specs.Prelude.{◌≡◌, ◌<◌, ◌≤◌, None, IfOk, OnOk, OnErr, [], length};
+ghost use Rattle.std.specs.Map.{values_of};
 ghost use Rattle.words.specs.Bytes.{number_of};
 ghost use Rattle.tagged_model.specs.Table.{found, with_key, without, key_after};
-ghost use Rattle.bpf_maps.specs.inside.Keys.{key_of};
+ghost use Rattle.bpf_maps.specs.Places.{occurrences};
 
 use crate::given_key::ShortKey;
-use indexmap::IndexMap;
+use ordered_keys::OrderedMap;
+use seeded_hash::HashSeed;
 use std::alloc::{AllocError, Global};
 use std::marker::Model;
 
@@ -18,7 +20,7 @@ pub(crate) const LONGEST_WORD: usize = 8;
 #[derive(Drop)]
 pub struct WordIndex {
     size: usize,
-    map: IndexMap<u64, u32>,
+    map: OrderedMap<u64, HashSeed>,
 }
 
 impl Model for WordIndex {
@@ -34,16 +36,20 @@ impl Model for WordIndex {
 }
 
 impl WordIndex {
-    /// Makes an index without keys, for keys of `size` bytes.
-    pub(crate) fn new(alloc: Global, size: usize) -> WordIndex
+    /// Makes an index without keys, for keys of `size` bytes and places less than `bound`. `AllocError`: out of memory.
+    pub(crate) fn new(
+        alloc: Global,
+        size: usize,
+        bound: u32,
+        seed: HashSeed,
+    ) -> Result<WordIndex, AllocError>
         requires { size ≤ LONGEST_WORD }
-        ensures size { result.size ≡ size }
-        ensures entries { result.entries ≡ [] }
+        ensures size { IfOk result (λ index. index.size ≡ size) }
+        ensures bound { IfOk result (λ index. index.bound ≡ bound) }
+        ensures entries { IfOk result (λ index. index.entries ≡ []) }
     {
-        WordIndex {
-            size,
-            map: IndexMap::new(alloc),
-        }
+        let map = OrderedMap::new(alloc, bound, seed)?;
+        Ok(WordIndex { size, map })
     }
 
     /// Returns the place of a key; `None` if the key is absent.
@@ -52,29 +58,18 @@ impl WordIndex {
         requires { length key.now ≡ self.now.size }
         ensures { result ≡ found key.now self.now.entries }
     {
-        self.map.get(&word_of(key)).copied()
-    }
-
-    /// The index of the entry that follows a key. After an absent key, also one of another size, it is the first.
-    fn index_after(&self, key: &[u8]) -> usize
-        ensures { key_of (slice_get self.now.entries result) ≡ key_after key.now self.now.entries }
-    {
-        if key.len() != self.size {
-            return 0;
-        }
-        // An index is less than the number of keys, so the next one doesn't overflow.
-        let _count = self.map.len();
-        match self.map.get_index_of(&word_of(key)) {
-            Some(index) => index + 1,
-            None => 0,
-        }
+        self.map.get(&word_of(key))
     }
 
     /// Returns the key that follows a key, if there is one. After an absent key, also one of another size, it is the first.
     pub(crate) fn key_after(&self, key: &[u8]) -> Option<ShortKey>
         ensures { result ≡ key_after key.now self.now.entries }
     {
-        let (word, _) = self.map.get_index(self.index_after(key))?;
+        if key.len() != self.size {
+            let word = self.map.first()?;
+            return Some(ShortKey::of_word(*word, self.size));
+        }
+        let word = self.map.key_after(&word_of(key))?;
         Some(ShortKey::of_word(*word, self.size))
     }
 
@@ -82,12 +77,15 @@ impl WordIndex {
     pub(crate) fn insert(&mut self, key: &[u8], place: u32) -> Result<(), AllocError>
         requires size { length key.now ≡ self.old.size }
         requires absent { found key.now self.old.entries ≡ None }
+        requires within { place < self.old.bound }
+        requires free { occurrences place (values_of self.old.entries) ≡ 0 }
+        requires few { length self.old.entries < self.old.bound }
         ensures added { OnOk result (self.new.entries ≡ with_key key.now place self.old.entries) }
         ensures refused { OnErr result (self.new.entries ≡ self.old.entries) }
         ensures size { self.new.size ≡ self.old.size }
+        ensures bound { self.new.bound ≡ self.old.bound }
     {
-        self.map.insert(word_of(key), place)?;
-        Ok(())
+        self.map.insert(word_of(key), place)
     }
 
     /// Removes a key and returns its place; `None` if the key is absent. The others keep their order.
@@ -96,8 +94,9 @@ impl WordIndex {
         ensures place { result ≡ found key.now self.old.entries }
         ensures left { self.new.entries ≡ without key.now self.old.entries }
         ensures size { self.new.size ≡ self.old.size }
+        ensures bound { self.new.bound ≡ self.old.bound }
     {
-        self.map.shift_remove(&word_of(key))
+        self.map.remove(&word_of(key))
     }
 }
 

@@ -1,10 +1,10 @@
-use Rattle.std.proofs.Common.{◌≡◌, ℕ, ◌∙◌, sym, ap, subst, refl, Some, [], ◌∷◌, ◌++◌, List, length, slice_get, ◌-◌}
+use Rattle.std.proofs.Common.{◌≡◌, ℕ, ◌∙◌, sym, ap, subst, refl, Some, [], ◌∷◌, ◌++◌, List, length, slice_get, ◌-◌, ◌<◌}
 use Rattle.tagged_model.specs.Table.{with_key}
 use Rattle.bpf_maps.specs.Places.{PlaceTable}
 use Rattle.bpf_maps.specs.Index.{entries_of, TakesKeys, shown, IsWellFormedHash}
 use Rattle.bpf_maps.specs.declared.hash_map.HashMapIx.TheInside.{Inside}
 use Rattle.bpf_maps.proofs.Shown.{on_ok}
-use Rattle.bpf_maps.proofs.Kept.{last_is, sound, kept_by_add, not_full, is_free}
+use Rattle.bpf_maps.proofs.Kept.{last_is, ends_with, sound, kept_by_add, not_full, is_free}
 use Rattle.bpf_maps.proofs.Answered.{claims_new, same_table}
 use Rattle.bpf_maps.proofs.hash_map.HashMapIx.add.Goals as goal
 
@@ -27,7 +27,7 @@ module _ (c : goal.After-pop) where
   whole : IsWellFormedHash after
   whole =
       kept_by_add c.self.invariant c.in-Some.place c.pop.new.self.items last after c.args.key.now size refl index refl refl c.pop.ensures.capacity
-      (subst (TakesKeys c.insert.new.self) size c.insert.ensures.takes)
+      (subst (TakesKeys c.insert.new.self) size c.insert.ensures.takes) c.insert.ensures.bound
 
 pub invariant_of-self-2 : goal.invariant_of-self-2
 invariant_of-self-2 c = whole c
@@ -39,3 +39,18 @@ returns-clause-claimed c =
 
 pub returns-clause-sound : goal.returns-clause-sound
 returns-clause-sound c = sound (whole c)
+
+pub insert-requires-clause-within : goal.insert-requires-clause-within
+insert-requires-clause-within c =
+    let shown_last : slice_get c.self.inside.free.items (length c.self.inside.free.items - 1) ≡ Some c.in-Some.place =
+    subst (λ (xs : List ℕ). slice_get xs (length xs - 1) ≡ Some c.in-Some.place) c.deref.ensures.value (sym c.last.ensures.value ∙ sym c.copied.ensures ∙ c.in-Some.is) in
+    let front = ends_with c.self.inside.free.items c.in-Some.place shown_last in
+    let free = is_free c.self.invariant c.in-Some.place front.0 front.1 in
+    subst (λ (n : ℕ). c.in-Some.place < n) (sym c.self.invariant.bound) free.within
+
+pub insert-requires-clause-free : goal.insert-requires-clause-free
+insert-requires-clause-free c =
+    let shown_last : slice_get c.self.inside.free.items (length c.self.inside.free.items - 1) ≡ Some c.in-Some.place =
+    subst (λ (xs : List ℕ). slice_get xs (length xs - 1) ≡ Some c.in-Some.place) c.deref.ensures.value (sym c.last.ensures.value ∙ sym c.copied.ensures ∙ c.in-Some.is) in
+    let front = ends_with c.self.inside.free.items c.in-Some.place shown_last in
+    (is_free c.self.invariant c.in-Some.place front.0 front.1).entries

@@ -20,7 +20,7 @@ module _ (c : goal.In_default) where
   same = c.remove.ensures.left ∙ without-absent c.args.key.now (entries_of c.self.inside.index) none
 
 pub invariant_of-self : goal.invariant_of-self
-invariant_of-self c = kept_by_same c.remove.new.self c.self.invariant (same c) (takes (goal.at.invariant_of-self c).After-remove)
+invariant_of-self c = kept_by_same c.remove.new.self c.self.invariant (same c) (takes (goal.at.invariant_of-self c).After-remove) c.remove.ensures.bound
 
 pub returns-in_default-clause-removed : goal.returns-in_default-clause-removed
 returns-in_default-clause-removed c = removes_none c.args.key.now (shown c.self.inside) _ _ c.self.view_is c.self.invariant.kind (none c) (same_table c.self.inside.shape (same c) refl)
@@ -38,7 +38,7 @@ module _ (c : goal.After-push_reserved) where
   whole : IsWellFormedHash after
   whole =
       kept_by_remove after c.self.invariant c.args.key.now found_is refl c.remove.ensures.left c.push_reserved.ensures.items c.push_reserved.ensures.capacity refl
-      (takes (goal.at.invariant_of-self-2 c).After-remove)
+      (takes (goal.at.invariant_of-self-2 c).After-remove) c.remove.ensures.bound
 
 pub invariant_of-self-2 : goal.invariant_of-self-2
 invariant_of-self-2 c = whole c

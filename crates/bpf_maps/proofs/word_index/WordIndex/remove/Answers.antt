@@ -7,7 +7,7 @@ use Rattle.bpf_maps.proofs.Shown.{Tests, found_shown, without_shown}
 use Rattle.bpf_maps.proofs.WordKeys.{word_tests, below-remove}
 use Rattle.bpf_maps.proofs.word_index.WordIndex.remove.Goals as goal
 
-module _ (c : goal.After-shift_remove) where
+module _ (c : goal.After-remove) where
   long : length c.args.key.now ≡ c.self.inside.size
   long = c.requires ∙ ap (λ (t : SizedKeys). t.size) (sym c.self.view_is)
 
@@ -17,17 +17,17 @@ module _ (c : goal.After-shift_remove) where
 pub invariant_of-self : goal.invariant_of-self
 invariant_of-self c = record {
   short = c.self.invariant.short;
-  below = subst (AreBelow (256 ^ c.self.inside.size)) (sym c.shift_remove.ensures.entries) (below-remove (256 ^ c.self.inside.size) (nat_eq c.word_of.result) c.self.inside.map.entries c.self.invariant.below);
+  below = subst (AreBelow (256 ^ c.self.inside.size)) (sym c.remove.ensures.left) (below-remove (256 ^ c.self.inside.size) (nat_eq c.word_of.result) c.self.inside.map.entries c.self.invariant.below);
 }
 
 pub returns-clause-place : goal.returns-clause-place
 returns-clause-place c =
-    c.shift_remove.ensures.value
+    c.remove.ensures.place
     ∙ found_shown (low_bytes c.self.inside.size) c.args.key.now (nat_eq c.word_of.result) c.self.inside.map.entries (tests c)
     ∙ ap (λ (t : SizedKeys). found c.args.key.now t.entries) c.self.view_is
 
 pub returns-clause-left : goal.returns-clause-left
 returns-clause-left c =
-    ap (shown_by (low_bytes c.self.inside.size)) c.shift_remove.ensures.entries
+    ap (shown_by (low_bytes c.self.inside.size)) c.remove.ensures.left
     ∙ without_shown (low_bytes c.self.inside.size) c.args.key.now (nat_eq c.word_of.result) c.self.inside.map.entries (tests c)
     ∙ ap (λ (t : SizedKeys). without c.args.key.now t.entries) c.self.view_is

@@ -106,7 +106,7 @@ static void repeat_call(void *way, long times)
 static struct call by_call(const struct frames *frames)
 {
     struct call it = {.host = BPFHOST_EMPTY};
-    must(bpfhost_new(&it.host, 1) == BPFHOST_DONE, "no host");
+    must(bpfhost_new(&it.host, 1, &(bpfhost_seed){{1, 2}}) == BPFHOST_DONE, "no host");
     for (size_t i = 0; i < frames->count; i++) {
         it.frame = frames->each[i];
         repeat_call(&it, 1);
@@ -161,7 +161,7 @@ static void start(struct pipes *it, const char *program)
 static void by_pipes(struct pipes *it, const char *program, const struct frames *frames)
 {
     struct call call = {.host = BPFHOST_EMPTY};
-    must(bpfhost_new(&call.host, 1) == BPFHOST_DONE, "no host");
+    must(bpfhost_new(&call.host, 1, &(bpfhost_seed){{1, 2}}) == BPFHOST_DONE, "no host");
     start(it, program);
     it->at_once = 1;
     for (size_t i = 0; i < frames->count; i++) {

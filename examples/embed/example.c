@@ -121,7 +121,13 @@ int main(void)
     uint8_t frame[24];
     size_t length;
     bool refused = true;
-    int code = bpfhost_new(&host, TENANTS);
+    bpfhost_seed seed;
+    int code;
+    if (!bpfhost_random_seed(&seed)) {
+        puts("no host: the system has no random bytes for its seed");
+        return 1;
+    }
+    code = bpfhost_new(&host, TENANTS, &seed);
     if (code != BPFHOST_DONE) {
         printf("no host: %s\n", bpfhost_code_text(code));
         return 1;

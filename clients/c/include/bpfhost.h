@@ -25,6 +25,7 @@
 #include <stdbool.h>
 #include <stddef.h>
 #include <stdint.h>
+#include <stdio.h>
 #include <string.h>
 
 #ifdef __cplusplus
@@ -70,9 +71,15 @@ typedef struct bpfhost_bytes {
     size_t length;
 } bpfhost_bytes;
 
+/* The seed of a host's hash maps: two random words. Who knows them can choose keys that collide, which makes the calls of a map
+ * slow; no reply depends on them. */
+typedef struct bpfhost_seed {
+    uint64_t words[2];
+} bpfhost_seed;
+
 /* The proved functions. No pointer is null, no length is above PTRDIFF_MAX, what they are given does not overlap, `*refused` is
  * false or true, and `reply->at` leads to `reply->length` bytes. Call those below in their place. */
-int32_t bpfhost_c_new(bpfhost *handle, size_t tenants);
+int32_t bpfhost_c_new(bpfhost *handle, size_t tenants, uint64_t first, uint64_t second);
 int32_t bpfhost_c_handle(bpfhost *handle, const uint8_t *frame, size_t frame_length, uint8_t *room, size_t room_length,
                          size_t *written);
 int32_t bpfhost_c_handle_lent(bpfhost *handle, const uint8_t *frame, size_t frame_length, bpfhost_bytes *reply);
@@ -86,13 +93,29 @@ static inline bool bpfhost_are_apart(const void *a, size_t a_length, const void 
         || ((uintptr_t)a - (uintptr_t)b >= b_length && (uintptr_t)b - (uintptr_t)a >= a_length);
 }
 
-/* Makes a host for so many tenants, numbered from 0, and puts it behind an empty handle. It takes some 260 KiB for each tenant,
- * which bpfhost_free gives back. TENANTS, HAS_HOST, MEMORY, NULL: the handle is as it was. */
-static inline int bpfhost_new(bpfhost *handle, size_t tenants)
+/* Fills a seed with random bytes of the system, of /dev/urandom. false: there are none, and the seed is as it was; then take words
+ * from another source that no tenant can guess. */
+static inline bool bpfhost_random_seed(bpfhost_seed *seed)
 {
-    if (handle == NULL)
+    bpfhost_seed found;
+    FILE *source = seed == NULL ? NULL : fopen("/dev/urandom", "rb");
+    bool whole;
+    if (source == NULL)
+        return false;
+    whole = setvbuf(source, NULL, _IONBF, 0) == 0 && fread(&found, sizeof found, 1, source) == 1;
+    (void)fclose(source);
+    if (whole)
+        *seed = found;
+    return whole;
+}
+
+/* Makes a host for so many tenants, numbered from 0, with the seed of its hash maps, and puts it behind an empty handle. It takes
+ * some 260 KiB for each tenant, which bpfhost_free gives back. TENANTS, HAS_HOST, MEMORY, NULL: the handle is as it was. */
+static inline int bpfhost_new(bpfhost *handle, size_t tenants, const bpfhost_seed *seed)
+{
+    if (handle == NULL || seed == NULL)
         return BPFHOST_NULL;
-    return (int)bpfhost_c_new(handle, tenants);
+    return (int)bpfhost_c_new(handle, tenants, seed->words[0], seed->words[1]);
 }
 
 /* What is wrong with a frame for a call, or DONE. */

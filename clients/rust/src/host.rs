@@ -1,7 +1,9 @@
 use crate::library::{Handle, Lent, bpfhost_c_free, bpfhost_c_handle_lent, bpfhost_c_memory_refused, bpfhost_c_new};
 use crate::numbers::{DONE, LONGEST_FRAME, MEMORY, TENANTS};
 use crate::{Error, Reply, Tenant};
+use std::collections::hash_map::RandomState;
 use std::fmt;
+use std::hash::{BuildHasher, Hasher};
 use std::ptr::NonNull;
 
 /// A host of 1 to [`MOST_TENANTS`](crate::MOST_TENANTS) tenants, numbered from 0.
@@ -23,6 +25,11 @@ pub struct Host {
     frame: Vec<u8>,
 }
 
+/// A word of the keys that the standard library draws for its hash maps.
+fn random_word() -> u64 {
+    RandomState::new().build_hasher().finish()
+}
+
 impl Host {
     /// Makes a host, whose tenants have nothing open. It takes some 260 KiB for each tenant, which are free again when it is dropped.
     ///
@@ -31,7 +38,7 @@ impl Host {
     /// [`Error::Tenants`] where their number is not 1 to [`MOST_TENANTS`](crate::MOST_TENANTS), [`Error::NoMemory`].
     pub fn new(tenants: usize) -> Result<Host, Error> {
         let mut handle = Handle::empty();
-        match bpfhost_c_new(&mut handle, tenants) {
+        match bpfhost_c_new(&mut handle, tenants, random_word(), random_word()) {
             DONE => Ok(Host { handle, frame: Vec::new() }),
             TENANTS => Err(Error::Tenants { asked: tenants }),
             MEMORY => Err(Error::NoMemory),

@@ -32,7 +32,7 @@ unsafe impl Send for Handle {}
 // to a whole value and overlaps no other parameter. So three of the functions are safe. The one that is not takes an address and a
 // length of C, and its caller owes that they are those of bytes that no other parameter overlaps.
 unsafe extern "C" {
-    pub(crate) safe fn bpfhost_c_new(handle: &mut Handle, tenants: usize) -> i32;
+    pub(crate) safe fn bpfhost_c_new(handle: &mut Handle, tenants: usize, first: u64, second: u64) -> i32;
     pub(crate) fn bpfhost_c_handle_lent(
         handle: &mut Handle,
         frame: *const u8,

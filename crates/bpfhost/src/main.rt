@@ -1,7 +1,7 @@
 //! bpfhost: an eBPF host in user space. See the README.
 #![tactic(auto)]
 
-use host::{refuse_unread_words, run_words};
+use host::{HashSeed, refuse_unread_words, run_words};
 use std::process::ExitCode;
 use std::{env, io};
 
@@ -13,7 +13,15 @@ fn run(rt: &HostRuntime) -> io::Result<u8> {
         .iter()
         .map(|argument| argument.as_str())
         .collect(alloc)?;
-    Ok(run_words(alloc, &arguments, rt.stdin(), rt.stdout(), rt.stderr()))
+    let seed = HashSeed::random(rt).ok();
+    Ok(run_words(
+        alloc,
+        seed,
+        &arguments,
+        rt.stdin(),
+        rt.stdout(),
+        rt.stderr(),
+    ))
 }
 
 fn main(rt: HostRuntime) -> ExitCode {

@@ -16,7 +16,7 @@ ghost use Rattle.bpfhost_c.specs.declared.codes.TheConstants.{DONE, MEMORY};
 
 use codes::{DONE, HAS_HOST, MEMORY, NO_HOST, ROOM, TENANTS};
 use handle::Handle;
-use host_core::{LONGEST_REPLY, MOST_TENANTS};
+use host_core::{HashSeed, LONGEST_REPLY, MOST_TENANTS};
 use session::Session;
 use std::alloc::Global;
 
@@ -28,11 +28,18 @@ pub struct Lent {
     pub length: usize,
 }
 
-/// Creates a host for 1 to `MOST_TENANTS` tenants, and puts it behind an empty handle.
+/// Creates a host for 1 to `MOST_TENANTS` tenants, and puts it behind an empty handle. The two words are the seed of its hash maps:
+/// random ones, which no tenant knows.
 ///
 /// Returns `DONE`; else `TENANTS`, `HAS_HOST` or `MEMORY`, and the handle is unchanged.
 #[unsafe(no_mangle)]
-pub extern "C" fn bpfhost_c_new(alloc: Global, handle: &mut Handle, tenants: usize) -> i32
+pub extern "C" fn bpfhost_c_new(
+    alloc: Global,
+    handle: &mut Handle,
+    tenants: usize,
+    first: u64,
+    second: u64,
+) -> i32
     ensures made { result ≡ DONE → states handle.new.session ≡ replicate tenants new_tenant }
     ensures otherwise { result ≢ DONE → handle.new.session ≡ handle.old.session }
     ensures code { result ≢ MEMORY → result ≡ new_code handle.old.session tenants }
@@ -45,7 +52,7 @@ pub extern "C" fn bpfhost_c_new(alloc: Global, handle: &mut Handle, tenants: usi
         handle.put(session);
         return HAS_HOST;
     }
-    match Session::new(alloc, tenants) {
+    match Session::new(alloc, tenants, HashSeed::new(first, second)) {
         Ok(session) => {
             handle.put(session);
             DONE

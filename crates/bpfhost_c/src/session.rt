@@ -6,7 +6,7 @@ ghost use Rattle.host_core.specs.Handled.{Handles};
 ghost use Rattle.host_core.specs.State.{new_tenant};
 ghost use Rattle.host_core.specs.declared.host.TheConstants.{MOST_TENANTS};
 
-use host_core::{Host, LONGEST_REPLY, MOST_TENANTS, ReplyBuf};
+use host_core::{HashSeed, Host, LONGEST_REPLY, MOST_TENANTS, ReplyBuf};
 use std::alloc::{AllocError, Global};
 use std::mem::replace;
 
@@ -21,12 +21,16 @@ pub struct Session {
 
 impl Session {
     /// A session with a new host. `AllocError`: out of memory.
-    pub(crate) fn new(alloc: Global, tenants: usize) -> Result<Box<Session>, AllocError>
+    pub(crate) fn new(
+        alloc: Global,
+        tenants: usize,
+        seed: HashSeed,
+    ) -> Result<Box<Session>, AllocError>
         requires some { 1 ≤ tenants }
         requires few { tenants ≤ MOST_TENANTS }
         ensures { IfOk result (λ session. session.value.host ≡ replicate tenants new_tenant) }
     {
-        let host = Host::new(alloc, tenants)?;
+        let host = Host::new(alloc, tenants, seed)?;
         let reply = Vec::with_capacity(alloc, LONGEST_REPLY)?;
         Ok(Box::new(alloc, Session { host, reply, alloc })?)
     }

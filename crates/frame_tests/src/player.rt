@@ -4,7 +4,7 @@ use crate::streams::{cut, program, stream};
 use anyhow::{Result, bail};
 use bpf_text::assemble;
 use case_lines::{GROUP, LineFault, Player, bytes_of, first_word, hex_groups, program_lines};
-use host::{Host, MOST_TENANTS, ReplyBuf};
+use host::{HashSeed, Host, MOST_TENANTS, ReplyBuf};
 use insn_codec::write_program;
 use std::alloc::{AllocError, Global};
 
@@ -37,7 +37,7 @@ pub fn new_host(alloc: Global, tenants: &str) -> Result<Host> {
     if tenants < 1 || tenants > MOST_TENANTS {
         bail!("no such number of tenants");
     }
-    Ok(Host::new(alloc, tenants)?)
+    Ok(Host::new(alloc, tenants, HashSeed::new(1, 2))?)
 }
 
 /// A frame of a tenant, with a number at the front of its body.
@@ -97,7 +97,7 @@ impl HostPlayer {
     pub fn new(alloc: Global) -> Result<HostPlayer, AllocError> {
         Ok(HostPlayer {
             alloc,
-            host: Host::new(alloc, 1)?,
+            host: Host::new(alloc, 1, HashSeed::new(1, 2))?,
             words: vec![in alloc; 0; WORDS]?,
         })
     }

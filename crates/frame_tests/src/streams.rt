@@ -3,7 +3,7 @@
 use crate::player::new_host;
 use anyhow::{Result, bail};
 use case_lines::{GROUP, bytes_of, first_word, hex_groups};
-use host::{Counted, Failure, Host, MOST_FRAMES, ServeFault, run_words, serve};
+use host::{Counted, Failure, HashSeed, Host, MOST_FRAMES, ServeFault, run_words, serve};
 use std::alloc::{AllocError, Global};
 
 /// How a stream ended: by the fault line of the program, where it ended with a fault.
@@ -81,7 +81,14 @@ fn outcome(alloc: Global, status: u8, output: &[u8], faults: &[u8]) -> Result<St
 fn ran(alloc: Global, words: &[&str], input: &[u8]) -> Result<String> {
     let mut output = Vec::new(alloc);
     let mut faults = Vec::new(alloc);
-    let status = run_words(alloc, words, input, &mut output, &mut faults);
+    let status = run_words(
+        alloc,
+        Some(HashSeed::new(1, 2)),
+        words,
+        input,
+        &mut output,
+        &mut faults,
+    );
     outcome(alloc, status, &output, &faults)
 }
 

@@ -4,8 +4,8 @@
 mod program;
 
 pub use host_core::{
-    Counted, Host, LONGEST_REPLY, MOST_FRAMES, MOST_TENANTS, ReplyBuf, ServeFault, ServeFaultKind,
-    Sink, Source, laws, serve,
+    Counted, HashSeed, Host, LONGEST_REPLY, MOST_FRAMES, MOST_TENANTS, ReplyBuf, ServeFault,
+    ServeFaultKind, Sink, Source, laws, serve,
 };
 pub use program::arguments::{refuse_unread_words, run_words};
 pub use program::failure::Failure;

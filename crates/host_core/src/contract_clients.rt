@@ -8,6 +8,7 @@ ghost use Rattle.host_core.specs.declared.host.TheConstants.{MOST_TENANTS};
 use crate::host::Host;
 use crate::server::serve;
 use crate::stream::{Sink, Source};
+use seeded_hash::HashSeed;
 use std::alloc::Global;
 
 /// Where a new host serves a stream to its end, each tenant to which no memory was refused gets the replies that the machine
@@ -27,6 +28,6 @@ fn serve_from_the_beginning<R: Source, W: Sink>(
         (stream_state R.Source W.Sink after reader.new writer.new)
         count []) }
 {
-    let mut host = Host::new(alloc, tenants).ok()?;
+    let mut host = Host::new(alloc, tenants, HashSeed::new(0, 0)).ok()?;
     serve(alloc, &mut host, reader, writer, 100).ok()
 }

@@ -12,6 +12,7 @@ ghost use Rattle.host_core.specs.declared.host.TheConstants.{MOST_TENANTS};
 use arena::Arena;
 use bpf_maps::PART;
 use command_frames::{Head, ReplyBuf, head, write_reply};
+use seeded_hash::HashSeed;
 use std::alloc::{AllocError, Global};
 use std::marker::Model;
 use tenant::{Errno, Tenant, laws};
@@ -50,31 +51,31 @@ impl Model for Host {
 }
 
 /// `count` new tenants.
-fn new_tenants(alloc: Global, count: usize) -> Result<Vec<Tenant>, AllocError>
+fn new_tenants(alloc: Global, count: usize, seed: HashSeed) -> Result<Vec<Tenant>, AllocError>
     ensures new { IfOk result (λ tenants. (m : Memory) (first : ℕ)
         → states_from m first tenants.items ≡ replicate count new_tenant) }
     ensures count { IfOk result (λ tenants. length tenants.items ≡ count) }
 {
     let mut tenants = Vec::with_capacity(alloc, count)?;
     for _ in 0..count {
-        tenants.push(Tenant::new(alloc)?)?;
+        tenants.push(Tenant::new(alloc, seed)?)?;
     }
     Ok(tenants)
 }
 
 impl Host {
-    /// Creates a host for 1 to `MOST_TENANTS` tenants with nothing open.
+    /// Creates a host for 1 to `MOST_TENANTS` tenants with nothing open. The keys of its hash maps are hashed with this seed.
     ///
     /// # Errors
     ///
     /// `AllocError`: out of memory.
-    pub fn new(alloc: Global, tenants: usize) -> Result<Host, AllocError>
+    pub fn new(alloc: Global, tenants: usize, seed: HashSeed) -> Result<Host, AllocError>
         requires some { 1 ≤ tenants }
         requires few { tenants ≤ MOST_TENANTS }
         ensures { IfOk result (λ host. host ≡ replicate tenants new_tenant) }
     {
         Ok(Host {
-            tenants: new_tenants(alloc, tenants)?,
+            tenants: new_tenants(alloc, tenants, seed)?,
             arena: Arena::new(alloc, tenants, PART)?,
             alloc,
         })

@@ -3,7 +3,9 @@
 ghost use Rattle.std.specs.Prelude.{◌≤◌};
 ghost use Rattle.host_core.specs.declared.server.TheConstants.{MOST_FRAMES};
 
-use host::{Counted, Host, ServeFault, ServeFaultKind, refuse_unread_words, run_words, serve};
+use host::{
+    Counted, HashSeed, Host, ServeFault, ServeFaultKind, refuse_unread_words, run_words, serve,
+};
 use std::alloc::Global;
 use std::io::{self, ErrorKind, Read, Write};
 use std::test::*;
@@ -116,7 +118,7 @@ fn served_from<R: Read + Drop>(
 ) -> Result<(Result<u32, ServeFault>, Vec<u8>, u64), Fail>
     requires { limit ≤ MOST_FRAMES }
 {
-    let mut host = Host::new(alloc, 2)?;
+    let mut host = Host::new(alloc, 2, HashSeed::new(1, 2))?;
     let mut reader = Counted::new(input);
     let mut writer = Counted::new(Vec::new(alloc));
     let end = serve(alloc, &mut host, &mut reader, &mut writer, limit);
@@ -128,7 +130,7 @@ fn served_to<W: Write + Drop>(
     alloc: Global,
     output: W,
 ) -> Result<(Result<u32, ServeFault>, u64), Fail> {
-    let mut host = Host::new(alloc, 2)?;
+    let mut host = Host::new(alloc, 2, HashSeed::new(1, 2))?;
     let mut reader = Counted::new(LOAD_AND_RUN.as_slice());
     let mut writer = Counted::new(output);
     let end = serve(alloc, &mut host, &mut reader, &mut writer, 100);
@@ -263,7 +265,7 @@ fn assembled<R: Read + Drop, W: Write + Drop>(
     output: W,
 ) -> Result<(u8, String), Fail> {
     let mut faults = Vec::new(alloc);
-    let status = run_words(alloc, &["asm"], input, output, &mut faults);
+    let status = run_words(alloc, None, &["asm"], input, output, &mut faults);
     let line = String::from_utf8(faults).map_err(|_| "a fault line is text")?;
     Ok((status, line))
 }

@@ -3,6 +3,7 @@
 ghost use Rattle.std.specs.Prelude.{◌≡◌, [], IfOk};
 
 use bpf_maps::{ANY, ArrayMap, EXIST, GivenKey, HashMapIx, MapFault, NOEXIST, ValueMap};
+use host::HashSeed;
 use std::alloc::Global;
 use std::test::Fail;
 use tagged_model::{MapKind, MapShape, ShapeFault};
@@ -23,7 +24,11 @@ fn shape(kind: MapKind, max_entries: u32) -> Result<MapShape, ShapeFault>
 }
 
 fn hash_map(alloc: Global, max_entries: u32) -> Result<Small<HashMapIx>, Fail> {
-    let map = HashMapIx::new(alloc, shape(MapKind::Hash, max_entries)?)?;
+    let map = HashMapIx::new(
+        alloc,
+        shape(MapKind::Hash, max_entries)?,
+        HashSeed::new(1, 2),
+    )?;
     Ok(Small { map })
 }
 

@@ -5,6 +5,7 @@ ghost use Rattle.bpf_maps.specs.declared.part.TheConstants.{PART};
 ghost use Rattle.bpf_maps.specs.Live.{live_at, shape_at, holds_at};
 
 use bpf_maps::{ANY, MapFault, MapKey, Maps, NOEXIST, PART};
+use host::HashSeed;
 use std::test::Fail;
 use tagged_model::{MapKind, MapShape, ShapeFault};
 
@@ -117,7 +118,7 @@ fn next(maps: &Maps, map: MapKey, number: u8) -> Option<u8>
 fn sixteen_maps_and_no_more(rt: HostRuntime) -> Result<(), Fail> {
     let mut bytes = vec![in rt.alloc(); 0; PART]?;
     let part = bytes.as_mut_slice();
-    let mut maps = Maps::new(rt.alloc())?;
+    let mut maps = Maps::new(rt.alloc(), HashSeed::new(1, 2))?;
     let one = shape(MapKind::Array, 8, 1)?;
     let first = create(&mut maps, one, part)?;
     assert_eq!(rt; made(&mut maps, one, part), 15);
@@ -133,7 +134,7 @@ fn sixteen_maps_and_no_more(rt: HostRuntime) -> Result<(), Fail> {
 fn a_new_array_holds_zeros(rt: HostRuntime) -> Result<(), Fail> {
     let mut bytes = vec![in rt.alloc(); 7; PART]?;
     let part = bytes.as_mut_slice();
-    let mut maps = Maps::new(rt.alloc())?;
+    let mut maps = Maps::new(rt.alloc(), HashSeed::new(1, 2))?;
     let one = shape(MapKind::Array, 8, 1)?;
     let old = create(&mut maps, one, part)?;
     let at = maps.value_at(old, 0);
@@ -152,7 +153,7 @@ fn a_new_array_holds_zeros(rt: HostRuntime) -> Result<(), Fail> {
 fn the_areas_stand_in_order_and_close_up(rt: HostRuntime) -> Result<(), Fail> {
     let mut bytes = vec![in rt.alloc(); 0; PART]?;
     let part = bytes.as_mut_slice();
-    let mut maps = Maps::new(rt.alloc())?;
+    let mut maps = Maps::new(rt.alloc(), HashSeed::new(1, 2))?;
     let first = create(&mut maps, shape(MapKind::Array, 8, 1)?, part)?;
     let second = create(&mut maps, shape(MapKind::Array, 16, 2)?, part)?;
     let third = create(&mut maps, shape(MapKind::Array, 8, 1)?, part)?;
@@ -176,7 +177,7 @@ fn the_areas_stand_in_order_and_close_up(rt: HostRuntime) -> Result<(), Fail> {
 fn the_areas_are_summed(rt: HostRuntime) -> Result<(), Fail> {
     let mut bytes = vec![in rt.alloc(); 0; PART]?;
     let part = bytes.as_mut_slice();
-    let mut maps = Maps::new(rt.alloc())?;
+    let mut maps = Maps::new(rt.alloc(), HashSeed::new(1, 2))?;
     let small = create(&mut maps, shape(MapKind::Hash, 1, 1)?, part)?;
     let large = shape(MapKind::Array, 4096, 16)?;
     create(&mut maps, large, part)?;
@@ -194,7 +195,7 @@ fn the_areas_are_summed(rt: HostRuntime) -> Result<(), Fail> {
 fn a_held_map_stays(rt: HostRuntime) -> Result<(), Fail> {
     let mut bytes = vec![in rt.alloc(); 0; PART]?;
     let part = bytes.as_mut_slice();
-    let mut maps = Maps::new(rt.alloc())?;
+    let mut maps = Maps::new(rt.alloc(), HashSeed::new(1, 2))?;
     let map = create(&mut maps, shape(MapKind::Array, 8, 3)?, part)?;
     hold_and_release(&mut maps, map, part);
     assert_eq!(rt; find(&maps, map, 2), Some(2));
@@ -206,7 +207,7 @@ fn a_held_map_stays(rt: HostRuntime) -> Result<(), Fail> {
 fn a_hash_map_by_its_key(rt: HostRuntime) -> Result<(), Fail> {
     let mut bytes = vec![in rt.alloc(); 0; PART]?;
     let part = bytes.as_mut_slice();
-    let mut maps = Maps::new(rt.alloc())?;
+    let mut maps = Maps::new(rt.alloc(), HashSeed::new(1, 2))?;
     let map = create(&mut maps, shape(MapKind::Hash, 8, 1)?, part)?;
     assert_eq!(rt; find(&maps, map, 1), None);
     assert_eq!(rt; update(&mut maps, map, 1, ANY), Ok(0));

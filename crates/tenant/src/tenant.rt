@@ -20,6 +20,7 @@ use crate::reply::Reply;
 use crate::shape::asked_shape;
 use bpf_maps::{MapKey, Maps};
 use fd_table::{FIRST, FdTable, MOST};
+use seeded_hash::HashSeed;
 use std::alloc::{AllocError, Global};
 use std::marker::Model;
 use tagged_model::{Named, Target};
@@ -81,13 +82,14 @@ fn release_all(maps: &mut Maps, held: &[MapKey], part: &mut [u8])
 }
 
 impl Tenant {
-    /// A tenant without open objects or maps. Allocates the tables of its descriptors and maps. `AllocError`: out of memory.
-    pub fn new(alloc: Global) -> Result<Tenant, AllocError>
+    /// A tenant without open objects or maps; the keys of its maps will be hashed with this seed. Allocates the tables of its
+    /// descriptors and maps. `AllocError`: out of memory.
+    pub fn new(alloc: Global, seed: HashSeed) -> Result<Tenant, AllocError>
         ensures { IfOk result (λ tenant. (part : List ℕ) → state_in part tenant ≡ new_tenant) }
     {
         Ok(Tenant {
             objects: FdTable::new(alloc)?,
-            maps: Maps::new(alloc)?,
+            maps: Maps::new(alloc, seed)?,
             refused: false,
         })
     }

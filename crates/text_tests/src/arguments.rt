@@ -2,7 +2,7 @@
 
 use crate::notation::{shown, text_of, written};
 use crate::refusal::Refusal;
-use host::{read_shape, run_words};
+use host::{HashSeed, read_shape, run_words};
 use std::alloc::Global;
 
 /// `program`: the status, the output and the fault line of a run on arguments, with the text after `<` as its input.
@@ -14,6 +14,7 @@ pub fn ran(alloc: Global, case: &str) -> Result<String, Refusal> {
     let mut faults = Vec::new(alloc);
     let status = run_words(
         alloc,
+        Some(HashSeed::new(1, 2)),
         &arguments,
         input.as_slice(),
         &mut output,

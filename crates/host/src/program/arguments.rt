@@ -21,7 +21,7 @@ use crate::program::judging::judge;
 use crate::program::shapes::named_maps;
 use crate::program::texts::{TextTask, rewrite};
 use clap::{Arg, ArgAction, ArgMatches, Command};
-use host_core::{Counted, MOST_TENANTS};
+use host_core::{Counted, HashSeed, MOST_TENANTS};
 use std::alloc::{AllocError, Global};
 use std::io::{self, BufReader, Read, Write};
 use tagged_model::Named;
@@ -129,6 +129,7 @@ fn chosen_task<'m, 'a>(matches: &'m ArgMatches<'a>) -> Option<Task<'m, 'a>>
 /// came, is in the contract of `serve_frames` alone.
 fn serve_streams<I: Read + Drop, O: Write + Drop>(
     alloc: Global,
+    seed: Option<HashSeed>,
     tenants: usize,
     input: I,
     output: O,
@@ -137,12 +138,15 @@ fn serve_streams<I: Read + Drop, O: Write + Drop>(
     requires few { tenants ≤ MOST_TENANTS }
     ensures { IfErr result (λ failure. exit_status failure ≢ 2) }
 {
+    let Some(seed) = seed else {
+        return Err(Failure::Seed);
+    };
     let Ok(buffered) = BufReader::new(alloc, input) else {
         return Err(Failure::Memory);
     };
     let mut reader = Counted::new(buffered);
     let mut writer = Counted::new(output);
-    serve_frames(alloc, tenants, &mut reader, &mut writer)
+    serve_frames(alloc, tenants, seed, &mut reader, &mut writer)
 }
 
 /// Assembles or disassembles the input. It consumes the streams, so what was read and written, and which fault came, is in
@@ -197,6 +201,7 @@ fn judge_streams<I: Read + Drop, O: Write + Drop>(
 /// Runs the subcommand that the arguments, those after the program's name, ask for, and returns the exit status.
 fn run<I: Read + Drop, O: Write + Drop>(
     alloc: Global,
+    seed: Option<HashSeed>,
     arguments: &[&str],
     input: I,
     output: O,
@@ -212,7 +217,7 @@ fn run<I: Read + Drop, O: Write + Drop>(
     let matches = parse_arguments(alloc, arguments)?;
     match chosen_task(&matches).ok_or(Failure::WrongArguments)? {
         Task::Serve { tenants } => {
-            serve_streams(alloc, tenants, input, output)?;
+            serve_streams(alloc, seed, tenants, input, output)?;
             Ok(0)
         }
         Task::Rewrite(task) => {
@@ -224,10 +229,11 @@ fn run<I: Read + Drop, O: Write + Drop>(
 }
 
 /// Runs the program on its arguments, those after its name, and returns its exit status: 0, 1 if the input or its program is
-/// refused, 2 if arguments are wrong, 3 if input or output failed, 4 if out of memory. A fault is one line on `faults`; if
-/// that line can't be written, the status is the same.
+/// refused, 2 if arguments are wrong, 3 if input or output failed, or if there is no seed for the maps of `serve`, 4 if out of
+/// memory. A fault is one line on `faults`; if that line can't be written, the status is the same.
 pub fn run_words<I: Read + Drop, O: Write + Drop, F: Write + Drop>(
     alloc: Global,
+    seed: Option<HashSeed>,
     arguments: &[&str],
     input: I,
     output: O,
@@ -238,7 +244,7 @@ pub fn run_words<I: Read + Drop, O: Write + Drop, F: Write + Drop>(
     ensures refused { AreWrongArguments (texts arguments.now) → (result ≡ 2) ⊎ (result ≡ 4) }
     ensures accepted { result ≡ 0 → AcceptsAsked (texts arguments.now) (I.Read.remaining input) }
 {
-    match run(alloc, arguments, input, output) {
+    match run(alloc, seed, arguments, input, output) {
         Ok(status) => status,
         Err(failure) => {
             let _ = writeln!(faults, "{failure}");

@@ -31,6 +31,8 @@ pub enum Failure {
     Read,
     #[error("write fault")]
     Write,
+    #[error("no random seed")]
+    Seed,
     #[error("out of memory")]
     Memory,
 }
@@ -62,7 +64,7 @@ impl Failure {
             Failure::Truncated(_) | Failure::TooManyFrames => 1,
             Failure::TooLong | Failure::Line { .. } | Failure::Slot { .. } => 1,
             Failure::WrongArguments | Failure::MapArgument(_) => 2,
-            Failure::Read | Failure::Write => 3,
+            Failure::Read | Failure::Write | Failure::Seed => 3,
             Failure::Memory => 4,
         }
     }

@@ -7,10 +7,10 @@ ghost use Rattle.host_core.specs.declared.host.TheConstants.{MOST_TENANTS};
 ghost use Rattle.host.specs.inside.program.Frames.{ServesNewHost};
 
 use crate::program::failure::Failure;
-use host_core::{Host, MOST_FRAMES, Sink, Source, serve};
+use host_core::{HashSeed, Host, MOST_FRAMES, Sink, Source, serve};
 use std::alloc::Global;
 
-/// Serves the reader's frames on a new host, `MOST_FRAMES` at most, and writes the replies.
+/// Serves the reader's frames on a new host with this seed, `MOST_FRAMES` at most, and writes the replies.
 ///
 /// # Errors
 ///
@@ -18,6 +18,7 @@ use std::alloc::Global;
 pub(crate) fn serve_frames<R: Source, W: Sink>(
     alloc: Global,
     tenants: usize,
+    seed: HashSeed,
     reader: &mut R,
     writer: &mut W,
 ) -> Result<(), Failure>
@@ -29,7 +30,7 @@ pub(crate) fn serve_frames<R: Source, W: Sink>(
         (stream_state R.Source W.Sink (replicate tenants new_tenant) reader.old writer.old)
         (λ states. stream_state R.Source W.Sink states reader.new writer.new) }
 {
-    let mut host = Host::new(alloc, tenants)?;
+    let mut host = Host::new(alloc, tenants, seed)?;
     serve(alloc, &mut host, reader, writer, MOST_FRAMES)?;
     Ok(())
 }

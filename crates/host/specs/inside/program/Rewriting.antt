@@ -10,7 +10,7 @@ use Rattle.insn_set.specs.declared.insn.Insn.{Insn}
 use Rattle.host.specs.program.Statuses.{text_failure}
 use Rattle.host.specs.declared.program.texts.TheConstants.{LONGEST_INPUT}
 use Rattle.host.specs.declared.program.failure.Failure.{Failure}
-use Rattle.host.specs.declared.program.failure.Failure.TheVariants.{WrongArguments, MapArgument, Truncated, TooManyFrames, TooLong, Line, Slot, Read, Write, Memory}
+use Rattle.host.specs.declared.program.failure.Failure.TheVariants.{WrongArguments, MapArgument, Truncated, TooManyFrames, TooLong, Line, Slot, Read, Write, Seed, Memory}
 use Rattle.host.specs.declared.program.texts.TextTask.{TextTask}
 use Rattle.host.specs.declared.program.texts.TextTask.TheVariants.{Assemble, Disassemble}
 use Rattle.host.specs.program.Texts.{IsProgramText, IsProgramRefused}
@@ -98,6 +98,7 @@ HasNoInput TooManyFrames before after failures_before failures_after = ⊥
 HasNoInput (Line line kind) before after failures_before failures_after = ⊥
 HasNoInput (Slot slot kind) before after failures_before failures_after = ⊥
 HasNoInput Write before after failures_before failures_after = ⊥
+HasNoInput Seed before after failures_before failures_after = ⊥
 
 -- nothing was written
 abbrev pub WritesNothing : Streams → Streams → Type 0

@@ -1,0 +1,262 @@
+-- Alike states give each command the same reply, and stay alike.
+use Rattle.std.proofs.Common.{◌≡◌, ℕ, ◌+◌, ◌-◌, Bool, true, false, List, [], ◌∷◌, length, take, drop, Option, Some, None, Result, Ok, Err, is_some, refl, sym, ap, ap₂, subst, ◌∙◌, inl, inr}
+use Rattle.std.specs.Prelude.{◌==◌, ◌||◌, pos, nat_lt, option_map, if◌then◌else◌, MatchBool}
+use Rattle.std.specs.List.{list_any}
+use Rattle.std.specs.Map.{lookup}
+use Rattle.std.proofs.Math.Path.{fun_ext}
+use Rattle.std.proofs.lemmas.Map.Made.{lookup-map_values}
+use Rattle.command_frames.specs.Command.{Command, map_create, map_lookup, map_update, map_delete, map_next_key, prog_load, prog_test_run, close}
+use Rattle.fd_table.specs.Table as table
+use Rattle.tagged_model.specs.declared.fault.MapFault.{MapFault}
+use Rattle.tagged_model.specs.declared.shape.MapShape.{MapShape}
+use Rattle.tagged_model.specs.declared.shape.Named.{Named}
+use Rattle.tagged_model.specs.declared.value.Outcome.{Outcome}
+use Rattle.tagged_model.specs.declared.value.Outcome.TheVariants.{Value, Fault}
+use Rattle.tagged_model.specs.Cells.{and_then}
+use Rattle.tagged_model.specs.State.{set_at}
+use Rattle.tagged_model.specs.Step.{refused_at_first, MapsByDescriptor, result_with, left_with, was_refused}
+use Rattle.tagged_model.specs.Table as call
+use Rattle.tagged_model.specs.Table.{look_up, verdict, removal, next_of, with_new, with_object, with_deleted, after_run}
+use Rattle.verifier.specs.Maps.{maps_of, entries_of}
+use Rattle.tenant.specs.declared.errno.Errno.{Errno}
+use Rattle.tenant.specs.declared.errno.Errno.TheVariants.{NoEntry, TooBig, BadDescriptor, Invalid, TooManyOpen, NoSpace}
+use Rattle.tenant.specs.declared.object.OpenObject.{OpenObject}
+use Rattle.tenant.specs.declared.object.OpenObject.TheVariants as object
+use Rattle.tenant.specs.Loaded.{LoadedProgram}
+use Rattle.tenant.specs.Errno.{status_of, map_errno}
+use Rattle.tenant.specs.State.{Map, TenantState, live, is_named, shape_area, with_map_at, with_objects}
+use Rattle.tenant.specs.Machine.{Answer, refuses, refuses_for_memory, gives, opens, kind_of, asked_shape, new_map, room_for, created_at, created_as, created_under, created, of_place, of_object, on_map, gives_if_found, element_put, element_taken_out, LoadJudgement, accepted, rejected, Judges, targets, targets_from, places_from, loaded_program, answer_of_judgement, LoadsAs, LoadsUnder, Loads, longest_packet, maps_given, maps_left, outcome_answer, ran, run_of, closed, Answers}
+use Rattle.saving.specs.Alike.{moved_maps, moved_object, IsMovedBy, IsAlikeAnswer}
+use Rattle.saving.specs.Laws.{AlikeIsBisimulation}
+use Rattle.saving.proofs.Moved.{named_moved, lowest_moved, open_moved, closed_moved, named_by, stands_at, named_place_is_named, lookup_names, targets_moved, places_moved}
+use Rattle.saving.proofs.Pairs.{ArePair, same_named, unchanged, any_flag, changed, changed_one, created_pair, SameRoom, same_room_for, IsFree}
+use Rattle.saving.proofs.RunMaps.{left_same}
+use Rattle.saving.proofs.Left.{AreLeft, program_left, left_places, left_moved}
+use Rattle.saving.proofs.Closes.{closed_fewer, fewer_pair}
+
+-- the maps of a program are named in a state
+abbrev IsIn : TenantState → LoadedProgram → Type 0
+IsIn s l = (place : ℕ) → list_any (λ m. m.1 == place) l.maps ≡ true → is_named s.objects place ≡ true
+
+-- those of each of its programs are
+program_in : (s : TenantState) (fd : ℕ) (l : LoadedProgram) → table.named s.objects fd ≡ Some (object.Program l) → IsIn s l
+program_in s fd l is place e = named_by s.objects (fd - table.first_descriptor) (object.Program l) place (stands_at s.objects fd (object.Program l) is) e
+
+module _ {move : ℕ → ℕ} {s t : TenantState} (h : ArePair move s t) where
+  refused_too : (errno : Errno) → IsAlikeAnswer (refuses errno s) (refuses errno t)
+  refused_too errno = unchanged h (status_of errno) []
+
+  no_memory : IsAlikeAnswer (refuses_for_memory s) (refuses_for_memory t)
+  no_memory = record { status = refl; payload = refl; after = (move, any_flag h.by true true) }
+
+  given_too : (payload : List ℕ) → IsAlikeAnswer (gives payload s) (gives payload t)
+  given_too payload = unchanged h (pos 0) payload
+
+  if_too : {a b c d : Answer} (x : Bool) → IsAlikeAnswer a b → IsAlikeAnswer c d → IsAlikeAnswer (if x then a else c) (if x then b else d)
+  if_too true p q = p
+  if_too false p q = q
+
+  -- ---- MAP_CREATE
+
+  created_too : (refused : Bool) (r : Result MapShape Errno) → IsAlikeAnswer (created refused s r) (created refused t r)
+  created_too refused (Err errno) = refused_too errno
+  created_too refused (Ok shape) =
+      subst (λ (o : Option ℕ). IsAlikeAnswer (created_under refused s shape (table.lowest s.objects)) (created_under refused t shape o))
+      (sym (lowest_moved move s.objects) ∙ sym (ap table.lowest h.by.objects))
+      (under (table.lowest s.objects))
+    where
+      at_places : (refused : Bool) (fd p q : ℕ) → IsFree s p → IsFree t q → IsAlikeAnswer (created_at refused s shape fd p) (created_at refused t shape fd q)
+      at_places true fd p q a b = no_memory
+      at_places false fd p q a b = record { status = refl; payload = refl; after = (set_at move p q, created_pair h fd p q (new_map shape) a b) }
+
+      room : (fd : ℕ) → SameRoom s t (shape_area shape) → IsAlikeAnswer (created_as refused s shape fd (room_for s (shape_area shape))) (created_as refused t shape fd (room_for t (shape_area shape)))
+      room fd (inl (a, b)) = simp (a, b) (refused_too NoSpace)
+      room fd (inr (p, q, a, b, free_p, free_q)) = simp (a, b) (at_places refused fd p q free_p free_q)
+
+      under : (o : Option ℕ) → IsAlikeAnswer (created_under refused s shape o) (created_under refused t shape o)
+      under None = refused_too TooManyOpen
+      under (Some fd) = room fd (same_room_for h (shape_area shape))
+
+  -- ---- the calls of a map
+
+  on_map_too : (fd : ℕ) (f g : ℕ → Map → Answer) → ((place : ℕ) (m : Map) → is_named s.objects place ≡ true → IsAlikeAnswer (f place m) (g (move place) m)) → IsAlikeAnswer (on_map s fd f) (on_map t fd g)
+  on_map_too fd f g each =
+      subst (λ (o : Option OpenObject). IsAlikeAnswer (on_map s fd f) (of_object t g o)) (sym (named_moved move s.objects fd) ∙ sym (ap (λ (os : List (Option OpenObject)). table.named os fd) h.by.objects))
+      (by (table.named s.objects fd) refl)
+    where
+      there : (place : ℕ) (o : Option Map) → is_named s.objects place ≡ true → IsAlikeAnswer (of_place s place f o) (of_place t (move place) g o)
+      there place None named = refused_too BadDescriptor
+      there place (Some m) named = each place m named
+
+      by : (o : Option OpenObject) → table.named s.objects fd ≡ o → IsAlikeAnswer (of_object s f o) (of_object t g (option_map (moved_object move) o))
+      by None is = refused_too BadDescriptor
+      by (Some (object.Program l)) is = refused_too Invalid
+      by (Some (object.Map place)) is =
+          let named = named_place_is_named s.objects fd place is in
+          subst (λ (o : Option Map). IsAlikeAnswer (of_place s place f (live s place)) (of_place t (move place) g o)) (sym (same_named h place named)) (there place (live s place) named)
+
+  found_too : (o : Option (List ℕ)) → IsAlikeAnswer (gives_if_found s o) (gives_if_found t o)
+  found_too None = refused_too NoEntry
+  found_too (Some value) = given_too value
+
+  one_too : (place : ℕ) (m : Map) → is_named s.objects place ≡ true → IsAlikeAnswer (gives [] (with_map_at s place m)) (gives [] (with_map_at t (move place) m))
+  one_too place m named = record { status = refl; payload = refl; after = (move, changed_one h place m named) }
+
+  put_too : (refused : Bool) (place : ℕ) (m : Map) (key value : List ℕ) (v : call.Verdict (List ℕ)) → is_named s.objects place ≡ true
+      → IsAlikeAnswer (element_put refused s place m key value v) (element_put refused t (move place) m key value v)
+  put_too refused place m key value (call.Refused fault) named = refused_too (map_errno fault)
+  put_too refused place m key value (call.Present old) named = one_too place (with_object m key value) named
+  put_too true place m key value call.New named = no_memory
+  put_too false place m key value call.New named = one_too place (with_new m key value) named
+
+  taken_too : (place : ℕ) (m : Map) (key : List ℕ) (r : Result (List ℕ) MapFault) → is_named s.objects place ≡ true → IsAlikeAnswer (element_taken_out s place m key r) (element_taken_out t (move place) m key r)
+  taken_too place m key (Err fault) named = refused_too (map_errno fault)
+  taken_too place m key (Ok value) named = one_too place (after_run (with_deleted m key)) named
+
+  -- ---- PROG_LOAD
+
+  same_targets : targets t ≡ targets s
+  same_targets = ap (targets_from t table.first_descriptor) h.by.objects ∙ targets_moved move s t table.first_descriptor s.objects (same_named h)
+
+  opened_too : (fd : ℕ) (l k : LoadedProgram) → object.Program k ≡ moved_object move (object.Program l)
+      → IsAlikeAnswer (opens fd (record s { objects = table.with_open s.objects fd (object.Program l) })) (opens fd (record t { objects = table.with_open t.objects fd (object.Program k) }))
+  opened_too fd l k is = record {
+    status = refl;
+    payload = refl;
+    after = (
+      move,
+      record {
+        objects = ap₂ (λ (os : List (Option OpenObject)) (o : OpenObject). table.with_open os fd o) h.by.objects is ∙ sym (open_moved move s.objects fd (object.Program l));
+        same = h.by.same;
+        apart = h.by.apart;
+        only = h.by.only;
+      },
+    );
+  }
+
+  judged_too : (fd : ℕ) (j : LoadJudgement) → IsAlikeAnswer (answer_of_judgement s fd j) (answer_of_judgement t fd j)
+  judged_too fd (rejected errno slot number) = unchanged h _ _
+  judged_too fd (accepted insns) =
+      opened_too fd (loaded_program s insns) (loaded_program t insns)
+      (ap₂ (λ (ns : List Named) (ms : List (ℕ × ℕ)). object.Program (record { insns = insns; named = ns; maps = ms }))
+      (ap (entries_of (maps_of insns)) same_targets)
+      (ap (λ (os : List (Option OpenObject)). places_from os (maps_of insns)) h.by.objects ∙ places_moved move s.objects (maps_of insns)))
+
+  loads_as_too : (refused : Bool) (fd : ℕ) (slots : List ℕ) (a : Answer) → LoadsAs refused s fd slots a → (b : Answer) × LoadsAs refused t fd slots b × IsAlikeAnswer a b
+  loads_as_too true fd slots a is = (refuses_for_memory t, refl, subst (λ (x : Answer). IsAlikeAnswer x (refuses_for_memory t)) (sym is) no_memory)
+  loads_as_too false fd slots a (j, judges, is) =
+      (answer_of_judgement t fd j, (j, subst (λ (ns : List Named). Judges ns slots j) (sym same_targets) judges, refl), subst (λ (x : Answer). IsAlikeAnswer x (answer_of_judgement t fd j)) (sym is) (judged_too fd j))
+
+  loads_under_too : (refused : Bool) (o : Option ℕ) (slots : List ℕ) (a : Answer) → LoadsUnder refused s o slots a → (b : Answer) × LoadsUnder refused t o slots b × IsAlikeAnswer a b
+  loads_under_too refused None slots a is = (refuses TooManyOpen t, refl, subst (λ (x : Answer). IsAlikeAnswer x (refuses TooManyOpen t)) (sym is) (refused_too TooManyOpen))
+  loads_under_too refused (Some fd) slots a is = loads_as_too refused fd slots a is
+
+  loads_too : (refused : Bool) (kind : ℕ) (slots : List ℕ) (a : Answer) → Loads refused s kind slots a → (b : Answer) × Loads refused t kind slots b × IsAlikeAnswer a b
+  loads_too refused kind slots a is = by (kind == 1) is
+    where
+      low : table.lowest s.objects ≡ table.lowest t.objects
+      low = sym (ap table.lowest h.by.objects ∙ lowest_moved move s.objects)
+
+      by : (socket : Bool) → MatchBool socket (LoadsUnder refused s (table.lowest s.objects) slots a) (a ≡ refuses Invalid s)
+          → (b : Answer) × MatchBool socket (LoadsUnder refused t (table.lowest t.objects) slots b) (b ≡ refuses Invalid t) × IsAlikeAnswer a b
+      by true is =
+          let (b, answers, alike) = loads_under_too refused (table.lowest s.objects) slots a is in
+          (b, subst (λ (o : Option ℕ). LoadsUnder refused t o slots b) low answers, alike)
+      by false is = (refuses Invalid t, refl, subst (λ (x : Answer). IsAlikeAnswer x (refuses Invalid t)) (sym is) (refused_too Invalid))
+
+  -- ---- PROG_TEST_RUN
+
+  same_given : (l : LoadedProgram) → IsIn s l → maps_given t (record l { maps = moved_maps move l.maps }) ≡ maps_given s l
+  same_given l named = fun_ext (λ fd. ap (λ (o : Option ℕ). and_then o (live t)) (lookup-map_values move (λ m. m == fd) l.maps) ∙ by fd (lookup (λ m. m == fd) l.maps) refl)
+    where
+      by : (fd : ℕ) (o : Option ℕ) → lookup (λ m. m == fd) l.maps ≡ o → and_then (option_map move o) (live t) ≡ and_then o (live s)
+      by fd None is = refl
+      by fd (Some place) is = same_named h place (named place (lookup_names l.maps fd place is))
+
+  -- the answer to a run that leaves these maps
+  abbrev came_to : Outcome → TenantState → MapsByDescriptor → Bool → LoadedProgram → Answer
+  came_to o u left refused l = outcome_answer o (record u { maps = maps_left left l.maps u.maps; refused = u.refused || refused })
+
+  abbrev with_moved : LoadedProgram → LoadedProgram
+  with_moved l = record l { maps = moved_maps move l.maps }
+
+  came_too : (l : LoadedProgram) → IsIn s l → IsIn t (with_moved l) → (left : MapsByDescriptor) → ((fd : ℕ) → is_some (left fd) ≡ is_some (maps_given s l fd)) → (o : Outcome) (refused : Bool)
+      → IsAlikeAnswer (came_to o s left refused l) (came_to o t left refused (with_moved l))
+  came_too l named named_too left same o refused = by o
+    where
+      places : AreLeft left l.maps s.maps
+      places = program_left l h.one named left same
+
+      places_too : AreLeft left (moved_maps move l.maps) t.maps
+      places_too = program_left (with_moved l) h.two named_too left (λ fd. same fd ∙ sym (ap (λ (given : MapsByDescriptor). is_some (given fd)) (same_given l named)))
+
+      moved : IsMovedBy move (record s { maps = maps_left left l.maps s.maps; refused = s.refused || refused }) (record t { maps = maps_left left (moved_maps move l.maps) t.maps; refused = t.refused || refused })
+      moved =
+          changed h (maps_left left l.maps s.maps) (maps_left left (moved_maps move l.maps) t.maps) (s.refused || refused) (t.refused || refused)
+          (left_places left l.maps s.maps places)
+          (left_places left (moved_maps move l.maps) t.maps places_too)
+          (λ p e. left_moved move left l.maps s.maps t.maps p places places_too (λ q listed at. h.by.apart q p (h.one.live_if_named q (named q listed)) (h.one.live_if_named p e) at) (same_named h p e))
+
+      by : (o : Outcome) → IsAlikeAnswer (came_to o s left refused l) (came_to o t left refused (with_moved l))
+      by (Value n) = record { status = refl; payload = refl; after = (move, moved) }
+      by Fault = record { status = refl; payload = refl; after = (move, moved) }
+
+  ran_too : (refusals : List Bool) (l : LoadedProgram) (words packet : List ℕ) → IsIn s l → IsIn t (with_moved l) → IsAlikeAnswer (ran refusals s l words packet) (ran refusals t (with_moved l) words packet)
+  ran_too refusals l words packet named named_too =
+      let context = length packet ∷ words in
+      subst
+      (λ (given : MapsByDescriptor). IsAlikeAnswer (ran refusals s l words packet) (came_to (result_with refusals l.insns given context packet) t (left_with refusals l.insns given context packet) (was_refused refusals l.insns given context packet) (with_moved l)))
+      (sym (same_given l named))
+      (came_too l named named_too (left_with refusals l.insns (maps_given s l) context packet) (left_same refusals l.insns (maps_given s l) context packet) (result_with refusals l.insns (maps_given s l) context packet) (was_refused refusals l.insns (maps_given s l) context packet))
+
+  run_too : (refusals : List Bool) (words packet : List ℕ) (o : Option OpenObject) → ((l : LoadedProgram) → o ≡ Some (object.Program l) → IsIn s l × IsIn t (with_moved l))
+      → IsAlikeAnswer (run_of refusals s words packet o) (run_of refusals t words packet (option_map (moved_object move) o))
+  run_too refusals words packet None named = refused_too BadDescriptor
+  run_too refusals words packet (Some (object.Map place)) named = refused_too Invalid
+  run_too refusals words packet (Some (object.Program l)) named = let both = named l refl in if_too (nat_lt longest_packet (length packet)) (refused_too TooBig) (ran_too refusals l words packet both.0 both.1)
+
+  -- ---- CLOSE
+
+  closed_too : (fd : ℕ) (o : Option OpenObject) → IsAlikeAnswer (closed s fd o) (closed t fd (option_map (moved_object move) o))
+  closed_too fd None = refused_too BadDescriptor
+  closed_too fd (Some o) = record {
+    status = refl;
+    payload = refl;
+    after = (
+      move,
+      subst (λ (os : List (Option OpenObject)). IsMovedBy move (with_objects s (table.with_closed s.objects fd)) (with_objects t os))
+          (closed_moved move s.objects fd ∙ sym (ap (λ (os : List (Option OpenObject)). table.with_closed os fd) h.by.objects))
+          (fewer_pair h (table.with_closed s.objects fd) (closed_fewer s.objects fd)),
+    );
+  }
+
+  -- ---- every command
+
+  abbrev AnswersToo : List Bool → Command → Answer → Type 0
+  AnswersToo refusals command a = (b : Answer) × Answers refusals t command b × IsAlikeAnswer a b
+
+  moved_named : (fd : ℕ) → option_map (moved_object move) (table.named s.objects fd) ≡ table.named t.objects fd
+  moved_named fd = sym (ap (λ (os : List (Option OpenObject)). table.named os fd) h.by.objects ∙ named_moved move s.objects fd)
+
+  -- an answer that is a function of the state
+  as_told : (a x y : Answer) → a ≡ x → IsAlikeAnswer x y → (b : Answer) × (b ≡ y) × IsAlikeAnswer a b
+  as_told a x y is alike = (y, refl, subst (λ (z : Answer). IsAlikeAnswer z y) (sym is) alike)
+
+  answers_too : (refusals : List Bool) (command : Command) (a : Answer) → Answers refusals s command a → AnswersToo refusals command a
+  answers_too refusals (map_create kind key value max flags) a is = as_told a _ _ is (created_too (refused_at_first refusals) (asked_shape (kind_of kind) key value max flags))
+  answers_too refusals (map_lookup fd key) a is = as_told a _ _ is (on_map_too fd _ _ (λ place m named. if_too (length key == m.shape.key_size) (found_too (look_up m key)) (refused_too Invalid)))
+  answers_too refusals (map_update fd flags bytes) a is =
+      as_told a _ _ is (on_map_too fd _ _ (λ place m named. if_too (length bytes == m.shape.key_size + m.shape.value_size)
+      (put_too (refused_at_first refusals) place m (take m.shape.key_size bytes) (drop m.shape.key_size bytes) (verdict m (take m.shape.key_size bytes) flags) named)
+      (refused_too Invalid)))
+  answers_too refusals (map_delete fd key) a is = as_told a _ _ is (on_map_too fd _ _ (λ place m named. if_too (length key == m.shape.key_size) (taken_too place m key (removal m key) named) (refused_too Invalid)))
+  answers_too refusals (map_next_key fd key) a is = as_told a _ _ is (on_map_too fd _ _ (λ place m named. if_too (length key == 0 || length key == m.shape.key_size) (found_too (next_of m key)) (refused_too Invalid)))
+  answers_too refusals (prog_load kind slots) a is = loads_too (refused_at_first refusals) kind slots a is
+  answers_too refusals (prog_test_run fd words packet) a is =
+      as_told a _ _ is (subst (λ (o : Option OpenObject). IsAlikeAnswer (run_of refusals s words packet (table.named s.objects fd)) (run_of refusals t words packet o)) (moved_named fd)
+      (run_too refusals words packet (table.named s.objects fd) (λ l here. (program_in s fd l here, program_in t fd (with_moved l) (sym (moved_named fd) ∙ ap (option_map (moved_object move)) here)))))
+  answers_too refusals (close fd) a is =
+      as_told a _ _ is (subst (λ (o : Option OpenObject). IsAlikeAnswer (closed s fd (table.named s.objects fd)) (closed t fd o)) (moved_named fd) (closed_too fd (table.named s.objects fd)))
+
+pub alike_is_bisimulation : AlikeIsBisimulation
+alike_is_bisimulation refusals s t command a one two (move, by) is = answers_too (record { one = one; two = two; by = by }) refusals command a is

@@ -1,0 +1,90 @@
+-- Alike states give lists of frames the same replies.
+use Rattle.std.proofs.Common.{◌≡◌, ℕ, Bool, List, [], ◌∷◌, Option, Some, Result, Ok, Err, refl, sym, ap₂, subst, ◌∙◌}
+use Rattle.std.specs.Prelude.{ℤ}
+use Rattle.command_frames.specs.declared.command.BadFrame.{BadFrame}
+use Rattle.command_frames.specs.Command.{Command, parsed}
+use Rattle.command_frames.specs.Frame.{reply_to}
+use Rattle.tenant.specs.State.{TenantState}
+use Rattle.tenant.specs.Machine.{Answer, refuses}
+use Rattle.tenant.specs.Alone.{frame_errno, AnswersFrame, RepliesUnder, MayReply, RepliesInOrder, IsToldAlone}
+use Rattle.tenant.specs.Laws.{OneAlone}
+use Rattle.saving.specs.Alike.{IsAlike, HoldsItsMaps}
+use Rattle.saving.specs.Laws.{MapsAreHeld, AlikeIsBisimulation, AlikeStatesReplyAlike}
+
+-- two states that hold their maps, and are alike
+record AreAlike (s t : TenantState) : Type 0 where
+  one : HoldsItsMaps s
+  two : HoldsItsMaps t
+  alike : IsAlike s t
+
+module _ (one_alone : OneAlone) (held : MapsAreHeld) (bisimulation : AlikeIsBisimulation) where
+  -- what a frame comes to in the other state
+  record FrameToo (refusals : List Bool) (t : TenantState) (p : Result Command BadFrame) (a : Answer) : Type 0 where
+    b : Answer
+    answers : AnswersFrame refusals t p b
+    status : b.status ≡ a.status
+    payload : b.payload ≡ a.payload
+    after : AreAlike a.after b.after
+
+  frame_too : (refusals : List Bool) (s t : TenantState) (p : Result Command BadFrame) (a : Answer) → AreAlike s t → AnswersFrame refusals s p a → FrameToo refusals t p a
+  frame_too refusals s t (Err fault) a h is = subst (λ (x : Answer). FrameToo refusals t (Err fault) x) (sym is) (record { b = refuses (frame_errno fault) t; answers = refl; status = refl; payload = refl; after = h })
+  frame_too refusals s t (Ok command) a h is =
+      let (b, answers, alike) = bisimulation refusals s t command a h.one h.two h.alike is in
+      record {
+        b = b;
+        answers = answers;
+        status = alike.status;
+        payload = alike.payload;
+        after = record { one = held.kept refusals s command a h.one is; two = held.kept refusals t command b h.two answers; alike = alike.after };
+      }
+
+  -- a state that the frames lead to, if they lead to one
+  abbrev Reaches : (List ℕ → List ℕ → Option TenantState → Option TenantState → Type 0) → TenantState → List (List ℕ) → List (List ℕ) → Type 0
+  Reaches tells t frames replies = (end : Option TenantState) × RepliesInOrder tells (Some t) frames replies end
+
+  -- one reply of a tenant with this state, and a state alike to that after it
+  record ReplyToo (tells : List ℕ → List ℕ → Option TenantState → Option TenantState → Type 0) (t : TenantState) (frame reply : List ℕ) (after : Option TenantState) : Type 0 where
+    left : TenantState
+    right : TenantState
+    left_is : after ≡ Some left
+    told : tells frame reply (Some t) (Some right)
+    alike : AreAlike left right
+
+  reply_under : (refusals : List Bool) (s t : TenantState) (frame reply : List ℕ) (after : Option TenantState) → AreAlike s t → RepliesUnder refusals frame reply (Some s) after → ReplyToo (RepliesUnder refusals) t frame reply after
+  reply_under refusals s t frame reply after h (a, is, said, goes) =
+      let too = frame_too refusals s t (parsed frame) a h is in
+      record {
+        left = a.after;
+        right = too.b.after;
+        left_is = goes;
+        told = (too.b, too.answers, said ∙ ap₂ (λ (status : ℤ) (payload : List ℕ). reply_to frame status payload) (sym too.status) (sym too.payload), refl);
+        alike = too.after;
+      }
+
+  may_reply : (s t : TenantState) (frame reply : List ℕ) (after : Option TenantState) → AreAlike s t → MayReply frame reply (Some s) after → ReplyToo MayReply t frame reply after
+  may_reply s t frame reply after h (refusals, told) =
+      let too = reply_under refusals s t frame reply after h told in
+      record { left = too.left; right = too.right; left_is = too.left_is; told = (refusals, too.told); alike = too.alike }
+
+  in_order : (tells : List ℕ → List ℕ → Option TenantState → Option TenantState → Type 0)
+      → ((s t : TenantState) (frame reply : List ℕ) (after : Option TenantState) → AreAlike s t → tells frame reply (Some s) after → ReplyToo tells t frame reply after)
+      → (frames replies : List (List ℕ)) (s t : TenantState) (after : Option TenantState) → AreAlike s t → RepliesInOrder tells (Some s) frames replies after → Reaches tells t frames replies
+  in_order tells each [] [] s t after h is = (Some t, refl)
+  in_order tells each [] (reply ∷ replies) s t after h is = absurd is
+  in_order tells each (frame ∷ frames) [] s t after h is = absurd is
+  in_order tells each (frame ∷ frames) (reply ∷ replies) s t after h (between, told, rest) =
+      let too = each s t frame reply between h told in
+      let (end, later) = in_order tells each frames replies too.left too.right after too.alike (subst (λ (x : Option TenantState). RepliesInOrder tells x frames replies after) too.left_is rest) in
+      (end, (Some too.right, too.told, later))
+
+  alone_too : (s t : TenantState) (frames replies : List (List ℕ)) (after : Option TenantState) → HoldsItsMaps s → HoldsItsMaps t → IsAlike s t → IsToldAlone (Some s) frames replies after → Reaches (RepliesUnder []) t frames replies
+  alone_too s t frames replies after one two alike is = in_order (RepliesUnder []) (reply_under []) frames replies s t after (record { one = one; two = two; alike = alike }) is
+
+  pub replies_alike : AlikeStatesReplyAlike
+  replies_alike = record {
+    alone = alone_too;
+    refused = λ s t frames replies after one two alike is. in_order MayReply may_reply frames replies s t after (record { one = one; two = two; alike = alike }) is;
+    same = λ s t frames replies others after end one two alike is too.
+        let (other, told) = alone_too s t frames replies after one two alike is in
+        (one_alone (Some t) end other frames others replies too told).0;
+  }

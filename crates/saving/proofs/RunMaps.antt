@@ -1,0 +1,398 @@
+-- A run leaves a map where there was one, of the same shape and whole, and nowhere else.
+use Rattle.std.proofs.Common.{◌≡◌, ℕ, zero, suc, ◌+◌, ◌/◌, ◌%◌, Bool, true, false, List, [], ◌∷◌, length, Option, Some, None, is_some, refl, sym, ap, subst, ◌∙◌, inl, inr}
+use Rattle.std.specs.Prelude.{ℤ, ◌⊎◌, ◌==◌, pos, negsuc, ◌+ℤ◌, ◌<◌, nat_le, map, slice_index_or, option_map, if◌then◌else◌, Result, Ok, Err}
+use Rattle.std.specs.List.{AllByRecursion}
+use Rattle.std.specs.Map.{keys_of, values_of}
+use Rattle.std.proofs.Common.{arith}
+use Rattle.std.proofs.lemmas.Bool.{cases_eq, eq-eqb, ne_eqb, leb-true}
+use Rattle.std.proofs.lemmas.Option.{none-some, same_Some}
+use Rattle.insn_set.specs.declared.insn.Insn.{Insn}
+use Rattle.insn_set.specs.declared.insn.Insn.TheVariants.{Alu, Movsx, Neg, End, Ja, Jal, Jump, Call, Exit, Load, Store, Atomic, Const, MapFd, MapValue}
+use Rattle.insn_set.specs.Program.{begins_at, slot_count}
+use Rattle.words.specs.declared.stack.AccessSize.{AccessSize}
+use Rattle.words.specs.Bytes.{low_bytes, bytes_at, written_at}
+use Rattle.words.specs.Stack.{bytes_of, is_in_stack, place}
+use Rattle.words.specs.Words.{unsigned}
+use Rattle.tagged_model.specs.declared.helper.Helper.{Helper}
+use Rattle.tagged_model.specs.declared.helper.Helper.TheVariants.{LookUp, Update, Delete, LoadBytes}
+use Rattle.tagged_model.specs.declared.value.Object.TheVariants as object
+use Rattle.tagged_model.specs.declared.value.Tagged.{Tagged}
+use Rattle.tagged_model.specs.declared.value.Tagged.TheVariants.{Scalar, Map, Pointer}
+use Rattle.tagged_model.specs.Cells.{Cell, and_then, gathered, cell_over, write_cell}
+use Rattle.tagged_model.specs.Table.{Table, Verdict, Refused, Present, New, look_up, verdict, removal, direct_object}
+use Rattle.tagged_model.specs.declared.fault.MapFault.{MapFault}
+use Rattle.tagged_model.specs.StateInvariant.{KeysHaveObjects}
+use Rattle.tagged_model.specs.StateLaws.{owns_more, owns_with, owns_without}
+use Rattle.words.specs.ByteLaws.{length-bytes_at, length-written_at}
+use Rattle.saving.specs.Restorable.{IsWholeTable, IsWholeMap}
+use Rattle.saving.proofs.Wholes.{whole_with_new, whole_with_deleted, whole_after_run, whole_by_keys}
+use Rattle.tagged_model.specs.Values.{of_numbers, arithmetic, first_operand, compared}
+use Rattle.insn_set.specs.declared.atomic.AtomicSize.{AtomicSize}
+use Rattle.insn_set.specs.declared.atomic.AtomicOp.{AtomicOp}
+use Rattle.insn_set.specs.Atomic.{atomic_operator, is_wide_atomic, access_size}
+use Rattle.insn_set.specs.Flow.{natural}
+use Rattle.tagged_model.specs.State.{RunState, RunMap, stack_byte, value_bytes, at_slot, with_cell, with_cells, with_map, input, stack_place, stack_store, object_written, object_stored, value_written, with_value, store, output, load}
+use Rattle.tagged_model.specs.Helpers.{GivenMap, map_argument, map_given, argument, context_given, number_given, length_given, called, helper_of, MapReply, put, taken_out, updated, removed, replies, returns, looked_up, packet_bytes, packet_answer}
+use Rattle.tagged_model.specs.Step.{Step, goes, ends, faults, or_fault, assigned, operand_value, jumped, branched, ended, changed, act, step, run, Ending, ending_after, refused_at_first, refused_later, MapsByDescriptor, start_of_run, numbered, first_map, last_map, left_with, run_with}
+
+-- ---- a map of a run
+
+-- its keys have objects of the size of a value
+pub record IsWholeRunMap (t : RunMap) : Type 0 where
+  pub table : IsWholeTable t.table
+  pub owns : KeysHaveObjects t.count t.table.entries
+  pub sized : (number : ℕ) → number < t.count → length (t.values number) ≡ t.table.shape.value_size
+
+-- a later map: of the same shape, and whole if the earlier one is
+pub record IsLater (t u : RunMap) : Type 0 where
+  pub shape : u.table.shape ≡ t.table.shape
+  pub whole : IsWholeRunMap t → IsWholeRunMap u
+
+-- there is a later map, or none in both
+abbrev pub IsSameMap : Option RunMap → Option RunMap → Type 0
+IsSameMap None None = Unit {0}
+IsSameMap None (Some u) = ⊥
+IsSameMap (Some t) None = ⊥
+IsSameMap (Some t) (Some u) = IsLater t u
+
+later_self : (t : RunMap) → IsLater t t
+later_self t = record { shape = refl; whole = λ h. h }
+
+later_then : {a b c : RunMap} → IsLater a b → IsLater b c → IsLater a c
+later_then h k = record { shape = k.shape ∙ h.shape; whole = λ whole. k.whole (h.whole whole) }
+
+same_self : (o : Option RunMap) → IsSameMap o o
+same_self None = tt
+same_self (Some t) = later_self t
+
+same_then : (a b c : Option RunMap) → IsSameMap a b → IsSameMap b c → IsSameMap a c
+same_then None None None h k = tt
+same_then None None (Some c) h k = k
+same_then None (Some b) c h k = absurd h
+same_then (Some a) None c h k = absurd h
+same_then (Some a) (Some b) None h k = k
+same_then (Some a) (Some b) (Some c) h k = later_then h k
+
+-- ---- the same descriptors have maps
+
+abbrev pub HasSame : RunState → RunState → Type 0
+HasSame s t = (m : ℕ) → IsSameMap (s.maps m) (t.maps m)
+
+abbrev StepHasSame : RunState → Step → Type 0
+StepHasSame s (goes t) = HasSame s t
+StepHasSame s (ends n) = Unit {0}
+StepHasSame s faults = Unit {0}
+
+abbrev StateHasSame : RunState → Option RunState → Type 0
+StateHasSame s None = Unit {0}
+StateHasSame s (Some t) = HasSame s t
+
+or_fault_same : {A : Type 0} (s : RunState) (o : Option A) (f : A → Step) → ((x : A) → StepHasSame s (f x)) → StepHasSame s (or_fault o f)
+or_fault_same s None f h = tt
+or_fault_same s (Some x) f h = h x
+
+then_same : {A : Type 0} (s : RunState) (o : Option A) (f : A → Option RunState) → ((x : A) → o ≡ Some x → StateHasSame s (f x)) → StateHasSame s (and_then o f)
+then_same s None f h = tt
+then_same s (Some x) f h = h x refl
+
+goes_same : (s : RunState) (o : Option RunState) (n : ℕ) → StateHasSame s o → StepHasSame s (or_fault o (λ t. goes (record t { at = t.at + n })))
+goes_same s None n h = tt
+goes_same s (Some t) n h = h
+
+-- ---- stores
+
+set_same : (s : RunState) (m : ℕ) (old new : RunMap) → s.maps m ≡ Some old → IsLater old new → HasSame s (with_map s m new)
+set_same s m old new there later k = by (cases_eq k m)
+  where
+    by : (k ≡ m) ⊎ (k ≡ m → ⊥) → IsSameMap (s.maps k) (if k == m then Some new else s.maps k)
+    by (inl same) =
+        subst (λ (b : Bool). IsSameMap (s.maps k) (if b then Some new else s.maps k)) (sym (eq-eqb k m same))
+        (subst (λ (o : Option RunMap). IsSameMap o (Some new)) (sym (ap s.maps same ∙ there)) later)
+    by (inr other) = subst (λ (b : Bool). IsSameMap (s.maps k) (if b then Some new else s.maps k)) (sym (ne_eqb k m other)) (same_self (s.maps k))
+
+-- bytes written in a value keep its length
+written_long : (value : List ℕ) (y : ℤ) (bs after : List ℕ) → value_written value y bs ≡ Some after → length after ≡ length value
+written_long value (pos y) bs after e = by (nat_le (y + length bs) (length value)) refl e
+  where
+    by : (b : Bool) → nat_le (y + length bs) (length value) ≡ b → (if b then Some (written_at value y bs) else None) ≡ Some after → length after ≡ length value
+    by true fits e = ap length (sym (same_Some (written_at value y bs) after e)) ∙ length-written_at value bs y (leb-true (y + length bs) (length value) fits)
+    by false fits e = absurd (none-some after e)
+written_long value (negsuc y) bs after e = absurd (none-some after e)
+
+later_value : (t : RunMap) (number : ℕ) (value : List ℕ) → (IsWholeRunMap t → number < t.count → length value ≡ t.table.shape.value_size) → IsLater t (with_value t number value)
+later_value t number value size = record { shape = refl; whole = λ whole. record { table = whole.table; owns = whole.owns; sized = λ k lt. by whole k lt (cases_eq k number) } }
+  where
+    by : IsWholeRunMap t → (k : ℕ) → k < t.count → (k ≡ number) ⊎ (k ≡ number → ⊥) → length (if k == number then value else t.values k) ≡ t.table.shape.value_size
+    by whole k lt (inl same) = ap (λ (b : Bool). length (if b then value else t.values k)) (eq-eqb k number same) ∙ size whole (omega (arith, lt, same))
+    by whole k lt (inr other) = ap (λ (b : Bool). length (if b then value else t.values k)) (ne_eqb k number other) ∙ whole.sized k lt
+
+object_same : (s : RunState) (m number : ℕ) (y : ℤ) (bs : List ℕ) → StateHasSame s (object_written s m number y bs)
+object_same s m number y bs =
+    then_same s (s.maps m) _ (λ t there. then_same s (value_written (t.values number) y bs) _ (λ value written. set_same s m t (with_value t number value) there
+    (later_value t number value (λ whole lt. written_long (t.values number) y bs value written ∙ whole.sized number lt))))
+
+cell_same : (s : RunState) (i : ℕ) (c : Cell) → StateHasSame s (Some (with_cell s i c))
+cell_same s i c m = same_self (s.maps m)
+
+stack_same : (s : RunState) (y : ℤ) (size : AccessSize) (v : Tagged) → StateHasSame s (stack_store s y size v)
+stack_same s y size v = then_same s (stack_place y size) _ (λ p _. then_same s (write_cell (s.cells (p / 8)) (p % 8) size v) _ (λ c _. cell_same s (p / 8) c))
+
+stored_same : (s : RunState) (size : AccessSize) (m number : ℕ) (y : ℤ) (v : Tagged) → StateHasSame s (object_stored s size m number y v)
+stored_same s size m number y (Scalar n) = object_same s m number y (low_bytes (bytes_of size) n)
+stored_same s size m number y (Map k) = tt
+stored_same s size m number y (Pointer o x) = tt
+
+store_same : (s : RunState) (size : AccessSize) (p : Tagged) (off : ℤ) (v : Tagged) → StateHasSame s (store s size p off v)
+store_same s size (Scalar n) off v = tt
+store_same s size (Map m) off v = tt
+store_same s size (Pointer object.Stack x) off v = stack_same s (x +ℤ off) size v
+store_same s size (Pointer object.Context x) off v = tt
+store_same s size (Pointer (object.Value m number) x) off v = stored_same s size m number (x +ℤ off) v
+
+output_same : (s : RunState) (p : Tagged) (bs : List ℕ) → StateHasSame s (output s p bs)
+output_same s (Scalar n) bs = tt
+output_same s (Map m) bs = tt
+output_same s (Pointer object.Context x) bs = tt
+output_same s (Pointer object.Stack x) bs = cells_if (is_in_stack x (length bs))
+  where
+    cells_if : (b : Bool) → StateHasSame s (if b then Some (with_cells s (λ i. cell_over i (s.cells i) (place x) bs)) else None)
+    cells_if true = λ m. same_self (s.maps m)
+    cells_if false = tt
+output_same s (Pointer (object.Value m number) x) bs = object_same s m number x bs
+
+-- ---- calls
+
+given_there : (s : RunState) (r : ℕ) (g : GivenMap) → map_argument s r ≡ Some g → s.maps g.descriptor ≡ Some g.map
+given_there s r g e = by (argument s r map_given) e
+  where
+    inner : (m : ℕ) (o : Option RunMap) → s.maps m ≡ o → and_then o (λ t. Some (record { descriptor = m; map = t })) ≡ Some g → s.maps g.descriptor ≡ Some g.map
+    inner m None at e = absurd (none-some g e)
+    inner m (Some t) at e =
+        let same : record { descriptor = m; map = t } ≡ g = same_Some (record { descriptor = m; map = t }) g e in
+        subst (λ (x : GivenMap). s.maps x.descriptor ≡ Some x.map) same at
+
+    by : (o : Option ℕ) → and_then o (λ m. and_then (s.maps m) (λ t. Some (record { descriptor = m; map = t }))) ≡ Some g → s.maps g.descriptor ≡ Some g.map
+    by None e = absurd (none-some g e)
+    by (Some m) e = inner m (s.maps m) refl e
+
+reply_same : (s : RunState) (r : ℕ) (g : GivenMap) (reply : MapReply) → map_argument s r ≡ Some g → IsLater g.map reply.map → HasSame s (replies s g.descriptor reply)
+reply_same s r g reply e later m = set_same s g.descriptor g.map reply.map (given_there s r g e) later m
+
+-- the bytes that a helper reads are as many as it asks for
+gathered_long : (byte : ℕ → Option ℕ) (p n : ℕ) (bs : List ℕ) → gathered byte p n ≡ Some bs → length bs ≡ n
+unfolding gathered
+gathered_long byte p zero bs e = ap length (sym (same_Some [] bs e))
+gathered_long byte p (suc n) bs e = by (byte p) (gathered byte (suc p) n) (λ cs f. gathered_long byte (suc p) n cs f) e
+  where
+    by : (o : Option ℕ) (rest : Option (List ℕ)) → ((cs : List ℕ) → rest ≡ Some cs → length cs ≡ n) → and_then o (λ b. and_then rest (λ cs. Some (b ∷ cs))) ≡ Some bs → length bs ≡ suc n
+    by None rest h e = absurd (none-some bs e)
+    by (Some b) None h e = absurd (none-some bs e)
+    by (Some b) (Some cs) h e = ap length (sym (same_Some (b ∷ cs) bs e)) ∙ (let long = h cs refl in omega arith)
+
+value_long : (value : List ℕ) (y : ℤ) (n : ℕ) (bs : List ℕ) → value_bytes value y n ≡ Some bs → length bs ≡ n
+value_long value (pos y) n bs e = by (nat_le (y + n) (length value)) refl e
+  where
+    by : (b : Bool) → nat_le (y + n) (length value) ≡ b → (if b then Some (bytes_at value y n) else None) ≡ Some bs → length bs ≡ n
+    by true fits e = ap length (sym (same_Some (bytes_at value y n) bs e)) ∙ length-bytes_at value y n (leb-true (y + n) (length value) fits)
+    by false fits e = absurd (none-some bs e)
+value_long value (negsuc y) n bs e = absurd (none-some bs e)
+
+input_long : (s : RunState) (p : Tagged) (n : ℕ) (bs : List ℕ) → input s p n ≡ Some bs → length bs ≡ n
+input_long s (Scalar k) n bs e = absurd (none-some bs e)
+input_long s (Map m) n bs e = absurd (none-some bs e)
+input_long s (Pointer object.Context x) n bs e = absurd (none-some bs e)
+input_long s (Pointer object.Stack x) n bs e = by (is_in_stack x n) e
+  where
+    by : (b : Bool) → (if b then gathered (stack_byte s) (place x) n else None) ≡ Some bs → length bs ≡ n
+    by true e = gathered_long (stack_byte s) (place x) n bs e
+    by false e = absurd (none-some bs e)
+input_long s (Pointer (object.Value m number) x) n bs e = by (s.maps m) e
+  where
+    by : (o : Option RunMap) → and_then o (λ t. value_bytes (t.values number) x n) ≡ Some bs → length bs ≡ n
+    by None e = absurd (none-some bs e)
+    by (Some t) e = value_long (t.values number) x n bs e
+
+argument_long : (s : RunState) (r n : ℕ) (bs : List ℕ) → argument s r (λ p. input s p n) ≡ Some bs → length bs ≡ n
+argument_long s r n bs e = by (s.registers r) e
+  where
+    by : (o : Option Tagged) → and_then o (λ p. input s p n) ≡ Some bs → length bs ≡ n
+    by None e = absurd (none-some bs e)
+    by (Some p) e = input_long s p n bs e
+
+-- an update, and a deletion
+later_put : (refused : Bool) (t : RunMap) (key value : List ℕ) (flags : ℕ) (v : Verdict ℕ) → verdict t.table key flags ≡ v → length key ≡ t.table.shape.key_size → length value ≡ t.table.shape.value_size → IsLater t (put refused t key value v).map
+later_put refused t key value flags (Refused fault) is key_size value_size = later_self t
+later_put refused t key value flags (Present number) is key_size value_size = later_value t number value (λ whole lt. value_size)
+later_put true t key value flags New is key_size value_size = later_self t
+later_put false t key value flags New is key_size value_size = record {
+  shape = refl;
+  whole = λ whole. record {
+    table = whole_with_new whole.table key t.count flags key_size is;
+    owns = owns_with (t.count + 1) key t.count t.table.entries (omega arith) (owns_more t.count (t.count + 1) t.table.entries (omega arith) whole.owns);
+    sized = λ k lt. by whole k lt (cases_eq k t.count);
+  };
+}
+  where
+    by : IsWholeRunMap t → (k : ℕ) → k < t.count + 1 → (k ≡ t.count) ⊎ (k ≡ t.count → ⊥) → length (if k == t.count then value else t.values k) ≡ t.table.shape.value_size
+    by whole k lt (inl same) = ap (λ (b : Bool). length (if b then value else t.values k)) (eq-eqb k t.count same) ∙ value_size
+    by whole k lt (inr other) = ap (λ (b : Bool). length (if b then value else t.values k)) (ne_eqb k t.count other) ∙ whole.sized k (omega (arith, lt, other))
+
+later_taken : (t : RunMap) (key : List ℕ) (r : Result ℕ MapFault) → removal t.table key ≡ r → IsLater t (taken_out t key r).map
+later_taken t key (Err fault) is = later_self t
+later_taken t key (Ok number) is = record { shape = refl; whole = λ whole. record { table = whole_with_deleted whole.table key number is; owns = owns_without t.count key t.table.entries whole.owns; sized = whole.sized } }
+
+returns_same : (s : RunState) (v : Tagged) → StateHasSame s (Some (returns s v))
+returns_same s v m = same_self (s.maps m)
+
+-- what is written before the call returns
+after_output : (s : RunState) (p : Tagged) (bs : List ℕ) (v : Tagged) → StateHasSame s (and_then (output s p bs) (λ t. Some (returns t v)))
+after_output s p bs v = by (output s p bs) (output_same s p bs)
+  where
+    by : (o : Option RunState) → StateHasSame s o → StateHasSame s (and_then o (λ t. Some (returns t v)))
+    by None h = tt
+    by (Some t) h = h
+
+called_same : (refused : Bool) (h : Helper) (s : RunState) → StateHasSame s (called refused h s)
+called_same refused LookUp s =
+    then_same s (map_argument s 1) _ (λ g e. then_same s (argument s 2 (λ p. input s p g.map.table.shape.key_size)) _ (λ key _. returns_same s (looked_up g.descriptor (look_up g.map.table key))))
+called_same refused Update s =
+    then_same s (map_argument s 1) _ (λ g e. then_same s (argument s 2 (λ p. input s p g.map.table.shape.key_size)) _ (λ key key_is. then_same s (argument s 3 (λ p. input s p g.map.table.shape.value_size)) _ (λ value value_is. then_same s (argument s 4 number_given) _
+    (λ flags _. reply_same s 1 g (updated refused g.map key value flags) e
+    (later_put refused g.map key value flags (verdict g.map.table key flags) refl (argument_long s 2 g.map.table.shape.key_size key key_is) (argument_long s 3 g.map.table.shape.value_size value value_is))))))
+called_same refused Delete s =
+    then_same s (map_argument s 1) _ (λ g e. then_same s (argument s 2 (λ p. input s p g.map.table.shape.key_size)) _ (λ key _. reply_same s 1 g (removed g.map key) e (later_taken g.map key (removal g.map.table key) refl)))
+called_same refused LoadBytes s =
+    then_same s (argument s 1 context_given) _ (λ c _. then_same s (argument s 2 number_given) _ (λ offset _. then_same s (argument s 4 length_given) _ (λ n _. loaded offset n (s.registers 3))))
+  where
+    loaded : (offset n : ℕ) (o : Option Tagged) → StateHasSame s (and_then (and_then o (λ p. output s p (packet_bytes s.packet offset n))) (λ t. Some (returns t (Scalar (packet_answer s.packet offset n)))))
+    loaded offset n None = tt
+    loaded offset n (Some p) = after_output s p (packet_bytes s.packet offset n) (Scalar (packet_answer s.packet offset n))
+
+-- ---- steps
+
+assigned_same : (s : RunState) (n r : ℕ) (o : Option Tagged) → StepHasSame s (or_fault o (assigned n s r))
+assigned_same s n r None = tt
+assigned_same s n r (Some v) = λ m. same_self (s.maps m)
+
+slot_same : (s : RunState) (n : ℕ) → StepHasSame s (goes (at_slot n s))
+slot_same s n m = same_self (s.maps m)
+
+jumped_same : (s : RunState) (off : ℤ) → StepHasSame s (jumped s off)
+jumped_same s off = or_fault_same s (natural (pos (s.at + 1) +ℤ off)) _ (λ n. slot_same s n)
+
+branched_same : (s : RunState) (off : ℤ) (yes : Bool) → StepHasSame s (branched s off yes)
+branched_same s off true = jumped_same s off
+branched_same s off false = λ m. same_self (s.maps m)
+
+ended_same : (s : RunState) (v : Tagged) → StepHasSame s (ended v)
+ended_same s (Scalar n) = tt
+ended_same s (Map m) = tt
+ended_same s (Pointer o x) = tt
+
+changed_same : (s : RunState) (size : AtomicSize) (op : AtomicOp) (p : Tagged) (off : ℤ) (v : Tagged) → StateHasSame s (changed s size op p off v)
+changed_same s size op p off v =
+    then_same s (load s (access_size size) false p off) _ (λ old _. then_same s (of_numbers (is_wide_atomic size) (atomic_operator op) old v) _ (λ new _. store_same s (access_size size) p off new))
+
+act_same : (refused : Bool) (i : Insn) (s : RunState) → StepHasSame s (act refused i s)
+act_same refused (Alu wide op dst src) s = or_fault_same s (first_operand op (s.registers dst)) _ (λ a. or_fault_same s (operand_value s wide src) _ (λ b. assigned_same s 1 dst (arithmetic wide op a b)))
+act_same refused (Movsx x) s = or_fault_same s (s.registers x.src) _ (λ b. assigned_same s 1 x.dst _)
+act_same refused (Neg wide dst) s = or_fault_same s (s.registers dst) _ (λ a. assigned_same s 1 dst _)
+act_same refused (End how bits dst) s = or_fault_same s (s.registers dst) _ (λ a. assigned_same s 1 dst _)
+act_same refused (Ja off) s = jumped_same s off
+act_same refused (Jal off) s = jumped_same s off
+act_same refused (Jump wide condition dst src off) s =
+    or_fault_same s (s.registers dst) _ (λ a. or_fault_same s (operand_value s wide src) _ (λ b. or_fault_same s (compared wide condition src a b) _ (λ yes. branched_same s off yes)))
+act_same refused (Call id) s = or_fault_same s (helper_of id) _ (λ h. goes_same s (called refused h s) 1 (called_same refused h s))
+act_same refused Exit s = or_fault_same s (s.registers 0) _ (λ v. ended_same s v)
+act_same refused (Load l) s = or_fault_same s (s.registers l.src) _ (λ p. assigned_same s 1 l.dst _)
+act_same refused (Store size dst src off) s = or_fault_same s (s.registers dst) _ (λ p. or_fault_same s (operand_value s true src) _ (λ v. goes_same s (store s size p off v) 1 (store_same s size p off v)))
+act_same refused (Atomic size op dst src off) s =
+    or_fault_same s (s.registers dst) _ (λ p. or_fault_same s (s.registers src) _ (λ v. goes_same s (changed s size op p off v) 1 (changed_same s size op p off v)))
+act_same refused (Const dst value) s = λ m. same_self (s.maps m)
+act_same refused (MapFd dst fd) s = or_fault_same s (s.maps (unsigned 32 fd)) _ (λ t. assigned_same s 2 dst (Some (Map (unsigned 32 fd))))
+act_same refused (MapValue dst fd off) s =
+    or_fault_same s (s.maps (unsigned 32 fd)) _ (λ t. or_fault_same s (direct_object t.table off) _ (λ number. assigned_same s 2 dst (Some (Pointer (object.Value (unsigned 32 fd) number) (pos off)))))
+
+step_same : (refused : Bool) (code : List Insn) (s : RunState) → StepHasSame s (step refused code s)
+step_same refused code s = or_fault_same s (begins_at code s.at) _ (λ i. act_same refused i s)
+
+-- ---- runs
+
+ending_same : (s : RunState) (x : Step) (f : RunState → Ending) → StepHasSame s x → ((t : RunState) → HasSame t (f t).state) → HasSame s (ending_after x s f).state
+ending_same s (goes t) f h each m = same_then (s.maps m) (t.maps m) ((f t).state.maps m) (h m) (each t m)
+ending_same s (ends n) f h each m = same_self (s.maps m)
+ending_same s faults f h each m = same_self (s.maps m)
+
+run_same : (code : List Insn) (n : ℕ) (refusals : List Bool) (s : RunState) → HasSame s (run code n refusals s).state
+unfolding run
+run_same code zero refusals s m = same_self (s.maps m)
+run_same code (suc n) refusals s m = ending_same s (step (refused_at_first refusals) code s) (run code n (refused_later refusals)) (step_same (refused_at_first refusals) code s) (λ t. run_same code n (refused_later refusals) t) m
+
+-- ---- what a run leaves
+
+-- of a map that was given
+pub record IsLeftOf (given left : Table (List ℕ)) : Type 0 where
+  pub shape : left.shape ≡ given.shape
+  pub whole : IsWholeMap given → IsWholeMap left
+
+abbrev pub LeavesMap : Option (Table (List ℕ)) → Option (Table (List ℕ)) → Type 0
+LeavesMap None None = Unit {0}
+LeavesMap None (Some u) = ⊥
+LeavesMap (Some t) None = ⊥
+LeavesMap (Some t) (Some u) = IsLeftOf t u
+
+numbered_keys : {A : Type 0} (n : ℕ) (es : List (List ℕ × A)) → keys_of (numbered n es) ≡ keys_of es
+unfolding numbered
+numbered_keys n [] = refl
+numbered_keys n (e ∷ es) = ap (λ (ks : List (List ℕ)). e.0 ∷ ks) (numbered_keys (n + 1) es)
+
+numbered_owns : {A : Type 0} (n : ℕ) (es : List (List ℕ × A)) → KeysHaveObjects (n + length es) (numbered n es)
+unfolding numbered
+numbered_owns n [] = tt
+numbered_owns n (e ∷ es) = (omega arith, owns_more (n + 1 + length es) (n + suc (length es)) (numbered (n + 1) es) (omega arith) (numbered_owns (n + 1) es))
+
+values_sized : (size : ℕ) (es : List (List ℕ × List ℕ)) (number : ℕ) → AllByRecursion (λ e. length e.1 ≡ size) es → number < length es → length (slice_index_or (values_of es) number []) ≡ size
+values_sized size [] number h lt = absurd (omega arith)
+values_sized size (e ∷ es) zero h lt = h.0
+values_sized size (e ∷ es) (suc number) h lt = values_sized size es number h.1 (omega arith)
+
+begins_whole : (t : Table (List ℕ)) → IsWholeMap t → IsWholeRunMap (first_map t)
+begins_whole t whole = record {
+  table = whole_by_keys whole.table (numbered 0 t.entries) (numbered_keys 0 t.entries);
+  owns = subst (λ (n : ℕ). KeysHaveObjects n (numbered 0 t.entries)) (let e : 0 + length t.entries ≡ length t.entries = omega arith in e) (numbered_owns 0 t.entries);
+  sized = λ number lt. values_sized t.shape.value_size t.entries number whole.values lt;
+}
+
+with_keys : (values : ℕ → List ℕ) (es : List (List ℕ × ℕ)) → keys_of (map (λ e. (e.0, values e.1)) es) ≡ keys_of es
+with_keys values [] = refl
+with_keys values (e ∷ es) = ap (λ (ks : List (List ℕ)). e.0 ∷ ks) (with_keys values es)
+
+with_sized : (size count : ℕ) (values : ℕ → List ℕ) (es : List (List ℕ × ℕ)) → KeysHaveObjects count es → ((number : ℕ) → number < count → length (values number) ≡ size) → AllByRecursion (λ (e : List ℕ × List ℕ). length e.1 ≡ size) (map (λ e. (e.0, values e.1)) es)
+with_sized size count values [] owns h = tt
+with_sized size count values (e ∷ es) owns h = (h e.1 owns.0, with_sized size count values es owns.1 h)
+
+ends_whole : (t : RunMap) → IsWholeRunMap t → IsWholeMap (last_map t)
+ends_whole t whole = record {
+  table = whole_after_run (whole_by_keys whole.table (map (λ e. (e.0, t.values e.1)) t.table.entries) (with_keys t.values t.table.entries));
+  values = with_sized t.table.shape.value_size t.count t.values t.table.entries whole.owns whole.sized;
+  ended = refl;
+}
+
+pub leaves_maps : (refusals : List Bool) (code : List Insn) (maps : MapsByDescriptor) (words packet : List ℕ) (m : ℕ) → LeavesMap (maps m) (left_with refusals code maps words packet m)
+leaves_maps refusals code maps words packet m = by (maps m) ((run_with refusals code maps words packet).state.maps m) (run_same code (slot_count code) refusals (start_of_run maps words packet) m)
+  where
+    by : (o : Option (Table (List ℕ))) (p : Option RunMap) → IsSameMap (option_map first_map o) p → LeavesMap o (option_map last_map p)
+    by None None h = tt
+    by None (Some u) h = h
+    by (Some t) None h = h
+    by (Some t) (Some u) h = record { shape = h.shape; whole = λ whole. ends_whole u (h.whole (begins_whole t whole)) }
+
+-- a map is left for each that was given
+pub left_same : (refusals : List Bool) (code : List Insn) (maps : MapsByDescriptor) (words packet : List ℕ) (m : ℕ) → is_some (left_with refusals code maps words packet m) ≡ is_some (maps m)
+left_same refusals code maps words packet m = by (maps m) (left_with refusals code maps words packet m) (leaves_maps refusals code maps words packet m)
+  where
+    by : (o p : Option (Table (List ℕ))) → LeavesMap o p → is_some p ≡ is_some o
+    by None None h = refl
+    by None (Some u) h = absurd h
+    by (Some t) None h = absurd h
+    by (Some t) (Some u) h = refl

@@ -1,0 +1,101 @@
+-- States given by what is open at each descriptor, with the maps of another state at their places.
+use Rattle.std.proofs.Common.{◌≡◌, ℕ, ◌-◌, ◌<◌, Bool, true, false, List, [], ◌∷◌, ◌++◌, length, Option, Some, None, IsSome, is_some, refl, sym, ap, ap₂, subst, ◌∙◌, arith}
+use Rattle.std.specs.Prelude.{◌||◌, if◌then◌else◌}
+use Rattle.std.proofs.lemmas.List.{ext_get_or}
+use Rattle.command_frames.specs.Command.{Command, close}
+use Rattle.fd_table.specs.Table.{first_descriptor}
+use Rattle.tagged_model.specs.State.{set_at}
+use Rattle.tenant.specs.declared.object.OpenObject.{OpenObject}
+use Rattle.tenant.specs.State.{Map, TenantState, live, names, is_named, named_from, with_objects}
+use Rattle.tenant.specs.Machine.{Answer, Answers, gives, closed}
+use Rattle.saving.specs.Alike.{HoldsItsMaps}
+use Rattle.saving.specs.Laws.{MapsAreHeld, AlikeIsBisimulation}
+use Rattle.saving.specs.Restored.{Leads}
+use Rattle.saving.proofs.Pairs.{ArePair}
+use Rattle.saving.proofs.Closes.{length_named, live_with, live_if, live_parts, NamesFewer, closed_fewer, named_open}
+use Rattle.saving.proofs.Tables.{Opened, table, IsDescriptor, IsOnlyFree, table-length, table-get, named-table, table-open, table-closed}
+
+-- ---- commands one after another
+
+pub leads_then : (cs ds : List Command) (s t u : TenantState) → Leads s cs t → Leads t ds u → Leads s (cs ++ ds) u
+leads_then [] ds s t u h k = subst (λ (x : TenantState). Leads x ds u) h k
+leads_then (c ∷ cs) ds s t u (a, answers, well, rest) k = (a, answers, well, leads_then cs ds a.after t u rest k)
+
+-- ---- a state that another one is alike to
+
+pub record Follows (x t : TenantState) : Type 0 where
+  pub move : ℕ → ℕ
+  pub pair : ArePair move x t
+
+-- what the other state comes to by the same command
+pub record FollowsTo (t : TenantState) (c : Command) (a : Answer) : Type 0 where
+  pub b : Answer
+  pub answers : Answers [] t c b
+  pub status : b.status ≡ a.status
+  pub after : Follows a.after b.after
+
+module _ (held : MapsAreHeld) (bisimulation : AlikeIsBisimulation) where
+  pub follows : (x t : TenantState) (c : Command) (a : Answer) → Follows x t → Answers [] x c a → FollowsTo t c a
+  follows x t c a h is =
+      let (b, answers, alike) = bisimulation [] x t c a h.pair.one h.pair.two (h.move, h.pair.by) is in
+      record {
+        b = b;
+        answers = answers;
+        status = alike.status;
+        after = record { move = alike.after.0; pair = record { one = held.kept [] x c a h.pair.one is; two = held.kept [] t c b h.pair.two answers; by = alike.after.1 } };
+      }
+
+-- ---- states by what is open
+
+abbrev pub state_of : TenantState → Opened → TenantState
+state_of s f = record { objects = table f; maps = named_from (table f) 0 s.maps; refused = false }
+
+-- each map that is named is live
+abbrev pub IsWithin : TenantState → Opened → Type 0
+IsWithin s f = (place : ℕ) → is_named (table f) place ≡ true → IsSome (live s place)
+
+pub held_of : (s : TenantState) (f : Opened) → HoldsItsMaps s → IsWithin s f → HoldsItsMaps (state_of s f)
+held_of s f h within = record {
+  descriptors = table-length f;
+  places = length_named (table f) 0 s.maps ∙ h.places;
+  live_if_named = λ place e. ap is_some (live_if s (table f) place e) ∙ within place e;
+  named_if_live = λ place some. (live_parts s (table f) place some).0;
+}
+
+pub same_state : (s : TenantState) (f : Opened) (x : TenantState) → x.objects ≡ table f → length x.maps ≡ length s.maps → ((place : ℕ) → live x place ≡ (if is_named (table f) place then live s place else None)) → x.refused ≡ false
+    → x ≡ state_of s f
+same_state s f x objects long maps flag =
+    ap₂ (λ (os : List (Option OpenObject)) (ms : List (Option Map)). record { objects = os; maps = ms; refused = x.refused }) objects
+    (ext_get_or None x.maps (named_from (table f) 0 s.maps) (long ∙ sym (length_named (table f) 0 s.maps)) (λ i lt. maps i ∙ sym (live_with s (table f) i)))
+    ∙ ap (λ (b : Bool). record { objects = table f; maps = named_from (table f) 0 s.maps; refused = b }) flag
+
+-- ---- a descriptor is closed
+
+twice : (a b : Bool) (o : Option Map) → (a ≡ true → b ≡ true) → (if a then (if b then o else None) else None) ≡ (if a then o else None)
+twice true b o h = ap (λ (x : Bool). if x then o else None) (h refl)
+twice false b o h = refl
+
+-- fewer are open
+pub narrowed : (s : TenantState) (f g : Opened) → NamesFewer (table g) (table f) → with_objects (state_of s f) (table g) ≡ state_of s g
+narrowed s f g fewer =
+    same_state s g (with_objects (state_of s f) (table g)) refl (length_named (table g) 0 (named_from (table f) 0 s.maps) ∙ length_named (table f) 0 s.maps)
+    (λ place. live_with (state_of s f) (table g) place ∙ ap (λ (o : Option Map). if is_named (table g) place then o else None) (live_with s (table f) place) ∙ twice (is_named (table g) place) (is_named (table f) place) (live s place) (fewer place))
+    refl
+
+pub closed_names : (f : Opened) (fd : ℕ) → IsDescriptor fd → NamesFewer (table (set_at f fd None)) (table f)
+closed_names f fd is = subst (λ (os : List (Option OpenObject)). NamesFewer os (table f)) (table-closed f fd is) (closed_fewer (table f) fd)
+
+pub close_answer : (s : TenantState) (f : Opened) (fd : ℕ) (o : OpenObject) → IsDescriptor fd → f fd ≡ Some o → Answers [] (state_of s f) (close fd) (gives [] (state_of s (set_at f fd None)))
+close_answer s f fd o is there =
+    ap (gives []) (sym (narrowed s f (set_at f fd None) (closed_names f fd is)) ∙ ap (with_objects (state_of s f)) (sym (table-closed f fd is)))
+    ∙ sym (ap (closed (state_of s f) fd) (named-table f fd is ∙ there))
+
+-- ---- a descriptor is opened
+
+pub opened_names : (f : Opened) (fd : ℕ) (o : OpenObject) (place : ℕ) → IsOnlyFree f fd → is_named (table (set_at f fd (Some o))) place ≡ (names place o || is_named (table f) place)
+opened_names f fd o place is =
+    ap (λ (os : List (Option OpenObject)). is_named os place) (sym (table-open f fd o is.descriptor))
+    ∙ named_open (table f) (fd - first_descriptor) o place within (table-get f fd is.descriptor ∙ is.free)
+  where
+    within : fd - first_descriptor < length (table f)
+    within = let low = is.descriptor.low in let high = is.descriptor.high in let long = table-length f in omega arith

@@ -1,0 +1,51 @@
+-- States of the machine of one tenant that no command tells apart: they differ in the places of their maps, and in whether memory
+-- was ever refused. This project's own.
+use Rattle.std.specs.Prelude.{◌≡◌, ℕ, true, List, length, map, Option, IsSome, option_map}
+use Rattle.fd_table.specs.Table.{most}
+use Rattle.tenant.specs.declared.object.OpenObject.{OpenObject}
+use Rattle.tenant.specs.declared.object.OpenObject.TheVariants as object
+use Rattle.tenant.specs.State.{TenantState, most_maps, live, is_named}
+use Rattle.tenant.specs.Machine.{Answer}
+
+-- ---- a renaming of places
+
+abbrev pub moved_map : (ℕ → ℕ) → ℕ × ℕ → ℕ × ℕ
+moved_map move m = (m.0, move m.1)
+
+abbrev pub moved_maps : (ℕ → ℕ) → List (ℕ × ℕ) → List (ℕ × ℕ)
+moved_maps move ms = map (moved_map move) ms
+
+abbrev pub moved_object : (ℕ → ℕ) → OpenObject → OpenObject
+moved_object move (object.Map place) = object.Map (move place)
+moved_object move (object.Program l) = object.Program (record l { maps = moved_maps move l.maps })
+
+abbrev pub moved_objects : (ℕ → ℕ) → List (Option OpenObject) → List (Option OpenObject)
+moved_objects move objects = map (option_map (moved_object move)) objects
+
+-- ---- alike states
+
+-- the second state has the objects of the first, and just its live maps, no two of them at one place
+pub record IsMovedBy (move : ℕ → ℕ) (s t : TenantState) : Type 0 where
+  pub objects : t.objects ≡ moved_objects move s.objects
+  pub same : (place : ℕ) → IsSome (live s place) → live t (move place) ≡ live s place
+  pub apart : (p q : ℕ) → IsSome (live s p) → IsSome (live s q) → move p ≡ move q → p ≡ q
+  pub only : (q : ℕ) → IsSome (live t q) → (p : ℕ) × IsSome (live s p) × (move p ≡ q)
+
+-- the same up to the places of maps
+abbrev pub IsAlike : TenantState → TenantState → Type 0
+IsAlike s t = (move : ℕ → ℕ) × IsMovedBy move s t
+
+-- the same reply, and alike states after it
+pub record IsAlikeAnswer (a b : Answer) : Type 0 where
+  pub status : b.status ≡ a.status
+  pub payload : b.payload ≡ a.payload
+  pub after : IsAlike a.after b.after
+
+-- ---- the invariant of the machine's states
+
+-- just the maps that an open object names are live
+pub record HoldsItsMaps (s : TenantState) : Type 0 where
+  pub descriptors : length s.objects ≡ most
+  pub places : length s.maps ≡ most_maps
+  pub live_if_named : (place : ℕ) → is_named s.objects place ≡ true → IsSome (live s place)
+  pub named_if_live : (place : ℕ) → IsSome (live s place) → is_named s.objects place ≡ true

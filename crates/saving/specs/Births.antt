@@ -1,0 +1,93 @@
+-- The births of a tenant's objects, in their order. A state does not say in which order its objects were made, and a program names
+-- its maps by the descriptors that they had when it was loaded. This project's own.
+use Rattle.std.specs.Prelude.{◌≡◌, ◌≢◌, ℕ, ◌+◌, ◌<◌, ◌≤◌, ◌==◌, Bool, true, false, List, [], ◌∷◌, ℤ, pos, negsuc, Option, Some, None, IsSome, is_some, filter, if◌then◌else◌}
+use Rattle.std.specs.List.{list_any, AllByRecursion}
+use Rattle.command_frames.specs.Command.{Command, map_create, map_lookup, map_update, map_delete, map_next_key, prog_load, prog_test_run, close}
+use Rattle.fd_table.specs.Table.{first_descriptor, most, named}
+use Rattle.tenant.specs.declared.object.OpenObject.{OpenObject}
+use Rattle.tenant.specs.declared.object.OpenObject.TheVariants as object
+use Rattle.tenant.specs.Loaded.{LoadedProgram}
+use Rattle.tenant.specs.State.{TenantState, live}
+use Rattle.tenant.specs.Machine.{Answer}
+
+-- a map was created, or a program was loaded, and opened at a descriptor
+pub data Birth : Type 0 where
+  OfMap : (place fd : ℕ) → Birth
+  OfProgram : (fd : ℕ) → Birth
+
+abbrev pub number : Birth → ℕ
+number (OfMap place fd) = fd
+number (OfProgram fd) = fd
+
+abbrev pub birth_of : ℕ → OpenObject → Birth
+birth_of fd (object.Map place) = OfMap place fd
+birth_of fd (object.Program l) = OfProgram fd
+
+-- ---- lists of births, the latest first
+
+-- the latest birth at a descriptor
+abbrev pub latest_at : List Birth → ℕ → Option Birth
+latest_at [] fd = None
+latest_at (b ∷ older) fd = if number b == fd then Some b else latest_at older fd
+
+abbrev pub is_of_map : ℕ → Birth → Bool
+is_of_map place (OfMap p fd) = p == place
+is_of_map place (OfProgram fd) = false
+
+abbrev pub is_of_program : ℕ → Birth → Bool
+is_of_program fd (OfMap p n) = false
+is_of_program fd (OfProgram n) = n == fd
+
+-- a map is live, and is born once
+abbrev pub IsMapBorn : TenantState → List Birth → ℕ → Type 0
+IsMapBorn s older place = IsSome (live s place) × (list_any (is_of_map place) older ≡ false)
+
+-- a program is open, and each of its maps was the latest born at the descriptor by which the program names it
+abbrev pub IsProgramBorn : TenantState → List Birth → ℕ → Type 0
+IsProgramBorn s older fd =
+    (l : LoadedProgram) × (named s.objects fd ≡ Some (object.Program l))
+    × AllByRecursion (λ m. (m.0 ≢ fd) × (latest_at older m.0 ≡ Some (OfMap m.1 m.0))) l.maps
+
+abbrev pub IsBorn : TenantState → List Birth → Birth → Type 0
+IsBorn s older (OfMap place fd) = IsMapBorn s older place
+IsBorn s older (OfProgram fd) = IsProgramBorn s older fd
+
+-- each was born after its maps, and where no open program is
+abbrev pub AreInOrder : TenantState → List Birth → Type 0
+AreInOrder s [] = Unit {0}
+AreInOrder s (b ∷ older) = (first_descriptor ≤ number b) × (number b < first_descriptor + most) × (list_any (is_of_program (number b)) older ≡ false) × IsBorn s older b × AreInOrder s older
+
+-- the births of the live maps and the open programs of a state
+pub record AreBirths (s : TenantState) (births : List Birth) : Type 0 where
+  pub order : AreInOrder s births
+  pub latest : (fd : ℕ) (o : OpenObject) → named s.objects fd ≡ Some o → latest_at births fd ≡ Some (birth_of fd o)
+
+-- ---- how a command changes them
+
+abbrev pub is_open_program : Option OpenObject → Bool
+is_open_program None = false
+is_open_program (Some (object.Map place)) = false
+is_open_program (Some (object.Program l)) = true
+
+abbrev pub lives : TenantState → Birth → Bool
+lives s (OfMap place fd) = is_some (live s place)
+lives s (OfProgram fd) = is_open_program (named s.objects fd)
+
+abbrev pub with_birth : ℕ → Option OpenObject → List Birth → List Birth
+with_birth fd None births = births
+with_birth fd (Some o) births = birth_of fd o ∷ births
+
+-- a new object's descriptor is the status of the answer
+abbrev pub with_opened : ℤ → TenantState → List Birth → List Birth
+with_opened (pos fd) s births = with_birth fd (named s.objects fd) births
+with_opened (negsuc n) s births = births
+
+abbrev pub births_after : Command → Answer → List Birth → List Birth
+births_after (map_create kind key value max flags) a births = with_opened a.status a.after births
+births_after (prog_load kind slots) a births = with_opened a.status a.after births
+births_after (close fd) a births = filter (lives a.after) births
+births_after (map_lookup fd key) a births = births
+births_after (map_update fd flags bytes) a births = births
+births_after (map_delete fd key) a births = births
+births_after (map_next_key fd key) a births = births
+births_after (prog_test_run fd words packet) a births = births

@@ -1,0 +1,57 @@
+-- What holds of the maps and the programs of a state, so that they can be made again. This project's own.
+use Rattle.std.specs.Prelude.{◌≡◌, false, ℕ, zero, suc, ◌+◌, ◌≤◌, ◌==◌, List, [], ◌∷◌, ◌++◌, length, Some, option_map}
+use Rattle.std.specs.List.{list_any, AllByRecursion}
+use Rattle.std.specs.Map.{lookup, keys_of}
+use Rattle.fd_table.specs.Table.{first_descriptor, most, named}
+use Rattle.insn_set.specs.Program.{IsProgram}
+use Rattle.tagged_model.specs.declared.shape.MapKind.TheVariants.{Array}
+use Rattle.tagged_model.specs.declared.shape.Named.{Named}
+use Rattle.tagged_model.specs.declared.shape.Target.TheVariants as target
+use Rattle.tagged_model.specs.Cells.{and_then}
+use Rattle.tagged_model.specs.Table.{Table, is_key, indexed}
+use Rattle.verifier.specs.Verdict.{IsAccepted}
+use Rattle.verifier.specs.Maps.{maps_of, entries_of}
+use Rattle.tenant.specs.declared.object.OpenObject.TheVariants as object
+use Rattle.tenant.specs.Loaded.{LoadedProgram}
+use Rattle.tenant.specs.State.{Map, TenantState, most_bytes, live, maps_area}
+use Rattle.tenant.specs.Machine.{entry_of}
+use Rattle.saving.specs.Alike.{HoldsItsMaps}
+
+-- no key twice
+abbrev pub AreDistinct : List (List ℕ) → Type 0
+AreDistinct [] = Unit {0}
+AreDistinct (key ∷ keys) = (list_any (is_key key) keys ≡ false) × AreDistinct keys
+
+-- keys have their size, none is there twice, no more are there than may be, and an array has its indices
+pub record IsWholeTable {A : Type 0} (t : Table A) : Type 0 where
+  pub keys : AllByRecursion (λ e. length e.0 ≡ t.shape.key_size) t.entries
+  pub distinct : AreDistinct (keys_of t.entries)
+  pub few : length t.entries + t.deleted ≤ t.shape.max_entries
+  pub indices : t.shape.kind ≡ Array → keys_of t.entries ≡ keys_of (indexed (λ i. i) 0 t.shape.max_entries)
+
+-- values have their size, too, and no run goes on
+pub record IsWholeMap (t : Map) : Type 0 where
+  pub table : IsWholeTable t
+  pub values : AllByRecursion (λ e. length e.1 ≡ t.shape.value_size) t.entries
+  pub ended : t.deleted ≡ 0
+
+-- the maps with these descriptors and places, as the verifier sees them, from descriptor fd on
+unfoldable pub shapes_from : TenantState → List (ℕ × ℕ) → ℕ → ℕ → List Named
+shapes_from s maps fd zero = []
+shapes_from s maps fd (suc n) =
+    entry_of fd (option_map (λ t. target.Map t.shape) (and_then (lookup (λ m. m == fd) maps) (live s))) ++ shapes_from s maps (fd + 1) n
+
+-- a program was accepted with the shapes that its maps have, and has a place for each map that it loads
+pub record IsWholeProgram (s : TenantState) (l : LoadedProgram) : Type 0 where
+  pub program : IsProgram l.insns
+  pub named : List Named
+  pub accepted : IsAccepted l.insns named
+  pub picked : l.named ≡ entries_of (maps_of l.insns) named
+  pub shaped : l.named ≡ shapes_from s l.maps first_descriptor most
+  pub bound : keys_of l.maps ≡ maps_of l.insns
+
+pub record IsRestorable (s : TenantState) : Type 0 where
+  pub held : HoldsItsMaps s
+  pub area : maps_area s.maps ≤ most_bytes
+  pub maps : (place : ℕ) (t : Map) → live s place ≡ Some t → IsWholeMap t
+  pub programs : (fd : ℕ) (l : LoadedProgram) → named s.objects fd ≡ Some (object.Program l) → IsWholeProgram s l

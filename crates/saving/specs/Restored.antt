@@ -1,0 +1,69 @@
+-- The commands that restore a state: a walk in the order of birth. Each descriptor is open at all times, by a program of two
+-- instructions where there is nothing else, so what is made next gets the descriptor that was closed before. This project's own.
+use Rattle.std.specs.Prelude.{◌≡◌, ℕ, zero, suc, ◌+◌, pos, List, [], ◌∷◌, ◌++◌, map, Option, Some, None, is_none, if◌then◌else◌}
+use Rattle.insn_set.specs.declared.insn.Insn.{Insn}
+use Rattle.insn_set.specs.Program.{program_bytes}
+use Rattle.command_frames.specs.Command.{Command, map_create, map_update, prog_load, close}
+use Rattle.fd_table.specs.Table.{first_descriptor, most, named}
+use Rattle.tagged_model.specs.declared.shape.MapKind.{MapKind}
+use Rattle.tagged_model.specs.declared.shape.MapKind.TheVariants.{Hash, Array}
+use Rattle.tagged_model.specs.declared.shape.MapShape.{MapShape}
+use Rattle.tenant.specs.declared.object.OpenObject.{OpenObject}
+use Rattle.tenant.specs.declared.object.OpenObject.TheVariants as object
+use Rattle.tenant.specs.State.{Map, TenantState, live}
+use Rattle.tenant.specs.Machine.{Answer, Answers}
+use Rattle.saving.specs.Filler.{filler}
+use Rattle.saving.specs.Births.{Birth, OfMap, OfProgram, number}
+
+-- ---- what is made
+
+abbrev pub load_of : List Insn → Command
+load_of insns = prog_load 1 (program_bytes insns)
+
+abbrev pub kind_number : MapKind → ℕ
+kind_number Hash = 1
+kind_number Array = 2
+
+abbrev pub create_of : MapShape → Command
+create_of shape = map_create (kind_number shape.kind) shape.key_size shape.value_size shape.max_entries 0
+
+abbrev pub put_of : ℕ → List ℕ × List ℕ → Command
+put_of fd e = map_update fd 0 (e.0 ++ e.1)
+
+abbrev pub made_map : ℕ → Option Map → List Command
+made_map fd None = []
+made_map fd (Some t) = create_of t.shape ∷ map (put_of fd) t.entries
+
+abbrev pub made_program : Option OpenObject → List Command
+made_program None = []
+made_program (Some (object.Map place)) = []
+made_program (Some (object.Program l)) = load_of l.insns ∷ []
+
+abbrev pub made : TenantState → Birth → List Command
+made s (OfMap place fd) = made_map fd (live s place)
+made s (OfProgram fd) = made_program (named s.objects fd)
+
+-- ---- the walk
+
+unfoldable pub filled : ℕ → List Command
+filled zero = []
+filled (suc n) = load_of filler ∷ filled n
+
+abbrev pub born : TenantState → List Birth → List Command
+born s [] = []
+born s (b ∷ older) = born s older ++ (close (number b) ∷ made s b)
+
+-- the descriptors from fd on that are not open
+unfoldable pub closings : List (Option OpenObject) → ℕ → ℕ → List Command
+closings objects fd zero = []
+closings objects fd (suc n) = (if is_none (named objects fd) then close fd ∷ [] else []) ++ closings objects (fd + 1) n
+
+abbrev pub restored : TenantState → List Birth → List Command
+restored s births = filled most ++ (born s births ++ closings s.objects first_descriptor most)
+
+-- ---- commands one after another
+
+-- no memory is refused, and each is answered well
+abbrev pub Leads : TenantState → List Command → TenantState → Type 0
+Leads s [] t = t ≡ s
+Leads s (c ∷ cs) t = (a : Answer) × Answers [] s c a × ((n : ℕ) × (a.status ≡ pos n)) × Leads a.after cs t

@@ -35,3 +35,5 @@ mod TestRunKept
 mod TestRunKeys
 mod TestRunMaps
 mod TestRunEnds
+mod Batches
+mod BatchLaws

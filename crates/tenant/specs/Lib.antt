@@ -3,6 +3,7 @@ pub mod Loaded
 pub mod State
 pub mod Machine
 pub mod Alone
+pub mod Batch
 pub mod Laws
 pub mod Kept
 pub mod Replies

@@ -2,3 +2,4 @@ pub mod Frames
 pub mod Leaves
 pub mod Loading
 pub mod Named
+pub mod Runs

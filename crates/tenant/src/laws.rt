@@ -1,5 +1,6 @@
 //! Laws of the machine. Each law is the contract of a function that does nothing.
 
+ghost use Rattle.tenant.specs.Batch.{BatchIsItsFrames, RefusedAsItsFrame, OneResultEach};
 ghost use Rattle.tenant.specs.Laws.{OneJudgement, OneAnswer, OneReply, OneAlone, ClearFlagMeansNoRefusal, ClearFlagMeansAlone, FaultsHaveNoPayload};
 
 /// The judgement of slots is unique: one accepted program, or one fault.
@@ -50,4 +51,19 @@ pub fn clear_flag_means_alone()
 /// A reply with the status of a fault has no payload.
 pub fn faults_have_no_payload()
     ensures { FaultsHaveNoPayload }
+{}
+
+/// The runs of a batch are the test-run frames of its packets, one after another.
+pub fn batch_is_its_frames()
+    ensures { BatchIsItsFrames }
+{}
+
+/// What is refused to a run is refused to its frame, with the same status.
+pub fn refused_as_its_frame()
+    ensures { RefusedAsItsFrame }
+{}
+
+/// A batch has as many results as packets.
+pub fn one_result_each()
+    ensures { OneResultEach }
 {}

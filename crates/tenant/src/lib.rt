@@ -1,6 +1,7 @@
 //! One tenant: its open objects, its live maps, and the effects of its commands.
 #![tactic(auto)]
 
+mod batch;
 mod errno;
 mod frames;
 pub mod laws;

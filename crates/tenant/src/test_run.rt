@@ -1,12 +1,16 @@
 //! Test runs of loaded programs.
 
-ghost use Rattle.std.specs.Prelude.{◌≡◌, ◌≢◌, ℕ, ◌<◌, Bool, List, ◌∷◌, length};
+ghost use Rattle.std.specs.Prelude.{◌≡◌, ◌≢◌, ℕ, ◌<◌, Bool, List, ◌∷◌, length, IfErr};
+ghost use Rattle.std.specs.Result.{result_err};
 ghost use Rattle.arena.specs.Memory.{part_bytes};
 ghost use Rattle.bpf_helpers.specs.Parts.{IsPartOf};
 ghost use Rattle.fd_table.specs.Table.{named};
+ghost use Rattle.tenant.specs.Batch.{run_refusal};
 ghost use Rattle.tenant.specs.Kept.{state_in};
 ghost use Rattle.tenant.specs.Machine.{run_of};
 ghost use Rattle.tenant.specs.Replies.{shown_answer, IsWritable};
+ghost use Rattle.tenant.specs.declared.errno.Errno.TheVariants.{BadAddress};
+ghost use Rattle.tenant.specs.inside.Runs.{run_answer};
 
 use crate::errno::Errno;
 use crate::object::OpenObject;
@@ -19,7 +23,7 @@ use tagged_model::{CONTEXT_WORDS, Outcome};
 use verifier::laws;
 
 /// The length of the longest packet of a test run, in bytes.
-const LONGEST_PACKET: usize = 65_536;
+pub(crate) const LONGEST_PACKET: usize = 65_536;
 
 /// The words of the context: the packet's length, and the ten that are given.
 fn context_words(length: u32, words: &[u32; GIVEN_WORDS]) -> [u32; CONTEXT_WORDS]
@@ -30,28 +34,32 @@ fn context_words(length: u32, words: &[u32; GIVEN_WORDS]) -> [u32; CONTEXT_WORDS
 }
 
 impl Tenant {
-    /// PROG_TEST_RUN: runs a program on ten words of context and a packet, with the maps with which it was loaded, and
-    /// returns the program's result. It runs in this tenant's part of the memory, and every other part is unchanged. Only new
-    /// keys of hash maps take memory.
+    /// Runs the program at a descriptor on ten words of context and a packet, with the maps with which it was loaded, and returns
+    /// its result. It runs in this tenant's part of the memory, and every other part is unchanged. Only new keys of hash maps
+    /// take memory. A run never faults.
     ///
     /// # Errors
     ///
     /// `BadDescriptor` if the descriptor is not open, `Invalid` if it names a map, `TooBig` if the packet has more than
-    /// `LONGEST_PACKET` bytes. Then nothing has changed. A run never faults.
-    pub(crate) fn test_run(
+    /// `LONGEST_PACKET` bytes. Then nothing has changed.
+    #[inline(always)]
+    pub(crate) fn run_packet(
         &mut self,
         fd: u32,
         words: &[u32; GIVEN_WORDS],
         packet: &[u8],
         tenant: usize,
         arena: &mut Arena,
-    ) -> Result<Reply<'static>, Errno>
+    ) -> Result<u32, Errno>
         requires part { IsPartOf tenant arena.old }
         ensures answer { (refusals : List Bool)
-            × (shown_answer result (state_in (part_bytes arena.new tenant) self.new)
+            × (run_answer result (state_in (part_bytes arena.new tenant) self.new)
             ≡ run_of refusals (state_in (part_bytes arena.old tenant) self.old)
             words.now packet.now (named self.old.objects fd)) }
-        ensures writable { IsWritable result }
+        ensures refusal { result_err result
+            ≡ run_refusal (named self.old.objects fd) (length packet.now) }
+        ensures no_fault { IfErr result (λ errno. errno ≢ BadAddress) }
+        ensures objects { self.new.objects ≡ self.old.objects }
         ensures parts { arena.new.parts ≡ arena.old.parts }
         ensures part { arena.new.part ≡ arena.old.part }
         ensures others { (other : ℕ) → other ≢ tenant
@@ -79,8 +87,38 @@ impl Tenant {
             &mut trace,
         );
         match outcome {
-            Outcome::Value(value) => Ok(Reply::Number(value)),
-            Outcome::Fault => Err(Errno::BadAddress),
+            Outcome::Value(value) => Ok(value),
+            Outcome::Fault => unreachable!(),
+        }
+    }
+
+    /// PROG_TEST_RUN: runs a program on ten words of context and a packet.
+    ///
+    /// # Errors
+    ///
+    /// Those of `run_packet`.
+    pub(crate) fn test_run(
+        &mut self,
+        fd: u32,
+        words: &[u32; GIVEN_WORDS],
+        packet: &[u8],
+        tenant: usize,
+        arena: &mut Arena,
+    ) -> Result<Reply<'static>, Errno>
+        requires part { IsPartOf tenant arena.old }
+        ensures answer { (refusals : List Bool)
+            × (shown_answer result (state_in (part_bytes arena.new tenant) self.new)
+            ≡ run_of refusals (state_in (part_bytes arena.old tenant) self.old)
+            words.now packet.now (named self.old.objects fd)) }
+        ensures writable { IsWritable result }
+        ensures parts { arena.new.parts ≡ arena.old.parts }
+        ensures part { arena.new.part ≡ arena.old.part }
+        ensures others { (other : ℕ) → other ≢ tenant
+            → part_bytes arena.new other ≡ part_bytes arena.old other }
+    {
+        match self.run_packet(fd, words, packet, tenant, arena) {
+            Ok(value) => Ok(Reply::Number(value)),
+            Err(errno) => Err(errno),
         }
     }
 }

@@ -1,11 +1,8 @@
-use Rattle.std.proofs.Common.{◌≡◌, ℕ, List, Result, Some, sym, ap, subst, ◌∙◌}
+use Rattle.std.proofs.Common.{◌≡◌, ℕ, List, Some, sym, ap, subst, ◌∙◌}
 use Rattle.arena.specs.Memory.{part_bytes}
 use Rattle.fd_table.specs.Table.{named}
 use Rattle.flat_machine.specs.Runs.{AreBound}
 use Rattle.tagged_model.specs.declared.value.Outcome.{Outcome}
-use Rattle.tenant.specs.declared.errno.Errno.{Errno}
-use Rattle.tenant.specs.declared.reply.Reply.{Reply}
-use Rattle.tenant.specs.Replies.{shown_answer}
 use Rattle.tenant.specs.Kept.{KeptTenant, state_in}
 use Rattle.tenant.specs.Machine.{outcome_answer, run_of}
 use Rattle.tenant.specs.declared.object.OpenObject.TheVariants as object
@@ -13,8 +10,7 @@ use Rattle.tenant.proofs.StillKept.{kept_in, with_live}
 use Rattle.tenant.proofs.TestRunEnds.{told_of}
 use Rattle.tenant.proofs.TestRunKept.{kept_after}
 use Rattle.tenant.proofs.TestRunKeys.{are_bound, bound_of}
-use Rattle.tenant.proofs.tenant.Tenant.test_run.Goals as goal
-use Rattle.tenant.proofs.tenant.Tenant.test_run.Goals.{in-Value, in-Fault}
+use Rattle.tenant.proofs.tenant.Tenant.run_packet.Goals as goal
 
 pub run-outcome-requires-clause-bound : goal.run-outcome-requires-clause-bound
 run-outcome-requires-clause-bound c =
@@ -39,13 +35,10 @@ returns-clause-answer c =
     let run = c.run-outcome in
     let later = part_bytes run.new.arena t in
     let after = state_in later (with_live k run.new.maps) in
-    let same : shown_answer c.match-outcome.result after ≡ outcome_answer run.result after = elim c.match-outcome.branch [
-      | in-Value w ↦ ap (λ (r : Result Reply Errno). shown_answer r after) w.result-is ∙ ap (λ (o : Outcome). outcome_answer o after) (sym w.in-Value.is)
-      | in-Fault w ↦ ap (λ (r : Result Reply Errno). shown_answer r after) w.result-is ∙ ap (λ (o : Outcome). outcome_answer o after) (sym w.in-Fault.is)
-    ] in
     let (refusals, is) = told_of c.maps_are_listed.ensures c.args.fd c.self.invariant opened c.if-packet-gt-LONGEST_PACKET.false
     c.maps.ensures c.program.ensures.code c.context_words-context.ensures run.ensures.runs run.ensures.maps run.ensures.values in (
       refusals,
-      same ∙ is
+      ap (λ (o : Outcome). outcome_answer o after) (sym c.in-Value.is)
+          ∙ is
           ∙ ap (λ (x : KeptTenant). run_of refusals (state_in part x) words packet (named x.objects c.args.fd)) c.self.view_is,
     )

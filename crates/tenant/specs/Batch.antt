@@ -1,0 +1,112 @@
+-- A program on many packets: the test runs of the packets, one after another. Packets are counted from 0. This project's own.
+use Rattle.std.specs.Prelude.{◌≡◌, ℕ, pos, ◌-◌, Bool, ◌||◌, nat_lt, List, [], ◌∷◌, ◌++◌, length, drop, slice_range, Option, Some, None, Ok, if◌then◌else◌}
+use Rattle.byteorder.specs.Endian.{little_bytes}
+use Rattle.command_frames.specs.Command.{prog_test_run, parsed}
+use Rattle.command_frames.specs.Frame.{reply_to}
+use Rattle.fd_table.specs.Table.{named}
+use Rattle.tenant.specs.declared.errno.Errno.{Errno}
+use Rattle.tenant.specs.declared.errno.Errno.TheVariants.{TooBig, BadDescriptor, Invalid}
+use Rattle.tenant.specs.declared.object.OpenObject.{OpenObject}
+use Rattle.tenant.specs.declared.object.OpenObject.TheVariants as object
+use Rattle.tenant.specs.Alone.{AloneWithRefusals}
+use Rattle.tenant.specs.Machine.{Answers, gives, refuses, longest_packet}
+use Rattle.tenant.specs.State.{TenantState}
+
+-- ---- packets
+
+-- packets that lie one after another in these bytes: the first begins at `start`, and each ends at its end
+unfoldable pub packets_from : List ℕ → ℕ → List ℕ → List (List ℕ)
+packets_from bytes start [] = []
+packets_from bytes start (end ∷ ends) = slice_range bytes start end ∷ packets_from bytes end ends
+
+abbrev pub packets_in : List ℕ → List ℕ → List (List ℕ)
+packets_in bytes ends = packets_from bytes 0 ends
+
+-- ---- the runs
+
+-- The test-run commands of packets, one after another on the same words of context: each succeeds with its result, and the states
+-- before and after them. To each of them memory may be refused.
+unfoldable pub RunsInOrder : ℕ → List ℕ → TenantState → List (List ℕ) → List ℕ → TenantState → Type 0
+RunsInOrder fd words before [] [] after = after ≡ before
+RunsInOrder fd words before (packet ∷ packets) (result ∷ results) after =
+    (refusals : List Bool) × (between : TenantState)
+    × Answers refusals before (prog_test_run fd words packet) (gives (little_bytes 4 result) between)
+    × RunsInOrder fd words between packets results after
+RunsInOrder fd words before [] (result ∷ results) after = ⊥
+RunsInOrder fd words before (packet ∷ packets) [] after = ⊥
+
+-- the results of the runs are written to the front of a room, whose rest is unchanged
+abbrev pub RunsBatch : ℕ → List ℕ → TenantState → List (List ℕ) → List ℕ → List ℕ → TenantState → Type 0
+RunsBatch fd words before packets room written after =
+    (results : List ℕ) × RunsInOrder fd words before packets results after × (written ≡ results ++ drop (length results) room)
+
+-- ---- the refusals
+
+-- why an object is not run
+abbrev pub object_refusal : Option OpenObject → Option Errno
+object_refusal None = Some BadDescriptor
+object_refusal (Some (object.Map place)) = Some Invalid
+object_refusal (Some (object.Program l)) = None
+
+-- why a program is not run on a packet of this length
+abbrev pub length_refusal : ℕ → Option Errno
+length_refusal size = if nat_lt longest_packet size then Some TooBig else None
+
+abbrev pub else_refusal : Option Errno → Option Errno → Option Errno
+else_refusal None later = later
+else_refusal (Some errno) later = Some errno
+
+-- why the test run of an object on a packet of this length is refused
+abbrev pub run_refusal : Option OpenObject → ℕ → Option Errno
+run_refusal o size = else_refusal (object_refusal o) (length_refusal size)
+
+-- an end before the packet's beginning, or after the last of `many` bytes
+abbrev pub is_outside : ℕ → ℕ → ℕ → Bool
+is_outside many start end = nat_lt end start || nat_lt many end
+
+-- why packets with these ends in `many` bytes are refused: the first that is outside or too long
+unfoldable pub ends_refusal : ℕ → ℕ → List ℕ → Option Errno
+ends_refusal many start [] = None
+ends_refusal many start (end ∷ ends) =
+    if is_outside many start end then Some Invalid else else_refusal (length_refusal (end - start)) (ends_refusal many end ends)
+
+abbrev pub packets_refusal : ℕ → List ℕ → ℕ → Option Errno
+packets_refusal many ends room = if nat_lt room (length ends) then Some Invalid else ends_refusal many 0 ends
+
+-- Why a batch is refused, before the first packet: what is named is no program; there is room for fewer results than packets; or
+-- a packet is outside, or too long.
+abbrev pub batch_refusal : Option OpenObject → ℕ → List ℕ → ℕ → Option Errno
+batch_refusal o many ends room = else_refusal (object_refusal o) (packets_refusal many ends room)
+
+-- ---- laws
+
+-- these frames are the test runs of a program on these packets
+abbrev pub AreTestRuns : ℕ → List ℕ → List (List ℕ) → List (List ℕ) → Type 0
+AreTestRuns fd words [] [] = Unit {0}
+AreTestRuns fd words (frame ∷ frames) (packet ∷ packets) = (parsed frame ≡ Ok (prog_test_run fd words packet)) × AreTestRuns fd words frames packets
+AreTestRuns fd words [] (packet ∷ packets) = ⊥
+AreTestRuns fd words (frame ∷ frames) [] = ⊥
+
+-- the replies to frames with these results
+abbrev pub result_replies : List (List ℕ) → List ℕ → List (List ℕ)
+result_replies [] results = []
+result_replies (frame ∷ frames) [] = []
+result_replies (frame ∷ frames) (result ∷ results) = reply_to frame (pos 0) (little_bytes 4 result) ∷ result_replies frames results
+
+-- the runs of a batch are the test-run frames of its packets, one after another
+abbrev pub BatchIsItsFrames : Type 0
+BatchIsItsFrames =
+    (fd : ℕ) (words : List ℕ) (frames packets : List (List ℕ)) (results : List ℕ) (before after : TenantState) → AreTestRuns fd words frames packets
+    → RunsInOrder fd words before packets results after → AloneWithRefusals (Some before) frames (result_replies frames results) (Some after)
+
+-- the test-run command of a packet is refused with the error of a run
+abbrev pub RefusedAsItsFrame : Type 0
+RefusedAsItsFrame =
+    (refusals : List Bool) (s : TenantState) (fd : ℕ) (words packet : List ℕ) (errno : Errno) → run_refusal (named s.objects fd) (length packet) ≡ Some errno
+    → Answers refusals s (prog_test_run fd words packet) (refuses errno s)
+
+-- there are as many results as packets
+abbrev pub OneResultEach : Type 0
+OneResultEach =
+    (fd : ℕ) (words : List ℕ) (packets : List (List ℕ)) (results : List ℕ) (before after : TenantState) → RunsInOrder fd words before packets results after
+    → length results ≡ length packets

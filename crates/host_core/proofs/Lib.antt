@@ -7,3 +7,4 @@ pub mod Faults
 pub mod Stands
 pub mod Serving
 pub mod ToldAlone
+mod BatchCalls

@@ -1,14 +1,16 @@
 -- The states of all tenants, of which one moves.
-use Rattle.std.proofs.Common.{◌≡◌, ◌≢◌, ℕ, zero, suc, ◌+◌, ◌<◌, ◌≤◌, Bool, true, false, List, [], ◌∷◌, ◌++◌, length, Option, Some, None, refl, sym, ap, subst, ◌∙◌, arith, get_or, set, length-set}
+use Rattle.std.proofs.Common.{◌≡◌, ◌≢◌, ℕ, zero, suc, ◌+◌, ◌<◌, ◌≤◌, Bool, true, false, List, [], ◌∷◌, ◌++◌, length, Option, Some, None, refl, sym, ap, ap₂, subst, ◌∙◌, arith, get_or, set, length-set}
 use Rattle.std.proofs.lemmas.Option.{slice_get_read}
-use Rattle.std.specs.Prelude.{slice_get, option_map, replicate, nat_lt, if◌then◌else◌}
+use Rattle.std.specs.Prelude.{slice_get, option_map, replicate, nat_lt, if◌then◌else◌, Result, Ok, Err, OnOk, OnErr}
 use Rattle.arena.specs.Memory.{Memory, part_bytes}
 use Rattle.tenant.specs.Kept.{KeptTenant, state_in}
 use Rattle.command_frames.specs.Frame.{reply_to}
 use Rattle.tenant.specs.Alone.{MayReply}
+use Rattle.tenant.specs.Batch.{RunsBatch}
 use Rattle.tenant.specs.Errno.{status_of}
 use Rattle.tenant.specs.State.{TenantState, new_tenant}
 use Rattle.tenant.specs.declared.errno.Errno.TheVariants.{NotPermitted, Invalid}
+use Rattle.host_core.specs.Batch.{RunsFor}
 use Rattle.host_core.specs.Served.{IsUnrefused}
 use Rattle.host_core.specs.States.{states_from, states_in}
 use Rattle.host_core.proofs.Heads.{no_state}
@@ -24,6 +26,11 @@ slice_get-set_other (y ∷ ys) zero zero x ne = absurd (ne refl)
 slice_get-set_other (y ∷ ys) zero (suc k) x ne = refl
 slice_get-set_other (y ∷ ys) (suc i) zero x ne = refl
 slice_get-set_other (y ∷ ys) (suc i) (suc k) x ne = slice_get-set_other ys i k x (λ e. ne (ap suc e))
+
+set_there : {X : Type 0} (xs : List X) (i : ℕ) (x : X) → slice_get xs i ≡ Some x → set xs i x ≡ xs
+set_there [] i x found = refl
+set_there {X} (y ∷ ys) zero x found = let same : x ≡ y = cc in ap (λ (z : X). z ∷ ys) same
+set_there {X} (y ∷ ys) (suc i) x found = ap (λ (l : List X). y ∷ l) (set_there ys i x found)
 
 -- what an index read is there
 pub slice_get_in : {X : Type 0} (xs : List X) (i : ℕ) (x : X) → i < length xs → x ≡ get_or xs i x → slice_get xs i ≡ Some x
@@ -74,7 +81,7 @@ pub count_stays : (m n : Memory) (ks : List KeptTenant) (i : ℕ) (k : KeptTenan
 count_stays m n ks i k = states_length n 0 (set ks i k) ∙ length-set ks i k ∙ sym (states_length m 0 ks)
 
 -- the state of a tenant that is served
-state_there : (m : Memory) (ks : List KeptTenant) (states : List TenantState) (i : ℕ) (k : KeptTenant) → states_in m ks ≡ states → slice_get ks i ≡ Some k → slice_get states i ≡ Some (state_in (part_bytes m i) k)
+pub state_there : (m : Memory) (ks : List KeptTenant) (states : List TenantState) (i : ℕ) (k : KeptTenant) → states_in m ks ≡ states → slice_get ks i ≡ Some k → slice_get states i ≡ Some (state_in (part_bytes m i) k)
 state_there m ks states i k is found = ap (λ (s : List TenantState). slice_get s i) (sym is) ∙ own_before m ks i k found
 
 -- it goes on in its own
@@ -119,3 +126,26 @@ new_more m first ks k n new is =
     let counted : suc n ≡ n + 1 = omega arith in
     states_push m first ks k ∙ ap (λ (l : List TenantState). l ++ state_in (part_bytes m (first + length ks)) k ∷ []) new
     ∙ ap (λ (s : TenantState). replicate n new_tenant ++ s ∷ []) (is (part_bytes m (first + length ks))) ∙ replicate_push n new_tenant ∙ ap (λ (i : ℕ). replicate i new_tenant) counted
+
+-- ---- a batch
+
+-- a batch of a tenant that is served
+pub runs_own : (m n : Memory) (ks : List KeptTenant) (states : List TenantState) (i fd : ℕ) (k l : KeptTenant) (words room written : List ℕ) (packets : List (List ℕ)) → states_in m ks ≡ states → i < length ks → slice_get ks i ≡ Some k
+    → RunsBatch fd words (state_in (part_bytes m i) k) packets room written (state_in (part_bytes n i) l) → RunsFor fd words (slice_get states i) packets room written (slice_get (states_in n (set ks i l)) i)
+runs_own m n ks states i fd k l words room written packets is lt found runs =
+    let before = state_there m ks states i k is found in
+    let after = own_after n ks i l lt in
+    subst (λ (x : Option TenantState). RunsFor fd words x packets room written (slice_get (states_in n (set ks i l)) i)) (sym before) (state_in (part_bytes n i) l, runs, after)
+
+-- a tenant that is put back as it was
+pub put_back : (m n : Memory) (ks : List KeptTenant) (i : ℕ) (k l : KeptTenant) → slice_get ks i ≡ Some k → l ≡ k → n ≡ m → states_in n (set ks i l) ≡ states_in m ks
+put_back m n ks i k l found same still = ap₂ (λ (x : Memory) (y : KeptTenant). states_in x (set ks i y)) still same ∙ ap (states_in m) (set_there ks i k found)
+
+-- what a result brings with it
+pub with_ok : {A E : Type 0} {P Q : Type 0} (r : Result A E) → (P → Q) → OnOk r P → OnOk r Q
+with_ok (Ok x) f p = f p
+with_ok (Err e) f p = tt
+
+pub with_err : {A E : Type 0} {P Q : Type 0} (r : Result A E) → (P → Q) → OnErr r P → OnErr r Q
+with_err (Ok x) f p = tt
+with_err (Err e) f p = f p

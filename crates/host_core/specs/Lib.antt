@@ -2,9 +2,11 @@ pub mod Stream
 pub mod States
 pub mod Served
 pub mod Handled
+pub mod Batch
 pub mod Laws
 pub mod inside
 -- what public contracts cite of crates below
 pub use Rattle.command_frames.specs.Frame
 pub use Rattle.tenant.specs.Alone
+pub use Rattle.tenant.specs.Batch as TenantBatch
 pub use Rattle.tenant.specs.State

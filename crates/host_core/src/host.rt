@@ -1,17 +1,20 @@
 //! The host of all tenants.
 
-ghost use Rattle.std.specs.Prelude.{◌≡◌, ◌≢◌, ℕ, ◌≤◌, length, replicate, slice_get, IfOk, true, false};
+ghost use Rattle.std.specs.Prelude.{◌≡◌, ◌≢◌, ℕ, ◌≤◌, length, replicate, slice_get, IfOk, OnOk, OnErr, true, false};
+ghost use Rattle.std.specs.Result.{result_err};
 ghost use Rattle.arena.specs.Memory.{Memory};
 ghost use Rattle.command_frames.specs.Frame.{owner};
 ghost use Rattle.tenant.specs.Alone.{MayReply, IsFault};
+ghost use Rattle.tenant.specs.Batch.{packets_in};
 ghost use Rattle.tenant.specs.State.{new_tenant};
+ghost use Rattle.host_core.specs.Batch.{RunsFor, refusal_for, ChangesTenant};
 ghost use Rattle.host_core.specs.Served.{IsUnrefused};
 ghost use Rattle.host_core.specs.States.{states_from};
 ghost use Rattle.host_core.specs.declared.host.TheConstants.{MOST_TENANTS};
 
 use arena::Arena;
 use bpf_maps::PART;
-use command_frames::{Head, ReplyBuf, head, write_reply};
+use command_frames::{GIVEN_WORDS, Head, ReplyBuf, head, write_reply};
 use seeded_hash::HashSeed;
 use std::alloc::{AllocError, Global};
 use std::marker::Model;
@@ -117,5 +120,40 @@ impl Host {
         }
         let arena = &mut self.arena;
         self.tenants[tenant].handle(self.alloc, head, frame, tenant, arena, reply);
+    }
+
+    /// Runs the program at a descriptor of `tenant` on many packets, one after another, on the same ten words of context. The
+    /// packets lie one after another in `bytes`, and each ends at its number in `ends`. The result of each is written to
+    /// `results`, whose rest is unchanged.
+    ///
+    /// Results and states afterwards are those of the test-run frames of these packets in this order. The states of all other
+    /// tenants are unchanged.
+    ///
+    /// # Errors
+    ///
+    /// `NotPermitted` if the tenant is not served; else those of `Tenant::run_packets`, with which the frames would be refused. Then
+    /// no packet was run, and nothing has changed.
+    pub fn run_packets(
+        &mut self,
+        tenant: usize,
+        fd: u32,
+        words: &[u32; GIVEN_WORDS],
+        bytes: &[u8],
+        ends: &[usize],
+        results: &mut [u32],
+    ) -> Result<(), Errno>
+        ensures runs { OnOk result (RunsFor fd words.now (slice_get self.old tenant)
+            (packets_in bytes.now ends.now) results.old results.new
+            (slice_get self.new tenant)) }
+        ensures refusal { result_err result ≡ refusal_for (slice_get self.old tenant) fd
+            (length bytes.now) ends.now (length results.old) }
+        ensures unchanged { OnErr result ((self.new ≡ self.old) × (results.new ≡ results.old)) }
+        ensures tenant { ChangesTenant tenant self.old self.new }
+    {
+        if tenant >= self.tenants.len() {
+            return Err(Errno::NotPermitted);
+        }
+        let arena = &mut self.arena;
+        self.tenants[tenant].run_packets(fd, words, bytes, ends, results, tenant, arena)
     }
 }

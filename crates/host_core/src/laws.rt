@@ -1,5 +1,6 @@
 //! Laws of streams. Each is the contract of a function that does nothing.
 
+ghost use Rattle.host_core.specs.Batch.{BatchIsItsCalls};
 ghost use Rattle.host_core.specs.Handled.{CallsAreToldAlone};
 ghost use Rattle.host_core.specs.Laws.{UnrefusedAreToldAlone, SameFramesSameReplies};
 
@@ -25,3 +26,9 @@ pub fn same_frames_same_replies()
 {
     tenant::laws::one_alone();
 }
+
+/// The runs of a batch are the calls of `Host::handle` on the test-run frames of its packets, one after another. So what follows for
+/// the tenants over a sequence of calls follows where some of them are batches.
+pub fn batch_is_its_calls()
+    ensures { BatchIsItsCalls }
+{}

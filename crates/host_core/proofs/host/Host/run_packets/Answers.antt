@@ -1,0 +1,57 @@
+use Rattle.std.proofs.Common.{◌≡◌, ◌<◌, List, Option, None, length, sym, ap, ◌∙◌, arith}
+use Rattle.std.specs.Prelude.{slice_get}
+use Rattle.tenant.specs.Batch.{packets_in}
+use Rattle.tenant.specs.State.{TenantState}
+use Rattle.host_core.specs.Batch.{refusal_for}
+use Rattle.host_core.proofs.Heads.{no_state}
+use Rattle.host_core.proofs.Tenants.{slice_get_in, states_length, state_there, others_stay, count_stays, runs_own, put_back, with_ok, with_err}
+use Rattle.host_core.proofs.host.Host.run_packets.Goals as goal
+
+-- ---- a tenant that is not served
+
+pub returns-then-tenant-len-clause-refusal : goal.returns-then-tenant-len-clause-refusal
+returns-then-tenant-len-clause-refusal c =
+    let many = states_length c.self.inside.arena 0 c.self.inside.tenants.items in
+    let unserved : slice_get c.args.self.now c.args.tenant ≡ None = no_state c.args.self.now c.args.tenant (omega (arith, many, ap length c.self.view_is, c.len.ensures, c.if-tenant-len.true)) in
+    sym (ap (λ (s : Option TenantState). refusal_for s c.args.fd (length c.args.bytes.now) c.args.ends.now (length c.args.results.now)) unserved)
+
+-- ---- a tenant that is served
+
+pub returns-clause-runs : goal.returns-clause-runs
+returns-clause-runs c =
+    let ks = c.self.inside.tenants.items in
+    let t = c.args.tenant in
+    let room : t < length ks = omega (arith, c.if-tenant-len.false, c.len.ensures) in
+    let found = slice_get_in ks t c.index_mut.result.now room c.index_mut.ensures.value in
+    let own = runs_own c.self.inside.arena c.run_packets.new.arena ks c.args.self.now t c.args.fd c.index_mut.result.now c.run_packets.new.self c.args.words.now c.args.results.now c.run_packets.new.results
+    (packets_in c.args.bytes.now c.args.ends.now) c.self.view_is room found in
+    with_ok c.run_packets.result own c.run_packets.ensures.runs
+
+pub returns-clause-refusal : goal.returns-clause-refusal
+returns-clause-refusal c =
+    let ks = c.self.inside.tenants.items in
+    let t = c.args.tenant in
+    let room : t < length ks = omega (arith, c.if-tenant-len.false, c.len.ensures) in
+    let found = slice_get_in ks t c.index_mut.result.now room c.index_mut.ensures.value in
+    let there = state_there c.self.inside.arena ks c.args.self.now t c.index_mut.result.now c.self.view_is found in
+    c.run_packets.ensures.refusal ∙ sym (ap (λ (s : Option TenantState). refusal_for s c.args.fd (length c.args.bytes.now) c.args.ends.now (length c.args.results.now)) there)
+
+pub returns-clause-unchanged : goal.returns-clause-unchanged
+returns-clause-unchanged c =
+    let ks = c.self.inside.tenants.items in
+    let t = c.args.tenant in
+    let room : t < length ks = omega (arith, c.if-tenant-len.false, c.len.ensures) in
+    let found = slice_get_in ks t c.index_mut.result.now room c.index_mut.ensures.value in
+    with_err c.run_packets.result
+    (λ still. (put_back c.self.inside.arena c.run_packets.new.arena ks t c.index_mut.result.now c.run_packets.new.self found still.0 still.1 ∙ c.self.view_is, still.2))
+    c.run_packets.ensures.unchanged
+
+pub returns-clause-tenant : goal.returns-clause-tenant
+returns-clause-tenant c =
+    let ks = c.self.inside.tenants.items in
+    let t = c.args.tenant in record {
+      others = λ other ne.
+          others_stay c.self.inside.arena c.run_packets.new.arena ks t other c.run_packets.new.self ne (c.run_packets.ensures.others other ne)
+          ∙ ap (λ (s : List TenantState). slice_get s other) c.self.view_is;
+      count = count_stays c.self.inside.arena c.run_packets.new.arena ks t c.run_packets.new.self ∙ ap length c.self.view_is;
+    }

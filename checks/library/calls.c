@@ -240,6 +240,67 @@ static void checks_longest_program(bpfhost *host)
     CHECK(ask(host, frame, length).status == 0);
 }
 
+/* Packets of 3, 0 and 5 bytes. */
+static const uint8_t three_bytes[8] = {1, 2, 3, 4, 5, 6, 7, 8};
+static const size_t three_ends[3] = {3, 3, 8};
+
+/* A batch that is refused with this status writes no result. */
+static void refuses_packets(bpfhost *host, uint16_t tenant, uint32_t fd, const size_t *ends, size_t packets, int32_t wanted)
+{
+    uint32_t results[3] = {7, 8, 9};
+    int32_t status = 1;
+    CHECK(bpfhost_run_packets(host, tenant, fd, NULL, three_bytes, 8, ends, packets, results, &status) == BPFHOST_DONE);
+    CHECK(status == wanted && results[0] == 7 && results[1] == 8 && results[2] == 9);
+}
+
+static void checks_packets(void)
+{
+    static uint8_t long_packet[65537];
+    static const size_t too_long[2] = {1, 65538}, behind[2] = {2, 9}, backward[3] = {3, 2, 8};
+    static uint8_t two_packets[65538];
+    bpfhost host = BPFHOST_EMPTY;
+    uint8_t frame[128];
+    uint32_t results[3] = {7, 8, 9};
+    int32_t status = 1;
+    size_t end = sizeof long_packet, length;
+    CHECK(bpfhost_run_packets(&host, 0, 3, NULL, three_bytes, 8, three_ends, 3, results, &status) == BPFHOST_NO_HOST);
+    CHECK(status == 1 && results[0] == 7);
+    CHECK(bpfhost_new(&host, 2) == BPFHOST_DONE);
+    open_counter(&host, 1);
+    length = bpfhost_frame_prog_load(frame, sizeof frame, 1, BPFHOST_SOCKET_FILTER, answers_length, 2);
+    CHECK(ask(&host, frame, length).status == 5);
+    /* Each packet has its own length, and the counter counts each. */
+    CHECK(bpfhost_run_packets(&host, 1, 5, NULL, three_bytes, 8, three_ends, 3, results, &status) == BPFHOST_DONE);
+    CHECK(status == 0 && results[0] == 3 && results[1] == 0 && results[2] == 5);
+    CHECK(bpfhost_run_packets(&host, 1, 4, NULL, three_bytes, 8, three_ends, 2, results, &status) == BPFHOST_DONE);
+    CHECK(status == 0 && results[0] == 1 && results[1] == 2 && results[2] == 5);
+    CHECK(count_once(&host, 1) == 3);
+    CHECK(bpfhost_run_packets(&host, 1, 4, NULL, NULL, 0, NULL, 0, NULL, &status) == BPFHOST_DONE && status == 0);
+    CHECK(count_once(&host, 1) == 4);
+    /* What is refused is refused before the first packet. */
+    refuses_packets(&host, 2, 4, three_ends, 3, -1);
+    refuses_packets(&host, 1, 6, three_ends, 3, -9);
+    refuses_packets(&host, 1, 3, three_ends, 3, -22);
+    refuses_packets(&host, 1, 4, behind, 2, -22);
+    refuses_packets(&host, 1, 4, backward, 3, -22);
+    CHECK(bpfhost_run_packets(&host, 1, 4, NULL, long_packet, end, &end, 1, results, &status) == BPFHOST_DONE && status == -7);
+    CHECK(bpfhost_run_packets(&host, 1, 4, NULL, two_packets, 65538, too_long, 2, results, &status) == BPFHOST_DONE && status == -7);
+    CHECK(count_once(&host, 1) == 5);
+    /* Nulls, lengths and overlaps. */
+    status = 1;
+    CHECK(bpfhost_run_packets(NULL, 1, 5, NULL, three_bytes, 8, three_ends, 3, results, &status) == BPFHOST_NULL);
+    CHECK(bpfhost_run_packets(&host, 1, 5, NULL, NULL, 8, three_ends, 3, results, &status) == BPFHOST_NULL);
+    CHECK(bpfhost_run_packets(&host, 1, 5, NULL, three_bytes, 8, NULL, 3, results, &status) == BPFHOST_NULL);
+    CHECK(bpfhost_run_packets(&host, 1, 5, NULL, three_bytes, 8, three_ends, 3, NULL, &status) == BPFHOST_NULL);
+    CHECK(bpfhost_run_packets(&host, 1, 5, NULL, three_bytes, 8, three_ends, 3, results, NULL) == BPFHOST_NULL);
+    CHECK(bpfhost_run_packets(&host, 1, 5, NULL, three_bytes, SIZE_MAX, three_ends, 3, results, &status) == BPFHOST_LENGTH);
+    CHECK(bpfhost_run_packets(&host, 1, 5, NULL, three_bytes, 8, three_ends, SIZE_MAX / 4, results, &status) == BPFHOST_LENGTH);
+    CHECK(bpfhost_run_packets(&host, 1, 5, NULL, results, 8, three_ends, 2, results, &status) == BPFHOST_OVERLAP);
+    CHECK(bpfhost_run_packets(&host, 1, 5, NULL, &status, 4, three_ends, 1, results, &status) == BPFHOST_OVERLAP);
+    CHECK(status == 1);
+    bpfhost_free(&host);
+}
+
 int main(void)
 {
     bpfhost host = BPFHOST_EMPTY;
@@ -251,6 +312,7 @@ int main(void)
     checks_replies(&host);
     checks_frames(&host);
     checks_longest_program(&host);
+    checks_packets();
     bpfhost_free(&host);
     puts("calls: each code, and each frame by its bytes");
     return 0;

@@ -83,6 +83,9 @@ int32_t bpfhost_c_new(bpfhost *handle, size_t tenants, uint64_t first, uint64_t 
 int32_t bpfhost_c_handle(bpfhost *handle, const uint8_t *frame, size_t frame_length, uint8_t *room, size_t room_length,
                          size_t *written);
 int32_t bpfhost_c_handle_lent(bpfhost *handle, const uint8_t *frame, size_t frame_length, bpfhost_bytes *reply);
+int32_t bpfhost_c_run_packets(bpfhost *handle, uint16_t tenant, uint32_t fd, const uint32_t *words, const uint8_t *bytes,
+                              size_t byte_count, const size_t *ends, size_t packets, uint32_t *results, size_t room,
+                              int32_t *status);
 int32_t bpfhost_c_memory_refused(bpfhost *handle, uint16_t tenant, bool *refused);
 void bpfhost_c_free(bpfhost *handle);
 
@@ -176,6 +179,69 @@ static inline int bpfhost_handle_lent(bpfhost *handle, const void *frame, size_t
     if (code != BPFHOST_DONE)
         return code;
     return (int)bpfhost_c_handle_lent(handle, bpfhost_frame_at(frame, frame_length), frame_length, reply);
+}
+
+/* What a run finds in its context behind the packet's length: the fields of the kernel's __sk_buff, with any values. */
+typedef struct bpfhost_context {
+    uint32_t pkt_type, mark, queue_mapping, protocol, vlan_present, vlan_tci, vlan_proto, priority, ingress_ifindex, ifindex;
+} bpfhost_context;
+
+/* The words of a context as they stand behind one another; zeros for null. */
+static inline void bpfhost_context_words(const bpfhost_context *context, uint32_t words[10])
+{
+    static const bpfhost_context zeros = {0, 0, 0, 0, 0, 0, 0, 0, 0, 0};
+    const bpfhost_context *c = context == NULL ? &zeros : context;
+    words[0] = c->pkt_type;
+    words[1] = c->mark;
+    words[2] = c->queue_mapping;
+    words[3] = c->protocol;
+    words[4] = c->vlan_present;
+    words[5] = c->vlan_tci;
+    words[6] = c->vlan_proto;
+    words[7] = c->priority;
+    words[8] = c->ingress_ifindex;
+    words[9] = c->ifindex;
+}
+
+/* Runs a program of a tenant on many packets, one after another, as PROG_TEST_RUN does on each, without frames and replies. The
+ * packets lie one after another in `bytes`, and packet i ends before byte ends[i]; the context, which may be null for zeros, is the
+ * same for all but for the packet's length. `results` has room for as many results as packets, and `status` gets 0. What
+ * PROG_TEST_RUN would refuse is refused before the first packet, and `status` gets its error: -1 for a tenant that is not served,
+ * -9 and -22 for a descriptor that is not open or names a map, -7 for a packet of more than 65,536 bytes; -22 too for ends that are
+ * out of order or outside the bytes. Then no packet was run, and `results` is as it was. NO_HOST, NULL, LENGTH, OVERLAP: nothing is
+ * written, and no tenant's state has changed. */
+static inline int bpfhost_run_packets(bpfhost *handle, uint16_t tenant, uint32_t fd, const bpfhost_context *context,
+                                      const void *bytes, size_t byte_count, const size_t *ends, size_t packets,
+                                      uint32_t *results, int32_t *status)
+{
+    static const size_t no_ends[1] = {0};
+    static const uint8_t no_bytes[1] = {0};
+    uint32_t no_results[1] = {0};
+    uint32_t words[10];
+    int32_t told = 0;
+    int code;
+    if (handle == NULL || status == NULL || (bytes == NULL && byte_count != 0)
+        || ((ends == NULL || results == NULL) && packets != 0))
+        return BPFHOST_NULL;
+    if (byte_count > PTRDIFF_MAX || packets > PTRDIFF_MAX / sizeof *ends)
+        return BPFHOST_LENGTH;
+    if (!bpfhost_are_apart(handle, sizeof *handle, bytes, byte_count)
+        || !bpfhost_are_apart(handle, sizeof *handle, ends, packets * sizeof *ends)
+        || !bpfhost_are_apart(handle, sizeof *handle, results, packets * sizeof *results)
+        || !bpfhost_are_apart(handle, sizeof *handle, status, sizeof *status)
+        || !bpfhost_are_apart(results, packets * sizeof *results, bytes, byte_count)
+        || !bpfhost_are_apart(results, packets * sizeof *results, ends, packets * sizeof *ends)
+        || !bpfhost_are_apart(results, packets * sizeof *results, status, sizeof *status)
+        || !bpfhost_are_apart(status, sizeof *status, bytes, byte_count)
+        || !bpfhost_are_apart(status, sizeof *status, ends, packets * sizeof *ends))
+        return BPFHOST_OVERLAP;
+    bpfhost_context_words(context, words);
+    code = (int)bpfhost_c_run_packets(handle, tenant, fd, words, byte_count == 0 ? no_bytes : (const uint8_t *)bytes, byte_count,
+                                      packets == 0 ? no_ends : ends, packets, packets == 0 ? no_results : results, packets,
+                                      &told);
+    if (code == BPFHOST_DONE)
+        *status = told;
+    return code;
 }
 
 /* Whether memory was ever refused to a tenant: then its replies may differ from those that it would be given alone. False for a
@@ -325,11 +391,6 @@ static inline size_t bpfhost_frame_prog_load(void *frame, size_t room, uint16_t 
         return 0;
     return bpfhost_frame_of_key(frame, room, tenant, BPFHOST_PROG_LOAD, type, slots, 8 * slot_count);
 }
-
-/* What a test run finds in its context behind the packet's length: the fields of the kernel's __sk_buff, with any values. */
-typedef struct bpfhost_context {
-    uint32_t pkt_type, mark, queue_mapping, protocol, vlan_present, vlan_tci, vlan_proto, priority, ingress_ifindex, ifindex;
-} bpfhost_context;
 
 /* PROG_TEST_RUN without its packet: writes BPFHOST_TEST_RUN_HEAD bytes in front of a packet that stands behind them already, so
  * that it is not copied. The frame is these bytes and the packet. `context` may be null, for zeros. */

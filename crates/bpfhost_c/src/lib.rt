@@ -12,11 +12,12 @@ ghost use Rattle.host_core.specs.Handled.{Handles};
 ghost use Rattle.host_core.specs.Served.{IsUnrefused};
 ghost use Rattle.host_core.specs.State.{new_tenant};
 ghost use Rattle.bpfhost_c.specs.Calls.{states, StandsAt, new_code, host_code, room_code};
+ghost use Rattle.bpfhost_c.specs.Packets.{RunsPackets};
 ghost use Rattle.bpfhost_c.specs.declared.codes.TheConstants.{DONE, MEMORY};
 
 use codes::{DONE, HAS_HOST, MEMORY, NO_HOST, ROOM, TENANTS};
 use handle::Handle;
-use host_core::{HashSeed, LONGEST_REPLY, MOST_TENANTS};
+use host_core::{GIVEN_WORDS, HashSeed, LONGEST_REPLY, MOST_TENANTS};
 use session::Session;
 use std::alloc::Global;
 
@@ -130,6 +131,38 @@ pub extern "C" fn bpfhost_c_handle_lent(
     session.handle(frame);
     lent.at = session.reply.as_ptr();
     lent.length = session.reply.len();
+    handle.put(session);
+    DONE
+}
+
+/// Runs the program at a descriptor of a tenant on many packets, one after another, on the same ten words of context. The packets
+/// lie one after another in `bytes`, and each ends at its number in `ends`. Writes the result of each to the front of `results`, and
+/// 0 to `status`; or, if the batch is refused, the status with which its frames would be, and then no packet was run.
+///
+/// Returns `DONE`; else `NO_HOST`, and the host, `results` and `status` are unchanged.
+#[unsafe(no_mangle)]
+pub extern "C" fn bpfhost_c_run_packets(
+    alloc: Global,
+    handle: &mut Handle,
+    tenant: u16,
+    fd: u32,
+    words: &[u32; GIVEN_WORDS],
+    bytes: &[u8],
+    ends: &[usize],
+    results: &mut [u32],
+    status: &mut i32,
+) -> i32
+    ensures done { result ≡ DONE → RunsPackets tenant fd words.now bytes.now ends.now results.old
+        results.new status.new (states handle.old.session) (states handle.new.session) }
+    ensures code { result ≡ host_code handle.old.session }
+    ensures otherwise { result ≢ DONE → handle.new.session ≡ handle.old.session }
+    ensures results { result ≢ DONE → results.new ≡ results.old }
+    ensures status { result ≢ DONE → status.new ≡ status.old }
+{
+    let Some(mut session) = handle.take(alloc) else {
+        return NO_HOST;
+    };
+    *status = session.run_packets(usize::from(tenant), fd, words, bytes, ends, results);
     handle.put(session);
     DONE
 }

@@ -5,8 +5,9 @@ ghost use Rattle.host_core.specs.Frame.{longest_reply};
 ghost use Rattle.host_core.specs.Handled.{Handles};
 ghost use Rattle.host_core.specs.State.{new_tenant};
 ghost use Rattle.host_core.specs.declared.host.TheConstants.{MOST_TENANTS};
+ghost use Rattle.bpfhost_c.specs.Packets.{RunsPackets};
 
-use host_core::{HashSeed, Host, LONGEST_REPLY, MOST_TENANTS, ReplyBuf};
+use host_core::{GIVEN_WORDS, HashSeed, Host, LONGEST_REPLY, MOST_TENANTS, ReplyBuf};
 use std::alloc::{AllocError, Global};
 use std::mem::replace;
 
@@ -44,5 +45,27 @@ impl Session {
         let mut reply = ReplyBuf::from_vec(room);
         self.host.handle(frame, &mut reply);
         self.reply = reply.into_vec();
+    }
+
+    /// Runs a program of a tenant on many packets, and returns the status: 0, or that of the refusal.
+    pub(crate) fn run_packets(
+        &mut self,
+        tenant: usize,
+        fd: u32,
+        words: &[u32; GIVEN_WORDS],
+        bytes: &[u8],
+        ends: &[usize],
+        results: &mut [u32],
+    ) -> i32
+        ensures { RunsPackets tenant fd words.now bytes.now ends.now results.old results.new
+            result self.old.host self.new.host }
+    {
+        match self
+            .host
+            .run_packets(tenant, fd, words, bytes, ends, results)
+        {
+            Ok(()) => 0,
+            Err(errno) => errno.status(),
+        }
     }
 }

@@ -29,7 +29,7 @@ use Rattle.insn_set.specs.Slot.{slot}
 use Rattle.insn_codec.proofs.Slots.{IsSlot}
 use Rattle.insn_set.specs.Spelling.{first, source_bit, src_field, imm_field, IsOperandUpTo, IsInsnUpTo}
 use Rattle.insn_set.specs.Atomic.{atomic_number}
-use Rattle.insn_set.specs.AtomicRows.{atomic_number_again}
+use Rattle.insn_set.specs.RowLaws.{atomic_number_again}
 use Rattle.insn_codec.proofs.Opcodes.{code_of, source_of, form_of}
 
 -- ---- which the form lists

@@ -24,7 +24,8 @@ use Rattle.insn_codec.specs.declared.form.OpcodeForm.TheVariants as form
 use Rattle.insn_set.specs.Sizes.{is_short}
 use Rattle.insn_set.specs.Numbers.{opcode, alu_class, alu_number, alu_offset, offset_bits, imm_bits}
 use Rattle.insn_set.specs.Atomic.{atomic_number}
-use Rattle.insn_set.specs.AtomicRows.{atomic_by_number, atomic_number_is}
+use Rattle.insn_set.specs.RowLaws.{atomic_number_is}
+use Rattle.insn_set.specs.AtomicRows.{atomic_by_number}
 use Rattle.words.specs.Operate.{extended_bits, kept_bits}
 use Rattle.insn_codec.specs.inside.Opcodes.{code_number, load_opcode, opcode_of}
 use Rattle.insn_codec.specs.inside.Form.{listed, one_operand, offset_listed, wide_at}

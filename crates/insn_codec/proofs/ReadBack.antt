@@ -31,7 +31,8 @@ use Rattle.insn_codec.specs.Spelled.{operand_at}
 use Rattle.insn_set.specs.Numbers.{opcode, alu_class, jump_class, alu_number, alu_offset, memory_opcode, offset_bits, imm_bits}
 use Rattle.insn_set.specs.Condition.{condition_number}
 use Rattle.words.specs.Operate.{extended_bits, kept_bits}
-use Rattle.insn_set.specs.AtomicRows.{atomic_by_number, atomic_number_again}
+use Rattle.insn_set.specs.RowLaws.{atomic_number_again}
+use Rattle.insn_set.specs.AtomicRows.{atomic_by_number}
 use Rattle.insn_codec.specs.inside.Form.{wide_at}
 use Rattle.insn_set.specs.Slot.{slot}
 use Rattle.insn_set.specs.Spelling.{first, source_bit, src_field, imm_field, IsOperand, IsInsn}

@@ -5,6 +5,7 @@ pub mod TableLaws
 pub mod AtomicRows
 pub mod Condition
 pub mod ConditionRows
+pub mod RowLaws
 pub mod Numbers
 pub mod Slot
 pub mod Spelling

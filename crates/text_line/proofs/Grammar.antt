@@ -14,8 +14,9 @@ use Rattle.insn_set.specs.declared.atomic.AtomicSize.{AtomicSize}
 use Rattle.insn_set.specs.declared.atomic.AtomicSize.TheVariants as atomic_size
 use Rattle.insn_set.specs.Sizes.{is_short}
 use Rattle.insn_set.specs.Atomic.{access_size, atomic_symbol}
-use Rattle.insn_set.specs.ConditionRows.{condition_by_symbol, condition_symbol_is}
-use Rattle.insn_set.specs.AtomicRows.{atomic_by_symbol, atomic_symbol_is}
+use Rattle.insn_set.specs.RowLaws.{condition_symbol_is, atomic_symbol_is}
+use Rattle.insn_set.specs.ConditionRows.{condition_by_symbol}
+use Rattle.insn_set.specs.AtomicRows.{atomic_by_symbol}
 use Rattle.words.specs.Stack.{is_double}
 use Rattle.text_line.specs.declared.form.Number.{Number}
 use Rattle.text_line.specs.declared.form.SourceOperand.{SourceOperand}

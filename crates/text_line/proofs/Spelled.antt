@@ -20,8 +20,7 @@ use Rattle.insn_set.specs.declared.atomic.AtomicOp.{AtomicOp}
 use Rattle.insn_set.specs.Sizes.{is_short}
 use Rattle.insn_set.specs.Condition.{condition_symbol}
 use Rattle.insn_set.specs.Atomic.{access_size, atomic_symbol}
-use Rattle.insn_set.specs.ConditionRows.{condition_symbol_again}
-use Rattle.insn_set.specs.AtomicRows.{atomic_symbol_again}
+use Rattle.insn_set.specs.RowLaws.{condition_symbol_again, atomic_symbol_again}
 use Rattle.words.specs.Stack.{is_double}
 use Rattle.text_line.specs.declared.form.Number.{Number}
 use Rattle.text_line.specs.declared.form.SourceOperand.{SourceOperand}

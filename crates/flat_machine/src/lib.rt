@@ -1,13 +1,13 @@
 //! The machine that runs accepted programs, on words and bytes.
 #![tactic(auto)]
 
-mod arms;
 mod calls;
+mod dispatch;
 mod execution;
 mod fetch;
 pub mod laws;
 mod map_words;
+mod ops;
 mod running;
-mod turn;
 
 pub use running::run;

@@ -19,7 +19,7 @@ use Rattle.insn_set.specs.Atomic.{atomic_operator, is_wide_atomic, access_size}
 use Rattle.tagged_model.specs.Values.{of_numbers, arithmetic, first_operand, compared}
 use Rattle.tagged_model.specs.Table.{Verdict, Refused, Present, New, verdict, removal, direct_object}
 use Rattle.tagged_model.specs.Cells.{and_then, write_cell, cell_over}
-use Rattle.tagged_model.specs.State.{RunState, RunMap, with_cells, with_register, stack_place, stack_store, stack_written, value_written, object_written, object_stored, load, store, input, output}
+use Rattle.tagged_model.specs.State.{RunState, RunMap, with_cells, with_register, stack_place, stack_store, stack_written, value_written, object_written, object_stored, is_aligned_at, load, store, input, output}
 use Rattle.tagged_model.specs.Helpers.{helper_of, MapReply, put, updated, taken_out, removed, packet_bytes, packet_answer, number_given, length_given, context_given, map_given, argument, GivenMap, map_argument, returns, replies, called}
 use Rattle.tagged_model.specs.Step.{Step, goes, ends, faults, or_fault, operand_value, jumped, branched, ended, advanced, assigned, changed, accessed, loaded_wide, act_of, step, refused_at_first, refused_later, Ending, one_step_more, ending_after, run, first_map, start_of_run}
 use Rattle.insn_set.specs.Flow.{natural}
@@ -136,7 +136,10 @@ module _ (refused : Bool) (s : RunState) where
   store_like size p off v = tt
 
   changed_like : (size : AtomicSize) (op : AtomicOp) (p : Tagged) (off : ℤ) (v : Tagged) → AreLike (changed s size op p off v)
-  changed_like size op p off v = also_like (load s (access_size size) false p off) _ (λ old. also_like (of_numbers (is_wide_atomic size) (atomic_operator op) old v) _ (λ new. store_like (access_size size) p off new))
+  changed_like size op p off v =
+      cond_both (is_aligned_at (access_size size) p off) _ None AreLike
+      (λ _. also_like (load s (access_size size) false p off) _ (λ old. also_like (of_numbers (is_wide_atomic size) (atomic_operator op) old v) _ (λ new. store_like (access_size size) p off new)))
+      (λ _. tt)
 
   output_like : (p : Tagged) (bs : List ℕ) → AreLike (output s p bs)
   output_like (Pointer object.Stack x) bs = stack_written_like x bs

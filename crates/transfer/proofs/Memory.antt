@@ -1,16 +1,18 @@
 -- Loads and stores: where facts let one go ahead, the machine does it, and what it leaves is as they tell.
-use Rattle.std.proofs.Common.{◌≡◌, ℕ, ◌*◌, ◌/◌, ◌%◌, ◌<◌, ◌^◌, ◌==◌, ℤ, pos, negsuc, ◌+ℤ◌, ◌≤ℤ◌, Bool, true, false, length, get_or, Option, Some, None, Result, Ok, Err, refl, sym, ap, subst, ◌∙◌, arith}
-use Rattle.std.specs.Prelude.{if◌then◌else◌, nat_lt, slice_get}
+use Rattle.std.proofs.Common.{◌≡◌, ℕ, ◌*◌, ◌/◌, ◌%◌, ◌<◌, ◌^◌, ◌==◌, ℤ, pos, negsuc, ◌+ℤ◌, ◌≤ℤ◌, Bool, true, false, ◌&&◌, length, get_or, Option, Some, None, Result, Ok, Err, refl, sym, ap, subst, ◌∙◌, arith, inl, inr}
+use Rattle.std.specs.Prelude.{◌≢◌, ◌⊎◌, if◌then◌else◌, nat_lt, slice_get, unsigned_abs}
 use Rattle.std.specs.Option.{option_map}
+use Rattle.std.specs.Ordering.{int_eq}
 use Rattle.std.proofs.lemmas.Int.{ints}
+use Rattle.std.proofs.lemmas.Bool.Decides.{Decides-int_eq, eqb_tells}
 use Rattle.std.proofs.lemmas.Bool.{cond_both, cond-true, and_parts, eqb-true, ltb-true, false≢true}
 use Rattle.std.proofs.lemmas.Option.{slice_get-get_or}
 use Rattle.interval.specs.declared.range.Range.{Range}
 use Rattle.interval.specs.Ranges.{full}
 use Rattle.words.specs.declared.operator.Operator.{Operator}
 use Rattle.words.specs.declared.stack.AccessSize.{AccessSize}
-use Rattle.words.specs.declared.stack.AccessSize.TheVariants.{Word}
-use Rattle.words.specs.Stack.{bytes_of}
+use Rattle.words.specs.declared.stack.AccessSize.TheVariants.{Byte, Half, Word, Double}
+use Rattle.words.specs.Stack.{bytes_of, is_in_stack, place, is_aligned}
 use Rattle.insn_set.specs.declared.atomic.AtomicSize.{AtomicSize}
 use Rattle.insn_set.specs.declared.atomic.AtomicOp.{AtomicOp}
 use Rattle.reg_kinds.specs.declared.kind.Kind.{Kind}
@@ -25,8 +27,8 @@ use Rattle.reg_kinds.specs.declared.reason.Reason.{Reason}
 use Rattle.reg_kinds.specs.Reason.{and_then_ok}
 use Rattle.tagged_model.specs.declared.value.Tagged.{Tagged}
 use Rattle.tagged_model.specs.declared.value.Tagged.TheVariants.{Scalar}
-use Rattle.tagged_model.specs.Cells.{and_then, number_from, write_cell}
-use Rattle.tagged_model.specs.State.{RunState, with_cell, stack_place, stack_load, stack_store, word_at, context_load, object_bytes, object_stored, load, store}
+use Rattle.tagged_model.specs.Cells.{and_then, number_from, read_cell, write_cell}
+use Rattle.tagged_model.specs.State.{RunState, with_cell, is_multiple, stack_place, stack_load, stack_store, word_at, context_load, object_bytes, object_stored, load, store}
 use Rattle.insn_set.specs.Atomic.{atomic_operator, is_wide_atomic, access_size}
 use Rattle.tagged_model.specs.Values.{of_numbers}
 use Rattle.tagged_model.specs.Step.{changed}
@@ -61,6 +63,44 @@ then_agree : {A B C D : Type 0} (P : A → B → Type 0) (Q : C → D → Type 0
 then_agree P Q (Err e) o go on h further = tt
 then_agree P Q (Ok x) None go on h further = absurd h
 then_agree P Q (Ok x) (Some y) go on h further = further x y h
+
+-- where nothing can be done, the facts say so
+none_agrees : {A B C D : Type 0} (P : A → B → Type 0) (Q : C → D → Type 0) (r : Result A Reason) (go : A → Result C Reason) → Agree P r None → Agree Q (and_then_ok r go) None
+none_agrees P Q (Err e) go h = tt
+none_agrees P Q (Ok x) go h = absurd h
+
+-- ---- alignment: the stack's size is a multiple of each access size
+
+zero_alike : (a b : ℕ) → (a ≡ 0 → b ≡ 0) → (b ≡ 0 → a ≡ 0) → (a == 0) ≡ (b == 0)
+zero_alike a b to from = by (eqb_tells a 0) (eqb_tells b 0)
+  where
+    by : ((a == 0) ≡ true) × (a ≡ 0) ⊎ ((a == 0) ≡ false) × (a ≢ 0) → ((b == 0) ≡ true) × (b ≡ 0) ⊎ ((b == 0) ≡ false) × (b ≢ 0) → (a == 0) ≡ (b == 0)
+    by (inl x) (inl y) = x.0 ∙ sym y.0
+    by (inl x) (inr y) = absurd (y.1 (to x.1))
+    by (inr x) (inl y) = absurd (x.1 (from y.1))
+    by (inr x) (inr y) = x.0 ∙ sym y.0
+
+place_divides : (y : ℤ) (size : AccessSize) → unsigned_abs y % bytes_of size ≡ 0 → place y % bytes_of size ≡ 0
+place_divides y Byte e = omega (arith, ints)
+place_divides y Half e = omega (arith, ints)
+place_divides y Word e = omega (arith, ints)
+place_divides y Double e = omega (arith, ints)
+
+divides_place : (y : ℤ) (size : AccessSize) → place y % bytes_of size ≡ 0 → unsigned_abs y % bytes_of size ≡ 0
+divides_place y Byte e = omega (arith, ints)
+divides_place y Half e = omega (arith, ints)
+divides_place y Word e = omega (arith, ints)
+divides_place y Double e = omega (arith, ints)
+
+aligned_as_place : (y : ℤ) (size : AccessSize) → is_multiple y (bytes_of size) ≡ is_aligned y (bytes_of size)
+aligned_as_place y size = zero_alike (unsigned_abs y % bytes_of size) (place y % bytes_of size) (place_divides y size) (divides_place y size)
+
+unaligned_place : (y : ℤ) (size : AccessSize) → is_multiple y (bytes_of size) ≡ false → stack_place y size ≡ None
+unaligned_place y size not_multiple = no_place (is_in_stack y (bytes_of size)) (is_aligned y (bytes_of size)) (place y) (sym (aligned_as_place y size) ∙ not_multiple)
+  where
+    no_place : (inside aligned : Bool) (p : ℕ) → aligned ≡ false → (if inside && aligned then Some p else None) ≡ None
+    no_place true aligned p e = ap (λ b. if b then Some p else None) e
+    no_place false aligned p e = refl
 
 -- what is known after a store, which does not go on by itself
 pub record IsStored (here : Here) (s : RunState) (g : Facts) (t : RunState) : Type 0 where
@@ -189,16 +229,22 @@ module _ {here : Here} {f : Facts} {s : RunState} (known : IsKnown here f s) whe
         let made = number_made here results wide op a b old w is given in
         subst (λ o. Agree (IsStored here s) r (and_then o put)) (sym made.1) (stores made.0 made.2)
 
-    stack_changed_agrees : (y : ℤ) → Agree (IsStored here s) (stack_changed f y size) (and_then (stack_load s y size false) (made_from (stack_store s y size)))
+    stack_changed_agrees : (y : ℤ) → Agree (IsStored here s) (stack_changed f y size) (if is_multiple y (bytes_of size) then and_then (stack_load s y size false) (made_from (stack_store s y size)) else None)
     stack_changed_agrees y =
-        then_agree (IsKindOf here) (IsStored here s) (stack_read f y size false) (stack_load s y size false) _ _ (stack_load_agrees laws.reads y size false) by
+        let loads = stack_load_agrees laws.reads y size false in
+        cond_both (is_multiple y (bytes_of size)) (and_then (stack_load s y size false) (made_from (stack_store s y size))) None (Agree (IsStored here s) (stack_changed f y size))
+        (λ _. then_agree (IsKindOf here) (IsStored here s) (stack_read f y size false) (stack_load s y size false) _ _ loads by)
+        (λ not_multiple. none_agrees (IsKindOf here) (IsStored here s) (stack_read f y size false) _ (subst (Gives here (stack_read f y size false)) (nothing_loaded y not_multiple) loads))
       where
+        nothing_loaded : (y : ℤ) → is_multiple y (bytes_of size) ≡ false → stack_load s y size false ≡ None
+        nothing_loaded y not_multiple = ap (λ o. and_then o (λ p. read_cell (s.cells (p / 8)) (p % 8) size false)) (unaligned_place y size not_multiple)
+
         by : (k : Kind) (old : Tagged) → IsKindOf here k old → Agree (IsStored here s) (and_then_ok (number_or PartOfSpill k) (λ _. stack_write f y size any_number)) (made_from (stack_store s y size) old)
         by (kind.Scalar a) old is = number_agrees a old (stack_write f y size any_number) (stack_store s y size) is (λ n made. stack_store_agrees laws.writes y size any_number (Scalar n) made)
         by k old is = tt
 
     value_changed_agrees : (off : ℤ) (p : ValuePointer) (number : ℕ) (x : ℤ) (o : Option MapShape) → here.shapes p.map ≡ o → p.lo ≤ℤ x → x ≤ℤ p.hi → number < here.witness.objects p.map
-        → Agree (IsStored here s) (value_changed f p off size o) (and_then (number_from size false (object_bytes s p.map number (x +ℤ off) (bytes_of size))) (made_from (object_stored s size p.map number (x +ℤ off))))
+        → Agree (IsStored here s) (value_changed f p off size o) (if is_multiple (x +ℤ off) (bytes_of size) then and_then (number_from size false (object_bytes s p.map number (x +ℤ off) (bytes_of size))) (made_from (object_stored s size p.map number (x +ℤ off))) else None)
     value_changed_agrees off p number x o e from to lt = by (room_of p off (bytes_of size) o) refl
       where
         put : Tagged → Option RunState
@@ -213,11 +259,22 @@ module _ {here : Here} {f : Facts} {s : RunState} (known : IsKnown here f s) whe
             number_agrees (full (8 * bytes_of size)) old (Ok f) put is
             (λ n _. subst (λ q. Agree (IsStored here s) (and_then_ok q (λ _. Ok f)) (put (Scalar n))) r (value_store_agrees laws.stores size off p number x n o e from to lt))
 
-        by : (r : Result (Unit {0}) Reason) → room_of p off (bytes_of size) o ≡ r → Agree (IsStored here s) (and_then_ok r (λ _. if is_known_multiple p off size then Ok f else Err UnalignedAtomic)) (and_then found (made_from put))
+        -- a pointer with one offset has it
+        aligned : is_known_multiple p off size ≡ true → is_multiple (x +ℤ off) (bytes_of size) ≡ true
+        aligned h =
+            let (one, multiple) = and_parts (int_eq p.lo p.hi) (is_multiple (p.lo +ℤ off) (bytes_of size)) h in
+            let ends : p.lo ≡ p.hi = (Decides-int_eq p.lo p.hi).0 one in
+            let there : p.lo ≡ x = omega (arith, ints, ends, from, to) in
+            subst (λ y. is_multiple (y +ℤ off) (bytes_of size) ≡ true) there multiple
+
+        by : (r : Result (Unit {0}) Reason) → room_of p off (bytes_of size) o ≡ r
+            → Agree (IsStored here s) (and_then_ok r (λ _. if is_known_multiple p off size then Ok f else Err UnalignedAtomic)) (if is_multiple (x +ℤ off) (bytes_of size) then and_then found (made_from put) else None)
         by (Err reason) r = tt
         by (Ok u) r =
             let loads = subst (λ q. Gives here (and_then_ok q (λ _. Ok (loaded size false))) found) r (value_load_agrees laws.loads size false off p number x o e from to lt) in
-            cond_both (is_known_multiple p off size) (Ok f) (Err UnalignedAtomic) (λ q. Agree (IsStored here s) q (and_then found (made_from put))) (λ _. in_room r found loads) (λ _. tt)
+            cond_both (is_known_multiple p off size) (Ok f) (Err UnalignedAtomic) (λ q. Agree (IsStored here s) q (if is_multiple (x +ℤ off) (bytes_of size) then and_then found (made_from put) else None))
+            (λ h. subst (λ b. Agree (IsStored here s) (Ok f) (if b then and_then found (made_from put) else None)) (sym (aligned h)) (in_room r found loads))
+            (λ _. tt)
 
   pub changed_agrees : Accesses → Results → (size : AtomicSize) (op : AtomicOp) (off : ℤ) (k l : Kind) (p v : Tagged) → IsKindOf here k p → IsKindOf here l v
       → Agree (IsStored here s) (changed_facts here.shapes f (access_size size) off k l) (changed s size op p off v)

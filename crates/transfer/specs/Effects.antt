@@ -30,7 +30,7 @@ use Rattle.tagged_model.specs.Named.{Shapes}
 use Rattle.tagged_model.specs.Table.{has_direct_value}
 use Rattle.words.specs.Widths.{width}
 use Rattle.insn_set.specs.Atomic.{access_size}
-use Rattle.tagged_model.specs.State.{context_words}
+use Rattle.tagged_model.specs.State.{context_words, is_multiple}
 use Rattle.transfer.specs.Arithmetic.{check_readable, arithmetic_kind, of_scalar}
 use Rattle.transfer.specs.Branches.{Edges, falls, ends, branch_edges}
 use Rattle.transfer.specs.Calls.{room_of, any_number, call_facts}
@@ -91,7 +91,7 @@ stack_changed f y size = and_then_ok (stack_read f y size false) (λ k. and_then
 
 -- the offset of an access within a value is known, and a multiple of the size
 abbrev pub is_known_multiple : ValuePointer → ℤ → AccessSize → Bool
-is_known_multiple p off size = int_eq p.lo p.hi && (unsigned_abs (p.lo +ℤ off) % bytes_of size == 0)
+is_known_multiple p off size = int_eq p.lo p.hi && is_multiple (p.lo +ℤ off) (bytes_of size)
 
 abbrev pub value_changed : Facts → ValuePointer → ℤ → AccessSize → Option MapShape → Result Facts Reason
 value_changed f p off size o = and_then_ok (room_of p off (bytes_of size) o) (λ _. if is_known_multiple p off size then Ok f else Err UnalignedAtomic)

@@ -21,3 +21,4 @@ pub mod Addresses
 pub mod SingleLoads
 pub mod SingleStores
 pub mod Runs
+mod Pieces

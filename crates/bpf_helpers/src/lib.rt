@@ -3,6 +3,7 @@
 
 mod caller;
 mod calls;
+mod copying;
 mod delete;
 mod known_answers;
 pub mod laws;

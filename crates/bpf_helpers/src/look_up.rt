@@ -47,7 +47,7 @@ pub(crate) fn place_in(arena: &Arena, tenant: usize, size: usize, address: u64) 
 
 /// The offset of requested bytes, like `place_in`; appends their range to the trace if they lie in the part.
 #[inline(always)]
-pub(crate) fn asked_place(
+pub(crate) fn traced_place(
     arena: &Arena,
     tenant: usize,
     size: usize,
@@ -88,7 +88,7 @@ pub(crate) fn look_up(
         return 0;
     };
     let size = maps.shape(map).key_size as usize;
-    let Some(at) = asked_place(arena, caller.tenant, size, key, trace) else {
+    let Some(at) = traced_place(arena, caller.tenant, size, key, trace) else {
         return 0;
     };
     let part = arena.part(caller.tenant);

@@ -10,7 +10,8 @@ ghost use Rattle.bpf_helpers.specs.Parts.{IsPartOf, AsksInside};
 ghost use Rattle.bpf_helpers.specs.inside.Flat.{LoadsAt};
 
 use crate::caller::Caller;
-use crate::look_up::asked_place;
+use crate::copying::copy_bytes;
+use crate::look_up::traced_place;
 use arena::{Arena, Trace, laws};
 use bpf_maps::PART;
 
@@ -32,7 +33,7 @@ pub(crate) fn write_bytes(arena: &mut Arena, tenant: usize, at: usize, bytes: &[
     arena.memory_is_its_parts();
     laws::writes_are_in_parts();
     let part = arena.part_mut(tenant);
-    part[at..at + bytes.len()].copy_from_slice(bytes);
+    copy_bytes(part, at, bytes);
 }
 
 /// Writes `count` zeros at an offset of a tenant's part.
@@ -70,7 +71,7 @@ pub(crate) fn load_bytes(
         return OUTSIDE;
     }
     let count = count as usize;
-    let Some(at) = asked_place(arena, caller.tenant, count, to, trace) else {
+    let Some(at) = traced_place(arena, caller.tenant, count, to, trace) else {
         return OUTSIDE;
     };
     let from = offset % OFFSETS;

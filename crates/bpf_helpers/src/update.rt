@@ -11,7 +11,7 @@ ghost use Rattle.bpf_helpers.specs.Parts.{IsPartOf, AsksInside};
 ghost use Rattle.bpf_helpers.specs.inside.Flat.{pair_there, Updates, UpdatesNamed};
 
 use crate::caller::Caller;
-use crate::look_up::{asked_place, bound};
+use crate::look_up::{bound, traced_place};
 use arena::{Arena, Trace};
 use bpf_maps::{MapKey, Maps, laws};
 use tagged_model::MapFault;
@@ -98,11 +98,11 @@ pub(crate) fn update(
     };
     let shape = maps.shape(map);
     let size = shape.key_size as usize;
-    let Some(key) = asked_place(arena, caller.tenant, size, key, trace) else {
+    let Some(key) = traced_place(arena, caller.tenant, size, key, trace) else {
         return refusal(MapFault::Invalid);
     };
     let size = shape.value_size as usize;
-    let Some(value) = asked_place(arena, caller.tenant, size, value, trace) else {
+    let Some(value) = traced_place(arena, caller.tenant, size, value, trace) else {
         return refusal(MapFault::Invalid);
     };
     put(map, key, value, flags, caller, arena, maps, trace)

@@ -31,20 +31,20 @@ pub returns-clause-value : goal.returns-clause-value
 returns-clause-value c =
     let site = site_of c.args.caller c.args.arena.now c.args.maps.now in
     let k = c.in-Some.map in
-    let at = c.in-Some-asked_place.at in
+    let at = c.in-Some-traced_place.at in
     let n = c.shape-size.result.key_size in
     let part = c.part-part.result.now in
     let size = ap (λ (s : MapShape). s.key_size) c.shape-size.ensures in
     let o = look_up (table_of (places_at site.maps k)) (slice_range part at (at + n)) in
-    let there = key_there site c.args.map c.args.key (sym c.in-Some.ensures.value) size at c.in-Some-asked_place.ensures.value c.part-part.ensures.bytes c.in-Some-asked_place.ensures.within in
+    let there = key_there site c.args.map c.args.key (sym c.in-Some.ensures.value) size at c.in-Some-traced_place.ensures.value c.part-part.ensures.bytes c.in-Some-traced_place.ensures.within in
     let low = c.address.ensures.room in
     let bound = c.memory_is_its_parts.ensures.bound in
     c.address_of.ensures.address
     ∙ address_word site k c.address.result o c.address.ensures.value (omega arith) c.address_of.ensures.inside
     ∙ sym (ap (λ o. unwrap_or (option_map (key_word site) o) 0) there)
 
-pub returns-in_default-asked_place-clause-value : goal.returns-in_default-asked_place-clause-value
-returns-in_default-asked_place-clause-value c =
+pub returns-in_default-traced_place-clause-value : goal.returns-in_default-traced_place-clause-value
+returns-in_default-traced_place-clause-value c =
     let site = site_of c.args.caller c.args.arena.now c.args.maps.now in
     let size = ap (λ (s : MapShape). s.key_size) c.shape-size.ensures in
-    sym (ap (λ o. unwrap_or (option_map (key_word site) o) 0) (no_key site c.args.map c.args.key (sym c.in-Some.ensures.value) size (sym c.in_default-asked_place.is ∙ c.asked_place.ensures.value)))
+    sym (ap (λ o. unwrap_or (option_map (key_word site) o) 0) (no_key site c.args.map c.args.key (sym c.in-Some.ensures.value) size (sym c.in_default-traced_place.is ∙ c.traced_place.ensures.value)))

@@ -1,0 +1,58 @@
+//! Copies of bytes. A short one is made of two pieces of a fixed length, which takes a few loads and stores and no call of memcpy.
+
+ghost use Rattle.std.specs.Prelude.{◌≡◌, ◌+◌, ◌≤◌, length};
+ghost use Rattle.words.specs.Bytes.{written_at};
+
+/// Copies `N` bytes to a place.
+#[inline(always)]
+fn copy_piece<const N: usize>(to: &mut [u8], place: usize, bytes: &[u8])
+    requires length { length bytes.now ≡ N }
+    requires room { place + N ≤ length to.old }
+    ensures { to.new ≡ written_at to.old place bytes.now }
+{
+    to[place..place + N].copy_from_slice(&bytes[..N]);
+}
+
+/// Copies `N` to 2 `N` bytes to a place: the first `N` and the last `N` of them, which may overlap.
+#[inline(always)]
+fn copy_by_ends<const N: usize>(to: &mut [u8], place: usize, bytes: &[u8])
+    requires least { N ≤ length bytes.now }
+    requires most { length bytes.now ≤ N + N }
+    requires room { place + length bytes.now ≤ length to.old }
+    ensures { to.new ≡ written_at to.old place bytes.now }
+{
+    let last = bytes.len() - N;
+    copy_piece::<N>(to, place, &bytes[..N]);
+    copy_piece::<N>(to, place + last, &bytes[last..]);
+}
+
+/// Copies any number of bytes to a place.
+#[inline(never)]
+fn copy_many(to: &mut [u8], place: usize, bytes: &[u8])
+    requires { place + length bytes.now ≤ length to.old }
+    ensures { to.new ≡ written_at to.old place bytes.now }
+{
+    to[place..place + bytes.len()].copy_from_slice(bytes);
+}
+
+/// Copies bytes to a place.
+#[inline(always)]
+pub(crate) fn copy_bytes(to: &mut [u8], place: usize, bytes: &[u8])
+    requires { place + length bytes.now ≤ length to.old }
+    ensures { to.new ≡ written_at to.old place bytes.now }
+{
+    let count = bytes.len();
+    if count > 32 {
+        copy_many(to, place, bytes);
+    } else if count >= 16 {
+        copy_by_ends::<16>(to, place, bytes);
+    } else if count >= 8 {
+        copy_by_ends::<8>(to, place, bytes);
+    } else if count >= 4 {
+        copy_by_ends::<4>(to, place, bytes);
+    } else if count >= 2 {
+        copy_by_ends::<2>(to, place, bytes);
+    } else if count == 1 {
+        copy_piece::<1>(to, place, bytes);
+    }
+}

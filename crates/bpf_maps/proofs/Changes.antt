@@ -4,7 +4,7 @@ use Rattle.std.proofs.lemmas.Bool.{lt-leb, le-leb}
 use Rattle.bpf_maps.specs.declared.entries.Entry.{Entry}
 use Rattle.bpf_maps.specs.declared.maps.Maps.TheInside.{Inside}
 use Rattle.bpf_maps.specs.Places.{IsSound}
-use Rattle.bpf_maps.specs.Any.{places_of}
+use Rattle.bpf_maps.specs.BpfMap.{places_of}
 use Rattle.bpf_maps.specs.Live.{LiveMap, LiveMaps, live_at, live_or, places_at, holds_at, AreSound, IsLaid, SameAreas, SameValues, KeepsMap, KeepsOthers, areas, MapWithoutArea, without_area, held_at, one_less}
 use Rattle.slab.specs.Slab.{get, with_value}
 use Rattle.bpf_maps.specs.InMaps.{live_of, live_maps_of, entries_of, as_live_maps, IsInItsArea, IsWellFormedMaps}

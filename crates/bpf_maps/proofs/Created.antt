@@ -13,7 +13,7 @@ use Rattle.bpf_maps.specs.declared.part.TheConstants.{STACK_AND_CONTEXT, LARGEST
 use Rattle.bpf_maps.specs.declared.entries.Entry.{Entry}
 use Rattle.bpf_maps.specs.declared.maps.Maps.TheInside.{Inside}
 use Rattle.bpf_maps.specs.Places.{PlaceTable, IsSound, new_places}
-use Rattle.bpf_maps.specs.Any.{places_of}
+use Rattle.bpf_maps.specs.BpfMap.{places_of}
 use Rattle.bpf_maps.specs.Live.{LiveMap, LiveMaps, live_at, live_or, free_place, places_at, offset, value_in, map_in, start_at, area_by, areas, create_fault, Creates, IsCreated, IsLaid, AreSound, SameValues, KeepsMaps}
 use Rattle.bpf_maps.specs.InMaps.{live_of, entries_of, as_live_maps, layout_of, AreLaidOut, IsWellFormedMaps}
 use Rattle.bpf_maps.specs.declared.map_layout.MapLayout.{MapLayout}

@@ -1,8 +1,8 @@
 -- The key that follows has the size of all keys.
 use Rattle.std.proofs.Common.{◌≡◌, ◌≤◌, ℕ, Bool, true, false, List, [], ◌∷◌, length, Option, Some, None, is_some, option_map, IfSome, subst, sym, if◌then◌else◌, arith}
 use Rattle.tagged_model.specs.Table.{found, is_key, first_key, key_behind, key_after}
-use Rattle.bpf_maps.specs.declared.given_key.GivenKey.{GivenKey}
-use Rattle.bpf_maps.specs.Given.{given_bytes}
+use Rattle.bpf_maps.specs.declared.key_ref.KeyRef.{KeyRef}
+use Rattle.bpf_maps.specs.KeyRef.{key_bytes}
 use Rattle.bpf_maps.specs.Places.{IsSized}
 
 abbrev HasSize : ℕ → Option (List ℕ) → Type 0
@@ -26,15 +26,15 @@ after_sized : (n : ℕ) (key : List ℕ) (es : List (List ℕ × ℕ)) → IsSiz
 after_sized n key es sized =
     either_sized n (is_some (found key es)) (key_behind key es) (first_key es) (behind_sized n key es sized) (first_sized n es sized)
 
-given_of : (n : ℕ) (given : Option GivenKey) → HasSize n (option_map given_bytes given) → IfSome given (λ key. length (given_bytes key) ≡ n)
+given_of : (n : ℕ) (given : Option KeyRef) → HasSize n (option_map key_bytes given) → IfSome given (λ key. length (key_bytes key) ≡ n)
 given_of n None h = tt
 given_of n (Some key) h = h
 
 -- a key that is given is one of the keys
-pub given_sized : (n : ℕ) (key : List ℕ) (es : List (List ℕ × ℕ)) (given : Option GivenKey) → IsSized n es → option_map given_bytes given ≡ key_after key es → IfSome given (λ key. length (given_bytes key) ≡ n)
+pub given_sized : (n : ℕ) (key : List ℕ) (es : List (List ℕ × ℕ)) (given : Option KeyRef) → IsSized n es → option_map key_bytes given ≡ key_after key es → IfSome given (λ key. length (key_bytes key) ≡ n)
 given_sized n key es given sized e = given_of n given (subst (HasSize n) (sym e) (after_sized n key es sized))
 
 -- and one that has the size of keys that fit fits too
-pub given_short : (n room : ℕ) (given : Option GivenKey) → n ≤ room → IfSome given (λ key. length (given_bytes key) ≡ n) → IfSome given (λ key. length (given_bytes key) ≤ room)
+pub given_short : (n room : ℕ) (given : Option KeyRef) → n ≤ room → IfSome given (λ key. length (key_bytes key) ≡ n) → IfSome given (λ key. length (key_bytes key) ≤ room)
 given_short n room None fits sized = tt
 given_short n room (Some key) fits sized = omega arith

@@ -1,25 +1,25 @@
 -- A call that changes the keys of one map and nothing else.
 use Rattle.std.proofs.Common.{◌≡◌, ℕ, Bool, IsSome, refl, sym, ap, subst, is_some}
-use Rattle.bpf_maps.specs.declared.any_map.AnyMap.{AnyMap}
+use Rattle.bpf_maps.specs.declared.bpf_map.BpfMap.{BpfMap}
 use Rattle.bpf_maps.specs.declared.entries.Entry.{Entry}
 use Rattle.bpf_maps.specs.declared.maps.Maps.TheInside.{Inside}
 use Rattle.bpf_maps.specs.Places.{IsSound}
-use Rattle.bpf_maps.specs.Any.{places_of}
+use Rattle.bpf_maps.specs.BpfMap.{places_of}
 use Rattle.bpf_maps.specs.Live.{LiveMaps, live_at, places_at, IsLaid, OnlyKeysChange}
 use Rattle.bpf_maps.specs.InMaps.{as_live_maps, IsWellFormedMaps}
 use Rattle.bpf_maps.proofs.Changes.{with_entry, told_of, IsUnder, IsChange, placed_under, live_old, live_new, others_stay, areas_stay, whole_stays, laid_stays, room_stays, part_stays}
 
 -- the entry with another table of places
-abbrev pub with_map : Entry → AnyMap → Entry
+abbrev pub with_map : Entry → BpfMap → Entry
 with_map e map = record { map = map; start = e.start; stride = e.stride; holds = e.holds }
 
 -- the map at `place`, whose entry is under `key`, has another table
-pub record IsKeyChange (a : Inside) (t : LiveMaps) (place map key : ℕ) (old : Entry) (table : AnyMap) : Type 0 where
+pub record IsKeyChange (a : Inside) (t : LiveMaps) (place map key : ℕ) (old : Entry) (table : BpfMap) : Type 0 where
   pub under : IsUnder a t place map key old
   pub shape : (places_of table).shape ≡ (places_of old.map).shape
   pub sound : IsSound (places_of table)
 
-module _ {a : Inside} {t : LiveMaps} {place map key : ℕ} {old : Entry} {table : AnyMap} (c : IsKeyChange a t place map key old table) where
+module _ {a : Inside} {t : LiveMaps} {place map key : ℕ} {old : Entry} {table : BpfMap} (c : IsKeyChange a t place map key old table) where
   abbrev after : Bool → Inside
   after refused = with_entry a key (with_map old table) refused
 

@@ -4,7 +4,7 @@ use Rattle.std.proofs.lemmas.List.{length-set}
 use Rattle.bpf_maps.specs.declared.part.TheConstants.{MAPS}
 use Rattle.bpf_maps.specs.declared.entries.Entry.{Entry}
 use Rattle.bpf_maps.specs.declared.map_layout.MapLayout.{MapLayout}
-use Rattle.bpf_maps.specs.Any.{places_of}
+use Rattle.bpf_maps.specs.BpfMap.{places_of}
 use Rattle.bpf_maps.specs.InMaps.{layout_of, AreLaidOut}
 use Rattle.bpf_maps.proofs.Slots.{same_or_other, same_at}
 

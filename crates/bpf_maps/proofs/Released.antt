@@ -6,7 +6,7 @@ use Rattle.slab.specs.Slab.{Slab, get, slab_len, with_value}
 use Rattle.bpf_maps.specs.declared.part.TheConstants.{STACK_AND_CONTEXT, PART}
 use Rattle.bpf_maps.specs.declared.entries.Entry.{Entry}
 use Rattle.bpf_maps.specs.declared.maps.Maps.TheInside.{Inside}
-use Rattle.bpf_maps.specs.Any.{places_of}
+use Rattle.bpf_maps.specs.BpfMap.{places_of}
 use Rattle.bpf_maps.specs.Live.{LiveMap, LiveMaps, live_at, live_or, shape_at, offset, area_by, areas, without_area, held_at, one_less, area_of, IsLaid, AreSound, SameValues, KeepsOthers, map_without, ClosesUp}
 use Rattle.bpf_maps.specs.Sum.{weight}
 use Rattle.bpf_maps.specs.InMaps.{live_of, live_maps_of, placed, entries_of, as_live_maps, AreKeys, closed_up, AreLaidOut, IsWellFormedMaps}

@@ -6,7 +6,7 @@ use Rattle.tagged_model.specs.Shape.{area}
 use Rattle.bpf_maps.specs.declared.part.TheConstants.{STACK_AND_CONTEXT, LARGEST_SUM, MAPS}
 use Rattle.bpf_maps.specs.declared.entries.Entry.{Entry}
 use Rattle.bpf_maps.specs.declared.maps.Maps.TheInside.{Inside}
-use Rattle.bpf_maps.specs.Any.{places_of}
+use Rattle.bpf_maps.specs.BpfMap.{places_of}
 use Rattle.bpf_maps.specs.Places.{IsSound}
 use Rattle.bpf_maps.specs.Live.{LiveMap, live_at, live_or, places_at, offset, LiesInPart, IsLaid, IsPacked, area_of, areas, StandsBefore, start_without, map_without}
 use Rattle.bpf_maps.specs.Sum.{weight}

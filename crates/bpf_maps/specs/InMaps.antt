@@ -1,13 +1,14 @@
 -- The fields of a tenant's live maps: what contracts see of them, and their invariant. This project's own.
 use Rattle.std.specs.Prelude.{◌≡◌, ◌≢◌, ℕ, ◌+◌, ◌*◌, ◌/◌, ◌%◌, ◌≤◌, ◌⊎◌, List, map, Option, Some, None, is_some, option_map, length, count_by, slice_index_or}
 use Rattle.std.specs.Option.{option_and_then}
-use Rattle.bpf_maps.specs.declared.part.TheConstants.{STACK_AND_CONTEXT, LARGEST_SUM, MAPS}
+use Rattle.bpf_maps.specs.declared.part.TheConstants.{STACK_AND_CONTEXT}
+use Rattle.bpf_maps.specs.Limits.{most_maps, most_bytes}
 use Rattle.bpf_maps.specs.declared.entries.Entry.{Entry}
 use Rattle.bpf_maps.specs.declared.maps.Maps.TheInside.{Inside}
 use Rattle.bpf_maps.specs.declared.map_layout.MapLayout.{MapLayout}
 use Rattle.slab.specs.Slab.{Slab, get, ContainsKey, slab_len}
 use Rattle.bpf_maps.specs.Places.{IsSound}
-use Rattle.bpf_maps.specs.Any.{places_of}
+use Rattle.bpf_maps.specs.BpfMap.{places_of}
 use Rattle.bpf_maps.specs.Live.{LiveMap, LiveMaps, live_at, live_or, shape_at, start_at, areas, area_of, StandsBefore, start_without}
 
 -- ---- what contracts see
@@ -32,7 +33,7 @@ as_live_maps a = record { maps = live_maps_of (entries_of a); refused = a.refuse
 
 -- each key has an entry, no two places have the same key, and there are no other entries
 pub record AreKeys (keys : List (Option ℕ)) (entries : Slab Entry) : Type 0 where
-  pub long : length keys ≡ MAPS
+  pub long : length keys ≡ most_maps
   pub there : (p key : ℕ) → slice_index_or keys p None ≡ Some key → ContainsKey entries key
   pub own : (p q key : ℕ) → slice_index_or keys p None ≡ Some key → slice_index_or keys q None ≡ Some key → p ≡ q
   pub all : slab_len entries ≡ count_by is_some keys
@@ -47,7 +48,7 @@ layout_at t k = record { shape = shape_at t k; start = start_at t k; stride = (l
 
 -- each place has a layout; if the place has an entry, it is the entry's
 pub record AreLaidOut (entries : List (Option Entry)) (layouts : List MapLayout) : Type 0 where
-  pub long : length layouts ≡ MAPS
+  pub long : length layouts ≡ most_maps
   pub each : (p : ℕ) (e : Entry) (other : MapLayout) → slice_index_or entries p None ≡ Some e → slice_index_or layouts p other ≡ layout_of e
 
 -- the entry after an area of `size` bytes up to `end` is gone
@@ -64,14 +65,14 @@ pub record IsInItsArea (bytes : ℕ) (e : Entry) : Type 0 where
   pub held : 1 ≤ e.holds
   pub sound : IsSound (places_of e.map)
 
--- the keys are those of the entries, and there is room for `MAPS` of these; the areas don't overlap, and lie after the stack and
+-- the keys are those of the entries, and there is room for `most_maps` of these; the areas don't overlap, and lie after the stack and
 -- the context in as many bytes as they take together, `bytes`; each place has its entry's layout
 pub record IsWellFormedMaps (a : Inside) : Type 0 where
   pub keys : AreKeys a.keys a.entries
-  pub room : MAPS ≤ a.entries.capacity
+  pub room : most_maps ≤ a.entries.capacity
   pub placed : (p : ℕ) (e : Entry) → slice_index_or (entries_of a) p None ≡ Some e → IsInItsArea a.bytes e
   pub apart : (p q : ℕ) (e f : Entry) → slice_index_or (entries_of a) p None ≡ Some e → slice_index_or (entries_of a) q None ≡ Some f → p ≢ q → StandsBefore (live_of e) (live_of f) ⊎ StandsBefore (live_of f) (live_of e)
   pub sum : a.bytes ≡ areas (as_live_maps a)
-  pub few : a.bytes ≤ LARGEST_SUM
+  pub few : a.bytes ≤ most_bytes
   pub aligned : a.bytes % 8 ≡ 0
   pub laid_out : AreLaidOut (entries_of a) a.layouts

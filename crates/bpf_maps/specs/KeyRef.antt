@@ -1,9 +1,9 @@
 -- The next key, as a map returns it. This project's own.
 use Rattle.std.specs.Prelude.{ℕ, List}
-use Rattle.bpf_maps.specs.declared.given_key.GivenKey.{GivenKey}
-use Rattle.bpf_maps.specs.declared.given_key.GivenKey.TheVariants.{Short, Lent}
+use Rattle.bpf_maps.specs.declared.key_ref.KeyRef.{KeyRef}
+use Rattle.bpf_maps.specs.declared.key_ref.KeyRef.TheVariants.{Short, Lent}
 
 -- its bytes
-abbrev pub given_bytes : GivenKey → List ℕ
-given_bytes (Short bytes) = bytes
-given_bytes (Lent bytes) = bytes.now
+abbrev pub key_bytes : KeyRef → List ℕ
+key_bytes (Short bytes) = bytes
+key_bytes (Lent bytes) = bytes.now

@@ -1,11 +1,12 @@
+pub mod Limits
 pub mod Places
 pub mod KeyLists
 pub mod Words
-pub mod Given
+pub mod KeyRef
 pub mod Index
 pub mod Laws
 pub mod LiveLaws
-pub mod Any
+pub mod BpfMap
 pub mod Sum
 pub mod Live
 pub mod InMaps

@@ -5,7 +5,8 @@ use Rattle.tagged_model.specs.declared.shape.MapShape.{MapShape}
 use Rattle.tagged_model.specs.declared.fault.MapFault.{MapFault}
 use Rattle.tagged_model.specs.declared.fault.MapFault.TheVariants.{NoEntry, TooBig, Memory, Exists, Invalid, NoSpace}
 use Rattle.tagged_model.specs.Shape.{area}
-use Rattle.bpf_maps.specs.declared.part.TheConstants.{STACK_AND_CONTEXT, LARGEST_SUM, PART}
+use Rattle.bpf_maps.specs.declared.part.TheConstants.{STACK_AND_CONTEXT, PART}
+use Rattle.bpf_maps.specs.Limits.{most_bytes}
 use Rattle.tagged_model.specs.Table.{Table, with_values}
 use Rattle.bpf_maps.specs.Sum.{total}
 use Rattle.bpf_maps.specs.Places.{PlaceTable, table_of, new_places, IsSound}
@@ -166,7 +167,7 @@ pub record OnlyKeysChange (k : ℕ) (old new : LiveMaps) : Type 0 where
 
 -- the fault if no place is free, or the values would take too many bytes; else None
 abbrev pub create_fault : LiveMaps → MapShape → Option MapFault
-create_fault t shape = if is_none (free_place t) || nat_lt LARGEST_SUM (areas t + area_by shape) then Some NoSpace else None
+create_fault t shape = if is_none (free_place t) || nat_lt most_bytes (areas t + area_by shape) then Some NoSpace else None
 
 -- a new map with one reference is live at place k, the lowest that was free, and nothing else has changed
 pub record IsCreated (old : LiveMaps) (shape : MapShape) (k : ℕ) (new : LiveMaps) : Type 0 where

@@ -5,9 +5,9 @@ ghost use Rattle.tagged_model.specs.declared.shape.MapKind.TheVariants.{Array};
 ghost use Rattle.tagged_model.specs.Table.{look_up, verdict, next_of, index_key};
 ghost use Rattle.bpf_maps.specs.Places.{PlaceTable, table_of, IsSound, Claims, new_places};
 ghost use Rattle.bpf_maps.specs.Live.{is_memory};
-ghost use Rattle.bpf_maps.specs.Given.{given_bytes};
+ghost use Rattle.bpf_maps.specs.KeyRef.{key_bytes};
 
-use crate::given_key::{GivenKey, ShortKey};
+use crate::key_ref::{KeyRef, ShortKey};
 use crate::value_map::{EXIST, NOEXIST, ValueMap};
 use std::marker::Model;
 use tagged_model::{MapFault, MapShape};
@@ -157,13 +157,13 @@ impl ValueMap for ArrayMap {
         Err(MapFault::Invalid)
     }
 
-    fn key_after(&self, key: &[u8]) -> Option<GivenKey<'_>> {
+    fn key_after(&self, key: &[u8]) -> Option<KeyRef<'_>> {
         self.keys_are_its_indices();
         let index = self.index_after(key);
         if index >= self.shape.max_entries {
             return None;
         }
-        Some(GivenKey::Short(ShortKey::of_word(u64::from(index), INDEX_SIZE)))
+        Some(KeyRef::Short(ShortKey::of_word(u64::from(index), INDEX_SIZE)))
     }
 
     fn end_run(&mut self) {

@@ -4,12 +4,12 @@ ghost use Rattle.std.specs.Prelude.{◌≡◌, ◌<◌, ◌⊎◌, length, [], o
 ghost use Rattle.tagged_model.specs.declared.shape.MapKind.TheVariants.{Array};
 ghost use Rattle.tagged_model.specs.Table.{look_up, verdict, removal, next_of};
 ghost use Rattle.bpf_maps.specs.Places.{PlaceTable, table_of, IsSound, Claims, Removes, new_places, after_run};
-ghost use Rattle.bpf_maps.specs.Given.{given_bytes};
-ghost use Rattle.bpf_maps.specs.Any.{places_of};
+ghost use Rattle.bpf_maps.specs.KeyRef.{key_bytes};
+ghost use Rattle.bpf_maps.specs.BpfMap.{places_of};
 
 use crate::array_map::ArrayMap;
-use crate::given_key::GivenKey;
 use crate::hash_map::HashMapIx;
+use crate::key_ref::KeyRef;
 use crate::value_map::ValueMap;
 use seeded_hash::HashSeed;
 use std::alloc::{AllocError, Global};
@@ -17,19 +17,19 @@ use tagged_model::{MapFault, MapKind, MapShape};
 
 /// A map of either kind.
 #[derive(Drop)]
-pub enum AnyMap {
+pub enum BpfMap {
     Array(ArrayMap),
     Hash(HashMapIx),
 }
 
-impl AnyMap {
+impl BpfMap {
     /// Makes a map of this shape. Only a hash map takes memory and the seed. `AllocError`: out of memory.
-    pub fn new(alloc: Global, shape: MapShape, seed: HashSeed) -> Result<AnyMap, AllocError>
+    pub fn new(alloc: Global, shape: MapShape, seed: HashSeed) -> Result<BpfMap, AllocError>
         ensures { IfOk result (λ map. places_of map ≡ new_places shape) }
     {
         match shape.kind {
-            MapKind::Array => Ok(AnyMap::Array(ArrayMap::new(shape))),
-            MapKind::Hash => Ok(AnyMap::Hash(HashMapIx::new(alloc, shape, seed)?)),
+            MapKind::Array => Ok(BpfMap::Array(ArrayMap::new(shape))),
+            MapKind::Hash => Ok(BpfMap::Hash(HashMapIx::new(alloc, shape, seed)?)),
         }
     }
 
@@ -40,8 +40,8 @@ impl AnyMap {
             → places_of self.now ≡ new_places (places_of self.now).shape }
     {
         match self {
-            AnyMap::Array(map) => map.keys_are_its_indices(),
-            AnyMap::Hash(map) => map.places_are_distinct(),
+            BpfMap::Array(map) => map.keys_are_its_indices(),
+            BpfMap::Hash(map) => map.places_are_distinct(),
         }
     }
 
@@ -50,49 +50,49 @@ impl AnyMap {
         ensures { result ≡ (places_of self.now).shape }
     {
         match self {
-            AnyMap::Array(map) => map.shape(),
-            AnyMap::Hash(map) => map.shape(),
+            BpfMap::Array(map) => map.shape(),
+            BpfMap::Hash(map) => map.shape(),
         }
     }
 }
 
-impl ValueMap for AnyMap {
+impl ValueMap for BpfMap {
     ghost places = { places_of };
 
     #[inline(always)]
     fn find(&self, key: &[u8]) -> Option<u32> {
         match self {
-            AnyMap::Array(map) => map.find(key),
-            AnyMap::Hash(map) => map.find(key),
+            BpfMap::Array(map) => map.find(key),
+            BpfMap::Hash(map) => map.find(key),
         }
     }
 
     #[inline(always)]
     fn claim(&mut self, key: &[u8], flags: u64) -> Result<u32, MapFault> {
         match self {
-            AnyMap::Array(map) => map.claim(key, flags),
-            AnyMap::Hash(map) => map.claim(key, flags),
+            BpfMap::Array(map) => map.claim(key, flags),
+            BpfMap::Hash(map) => map.claim(key, flags),
         }
     }
 
     fn remove(&mut self, key: &[u8]) -> Result<(), MapFault> {
         match self {
-            AnyMap::Array(map) => map.remove(key),
-            AnyMap::Hash(map) => map.remove(key),
+            BpfMap::Array(map) => map.remove(key),
+            BpfMap::Hash(map) => map.remove(key),
         }
     }
 
-    fn key_after(&self, key: &[u8]) -> Option<GivenKey<'_>> {
+    fn key_after(&self, key: &[u8]) -> Option<KeyRef<'_>> {
         match self {
-            AnyMap::Array(map) => map.key_after(key),
-            AnyMap::Hash(map) => map.key_after(key),
+            BpfMap::Array(map) => map.key_after(key),
+            BpfMap::Hash(map) => map.key_after(key),
         }
     }
 
     fn end_run(&mut self) {
         match self {
-            AnyMap::Array(map) => map.end_run(),
-            AnyMap::Hash(map) => map.end_run(),
+            BpfMap::Array(map) => map.end_run(),
+            BpfMap::Hash(map) => map.end_run(),
         }
     }
 }

@@ -4,12 +4,11 @@ ghost use Rattle.std.specs.Prelude.{◌≡◌, ◌≢◌, ◌+◌, ◌-◌, ◌^
 ghost use Rattle.tagged_model.specs.Table.{after_run, with_deleted};
 ghost use Rattle.tagged_model.specs.declared.fault.MapFault.TheVariants.{NoSpace};
 ghost use Rattle.bpf_maps.specs.declared.part.TheConstants.{PART};
-ghost use Rattle.bpf_maps.specs.Live.{live_at, shape_at, holds_at, map_in, SameValues, KeepsMap, KeepsMaps, KeepsOthers, areas, create_fault};
+ghost use Rattle.bpf_maps.specs.Live.{live_at, shape_at, holds_at, map_in, SameValues, KeepsMap, KeepsMaps, KeepsOthers, create_fault};
 ghost use Rattle.bpf_maps.specs.InPart.{updated_in};
 
 use crate::laws;
 use crate::maps::{MapKey, Maps};
-use crate::value_map::ANY;
 use seeded_hash::HashSeed;
 use std::alloc::Global;
 use tagged_model::{MapFault, MapShape};
@@ -106,22 +105,6 @@ fn make_and_release(maps: &mut Maps, shape: MapShape, part: &mut [u8])
         maps.release(map, part);
         maps.maps_are_laid();
     }
-}
-
-/// Calls on a map leave as much room for others as before.
-fn work_on(maps: &mut Maps, map: MapKey, key: &[u8], part: &mut [u8])
-    requires live { IsSome (live_at maps.old map) }
-    requires few { holds_at maps.old map < 2 ^ 32 - 1 }
-    requires held { 1 ≤ holds_at maps.old map }
-    requires key { length key.now ≡ (shape_at maps.old map).key_size }
-    requires part { length part.old ≡ PART }
-    ensures { areas maps.new ≡ areas maps.old }
-{
-    maps.hold(map);
-    let _ = maps.claim(map, key, ANY);
-    let _ = maps.remove(map, key);
-    maps.end_run(map);
-    maps.release(map, part);
 }
 
 /// A reference that is added and dropped again changes no map.

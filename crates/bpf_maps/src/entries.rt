@@ -4,7 +4,7 @@ ghost use Rattle.std.specs.Prelude.{◌≡◌, ℕ, ◌≤◌, length, option_ma
 ghost use Rattle.bpf_maps.specs.declared.part.TheConstants.{MAPS};
 ghost use Rattle.bpf_maps.specs.InMaps.{placed, AreKeys, closed_up, layout_of, AreLaidOut};
 
-use crate::any_map::AnyMap;
+use crate::bpf_map::BpfMap;
 use crate::map_layout::{Layouts, MapLayout};
 use crate::part::MAPS;
 use slab::Slab;
@@ -12,7 +12,7 @@ use slab::Slab;
 /// A live map, its area, and the number of references to it.
 #[derive(Drop)]
 pub(crate) struct Entry {
-    pub map: AnyMap,
+    pub map: BpfMap,
     /// The offset of its area in the part, in bytes.
     pub start: usize,
     /// The distance from the start of one value to the start of the next, in bytes.

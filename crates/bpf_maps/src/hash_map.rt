@@ -5,8 +5,8 @@ ghost use Rattle.tagged_model.specs.declared.shape.MapKind.TheVariants.{Hash};
 ghost use Rattle.tagged_model.specs.Table.{look_up, of_absent, is_full, verdict, removal, next_of};
 ghost use Rattle.bpf_maps.specs.Places.{PlaceTable, table_of, IsSound, Claims, Removes, new_places, after_run, occurrences};
 
-use crate::given_key::GivenKey;
 use crate::key_index::KeyIndex;
+use crate::key_ref::KeyRef;
 use crate::value_map::{EXIST, NOEXIST, ValueMap};
 use seeded_hash::HashSeed;
 use std::alloc::{AllocError, Global};
@@ -143,7 +143,7 @@ impl ValueMap for HashMapIx {
         Ok(())
     }
 
-    fn key_after(&self, key: &[u8]) -> Option<GivenKey<'_>> {
+    fn key_after(&self, key: &[u8]) -> Option<KeyRef<'_>> {
         self.index.key_after(key)
     }
 

@@ -3,12 +3,12 @@
 ghost use Rattle.std.specs.Prelude.{◌≡◌, ◌<◌, None, IfOk, OnOk, OnErr, [], length, option_map};
 ghost use Rattle.std.specs.Map.{values_of};
 ghost use Rattle.tagged_model.specs.Table.{found, with_key, without, key_after};
-ghost use Rattle.bpf_maps.specs.Given.{given_bytes};
+ghost use Rattle.bpf_maps.specs.KeyRef.{key_bytes};
 ghost use Rattle.bpf_maps.specs.Places.{occurrences};
 ghost use Rattle.bpf_maps.specs.Index.{entries_of, bound_of, TakesKeys};
 
 use crate::bytes_index::BytesIndex;
-use crate::given_key::GivenKey;
+use crate::key_ref::KeyRef;
 use crate::word_index::{LONGEST_WORD, WordIndex};
 use seeded_hash::HashSeed;
 use std::alloc::{AllocError, Global};
@@ -53,12 +53,12 @@ impl KeyIndex {
     }
 
     /// Returns the key that follows a key, if there is one. After an absent key it is the first.
-    pub(crate) fn key_after(&self, key: &[u8]) -> Option<GivenKey<'_>>
-        ensures { option_map given_bytes result ≡ key_after key.now (entries_of self.now) }
+    pub(crate) fn key_after(&self, key: &[u8]) -> Option<KeyRef<'_>>
+        ensures { option_map key_bytes result ≡ key_after key.now (entries_of self.now) }
     {
         match self {
-            KeyIndex::Words(words) => Some(GivenKey::Short(words.key_after(key)?)),
-            KeyIndex::Bytes(bytes) => Some(GivenKey::Lent(bytes.key_after(key)?)),
+            KeyIndex::Words(words) => Some(KeyRef::Short(words.key_after(key)?)),
+            KeyIndex::Bytes(bytes) => Some(KeyRef::Lent(bytes.key_after(key)?)),
         }
     }
 

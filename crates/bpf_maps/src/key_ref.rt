@@ -2,7 +2,7 @@
 
 ghost use Rattle.std.specs.Prelude.{◌≡◌, ◌≤◌};
 ghost use Rattle.words.specs.Bytes.{low_bytes};
-ghost use Rattle.bpf_maps.specs.Given.{given_bytes};
+ghost use Rattle.bpf_maps.specs.KeyRef.{key_bytes};
 
 use std::marker::Model;
 
@@ -45,19 +45,19 @@ impl ShortKey {
 
 /// A key that a map returns: a short one by value, a longer one borrowed from where the map keeps it.
 #[derive(Drop)]
-pub enum GivenKey<'a> {
+pub enum KeyRef<'a> {
     Short(ShortKey),
     Lent(&'a [u8]),
 }
 
-impl<'a> GivenKey<'a> {
+impl<'a> KeyRef<'a> {
     /// The bytes of the key.
     pub fn bytes(&self) -> &[u8]
-        ensures { result.now ≡ given_bytes self.now }
+        ensures { result.now ≡ key_bytes self.now }
     {
         match self {
-            GivenKey::Short(key) => key.bytes(),
-            GivenKey::Lent(bytes) => bytes,
+            KeyRef::Short(key) => key.bytes(),
+            KeyRef::Lent(bytes) => bytes,
         }
     }
 }

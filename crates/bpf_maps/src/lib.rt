@@ -4,14 +4,14 @@
 //! the memory, where each place of a map has bytes of its own.
 #![tactic(auto)]
 
-mod any_map;
 mod array_map;
+mod bpf_map;
 mod bytes_index;
 mod contract_clients;
 mod entries;
-mod given_key;
 mod hash_map;
 mod key_index;
+mod key_ref;
 pub mod laws;
 mod long_key;
 mod map_layout;
@@ -20,10 +20,10 @@ mod part;
 mod value_map;
 mod word_index;
 
-pub use any_map::AnyMap;
 pub use array_map::ArrayMap;
-pub use given_key::{GivenKey, ShortKey};
+pub use bpf_map::BpfMap;
 pub use hash_map::HashMapIx;
+pub use key_ref::{KeyRef, ShortKey};
 pub use maps::{MapKey, Maps};
 pub use part::{KEY_ROOM, LARGEST_SUM, MAPS, PART, STACK_AND_CONTEXT};
 pub use tagged_model::MapFault;

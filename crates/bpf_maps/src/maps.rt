@@ -3,16 +3,17 @@
 ghost use Rattle.std.specs.Prelude.{◌≡◌, ◌≢◌, ℕ, ◌+◌, ◌-◌, ◌<◌, ◌≤◌, ◌^◌, ◌⊎◌, ◌||◌, true, false, [], length, take, replicate, option_map, Some, None, IfSome, IfOk, OnErr, IsSome};
 ghost use Rattle.tagged_model.specs.declared.shape.MapKind.TheVariants.{Array};
 ghost use Rattle.tagged_model.specs.Table.{look_up, verdict, removal, next_of, new_table};
-ghost use Rattle.bpf_maps.specs.declared.part.TheConstants.{PART, STACK_AND_CONTEXT, MAPS, LARGEST_SUM};
+ghost use Rattle.bpf_maps.specs.declared.part.TheConstants.{PART, STACK_AND_CONTEXT};
+ghost use Rattle.bpf_maps.specs.Limits.{most_maps, most_bytes};
 ghost use Rattle.bpf_maps.specs.Places.{table_of, IsSound, Claims, Removes, GivesKey, after_run, new_places};
-ghost use Rattle.bpf_maps.specs.Given.{given_bytes};
+ghost use Rattle.bpf_maps.specs.KeyRef.{key_bytes};
 ghost use Rattle.bpf_maps.specs.Live.{live_at, places_at, shape_at, holds_at, held_at, offset_at, value_in, map_in, value_address, LiesInPart, IsLaid, IsPacked, ClosesUp, start_at, AreSound, SameAreas, SameValues, KeepsMap, KeepsMaps, KeepsOthers, area_by, areas, OnlyKeysChange, create_fault, Creates, one_more, one_less, is_memory};
 ghost use Rattle.bpf_maps.specs.InMaps.{live_of, layout_at};
 
-use crate::any_map::AnyMap;
 use crate::array_map::ArrayMap;
+use crate::bpf_map::BpfMap;
 use crate::entries::{Entry, close_gap, free_place, key_at};
-use crate::given_key::GivenKey;
+use crate::key_ref::KeyRef;
 use crate::map_layout::{Layouts, MapLayout};
 use crate::part::{KEY_ROOM, LARGEST_SUM, MAPS, PART, STACK_AND_CONTEXT, clear};
 use crate::value_map::ValueMap;
@@ -71,7 +72,7 @@ impl Maps {
     /// No live maps; the keys of those to come are hashed with this seed. Allocates room for `MAPS` of them. `AllocError`: out of
     /// memory.
     pub fn new(alloc: Global, seed: HashSeed) -> Result<Maps, AllocError>
-        ensures maps { IfOk result (λ new. new.maps ≡ replicate MAPS None) }
+        ensures maps { IfOk result (λ new. new.maps ≡ replicate most_maps None) }
         ensures none { IfOk result (λ maps. (k : ℕ) → live_at maps k ≡ None) }
         ensures bytes { IfOk result (λ maps. areas maps ≡ 0) }
         ensures refused { IfOk result (λ maps. maps.refused ≡ false) }
@@ -97,8 +98,8 @@ impl Maps {
         ensures laid { IsLaid self.now }
         ensures packed { IsPacked self.now }
         ensures sound { AreSound self.now }
-        ensures maps { length self.now.maps ≡ MAPS }
-        ensures bytes { areas self.now ≤ LARGEST_SUM }
+        ensures maps { length self.now.maps ≡ most_maps }
+        ensures bytes { areas self.now ≤ most_bytes }
     {
         let _ = &self.entries;
     }
@@ -170,7 +171,7 @@ impl Maps {
         if self.bytes + size > LARGEST_SUM {
             return Err(MapFault::NoSpace);
         }
-        let Ok(map) = AnyMap::new(self.alloc, shape, self.seed) else {
+        let Ok(map) = BpfMap::new(self.alloc, shape, self.seed) else {
             self.refused = true;
             return Err(MapFault::Memory);
         };
@@ -383,13 +384,13 @@ impl Maps {
     }
 
     /// Returns the key that follows a key, if there is one. After an empty or absent key it is the first.
-    pub fn key_after(&self, map: MapKey, key: &[u8]) -> Option<GivenKey<'_>>
+    pub fn key_after(&self, map: MapKey, key: &[u8]) -> Option<KeyRef<'_>>
         requires live { IsSome (live_at self.now map) }
         requires size { (key.now ≡ []) ⊎ (length key.now ≡ (shape_at self.now map).key_size) }
-        ensures given { option_map given_bytes result
+        ensures given { option_map key_bytes result
             ≡ next_of (table_of (places_at self.now map)) key.now }
         ensures size { IfSome result (λ given.
-            length (given_bytes given) ≡ (shape_at self.now map).key_size) }
+            length (key_bytes given) ≡ (shape_at self.now map).key_size) }
     {
         self.entry(map).map.key_after(key)
     }

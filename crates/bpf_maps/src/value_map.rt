@@ -3,10 +3,10 @@
 ghost use Rattle.std.specs.Prelude.{◌≡◌, ◌≤◌, ◌<◌, ◌⊎◌, length, [], ◌++◌, drop, option_map, IfOk, IfSome};
 ghost use Rattle.tagged_model.specs.Table.{look_up, verdict, removal, next_of};
 ghost use Rattle.bpf_maps.specs.Places.{PlaceTable, table_of, IsSound, Claims, Removes, GivesKey, after_run};
-ghost use Rattle.bpf_maps.specs.Given.{given_bytes};
+ghost use Rattle.bpf_maps.specs.KeyRef.{key_bytes};
 ghost use Rattle.bpf_maps.specs.declared.part.TheConstants.{KEY_ROOM};
 
-use crate::given_key::GivenKey;
+use crate::key_ref::KeyRef;
 use crate::part::KEY_ROOM;
 use tagged_model::MapFault;
 
@@ -63,13 +63,13 @@ pub trait ValueMap {
         ensures sound { IsSound (places self.new) };
 
     /// Returns the key that follows a key, if there is one. After an empty or absent key it is the first.
-    fn key_after(&self, key: &[u8]) -> Option<GivenKey<'_>>
+    fn key_after(&self, key: &[u8]) -> Option<KeyRef<'_>>
         requires size { (key.now ≡ []) ⊎ (length key.now ≡ (places self.now).shape.key_size) }
-        ensures given { option_map given_bytes result
+        ensures given { option_map key_bytes result
             ≡ next_of (table_of (places self.now)) key.now }
         ensures size { IfSome result (λ given.
-            length (given_bytes given) ≡ (places self.now).shape.key_size) }
-        ensures short { IfSome result (λ given. length (given_bytes given) ≤ KEY_ROOM) };
+            length (key_bytes given) ≡ (places self.now).shape.key_size) }
+        ensures short { IfSome result (λ given. length (key_bytes given) ≤ KEY_ROOM) };
 
     /// Writes the key that follows a key to the start of `next`. After an empty or absent key it is the first.
     ///

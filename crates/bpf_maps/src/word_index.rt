@@ -6,7 +6,7 @@ ghost use Rattle.words.specs.Bytes.{number_of};
 ghost use Rattle.tagged_model.specs.Table.{found, with_key, without, key_after};
 ghost use Rattle.bpf_maps.specs.Places.{occurrences};
 
-use crate::given_key::ShortKey;
+use crate::key_ref::ShortKey;
 use ordered_keys::OrderedMap;
 use seeded_hash::HashSeed;
 use std::alloc::{AllocError, Global};

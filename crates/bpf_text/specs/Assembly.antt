@@ -1,8 +1,8 @@
 -- From the lines of a text to a program, or to the first fault. The grammar and the faults are this project's own.
 use Rattle.std.specs.Prelude.{◌≡◌, ℕ, suc, ◌+◌, ◌<◌, Bool, false, ◌&&◌, ◌||◌, not, ℤ, pos, ◌-ℤ◌, List, [], ◌∷◌, take, map, slice_get, Option, Some, None, is_some, option_map, unwrap_or, nat_lt, nat_le, if◌then◌else◌}
 use Rattle.std.specs.Str.{bytes_eq}
-use Rattle.insn_set.specs.declared.TheConstants.{MAX_SLOTS}
 use Rattle.insn_set.specs.declared.insn.Insn.{Insn}
+use Rattle.insn_set.specs.Program.{most_slots}
 use Rattle.bpf_text.specs.declared.fault.TextFault.{TextFault}
 use Rattle.bpf_text.specs.declared.fault.TextFaultKind.{TextFaultKind}
 use Rattle.bpf_text.specs.Fault.{IsFaultBy}
@@ -51,7 +51,7 @@ is_twice lines i name = nat_lt (unwrap_or (label_line name lines) i) i
 
 -- the line's slots go past the most that a program may have
 abbrev pub passes : ℕ → ℕ → Bool
-passes before slots = nat_le before MAX_SLOTS && nat_lt MAX_SLOTS (before + slots)
+passes before slots = nat_le before most_slots && nat_lt most_slots (before + slots)
 
 -- the fault of a line, of the lowest kind, given its index and the slots before it
 abbrev pub line_fault : List (Option Line) → ℕ → ℕ → Option Line → Option TextFaultKind

@@ -2,8 +2,8 @@
 use Rattle.std.specs.Prelude.{◌≡◌, ℕ, ◌+◌, ◌*◌, ◌<◌, ◌==◌, ◌&&◌, List, [], ◌∷◌, ◌++◌, length, take, slice_get, Option, Some, None, unwrap_or, nat_lt, nat_le, if◌then◌else◌}
 use Rattle.std.specs.List.{flat_map}
 use Rattle.std.specs.Result.{result_ok}
+use Rattle.insn_set.specs.Program.{most_slots}
 use Rattle.hex.specs.Hex.{encode_lower, decode_sized}
-use Rattle.insn_set.specs.declared.TheConstants.{MAX_SLOTS}
 use Rattle.bpf_text.specs.declared.fault.TextFault.{TextFault}
 use Rattle.bpf_text.specs.declared.fault.TextFaultKind.{TextFaultKind}
 use Rattle.bpf_text.specs.declared.fault.TextFaultKind.TheVariants.{Syntax, TooLong}
@@ -30,7 +30,7 @@ hex_bytes lines = flat_map (λ line. unwrap_or (hex_line line) []) lines
 -- the fault of a line with these bytes, where the lines before it have `before` bytes
 abbrev pub hex_fault : ℕ → Option (List ℕ) → Option TextFaultKind
 hex_fault before None = Some Syntax
-hex_fault before (Some bytes) = if nat_le before (8 * MAX_SLOTS) && nat_lt (8 * MAX_SLOTS) (before + length bytes) then Some TooLong else None
+hex_fault before (Some bytes) = if nat_le before (8 * most_slots) && nat_lt (8 * most_slots) (before + length bytes) then Some TooLong else None
 
 abbrev pub hex_fault_of : ℕ → Option (List ℕ) → Option TextFaultKind
 hex_fault_of before None = None

@@ -1,6 +1,9 @@
 //! Known answers of the public calls, proved from their contracts alone. Nothing calls these functions.
 
-use crate::{Insn, RawSlot, Reg};
+ghost use Rattle.std.specs.Prelude.{◌≡◌};
+ghost use Rattle.insn_set.specs.Program.{most_slots};
+
+use crate::{Insn, MAX_SLOTS, RawSlot, Reg};
 
 const _: () = prove!(size_of::<Insn>() == 16);
 
@@ -22,4 +25,11 @@ fn slots_of_instructions() {
     let (is_wide, is_exit_wide) = (wide.is_wide(), exit.is_wide());
     prove!(is_wide);
     prove!(!is_exit_wide);
+}
+
+/// The limit of the code is that of the definitions.
+fn slots_of_the_longest_program() -> usize
+    ensures { result ≡ most_slots }
+{
+    MAX_SLOTS
 }

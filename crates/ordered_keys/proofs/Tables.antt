@@ -106,7 +106,7 @@ module _ {K : Type 0} (es : List (K × ℕ)) (is : List ℕ) (order : Order) (h 
     where
       found : (i : ℕ) (e : K × ℕ) → slice_get es' i ≡ Some e → (occurrences e.1 (order.places ++ p ∷ []) ≡ 1) × (slice_index_or is' e.1 0 ≡ i)
       found i e at = elim (front_or_last es (key, p) i e at) [
-          inl f ↦ let k = h.listed i e f in let d = other e.1 (omega arith) in
+        | inl f ↦ let k = h.listed i e f in let d = other e.1 (omega arith) in
             let t = times-append e.1 order.places (p ∷ []) in let z = none e.1 p d in
             (omega arith, unwritten is p e.1 (length es) d ∙ k.1)
         | inr r ↦
@@ -194,7 +194,7 @@ module _ {K : Type 0} (es : List (K × ℕ)) (is : List ℕ) (order : Order) (h 
 
   moved_member : 0 < occurrences moved order.places
   moved_member = elim moved_is [
-      inl m ↦ let k = h.listed last (m.0, moved) m.2 in omega arith
+    | inl m ↦ let k = h.listed last (m.0, moved) m.2 in omega arith
     | inr s ↦ subst (λ q. 0 < occurrences q order.places) (sym s.0) (let m = member in omega arith)
   ]
 
@@ -203,20 +203,20 @@ module _ {K : Type 0} (es : List (K × ℕ)) (is : List ℕ) (order : Order) (h 
 
   stay_left : (q : ℕ) (e : K × ℕ) → q ≢ p → 0 < occurrences q order.places → entry_of es is q ≡ Some e → entry_of left left_indices q ≡ Some e
   stay_left q e d m q_at = elim (decided q moved) [
-      inl same ↦ elim moved_is [
-          inl k ↦
-            let index_q : slice_index_or is q 0 ≡ last = ap (λ r. slice_index_or is r 0) same ∙ (h.listed last (k.0, moved) k.2).1 in
-            ap (λ r. entry_of left left_indices r) same ∙ ap (slice_get left) (written is moved i moved_within)
-            ∙ swapped_here es i (key, p) at k.1 ∙ ap (slice_get es) (sym index_q) ∙ q_at
-        | inr s ↦ absurd (d (same ∙ s.0))
-      ]
+    | inl same ↦ elim moved_is [
+      | inl k ↦
+          let index_q : slice_index_or is q 0 ≡ last = ap (λ r. slice_index_or is r 0) same ∙ (h.listed last (k.0, moved) k.2).1 in
+          ap (λ r. entry_of left left_indices r) same ∙ ap (slice_get left) (written is moved i moved_within)
+          ∙ swapped_here es i (key, p) at k.1 ∙ ap (slice_get es) (sym index_q) ∙ q_at
+      | inr s ↦ absurd (d (same ∙ s.0))
+    ]
     | inr apart ↦
         let entry = entry_at es is order.places q h.placed m in
         let j : ℕ = slice_index_or is q 0 in
         let j_i : j ≢ i = (λ f. d (ap (λ (x : K × ℕ). x.1) (same_Some (entry.0, q) (key, p) (sym entry.1 ∙ ap (slice_get es) f ∙ at)))) in
         let w = slice_get_within es j (entry.0, q) entry.1 in
         let j_last : j ≢ last = (λ f. elim moved_is [
-            inl k ↦ apart (ap (λ (x : K × ℕ). x.1) (same_Some (entry.0, q) (k.0, moved) (sym entry.1 ∙ ap (slice_get es) f ∙ k.2)))
+          | inl k ↦ apart (ap (λ (x : K × ℕ). x.1) (same_Some (entry.0, q) (k.0, moved) (sym entry.1 ∙ ap (slice_get es) f ∙ k.2)))
           | inr s ↦ j_i (f ∙ sym s.1)
         ]) in
         ap (slice_get left) (unwritten is moved q i apart) ∙ swapped_other es i (key, p) at j j_i (below j w j_last) ∙ q_at
@@ -287,7 +287,7 @@ module _ {K : Type 0} (es : List (K × ℕ)) (is : List ℕ) (order : Order) (h 
           let k = h.listed j e from in
           let e_p : e.1 ≢ p = (λ f. d (sym k.1 ∙ ap (λ r. slice_index_or is r 0) f ∙ index)) in
           let e_moved : e.1 ≢ moved = (λ f. elim moved_is [
-              inl m ↦ absurd (let q : slice_index_or is e.1 0 ≡ slice_index_or is moved 0 = ap (λ r. slice_index_or is r 0) f in let a = (h.listed last (m.0, moved) m.2).1 in let b = k.1 in omega arith)
+            | inl m ↦ absurd (let q : slice_index_or is e.1 0 ≡ slice_index_or is moved 0 = ap (λ r. slice_index_or is r 0) f in let a = (h.listed last (m.0, moved) m.2).1 in let b = k.1 in omega arith)
             | inr s ↦ absurd (e_p (f ∙ s.0))
           ]) in
           (kept e.1 e_p k.0, unwritten is moved e.1 i e_moved ∙ k.1)

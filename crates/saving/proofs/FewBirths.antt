@@ -6,7 +6,8 @@ use Rattle.std.proofs.lemmas.Bool.{cases_lt, eq-eqb, lt-ltb, le-ltb}
 use Rattle.std.proofs.lemmas.List.{get_or-set_other}
 use Rattle.bpf_maps.specs.Sum.{total}
 use Rattle.fd_table.specs.Table.{first_descriptor, most}
-use Rattle.tenant.specs.State.{TenantState, most_maps}
+use Rattle.bpf_maps.specs.Limits.{most_maps}
+use Rattle.tenant.specs.State.{TenantState}
 use Rattle.saving.specs.Alike.{HoldsItsMaps}
 use Rattle.saving.specs.Births.{Birth, OfMap, OfProgram, number, is_of_map, is_of_program, IsBorn, AreInOrder}
 use Rattle.saving.proofs.Lists.{total_out, there_within}

@@ -24,7 +24,8 @@ use Rattle.tenant.specs.declared.errno.Errno.TheVariants.{TooBig, Invalid, TooMa
 use Rattle.tenant.specs.declared.object.OpenObject.{OpenObject}
 use Rattle.tenant.specs.declared.object.OpenObject.TheVariants as object
 use Rattle.tenant.specs.Loaded.{LoadedProgram}
-use Rattle.tenant.specs.State.{Map, TenantState, most_bytes, most_maps, new_tenant, free_place, live, is_named, shape_area, map_area, maps_area, with_map_at, with_objects}
+use Rattle.bpf_maps.specs.Limits.{most_bytes, most_maps}
+use Rattle.tenant.specs.State.{Map, TenantState, new_tenant, free_place, live, is_named, shape_area, map_area, maps_area, with_map_at, with_objects}
 use Rattle.tenant.specs.Machine.{Answer, Answers, refuses, refuses_for_memory, kind_of, asked_shape, new_map, room_for, created_at, created_as, created_under, created, of_place, of_object, on_map, gives_if_found, element_put, element_taken_out, LoadJudgement, Judges, targets, accepted, rejected, loaded_program, answer_of_judgement, LoadsAs, LoadsUnder, Loads, longest_packet, maps_given, maps_left, outcome_answer, run_of, closed}
 use Rattle.saving.specs.Alike.{HoldsItsMaps}
 use Rattle.saving.specs.Restorable.{AreDistinct, IsWholeTable, IsWholeMap, IsWholeProgram, IsRestorable}

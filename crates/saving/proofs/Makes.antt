@@ -23,7 +23,8 @@ use Rattle.tenant.specs.declared.errno.Errno.{Errno}
 use Rattle.tenant.specs.declared.errno.Errno.TheVariants.{Invalid}
 use Rattle.tenant.specs.declared.object.OpenObject.{OpenObject}
 use Rattle.tenant.specs.declared.object.OpenObject.TheVariants as object
-use Rattle.tenant.specs.State.{Map, TenantState, most_bytes, live, is_named, named_from, map_area, maps_area, shape_area, free_place, with_map_at}
+use Rattle.bpf_maps.specs.Limits.{most_bytes}
+use Rattle.tenant.specs.State.{Map, TenantState, live, is_named, named_from, map_area, maps_area, shape_area, free_place, with_map_at}
 use Rattle.tenant.specs.Machine.{Answer, Answers, opens, gives, refuses, kind_of, asked_shape, shape_where, new_map, room_for, created, created_under, created_as, of_object, of_place, element_put}
 use Rattle.saving.specs.Restored.{create_of, kind_number, put_of, Leads}
 use Rattle.saving.specs.Restorable.{AreDistinct, IsWholeMap}

@@ -7,7 +7,8 @@ use Rattle.fd_table.specs.Table.{with_open}
 use Rattle.tagged_model.specs.State.{set_at}
 use Rattle.tenant.specs.declared.object.OpenObject.{OpenObject}
 use Rattle.tenant.specs.declared.object.OpenObject.TheVariants as object
-use Rattle.tenant.specs.State.{Map, TenantState, most_bytes, live, map_area, maps_area, free_place, is_named, with_map_at}
+use Rattle.bpf_maps.specs.Limits.{most_bytes}
+use Rattle.tenant.specs.State.{Map, TenantState, live, map_area, maps_area, free_place, is_named, with_map_at}
 use Rattle.tenant.specs.Machine.{room_for}
 use Rattle.saving.specs.Alike.{moved_objects, IsMovedBy, IsAlikeAnswer, HoldsItsMaps}
 use Rattle.saving.proofs.Lists.{there_is, not_none, set_by_place, there_within, total_shuffled, IsShuffled, same_room}

@@ -14,7 +14,8 @@ use Rattle.verifier.specs.Verdict.{IsAccepted}
 use Rattle.tenant.specs.declared.object.OpenObject.{OpenObject}
 use Rattle.tenant.specs.declared.object.OpenObject.TheVariants as object
 use Rattle.tenant.specs.Loaded.{LoadedProgram}
-use Rattle.tenant.specs.State.{Map, TenantState, most_maps, new_tenant, live, names, is_named, named_from}
+use Rattle.bpf_maps.specs.Limits.{most_maps}
+use Rattle.tenant.specs.State.{Map, TenantState, new_tenant, live, names, is_named, named_from}
 use Rattle.tenant.specs.Machine.{Answers, gives, opens, targets, places_from, loaded_program, accepted, LoadsUnder}
 use Rattle.saving.specs.Alike.{HoldsItsMaps}
 use Rattle.saving.specs.Births.{Birth, birth_of, latest_at, AreBirths}

@@ -4,7 +4,8 @@ use Rattle.std.specs.Prelude.{◌≡◌, ℕ, true, List, length, map, Option, I
 use Rattle.fd_table.specs.Table.{most}
 use Rattle.tenant.specs.declared.object.OpenObject.{OpenObject}
 use Rattle.tenant.specs.declared.object.OpenObject.TheVariants as object
-use Rattle.tenant.specs.State.{TenantState, most_maps, live, is_named}
+use Rattle.bpf_maps.specs.Limits.{most_maps}
+use Rattle.tenant.specs.State.{TenantState, live, is_named}
 use Rattle.tenant.specs.Machine.{Answer}
 
 -- ---- a renaming of places

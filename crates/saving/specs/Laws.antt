@@ -3,7 +3,8 @@ use Rattle.std.specs.Prelude.{◌≡◌, ℕ, ◌+◌, ◌^◌, ◌≤◌, ◌<�
 use Rattle.command_frames.specs.Command.{Command}
 use Rattle.command_frames.specs.Frame.{owner}
 use Rattle.fd_table.specs.Table.{most}
-use Rattle.tenant.specs.State.{TenantState, new_tenant, most_maps}
+use Rattle.bpf_maps.specs.Limits.{most_maps}
+use Rattle.tenant.specs.State.{TenantState, new_tenant}
 use Rattle.tenant.specs.Machine.{Answer, Answers}
 use Rattle.tenant.specs.Alone.{IsToldAlone, AloneWithRefusals}
 use Rattle.saving.specs.Alike.{IsAlike, IsAlikeAnswer, HoldsItsMaps}

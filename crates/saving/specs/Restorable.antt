@@ -13,7 +13,8 @@ use Rattle.verifier.specs.Verdict.{IsAccepted}
 use Rattle.verifier.specs.Maps.{maps_of, entries_of}
 use Rattle.tenant.specs.declared.object.OpenObject.TheVariants as object
 use Rattle.tenant.specs.Loaded.{LoadedProgram}
-use Rattle.tenant.specs.State.{Map, TenantState, most_bytes, live, maps_area}
+use Rattle.bpf_maps.specs.Limits.{most_bytes}
+use Rattle.tenant.specs.State.{Map, TenantState, live, maps_area}
 use Rattle.tenant.specs.Machine.{entry_of}
 use Rattle.saving.specs.Alike.{HoldsItsMaps}
 

@@ -1,7 +1,7 @@
 //! Readers and writers that fail, and streams that end anywhere.
 
 ghost use Rattle.std.specs.Prelude.{◌≤◌};
-ghost use Rattle.host_core.specs.declared.server.TheConstants.{MOST_FRAMES};
+ghost use Rattle.host_core.specs.Limits.{most_frames};
 
 use host::{
     Counted, HashSeed, Host, ServeFault, ServeFaultKind, refuse_unread_words, run_words, serve,
@@ -116,7 +116,7 @@ fn served_from<R: Read + Drop>(
     input: R,
     limit: u32,
 ) -> Result<(Result<u32, ServeFault>, Vec<u8>, u64), Fail>
-    requires { limit ≤ MOST_FRAMES }
+    requires { limit ≤ most_frames }
 {
     let mut host = Host::new(alloc, 2, HashSeed::new(1, 2))?;
     let mut reader = Counted::new(input);

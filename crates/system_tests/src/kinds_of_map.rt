@@ -2,7 +2,7 @@
 
 ghost use Rattle.std.specs.Prelude.{◌≡◌, [], IfOk};
 
-use bpf_maps::{ANY, ArrayMap, EXIST, GivenKey, HashMapIx, MapFault, NOEXIST, ValueMap};
+use bpf_maps::{ANY, ArrayMap, EXIST, HashMapIx, KeyRef, MapFault, NOEXIST, ValueMap};
 use host::HashSeed;
 use std::alloc::Global;
 use std::test::Fail;
@@ -42,7 +42,7 @@ fn key(number: u8) -> [u8; 4] {
 }
 
 /// The first byte of a given key.
-fn first_byte(given: Option<GivenKey<'_>>) -> Option<u8> {
+fn first_byte(given: Option<KeyRef<'_>>) -> Option<u8> {
     let given = given?;
     given.bytes().first().copied()
 }

@@ -9,7 +9,8 @@ use Rattle.bpf_maps.specs.Live.{LiveMaps, LiveMap, live_or, live_at, holds_at, o
 use Rattle.bpf_maps.specs.LiveLaws.{same_lowest}
 use Rattle.bpf_maps.specs.Places.{table_of}
 use Rattle.tagged_model.specs.Table.{with_values}
-use Rattle.tenant.specs.State.{Map, most_maps}
+use Rattle.bpf_maps.specs.Limits.{most_maps}
+use Rattle.tenant.specs.State.{Map}
 use Rattle.tenant.specs.Kept.{at_places, map_at}
 
 -- ---- places

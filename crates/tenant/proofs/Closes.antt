@@ -15,7 +15,8 @@ use Rattle.tenant.specs.declared.object.OpenObject.TheVariants as object
 use Rattle.tenant.specs.Loaded.{LoadedProgram}
 use Rattle.bpf_maps.specs.Sum.{total}
 use Rattle.tenant.specs.Machine.{gives, closed}
-use Rattle.tenant.specs.State.{Map, most_maps, names, is_named, named_from, with_objects}
+use Rattle.bpf_maps.specs.Limits.{most_maps}
+use Rattle.tenant.specs.State.{Map, names, is_named, named_from, with_objects}
 use Rattle.tenant.specs.Kept.{KeptTenant, IsWellFormedTenant, IsBound, times_listed, times_named, by_descriptor, holders, at_places, map_at, state_in}
 use Rattle.tenant.proofs.AtPlaces.{length-at, at-within, live_or_not, held_is_live, none_there, same_map_at}
 use Rattle.tenant.specs.inside.Leaves.{LeavesHeldMaps}

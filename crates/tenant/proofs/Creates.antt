@@ -17,7 +17,8 @@ use Rattle.tenant.specs.declared.object.OpenObject.{OpenObject}
 use Rattle.tenant.specs.declared.object.OpenObject.TheVariants as object
 use Rattle.tenant.specs.Loaded.{LoadedProgram}
 use Rattle.tenant.specs.State as state
-use Rattle.tenant.specs.State.{Map, most_bytes, most_maps, free_place, shape_area, map_area}
+use Rattle.bpf_maps.specs.Limits.{most_bytes, most_maps}
+use Rattle.tenant.specs.State.{Map, free_place, shape_area, map_area}
 use Rattle.tenant.specs.declared.errno.Errno.TheVariants.{NoMemory}
 use Rattle.tenant.specs.Errno.{map_errno}
 use Rattle.tenant.specs.Machine.{refuses, room_for, new_map, created, created_under, created_as, created_at}

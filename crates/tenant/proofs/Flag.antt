@@ -19,12 +19,12 @@ use Rattle.tenant.specs.declared.errno.Errno.TheVariants.{Invalid, TooBig}
 use Rattle.tenant.specs.Loaded.{LoadedProgram}
 use Rattle.tenant.specs.State.{Map, TenantState, live}
 use Rattle.command_frames.specs.declared.command.BadFrame.{BadFrame}
-use Rattle.tenant.specs.Alone.{AnswersFrame, RepliesUnder, MayReply, IsToldAlone, AloneWithRefusals}
+use Rattle.tenant.specs.Alone.{AnswersFrame, RepliesUnder, MayReply, IsToldAlone, AloneWithRefusals, EndsOrIsRefused, IsToldAloneUntilRefused}
 use Rattle.tenant.specs.Machine.{Answer, of_object, of_place, on_map, element_put, created_at, created_as, created_under, created, room_for, kind_of, asked_shape, refuses, maps_left, maps_given, outcome_answer, ran, run_of, longest_packet, LoadsAs, LoadsUnder, Answers, LoadJudgement, accepted, rejected, answer_of_judgement, gives_if_found, element_taken_out, closed}
 use Rattle.tenant.proofs.LookUps.{has_size}
 use Rattle.tenant.proofs.NextKeys.{is_empty_or_fits}
 use Rattle.tenant.proofs.Updates.{has_sizes, key_of, value_of, put_of}
-use Rattle.tenant.specs.Laws.{ClearFlagMeansAlone}
+use Rattle.tenant.specs.Laws.{ClearFlagMeansAlone, AloneUntilRefused}
 
 -- an answer with these refusals, and the one without: where the flag is clear after the first, they are one, and it was clear
 abbrev pub Clear : TenantState → Answer → Answer → Type 0
@@ -195,3 +195,47 @@ clear_both tell before after (frame ∷ frames) (reply ∷ replies) (between, to
 -- if a tenant's flag is clear at the end, its replies are those of its machine without refusals
 pub clear_flag_means_alone : RefusalsAreTold → ClearFlagMeansAlone
 clear_flag_means_alone tell before after frames replies h e = (clear_both tell before (Some after) frames replies h e).0
+
+-- ---- until the flag is set
+
+-- one more reply before those that are the machine's without refusals
+told_one_more : (frame reply : List ℕ) (frames replies : List (List ℕ)) (before between : Option TenantState) → RepliesUnder [] frame reply before between → IsToldAloneUntilRefused between frames replies
+    → IsToldAloneUntilRefused before (frame ∷ frames) (reply ∷ replies)
+told_one_more frame reply frames replies before between here later = record {
+  first = frame ∷ later.first;
+  told = reply ∷ later.told;
+  later = later.later;
+  rest = later.rest;
+  between = later.between;
+  frames_are = ap (λ fs. frame ∷ fs) later.frames_are;
+  replies_are = ap (λ rs. reply ∷ rs) later.replies_are;
+  alone = (between, here, later.alone);
+  next = later.next;
+}
+
+-- no reply is left that is the machine's without refusals
+told_no_more : (before : Option TenantState) (frames replies : List (List ℕ)) → EndsOrIsRefused before frames replies → IsToldAloneUntilRefused before frames replies
+told_no_more before frames replies next = record {
+  first = [];
+  told = [];
+  later = frames;
+  rest = replies;
+  between = before;
+  frames_are = refl;
+  replies_are = refl;
+  alone = refl;
+  next = next;
+}
+
+pub alone_until_refused : RefusalsAreTold → AloneUntilRefused
+alone_until_refused tell before after [] [] h = told_no_more before [] [] tt
+alone_until_refused tell before after [] (reply ∷ replies) h = absurd h
+alone_until_refused tell before after (frame ∷ frames) [] h = absurd h
+alone_until_refused tell None after (frame ∷ frames) (reply ∷ replies) (between, (r, told), rest) =
+    told_one_more frame reply frames replies None between told (alone_until_refused tell between after frames replies rest)
+alone_until_refused tell (Some s) after (frame ∷ frames) (reply ∷ replies) (between, (r, (a, answers, told, goes)), rest) =
+    by_flag a.after.refused refl (alone_until_refused tell between after frames replies rest)
+  where
+    by_flag : (flag : Bool) → a.after.refused ≡ flag → IsToldAloneUntilRefused between frames replies → IsToldAloneUntilRefused (Some s) (frame ∷ frames) (reply ∷ replies)
+    by_flag true e later = told_no_more (Some s) (frame ∷ frames) (reply ∷ replies) (a.after, (r, (a, answers, told, refl)), e)
+    by_flag false e later = told_one_more frame reply frames replies (Some s) between (a, (clear_frame tell r s (parsed frame) a answers e).0, told, goes) later

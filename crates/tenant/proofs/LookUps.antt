@@ -8,7 +8,8 @@ use Rattle.tagged_model.specs.MapLaws.{CallsRefineValues}
 use Rattle.tagged_model.specs.Table.{look_up}
 use Rattle.tenant.specs.declared.errno.Errno.TheVariants.{Invalid}
 use Rattle.tenant.specs.declared.object.OpenObject.{OpenObject}
-use Rattle.tenant.specs.State.{Map, live, most_maps}
+use Rattle.bpf_maps.specs.Limits.{most_maps}
+use Rattle.tenant.specs.State.{Map, live}
 use Rattle.tenant.specs.Machine.{Answer, refuses, gives_if_found, of_object, of_place, on_map, element_looked_up}
 use Rattle.tenant.specs.Kept.{KeptTenant, map_at, state_in}
 use Rattle.tenant.specs.inside.Named.{IsMapOf}

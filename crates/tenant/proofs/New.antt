@@ -7,7 +7,8 @@ use Rattle.bpf_maps.specs.Live.{LiveMaps, LiveMap, live_or, live_at}
 use Rattle.fd_table.specs.Table.{nothing_open, most}
 use Rattle.tenant.specs.declared.object.OpenObject.{OpenObject}
 use Rattle.tenant.specs.declared.object.OpenObject.TheVariants as object
-use Rattle.tenant.specs.State.{Map, most_maps, new_tenant}
+use Rattle.bpf_maps.specs.Limits.{most_maps}
+use Rattle.tenant.specs.State.{Map, new_tenant}
 use Rattle.tenant.specs.Kept.{KeptTenant, IsWellFormedTenant, times_named, by_descriptor, descriptors, at_places, map_at, state_in}
 use Rattle.tenant.proofs.AtPlaces.{same_at, none_there, not_live}
 use Rattle.tenant.proofs.Sums.{total-none}

@@ -2,7 +2,8 @@
 use Rattle.std.proofs.Common.{◌≡◌, ◌≢◌, ℕ, ◌<◌, Bool, List, Option, Some, IsSome, ap, ap₂, ◌∙◌}
 use Rattle.std.specs.Prelude.{◌||◌}
 use Rattle.bpf_maps.specs.Live.{LiveMaps, live_at, map_in}
-use Rattle.tenant.specs.State.{Map, most_maps, with_map_at}
+use Rattle.bpf_maps.specs.Limits.{most_maps}
+use Rattle.tenant.specs.State.{Map, with_map_at}
 use Rattle.tenant.specs.Kept.{KeptTenant, map_at, state_in}
 use Rattle.tenant.proofs.AtPlaces.{at_each, set_at, same_at, same_live, same_map_at, map_there}
 use Rattle.tenant.proofs.StillKept.{with_live}

@@ -13,7 +13,7 @@ use Rattle.verifier.specs.Maps.{maps_of}
 use Rattle.verifier.specs.Verified.{Accepted}
 use Rattle.tenant.specs.declared.object.OpenObject.TheVariants as object
 use Rattle.tenant.specs.Kept.{KeptTenant, IsWellFormedTenant, IsBound}
-use Rattle.tenant.specs.State.{most_maps}
+use Rattle.bpf_maps.specs.Limits.{most_maps}
 use Rattle.tenant.specs.Loaded.{LoadedProgram, map_places}
 use Rattle.tenant.proofs.Closes.{closed_at}
 use Rattle.tenant.proofs.LoadingPlaces.{AreApart, length-seconds, length-firsts}

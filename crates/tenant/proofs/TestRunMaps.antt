@@ -17,7 +17,8 @@ use Rattle.tenant.specs.Kept.{KeptTenant, IsWellFormedTenant, IsBound, times_lis
 use Rattle.tenant.specs.Loaded.{LoadedProgram, map_places}
 use Rattle.verifier.specs.Laws.{MapsAreListed}
 use Rattle.tenant.specs.Machine.{maps_given, maps_left}
-use Rattle.tenant.specs.State.{Map, live, most_maps}
+use Rattle.bpf_maps.specs.Limits.{most_maps}
+use Rattle.tenant.specs.State.{Map, live}
 use Rattle.tenant.proofs.AtPlaces.{length-at, at-within, at-past, map_there, other_at}
 use Rattle.tenant.proofs.LookUps.{live_is}
 use Rattle.tenant.proofs.LoadingPlaces.{seconds, length-seconds, length-firsts}

@@ -1,5 +1,5 @@
 -- The replies to one tenant: those of its own machine, on its own frames. This project's own.
-use Rattle.std.specs.Prelude.{◌≡◌, ℕ, Bool, List, [], ◌∷◌, length, take, drop, filter, Option, Some, None, Result, Ok, Err, nat_lt, ◌==◌, if◌then◌else◌}
+use Rattle.std.specs.Prelude.{◌≡◌, ℕ, Bool, true, List, [], ◌∷◌, ◌++◌, length, take, drop, filter, Option, Some, None, Result, Ok, Err, nat_lt, ◌==◌, if◌then◌else◌}
 use Rattle.std.specs.Int.{w32, cast_unsigned}
 use Rattle.byteorder.specs.Endian.{little_bytes}
 use Rattle.command_frames.specs.declared.command.BadFrame.{BadFrame}
@@ -68,3 +68,23 @@ IsToldAlone before frames replies after = RepliesInOrder (RepliesUnder []) befor
 
 abbrev pub AloneWithRefusals : Option TenantState → List (List ℕ) → List (List ℕ) → Option TenantState → Type 0
 AloneWithRefusals before frames replies after = RepliesInOrder MayReply before frames replies after
+
+-- ---- until memory is refused
+
+-- nothing follows, or the flag of refused memory is set with the reply to the first of these frames
+abbrev pub EndsOrIsRefused : Option TenantState → List (List ℕ) → List (List ℕ) → Type 0
+EndsOrIsRefused before [] [] = Unit {0}
+EndsOrIsRefused before (frame ∷ frames) (reply ∷ replies) = (s : TenantState) × MayReply frame reply before (Some s) × (s.refused ≡ true)
+EndsOrIsRefused before _ _ = ⊥
+
+-- the tenant gets the replies of its machine without refusals up to the first with which its flag is set, or to all frames
+pub record IsToldAloneUntilRefused (before : Option TenantState) (frames replies : List (List ℕ)) : Type 0 where
+  pub first : List (List ℕ)
+  pub told : List (List ℕ)
+  pub later : List (List ℕ)
+  pub rest : List (List ℕ)
+  pub between : Option TenantState
+  pub frames_are : frames ≡ first ++ later
+  pub replies_are : replies ≡ told ++ rest
+  pub alone : IsToldAlone before first told between
+  pub next : EndsOrIsRefused between later rest

@@ -10,7 +10,8 @@ use Rattle.verifier.specs.Maps.{maps_of}
 use Rattle.tenant.specs.declared.object.OpenObject.{OpenObject}
 use Rattle.tenant.specs.declared.object.OpenObject.TheVariants as object
 use Rattle.tenant.specs.Loaded.{LoadedProgram, map_places}
-use Rattle.tenant.specs.State.{Map, TenantState, most_maps}
+use Rattle.bpf_maps.specs.Limits.{most_maps}
+use Rattle.tenant.specs.State.{Map, TenantState}
 
 -- the open objects by descriptors, the live maps by places, and whether memory was refused to a load
 pub record KeptTenant : Type 0 where

@@ -8,7 +8,7 @@ use Rattle.tenant.specs.Machine.{Answer, LoadJudgement, Judges, Answers}
 use Rattle.command_frames.specs.Frame.{reply_to}
 use Rattle.tenant.specs.declared.errno.Errno.TheVariants.{BadAddress}
 use Rattle.tenant.specs.Errno.{status_of}
-use Rattle.tenant.specs.Alone.{RepliesUnder, MayReply, IsFault, IsToldAlone, AloneWithRefusals}
+use Rattle.tenant.specs.Alone.{RepliesUnder, MayReply, IsFault, IsToldAlone, AloneWithRefusals, IsToldAloneUntilRefused}
 
 abbrev pub OneJudgement : Type 0
 OneJudgement = (named : List Named) (slots : List ℕ) (j k : LoadJudgement) → Judges named slots j → Judges named slots k → j ≡ k
@@ -38,6 +38,12 @@ abbrev pub ClearFlagMeansAlone : Type 0
 ClearFlagMeansAlone =
     (before : Option TenantState) (after : TenantState) (frames replies : List (List ℕ)) → AloneWithRefusals before frames replies (Some after)
     → after.refused ≡ false → IsToldAlone before frames replies (Some after)
+
+-- a tenant gets the replies of its machine without refusals until its flag is set
+abbrev pub AloneUntilRefused : Type 0
+AloneUntilRefused =
+    (before after : Option TenantState) (frames replies : List (List ℕ)) → AloneWithRefusals before frames replies after
+    → IsToldAloneUntilRefused before frames replies
 
 -- a reply with the status of a fault has no payload
 abbrev pub FaultsHaveNoPayload : Type 0

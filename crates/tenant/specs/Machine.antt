@@ -37,7 +37,8 @@ use Rattle.tenant.specs.declared.object.OpenObject.{OpenObject}
 use Rattle.tenant.specs.declared.object.OpenObject.TheVariants as object
 use Rattle.tenant.specs.Loaded.{LoadedProgram}
 use Rattle.tenant.specs.Errno.{status_of, map_errno}
-use Rattle.tenant.specs.State.{Map, TenantState, most_bytes, live, free_place, shape_area, maps_area, with_map_at, with_objects}
+use Rattle.bpf_maps.specs.Limits.{most_bytes}
+use Rattle.tenant.specs.State.{Map, TenantState, live, free_place, shape_area, maps_area, with_map_at, with_objects}
 
 -- ---- answers
 

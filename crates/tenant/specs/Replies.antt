@@ -1,7 +1,7 @@
 -- The machine's answers that the code's replies represent. This project's own.
 use Rattle.std.specs.Prelude.{◌≢◌, ◌+◌, ◌<◌, ◌≤◌, [], length, Result, Ok, Err}
 use Rattle.byteorder.specs.Endian.{little_bytes}
-use Rattle.bpf_maps.specs.Given.{given_bytes}
+use Rattle.bpf_maps.specs.KeyRef.{key_bytes}
 use Rattle.command_frames.specs.Frame.{longest_payload}
 use Rattle.fd_table.specs.Table.{first_descriptor, most}
 use Rattle.tenant.specs.declared.errno.Errno.{Errno}
@@ -16,7 +16,7 @@ abbrev pub shown_answer : Result Reply Errno → TenantState → Answer
 shown_answer (Ok reply.Done) s = gives [] s
 shown_answer (Ok (reply.Opened fd)) s = opens fd s
 shown_answer (Ok (reply.Value value)) s = gives value.now s
-shown_answer (Ok (reply.Key key)) s = gives (given_bytes key) s
+shown_answer (Ok (reply.Key key)) s = gives (key_bytes key) s
 shown_answer (Ok (reply.Number number)) s = gives (little_bytes 4 number) s
 shown_answer (Ok (reply.RefusedAt errno slot reason)) s = refuses_at errno slot reason s
 shown_answer (Err errno) s = refuses errno s
@@ -26,7 +26,7 @@ abbrev pub IsWritable : Result Reply Errno → Type 0
 IsWritable (Ok reply.Done) = Unit {0}
 IsWritable (Ok (reply.Opened fd)) = fd < first_descriptor + most
 IsWritable (Ok (reply.Value value)) = length value.now ≤ longest_payload
-IsWritable (Ok (reply.Key key)) = length (given_bytes key) ≤ longest_payload
+IsWritable (Ok (reply.Key key)) = length (key_bytes key) ≤ longest_payload
 IsWritable (Ok (reply.Number number)) = Unit {0}
 IsWritable (Ok (reply.RefusedAt errno slot reason)) = Unit {0}
 IsWritable (Err errno) = errno ≢ BadAddress

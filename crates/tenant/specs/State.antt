@@ -3,7 +3,7 @@
 use Rattle.std.specs.Prelude.{ℕ, ◌+◌, ◌==◌, Bool, false, if◌then◌else◌, List, [], ◌∷◌, replicate, Option, Some, None, is_none, position, slice_index_or, slice_set}
 use Rattle.std.specs.List.{list_any}
 use Rattle.std.specs.Option.{option_map_or}
-use Rattle.bpf_maps.specs.declared.part.TheConstants.{LARGEST_SUM, MAPS}
+use Rattle.bpf_maps.specs.Limits.{most_maps}
 use Rattle.bpf_maps.specs.Sum.{total}
 use Rattle.tagged_model.specs.declared.shape.MapShape.{MapShape}
 use Rattle.tagged_model.specs.Shape.{area}
@@ -21,14 +21,6 @@ pub record TenantState : Type 0 where
   pub objects : List (Option OpenObject)
   pub maps : List (Option Map)
   pub refused : Bool
-
--- the most maps that may be live
-abbrev pub most_maps : ℕ
-most_maps = MAPS
-
--- the most bytes that the values of all live maps may take
-abbrev pub most_bytes : ℕ
-most_bytes = LARGEST_SUM
 
 -- the state of a new tenant
 abbrev pub new_tenant : TenantState

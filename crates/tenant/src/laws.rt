@@ -1,7 +1,7 @@
 //! Laws of the machine. Each law is the contract of a function that does nothing.
 
 ghost use Rattle.tenant.specs.Batch.{BatchIsItsFrames, RefusedAsItsFrame, OneResultEach};
-ghost use Rattle.tenant.specs.Laws.{OneJudgement, OneAnswer, OneReply, OneAlone, ClearFlagMeansNoRefusal, ClearFlagMeansAlone, FaultsHaveNoPayload};
+ghost use Rattle.tenant.specs.Laws.{OneJudgement, OneAnswer, OneReply, OneAlone, ClearFlagMeansNoRefusal, ClearFlagMeansAlone, AloneUntilRefused, FaultsHaveNoPayload};
 
 /// The judgement of slots is unique: one accepted program, or one fault.
 pub fn one_judgement()
@@ -44,6 +44,13 @@ pub fn clear_flag_means_no_refusal()
 /// If a tenant's flag is clear at the end, its replies are those of its machine without refusals.
 pub fn clear_flag_means_alone()
     ensures { ClearFlagMeansAlone }
+{
+    tagged_model::laws::refusals_are_told();
+}
+
+/// Up to the first reply with which a tenant's flag is set, its replies are those of its machine without refusals.
+pub fn alone_until_refused()
+    ensures { AloneUntilRefused }
 {
     tagged_model::laws::refusals_are_told();
 }

@@ -5,7 +5,7 @@ ghost use Rattle.tenant.specs.State.{TenantState};
 ghost use Rattle.tenant.specs.inside.Frames.{Writes};
 
 use crate::errno::Errno;
-use bpf_maps::GivenKey;
+use bpf_maps::KeyRef;
 use command_frames::{Head, ReplyBuf, write_number, write_reply};
 
 /// The reply to a command that is executed, or to a load that is refused because of a slot. Any other refusal is an `Errno`.
@@ -18,7 +18,7 @@ pub enum Reply<'a> {
     /// The payload is a value, borrowed from the tenant's part.
     Value(&'a [u8]),
     /// The payload is a key.
-    Key(GivenKey<'a>),
+    Key(KeyRef<'a>),
     /// The payload is the result of a test run.
     Number(u32),
     /// The payload is the slot and the reason of a load that is refused.

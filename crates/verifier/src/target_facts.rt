@@ -17,7 +17,7 @@ use std::marker::Model;
 pub(crate) struct TargetFacts {
     facts: Vec<Option<Box<Facts>>>,
     /// Boxes of entries that are over, for reuse.
-    places: Vec<Box<Facts>>,
+    spare: Vec<Box<Facts>>,
 }
 
 impl Model for TargetFacts {
@@ -29,28 +29,28 @@ impl Model for TargetFacts {
     ghost view = { λ e. map (option_map box_value) e.facts.items };
 }
 
-/// A box with these facts: a free one, or a new one.
-fn place_of(
-    places: &mut Vec<Box<Facts>>,
+/// A box with these facts: a spare one, or a new one.
+fn boxed(
+    spare: &mut Vec<Box<Facts>>,
     alloc: Global,
     facts: &Facts,
 ) -> Result<Box<Facts>, AllocError>
-    ensures { IfOk result (λ place. place.value ≡ facts.now) }
+    ensures { IfOk result (λ entry. entry.value ≡ facts.now) }
 {
-    match places.pop() {
-        Some(mut place) => {
-            *place = *facts;
-            Ok(place)
+    match spare.pop() {
+        Some(mut entry) => {
+            *entry = *facts;
+            Ok(entry)
         }
         None => Ok(Box::new(alloc, *facts)?),
     }
 }
 
 /// Keeps a box for reuse.
-fn keep(places: &mut Vec<Box<Facts>>, place: Box<Facts>) -> Result<(), AllocError>
-    ensures { OnOk result (places.new.items ≡ places.old.items ++ place ∷ []) }
+fn keep(spare: &mut Vec<Box<Facts>>, entry: Box<Facts>) -> Result<(), AllocError>
+    ensures { OnOk result (spare.new.items ≡ spare.old.items ++ entry ∷ []) }
 {
-    places.push(place)?;
+    spare.push(entry)?;
     Ok(())
 }
 
@@ -58,7 +58,7 @@ fn keep(places: &mut Vec<Box<Facts>>, place: Box<Facts>) -> Result<(), AllocErro
 fn join_entry(
     entry: &mut Option<Box<Facts>>,
     facts: &Facts,
-    places: &mut Vec<Box<Facts>>,
+    spare: &mut Vec<Box<Facts>>,
     alloc: Global,
 ) -> Result<(), AllocError>
     ensures { OnOk result (option_map box_value entry.new
@@ -66,7 +66,7 @@ fn join_entry(
 {
     match entry {
         Some(known) => join_into(known, facts),
-        None => *entry = Some(place_of(places, alloc, facts)?),
+        None => *entry = Some(boxed(spare, alloc, facts)?),
     }
     Ok(())
 }
@@ -80,8 +80,8 @@ impl TargetFacts {
         for _ in 0..slots {
             facts.push(None)?;
         }
-        let places = Vec::new(alloc);
-        Ok(TargetFacts { facts, places })
+        let spare = Vec::new(alloc);
+        Ok(TargetFacts { facts, spare })
     }
 
     /// Joins the facts of the jumps to `slot` into those that are known there otherwise, and empties the entry.
@@ -95,7 +95,7 @@ impl TargetFacts {
         }
         if let Some(entry) = self.facts[slot].take() {
             known.join(&entry);
-            keep(&mut self.places, entry)?;
+            keep(&mut self.spare, entry)?;
         }
         Ok(())
     }
@@ -107,7 +107,7 @@ impl TargetFacts {
             (joined (brought_to slot self.old) (Some facts.now))) }
     {
         let alloc = *self.facts.allocator();
-        join_entry(&mut self.facts[slot], facts, &mut self.places, alloc)
+        join_entry(&mut self.facts[slot], facts, &mut self.spare, alloc)
     }
 
     /// Joins the facts on a jump's edge into the entry of its target, if there are both.

@@ -5,7 +5,7 @@ use Rattle.std.specs.Str.{bytes_eq}
 use Rattle.std.specs.HashMap.{HashMap, get_by}
 use Rattle.std.specs.declared.hash.FoldHasher.{FoldHasher}
 use Rattle.std.specs.declared.hash.BuildHasherDefault.{BuildHasherDefault}
-use Rattle.insn_set.specs.declared.TheConstants.{MAX_SLOTS}
+use Rattle.insn_set.specs.Program.{most_slots}
 use Rattle.text_line.specs.declared.form.Form.{Form}
 use Rattle.text_line.specs.Form.{names_label}
 use Rattle.text_line.specs.Line.{Line, blank, label, code, IsWellFormed}
@@ -47,7 +47,7 @@ kept_slot (Some place) = place.slot
 
 -- A label past the last slot that a program may have is taken to be at that slot: the text has a line that is too long.
 abbrev pub kept_distance : Option Place → ℕ → ℤ
-kept_distance place slot = pos (min (kept_slot place) MAX_SLOTS) -ℤ pos (slot + 1)
+kept_distance place slot = pos (min (kept_slot place) most_slots) -ℤ pos (slot + 1)
 
 abbrev pub code_fault : Form → Option Place → ℕ → Option TextFaultKind
 code_fault form place before =

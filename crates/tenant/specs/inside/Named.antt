@@ -7,7 +7,7 @@ use Rattle.tenant.specs.declared.errno.Errno.TheVariants.{BadDescriptor, Invalid
 use Rattle.tenant.specs.declared.object.OpenObject.{OpenObject}
 use Rattle.tenant.specs.declared.object.OpenObject.TheVariants as object
 use Rattle.tenant.specs.Kept.{KeptTenant}
-use Rattle.tenant.specs.State.{most_maps}
+use Rattle.bpf_maps.specs.Limits.{most_maps}
 
 -- a descriptor names the live map at a place
 pub record IsMapOf (k : KeptTenant) (fd place : ℕ) : Type 0 where

@@ -1,5 +1,5 @@
 use Rattle.std.proofs.Common.{◌≡◌, length, IfSome, option_map, sym, subst}
-use Rattle.bpf_maps.specs.Given.{given_bytes}
+use Rattle.bpf_maps.specs.KeyRef.{key_bytes}
 use Rattle.bpf_maps.specs.Places.{PlaceTable, table_of}
 use Rattle.tagged_model.specs.Table.{next_of}
 use Rattle.bpf_maps.proofs.Changes.{told_of}
@@ -10,6 +10,6 @@ returns c =
     let is = c.entry.ensures in
     let same = sym (told_of (λ l. l.places) is) in
     record {
-      given = subst (λ (t : PlaceTable). option_map given_bytes c.key_after.result ≡ next_of (table_of t) c.args.key.now) same c.key_after.ensures.given;
-      size = subst (λ (t : PlaceTable). IfSome c.key_after.result (λ given. length (given_bytes given) ≡ t.shape.key_size)) same c.key_after.ensures.size;
+      given = subst (λ (t : PlaceTable). option_map key_bytes c.key_after.result ≡ next_of (table_of t) c.args.key.now) same c.key_after.ensures.given;
+      size = subst (λ (t : PlaceTable). IfSome c.key_after.result (λ given. length (key_bytes given) ≡ t.shape.key_size)) same c.key_after.ensures.size;
     }

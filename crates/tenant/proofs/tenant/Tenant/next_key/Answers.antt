@@ -1,5 +1,5 @@
 use Rattle.std.proofs.Common.{◌≡◌, length, Some, None, sym, ap, subst, ◌∙◌}
-use Rattle.bpf_maps.specs.Given.{given_bytes}
+use Rattle.bpf_maps.specs.KeyRef.{key_bytes}
 use Rattle.bpf_maps.specs.Live.{shape_at}
 use Rattle.tagged_model.specs.declared.shape.MapShape.{MapShape}
 use Rattle.tenant.specs.Kept.{KeptTenant, state_in}
@@ -12,7 +12,7 @@ use Rattle.tenant.proofs.tenant.Tenant.next_key.Goals as goal
 pub returns-in-Some-clause-answer : goal.returns-in-Some-clause-answer
 returns-in-Some-clause-answer c = λ part.
     let key = c.args.key.now in
-    subst (λ (k : KeptTenant). gives_if_found (state_in part k) (Some (given_bytes c.in-Some.following)) ≡ given_next (state_in part k) c.args.fd key) c.self.view_is
+    subst (λ (k : KeptTenant). gives_if_found (state_in part k) (Some (key_bytes c.in-Some.following)) ≡ given_next (state_in part k) c.args.fd key) c.self.view_is
     (next_is c.calls_refine_values.ensures.bytes part key (map_in_state c.self.view_is c.in_ok-map.ensures.found) (ap (λ (s : MapShape). s.key_size) c.shape-size.ensures) c.is_empty.ensures c.else-not-is_empty.either c.in-Some.ensures.given)
 
 pub returns-in-None-clause-answer : goal.returns-in-None-clause-answer

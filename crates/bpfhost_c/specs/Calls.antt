@@ -4,7 +4,7 @@ use Rattle.std.specs.Prelude.{◌≡◌, ℕ, ℤ, nat_lt, ◌||◌, if◌then�
 use Rattle.std.specs.Vec.{vec_ptr}
 use Rattle.host_core.specs.Frame.{longest_reply}
 use Rattle.host_core.specs.State.{TenantState}
-use Rattle.host_core.specs.declared.host.TheConstants.{MOST_TENANTS}
+use Rattle.host_core.specs.Limits.{most_tenants}
 use Rattle.bpfhost_c.specs.declared.codes.TheConstants.{DONE, NO_HOST, HAS_HOST, TENANTS, ROOM}
 use Rattle.bpfhost_c.specs.declared.session.Session.{Session}
 
@@ -24,7 +24,7 @@ StandsAt (Some s) reply at length = (s.reply.items ≡ reply) × (at ≡ vec_ptr
 -- of `new`, unless it is out of memory
 abbrev pub new_code : Option Session → ℕ → ℤ
 new_code before tenants =
-    if nat_lt tenants 1 || nat_lt MOST_TENANTS tenants then TENANTS else (if is_none before then DONE else HAS_HOST)
+    if nat_lt tenants 1 || nat_lt most_tenants tenants then TENANTS else (if is_none before then DONE else HAS_HOST)
 
 -- of a call that takes a host
 abbrev pub host_code : Option Session → ℤ

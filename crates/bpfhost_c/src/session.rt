@@ -4,7 +4,7 @@ ghost use Rattle.std.specs.Prelude.{◌≡◌, ◌≤◌, length, replicate, vec
 ghost use Rattle.host_core.specs.Frame.{longest_reply};
 ghost use Rattle.host_core.specs.Handled.{Handles};
 ghost use Rattle.host_core.specs.State.{new_tenant};
-ghost use Rattle.host_core.specs.declared.host.TheConstants.{MOST_TENANTS};
+ghost use Rattle.host_core.specs.Limits.{most_tenants};
 ghost use Rattle.bpfhost_c.specs.Packets.{RunsPackets};
 
 use host_core::{GIVEN_WORDS, HashSeed, Host, LONGEST_REPLY, MOST_TENANTS, ReplyBuf};
@@ -28,7 +28,7 @@ impl Session {
         seed: HashSeed,
     ) -> Result<Box<Session>, AllocError>
         requires some { 1 ≤ tenants }
-        requires few { tenants ≤ MOST_TENANTS }
+        requires few { tenants ≤ most_tenants }
         ensures { IfOk result (λ session. session.value.host ≡ replicate tenants new_tenant) }
     {
         let host = Host::new(alloc, tenants, seed)?;

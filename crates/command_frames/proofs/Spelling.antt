@@ -56,6 +56,20 @@ readings_agree (f ∷ fs) (g ∷ gs) rest left all all_too partial partial_too e
 pub one_stream_is : (bytes : List ℕ) (frames others : List (List ℕ)) (rest left : List ℕ) → IsStream bytes frames rest → IsStream bytes others left → (frames ≡ others) × (rest ≡ left)
 one_stream_is bytes frames others rest left is is_too = readings_agree frames others rest left is.each is_too.each is.partial is_too.partial (sym is.spelled ∙ is_too.spelled)
 
+frames_after : (bytes : List ℕ) (first frames : List (List ℕ)) (left rest : List ℕ) → AllByRecursion IsFrame first → bytes ≡ flat_map framed first ++ left → AllByRecursion IsFrame frames → IsPartial rest → bytes ≡ flat_map framed frames ++ rest
+    → (more : List (List ℕ)) × (frames ≡ first ++ more) × IsStream left more rest
+frames_after bytes [] frames left rest all e each partial is = (frames, refl, record { each = each; partial = partial; spelled = sym e ∙ is })
+frames_after bytes (f ∷ fs) [] left rest all e each partial is = absurd (none_before f fs rest left all.0 partial (sym is ∙ e))
+frames_after bytes (f ∷ fs) (g ∷ gs) left rest all e each partial is =
+    let (here, next) = same_front f g (flat_map framed fs ++ left) (flat_map framed gs ++ rest) all.0 each.0
+    (sym (append_assoc (framed f) (flat_map framed fs) left) ∙ sym e ∙ is ∙ append_assoc (framed g) (flat_map framed gs) rest) in
+    let (more, frames_are, stream) = frames_after (flat_map framed fs ++ left) fs gs left rest all.1 refl each.1 partial next in
+    (more, ap₂ (λ (x : List ℕ) (xs : List (List ℕ)). x ∷ xs) (sym here) frames_are, stream)
+
+pub frames_in_front_are : (bytes : List ℕ) (first frames : List (List ℕ)) (left rest : List ℕ) → AllByRecursion IsFrame first → bytes ≡ flat_map framed first ++ left → IsStream bytes frames rest
+    → (more : List (List ℕ)) × (frames ≡ first ++ more) × IsStream left more rest
+frames_in_front_are bytes first frames left rest all e is = frames_after bytes first frames left rest all e is.each is.partial is.spelled
+
 -- ---- each byte list is a stream
 
 AreBytes : List ℕ → Type 0

@@ -23,6 +23,12 @@ OneStream =
     (bytes : List ℕ) (frames others : List (List ℕ)) (rest left : List ℕ)
     → IsStream bytes frames rest → IsStream bytes others left → (frames ≡ others) × (rest ≡ left)
 
+-- whole frames in front of a stream are its first ones
+abbrev pub FramesInFront : Type 0
+FramesInFront =
+    (bytes : List ℕ) (first frames : List (List ℕ)) (left rest : List ℕ) → AllByRecursion IsFrame first → bytes ≡ flat_map framed first ++ left → IsStream bytes frames rest
+    → (more : List (List ℕ)) × (frames ≡ first ++ more) × IsStream left more rest
+
 -- ---- replies
 
 -- the fields of a reply are in their ranges

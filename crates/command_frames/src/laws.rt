@@ -1,6 +1,6 @@
 //! Laws of frames and replies. Each is the contract of a function that does nothing.
 
-ghost use Rattle.command_frames.specs.Laws.{EachIsStream, OneStream, OneReplyInFront};
+ghost use Rattle.command_frames.specs.Laws.{EachIsStream, OneStream, FramesInFront, OneReplyInFront};
 
 /// All bytes are a list of frames and a rest that is no whole frame.
 pub fn each_is_stream()
@@ -10,6 +10,11 @@ pub fn each_is_stream()
 /// The frames and the rest of a stream are unique.
 pub fn one_stream()
     ensures { OneStream }
+{}
+
+/// Whole frames in front of a stream are its first ones, and what follows them is a stream.
+pub fn frames_in_front()
+    ensures { FramesInFront }
 {}
 
 /// Bytes begin with one reply at most: they determine its tenant, command, status and payload.

@@ -8,3 +8,5 @@ pub mod Stands
 pub mod Serving
 pub mod ToldAlone
 mod BatchCalls
+mod Replays
+mod Ends

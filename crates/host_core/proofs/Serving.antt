@@ -16,7 +16,7 @@ use Rattle.host_core.specs.declared.server.ServeFault.{ServeFault}
 use Rattle.host_core.specs.declared.server.ServeFaultKind.{ServeFaultKind}
 use Rattle.host_core.specs.declared.server.ServeFaultKind.TheVariants.{Read, Write, Truncated, TooManyFrames, Memory}
 use Rattle.host_core.specs.Laws.{UnrefusedAreToldAlone}
-use Rattle.host_core.specs.Served.{EachIsToldByItsMachine, NoneFaults, StreamState, NoCallFailed, Serves, ServesAlone, AnswersFrames, CutsLastReply, joined_replies, ServesToEnd, StopsWithFault, StopsAlone, ServesStream}
+use Rattle.host_core.specs.Served.{EachIsToldByItsMachine, NoneFaults, StreamState, NoCallFailed, Serves, ServesAlone, AnswersFrames, CutsLastReply, joined_replies, ServesToEnd, StopsWithFault, StopsAlone, IsFlushedAgain, ServesStream}
 use Rattle.host_core.specs.Handled.{Handles, HandlesInOrder, CallsAreToldAlone}
 use Rattle.host_core.specs.inside.Frame.{ServesOneFrame, ReadsOnly, ServesFrameOrEnds, StopsInFrame}
 
@@ -175,6 +175,17 @@ frame_stops old mid new Truncated count answered sound ((rest, partial, some, wa
 frame_stops old mid new TooManyFrames count answered sound h = absurd h
 frame_stops old mid new Memory count answered sound h = absurd h
 
+-- reading changes nothing of what is flushed
+pub frame_stays_flushed : (old mid new : StreamState) (kind : ServeFaultKind) → IsFlushedAgain old mid → StopsInFrame mid new kind → kind ≢ Write → IsFlushedAgain old new
+frame_stays_flushed old mid new Read flushed ((rest, partial, waits), failed) other = record { again = λ first. waits.flushed ∙ flushed.again first }
+frame_stays_flushed old mid new Write flushed stopped other = absurd (other refl)
+frame_stays_flushed old mid new Truncated flushed ((rest, partial, some, waits), end, more) other = record { again = λ first. waits.flushed ∙ flushed.again first }
+frame_stays_flushed old mid new TooManyFrames flushed stopped other = absurd stopped
+frame_stays_flushed old mid new Memory flushed stopped other = absurd stopped
+
+pub end_stays_flushed : (old mid new : StreamState) → IsFlushedAgain old mid → ServesFrameOrEnds mid new false → IsFlushedAgain old new
+end_stays_flushed old mid new flushed (waits, end, more) = record { again = λ first. waits.flushed ∙ flushed.again first }
+
 pub frame_is_no_limit : (old new : StreamState) (kind : ServeFaultKind) {P : Type 0} → StopsInFrame old new kind → kind ≡ TooManyFrames → P
 frame_is_no_limit old new kind stopped same = absurd (subst (StopsInFrame old new) same stopped)
 
@@ -184,9 +195,9 @@ frame_done old mid new count answered sound (waits, end, more) = (answered_rest 
 
 -- as many frames are answered as the limit allows, and the input is at its end
 pub end_done : (old mid new : StreamState) (count limit : ℕ) → count ≡ limit → AnswersFrames old mid count [] → NoCallFailed old mid → Consumes mid.input new.input []
-    → new.output ≡ mid.output → new.states ≡ mid.states → IsAtEnd new.input → NoCallFailed mid new → ServesToEnd old new limit
-end_done old mid new count limit same answered sound read written states end more =
-    let rest = answered_rest old mid new count [] answered (record { read = read; written = written; states = states }) in
+    → new.output ≡ mid.output → new.flushed ≡ mid.flushed → new.states ≡ mid.states → IsAtEnd new.input → NoCallFailed mid new → ServesToEnd old new limit
+end_done old mid new count limit same answered sound read written flushed states end more =
+    let rest = answered_rest old mid new count [] answered (record { read = read; written = written; flushed = flushed; states = states }) in
     (subst (λ (n : ℕ). AnswersFrames old new n []) same rest, end, sound_both old mid new sound more)
 
 -- each tenant was told what its machine alone tells it
@@ -228,33 +239,36 @@ stops_alone law old new TooManyFrames count (byte, answered, sound) whole = (byt
 stops_alone law old new Memory count (none, same) whole =
     ([], subst (λ (s : StreamState). ServesAlone old s count []) (sym same) (subst (λ (n : ℕ). ServesAlone old old n []) (sym none) (nothing_served old)))
 
-pub frame_more : (old mid new : StreamState) (count : ℕ) → AnswersFrames old mid count [] → NoCallFailed old mid → ServesFrameOrEnds mid new true → AnswersFrames old new (count + 1) [] × NoCallFailed old new
-frame_more old mid new count answered sound ((frame, reply, turn), more) = (answered_more old mid new count frame reply answered turn, sound_both old mid new sound more)
+pub frame_more : (old mid new : StreamState) (count : ℕ) → AnswersFrames old mid count [] → NoCallFailed old mid → ServesFrameOrEnds mid new true → AnswersFrames old new (count + 1) [] × NoCallFailed old new × IsFlushedAgain old new
+frame_more old mid new count answered sound ((frame, reply, turn), flushed, more) = (answered_more old mid new count frame reply answered turn, sound_both old mid new sound more, record { again = λ first. flushed })
 
 -- as many frames are answered as the limit allows, and another byte follows
 pub end_more : (old mid new : StreamState) (count limit byte : ℕ) → count ≡ limit → AnswersFrames old mid count [] → NoCallFailed old mid → Consumes mid.input new.input (byte ∷ [])
-    → new.output ≡ mid.output → new.states ≡ mid.states → NoCallFailed mid new → StopsWithFault old new TooManyFrames limit
-end_more old mid new count limit byte same answered sound read written states more =
-    let rest = answered_rest old mid new count (byte ∷ []) answered (record { read = read; written = written; states = states }) in
+    → new.output ≡ mid.output → new.flushed ≡ mid.flushed → new.states ≡ mid.states → NoCallFailed mid new → StopsWithFault old new TooManyFrames limit
+end_more old mid new count limit byte same answered sound read written flushed states more =
+    let rest = answered_rest old mid new count (byte ∷ []) answered (record { read = read; written = written; flushed = flushed; states = states }) in
     (byte, subst (λ (n : ℕ). AnswersFrames old new n (byte ∷ [])) same rest, sound_both old mid new sound more)
 
 -- or the call fails that would tell
 pub end_fails : (old mid new : StreamState) (count limit : ℕ) (kind : ServeFaultKind) → kind ≡ Read → count ≡ limit → AnswersFrames old mid count [] → NoCallFailed old mid
-    → Consumes mid.input new.input [] → new.output ≡ mid.output → new.states ≡ mid.states → mid.read_failures < new.read_failures → StopsWithFault old new kind limit
-end_fails old mid new count limit kind is same answered sound read written states failed =
-    let rest = answered_rest old mid new count [] answered (record { read = read; written = written; states = states }) in
+    → Consumes mid.input new.input [] → new.output ≡ mid.output → new.flushed ≡ mid.flushed → new.states ≡ mid.states → mid.read_failures < new.read_failures → StopsWithFault old new kind limit
+end_fails old mid new count limit kind is same answered sound read written flushed states failed =
+    let rest = answered_rest old mid new count [] answered (record { read = read; written = written; flushed = flushed; states = states }) in
     subst (λ (k : ServeFaultKind). StopsWithFault old new k limit) (sym is) ([], inl (lit≤ tt), subst (λ (n : ℕ). AnswersFrames old new n []) same rest, omega (arith, sound.0, failed))
 
 -- ---- what a call of `serve` promises
 
-pub ends_served : UnrefusedAreToldAlone → (limit count : ℕ) (old new : StreamState) → count ≤ limit → ServesToEnd old new count → ServesStream limit (Ok count) old new
-ends_served law limit count old new few served = record {
+pub ends_served : UnrefusedAreToldAlone → (limit count : ℕ) (old new : StreamState) → count ≤ limit → IsFlushedAgain old new → ServesToEnd old new count → ServesStream limit (Ok count) old new
+ends_served law limit count old new few flushed served = record {
   done = served;
   alone = serves_alone law old new count served;
   few = few;
+  flushed = flushed;
   fault = tt;
   alone_before = tt;
   few_before = tt;
+  flushed_before = tt;
+  cut_before = tt;
   too_many = tt;
 }
 
@@ -264,20 +278,26 @@ ends_unread limit m = record {
   done = tt;
   alone = tt;
   few = tt;
+  flushed = tt;
   fault = (refl, refl);
   alone_before = λ whole. ([], nothing_served m);
   few_before = omega arith;
+  flushed_before = λ other. record { again = λ first. first };
+  cut_before = λ wrong. cc wrong;
   too_many = λ wrong. cc wrong;
 }
 
-pub ends_stopped : UnrefusedAreToldAlone → (limit : ℕ) (fault : ServeFault) (old new : StreamState) → fault.frames ≤ limit → (fault.kind ≡ TooManyFrames → fault.frames ≡ limit)
-    → StopsWithFault old new fault.kind fault.frames → ServesStream limit (Err fault) old new
-ends_stopped law limit fault old new few full stopped = record {
+pub ends_stopped : UnrefusedAreToldAlone → (limit : ℕ) (fault : ServeFault) (old new : StreamState) → fault.frames ≤ limit → (fault.kind ≢ Write → IsFlushedAgain old new) → (fault.kind ≡ Truncated → fault.frames < limit)
+    → (fault.kind ≡ TooManyFrames → fault.frames ≡ limit) → StopsWithFault old new fault.kind fault.frames → ServesStream limit (Err fault) old new
+ends_stopped law limit fault old new few flushed cut full stopped = record {
   done = tt;
   alone = tt;
   few = tt;
+  flushed = tt;
   fault = stopped;
   alone_before = stops_alone law old new fault.kind fault.frames stopped;
   few_before = few;
+  flushed_before = flushed;
+  cut_before = cut;
   too_many = full;
 }

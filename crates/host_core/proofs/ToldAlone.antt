@@ -1,10 +1,10 @@
 -- A tenant to which no memory was refused is told what its machine alone tells it.
 use Rattle.std.proofs.Common.{ℕ, List, [], ◌∷◌, Option, Some, None, refl, subst}
 use Rattle.std.specs.Prelude.{slice_get}
-use Rattle.tenant.specs.Laws.{ClearFlagMeansAlone, OneAlone}
+use Rattle.tenant.specs.Laws.{ClearFlagMeansAlone, AloneUntilRefused, OneAlone}
 use Rattle.tenant.specs.State.{TenantState}
 use Rattle.tenant.specs.Alone.{frames_of, replies_of, IsToldAlone, AloneWithRefusals}
-use Rattle.host_core.specs.Laws.{UnrefusedAreToldAlone, SameFramesSameReplies}
+use Rattle.host_core.specs.Laws.{UnrefusedAreToldAlone, EachIsToldAloneUntilRefused, SameFramesSameReplies}
 use Rattle.host_core.specs.Served.{IsUnrefused}
 
 -- a tenant that is served is so to the end
@@ -37,3 +37,6 @@ same_frames_same_replies one t before after before_too after_too frames replies 
     let here = subst (λ (o : Option TenantState). IsToldAlone o (frames_of t frames) (replies_of t frames replies) (slice_get after t)) starts (told t unrefused) in
     let moved = subst (λ (fs : List (List ℕ)). IsToldAlone (slice_get before_too t) fs (replies_of t frames replies) (slice_get after t)) agree here in
     (one (slice_get before_too t) (slice_get after t) (slice_get after_too t) (frames_of t frames_too) (replies_of t frames replies) (replies_of t frames_too replies_too) moved (told_too t unrefused_too)).0
+
+pub each_until_refused : AloneUntilRefused → EachIsToldAloneUntilRefused
+each_until_refused law before after frames replies h t = law (slice_get before t) (slice_get after t) (frames_of t frames) (replies_of t frames replies) (h t)

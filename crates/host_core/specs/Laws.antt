@@ -1,13 +1,25 @@
--- What follows for one tenant from the replies to all. This project's own.
-use Rattle.std.specs.Prelude.{◌≡◌, ℕ, List, slice_get}
+-- What follows for the tenants from the replies to all, and how a stream ends. This project's own.
+use Rattle.std.specs.Prelude.{◌≡◌, ◌≢◌, ℕ, ◌==◌, List, [], length, slice_get, nat_lt, if◌then◌else◌, Option, Some, Result, Ok, Err}
+use Rattle.std.specs.List.{AllByRecursion}
+use Rattle.std.specs.Io.KnownBytes.{Appends}
+use Rattle.command_frames.specs.Frame.{owner}
+use Rattle.command_frames.specs.Laws.{IsStream}
 use Rattle.tenant.specs.State.{TenantState}
-use Rattle.tenant.specs.Alone.{frames_of, replies_of}
-use Rattle.host_core.specs.Served.{EachIsToldByItsMachine, IsUnrefused, Noninterference}
+use Rattle.tenant.specs.Alone.{frames_of, replies_of, IsToldAloneUntilRefused}
+use Rattle.host_core.specs.declared.server.ServeFault.{ServeFault}
+use Rattle.host_core.specs.declared.server.ServeFaultKind.TheVariants.{Truncated, TooManyFrames, Memory}
+use Rattle.host_core.specs.Served.{EachIsToldByItsMachine, IsUnrefused, Noninterference, StreamState, ServesAlone, ServesStream, NoCallFailed}
 
 -- a tenant to which no memory was refused gets the replies of its machine alone, whatever was refused to others
 abbrev pub UnrefusedAreToldAlone : Type 0
 UnrefusedAreToldAlone =
     (before after : List TenantState) (frames replies : List (List ℕ)) → EachIsToldByItsMachine before frames replies after → Noninterference before frames replies after
+
+-- each tenant gets the replies of its machine alone until memory is refused to it
+abbrev pub EachIsToldAloneUntilRefused : Type 0
+EachIsToldAloneUntilRefused =
+    (before after : List TenantState) (frames replies : List (List ℕ)) → EachIsToldByItsMachine before frames replies after
+    → (t : ℕ) → IsToldAloneUntilRefused (slice_get before t) (frames_of t frames) (replies_of t frames replies)
 
 -- Two streams that agree on a tenant's state at the start and on its frames give it the same replies, if neither refuses memory
 -- to it: it can observe neither the frames of others nor how they interleave with its own.
@@ -18,3 +30,37 @@ SameFramesSameReplies =
     → IsUnrefused (slice_get after t) → IsUnrefused (slice_get after_too t)
     → slice_get before t ≡ slice_get before_too t → frames_of t frames ≡ frames_of t frames_too
     → replies_of t frames replies ≡ replies_of t frames_too replies_too
+
+-- ---- a stream that is served again
+
+-- a tenant has the same state at the beginning of two streams, and neither refuses memory to it
+pub record BeginsAlike (old new old_too new_too : List TenantState) (t : ℕ) : Type 0 where
+  pub same : slice_get old t ≡ slice_get old_too t
+  pub unrefused : IsUnrefused (slice_get new t)
+  pub unrefused_too : IsUnrefused (slice_get new_too t)
+
+-- Two streams with the same frames have the same replies, and the same bytes are written, whatever hosts serve them, if each tenant
+-- of these frames begins alike in both.
+abbrev pub SameFramesSameOutput : Type 0
+SameFramesSameOutput =
+    (old new old_too new_too : StreamState) (count count_too : ℕ) (rest rest_too : List ℕ)
+    → (one : ServesAlone old new count rest) (other : ServesAlone old_too new_too count_too rest_too)
+    → one.frames ≡ other.frames → AllByRecursion (λ frame. BeginsAlike old.states new.states old_too.states new_too.states (owner frame)) one.frames
+    → (one.replies ≡ other.replies) × (out : List ℕ) × Appends old.output new.output out × Appends old_too.output new_too.output out
+
+-- ---- how a stream ends
+
+-- the end of a call that allows `limit` frames, on a stream of so many frames and a rest that is no whole frame
+abbrev pub stream_result : ℕ → ℕ → List ℕ → Result ℕ ServeFault
+stream_result limit many rest =
+    if nat_lt limit many then Err (record { kind = TooManyFrames; frames = limit }) else
+    (if length rest == 0 then Ok many else
+    (if many == limit then Err (record { kind = TooManyFrames; frames = limit }) else Err (record { kind = Truncated; frames = many })))
+
+-- No content of a frame ends a stream: where the bytes of the reader are known, no call of the reader or the writer fails, and there is
+-- memory for the buffers, the end of a call depends only on how many frames there are, and on whether bytes follow them.
+abbrev pub NoContentEndsAStream : Type 0
+NoContentEndsAStream =
+    (limit : ℕ) (result : Result ℕ ServeFault) (old new : StreamState) (bytes : List ℕ) (frames : List (List ℕ)) (rest : List ℕ)
+    → ServesStream limit result old new → NoCallFailed old new → result ≢ Err (record { kind = Memory; frames = 0 })
+    → old.input ≡ Some bytes → IsStream bytes frames rest → result ≡ stream_result limit (length frames) rest

@@ -1,3 +1,4 @@
+pub mod Limits
 pub mod Stream
 pub mod States
 pub mod Served

@@ -1,5 +1,5 @@
 -- What a call of `serve` does: the frames that it reads, the replies to them, and where it stops. This project's own.
-use Rattle.std.specs.Prelude.{◌≡◌, ◌≢◌, false, ℕ, ◌+◌, ◌<◌, ◌≤◌, List, [], ◌∷◌, ◌++◌, length, take, slice_get, Option, Some, None, Result, IfOk, IfErr}
+use Rattle.std.specs.Prelude.{◌≡◌, ◌≢◌, Bool, true, false, ℕ, ◌+◌, ◌<◌, ◌≤◌, List, [], ◌∷◌, ◌++◌, length, take, slice_get, Option, Some, None, Result, IfOk, IfErr, OnOk}
 use Rattle.std.specs.List.{flat_map, AllByRecursion}
 use Rattle.std.specs.Io.KnownBytes.{Consumes, Appends, IsAtEnd}
 use Rattle.host_core.specs.declared.server.ServeFault.{ServeFault}
@@ -36,12 +36,13 @@ NoneFaults replies = AllByRecursion (λ reply. ¬ IsFault reply) replies
 
 -- ---- calls of `serve`
 
--- the tenants' states; the bytes that the reader has left and those that the writer holds, where they are known; and how
--- many calls of each failed so far
+-- the tenants' states; the bytes that the reader has left and those that the writer holds, where they are known; whether all that
+-- was written is flushed; and how many calls of each failed so far
 pub record StreamState : Type 0 where
   pub states : List TenantState
   pub input : Option (List ℕ)
   pub output : Option (List ℕ)
+  pub flushed : Bool
   pub read_failures : ℕ
   pub write_failures : ℕ
 
@@ -51,6 +52,7 @@ stream_state source sink states reader writer = record {
   states = states;
   input = source.remaining reader;
   output = sink.contents writer;
+  flushed = sink.is_flushed writer;
   read_failures = source.failures reader;
   write_failures = sink.failures writer;
 }
@@ -115,14 +117,22 @@ StopsWithFault old new Memory count = (count ≡ 0) × (new ≡ old)
 abbrev pub StopsAlone : StreamState → StreamState → ServeFaultKind → ℕ → Type 0
 StopsAlone old new kind count = kind ≢ Write → (rest : List ℕ) × ServesAlone old new count rest
 
+-- where all was flushed at first, all is flushed again: the replies too that were written since
+pub record IsFlushedAgain (old new : StreamState) : Type 0 where
+  pub again : old.flushed ≡ true → new.flushed ≡ true
+
 -- A call of `serve` that allows `limit` frames, from the state before it to the state after it. With Ok, `done` and `alone`:
 -- the input is at its end. With a fault, `fault` and `alone_before`: what happened until then. `alone` and `alone_before` are
--- about the tenants to which no memory was refused.
+-- about the tenants to which no memory was refused. At each end but a fault of the writer all replies are flushed, so they are before
+-- anything more is read.
 pub record ServesStream (limit : ℕ) (result : Result ℕ ServeFault) (old new : StreamState) : Type 0 where
   pub done : IfOk result (λ count. ServesToEnd old new count)
   pub alone : IfOk result (λ count. ServesAlone old new count [])
   pub few : IfOk result (λ count. count ≤ limit)
+  pub flushed : OnOk result (IsFlushedAgain old new)
   pub fault : IfErr result (λ fault. StopsWithFault old new fault.kind fault.frames)
   pub alone_before : IfErr result (λ fault. StopsAlone old new fault.kind fault.frames)
   pub few_before : IfErr result (λ fault. fault.frames ≤ limit)
+  pub flushed_before : IfErr result (λ fault. fault.kind ≢ Write → IsFlushedAgain old new)
+  pub cut_before : IfErr result (λ fault. fault.kind ≡ Truncated → fault.frames < limit)
   pub too_many : IfErr result (λ fault. fault.kind ≡ TooManyFrames → fault.frames ≡ limit)

@@ -1,12 +1,12 @@
 //! What a caller can prove of a stream from the contracts alone.
 
-ghost use Rattle.std.specs.Prelude.{◌≤◌, ◌<◌, ◌-◌, ◌^◌, List, [], replicate, IfSome};
+ghost use Rattle.std.specs.Prelude.{◌≡◌, ◌≤◌, ◌<◌, ◌-◌, ◌^◌, List, [], replicate, IfSome};
 ghost use Rattle.tenant.specs.State.{TenantState, new_tenant};
 ghost use Rattle.host_core.specs.Served.{stream_state, ServesAlone};
-ghost use Rattle.host_core.specs.declared.host.TheConstants.{MOST_TENANTS};
+ghost use Rattle.host_core.specs.Limits.{most_frames, most_tenants};
 
-use crate::host::Host;
-use crate::server::serve;
+use crate::host::{Host, MOST_TENANTS};
+use crate::server::{MOST_FRAMES, serve};
 use crate::stream::{Sink, Source};
 use seeded_hash::HashSeed;
 use std::alloc::Global;
@@ -20,7 +20,7 @@ fn serve_from_the_beginning<R: Source, W: Sink>(
     writer: &mut W,
 ) -> Option<u32>
     requires some { 1 ≤ tenants }
-    requires few { tenants ≤ MOST_TENANTS }
+    requires few { tenants ≤ most_tenants }
     requires reader { R.failures reader.old < 2 ^ 64 - 1 }
     requires writer { W.failures writer.old < 2 ^ 64 - 1 }
     ensures { IfSome result (λ count. (after : List TenantState) × ServesAlone
@@ -30,4 +30,18 @@ fn serve_from_the_beginning<R: Source, W: Sink>(
 {
     let mut host = Host::new(alloc, tenants, HashSeed::new(0, 0)).ok()?;
     serve(alloc, &mut host, reader, writer, 100).ok()
+}
+
+/// The limit on tenants is that of the definitions.
+fn tenants_of_the_largest_host() -> usize
+    ensures { result ≡ most_tenants }
+{
+    MOST_TENANTS
+}
+
+/// The limit on the frames of a call is that of the definitions.
+fn frames_of_the_longest_call() -> u32
+    ensures { result ≡ most_frames }
+{
+    MOST_FRAMES
 }

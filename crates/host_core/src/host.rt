@@ -10,7 +10,7 @@ ghost use Rattle.tenant.specs.State.{new_tenant};
 ghost use Rattle.host_core.specs.Batch.{RunsFor, refusal_for, ChangesTenant};
 ghost use Rattle.host_core.specs.Served.{IsUnrefused};
 ghost use Rattle.host_core.specs.States.{states_from};
-ghost use Rattle.host_core.specs.declared.host.TheConstants.{MOST_TENANTS};
+ghost use Rattle.host_core.specs.Limits.{most_tenants};
 
 use arena::Arena;
 use bpf_maps::PART;
@@ -41,7 +41,7 @@ pub struct Host {
 impl Model for Host {
     ghost use Rattle.std.specs.Prelude.{◌≡◌, List, ◌≤◌, vec_len};
     ghost use Rattle.bpf_maps.specs.declared.part.TheConstants.{PART};
-    ghost use Rattle.host_core.specs.declared.host.TheConstants.{MOST_TENANTS};
+    ghost use Rattle.host_core.specs.Limits.{most_tenants};
     ghost use Rattle.host_core.specs.States.{states_in};
     ghost use Rattle.tenant.specs.State.{TenantState};
 
@@ -49,7 +49,7 @@ impl Model for Host {
 
     ghost view = { λ h. states_in h.arena h.tenants.items };
 
-    ghost invariant = { λ h. (vec_len h.tenants ≤ MOST_TENANTS)
+    ghost invariant = { λ h. (vec_len h.tenants ≤ most_tenants)
         × (h.arena.parts ≡ vec_len h.tenants) × (h.arena.part ≡ PART) };
 }
 
@@ -74,7 +74,7 @@ impl Host {
     /// `AllocError`: out of memory.
     pub fn new(alloc: Global, tenants: usize, seed: HashSeed) -> Result<Host, AllocError>
         requires some { 1 ≤ tenants }
-        requires few { tenants ≤ MOST_TENANTS }
+        requires few { tenants ≤ most_tenants }
         ensures { IfOk result (λ host. host ≡ replicate tenants new_tenant) }
     {
         Ok(Host {

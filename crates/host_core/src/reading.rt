@@ -4,7 +4,7 @@ ghost use Rattle.std.specs.Prelude.{◌≡◌, ℕ, ◌+◌, ◌-◌, ◌<◌, �
 ghost use Rattle.std.specs.Io.KnownBytes.{IsAtEnd};
 ghost use Rattle.byteorder.specs.Endian.{little_bytes};
 ghost use Rattle.command_frames.specs.Frame.{framed, IsFrame};
-ghost use Rattle.host_core.specs.declared.reading.TheConstants.{KEPT};
+ghost use Rattle.host_core.specs.declared.reading.TheConstants.{FRAME_BUFFER};
 ghost use Rattle.host_core.specs.inside.Reading.{ReadsFewer, ReadsPartial, StopsAt, IsKeptFrontOf};
 ghost use Rattle.host_core.specs.Stream.{Takes};
 
@@ -15,7 +15,7 @@ use command_frames::LONGEST_FRAME;
 use std::alloc::{AllocError, Global};
 
 /// The most bytes that are kept of a frame: one more than the longest valid frame has.
-pub(crate) const KEPT: usize = LONGEST_FRAME + 1;
+pub(crate) const FRAME_BUFFER: usize = LONGEST_FRAME + 1;
 
 /// Reads until `buffer` is full or the input ends, and returns how many bytes were read. Fewer than 2^64 - 1 calls of the
 /// reader have failed before.
@@ -128,8 +128,8 @@ fn read_long<S: Source>(
     total: usize,
 ) -> Result<(), ServeFaultKind>
     requires failures { S.failures reader.old < 2 ^ 64 - 1 }
-    requires room { length buffer.old ≡ KEPT }
-    requires long { KEPT < total }
+    requires room { length buffer.old ≡ FRAME_BUFFER }
+    requires long { FRAME_BUFFER < total }
     ensures frame { OnOk result ((frame : List ℕ) × (length frame ≡ total)
         × Takes S.remaining reader.old reader.new frame × (take 4 buffer.new ≡ take 4 frame)) }
     ensures sound { OnOk result (S.failures reader.new ≡ S.failures reader.old) }
@@ -138,8 +138,8 @@ fn read_long<S: Source>(
     ensures stop { IfErr result (λ kind.
         StopsAt S.remaining S.failures kind reader.old reader.new) }
 {
-    read_whole(reader, buffer, KEPT)?;
-    skip(reader, &mut buffer[4..], total - KEPT)?;
+    read_whole(reader, buffer, FRAME_BUFFER)?;
+    skip(reader, &mut buffer[4..], total - FRAME_BUFFER)?;
     Ok(())
 }
 
@@ -150,23 +150,23 @@ fn read_body<S: Source>(
     total: usize,
 ) -> Result<usize, ServeFaultKind>
     requires failures { S.failures reader.old < 2 ^ 64 - 1 }
-    requires room { length buffer.old ≡ KEPT }
+    requires room { length buffer.old ≡ FRAME_BUFFER }
     ensures frame { IfOk result (λ kept. (frame : List ℕ) × (length frame ≡ total)
         × Takes S.remaining reader.old reader.new frame
         × IsKeptFrontOf (take kept buffer.new) frame) }
-    ensures bound { IfOk result (λ kept. kept ≤ KEPT) }
+    ensures bound { IfOk result (λ kept. kept ≤ FRAME_BUFFER) }
     ensures sound { OnOk result (S.failures reader.new ≡ S.failures reader.old) }
     ensures short { OnErr result
         (ReadsFewer (S.remaining reader.old) (S.remaining reader.new) total) }
     ensures stop { IfErr result (λ kind.
         StopsAt S.remaining S.failures kind reader.old reader.new) }
 {
-    if total <= KEPT {
+    if total <= FRAME_BUFFER {
         read_whole(reader, buffer, total)?;
         Ok(total)
     } else {
         read_long(reader, buffer, total)?;
-        Ok(KEPT)
+        Ok(FRAME_BUFFER)
     }
 }
 
@@ -177,11 +177,11 @@ pub(crate) fn read_frame<S: Source>(
     buffer: &mut [u8],
 ) -> Result<Option<usize>, ServeFaultKind>
     requires failures { S.failures reader.old < 2 ^ 64 - 1 }
-    requires room { length buffer.old ≡ KEPT }
+    requires room { length buffer.old ≡ FRAME_BUFFER }
     ensures frame { IfOk result (λ found. IfSome found (λ kept. (frame : List ℕ) × IsFrame frame
         × Takes S.remaining reader.old reader.new (framed frame)
         × IsKeptFrontOf (take kept buffer.new) frame)) }
-    ensures bound { IfOk result (λ found. IfSome found (λ kept. kept ≤ KEPT)) }
+    ensures bound { IfOk result (λ found. IfSome found (λ kept. kept ≤ FRAME_BUFFER)) }
     ensures none { IfOk result (λ found. IfNone found (Takes S.remaining reader.old reader.new []
         × IsAtEnd (S.remaining reader.new))) }
     ensures sound { OnOk result (S.failures reader.new ≡ S.failures reader.old) }

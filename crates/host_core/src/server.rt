@@ -3,15 +3,15 @@
 ghost use Rattle.std.specs.Prelude.{◌≡◌, ℕ, ◌-◌, ◌<◌, ◌≤◌, ◌^◌, [], length, IfOk, IfErr, OnOk, OnErr, true, false};
 ghost use Rattle.std.specs.Prelude.{◌∷◌};
 ghost use Rattle.std.specs.Io.KnownBytes.{IsAtEnd};
-ghost use Rattle.host_core.specs.declared.reading.TheConstants.{KEPT};
-ghost use Rattle.host_core.specs.declared.server.TheConstants.{MOST_FRAMES};
+ghost use Rattle.host_core.specs.declared.reading.TheConstants.{FRAME_BUFFER};
+ghost use Rattle.host_core.specs.Limits.{most_frames};
 ghost use Rattle.host_core.specs.Stream.{Takes};
 ghost use Rattle.host_core.specs.Served.{stream_state, ServesStream};
 ghost use Rattle.host_core.specs.inside.Frame.{ServesFrameOrEnds, StopsInFrame};
 
 use crate::host::Host;
 use crate::laws;
-use crate::reading::{KEPT, fill, read_frame};
+use crate::reading::{FRAME_BUFFER, fill, read_frame};
 use crate::stream::{Sink, Source};
 use crate::writing::write_whole;
 use command_frames::ReplyBuf;
@@ -44,16 +44,16 @@ pub struct ServeFault {
 
 /// The buffers for a frame and for a reply.
 #[derive(Drop)]
-struct Rooms {
+struct Buffers {
     frame: Vec<u8>,
     reply: ReplyBuf,
-    ghost long: { length frame.items ≡ KEPT },
+    ghost long: { length frame.items ≡ FRAME_BUFFER },
 }
 
-impl Rooms {
-    fn new(alloc: Global) -> Result<Rooms, AllocError> {
-        Ok(Rooms {
-            frame: vec![in alloc; 0; KEPT]?,
+impl Buffers {
+    fn new(alloc: Global) -> Result<Buffers, AllocError> {
+        Ok(Buffers {
+            frame: vec![in alloc; 0; FRAME_BUFFER]?,
             reply: ReplyBuf::new(alloc)?,
         })
     }
@@ -64,7 +64,7 @@ fn serve_frame<R: Source, W: Sink>(
     host: &mut Host,
     reader: &mut R,
     writer: &mut W,
-    rooms: &mut Rooms,
+    buffers: &mut Buffers,
 ) -> Result<bool, ServeFaultKind>
     requires reader { R.failures reader.old < 2 ^ 64 - 1 }
     requires writer { W.failures writer.old < 2 ^ 64 - 1 }
@@ -75,11 +75,11 @@ fn serve_frame<R: Source, W: Sink>(
         (stream_state R.Source W.Sink host.old reader.old writer.old)
         (stream_state R.Source W.Sink host.new reader.new writer.new)) }
 {
-    let Some(kept) = read_frame(reader, &mut rooms.frame)? else {
+    let Some(kept) = read_frame(reader, &mut buffers.frame)? else {
         return Ok(false);
     };
-    host.handle(&rooms.frame[..kept], &mut rooms.reply);
-    write_whole(writer, rooms.reply.bytes())?;
+    host.handle(&buffers.frame[..kept], &mut buffers.reply);
+    write_whole(writer, buffers.reply.bytes())?;
     Ok(true)
 }
 
@@ -116,14 +116,14 @@ pub fn serve<R: Source, W: Sink>(
     writer: &mut W,
     limit: u32,
 ) -> Result<u32, ServeFault>
-    requires limit { limit ≤ MOST_FRAMES }
+    requires limit { limit ≤ most_frames }
     requires reader { R.failures reader.old < 2 ^ 64 - 1 }
     requires writer { W.failures writer.old < 2 ^ 64 - 1 }
     ensures { ServesStream limit result
         (stream_state R.Source W.Sink host.old reader.old writer.old)
         (stream_state R.Source W.Sink host.new reader.new writer.new) }
 {
-    let Ok(mut rooms) = Rooms::new(alloc) else {
+    let Ok(mut buffers) = Buffers::new(alloc) else {
         return Err(ServeFault {
             kind: ServeFaultKind::Memory,
             frames: 0,
@@ -131,7 +131,7 @@ pub fn serve<R: Source, W: Sink>(
     };
     laws::unrefused_are_told_alone();
     for frames in 0..limit {
-        match serve_frame(host, reader, writer, &mut rooms) {
+        match serve_frame(host, reader, writer, &mut buffers) {
             Ok(true) => {}
             Ok(false) => return Ok(frames),
             Err(kind) => return Err(ServeFault { kind, frames }),

@@ -1,6 +1,6 @@
 //! What `serve` reads from and writes to.
 
-ghost use Rattle.std.specs.Prelude.{◌≡◌, ℕ, ◌+◌, ◌-◌, ◌<◌, ◌^◌, List, None, Option};
+ghost use Rattle.std.specs.Prelude.{◌≡◌, ℕ, ◌+◌, ◌-◌, ◌<◌, ◌^◌, Bool, true, List, None, Option, OnOk};
 ghost use Rattle.std.specs.Io.{ReadsAtMost, WritesAtMost};
 ghost use Rattle.std.specs.Io.KnownBytes.{Keeps, ReadConsumes, WriteAppends};
 ghost use Rattle.host_core.specs.Stream.{read_failures, write_failures, flush_failures};
@@ -24,11 +24,14 @@ pub trait Source {
         ensures failures { failures self.new ≡ failures self.old + read_failures result };
 }
 
-/// A writer of replies. Contracts see the bytes that were written, where they are known, and how many calls failed; a
-/// write that takes none of at least one byte counts as failed.
+/// A writer of replies. Contracts see the bytes that were written, where they are known, whether they are flushed, and how many
+/// calls failed; a write that takes none of at least one byte counts as failed.
 pub trait Sink {
     // The bytes written so far, where they are known.
     ghost contents: { Self → Option (List ℕ) } = { λ _. None };
+
+    // Whether all that was written is flushed.
+    ghost is_flushed: { Self → Bool };
 
     // How many calls failed so far.
     ghost failures: { Self → ℕ };
@@ -45,6 +48,7 @@ pub trait Sink {
     fn flush(&mut self) -> io::Result<()>
         requires { failures self.old < 2 ^ 64 - 1 }
         ensures bytes { Keeps (contents self.old) (contents self.new) }
+        ensures flushed { OnOk result (is_flushed self.new ≡ true) }
         ensures failures { failures self.new ≡ failures self.old + flush_failures result };
 }
 
@@ -53,6 +57,8 @@ pub trait Sink {
 pub struct Counted<T> {
     inner: T,
     failures: u64,
+    /// Of a writer: whether nothing was written since the last flush.
+    is_flushed: bool,
 }
 
 impl<T> Counted<T> {
@@ -60,8 +66,13 @@ impl<T> Counted<T> {
     pub fn new(inner: T) -> Counted<T>
         ensures inner { result.inner ≡ inner }
         ensures failures { result.failures ≡ 0 }
+        ensures flushed { result.is_flushed ≡ true }
     {
-        Counted { inner, failures: 0 }
+        Counted {
+            inner,
+            failures: 0,
+            is_flushed: true,
+        }
     }
 
     /// How many calls failed so far.
@@ -75,7 +86,11 @@ impl<T> Counted<T> {
     pub fn into_inner(self) -> T
         ensures { result ≡ self.inner }
     {
-        let Counted { inner, failures: _ } = self;
+        let Counted {
+            inner,
+            failures: _,
+            is_flushed: _,
+        } = self;
         inner
     }
 }
@@ -97,9 +112,12 @@ impl<R: Read> Source for Counted<R> {
 impl<W: Write> Sink for Counted<W> {
     ghost contents = { λ c. W.Write.contents c.inner };
 
+    ghost is_flushed = { λ c. c.is_flushed };
+
     ghost failures = { λ c. c.failures };
 
     fn write(&mut self, bytes: &[u8]) -> io::Result<usize> {
+        self.is_flushed = false;
         let outcome = self.inner.write(bytes);
         match outcome {
             Ok(0) if !bytes.is_empty() => self.failures += 1,
@@ -111,8 +129,9 @@ impl<W: Write> Sink for Counted<W> {
 
     fn flush(&mut self) -> io::Result<()> {
         let outcome = self.inner.flush();
-        if outcome.is_err() {
-            self.failures += 1;
+        match outcome {
+            Ok(()) => self.is_flushed = true,
+            Err(_) => self.failures += 1,
         }
         outcome
     }

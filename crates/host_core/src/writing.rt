@@ -1,6 +1,6 @@
 //! Writing replies to a writer.
 
-ghost use Rattle.std.specs.Prelude.{◌≡◌, ℕ, ◌-◌, ◌<◌, ◌≤◌, ◌^◌, length, take, IfErr, OnOk, OnErr};
+ghost use Rattle.std.specs.Prelude.{◌≡◌, ℕ, ◌-◌, ◌<◌, ◌≤◌, ◌^◌, true, length, take, IfErr, OnOk, OnErr};
 ghost use Rattle.std.specs.Io.KnownBytes.{Appends};
 
 use crate::server::ServeFaultKind;
@@ -15,6 +15,7 @@ pub fn write_whole<S: Sink>(writer: &mut S, bytes: &[u8]) -> Result<(), ServeFau
     requires { S.failures writer.old < 2 ^ 64 - 1 }
     ensures whole { OnOk result
         (Appends (S.contents writer.old) (S.contents writer.new) bytes.now) }
+    ensures flushed { OnOk result (S.is_flushed writer.new ≡ true) }
     ensures sound { OnOk result (S.failures writer.new ≡ S.failures writer.old) }
     ensures kind { IfErr result (λ kind. kind ≡ ServeFaultKind.Write) }
     ensures part { OnErr result ((n : ℕ) × (n ≤ length bytes.now)

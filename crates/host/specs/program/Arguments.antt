@@ -9,7 +9,7 @@ use Rattle.tagged_model.specs.Shape.{is_from_to}
 use Rattle.host.specs.program.Decimal.{decimal_number}
 use Rattle.host.specs.program.Judging.{AcceptsIfKnown}
 use Rattle.host.specs.program.Shapes.{IsFirstWrongArgument}
-use Rattle.host_core.specs.declared.host.TheConstants.{MOST_TENANTS}
+use Rattle.host_core.specs.Limits.{most_tenants}
 use Rattle.host.specs.declared.program.texts.TextTask.{TextTask}
 use Rattle.host.specs.declared.program.texts.TextTask.TheVariants.{Assemble, Disassemble}
 
@@ -63,7 +63,7 @@ tenants_value rows = first_of (codes "tenants") rows
 
 -- a number of tenants in decimal digits, from 1 to the most that there may be
 abbrev pub tenant_number : Text → Option ℕ
-tenant_number digits = option_and_then (λ number. if is_from_to 1 MOST_TENANTS number then Some number else None) (decimal_number digits)
+tenant_number digits = option_and_then (λ number. if is_from_to 1 most_tenants number then Some number else None) (decimal_number digits)
 
 -- the arguments that are given for maps
 abbrev pub map_arguments : List Row → List Text

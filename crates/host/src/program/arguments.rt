@@ -9,7 +9,7 @@ ghost use Rattle.host.specs.program.Statuses.{exit_status};
 ghost use Rattle.host.specs.program.Shapes.{AreMapArguments};
 ghost use Rattle.host.specs.inside.program.MapFields.{IsWrongMapArgument};
 ghost use Rattle.host.specs.program.Judging.{AcceptsIfKnown};
-ghost use Rattle.host_core.specs.declared.host.TheConstants.{MOST_TENANTS};
+ghost use Rattle.host_core.specs.Limits.{most_tenants};
 ghost use Rattle.host.specs.inside.program.Outcomes.{Fails, FailsOnly};
 ghost use Rattle.host.specs.program.Arguments.{asked_of, asked_with, chosen_subcommand, refusal_kinds, serve_command, tenant_number, tenants_value, verify_command, AcceptsAsked, AreWrongArguments, HasWrongMapArgument};
 ghost use Rattle.host.specs.inside.program.Asked.{asked_by, texts_given, HasTenants};
@@ -135,7 +135,7 @@ fn serve_streams<I: Read + Drop, O: Write + Drop>(
     output: O,
 ) -> Result<(), Failure>
     requires some { 1 ≤ tenants }
-    requires few { tenants ≤ MOST_TENANTS }
+    requires few { tenants ≤ most_tenants }
     ensures { IfErr result (λ failure. exit_status failure ≢ 2) }
 {
     let Some(seed) = seed else {

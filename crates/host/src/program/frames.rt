@@ -3,7 +3,7 @@
 ghost use Rattle.std.specs.Prelude.{◌<◌, ◌≤◌, ◌-◌, ◌^◌, replicate};
 ghost use Rattle.host_core.specs.State.{new_tenant};
 ghost use Rattle.host_core.specs.Served.{stream_state};
-ghost use Rattle.host_core.specs.declared.host.TheConstants.{MOST_TENANTS};
+ghost use Rattle.host_core.specs.Limits.{most_tenants};
 ghost use Rattle.host.specs.inside.program.Frames.{ServesNewHost};
 
 use crate::program::failure::Failure;
@@ -23,7 +23,7 @@ pub(crate) fn serve_frames<R: Source, W: Sink>(
     writer: &mut W,
 ) -> Result<(), Failure>
     requires some { 1 ≤ tenants }
-    requires few { tenants ≤ MOST_TENANTS }
+    requires few { tenants ≤ most_tenants }
     requires reads { R.failures reader.old < 2 ^ 64 - 1 }
     requires writes { W.failures writer.old < 2 ^ 64 - 1 }
     ensures { ServesNewHost result

@@ -14,17 +14,18 @@ pub record ServesOneFrame (old new : StreamState) (frame reply out : List ℕ) :
   pub written : Appends old.output new.output out
   pub handled : Handles old.states frame reply new.states
 
--- the bytes `rest` were read; nothing was written, and no state changed
+-- the bytes `rest` were read; nothing was written or flushed, and no state changed
 pub record ReadsOnly (old new : StreamState) (rest : List ℕ) : Type 0 where
   pub read : Consumes old.input new.input rest
   pub written : new.output ≡ old.output
+  pub flushed : new.flushed ≡ old.flushed
   pub states : new.states ≡ old.states
 
 -- ---- one frame
 
--- one frame was served, or the input was at its end
+-- one frame was served and its reply flushed, or the input was at its end
 abbrev pub ServesFrameOrEnds : StreamState → StreamState → Bool → Type 0
-ServesFrameOrEnds old new true = ((frame : List ℕ) × (reply : List ℕ) × ServesOneFrame old new frame reply reply) × NoCallFailed old new
+ServesFrameOrEnds old new true = ((frame : List ℕ) × (reply : List ℕ) × ServesOneFrame old new frame reply reply) × (new.flushed ≡ true) × NoCallFailed old new
 ServesFrameOrEnds old new false = ReadsOnly old new [] × IsAtEnd new.input × NoCallFailed old new
 
 abbrev pub StopsInFrame : StreamState → StreamState → ServeFaultKind → Type 0

@@ -3,7 +3,7 @@ use Rattle.std.specs.Prelude.{◌≤◌, List, [], Option, Some, None}
 use Rattle.std.specs.Borrow.{Bor}
 use Rattle.clap.specs.Words.{Text}
 use Rattle.clap.specs.Walk.{texts}
-use Rattle.host_core.specs.declared.host.TheConstants.{MOST_TENANTS}
+use Rattle.host_core.specs.Limits.{most_tenants}
 use Rattle.host.specs.declared.program.arguments.Task.{Task}
 use Rattle.host.specs.declared.program.arguments.Task.TheVariants as task
 use Rattle.host.specs.program.Arguments.{Asked, Serves, Rewrites, Verifies}
@@ -20,6 +20,6 @@ asked_by (task.Verify maps) = Verifies (texts_given maps)
 
 -- the number of tenants to serve is from 1 to the most that there may be
 abbrev pub HasTenants : Task → Type 0
-HasTenants (task.Serve tenants) = (1 ≤ tenants) × (tenants ≤ MOST_TENANTS)
+HasTenants (task.Serve tenants) = (1 ≤ tenants) × (tenants ≤ most_tenants)
 HasTenants (task.Rewrite made) = Unit {0}
 HasTenants (task.Verify maps) = Unit {0}

@@ -1,7 +1,7 @@
 -- The end of the subcommand `serve`. This project's own.
 use Rattle.std.specs.Prelude.{◌≡◌, ◌⊎◌, ℕ, List, Result, Ok, Err}
 use Rattle.host_core.specs.declared.server.ServeFault.{ServeFault}
-use Rattle.host_core.specs.declared.server.TheConstants.{MOST_FRAMES}
+use Rattle.host_core.specs.Limits.{most_frames}
 use Rattle.host_core.specs.Served.{StreamState, ServesStream}
 use Rattle.host_core.specs.State.{TenantState}
 use Rattle.host.specs.declared.program.failure.Failure.{Failure}
@@ -13,10 +13,10 @@ abbrev pub stream_end : Result ℕ ServeFault → Result (Unit {0}) Failure
 stream_end (Ok count) = Ok tt
 stream_end (Err fault) = Err (stream_failure fault)
 
--- A new host serves the stream from `before` on, `MOST_FRAMES` frames at most; `after` is the state after it, by the states of
+-- A new host serves the stream from `before` on, `most_frames` frames at most; `after` is the state after it, by the states of
 -- the tenants. Or it is out of memory for the host, and nothing is read or written.
 abbrev pub ServesNewHost : Result (Unit {0}) Failure → StreamState → (List TenantState → StreamState) → Type 0
 ServesNewHost result before after =
     ((served : Result ℕ ServeFault) × (states : List TenantState)
-    × ServesStream MOST_FRAMES served before (after states) × (result ≡ stream_end served))
+    × ServesStream most_frames served before (after states) × (result ≡ stream_end served))
     ⊎ ((result ≡ Err Memory) × (after before.states ≡ before))

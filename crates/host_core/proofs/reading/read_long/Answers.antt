@@ -6,16 +6,16 @@ use Rattle.std.proofs.KnownBytes.{Consumes-trans}
 use Rattle.host_core.specs.inside.Reading.{ReadsFewer}
 use Rattle.host_core.proofs.Results.{on_err}
 use Rattle.host_core.proofs.Buffers.{take-put_mid_same}
-use Rattle.host_core.specs.declared.reading.TheConstants.{KEPT}
+use Rattle.host_core.specs.declared.reading.TheConstants.{FRAME_BUFFER}
 use Rattle.host_core.proofs.reading.read_long.Goals as goal
 
 pub returns-in_err-skip-clause-short : goal.returns-in_err-skip-clause-short
 returns-in_err-skip-clause-short g c =
-    let came = take KEPT c.read_whole.new.buffer in
+    let came = take FRAME_BUFFER c.read_whole.new.buffer in
     let left = c.in_err-skip.ensures.short in
     let short : ReadsFewer (g.S.Source.remaining c.args.reader.now) (g.S.Source.remaining c.skip.new.reader) c.args.total = record {
       bytes = came ++ left.bytes;
-      few = omega (arith, length-append came left.bytes, length-take KEPT c.read_whole.new.buffer, left.few);
+      few = omega (arith, length-append came left.bytes, length-take FRAME_BUFFER c.read_whole.new.buffer, left.few);
       read = Consumes-trans _ _ _ _ _ c.in_ok-read_whole.ensures.bytes left.read;
     } in
     on_err _ short
@@ -23,7 +23,7 @@ returns-in_err-skip-clause-short g c =
 pub returns-clause-frame : goal.returns-clause-frame
 returns-clause-frame g c =
     let buffer = c.read_whole.new.buffer in
-    let whole : take KEPT buffer ≡ buffer = take_all KEPT buffer (omega arith) in
+    let whole : take FRAME_BUFFER buffer ≡ buffer = take_all FRAME_BUFFER buffer (omega arith) in
     let (more, len, read) = c.in_ok-skip.ensures.bytes in
     let four : 4 ≤ length buffer = omega arith in
     let front : take 4 (put_mid 4 (length buffer - 4) buffer c.skip.new.scratch) ≡ take 4 (buffer ++ more) =

@@ -1,6 +1,6 @@
--- So many frames are answered so far, and no call has failed.
+-- So many frames are answered so far, their replies are flushed, and no call has failed.
 use Rattle.std.proofs.Common.{[]}
-use Rattle.host_core.specs.Served.{AnswersFrames, NoCallFailed, stream_state}
+use Rattle.host_core.specs.Served.{AnswersFrames, NoCallFailed, IsFlushedAgain, stream_state}
 use Rattle.host_core.proofs.server.serve.Given as goal
 
 abbrev pub invariant-loop-frames : goal.invariant-loop-frames
@@ -10,6 +10,9 @@ invariant-loop-frames g l = record {
       (stream_state g.R.Source g.W.Sink l.host l.reader l.writer)
       l.frames [];
   sound : NoCallFailed
+      (stream_state g.R.Source g.W.Sink l.initial.host l.initial.reader l.initial.writer)
+      (stream_state g.R.Source g.W.Sink l.host l.reader l.writer);
+  flushed : IsFlushedAgain
       (stream_state g.R.Source g.W.Sink l.initial.host l.initial.reader l.initial.writer)
       (stream_state g.R.Source g.W.Sink l.host l.reader l.writer);
 }

@@ -1,0 +1,5 @@
+use Rattle.host_core.proofs.ToldAlone.{each_until_refused}
+use Rattle.host_core.proofs.laws.each_is_told_alone_until_refused.Goals as goal
+
+pub returns : goal.returns
+returns c = each_until_refused c.alone_until_refused.ensures

@@ -33,6 +33,13 @@ OF_THE_MACHINE = frozenset({
     name("tenant/src/errno.rt", "Errno"),
     name(ERRNO, "status_of"),
 })
+# The way from the contract of `serve` to the answer of a command.
+TO_AN_ANSWER = frozenset({
+    name("host_core/src/server.rt", "serve"),
+    name("host_core/specs/Served.antt", "ServesAlone"),
+    *(name("tenant/specs/Alone.antt", word) for word in ("RepliesUnder", "AnswersFrame")),
+    name(MACHINE, "Answers"),
+})
 # The crates whose definitions say, but for some, which programs are accepted.
 VERIFIER = ("verifier", "transfer", "reg_kinds", "interval")
 # The verdict on a program.
@@ -89,9 +96,10 @@ def of_verifier(tier: Tier) -> dict[str, list[str]]:
 
 
 def read_for_no_fault() -> frozenset[Name]:
-    """What a reader needs for "no test run faults": how a run is answered, what a program is run on, and what a fault is."""
+    """What a reader needs for "no test run faults": how a run is answered, what a program is run on, and what a fault is; and the way
+    from the contract of `serve` to the answer of a command."""
     roots = [name(MACHINE, "run_of"), name(MACHINE, "loaded_program"), name("host_core/specs/Served.antt", "NoneFaults")]
-    return frozenset(closure(roots, OF_THE_VERDICT))
+    return frozenset(closure(roots, OF_THE_VERDICT)) | TO_AN_ANSWER
 
 
 def of_kit() -> dict[str, set[str]]:

@@ -1,30 +1,19 @@
-"""tools/pages finds dead links, names that nothing has, and tables that stand twice."""
+"""tools/pages finds dead links, names that nothing has or that another crate has, and tables that stand twice."""
 
 from __future__ import annotations
 
-import importlib.util
-import sys
 import tempfile
 import unittest
-from importlib.machinery import SourceFileLoader
 from pathlib import Path
-from types import ModuleType
 from typing import Any
 from unittest import mock
 
-
-def load_pages() -> ModuleType:
-    loader = SourceFileLoader("pages", str(Path(__file__).resolve().parents[1] / "pages"))
-    spec = importlib.util.spec_from_loader("pages", loader)
-    assert spec is not None
-    module = sys.modules["pages"] = importlib.util.module_from_spec(spec)
-    loader.exec_module(module)
-    return module
+from tests.scripts import load_script
 
 
 class Pages(unittest.TestCase):
     def setUp(self) -> None:
-        self.pages = load_pages()
+        self.pages = load_script("pages")
         folder = tempfile.TemporaryDirectory()
         self.addCleanup(folder.cleanup)
         self.top = Path(folder.name).resolve()
@@ -61,6 +50,49 @@ class Pages(unittest.TestCase):
         text = "`src/kept.rt`, `gone.antt` and `crate/src/kept.rt`"
         wrong = self.pages.unknown_files(self.page("page.md", text), text, [self.top / "crates/crate/src/kept.rt"])
         self.assertEqual(wrong, ["page.md: there is no file gone.antt"])
+
+    def crates(self) -> Any:
+        """Crates in which the names stand by which the tests call them: `upper` on `lower`, and `other` beside them."""
+        contract = "    ensures kept {{ {0}_promise }}\n\n    ensures {{ Holds{0} x }}\n{{\n    {0}_body();\n}}\n"
+        for crate in ("upper", "lower", "other"):
+            folder = self.top / "crates" / crate / "src"
+            folder.mkdir(parents=True)
+            (folder / "lib.rt").write_text(f"/// A type.\npub struct Has{crate} {{\n    field: u8,\n}}\n\npub fn {crate}_call(x: u8)\n" + contract.format(crate))
+            (folder / "laws.antt").write_text(f"pub record Holds{crate} (n : N) where\n  pub {crate}_field : N\n")
+        (self.top / "crates.txt").write_text("# top\nupper staticlib: lower kit\nlower:\nother:\n")
+        return self.pages.Sources([*self.top.rglob("*.rt"), *self.top.rglob("*.antt"), self.top / "crates.txt"])
+
+    def wrong_names(self, text: str) -> list[str]:
+        page, sources = self.page("page.md", text), self.crates()
+        return [line.removeprefix("page.md:") for unit in self.pages.units(page, sources)
+                for line in self.pages.names_of_other_crates(unit, sources) + self.pages.misplaced_names(unit, sources)]
+
+    def test_names_of_other_crates(self) -> None:
+        text = "A\n`other_call`. `upper` has `upper_call`, `lower_call`, `Hasother::field`\nand `kit`. So `lower` has `upper_call`.\n\n- `upper` is\n- not `other_call`\n"
+        self.assertEqual(self.wrong_names(text), ["1: Hasother does not stand in upper, nor below", "1: upper_call does not stand in lower, nor below"])
+
+    def test_names_below_a_heading_of_a_crate(self) -> None:
+        text = "## `lower`\n\nIt has `other_call`, and `upper_call` in `upper/src/lib.rt`. This is `other_call` of `other`.\n\n# Others\n\n`other_call`\n"
+        self.assertEqual(self.wrong_names(text), ["3: other_call does not stand in lower or upper, nor below"])
+
+    def test_names_in_tables(self) -> None:
+        text = "| Place | Name |\n|---|---|\n| `upper/src/lib.rt` | `upper_call` |\n| | `lower_call`, `other_call` |\n| here | `other_call` |\n"
+        self.assertEqual(self.wrong_names(text), ["4: other_call does not stand in upper, nor below"])
+
+    def test_names_in_files(self) -> None:
+        text = "`upper_call`, `gone` and `field` in `upper/src/lib.rt`; `lower_call` in `lib.rt`"
+        self.assertEqual(self.wrong_names(text), ["1: gone does not stand in upper, nor below", "1: upper/src/lib.rt does not have gone"])
+
+    def test_names_of_contracts(self) -> None:
+        text = "`kept`, `lower_field` and `lower_body` of `lower_call`, `field` of `Haslower`, `x` of the private `lower_call`, `kept` of `gone`"
+        self.assertEqual(self.wrong_names(text), ["1: lower_call does not have lower_body"])
+
+    def test_names_of_a_crate_itself(self) -> None:
+        self.assertEqual(self.wrong_names("`lower_call` of `upper`"), ["1: upper does not have lower_call"])
+
+    def test_name_that_is_no_crate(self) -> None:
+        self.have("NO_CRATE", {("page.md", "upper"): "a word"})
+        self.assertEqual(self.wrong_names("`upper` and `other_call`"), [])
 
     def test_tables(self) -> None:
         head = "| A | B | C |\n|---|---|---|\n"

@@ -60,7 +60,7 @@ class Tables(unittest.TestCase):
         sections = [Section(["## T", ""], rows)]
         fill(sections, Tier("T", names, frozenset()))
         lines = shown(sections[0])
-        self.assertEqual(lines[-2], "| [`host_core/specs/Served.antt`](../crates/host_core/specs/Served.antt) | 11 | `NoneFaults`, `IsUnrefused`, `StreamState` | kept words |")
+        self.assertEqual(lines[-2], "| [`host_core/specs/Served.antt`](../crates/host_core/specs/Served.antt) | 12 | `NoneFaults`, `IsUnrefused`, `StreamState` | kept words |")
         self.assertEqual(sections_of(lines)[0].rows[0].words, "kept words")
 
     def test_quotations(self) -> None:

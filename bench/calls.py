@@ -11,7 +11,7 @@ import tempfile
 from collections.abc import Iterator
 from dataclasses import dataclass
 
-from measure import SERVE, Host, Streams, count_of, counter
+from measure import SERVE, Count, Host, Streams, count_of, counter
 from programs import (
     ADD64_K,
     ARRAY,
@@ -112,7 +112,7 @@ CASES = (
 )
 
 
-def counted(count, streams: Streams, host: Host, programs: tuple[Program, Program]) -> float:
+def counted(count: Count, streams: Streams, host: Host, programs: tuple[Program, Program]) -> float:
     """Machine instructions a call, less those of the move in the twin. Starts and loads cancel out in two lengths."""
     with_calls, without = (
         count_of(count, host, streams.of(runs_of, program, 2 * RUNS)) - count_of(count, host, streams.of(runs_of, program, RUNS))
@@ -124,8 +124,8 @@ def counted(count, streams: Streams, host: Host, programs: tuple[Program, Progra
 def main() -> None:
     if len(sys.argv) not in (2, 3):
         sys.exit(__doc__)
-    tool, count = counter()
-    if not tool:
+    _, count = counter()
+    if not count:
         print("calls: skipped, as neither perf nor valgrind counts here")
         return
     hosts = [Host("bpfhost", [sys.argv[1], *SERVE]), *(Host("C", [plain]) for plain in sys.argv[2:])]

@@ -16,7 +16,7 @@ MAP_LOOKUP, MAP_UPDATE = 1, 2
 ETHERNET_HEADER, LONG_PACKET = 14, 1500
 
 
-def look_up():
+def look_up() -> bytes:
     """A hash map of a key of four bytes, with a value of eight."""
     key, value = b"key1", b"value001"
     return (
@@ -26,7 +26,7 @@ def look_up():
     )
 
 
-def main():
+def main() -> None:
     folder = pathlib.Path(sys.argv[1])
     program = parser()
     streams = {

@@ -4,6 +4,8 @@
 usage: measure.py [--rounds N] [--only WORD] BPFHOST [PLAIN [DPDK]]
 """
 
+from __future__ import annotations
+
 import argparse
 import os
 import re
@@ -11,6 +13,8 @@ import shutil
 import subprocess
 import sys
 import tempfile
+from collections.abc import Callable, Mapping
+from typing import IO, Protocol
 
 from programs import LOADED, RUN, SLOTS, Program
 from streams import loads_of, runs_of
@@ -21,21 +25,33 @@ EXECUTED, MOST_RUNS = 60_000_000, 100_000
 # Loads in each timed stream, and runs and loads where machine instructions are counted by a slow tool.
 LOADS, COUNTED_RUNS, COUNTED_LOADS = 60, 60, 2
 
+Programs = dict[str, Program]
+# What was found of each program, by its name and the host's.
+Found = dict[tuple[str, str], float]
+
+
+# What a stream is read from, and what counts the machine instructions of a command: none where it does not count here.
+Input = IO[bytes] | int
+
+
+class Count(Protocol):
+    def __call__(self, command: list[str], frames: Input, environment: Mapping[str, str] | None = None) -> int | None: ...
+
 
 class Host:
     """A program that reads frames and writes replies. With no calls it runs only programs that call no helper."""
 
-    def __init__(self, name, command, calls=True):
+    def __init__(self, name: str, command: list[str], calls: bool = True) -> None:
         self.name, self.command, self.calls = name, command, calls
 
-    def runs(self, program):
+    def runs(self, program: Program) -> bool:
         return self.calls or not program.calls
 
-    def replies(self, stream):
+    def replies(self, stream: str) -> bytes:
         with open(stream, "rb") as frames:
             return subprocess.run(self.command, stdin=frames, stdout=subprocess.PIPE, check=True).stdout
 
-    def seconds(self, stream):
+    def seconds(self, stream: str) -> float:
         """The processor time that the process takes, by itself and in the system: others on the machine count little."""
         with open(stream, "rb") as frames:
             process = subprocess.Popen(self.command, stdin=frames, stdout=subprocess.DEVNULL)
@@ -43,24 +59,24 @@ class Host:
         process.returncode = os.waitstatus_to_exitcode(status)
         if process.returncode:
             sys.exit(f"{self.name} ended with {process.returncode}")
-        return usage.ru_utime + usage.ru_stime
+        return float(usage.ru_utime + usage.ru_stime)
 
 
-def counted_by_perf(command, frames):
+def counted_by_perf(command: list[str], frames: Input, environment: Mapping[str, str] | None = None) -> int | None:
     words = ["perf", "stat", "-x,", "-e", "instructions:u", *command]
-    said = subprocess.run(words, stdin=frames, stdout=subprocess.DEVNULL, stderr=subprocess.PIPE, text=True).stderr
+    said = subprocess.run(words, stdin=frames, stdout=subprocess.DEVNULL, stderr=subprocess.PIPE, text=True, env=environment).stderr
     found = re.search(r"^(\d+),", said, re.M)
     return int(found[1]) if found else None
 
 
-def counted_by_valgrind(command, frames):
+def counted_by_valgrind(command: list[str], frames: Input, environment: Mapping[str, str] | None = None) -> int | None:
     words = ["valgrind", "--tool=callgrind", "--callgrind-out-file=/dev/null", *command]
-    said = subprocess.run(words, stdin=frames, stdout=subprocess.DEVNULL, stderr=subprocess.PIPE, text=True).stderr
+    said = subprocess.run(words, stdin=frames, stdout=subprocess.DEVNULL, stderr=subprocess.PIPE, text=True, env=environment).stderr
     found = re.search(r"Collected : (\d+)", said)
     return int(found[1]) if found else None
 
 
-def counter():
+def counter() -> tuple[str, Count] | tuple[None, None]:
     """What counts machine instructions here, if anything does."""
     for tool, count in (("perf", counted_by_perf), ("valgrind", counted_by_valgrind)):
         if shutil.which(tool) and count(["true"], subprocess.DEVNULL):
@@ -68,18 +84,22 @@ def counter():
     return None, None
 
 
-def count_of(count, host, stream):
+def count_of(count: Count, host: Host, stream: str) -> int:
     with open(stream, "rb") as frames:
-        return count(host.command, frames)
+        counted = count(host.command, frames)
+    if counted is None:
+        sys.exit(f"{host.name}: its machine instructions can't be counted")
+    return counted
 
 
 class Streams:
     """Streams as files of a folder, each written once."""
 
-    def __init__(self, folder):
-        self.folder, self.written = folder, {}
+    def __init__(self, folder: str) -> None:
+        self.folder = folder
+        self.written: dict[tuple[str, int, int], str] = {}
 
-    def of(self, make, program, count):
+    def of(self, make: Callable[[Program, int], bytes], program: Program, count: int) -> str:
         key = make.__name__, id(program), count
         if key not in self.written:
             path = os.path.join(self.folder, str(len(self.written)))
@@ -89,9 +109,9 @@ class Streams:
         return self.written[key]
 
 
-def least(rounds, tasks):
+def least(rounds: int, tasks: list[tuple[Host, str]]) -> dict[tuple[Host, str], float]:
     """The least time of each task, (host, stream), over rounds in which each has its turn."""
-    best = {}
+    best: dict[tuple[Host, str], float] = {}
     for at in range(rounds):
         if sys.stderr.isatty():
             print(f"\rround {at + 1} of {rounds} ", end="", file=sys.stderr, flush=True)
@@ -103,11 +123,11 @@ def least(rounds, tasks):
     return best
 
 
-def runs_for(program):
+def runs_for(program: Program) -> int:
     return min(MOST_RUNS, EXECUTED // program.executed)
 
 
-def same_replies(streams, programs, hosts):
+def same_replies(streams: Streams, programs: Programs, hosts: list[Host]) -> None:
     for name, program in programs.items():
         stream = streams.of(runs_of, program, 100)
         asked = [host for host in hosts if host.runs(program)]
@@ -115,7 +135,7 @@ def same_replies(streams, programs, hosts):
             sys.exit(f"{name}: {' and '.join(host.name for host in asked)} answer differently")
 
 
-def measured_runs(streams, programs, hosts, rounds):
+def measured_runs(streams: Streams, programs: Programs, hosts: list[Host], rounds: int) -> Found:
     """Seconds of a run of each program on each host, with its frame."""
     pairs = {
         name: (streams.of(runs_of, program, 0), streams.of(runs_of, program, runs_for(program)))
@@ -129,7 +149,7 @@ def measured_runs(streams, programs, hosts, rounds):
     }
 
 
-def counted_runs(streams, programs, hosts, count):
+def counted_runs(streams: Streams, programs: Programs, hosts: list[Host], count: Count) -> Found:
     """Machine instructions of a run of each program on each host, with its frame."""
     found = {}
     for name, program in programs.items():
@@ -139,7 +159,7 @@ def counted_runs(streams, programs, hosts, count):
     return found
 
 
-def print_runs(streams, programs, hosts, rounds, count):
+def print_runs(streams: Streams, programs: Programs, hosts: list[Host], rounds: int, count: Count | None) -> None:
     seconds = measured_runs(streams, programs, hosts, rounds)
     counts = counted_runs(streams, programs, hosts, count) if count else None
     for host in hosts:
@@ -154,34 +174,34 @@ def print_runs(streams, programs, hosts, rounds, count):
         executed = program.executed - programs["empty"].executed
         alone = [told_of(seconds, name, host, 1e9 / executed) for host in hosts]
         line = f"{name:18}{program.executed:>9}" + "".join(f"{shown(it, 3):>14}" for it in alone)
-        line += "".join(f"{shown(it and alone[0] / it, 2):>9}" for it in alone[1:])
+        line += "".join(f"{shown(it and alone[0] and alone[0] / it, 2):>9}" for it in alone[1:])
         if counts:
             line += "".join(f"{shown(told_of(counts, name, host, 1 / executed), 2):>15}" for host in hosts)
         print(line)
 
 
-def told_of(found, name, host, scale):
+def told_of(found: Found, name: str, host: Host, scale: float) -> float | None:
     """What a run takes beyond the empty program's, or None where this host does not run the program."""
     if (name, host.name) not in found:
         return None
     return (found[name, host.name] - found["empty", host.name]) * scale
 
 
-def shown(number, digits):
+def shown(number: float | None, digits: int) -> str:
     return "" if number is None else f"{number:.{digits}f}"
 
 
-def print_loads(streams, programs, host, rounds, count):
+def print_loads(streams: Streams, programs: Programs, host: Host, rounds: int, count: Count | None) -> None:
     """Loads, less those of the empty program."""
     bare = RUN["empty"]()
     every = {"empty": bare, **programs}
     files = {name: streams.of(loads_of, program, LOADS) for name, program in every.items()}
     best = least(rounds, [(host, file) for file in files.values()])
     print(f"{'load of 4,096':18}{'ms':>9}{'ns a slot':>14}" + (f"{'ins. a slot':>15}" if count else ""))
-    base = None
+    base = 0.0
     for name, program in every.items():
         milliseconds = (best[host, files[name]] - best[host, files["empty"]]) * 1e3 / LOADS
-        counted = None
+        counted = 0.0
         if count:
             few, more = (streams.of(loads_of, program, loads) for loads in (COUNTED_LOADS, 2 * COUNTED_LOADS))
             counted = (count_of(count, host, more) - count_of(count, host, few)) / COUNTED_LOADS
@@ -192,7 +212,7 @@ def print_loads(streams, programs, host, rounds, count):
         print(f"{name:18}{milliseconds:>9.3f}{milliseconds * 1e6 / SLOTS:>14.1f}{told}")
 
 
-def main():
+def main() -> None:
     parser = argparse.ArgumentParser(description=__doc__.split("\n")[0])
     parser.add_argument("--rounds", type=int, default=9)
     parser.add_argument("--only", default="", help="a word of the programs' names")

@@ -1,6 +1,9 @@
 """The programs of the bench, as slots of RFC 9669, with the maps that they load and the packet that they are run on."""
 
+from __future__ import annotations
+
 import struct
+from collections.abc import Callable, Sequence
 from dataclasses import dataclass, field
 
 # Opcodes: operation, source bit and class in one byte.
@@ -16,48 +19,50 @@ HASH, ARRAY = 1, 2
 # The ten words of context that a frame gives.
 WORDS = range(1, 11)
 
+Slots = list[bytes]
 
-def slot(opcode, dst=0, src=0, off=0, imm=0):
+
+def slot(opcode: int, dst: int = 0, src: int = 0, off: int = 0, imm: int = 0) -> bytes:
     return struct.pack("<BBhi", opcode, src << 4 | dst, off, imm)
 
 
-def returns(value):
+def returns(value: int) -> Slots:
     return [slot(MOV64_K, 0, imm=value), slot(EXIT)]
 
 
-def call(helper):
+def call(helper: int) -> bytes:
     return slot(CALL, imm=helper)
 
 
-def loads_map(dst, fd):
+def loads_map(dst: int, fd: int) -> Slots:
     return [slot(WIDE, dst, 1, imm=fd), bytes(8)]
 
 
-def loads_value(dst, fd, off):
+def loads_value(dst: int, fd: int, off: int) -> Slots:
     """The address of the one value of an array, plus an offset."""
     return [slot(WIDE, dst, 2, imm=fd), slot(0, imm=off)]
 
 
 @dataclass
 class Program:
-    slots: list
+    slots: Slots
     # Each map's kind, key size, value size and entries; their descriptors are 3, 4, ..
-    maps: list = field(default_factory=list)
+    maps: list[tuple[int, int, int, int]] = field(default_factory=list)
     packet: bytes = b""
     # How many instructions a run executes, where it is known.
     executed: int = 0
 
     @property
-    def calls(self):
+    def calls(self) -> bool:
         """Whether it calls a helper."""
         return any(slot[0] == CALL for slot in self.slots)
 
 
-def empty():
+def empty() -> Program:
     return Program(returns(0), executed=2)
 
 
-def arithmetic(rounds):
+def arithmetic(rounds: int) -> Program:
     registers = [slot(MOV64_K, reg, imm=reg + 7) for reg in range(4)]
     round_of_eight = [
         slot(ADD64_X, 0, 1),
@@ -73,7 +78,7 @@ def arithmetic(rounds):
     return Program(slots, executed=len(slots))
 
 
-def branches():
+def branches() -> Program:
     """A filter of 1,000 tests of the packet's length and the other words of the context; each jump leads over one slot."""
     context, tests, executed = [0, *WORDS], [], 0
     for number in range(1000):
@@ -89,7 +94,7 @@ def branches():
     return Program(slots, executed=executed + 3)
 
 
-def kept_on_stack(registers, count):
+def kept_on_stack(registers: Sequence[int], count: int) -> Program:
     """Values kept on the stack, all over it, and taken back: all of these registers are stored, loaded and added to in turn."""
     slots = [slot(MOV64_K, reg, imm=reg) for reg in registers]
     for number in range(0, count, len(registers)):
@@ -101,17 +106,17 @@ def kept_on_stack(registers, count):
     return Program(slots, executed=len(slots))
 
 
-def stack():
+def stack() -> Program:
     """A thousand stores and loads of eight bytes, of eight registers in turn, as around a call."""
     return kept_on_stack(range(2, 10), 1000)
 
 
-def stack_chain():
+def stack_chain() -> Program:
     """The same with one register: each load waits for the store before it, and each store for the load."""
     return kept_on_stack([2], 1000)
 
 
-def copies_of_packet(offset, to, length):
+def copies_of_packet(offset: int, to: int, length: int) -> Slots:
     """Copies bytes of the packet into the stack; the context is in register 6."""
     return [
         slot(MOV64_X, 1, 6),
@@ -123,9 +128,9 @@ def copies_of_packet(offset, to, length):
     ]
 
 
-def look_at_packet():
+def look_at_packet() -> Slots:
     """Adds to register 9: ports and addresses of a TCP segment in IPv4 in an Ethernet frame, mixed. Each test jumps to the end."""
-    look = [
+    look: list[bytes | tuple[int, int, int]] = [
         # The Ethernet header: is the type IPv4?
         *copies_of_packet(0, -16, 14),
         (JNE_K, 0, 0),
@@ -168,12 +173,13 @@ def look_at_packet():
     for at, it in enumerate(look):
         if isinstance(it, tuple):
             opcode, register, constant = it
-            it = slot(opcode, register, off=len(look) - at - 1, imm=constant)
-        slots.append(it)
+            slots.append(slot(opcode, register, off=len(look) - at - 1, imm=constant))
+        else:
+            slots.append(it)
     return slots
 
 
-def parser():
+def parser() -> Program:
     """Eight looks at one packet, each with three calls that copy bytes of it."""
     looks = look_at_packet() * 8
     slots = [slot(MOV64_X, 6, 1), slot(MOV64_K, 9), *looks, slot(MOV64_X, 0, 9), slot(EXIT)]
@@ -183,7 +189,7 @@ def parser():
     return Program(slots, packet=ethernet + ip + tcp, executed=len(slots))
 
 
-def counts(fd, key):
+def counts(fd: int, key: int) -> Slots:
     """Adds 1 to a count under a key, and the count to register 9. A hash map's first count is put there by an update."""
     counted = [
         slot(LOAD_DOUBLE, 1, 0),
@@ -214,7 +220,7 @@ def counts(fd, key):
     ]
 
 
-def counter():
+def counter() -> Program:
     """Eight counts in an array and eight in a hash map."""
     counted = []
     for number in range(8):
@@ -225,7 +231,7 @@ def counter():
     return Program(slots, maps=maps, executed=16 * 10 + 3)
 
 
-def counts_and_keeps_greatest(counts_one, rounds):
+def counts_and_keeps_greatest(counts_one: Slots, rounds: int) -> Slots:
     """Counts words of the context, and keeps the greatest: two global variables, in an array of one element as compilers do.
 
     `counts_one` adds 1 to the number at register 4. Beside it a round executes five instructions once the greatest word is there: a
@@ -248,14 +254,14 @@ def counts_and_keeps_greatest(counts_one, rounds):
 GLOBALS = [(ARRAY, 4, 16, 1)]
 
 
-def globals_of(rounds):
+def globals_of(rounds: int) -> Program:
     """The counter is loaded, added to and stored, each time."""
     counts_one = [slot(LOAD_DOUBLE, 5, 4), slot(ADD64_K, 5, imm=1), slot(STORE_DOUBLE, 4, 5)]
     slots = [*counts_and_keeps_greatest(counts_one, rounds), slot(ADD64_X, 0, 5), slot(EXIT)]
     return Program(slots, maps=GLOBALS, executed=8 * rounds + 2)
 
 
-def atomic_globals_of(rounds):
+def atomic_globals_of(rounds: int) -> Program:
     """The counter is added to by one atomic operation in their place."""
     counts_one = [slot(ATOMIC_DOUBLE, 4, 6, imm=ATOMIC_ADD)]
     adds_counter = [*loads_value(4, 3, 0), slot(LOAD_DOUBLE, 5, 4), slot(ADD64_X, 0, 5)]
@@ -263,7 +269,7 @@ def atomic_globals_of(rounds):
     return Program(slots, maps=GLOBALS, executed=6 * rounds + 5)
 
 
-RUN = {
+RUN: dict[str, Callable[[], Program]] = {
     "empty": empty,
     "arithmetic, long": lambda: arithmetic(499),
     "arithmetic, short": lambda: arithmetic(49),
@@ -280,22 +286,22 @@ RUN = {
 SLOTS = 4096
 
 
-def filled(slots, end):
+def filled(slots: Slots, end: Slots) -> Program:
     """As many slots as a program may have: moves between the slots and the end."""
     return Program(slots + [slot(MOV64_K, 9, imm=1)] * (SLOTS - len(slots) - len(end)) + end)
 
 
-def full_facts():
+def full_facts() -> Slots:
     """Something is known of each register and of each stack slot: scalars and spilled pointers."""
     slots = [slot(LOAD_WORD, 2, 1)] + [slot(MOV64_K, reg, imm=reg) for reg in range(3, 10)]
     return slots + [slot(STORE_DOUBLE, 10, (1, 3)[number % 2], off=-8 * (number + 1)) for number in range(64)]
 
 
-def straight():
+def straight() -> Program:
     return filled(arithmetic(510).slots[:-1], returns(0))
 
 
-def spills():
+def spills() -> Program:
     """The frame pointer and the context are kept all over the stack, and loaded again."""
     slots = []
     for number in range(2040):
@@ -304,7 +310,7 @@ def spills():
     return filled(slots, returns(0))
 
 
-def jumps_to_one_target(slots):
+def jumps_to_one_target(slots: Slots) -> Program:
     """Four thousand tests of one number behind these slots, each of which jumps to the end."""
     end, slots = returns(0), list(slots)
     for number in range(4000):
@@ -312,17 +318,17 @@ def jumps_to_one_target(slots):
     return filled(slots, end)
 
 
-def one_target():
+def one_target() -> Program:
     """Four thousand jumps to one target, where a number is known of one register."""
     return jumps_to_one_target([slot(LOAD_WORD, 2, 1)])
 
 
-def one_target_full():
+def one_target_full() -> Program:
     """The same where something is known of each register and of each stack slot."""
     return jumps_to_one_target(full_facts())
 
 
-def crossing():
+def crossing() -> Program:
     """Each jump leads over the next ninety slots, so that ninety are open at each slot."""
     end, open_jumps, slots = returns(0), 90, full_facts()
     while len(slots) + open_jumps + 1 < SLOTS - len(end):
@@ -330,7 +336,7 @@ def crossing():
     return filled(slots, end)
 
 
-def diamonds():
+def diamonds() -> Program:
     """A test, a slot on each of its two edges, and so on."""
     end, slots = returns(0), full_facts()
     while len(slots) + 4 <= SLOTS - len(end):
@@ -343,7 +349,7 @@ def diamonds():
     return filled(slots, end)
 
 
-LOADED = {
+LOADED: dict[str, Callable[[], Program]] = {
     "straight": straight,
     "spills": spills,
     "one target": one_target,

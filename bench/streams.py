@@ -5,35 +5,37 @@ usage: streams.py run PROGRAM RUNS     a program is loaded with its maps, and te
        streams.py load PROGRAM LOADS   a program is loaded and closed so many times
 """
 
+from __future__ import annotations
+
 import struct
 import sys
 
-from programs import LOADED, RUN, WORDS
+from programs import LOADED, RUN, WORDS, Program
 
 MAP_CREATE, PROG_LOAD, PROG_TEST_RUN, CLOSE = 0, 5, 10, 256
 SOCKET_FILTER, FIRST = 1, 3
 
 
-def frame(command, body):
+def frame(command: int, body: bytes) -> bytes:
     return struct.pack("<IHH", 4 + len(body), 0, command) + body
 
 
-def load(program):
+def load(program: Program) -> bytes:
     return frame(PROG_LOAD, struct.pack("<I", SOCKET_FILTER) + b"".join(program.slots))
 
 
-def runs_of(program, runs):
+def runs_of(program: Program, runs: int) -> bytes:
     maps = [frame(MAP_CREATE, struct.pack("<5I", *shape, 0)) for shape in program.maps]
     descriptor = FIRST + len(maps)
     run = frame(PROG_TEST_RUN, struct.pack("<11I", descriptor, *WORDS) + program.packet)
     return b"".join(maps) + load(program) + run * runs
 
 
-def loads_of(program, loads):
+def loads_of(program: Program, loads: int) -> bytes:
     return (load(program) + frame(CLOSE, struct.pack("<I", FIRST))) * loads
 
 
-def main():
+def main() -> None:
     kind, name, count = sys.argv[1], sys.argv[2], int(sys.argv[3])
     stream = runs_of(RUN[name](), count) if kind == "run" else loads_of({**RUN, **LOADED}[name](), count)
     sys.stdout.buffer.write(stream)

@@ -1,0 +1,127 @@
+"""Keys of hash maps: random ones, and families of keys that are to collide."""
+
+from __future__ import annotations
+
+import random
+import struct
+import subprocess
+from collections.abc import Callable
+from dataclasses import dataclass
+from pathlib import Path
+
+# Up to eight bytes a key is hashed as one number, in both factors of one product: there is no key that makes a factor zero for all
+# others, so keys that collide are searched for. In a longer key the last eight bytes alone are one factor.
+LONGEST_NUMBER = 8
+# The constant of the kit's own hash function.
+KIT_FACTOR = 0x9E37_79B9_7F4A_7C15
+# A step that leads through all numbers of 32 and of 64 bits.
+STEP = 0x9E37_79B9_0000_0001
+
+Keys = list[bytes]
+
+
+@dataclass(frozen=True)
+class Seed:
+    """The two words of a host's seed."""
+
+    state: int
+    factor: int
+
+    @classmethod
+    def of_words(cls, words: str) -> Seed:
+        """Of two words in hexadecimal digits."""
+        state, factor = (int(word, 16) for word in words.split())
+        if max(state, factor) >= 2**64:
+            raise ValueError(words)
+        return cls(state, factor)
+
+    @property
+    def words(self) -> str:
+        return f"{self.state:016x} {self.factor:016x}"
+
+
+# The hosts' seed if no other is given, and one that no host has.
+SEED = Seed(0x6A09_E667_F3BC_C908, 0xBB67_AE85_84CA_A73B)
+OTHER_SEED = Seed(0x3C6E_F372_FE94_F82B, 0xA54F_F53A_5F1D_36F1)
+
+
+def random_keys(size: int, count: int) -> Keys:
+    """Random bytes, the same ones in each run."""
+    drawn = random.Random(size * count)
+    keys: dict[bytes, None] = {}
+    while len(keys) < count:
+        keys[drawn.randbytes(size)] = None
+    return list(keys)
+
+
+def at_begin(numbers: list[int], size: int) -> Keys:
+    """Each number in the first eight bytes, or in all where there are fewer, and zeros."""
+    width = min(size, LONGEST_NUMBER)
+    return [(number % 256**width).to_bytes(width, "little").ljust(size, b"\0") for number in numbers]
+
+
+def at_end(numbers: list[int], size: int) -> Keys:
+    """Zeros, and then each number in the last eight bytes."""
+    width = min(size, LONGEST_NUMBER)
+    return [(number % 256**width).to_bytes(width, "little").rjust(size, b"\0") for number in numbers]
+
+
+def counting(size: int, count: int) -> Keys:
+    return at_begin(list(range(count)), size)
+
+
+def counting_high(size: int, count: int) -> Keys:
+    """Multiples of a high power of two: the highest twelve bits count."""
+    return at_end([number << (8 * min(size, LONGEST_NUMBER) - 12) for number in range(count)], size)
+
+
+def equal_steps(size: int, count: int) -> Keys:
+    return at_end([STEP * number for number in range(count)], size)
+
+
+def ending_in(factor: int, size: int, count: int) -> Keys:
+    """Long keys whose last eight bytes are a word, which makes the factor zero that this word is in. The eight before it count."""
+    return [bytes(size - 16) + struct.pack("<QQ", number, factor) for number in range(count)]
+
+
+@dataclass(frozen=True)
+class Searched:
+    """Keys that collide, found by a built colliding.c where they are short."""
+
+    tool: Path
+
+    def under(self, seed: Seed | None, size: int, count: int) -> Keys:
+        """Under this seed, or under the fixed constants of the kit's hash function."""
+        if size > LONGEST_NUMBER:
+            return ending_in(seed.factor if seed else KIT_FACTOR, size, count)
+        words = [str(self.tool), str(count), *(seed.words.split() if seed else [])]
+        found = subprocess.run(words, stdout=subprocess.PIPE, check=True).stdout
+        return at_begin([number for (number,) in struct.iter_unpack("<I", found)], size)
+
+
+@dataclass(frozen=True)
+class Family:
+    """Keys of a size, so many; whether whoever makes them knows the seed."""
+
+    name: str
+    keys: Callable[[int, int], Keys]
+    knows_seed: bool = False
+
+
+RANDOM = Family("random", random_keys)
+
+
+def without_seed(searched: Searched) -> list[Family]:
+    """Keys of somebody who knows the function and not the seed."""
+    return [
+        Family("counting", counting),
+        Family("counting in the highest bits", counting_high),
+        Family("equal steps", equal_steps),
+        Family("colliding under the kit's constants", lambda size, count: searched.under(None, size, count)),
+        Family("colliding under another seed", lambda size, count: searched.under(OTHER_SEED, size, count)),
+    ]
+
+
+def with_seed(searched: Searched, seed: Seed) -> Family:
+    """Keys of somebody who knows the seed."""
+    return Family("colliding under the seed", lambda size, count: searched.under(seed, size, count), knows_seed=True)

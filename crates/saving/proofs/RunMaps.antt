@@ -31,7 +31,7 @@ use Rattle.insn_set.specs.declared.atomic.AtomicSize.{AtomicSize}
 use Rattle.insn_set.specs.declared.atomic.AtomicOp.{AtomicOp}
 use Rattle.insn_set.specs.Atomic.{atomic_operator, is_wide_atomic, access_size}
 use Rattle.insn_set.specs.Flow.{natural}
-use Rattle.tagged_model.specs.State.{RunState, RunMap, stack_byte, value_bytes, at_slot, with_cell, with_cells, with_map, input, stack_place, stack_store, object_written, object_stored, value_written, with_value, store, output, load}
+use Rattle.tagged_model.specs.State.{RunState, RunMap, stack_byte, value_bytes, at_slot, with_cell, with_cells, with_map, input, stack_place, stack_store, object_written, object_stored, value_written, with_value, store, output, load, is_aligned_at}
 use Rattle.tagged_model.specs.Helpers.{GivenMap, map_argument, map_given, argument, context_given, number_given, length_given, called, helper_of, MapReply, put, taken_out, updated, removed, replies, returns, looked_up, packet_bytes, packet_answer}
 use Rattle.tagged_model.specs.Step.{Step, goes, ends, faults, or_fault, assigned, operand_value, jumped, branched, ended, changed, act, step, run, Ending, ending_after, refused_at_first, refused_later, MapsByDescriptor, start_of_run, numbered, first_map, last_map, left_with, run_with}
 
@@ -94,6 +94,10 @@ or_fault_same s (Some x) f h = h x
 then_same : {A : Type 0} (s : RunState) (o : Option A) (f : A → Option RunState) → ((x : A) → o ≡ Some x → StateHasSame s (f x)) → StateHasSame s (and_then o f)
 then_same s None f h = tt
 then_same s (Some x) f h = h x refl
+
+if_same : (s : RunState) (holds : Bool) (o : Option RunState) → StateHasSame s o → StateHasSame s (if holds then o else None)
+if_same s true o h = h
+if_same s false o h = tt
 
 goes_same : (s : RunState) (o : Option RunState) (n : ℕ) → StateHasSame s o → StepHasSame s (or_fault o (λ t. goes (record t { at = t.at + n })))
 goes_same s None n h = tt
@@ -291,7 +295,8 @@ ended_same s (Pointer o x) = tt
 
 changed_same : (s : RunState) (size : AtomicSize) (op : AtomicOp) (p : Tagged) (off : ℤ) (v : Tagged) → StateHasSame s (changed s size op p off v)
 changed_same s size op p off v =
-    then_same s (load s (access_size size) false p off) _ (λ old _. then_same s (of_numbers (is_wide_atomic size) (atomic_operator op) old v) _ (λ new _. store_same s (access_size size) p off new))
+    if_same s (is_aligned_at (access_size size) p off) _
+    (then_same s (load s (access_size size) false p off) _ (λ old _. then_same s (of_numbers (is_wide_atomic size) (atomic_operator op) old v) _ (λ new _. store_same s (access_size size) p off new)))
 
 act_same : (refused : Bool) (i : Insn) (s : RunState) → StepHasSame s (act refused i s)
 act_same refused (Alu wide op dst src) s = or_fault_same s (first_operand op (s.registers dst)) _ (λ a. or_fault_same s (operand_value s wide src) _ (λ b. assigned_same s 1 dst (arithmetic wide op a b)))

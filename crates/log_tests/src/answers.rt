@@ -20,6 +20,7 @@ fn logged(
     let Log {
         text,
         is_accepted: _,
+        facts: _,
     } = log_of(alloc, &program, named, style)?;
     Ok(text)
 }

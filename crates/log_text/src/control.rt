@@ -1,6 +1,6 @@
 //! Control flow: the jumps of a program by their targets, and its basic blocks.
 
-use crate::recorder::Step;
+use crate::steps::Step;
 use insn_codec::{Insn, MAX_SLOTS, Program, Successors};
 use std::alloc::{AllocError, Global};
 

@@ -3,7 +3,7 @@
 use crate::control::{block_starts, target_at};
 use crate::lines::Story;
 use crate::needs::{Refusal, write_refusal};
-use crate::recorder::Step;
+use crate::steps::Step;
 use bpf_text::write_insn;
 use insn_codec::{Insn, Successors};
 use std::alloc::{AllocError, Global};

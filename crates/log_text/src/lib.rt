@@ -12,7 +12,9 @@ mod needs;
 mod reasons;
 mod recorder;
 mod running;
+mod steps;
 mod ways;
 
 pub use log::{Log, LogStyle, log_of};
+pub use recorder::KnownFacts;
 pub use running::run_log_words;

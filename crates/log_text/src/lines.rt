@@ -1,7 +1,10 @@
 //! The log: a line for each instruction.
 
+ghost use Rattle.std.specs.Prelude.{OnOk, string_bytes};
+ghost use Rattle.log_text.specs.Said.{AreLines};
+
 use crate::control::{JumpEdge, target_at};
-use crate::recorder::Step;
+use crate::steps::Step;
 use bpf_text::write_insn;
 use insn_codec::{Insn, Program, Successors};
 use std::alloc::AllocError;
@@ -162,7 +165,9 @@ fn write_line(
     place: &mut Place,
     insn: &Insn,
     slot: usize,
-) -> Result<(), AllocError> {
+) -> Result<(), AllocError>
+    ensures { OnOk result (AreLines (string_bytes text.new)) }
+{
     let begin = text.len();
     write!(text, "{slot}: ")?;
     write_insn(text, insn)?;
@@ -176,7 +181,10 @@ pub(crate) fn write_lines(
     text: &mut String,
     story: &Story<'_>,
     last: usize,
-) -> Result<(), AllocError> {
+) -> Result<(), AllocError>
+    requires { AreLines (string_bytes text.old) }
+    ensures { OnOk result (AreLines (string_bytes text.new)) }
+{
     let mut place = Place {
         step: 0,
         jump: 0,

@@ -1,17 +1,24 @@
 //! The log of a program, with its verdict and why.
 
+ghost use Rattle.std.specs.Prelude.{◌≡◌, ◌≢◌, ◌↔◌, option_map, IfOk, IsTrue, OnOk, string_bytes};
+ghost use Rattle.log_text.specs.Known.{IsLogged};
+ghost use Rattle.log_text.specs.Said.{AddsVerdict, EndsInVerdict, SaysVerdict};
+ghost use Rattle.log_text.specs.inside.Refusals.{fault_of};
+ghost use Rattle.verifier.specs.Verdict.{IsAccepted};
+
 use crate::control::live_jumps;
 use crate::graph::write_graph;
+use crate::known::nothing_known;
 use crate::lines::{Story, write_lines};
 use crate::needs::{Refusal, write_refusal};
 use crate::reasons::is_of_shape;
-use crate::recorder::Recorder;
+use crate::recorder::{Judged, KnownFacts, judge};
+use crate::steps::steps_of;
 use insn_codec::Program;
-use reg_kinds::Reason;
+use reg_kinds::Facts;
 use std::alloc::{AllocError, Global};
-use std::fmt::Write;
 use tagged_model::Named;
-use verifier::{VerifyFault, verify_watched};
+use verifier::laws;
 
 /// What a log shows.
 #[derive(Clone, Copy, Debug, PartialEq, Eq)]
@@ -27,78 +34,138 @@ pub enum LogStyle {
 /// The log of a program.
 #[derive(Debug, Drop)]
 pub struct Log {
-    /// Its lines.
+    /// Its lines, or the graph.
     pub text: String,
     /// The verdict.
     pub is_accepted: bool,
-}
-
-/// The fault of a refused program; `None` if it is accepted. `AllocError`: the verifier was out of memory.
-fn fault_of<T: Drop>(verdict: Result<T, VerifyFault>) -> Result<Option<VerifyFault>, AllocError> {
-    match verdict {
-        Ok(_) => Ok(None),
-        Err(fault) if fault.reason == Reason::Memory => Err(AllocError),
-        Err(fault) => Ok(Some(fault)),
-    }
+    /// The facts from which its lines are written: those before each instruction that a run may reach, in order. Of a program that
+    /// is refused for its safety, those up to the refused instruction; of one that is refused for its shape, none.
+    pub facts: Vec<KnownFacts>,
 }
 
 /// Writes the verdict, and of a refusal what was known against what was needed.
-fn write_verdict(text: &mut String, refusal: Option<&Refusal<'_>>) -> Result<(), AllocError> {
+fn write_verdict(text: &mut String, refusal: Option<&Refusal<'_>>) -> Result<(), AllocError>
+    ensures { OnOk result (AddsVerdict (fault_of refusal.entry) (string_bytes text.old)
+        (string_bytes text.new)) }
+{
     match refusal {
         None => text.push_str("accepted\n"),
         Some(refusal) => write_refusal(text, refusal, ": "),
     }
 }
 
-/// Writes the log in a style: the graph, or the lines up to the refused instruction and the verdict.
-fn write_log(
-    text: &mut String,
+/// The log as lines: those of the instructions up to the refused one, and the verdict.
+fn lines_of(
     alloc: Global,
-    style: LogStyle,
     story: &Story<'_>,
     refusal: Option<&Refusal<'_>>,
-) -> Result<(), AllocError> {
-    if style == LogStyle::Graph {
-        return write_graph(text, alloc, story, refusal);
-    }
+) -> Result<String, AllocError>
+    ensures { IfOk result (λ text. EndsInVerdict (fault_of refusal.entry) (string_bytes text)) }
+{
     let last = refusal.map_or(story.program.slots(), |refusal| refusal.fault.slot);
-    write_lines(text, story, last)?;
-    write_verdict(text, refusal)
+    let mut text = String::new(alloc);
+    write_lines(&mut text, story, last)?;
+    write_verdict(&mut text, refusal)?;
+    Ok(text)
 }
 
-/// The log of a program, where descriptors name these objects.
-///
-/// # Errors
-///
-/// `AllocError`: out of memory for the verdict or for the text.
-pub fn log_of(
+/// The log as a graph.
+fn graph_of(
+    alloc: Global,
+    story: &Story<'_>,
+    refusal: Option<&Refusal<'_>>,
+) -> Result<String, AllocError> {
+    let mut text = String::new(alloc);
+    write_graph(&mut text, alloc, story, refusal)?;
+    Ok(text)
+}
+
+/// The facts before the last instruction that the pass reached. They say nothing if it reached none.
+fn last_facts(known: &[KnownFacts]) -> Facts {
+    match known.last() {
+        Some(last) => last.facts,
+        None => nothing_known(),
+    }
+}
+
+/// The refusal of a program with this verdict, if it is refused.
+fn refusal_of<'a>(
+    alloc: Global,
+    program: &'a Program,
+    named: &'a [Named],
+    judged: &'a Judged,
+    facts: &'a Facts,
+) -> Option<Refusal<'a>>
+    ensures { option_map (λ refusal. refusal.fault) result ≡ judged.now.fault }
+{
+    let Judged { known, fault } = judged;
+    match *fault {
+        Some(fault) => Some(Refusal {
+            alloc,
+            program,
+            named,
+            fault,
+            known,
+            facts,
+        }),
+        None => None,
+    }
+}
+
+/// The text of the log of a program with this verdict.
+fn text_of(
     alloc: Global,
     program: &Program,
     named: &[Named],
     style: LogStyle,
-) -> Result<Log, AllocError> {
-    let mut recorder = Recorder::new(alloc, program, named, style == LogStyle::Whole);
-    let fault = fault_of(verify_watched(alloc, program, named, &mut recorder))?;
-    let facts = *recorder.last();
-    let steps = recorder.into_steps();
+    judged: &Judged,
+) -> Result<String, AllocError>
+    ensures { style ≢ LogStyle.Graph
+        → IfOk result (λ text. EndsInVerdict judged.now.fault (string_bytes text)) }
+{
+    let Judged { known, fault } = judged;
+    let steps = steps_of(alloc, program, named, known, style == LogStyle::Whole)?;
     let jumps = live_jumps(alloc, program, &steps)?;
-    let refusal = fault.map(|fault| Refusal {
-        alloc,
-        program,
-        named,
-        fault,
-        facts: &facts,
-    });
+    let facts = last_facts(known);
+    let refusal = refusal_of(alloc, program, named, judged, &facts);
     let story = Story {
         program,
         steps: &steps,
         jumps: &jumps,
         is_told: fault.is_none_or(|fault| !is_of_shape(fault.reason)),
     };
-    let mut text = String::new(alloc);
-    write_log(&mut text, alloc, style, &story, refusal.as_ref())?;
+    match style {
+        LogStyle::New | LogStyle::Whole => lines_of(alloc, &story, refusal.as_ref()),
+        LogStyle::Graph => graph_of(alloc, &story, refusal.as_ref()),
+    }
+}
+
+/// The log of a program, where descriptors name these objects. As lines it ends with the verdict: the line `accepted`, or the line
+/// of the refusal and another that says why.
+///
+/// # Errors
+///
+/// `AllocError`: out of memory for the verdict, for the facts or for the text.
+pub fn log_of(
+    alloc: Global,
+    program: &Program,
+    named: &[Named],
+    style: LogStyle,
+) -> Result<Log, AllocError>
+    ensures verdict { IfOk result (λ log.
+        IsTrue log.is_accepted ↔ IsAccepted program.now named.now) }
+    ensures facts { IfOk result (λ log.
+        IsLogged program.now named.now log.is_accepted log.facts.items) }
+    ensures said { style ≢ LogStyle.Graph → IfOk result (λ log.
+        SaysVerdict program.now named.now log.is_accepted (string_bytes log.text)) }
+{
+    laws::accepted_is_not_refused();
+    let judged = judge(alloc, program, named)?;
+    let text = text_of(alloc, program, named, style, &judged)?;
+    let Judged { known, fault } = judged;
     Ok(Log {
         text,
         is_accepted: fault.is_none(),
+        facts: known,
     })
 }

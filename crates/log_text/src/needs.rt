@@ -6,7 +6,11 @@ pub(crate) mod calls;
 pub(crate) mod registers;
 pub(crate) mod shape;
 
+ghost use Rattle.std.specs.Prelude.{◌≡◌, ◌++◌, OnOk, string_bytes};
+ghost use Rattle.log_text.specs.Said.{AddsVerdict, refusal_line};
+
 use crate::reasons::{is_of_shape, reason_words};
+use crate::recorder::KnownFacts;
 use insn_codec::{Insn, Program};
 use reg_kinds::{Facts, Reason};
 use std::alloc::{AllocError, Global};
@@ -14,13 +18,14 @@ use std::fmt::Write;
 use tagged_model::Named;
 use verifier::VerifyFault;
 
-/// A refused program, with the facts before the last instruction that the pass reached.
+/// A refused program, with what is known before each instruction that the pass reached, and the facts before the last of them.
 #[derive(Clone, Copy)]
 pub(crate) struct Refusal<'a> {
     pub alloc: Global,
     pub program: &'a Program,
     pub named: &'a [Named],
     pub fault: VerifyFault,
+    pub known: &'a [KnownFacts],
     pub facts: &'a Facts,
 }
 
@@ -49,19 +54,37 @@ fn write_need(text: &mut String, refusal: &Refusal<'_>, insn: &Insn) -> Result<(
     }
 }
 
+/// The line that says why a program is refused: the reason in words, and what was known against what was needed, with `between`
+/// between the two.
+fn reason_line(refusal: &Refusal<'_>, between: &str) -> Result<String, AllocError> {
+    let mut line = String::from_str(refusal.alloc, reason_words(refusal.fault.reason))?;
+    if let Some(insn) = refusal.program.get(refusal.fault.slot) {
+        line.push_str(between)?;
+        write_need(&mut line, refusal, insn)?;
+    }
+    line.push_str("\n")?;
+    Ok(line)
+}
+
+/// Writes the first line of a refusal: its slot and the number of its reason.
+fn write_fault(text: &mut String, fault: VerifyFault) -> Result<(), AllocError>
+    ensures { OnOk result (string_bytes text.new ≡ string_bytes text.old ++ refusal_line fault) }
+{
+    let (slot, number) = (fault.slot, fault.reason.number());
+    writeln!(text, "refused: slot {slot} reason {number}")
+}
+
 /// Writes a line with the slot and the reason of a refusal, and then the reason in words and what was known against what was
 /// needed, with `between` between the two.
 pub(crate) fn write_refusal(
     text: &mut String,
     refusal: &Refusal<'_>,
     between: &str,
-) -> Result<(), AllocError> {
-    let (slot, reason) = (refusal.fault.slot, refusal.fault.reason);
-    let (number, words) = (reason.number(), reason_words(reason));
-    write!(text, "refused: slot {slot} reason {number}\n{words}")?;
-    if let Some(insn) = refusal.program.get(slot) {
-        text.push_str(between)?;
-        write_need(text, refusal, insn)?;
-    }
-    text.push_str("\n")
+) -> Result<(), AllocError>
+    ensures { OnOk result (AddsVerdict (Some refusal.now.fault) (string_bytes text.old)
+        (string_bytes text.new)) }
+{
+    let why = reason_line(refusal, between)?;
+    write_fault(text, refusal.fault)?;
+    text.push_str(why.as_str())
 }

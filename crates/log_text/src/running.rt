@@ -48,7 +48,11 @@ fn logged(
     maps: &[Named],
     style: LogStyle,
 ) -> Result<Answer, AllocError> {
-    let Log { text, is_accepted } = log_of(alloc, program, maps, style)?;
+    let Log {
+        text,
+        is_accepted,
+        facts: _,
+    } = log_of(alloc, program, maps, style)?;
     let status = if is_accepted { 0 } else { 1 };
     Ok(Answer { text, status })
 }

@@ -3,12 +3,11 @@
 use crate::needs::Refusal;
 use crate::needs::registers::kind_of;
 use insn_codec::{Insn, MAX_SLOTS, Program};
-use reg_kinds::{Facts, Kind, Reason, Slot};
+use reg_kinds::{Facts, Kind, Slot};
 use std::alloc::{AllocError, Global};
 use std::fmt::Write;
 use tagged_model::Named;
 use transfer::{Flow, apply};
-use verifier::{VerifyFault, Watcher, verify_watched};
 use words::STACK_SLOTS;
 
 /// What an instruction needs: a readable value.
@@ -145,15 +144,13 @@ impl Finder<'_> {
             self.arrive(slot, to, &facts);
         }
     }
-}
 
-impl Watcher for Finder<'_> {
-    fn before(&mut self, slot: usize, facts: &Facts) -> Result<(), AllocError> {
+    /// Follows it through an instruction, before which these are the facts.
+    fn follow(&mut self, slot: usize, facts: &Facts) {
         self.cause = self.cause_at(slot, facts);
         if let Some(insn) = self.program.get(slot) {
             self.leave(slot, insn, facts);
         }
-        Ok(())
     }
 }
 
@@ -180,15 +177,10 @@ fn cause_of(refusal: &Refusal<'_>, wanted: Wanted) -> Result<Option<Cause>, Allo
         arrivals: first_arrivals(alloc, program.slots())?,
         cause: None,
     };
-    match verify_watched(alloc, program, named, &mut finder) {
-        Err(
-            VerifyFault {
-                slot: _,
-                reason: Reason::Memory,
-            },
-        ) => Err(AllocError),
-        _ => Ok(finder.cause),
+    for here in refusal.known {
+        finder.follow(here.slot, &here.facts);
     }
+    Ok(finder.cause)
 }
 
 /// The verbs of what is missing: of one thing or of several.

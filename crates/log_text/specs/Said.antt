@@ -1,0 +1,34 @@
+-- What the text of a log says of the verdict, unless it is a graph. This project's own.
+use Rattle.std.specs.Prelude.{◌≡◌, ◌⊎◌, ℕ, Bool, true, false, List, [], ◌∷◌, ◌++◌, Option, Some, None, codes}
+use Rattle.std.specs.Fmt.{decimal}
+use Rattle.insn_set.specs.declared.insn.Insn.{Insn}
+use Rattle.reg_kinds.specs.Reason.{number}
+use Rattle.tagged_model.specs.declared.shape.Named.{Named}
+use Rattle.verifier.specs.declared.fault.VerifyFault.{VerifyFault}
+use Rattle.verifier.specs.Verdict.{IsRefused}
+
+-- no bytes, or bytes that end with a line feed
+abbrev pub AreLines : List ℕ → Type 0
+AreLines bytes = (bytes ≡ []) ⊎ ((before : List ℕ) × (bytes ≡ before ++ 10 ∷ []))
+
+-- the line of an acceptance
+abbrev pub accepted_line : List ℕ
+accepted_line = codes "accepted" ++ 10 ∷ []
+
+-- the first line of a refusal, with the slot and the number of the reason
+abbrev pub refusal_line : VerifyFault → List ℕ
+refusal_line fault = codes "refused: slot " ++ (decimal fault.slot ++ (codes " reason " ++ (decimal (number fault.reason) ++ 10 ∷ [])))
+
+-- the verdict is added: the line of an acceptance, or that of a refusal with more behind it
+abbrev pub AddsVerdict : Option VerifyFault → List ℕ → List ℕ → Type 0
+AddsVerdict None old new = new ≡ old ++ accepted_line
+AddsVerdict (Some fault) old new = (more : List ℕ) × (new ≡ old ++ refusal_line fault ++ more)
+
+-- lines, and then the verdict
+abbrev pub EndsInVerdict : Option VerifyFault → List ℕ → Type 0
+EndsInVerdict fault text = (lines : List ℕ) × AreLines lines × AddsVerdict fault lines text
+
+-- the text says whether the program is accepted, and if not, at which slot and for which reason it is refused
+abbrev pub SaysVerdict : List Insn → List Named → Bool → List ℕ → Type 0
+SaysVerdict code named true text = EndsInVerdict None text
+SaysVerdict code named false text = (fault : VerifyFault) × IsRefused code named fault.slot fault.reason × EndsInVerdict (Some fault) text

@@ -1,0 +1,2 @@
+-- Definitions for private contracts and proofs. No public contract names them.
+pub mod Refusals

@@ -1,5 +1,5 @@
 -- The results of an index on its keys are those on the bytes that the keys represent.
-use Rattle.std.proofs.Common.{◌≡◌, ℕ, suc, Bool, true, false, cond, List, [], ◌∷◌, ◌++◌, length, Option, Some, None, is_some, option_map, Result, Ok, Err, OnOk, OnErr, ◌⊎◌, inl, inr, is_err, true≢false, refl, sym, ap, ◌∙◌, if◌then◌else◌}
+use Rattle.std.proofs.Common.{◌≡◌, ℕ, Bool, true, false, cond, List, [], ◌∷◌, ◌++◌, Option, Some, None, is_some, option_map, Result, Ok, Err, OnOk, OnErr, ◌⊎◌, inl, inr, is_err, true≢false, refl, sym, ap, ◌∙◌, if◌then◌else◌}
 use Rattle.std.specs.Map.{lookup, remove_entry, values_of}
 use Rattle.tagged_model.specs.Table.{is_key, found, without, with_key, first_key, key_behind, key_after}
 use Rattle.ordered_keys.specs.Orders.{first_key_of, key_behind_passing, key_following}
@@ -73,10 +73,6 @@ module _ {K : Type 0} (bytes : K → List ℕ) where
   pub values_shown : (es : List (K × ℕ)) → values_of (view es) ≡ values_of es
   values_shown [] = refl
   values_shown (e ∷ es) = ap (λ (xs : List ℕ). e.1 ∷ xs) (values_shown es)
-
-  pub length_shown : (es : List (K × ℕ)) → length (view es) ≡ length es
-  length_shown [] = refl
-  length_shown (e ∷ es) = ap suc (length_shown es)
 
 -- ---- results
 

@@ -231,9 +231,6 @@ module _ {K : Type 0} (es : List (K × ℕ)) (indices : List ℕ) (order : Order
         ap (λ (o : Option ℕ). if is_some o then key_behind_passing test entries else first_key_of entries) found_in_order
         ∙ behind_shown es indices test p order.places found_marked
 
-  pub first_in_order : first_key_of entries ≡ key_of es indices (first_place order.places)
-  first_in_order = first_shown es indices order.places h.placed
-
   pub following_absent : lookup test es ≡ None → key_following test entries ≡ first_key_of entries
   following_absent none = ap (λ (o : Option ℕ). if is_some o then key_behind_passing test entries else first_key_of entries) (absent_in_order none)
 

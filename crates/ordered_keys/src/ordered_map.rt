@@ -56,6 +56,7 @@ impl<K: Eq + Hash, S: BuildHasher> OrderedMap<K, S> {
         })
     }
 
+    /// The allocator of the table.
     pub fn allocator(&self) -> Global {
         *self.table.allocator()
     }

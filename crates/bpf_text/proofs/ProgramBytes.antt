@@ -16,7 +16,8 @@ use Rattle.insn_set.specs.declared.insn.Insn.TheVariants.{Alu, Movsx, Neg, End, 
 use Rattle.insn_set.specs.declared.slot.SlotFields.{SlotFields}
 use Rattle.insn_set.specs.Slot.{slot, slot_bytes}
 use Rattle.insn_set.specs.Atomic.{access_size}
-use Rattle.insn_set.specs.Numbers.{opcode, alu_number, alu_class, end_opcode, size_number, load_mode, memory_opcode}
+use Rattle.insn_set.specs.Numbers.{opcode, alu_class, end_opcode, size_number, load_mode, memory_opcode}
+use Rattle.insn_set.specs.Operator.{alu_number}
 use Rattle.insn_set.specs.Spelling.{source_bit, src_field, first, spelling, IsInsn, IsOperand}
 use Rattle.insn_set.specs.Program.{program_bytes, slot_count, IsProgram}
 use Rattle.insn_set.specs.SpellingLaws.{condition_number_le, alu_class_le, jump_class_le, length-program_bytes}

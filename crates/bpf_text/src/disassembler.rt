@@ -3,7 +3,7 @@
 ghost use Rattle.std.specs.Prelude.{◌≡◌, ◌++◌, [], true, false, Some, IfOk, OnOk};
 ghost use Rattle.std.specs.Fmt.{decimal};
 ghost use Rattle.std.specs.String.{string_bytes};
-ghost use Rattle.text_line.specs.Names.{operator_name, order_name, narrow_name, size_name, register_name, sign_name};
+ghost use Rattle.text_line.specs.Names.{register_name, sign_name};
 ghost use Rattle.text_line.specs.Token.{number};
 ghost use Rattle.text_line.specs.Form.{operand_layout, constant as constant_layout};
 ghost use Rattle.text_line.specs.Written.{number_of, source_of, piece, laid_out, printed_insn};
@@ -12,76 +12,13 @@ ghost use Rattle.bpf_text.specs.Printed.{printed};
 
 use crate::laws;
 use insn_codec::{
-    AccessSize, AluOp, AtomicOp, AtomicSize, ByteOrder, Condition, ExtendedBits, Insn, KeptBits,
-    Load, Movsx, Operand, Program, Reg,
+    AccessSize, AluOp, AtomicOp, AtomicSize, Condition, Insn, Load, Movsx, Operand, Program, Reg,
 };
-use insn_set::condition_symbol;
+use insn_set::{alu_symbol, condition_symbol, narrow_name, order_name, size_name};
 use std::alloc::{AllocError, Global};
 use std::fmt::Write;
 
 // ---- names
-
-fn operator_name(op: AluOp) -> &'static str
-    ensures { result.now ≡ operator_name op }
-{
-    match op {
-        AluOp::Add => "+=",
-        AluOp::Sub => "-=",
-        AluOp::Mul => "*=",
-        AluOp::Div => "/=",
-        AluOp::SignedDiv => "s/=",
-        AluOp::Or => "|=",
-        AluOp::And => "&=",
-        AluOp::ShiftLeft => "<<=",
-        AluOp::ShiftRight => ">>=",
-        AluOp::Mod => "%=",
-        AluOp::SignedMod => "s%=",
-        AluOp::Xor => "^=",
-        AluOp::Mov => "=",
-        AluOp::SignedShiftRight => "s>>=",
-    }
-}
-
-fn order_name(how: ByteOrder, bits: KeptBits) -> &'static str
-    ensures { result.now ≡ order_name how bits }
-{
-    match (how, bits) {
-        (ByteOrder::Little, KeptBits::Bits16) => "le16",
-        (ByteOrder::Little, KeptBits::Bits32) => "le32",
-        (ByteOrder::Little, KeptBits::Bits64) => "le64",
-        (ByteOrder::Big, KeptBits::Bits16) => "be16",
-        (ByteOrder::Big, KeptBits::Bits32) => "be32",
-        (ByteOrder::Big, KeptBits::Bits64) => "be64",
-        (ByteOrder::Swap, KeptBits::Bits16) => "bswap16",
-        (ByteOrder::Swap, KeptBits::Bits32) => "bswap32",
-        (ByteOrder::Swap, KeptBits::Bits64) => "bswap64",
-    }
-}
-
-fn narrow_name(bits: ExtendedBits) -> &'static str
-    ensures { result.now ≡ narrow_name bits }
-{
-    match bits {
-        ExtendedBits::Bits8 => "s8",
-        ExtendedBits::Bits16 => "s16",
-        ExtendedBits::Bits32 => "s32",
-    }
-}
-
-fn size_name(signed: bool, size: AccessSize) -> &'static str
-    ensures { result.now ≡ size_name signed size }
-{
-    match (signed, size) {
-        (false, AccessSize::Byte) => "u8",
-        (false, AccessSize::Half) => "u16",
-        (false, AccessSize::Word) => "u32",
-        (false, AccessSize::Double) => "u64",
-        (true, AccessSize::Byte) => "s8",
-        (true, AccessSize::Half) => "s16",
-        (true, AccessSize::Word) => "s32",
-        (true, AccessSize::Double) => "s64",
-    }
-}
 
 fn wide_name(reg: Reg) -> &'static str
     ensures { result.now ≡ register_name true reg }
@@ -169,7 +106,7 @@ fn write_alu(
     ensures { OnOk result (string_bytes text.new ≡ string_bytes text.old
         ++ printed_insn (Insn.Alu wide op dst src)) }
 {
-    let (dst, op) = (register_name(wide, dst), operator_name(op));
+    let (dst, op) = (register_name(wide, dst), alu_symbol(op));
     write!(text, "{dst} {op} ")?;
     write_operand(text, wide, src)
 }

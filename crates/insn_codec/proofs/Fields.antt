@@ -18,10 +18,9 @@ use Rattle.insn_set.specs.declared.insn.Operand.TheVariants as operand
 use Rattle.insn_set.specs.declared.insn.Insn.{Insn}
 use Rattle.insn_set.specs.declared.insn.Insn.TheVariants.{Alu, Movsx, End, Jump, Store, Atomic}
 use Rattle.insn_codec.specs.declared.opcode.SourceBit.TheVariants as source
-use Rattle.insn_codec.specs.declared.opcode.AluCode.TheVariants as code
 use Rattle.insn_codec.specs.declared.form.OpcodeForm.TheVariants as form
 use Rattle.insn_set.specs.Sizes.{is_short}
-use Rattle.insn_set.specs.Numbers.{opcode, alu_class, jump_class, alu_number, alu_offset, end_opcode, memory_opcode, offset_bits, imm_bits}
+use Rattle.insn_set.specs.Numbers.{opcode, alu_class, jump_class, end_opcode, memory_opcode, offset_bits, imm_bits}
 use Rattle.insn_set.specs.Condition.{condition_number}
 use Rattle.words.specs.Operate.{extended_bits, kept_bits}
 use Rattle.insn_codec.specs.inside.Form.{listed, one_operand, offset_listed}
@@ -29,17 +28,18 @@ use Rattle.insn_set.specs.Slot.{slot}
 use Rattle.insn_codec.proofs.Slots.{IsSlot}
 use Rattle.insn_set.specs.Spelling.{first, source_bit, src_field, imm_field, IsOperandUpTo, IsInsnUpTo}
 use Rattle.insn_set.specs.Atomic.{atomic_number}
-use Rattle.insn_set.specs.RowLaws.{atomic_number_again}
-use Rattle.insn_codec.proofs.Opcodes.{code_of, source_of, form_of}
+use Rattle.insn_set.specs.RowLaws.{unsigned_of, atomic_number_again}
+use Rattle.insn_set.specs.Operator.{alu_number, alu_offset}
+use Rattle.insn_codec.proofs.Opcodes.{source_of, form_of}
 
 -- ---- which the form lists
 
-offset_listed-alu : (wide : Bool) (o : AluOp) (src : Operand) → offset_listed wide (code_of o) (source_of src) (alu_offset o) ≡ true
+offset_listed-alu : (wide : Bool) (o : AluOp) (src : Operand) → offset_listed wide (unsigned_of o) (source_of src) (alu_offset o) ≡ true
 offset_listed-alu wide op.Mov (operand.Imm n) = refl
 offset_listed-alu wide op.Mov (operand.Reg r) = refl
 offset_listed-alu wide _ src = refl
 
-offset_listed-movsx : (wide : Bool) (b : ExtendedBits) → IsTrue (wide || is_short b) → offset_listed wide code.Mov source.Reg (extended_bits b) ≡ true
+offset_listed-movsx : (wide : Bool) (b : ExtendedBits) → IsTrue (wide || is_short b) → offset_listed wide op.Mov source.Reg (extended_bits b) ≡ true
 offset_listed-movsx wide narrow.Bits8 h = refl
 offset_listed-movsx wide narrow.Bits16 h = refl
 offset_listed-movsx true narrow.Bits32 h = refl

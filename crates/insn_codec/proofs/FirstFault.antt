@@ -20,7 +20,7 @@ use Rattle.insn_codec.proofs.Opcodes.{form_of, form_at-first}
 use Rattle.insn_codec.proofs.Fields.{IsFront-first, IsSlot-front, listed-first}
 use Rattle.insn_codec.proofs.ReadBack.{insn_at}
 use Rattle.insn_codec.proofs.FromSlot.{IsOf, first-insn_at, insn_at_up_to}
-use Rattle.insn_codec.proofs.KnownOpcodes.{known, unknown, opcode_of-slot, opcode-slot_of}
+use Rattle.insn_codec.proofs.KnownOpcodes.{known, unknown, form_of_slot, opcode-slot_of}
 use Rattle.insn_codec.proofs.PrefixFree.{no_fault}
 
 -- the slot that was read is the instruction's first one
@@ -47,7 +47,8 @@ byte_opcode bytes fits = omega (arith, fits 0, opcode-slot_of bytes)
 has_first_slot : {bytes : List ℕ} {f : OpcodeForm} (top : ℕ) → IsRead bytes f → listed f (slot_of bytes) ≡ true → (slot_of bytes).dst ≤ top → (slot_of bytes).src ≤ top → HasFirstSlot top bytes
 has_first_slot {bytes} {f} top r ok dst src =
     let fields = IsSlot-slot_of bytes r.fits r.long in
-    let is_of : IsOf f (slot_of bytes) = record { opcode = opcode_of-slot f (slot_of bytes) (byte_opcode bytes r.fits) r.form; listed = ok; offset = fields.offset; imm = fields.imm } in (
+    let has = form_of_slot f (slot_of bytes) (byte_opcode bytes r.fits) r.form in
+    let is_of : IsOf f (slot_of bytes) = record { form = has.1; opcode = sym has.0; listed = ok; offset = fields.offset; imm = fields.imm } in (
       insn_at f (slot_of bytes) 0,
       insn_at_up_to top f (slot_of bytes) is_of dst src,
       sym (slot_bytes-slot_of bytes r.fits r.long) ∙ ap slot_bytes (sym (first-insn_at f (slot_of bytes) is_of)),

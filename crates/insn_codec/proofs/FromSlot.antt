@@ -1,34 +1,35 @@
 -- A slot whose fields its form lists is the first slot of an instruction.
-use Rattle.std.proofs.Common.{◌≡◌, ℕ, ◌^◌, ◌<◌, ◌≤◌, Bool, true, false, cond, ◌&&◌, ◌||◌, ltb, eqb, Option, Some, None, refl, sym, ap, ◌∙◌, arith, inl, inr, ◌⊎◌}
-use Rattle.std.specs.Prelude.{IsTrue, FitsSigned, is_some}
+use Rattle.std.proofs.Common.{◌≡◌, ℕ, ◌+◌, ◌*◌, ◌^◌, ◌<◌, ◌≤◌, Bool, true, false, cond, ◌&&◌, ◌||◌, ltb, leb, eqb, Option, Some, None, refl, sym, ap, ◌∙◌, arith, inl, inr, ◌⊎◌}
+use Rattle.std.specs.Prelude.{IsTrue, not, FitsSigned, is_some, ◌==◌}
 use Rattle.std.specs.Int.{w16, w32, cast_signed}
 use Rattle.std.proofs.Math.Facts.{sfits_to_z}
-use Rattle.std.proofs.lemmas.Bool.{and_parts, cond_both, eqb-true, ltb-true, ltb-false}
+use Rattle.std.proofs.lemmas.Bool.{false≢true, and_parts, cond_both, eqb-true, ltb-true, ltb-false}
 use Rattle.std.proofs.lemmas.Bool.Decides.{nat_tests}
 use Rattle.std.proofs.lemmas.Int.{of_z-to_z}
 use Rattle.insn_set.specs.declared.slot.SlotFields.{SlotFields}
 use Rattle.words.specs.declared.operator.ExtendedBits.{ExtendedBits}
 use Rattle.words.specs.declared.operator.ExtendedBits.TheVariants as narrow
-use Rattle.insn_set.specs.declared.insn.Insn.TheVariants.{Alu}
+use Rattle.words.specs.declared.operator.AluOp.{AluOp}
+use Rattle.words.specs.declared.operator.AluOp.TheVariants as op
+use Rattle.words.specs.declared.stack.AccessSize.{AccessSize}
+use Rattle.words.specs.declared.stack.AccessSize.TheVariants as size
+use Rattle.words.specs.Stack.{is_double}
+use Rattle.insn_set.specs.declared.insn.Insn.TheVariants.{Alu, Const, MapFd, MapValue}
 use Rattle.insn_set.specs.declared.atomic.AtomicOp.{AtomicOp}
 use Rattle.insn_codec.specs.declared.opcode.SourceBit.{SourceBit}
 use Rattle.insn_codec.specs.declared.opcode.SourceBit.TheVariants as source
-use Rattle.insn_codec.specs.declared.opcode.AluCode.{AluCode}
-use Rattle.insn_codec.specs.declared.opcode.AluCode.TheVariants as code
-use Rattle.insn_codec.specs.declared.opcode.LoadKind.{LoadKind}
-use Rattle.insn_codec.specs.declared.opcode.LoadKind.TheVariants as load
-use Rattle.insn_codec.specs.declared.opcode.WideKind.{WideKind}
-use Rattle.insn_codec.specs.declared.opcode.WideKind.TheVariants.{Number, Map, MapValue}
 use Rattle.insn_codec.specs.declared.form.OpcodeForm.{OpcodeForm}
 use Rattle.insn_codec.specs.declared.form.OpcodeForm.TheVariants as form
 use Rattle.insn_set.specs.Sizes.{is_short}
-use Rattle.insn_set.specs.Numbers.{opcode, alu_class, alu_number, alu_offset, offset_bits, imm_bits}
+use Rattle.insn_set.specs.Numbers.{opcode, alu_class, offset_bits, imm_bits}
+use Rattle.insn_set.specs.Operator.{alu_number, alu_offset}
+use Rattle.insn_set.specs.Load.{load_opcode}
 use Rattle.insn_set.specs.Atomic.{atomic_number}
 use Rattle.insn_set.specs.RowLaws.{atomic_number_is}
 use Rattle.insn_set.specs.AtomicRows.{atomic_by_number}
 use Rattle.words.specs.Operate.{extended_bits, kept_bits}
-use Rattle.insn_codec.specs.inside.Opcodes.{code_number, load_opcode, opcode_of}
-use Rattle.insn_codec.specs.inside.Form.{listed, one_operand, offset_listed, wide_at}
+use Rattle.insn_codec.specs.inside.Opcodes.{opcode_of}
+use Rattle.insn_codec.specs.inside.Form.{listed, is_form, one_operand, offset_listed}
 use Rattle.insn_set.specs.Slot.{slot}
 use Rattle.insn_set.specs.Spelling.{first, source_bit, src_field, imm_field, IsOperandUpTo, IsInsnUpTo}
 use Rattle.insn_codec.proofs.ReadBack.{op_at, narrow_at, bits_at, movsx_at, load_insn, atomic_insn, wide_insn, insn_at}
@@ -73,23 +74,25 @@ operand_up_to top source.Reg s src fits = src
 
 -- ---- operations
 
-alu_number-op_at : (c : AluCode) (offset : ℕ) → alu_number (op_at c offset) ≡ code_number c
-alu_number-op_at code.Div offset = grind (arith, nat_tests)
-alu_number-op_at code.Mod offset = grind (arith, nat_tests)
+alu_number-op_at : (o : AluOp) (offset : ℕ) → alu_number (op_at o offset) ≡ alu_number o
+alu_number-op_at op.Div offset = grind (arith, nat_tests)
+alu_number-op_at op.Mod offset = grind (arith, nat_tests)
 alu_number-op_at _ offset = refl
 
-alu_offset-op_at : (wide : Bool) (c : AluCode) (z : SourceBit) (offset : ℕ) → offset_listed wide c z offset ≡ true → offset < 8 → offset ≡ alu_offset (op_at c offset)
-alu_offset-op_at wide code.Mov source.Imm offset h few = grind (arith, nat_tests)
-alu_offset-op_at wide _ z offset h few = grind (arith, nat_tests)
+alu_offset-op_at : (wide : Bool) (o : AluOp) (z : SourceBit) (offset : ℕ) → IsTrue (alu_offset o == 0) → offset_listed wide o z offset ≡ true → offset < 8 → offset ≡ alu_offset (op_at o offset)
+alu_offset-op_at wide op.SignedDiv z offset unsigned h few = absurd (false≢true unsigned)
+alu_offset-op_at wide op.SignedMod z offset unsigned h few = absurd (false≢true unsigned)
+alu_offset-op_at wide op.Mov source.Imm offset unsigned h few = grind (arith, nat_tests)
+alu_offset-op_at wide _ z offset unsigned h few = grind (arith, nat_tests)
 
 -- ---- moves with sign extension
 
-abbrev IsMovsx : Bool → AluCode → SourceBit → ℕ → Type 0
+abbrev IsMovsx : Bool → AluOp → SourceBit → ℕ → Type 0
 IsMovsx wide c z offset =
-    (c ≡ code.Mov) × (z ≡ source.Reg) × (extended_bits (narrow_at offset) ≡ offset) × IsTrue (wide || is_short (narrow_at offset))
+    (c ≡ op.Mov) × (z ≡ source.Reg) × (extended_bits (narrow_at offset) ≡ offset) × IsTrue (wide || is_short (narrow_at offset))
 
-is_movsx : (wide : Bool) (c : AluCode) (z : SourceBit) (offset : ℕ) → offset_listed wide c z offset ≡ true → 8 ≤ offset → IsMovsx wide c z offset
-is_movsx wide code.Mov source.Reg offset h many = (refl, refl, grind (arith, nat_tests), grind (arith, nat_tests))
+is_movsx : (wide : Bool) (c : AluOp) (z : SourceBit) (offset : ℕ) → offset_listed wide c z offset ≡ true → 8 ≤ offset → IsMovsx wide c z offset
+is_movsx wide op.Mov source.Reg offset h many = (refl, refl, grind (arith, nat_tests), grind (arith, nat_tests))
 is_movsx wide _ z offset h many = absurd (grind (arith, nat_tests))
 
 first-movsx_at : (wide : Bool) (b : ExtendedBits) (dst src : ℕ) → IsTrue (wide || is_short b) → first (movsx_at wide b dst src) ≡ slot (opcode 11 1 (alu_class wide)) dst src (extended_bits b) 0
@@ -106,33 +109,36 @@ movsx_up_to top false _ dst src d s = (d, s)
 
 -- the fields of a slot that begins the form
 pub record IsOf (f : OpcodeForm) (s : SlotFields) : Type 0 where
+  pub form : IsTrue (is_form f)
   pub opcode : s.opcode ≡ opcode_of f
   pub listed : listed f s ≡ true
   pub offset : s.offset < 2 ^ 16
   pub imm : s.imm < 2 ^ 32
 
-first-alu : {wide : Bool} {c : AluCode} {z : SourceBit} {s : SlotFields} → IsOf (form.Alu wide c z) s → s.offset < 8 → first (Alu wide (op_at c s.offset) s.dst (operand_at z s)) ≡ s
+first-alu : {wide : Bool} {c : AluOp} {z : SourceBit} {s : SlotFields} → IsOf (form.Alu wide c z) s → s.offset < 8 → first (Alu wide (op_at c s.offset) s.dst (operand_at z s)) ≡ s
 first-alu {wide} {c} {z} {s} h few =
     let parts = and_parts (one_operand z s) (offset_listed wide c z s.offset) h.listed in
-    slot_same s (rw (alu_number-op_at c s.offset, source_bit-operand_at z s) h.opcode) refl (src_field-operand_at z s parts.0) (alu_offset-op_at wide c z s.offset parts.1 few) (imm_field-operand_at z s parts.0 h.imm)
+    slot_same s (rw (alu_number-op_at c s.offset, source_bit-operand_at z s) h.opcode) refl (src_field-operand_at z s parts.0) (alu_offset-op_at wide c z s.offset h.form parts.1 few) (imm_field-operand_at z s parts.0 h.imm)
 
-first-movsx : {wide : Bool} {c : AluCode} {z : SourceBit} {s : SlotFields} → IsOf (form.Alu wide c z) s → 8 ≤ s.offset → first (movsx_at wide (narrow_at s.offset) s.dst s.src) ≡ s
+first-movsx : {wide : Bool} {c : AluOp} {z : SourceBit} {s : SlotFields} → IsOf (form.Alu wide c z) s → 8 ≤ s.offset → first (movsx_at wide (narrow_at s.offset) s.dst s.src) ≡ s
 first-movsx {wide} {c} {z} {s} h many =
     let parts = and_parts (one_operand z s) (offset_listed wide c z s.offset) h.listed in
     let m = is_movsx wide c z s.offset parts.1 many in
     let imm : s.imm ≡ 0 = eqb-true s.imm 0 (rw m.1 at parts.0) in
-    first-movsx_at wide (narrow_at s.offset) s.dst s.src m.3 ∙ slot_same s (omega (arith, h.opcode, ap code_number m.0, ap source_number m.1)) refl refl (sym m.2) imm
+    first-movsx_at wide (narrow_at s.offset) s.dst s.src m.3 ∙ slot_same s (omega (arith, h.opcode, ap alu_number m.0, ap source_number m.1)) refl refl (sym m.2) imm
 
 kept_bits-bits_at : (imm : ℕ) → (eqb imm 16 || eqb imm 32 || eqb imm 64) ≡ true → imm ≡ kept_bits (bits_at imm)
 kept_bits-bits_at imm h = grind (arith, nat_tests)
 
-first-load_insn : (kind : LoadKind) (dst src offset : ℕ) → offset < 2 ^ 16 → first (load_insn kind dst src (cast_signed w16 offset)) ≡ slot (load_opcode kind) dst src offset 0
-first-load_insn load.Word dst src offset h = rw (of_z-to_z w16 offset h) refl
-first-load_insn _ dst src offset h = rw (of_z-to_z w16 offset h) refl
+first-load_insn : (z : AccessSize) (signed : Bool) (dst src offset : ℕ) → IsTrue (not (signed && is_double z)) → offset < 2 ^ 16 → first (load_insn z signed dst src (cast_signed w16 offset)) ≡ slot (load_opcode signed z) dst src offset 0
+first-load_insn size.Double true dst src offset listed h = absurd (false≢true listed)
+first-load_insn _ true dst src offset listed h = rw (of_z-to_z w16 offset h) refl
+first-load_insn _ _ dst src offset listed h = rw (of_z-to_z w16 offset h) refl
 
-load_up_to : (top : ℕ) (kind : LoadKind) (dst src offset : ℕ) → dst ≤ top → src ≤ top → offset < 2 ^ 16 → IsInsnUpTo top (load_insn kind dst src (cast_signed w16 offset))
-load_up_to top load.Word dst src offset d s h = (d, s, half_fits offset h)
-load_up_to top _ dst src offset d s h = (d, s, half_fits offset h)
+load_up_to : (top : ℕ) (z : AccessSize) (signed : Bool) (dst src offset : ℕ) → dst ≤ top → src ≤ top → offset < 2 ^ 16 → IsInsnUpTo top (load_insn z signed dst src (cast_signed w16 offset))
+load_up_to top size.Double true dst src offset d s h = tt
+load_up_to top _ true dst src offset d s h = (d, s, half_fits offset h)
+load_up_to top _ _ dst src offset d s h = (d, s, half_fits offset h)
 
 -- the operation of an immediate
 pub atomic_of : (imm : ℕ) (o : Option AtomicOp) → atomic_by_number imm ≡ o → is_some o ≡ true → (op : AtomicOp) × (atomic_by_number imm ≡ Some op) × (imm ≡ atomic_number op)
@@ -140,24 +146,25 @@ atomic_of imm None e h = absurd cc
 atomic_of imm (Some op) e h = (op, e, sym (atomic_number_is imm op e))
 
 -- the source field of a wide load
-wide_src : (src : ℕ) → is_some (wide_at src) ≡ true → (src ≡ 0) ⊎ ((src ≡ 1) ⊎ (src ≡ 2))
+wide_src : (src : ℕ) → leb src 2 ≡ true → (src ≡ 0) ⊎ ((src ≡ 1) ⊎ (src ≡ 2))
 wide_src src h = grind (arith, nat_tests)
 
-first-wide : {s : SlotFields} → IsOf form.Wide s → first (wide_insn (wide_at s.src) s 0) ≡ s
+first-wide : {s : SlotFields} → IsOf form.Wide s → first (wide_insn s.src s 0) ≡ s
 first-wide {s} h =
-    let parts = and_parts (eqb s.offset 0) (is_some (wide_at s.src)) h.listed in
+    let parts = and_parts (eqb s.offset 0) (leb s.src 2) h.listed in
     let none : s.offset ≡ 0 = eqb-true s.offset 0 parts.0 in
     elim (wide_src s.src parts.1) [
-      | inl e ↦ ap (λ n. first (wide_insn (wide_at n) s 0)) e ∙ slot_same s h.opcode refl e none (omega (arith, h.imm))
-      | inr (inl e) ↦ ap (λ n. first (wide_insn (wide_at n) s 0)) e ∙ slot_same s h.opcode refl e none (imm_same s h.imm)
-      | inr (inr e) ↦ ap (λ n. first (wide_insn (wide_at n) s 0)) e ∙ slot_same s h.opcode refl e none (imm_same s h.imm)
+      | inl e ↦ ap (λ n. first (wide_insn n s 0)) e ∙ slot_same s h.opcode refl e none (omega (arith, h.imm))
+      | inr (inl e) ↦ ap (λ n. first (wide_insn n s 0)) e ∙ slot_same s h.opcode refl e none (imm_same s h.imm)
+      | inr (inr e) ↦ ap (λ n. first (wide_insn n s 0)) e ∙ slot_same s h.opcode refl e none (imm_same s h.imm)
     ]
 
-wide_up_to : (top : ℕ) (kind : Option WideKind) (s : SlotFields) → s.dst ≤ top → s.imm < 2 ^ 32 → IsInsnUpTo top (wide_insn kind s 0)
-wide_up_to top None s dst h = tt
-wide_up_to top (Some Number) s dst h = (dst, omega (arith, h))
-wide_up_to top (Some Map) s dst h = (dst, word_fits s.imm h)
-wide_up_to top (Some MapValue) s dst h = (dst, word_fits s.imm h, omega arith)
+wide_up_to : (top src : ℕ) (s : SlotFields) → s.dst ≤ top → s.imm < 2 ^ 32 → IsInsnUpTo top (wide_insn src s 0)
+wide_up_to top src s dst h =
+    cond_both (eqb src 0) (Const s.dst (s.imm + 2 ^ 32 * 0)) (cond (eqb src 1) (MapFd s.dst (cast_signed w32 s.imm)) (MapValue s.dst (cast_signed w32 s.imm) 0)) (λ i. IsInsnUpTo top i)
+    (λ e. (dst, omega (arith, h)))
+    (λ e. cond_both (eqb src 1) (MapFd s.dst (cast_signed w32 s.imm)) (MapValue s.dst (cast_signed w32 s.imm) 0) (λ i. IsInsnUpTo top i)
+    (λ e. (dst, word_fits s.imm h)) (λ e. (dst, word_fits s.imm h, omega arith)))
 
 pub first-insn_at : (f : OpcodeForm) (s : SlotFields) → IsOf f s → first (insn_at f s 0) ≡ s
 first-insn_at (form.Alu wide c z) s h =
@@ -184,7 +191,7 @@ first-insn_at form.Exit s h =
     let parts = and_parts (eqb s.dst 0 && eqb s.src 0 && eqb s.offset 0) (eqb s.imm 0) h.listed in
     let zero = zeros s.dst s.src (eqb s.offset 0) parts.0 in
     slot_same s h.opcode zero.0 zero.1 (eqb-true s.offset 0 zero.2) (eqb-true s.imm 0 parts.1)
-first-insn_at (form.Load kind) s h = first-load_insn kind s.dst s.src s.offset h.offset ∙ slot_same s h.opcode refl refl refl (eqb-true s.imm 0 h.listed)
+first-insn_at (form.Load z signed) s h = first-load_insn z signed s.dst s.src s.offset h.form h.offset ∙ slot_same s h.opcode refl refl refl (eqb-true s.imm 0 h.listed)
 first-insn_at (form.Store size z) s h =
     slot_same s (rw (source_bit-operand_at z s) h.opcode) refl (src_field-operand_at z s h.listed) (offset_same s h.offset) (imm_field-operand_at z s h.listed h.imm)
 first-insn_at (form.Atomic size) s h =
@@ -203,9 +210,9 @@ insn_at_up_to top form.Jal s h dst src = word_fits s.imm h.imm
 insn_at_up_to top (form.Jump wide cond z) s h dst src = (dst, operand_up_to top z s src h.imm, half_fits s.offset h.offset)
 insn_at_up_to top form.Call s h dst src = word_fits s.imm h.imm
 insn_at_up_to top form.Exit s h dst src = tt
-insn_at_up_to top (form.Load kind) s h dst src = load_up_to top kind s.dst s.src s.offset dst src h.offset
+insn_at_up_to top (form.Load z signed) s h dst src = load_up_to top z signed s.dst s.src s.offset dst src h.offset
 insn_at_up_to top (form.Store size z) s h dst src = (dst, operand_up_to top z s src h.imm, half_fits s.offset h.offset)
 insn_at_up_to top (form.Atomic size) s h dst src =
     let o = atomic_of s.imm (atomic_by_number s.imm) refl h.listed in
     rw o.1 (dst, src, half_fits s.offset h.offset)
-insn_at_up_to top form.Wide s h dst src = wide_up_to top (wide_at s.src) s dst h.imm
+insn_at_up_to top form.Wide s h dst src = wide_up_to top s.src s dst h.imm

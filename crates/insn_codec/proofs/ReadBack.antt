@@ -19,42 +19,27 @@ use Rattle.insn_set.specs.declared.insn.Operand.{Operand}
 use Rattle.insn_set.specs.declared.insn.Operand.TheVariants as operand
 use Rattle.insn_set.specs.declared.insn.Insn.{Insn}
 use Rattle.insn_set.specs.declared.insn.Insn.TheVariants.{Alu, Movsx, Neg, End, Ja, Jal, Jump, Call, Exit, Load, Store, Atomic, Const, MapFd, MapValue}
-use Rattle.insn_codec.specs.declared.opcode.AluCode.{AluCode}
-use Rattle.insn_codec.specs.declared.opcode.AluCode.TheVariants as code
-use Rattle.insn_codec.specs.declared.opcode.LoadKind.{LoadKind}
-use Rattle.insn_codec.specs.declared.opcode.LoadKind.TheVariants as load
 use Rattle.insn_codec.specs.declared.form.OpcodeForm.{OpcodeForm}
 use Rattle.insn_codec.specs.declared.form.OpcodeForm.TheVariants as form
 use Rattle.insn_set.specs.Sizes.{is_short}
 use Rattle.words.specs.Stack.{is_double}
 use Rattle.insn_codec.specs.Spelled.{operand_at}
-use Rattle.insn_set.specs.Numbers.{opcode, alu_class, jump_class, alu_number, alu_offset, memory_opcode, offset_bits, imm_bits}
+use Rattle.insn_set.specs.Numbers.{opcode, alu_class, jump_class, memory_opcode, offset_bits, imm_bits}
 use Rattle.insn_set.specs.Condition.{condition_number}
 use Rattle.words.specs.Operate.{extended_bits, kept_bits}
-use Rattle.insn_set.specs.RowLaws.{atomic_number_again}
+use Rattle.insn_set.specs.RowLaws.{unsigned_of, atomic_number_again}
+use Rattle.insn_set.specs.Operator.{alu_number, alu_offset}
 use Rattle.insn_set.specs.AtomicRows.{atomic_by_number}
-use Rattle.insn_codec.specs.inside.Form.{wide_at}
 use Rattle.insn_set.specs.Slot.{slot}
 use Rattle.insn_set.specs.Spelling.{first, source_bit, src_field, imm_field, IsOperand, IsInsn}
-use Rattle.insn_codec.specs.declared.opcode.WideKind.{WideKind}
-use Rattle.insn_codec.specs.declared.opcode.WideKind.TheVariants as wide_kind
-use Rattle.insn_codec.proofs.Opcodes.{code_of, source_of, kind_of, form_of}
+use Rattle.insn_codec.proofs.Opcodes.{source_of, form_of}
 
 -- ---- reading back
 
-abbrev pub op_at : AluCode → ℕ → AluOp
-op_at code.Add offset = op.Add
-op_at code.Sub offset = op.Sub
-op_at code.Mul offset = op.Mul
-op_at code.Div offset = cond (offset == 0) op.Div op.SignedDiv
-op_at code.Or offset = op.Or
-op_at code.And offset = op.And
-op_at code.ShiftLeft offset = op.ShiftLeft
-op_at code.ShiftRight offset = op.ShiftRight
-op_at code.Mod offset = cond (offset == 0) op.Mod op.SignedMod
-op_at code.Xor offset = op.Xor
-op_at code.Mov offset = op.Mov
-op_at code.SignedShiftRight offset = op.SignedShiftRight
+abbrev pub op_at : AluOp → ℕ → AluOp
+op_at op.Div offset = cond (offset == 0) op.Div op.SignedDiv
+op_at op.Mod offset = cond (offset == 0) op.Mod op.SignedMod
+op_at o offset = o
 
 abbrev pub narrow_at : ℕ → ExtendedBits
 narrow_at offset = cond (offset == 8) narrow.Bits8 (cond (offset == 16) narrow.Bits16 narrow.Bits32)
@@ -68,20 +53,15 @@ movsx_at false narrow.Bits8 dst src = Movsx (record { wide = false; bits = narro
 movsx_at false narrow.Bits16 dst src = Movsx (record { wide = false; bits = narrow.Bits16; dst = dst; src = src; listed = refl })
 movsx_at false narrow.Bits32 dst src = Exit
 
-abbrev pub load_insn : LoadKind → ℕ → ℕ → ℤ → Insn
-load_insn load.Word dst src off = Load (record { size = size.Word; signed = false; dst = dst; src = src; off = off; listed = refl })
-load_insn load.Half dst src off = Load (record { size = size.Half; signed = false; dst = dst; src = src; off = off; listed = refl })
-load_insn load.Byte dst src off = Load (record { size = size.Byte; signed = false; dst = dst; src = src; off = off; listed = refl })
-load_insn load.Double dst src off = Load (record { size = size.Double; signed = false; dst = dst; src = src; off = off; listed = refl })
-load_insn load.SignedWord dst src off = Load (record { size = size.Word; signed = true; dst = dst; src = src; off = off; listed = refl })
-load_insn load.SignedHalf dst src off = Load (record { size = size.Half; signed = true; dst = dst; src = src; off = off; listed = refl })
-load_insn load.SignedByte dst src off = Load (record { size = size.Byte; signed = true; dst = dst; src = src; off = off; listed = refl })
+abbrev pub load_insn : AccessSize → Bool → ℕ → ℕ → ℤ → Insn
+load_insn z false dst src off = Load (record { size = z; signed = false; dst = dst; src = src; off = off; listed = refl })
+load_insn size.Byte true dst src off = Load (record { size = size.Byte; signed = true; dst = dst; src = src; off = off; listed = refl })
+load_insn size.Half true dst src off = Load (record { size = size.Half; signed = true; dst = dst; src = src; off = off; listed = refl })
+load_insn size.Word true dst src off = Load (record { size = size.Word; signed = true; dst = dst; src = src; off = off; listed = refl })
+load_insn size.Double true dst src off = Exit
 
-abbrev pub wide_insn : Option WideKind → SlotFields → ℕ → Insn
-wide_insn None s next = Exit
-wide_insn (Some wide_kind.Number) s next = Const s.dst (s.imm + 2 ^ 32 * next)
-wide_insn (Some wide_kind.Map) s next = MapFd s.dst (cast_signed w32 s.imm)
-wide_insn (Some wide_kind.MapValue) s next = MapValue s.dst (cast_signed w32 s.imm) next
+abbrev pub wide_insn : ℕ → SlotFields → ℕ → Insn
+wide_insn src s next = cond (src == 0) (Const s.dst (s.imm + 2 ^ 32 * next)) (cond (src == 1) (MapFd s.dst (cast_signed w32 s.imm)) (MapValue s.dst (cast_signed w32 s.imm) next))
 
 abbrev pub atomic_insn : AtomicSize → Option AtomicOp → SlotFields → Insn
 atomic_insn z None s = Exit
@@ -97,10 +77,10 @@ insn_at form.Jal s next = Jal (cast_signed w32 s.imm)
 insn_at (form.Jump wide c z) s next = Jump wide c s.dst (operand_at z s) (cast_signed w16 s.offset)
 insn_at form.Call s next = Call (cast_signed w32 s.imm)
 insn_at form.Exit s next = Exit
-insn_at (form.Load kind) s next = load_insn kind s.dst s.src (cast_signed w16 s.offset)
+insn_at (form.Load z signed) s next = load_insn z signed s.dst s.src (cast_signed w16 s.offset)
 insn_at (form.Store z y) s next = Store z s.dst (operand_at y s) (cast_signed w16 s.offset)
 insn_at (form.Atomic z) s next = atomic_insn z (atomic_by_number s.imm) s
-insn_at form.Wide s next = wide_insn (wide_at s.src) s next
+insn_at form.Wide s next = wide_insn s.src s next
 
 abbrev pub next : Insn → ℕ
 next (Const dst value) = value / 2 ^ 32
@@ -117,7 +97,7 @@ operand_again : (o : Operand) (op dst offset : ℕ) → IsOperand o → operand_
 operand_again (operand.Imm n) op dst offset h = ap operand.Imm (imm_again n h)
 operand_again (operand.Reg r) op dst offset h = refl
 
-op_again : (o : AluOp) → op_at (code_of o) (alu_offset o) ≡ o
+op_again : (o : AluOp) → op_at (unsigned_of o) (alu_offset o) ≡ o
 op_again op.Add = refl
 op_again _ = refl
 
@@ -145,14 +125,14 @@ load_same : (z : AccessSize) (signed : Bool) (dst src : ℕ) (off : ℤ) (p q : 
 load_same z signed dst src off p q =
     ap (λ (h : IsTrue (not (signed && is_double z))). Load (record { size = z; signed = signed; dst = dst; src = src; off = off; listed = h })) (IsTrue-prop (not (signed && is_double z)) p q)
 
-pub load_again : (z : AccessSize) (signed : Bool) (dst src : ℕ) (off : ℤ) (h : IsTrue (not (signed && is_double z))) → load_insn (kind_of z signed) dst src off ≡ Load (record { size = z; signed = signed; dst = dst; src = src; off = off; listed = h })
+pub load_again : (z : AccessSize) (signed : Bool) (dst src : ℕ) (off : ℤ) (h : IsTrue (not (signed && is_double z))) → load_insn z signed dst src off ≡ Load (record { size = z; signed = signed; dst = dst; src = src; off = off; listed = h })
 load_again size.Double true dst src off h = absurd cc
 load_again z true dst src off h = load_same z true dst src off refl h
 load_again z _ dst src off h = load_same z false dst src off refl h
 
 pub insn_at-first : (i : Insn) → IsInsn i → insn_at (form_of i) (first i) (next i) ≡ i
 insn_at-first (Alu wide o dst src) h = rw (alu_offset_below o, op_again o, operand_again src (opcode (alu_number o) (source_bit src) (alu_class wide)) dst (alu_offset o) h.1) refl
-insn_at-first (Movsx m) h = movsx_again m.wide m.bits m.dst m.src m.listed (Alu m.wide (op_at code.Mov (extended_bits m.bits)) m.dst (operand.Reg m.src))
+insn_at-first (Movsx m) h = movsx_again m.wide m.bits m.dst m.src m.listed (Alu m.wide (op_at op.Mov (extended_bits m.bits)) m.dst (operand.Reg m.src))
 insn_at-first (Neg wide dst) h = refl
 insn_at-first (End how width dst) h = rw (bits_again width) refl
 insn_at-first (Ja off) h = ap Ja (offset_again off h)

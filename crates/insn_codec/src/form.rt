@@ -2,16 +2,20 @@
 
 ghost use Rattle.std.specs.Prelude.{◌≡◌, ◌≢◌, ◌+◌, ◌%◌, ◌≤◌, [], ◌∷◌, IfSome, IsTrue};
 
-use crate::opcode::{AluCode, LoadKind, SourceBit, WideKind, size_at};
-use insn_set::{AtomicOp, AtomicSize, Insn, Load, Movsx, Reg, SlotFields, condition_by_number};
-use words::{AccessSize, ByteOrder, Condition, ExtendedBits, KeptBits};
+use crate::opcode::{SourceBit, lists_offset, signed_form, size_at};
+use insn_set::{
+    AtomicOp, AtomicSize, Insn, Load, Movsx, Reg, SlotFields, alu_by_number, condition_by_number,
+    load_by_opcode,
+};
+use words::{AccessSize, AluOp, ByteOrder, Condition, ExtendedBits, KeptBits};
 
 /// The form of an opcode: what it alone determines of its instruction.
 #[derive(Clone, Copy, Debug, PartialEq, Eq)]
 pub enum OpcodeForm {
+    /// Of two operators with one opcode, the unsigned one.
     Alu {
         wide: bool,
-        code: AluCode,
+        op: AluOp,
         source: SourceBit,
     },
     Neg {
@@ -29,8 +33,10 @@ pub enum OpcodeForm {
     },
     Call,
     Exit,
+    /// A double word has no sign extension.
     Load {
-        kind: LoadKind,
+        size: AccessSize,
+        signed: bool,
     },
     Store {
         size: AccessSize,
@@ -43,7 +49,7 @@ pub enum OpcodeForm {
 }
 
 impl OpcodeForm {
-    ghost use Rattle.insn_codec.specs.inside.Form.{form_at, alu_at, jump_at, load_at, store_at, register_store_at, listed};
+    ghost use Rattle.insn_codec.specs.inside.Form.{form_at, alu_at, jump_at, load_at, store_at, register_store_at, listed, is_form};
     ghost use Rattle.insn_set.specs.Numbers.{opcode as opcode_from, alu_class, jump_class};
     ghost use Rattle.insn_codec.specs.Spelled.{source_number};
     ghost use Rattle.insn_codec.specs.inside.Opcodes.{opcode_of};
@@ -54,6 +60,7 @@ impl OpcodeForm {
         ensures value { result ≡ alu_at wide source code }
         ensures number { IfSome result (λ f. opcode_of f
             ≡ opcode_from code (source_number source) (alu_class wide)) }
+        ensures form { IfSome result (λ f. IsTrue (is_form f)) }
     {
         match code {
             8 => match source {
@@ -73,8 +80,8 @@ impl OpcodeForm {
                 (true, SourceBit::Reg) => None,
             },
             _ => {
-                let code = AluCode::of(code)?;
-                Some(OpcodeForm::Alu { wide, code, source })
+                let op = alu_by_number(code)?;
+                Some(OpcodeForm::Alu { wide, op, source })
             }
         }
     }
@@ -83,6 +90,7 @@ impl OpcodeForm {
         ensures value { result ≡ jump_at wide source code }
         ensures number { IfSome result (λ f. opcode_of f
             ≡ opcode_from code (source_number source) (jump_class wide)) }
+        ensures form { IfSome result (λ f. IsTrue (is_form f)) }
     {
         match (code, source) {
             (0, SourceBit::Imm) => Some(if wide {
@@ -102,24 +110,17 @@ impl OpcodeForm {
     fn load(opcode: u8) -> Option<OpcodeForm>
         ensures value { result ≡ load_at opcode }
         ensures number { IfSome result (λ f. opcode_of f ≡ opcode) }
+        ensures form { IfSome result (λ f. IsTrue (is_form f)) }
     {
-        let kind = match opcode {
-            0x61 => LoadKind::Word,
-            0x69 => LoadKind::Half,
-            0x71 => LoadKind::Byte,
-            0x79 => LoadKind::Double,
-            0x81 => LoadKind::SignedWord,
-            0x89 => LoadKind::SignedHalf,
-            0x91 => LoadKind::SignedByte,
-            _ => return None,
-        };
-        Some(OpcodeForm::Load { kind })
+        let (signed, size) = load_by_opcode(opcode)?;
+        Some(OpcodeForm::Load { size, signed })
     }
 
     fn store(opcode: u8, source: SourceBit) -> Option<OpcodeForm>
         requires { opcode % 8 ≡ 2 + source_number source }
         ensures value { result ≡ store_at opcode source }
         ensures number { IfSome result (λ f. opcode_of f ≡ opcode) }
+        ensures form { IfSome result (λ f. IsTrue (is_form f)) }
     {
         if opcode / 32 == 3 {
             Some(OpcodeForm::Store {
@@ -136,6 +137,7 @@ impl OpcodeForm {
         requires { opcode % 8 ≡ 3 }
         ensures value { result ≡ register_store_at opcode }
         ensures number { IfSome result (λ f. opcode_of f ≡ opcode) }
+        ensures form { IfSome result (λ f. IsTrue (is_form f)) }
     {
         match opcode {
             0xc3 => Some(OpcodeForm::Atomic {
@@ -153,6 +155,7 @@ impl OpcodeForm {
     pub fn of(opcode: u8) -> Option<OpcodeForm>
         ensures value { result ≡ form_at opcode }
         ensures number { IfSome result (λ f. opcode_of f ≡ opcode) }
+        ensures form { IfSome result (λ f. IsTrue (is_form f)) }
     {
         let code = opcode / 16;
         let source = if opcode / 8 % 2 == 0 {
@@ -178,8 +181,8 @@ impl OpcodeForm {
         ensures { result ≡ listed self slot }
     {
         match self {
-            OpcodeForm::Alu { wide, code, source } => {
-                source.lists_operand(slot) && code.lists_offset(wide, source, slot.offset)
+            OpcodeForm::Alu { wide, op, source } => {
+                source.lists_operand(slot) && lists_offset(op, wide, source, slot.offset)
             }
             OpcodeForm::Neg { wide: _ } => slot.src == 0 && slot.offset == 0 && slot.imm == 0,
             OpcodeForm::End { how: _ } => {
@@ -192,9 +195,9 @@ impl OpcodeForm {
                 source.lists_operand(slot),
             OpcodeForm::Call => slot.dst == 0 && slot.src == 0 && slot.offset == 0,
             OpcodeForm::Exit => slot.dst == 0 && slot.src == 0 && slot.offset == 0 && slot.imm == 0,
-            OpcodeForm::Load { kind: _ } => slot.imm == 0,
+            OpcodeForm::Load { .. } => slot.imm == 0,
             OpcodeForm::Atomic { size: _ } => AtomicOp::from_number(slot.imm).is_some(),
-            OpcodeForm::Wide => slot.offset == 0 && WideKind::of(slot.src).is_some(),
+            OpcodeForm::Wide => slot.offset == 0 && slot.src <= 2,
         }
     }
 
@@ -202,6 +205,7 @@ impl OpcodeForm {
     #[inline(always)]
     pub fn put(self, entry: &mut Insn, slot: SlotFields, dst: Reg, src: Reg)
         requires single { self ≢ Wide }
+        requires form { IsTrue (is_form self) }
         requires opcode { slot.opcode ≡ opcode_of self }
         requires listed { IsTrue (listed self slot) }
         requires dst { slot.dst ≡ dst }
@@ -214,15 +218,15 @@ impl OpcodeForm {
         let off = slot.offset.cast_signed();
         let imm = slot.imm.cast_signed();
         match self {
-            OpcodeForm::Alu { wide, code, source } => {
+            OpcodeForm::Alu { wide, op, source } => {
                 if slot.offset == 0 {
                     *entry = Insn::Alu {
                         wide,
-                        op: code.operation(),
+                        op,
                         dst,
                         src: source.operand(slot, src),
                     };
-                } else if let AluCode::Mov = code {
+                } else if let AluOp::Mov = op {
                     let bits = match slot.offset {
                         8 => ExtendedBits::Bits8,
                         16 => ExtendedBits::Bits16,
@@ -237,7 +241,7 @@ impl OpcodeForm {
                 } else {
                     *entry = Insn::Alu {
                         wide,
-                        op: code.signed_operation(),
+                        op: signed_form(op),
                         dst,
                         src: source.operand(slot, src),
                     };
@@ -265,8 +269,7 @@ impl OpcodeForm {
             }
             OpcodeForm::Call => *entry = Insn::Call { id: imm },
             OpcodeForm::Exit => *entry = Insn::Exit,
-            OpcodeForm::Load { kind } => {
-                let (size, signed) = kind.size();
+            OpcodeForm::Load { size, signed } => {
                 *entry = Insn::Load(Load {
                     size,
                     signed,

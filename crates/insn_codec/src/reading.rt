@@ -2,7 +2,7 @@
 
 ghost use Rattle.std.specs.Prelude.{List, ℕ, ◌≡◌, ◌≢◌, ◌+◌, ◌*◌, ◌≤◌, [], ◌∷◌, length, drop, IfOk, OnOk, IfErr, IsErrAnd, Ok, Some, None, IsTrue};
 ghost use Rattle.insn_set.specs.Slot.{slot_of};
-ghost use Rattle.insn_codec.specs.inside.Form.{listed};
+ghost use Rattle.insn_codec.specs.inside.Form.{listed, is_form};
 ghost use Rattle.insn_codec.specs.inside.Opcodes.{opcode_of};
 ghost use Rattle.insn_set.specs.Spelling.{slots, IsInsn, Begins};
 ghost use Rattle.insn_codec.specs.Fault.{HasFault};
@@ -12,7 +12,7 @@ ghost use Rattle.insn_codec.specs.declared.form.OpcodeForm.TheVariants.{Wide};
 
 use crate::fault::{CodecFault, FaultKind};
 use crate::form::OpcodeForm;
-use crate::opcode::{SourceBit, WideKind};
+use crate::opcode::{SourceBit, lists_second};
 use insn_set::{Insn, Reg, SlotFields};
 
 /// Reads the wide instruction whose first slot is at the front of the bytes into an entry. `Err` with the kind of the fault if its
@@ -32,26 +32,23 @@ fn read_wide(entry: &mut Insn, dst: Reg, bytes: &[u8]) -> Result<(), FaultKind>
 {
     let slot = SlotFields::first(bytes);
     let (_, rest) = bytes.split_at(8);
-    let Some(kind) = WideKind::of(slot.src) else {
-        unreachable!();
-    };
     if rest.len() < 8 {
         return Err(FaultKind::SecondSlot);
     }
     let next = SlotFields::first(rest);
-    if !kind.lists_second(next) {
+    if !lists_second(slot.src, next) {
         return Err(FaultKind::SecondSlot);
     }
-    *entry = match kind {
-        WideKind::Number => Insn::Const {
+    *entry = match slot.src {
+        0 => Insn::Const {
             dst,
             value: u64::from(slot.imm) + u64::from(next.imm) * 0x1_0000_0000,
         },
-        WideKind::Map => Insn::MapFd {
+        1 => Insn::MapFd {
             dst,
             fd: slot.imm.cast_signed(),
         },
-        WideKind::MapValue => Insn::MapValue {
+        _ => Insn::MapValue {
             dst,
             fd: slot.imm.cast_signed(),
             off: next.imm,
@@ -85,6 +82,7 @@ fn read_as(form: OpcodeForm, entry: &mut Insn, bytes: &[u8]) -> Result<usize, Fa
     requires single { form ≢ Wide }
     requires long { 8 ≤ length bytes.now }
     requires opcode { (slot_of bytes.now).opcode ≡ opcode_of form }
+    requires form { IsTrue (is_form form) }
     ensures found { OnOk result (IsInsn entry.new × Begins entry.new bytes.now) }
     ensures count { IfOk result (λ n. n ≡ length (slots entry.new)) }
     ensures fault { IfErr result (λ kind. fault_in_form form (slot_of bytes.now)
@@ -102,20 +100,21 @@ fn read_as(form: OpcodeForm, entry: &mut Insn, bytes: &[u8]) -> Result<usize, Fa
 fn read_form(form: OpcodeForm, entry: &mut Insn, bytes: &[u8]) -> Result<usize, FaultKind>
     requires long { 8 ≤ length bytes.now }
     requires opcode { (slot_of bytes.now).opcode ≡ opcode_of form }
+    requires form { IsTrue (is_form form) }
     ensures found { OnOk result (IsInsn entry.new × Begins entry.new bytes.now) }
     ensures count { IfOk result (λ n. n ≡ length (slots entry.new)) }
     ensures fault { IfErr result (λ kind. fault_in_form form (slot_of bytes.now)
         (drop 8 bytes.now) ≡ Some kind) }
 {
     match form {
-        OpcodeForm::Alu { wide, code, source } => match source {
+        OpcodeForm::Alu { wide, op, source } => match source {
             SourceBit::Imm => {
                 let source = SourceBit::Imm;
-                read_as(OpcodeForm::Alu { wide, code, source }, entry, bytes)
+                read_as(OpcodeForm::Alu { wide, op, source }, entry, bytes)
             }
             SourceBit::Reg => {
                 let source = SourceBit::Reg;
-                read_as(OpcodeForm::Alu { wide, code, source }, entry, bytes)
+                read_as(OpcodeForm::Alu { wide, op, source }, entry, bytes)
             }
         },
         OpcodeForm::Neg { wide } => read_as(OpcodeForm::Neg { wide }, entry, bytes),
@@ -134,7 +133,9 @@ fn read_form(form: OpcodeForm, entry: &mut Insn, bytes: &[u8]) -> Result<usize, 
         },
         OpcodeForm::Call => read_as(OpcodeForm::Call, entry, bytes),
         OpcodeForm::Exit => read_as(OpcodeForm::Exit, entry, bytes),
-        OpcodeForm::Load { kind } => read_as(OpcodeForm::Load { kind }, entry, bytes),
+        OpcodeForm::Load { size, signed } => {
+            read_as(OpcodeForm::Load { size, signed }, entry, bytes)
+        },
         OpcodeForm::Store { size, source } => match source {
             SourceBit::Imm => {
                 let source = SourceBit::Imm;

@@ -4,41 +4,10 @@ ghost use Rattle.std.specs.Prelude.{◌≡◌, ◌+◌, ◌*◌, ◌≤◌, ◌<
 ghost use Rattle.std.specs.Option.{option_to_list};
 ghost use Rattle.insn_set.specs.Slot.{slot as slot_from};
 ghost use Rattle.insn_set.specs.Spelling.{first as first_slot, second as second_slot, spelling, source_bit, src_field, imm_field};
-ghost use Rattle.insn_set.specs.Numbers.{opcode as opcode_from, memory_opcode, alu_class, jump_class, alu_number, alu_offset, size_number, end_opcode};
+ghost use Rattle.insn_set.specs.Numbers.{opcode as opcode_from, memory_opcode, alu_class, jump_class, size_number, end_opcode};
 
-use insn_set::{Insn, Operand, SlotFields, condition_number};
-use words::{AccessSize, AluOp, ByteOrder};
-
-/// The code of an operator (RFC 9669, section 4.1).
-fn alu_number(op: AluOp) -> u8
-    ensures value { result ≡ alu_number op }
-    ensures bound { result ≤ 12 }
-{
-    match op {
-        AluOp::Add => 0,
-        AluOp::Sub => 1,
-        AluOp::Mul => 2,
-        AluOp::Div | AluOp::SignedDiv => 3,
-        AluOp::Or => 4,
-        AluOp::And => 5,
-        AluOp::ShiftLeft => 6,
-        AluOp::ShiftRight => 7,
-        AluOp::Mod | AluOp::SignedMod => 9,
-        AluOp::Xor => 10,
-        AluOp::Mov => 11,
-        AluOp::SignedShiftRight => 12,
-    }
-}
-
-/// The offset of an operator, which is 1 for signed division and remainder (RFC 9669, section 4.1).
-fn alu_offset(op: AluOp) -> u16
-    ensures { result ≡ alu_offset op }
-{
-    match op {
-        AluOp::SignedDiv | AluOp::SignedMod => 1,
-        _ => 0,
-    }
-}
+use insn_set::{Insn, Operand, SlotFields, alu_number, alu_offset, condition_number};
+use words::{AccessSize, ByteOrder};
 
 /// The code of a size (RFC 9669, section 5).
 fn size_number(size: AccessSize) -> u8

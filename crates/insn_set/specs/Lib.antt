@@ -5,8 +5,14 @@ pub mod TableLaws
 pub mod AtomicRows
 pub mod Condition
 pub mod ConditionRows
-pub mod RowLaws
+pub mod Operator
+pub mod OperatorRows
 pub mod Numbers
+pub mod Load
+pub mod LoadRows
+pub mod Conversion
+pub mod ConversionRows
+pub mod RowLaws
 pub mod Slot
 pub mod Spelling
 pub mod View

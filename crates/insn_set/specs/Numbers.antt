@@ -2,8 +2,6 @@
 -- is a sum of three of them.
 use Rattle.std.specs.Prelude.{ℕ, ◌+◌, ◌*◌, Bool, true, false, ℤ}
 use Rattle.std.specs.Int.{w16, w32, cast_unsigned}
-use Rattle.words.specs.declared.operator.AluOp.{AluOp}
-use Rattle.words.specs.declared.operator.AluOp.TheVariants.{Add, Sub, Mul, Div, SignedDiv, Or, And, ShiftLeft, ShiftRight, Mod, SignedMod, Xor, Mov, SignedShiftRight}
 use Rattle.words.specs.declared.operator.ByteOrder.{ByteOrder}
 use Rattle.words.specs.declared.operator.ByteOrder.TheVariants.{Little, Big, Swap}
 use Rattle.words.specs.declared.stack.AccessSize.{AccessSize}
@@ -22,29 +20,6 @@ alu_class false = 4
 abbrev pub jump_class : Bool → ℕ
 jump_class true = 5
 jump_class false = 6
-
--- section 4.1, the table of codes
-abbrev pub alu_number : AluOp → ℕ
-alu_number Add = 0
-alu_number Sub = 1
-alu_number Mul = 2
-alu_number Div = 3
-alu_number SignedDiv = 3
-alu_number Or = 4
-alu_number And = 5
-alu_number ShiftLeft = 6
-alu_number ShiftRight = 7
-alu_number Mod = 9
-alu_number SignedMod = 9
-alu_number Xor = 10
-alu_number Mov = 11
-alu_number SignedShiftRight = 12
-
--- section 4.1: division and remainder are signed at offset 1
-abbrev pub alu_offset : AluOp → ℕ
-alu_offset SignedDiv = 1
-alu_offset SignedMod = 1
-alu_offset _ = 0
 
 -- section 5, the sizes
 abbrev pub size_number : AccessSize → ℕ

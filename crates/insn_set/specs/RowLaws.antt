@@ -1,16 +1,34 @@
 -- A number and a symbol are those of the row that is found by them, for each family that has a table. This project's own. No contract
 -- cites these laws, so there is nothing in them to believe.
-use Rattle.std.specs.Prelude.{ℕ, List, Option}
+use Rattle.std.specs.Prelude.{ℕ, Bool, true, false, List, Option, IsTrue, not, ◌&&◌}
 use Rattle.std.proofs.Common.{◌≡◌, Some, refl}
+use Rattle.std.proofs.lemmas.Bool.{false≢true}
+use Rattle.words.specs.declared.operator.AluOp.{AluOp}
+use Rattle.words.specs.declared.operator.AluOp.TheVariants as op
 use Rattle.words.specs.declared.operator.Condition.{Condition}
 use Rattle.words.specs.declared.operator.Condition.TheVariants.{Equal}
+use Rattle.words.specs.declared.operator.ByteOrder.{ByteOrder}
+use Rattle.words.specs.declared.operator.ByteOrder.TheVariants.{Little, Big, Swap}
+use Rattle.words.specs.declared.operator.KeptBits.{KeptBits}
+use Rattle.words.specs.declared.operator.KeptBits.TheVariants.{Bits16}
+use Rattle.words.specs.declared.operator.ExtendedBits.{ExtendedBits}
+use Rattle.words.specs.declared.operator.ExtendedBits.TheVariants as narrow
+use Rattle.words.specs.declared.stack.AccessSize.{AccessSize}
+use Rattle.words.specs.declared.stack.AccessSize.TheVariants.{Byte, Double}
+use Rattle.words.specs.Stack.{is_double}
 use Rattle.insn_set.specs.declared.atomic.AtomicOp.{AtomicOp}
 use Rattle.insn_set.specs.declared.atomic.AtomicOp.TheVariants.{Add}
 use Rattle.insn_set.specs.Atomic.{atomic_number, atomic_symbol}
 use Rattle.insn_set.specs.AtomicRows.{atomic_rows, atomic_by_number, atomic_by_symbol}
 use Rattle.insn_set.specs.Condition.{condition_number, condition_symbol}
 use Rattle.insn_set.specs.ConditionRows.{condition_rows, condition_by_number, condition_by_symbol}
-use Rattle.insn_set.specs.TableLaws.{number_of, symbol_of}
+use Rattle.insn_set.specs.Operator.{alu_number, alu_offset, alu_symbol}
+use Rattle.insn_set.specs.OperatorRows.{alu_rows, alu_by_number, alu_by_symbol}
+use Rattle.insn_set.specs.Load.{load_opcode, size_name}
+use Rattle.insn_set.specs.LoadRows.{load_rows, load_by_opcode, size_by_name}
+use Rattle.insn_set.specs.Conversion.{order_name, narrow_name}
+use Rattle.insn_set.specs.ConversionRows.{orders, order_by_name, extensions, narrow_by_name}
+use Rattle.insn_set.specs.TableLaws.{found_number, found_symbol, number_of, symbol_of, name_of}
 
 -- ---- atomic operations
 
@@ -43,3 +61,67 @@ condition_number_is n c e = number_of condition_number condition_rows n c refl e
 
 pub condition_symbol_is : (s : List ℕ) (c : Condition) → condition_by_symbol s ≡ Some c → condition_symbol c ≡ s
 condition_symbol_is s c e = symbol_of condition_symbol condition_rows s c refl e
+
+-- ---- operators: of two with one code, the unsigned one is found
+
+-- the operator with the same code and offset 0
+abbrev pub unsigned_of : AluOp → AluOp
+unsigned_of op.SignedDiv = op.Div
+unsigned_of op.SignedMod = op.Mod
+unsigned_of o = o
+
+pub alu_number_again : (o : AluOp) → alu_by_number (alu_number o) ≡ Some (unsigned_of o)
+alu_number_again op.Add = refl
+alu_number_again _ = refl
+
+pub alu_symbol_again : (o : AluOp) → alu_by_symbol (alu_symbol o) ≡ Some o
+alu_symbol_again op.Add = refl
+alu_symbol_again _ = refl
+
+pub alu_number_is : (n : ℕ) (o : AluOp) → alu_by_number n ≡ Some o → alu_number o ≡ n
+alu_number_is n o e = number_of alu_number alu_rows n o refl e
+
+pub alu_symbol_is : (s : List ℕ) (o : AluOp) → alu_by_symbol s ≡ Some o → alu_symbol o ≡ s
+alu_symbol_is s o e = symbol_of alu_symbol alu_rows s o refl e
+
+-- ---- loads: a double word has no sign extension
+
+pub load_opcode_again : (signed : Bool) (s : AccessSize) → IsTrue (not (signed && is_double s)) → load_by_opcode (load_opcode signed s) ≡ Some (signed, s)
+load_opcode_again true Double h = absurd (false≢true h)
+load_opcode_again false Byte h = refl
+load_opcode_again _ _ h = refl
+
+pub size_name_again : (signed : Bool) (s : AccessSize) → IsTrue (not (signed && is_double s)) → size_by_name (size_name signed s) ≡ Some (signed, s)
+size_name_again true Double h = absurd (false≢true h)
+size_name_again false Byte h = refl
+size_name_again _ _ h = refl
+
+pub load_opcode_is : (n : ℕ) (l : Bool × AccessSize) → load_by_opcode n ≡ Some l → load_opcode l.0 l.1 ≡ n
+load_opcode_is n l e = number_of (λ l. load_opcode l.0 l.1) load_rows n l refl e
+
+pub load_listed : (n : ℕ) (l : Bool × AccessSize) → load_by_opcode n ≡ Some l → IsTrue (not (l.0 && is_double l.1))
+load_listed n l e = found_number (λ l _. not (l.0 && is_double l.1)) load_rows n l refl e
+
+pub size_listed : (s : List ℕ) (l : Bool × AccessSize) → size_by_name s ≡ Some l → IsTrue (not (l.0 && is_double l.1))
+size_listed s l e = found_symbol (λ l _. not (l.0 && is_double l.1)) load_rows s l refl e
+
+pub size_name_is : (s : List ℕ) (l : Bool × AccessSize) → size_by_name s ≡ Some l → size_name l.0 l.1 ≡ s
+size_name_is s l e = symbol_of (λ l. size_name l.0 l.1) load_rows s l refl e
+
+-- ---- byte-order conversions and sign extensions
+
+pub order_name_again : (how : ByteOrder) (b : KeptBits) → order_by_name (order_name how b) ≡ Some (how, b)
+order_name_again Little Bits16 = refl
+order_name_again Big Bits16 = refl
+order_name_again Swap Bits16 = refl
+order_name_again _ _ = refl
+
+pub order_name_is : (s : List ℕ) (o : ByteOrder × KeptBits) → order_by_name s ≡ Some o → order_name o.0 o.1 ≡ s
+order_name_is s o e = name_of (λ o. order_name o.0 o.1) orders s o refl e
+
+pub narrow_name_again : (b : ExtendedBits) → narrow_by_name (narrow_name b) ≡ Some b
+narrow_name_again narrow.Bits8 = refl
+narrow_name_again _ = refl
+
+pub narrow_name_is : (s : List ℕ) (b : ExtendedBits) → narrow_by_name s ≡ Some b → narrow_name b ≡ s
+narrow_name_is s b e = name_of narrow_name extensions s b refl e

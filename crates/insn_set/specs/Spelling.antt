@@ -9,8 +9,9 @@ use Rattle.insn_set.specs.declared.insn.Insn.{Insn}
 use Rattle.insn_set.specs.declared.insn.Insn.TheVariants.{Alu, Movsx, Neg, End, Ja, Jal, Jump, Call, Exit, Load, Store, Atomic, Const, MapFd, MapValue}
 use Rattle.insn_set.specs.Slot.{slot, slot_bytes}
 use Rattle.insn_set.specs.Atomic.{access_size, atomic_number}
-use Rattle.insn_set.specs.Numbers.{opcode, alu_class, jump_class, alu_number, alu_offset, end_opcode, load_mode, memory_opcode, offset_bits, imm_bits}
+use Rattle.insn_set.specs.Numbers.{opcode, alu_class, jump_class, end_opcode, load_mode, memory_opcode, offset_bits, imm_bits}
 use Rattle.insn_set.specs.Condition.{condition_number}
+use Rattle.insn_set.specs.Operator.{alu_number, alu_offset}
 use Rattle.words.specs.Operate.{extended_bits, kept_bits}
 
 -- ---- the second operand, section 4: the source bit, and the field that it selects

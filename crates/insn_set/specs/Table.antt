@@ -1,6 +1,7 @@
--- Tables: a row for each value of a family, with its number and its symbol. This project's own.
+-- Tables: a row for each value of a family, with its number and its symbol, or with its name alone. This project's own.
 use Rattle.std.specs.Prelude.{ℕ, ◌==◌, List, [], ◌∷◌, map, Option, Some, None, if◌then◌else◌}
 use Rattle.std.specs.Str.{bytes_eq}
+use Rattle.std.specs.Map.{lookup}
 use Rattle.std.specs.Borrow.{Bor}
 
 -- a value, its number and its symbol
@@ -20,3 +21,13 @@ by_number (row ∷ rows) n = if row.1 == n then Some row.0 else by_number rows n
 abbrev pub by_symbol : {A : Type 0} → List (Row A) → List ℕ → Option A
 by_symbol [] s = None
 by_symbol (row ∷ rows) s = if bytes_eq s row.2 then Some row.0 else by_symbol rows s
+
+-- ---- with names alone
+
+-- the rows of a table of the code
+abbrev pub names : {A : Type 0} → List (Bor (List ℕ) × A) → List (List ℕ × A)
+names rows = map (λ row. (row.0.now, row.1)) rows
+
+-- the value of the first row with this name
+abbrev pub named : {A : Type 0} → List (List ℕ × A) → List ℕ → Option A
+named table n = lookup (λ m. bytes_eq n m) table

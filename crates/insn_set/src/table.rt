@@ -1,7 +1,7 @@
-//! Tables: a row for each value of a family, with its number and its symbol.
+//! Tables: a row for each value of a family, with its number and its symbol, or with its name alone.
 
 ghost use Rattle.std.specs.Prelude.{◌≡◌};
-ghost use Rattle.insn_set.specs.Table.{shown, by_number, by_symbol};
+ghost use Rattle.insn_set.specs.Table.{shown, by_number, by_symbol, names, named};
 
 /// The value of the first row with this number.
 #[inline(always)]
@@ -23,6 +23,18 @@ pub(crate) fn by_symbol<T: Copy>(rows: &[(T, u32, &str)], symbol: &str) -> Optio
     for row in rows {
         if symbol == row.2 {
             return Some(row.0);
+        }
+    }
+    None
+}
+
+/// The value of the first row with this name.
+pub fn named<T: Copy>(rows: &[(&str, T)], name: &str) -> Option<T>
+    ensures { result ≡ named (names rows.now) name.now }
+{
+    for row in rows {
+        if name == row.0 {
+            return Some(row.1);
         }
     }
     None

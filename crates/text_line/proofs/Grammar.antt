@@ -14,7 +14,15 @@ use Rattle.insn_set.specs.declared.atomic.AtomicSize.{AtomicSize}
 use Rattle.insn_set.specs.declared.atomic.AtomicSize.TheVariants as atomic_size
 use Rattle.insn_set.specs.Sizes.{is_short}
 use Rattle.insn_set.specs.Atomic.{access_size, atomic_symbol}
-use Rattle.insn_set.specs.RowLaws.{condition_symbol_is, atomic_symbol_is}
+use Rattle.insn_set.specs.Operator.{alu_symbol}
+use Rattle.insn_set.specs.Conversion.{order_name, narrow_name}
+use Rattle.insn_set.specs.Load.{size_name}
+use Rattle.insn_set.specs.RowLaws.{alu_symbol_is, order_name_is, narrow_name_is, size_name_is, size_listed, condition_symbol_is, atomic_symbol_is}
+use Rattle.insn_set.specs.Table.{named}
+use Rattle.insn_set.specs.TableLaws.{found_named, name_of}
+use Rattle.insn_set.specs.OperatorRows.{alu_by_symbol}
+use Rattle.insn_set.specs.ConversionRows.{order_by_name, narrow_by_name}
+use Rattle.insn_set.specs.LoadRows.{size_by_name}
 use Rattle.insn_set.specs.ConditionRows.{condition_by_symbol}
 use Rattle.insn_set.specs.AtomicRows.{atomic_by_symbol}
 use Rattle.words.specs.Stack.{is_double}
@@ -25,10 +33,10 @@ use Rattle.text_line.specs.declared.form.Form.{Form}
 use Rattle.text_line.specs.declared.form.Form.TheVariants as form
 use Rattle.text_line.specs.declared.form.Address.{Address}
 use Rattle.text_line.specs.Token.{Token, name, number, symbol}
-use Rattle.text_line.specs.Names.{operator_name, order_name, narrow_name, size_name, register_name, sign_name}
+use Rattle.text_line.specs.Names.{register_name, sign_name}
 use Rattle.text_line.specs.Form.{TokenLayout, layout, sign, word, space, tokens_of, reg, to_label, constant, operand_layout, destination, address, IsForm, IsSource, names_label}
 use Rattle.text_line.specs.Line.{Line, blank, label, spelled, IsWellFormed, NoLabel}
-use Rattle.text_line.specs.inside.Reading.{named, operators, orders, narrows, sizes, registers, leading_symbol, leading_name, leading_number, after_symbol, after_word, leading_register, number_from, leading_constant, leading_signed_number, leading_operand, parsed_destination, leading_address, atomic_size_of, at_end, match_option, parsed_jump, parsed_load, parsed_store, parsed_atomic, parsed_movsx, parsed_neg, parsed_end, parsed_constant_load, parsed_map_fd, parsed_map_value, parsed_wide_move, parsed_special_move, is_move, parsed_alu, parsed_assignment, parsed_assigned, parsed_goto, parsed_gotol, parsed_call, without_label, parsed_form, parsed_label, line_of, bool_eq, ◌>>=◌}
+use Rattle.text_line.specs.inside.Reading.{registers, leading_symbol, leading_name, leading_number, after_symbol, after_word, leading_register, number_from, leading_constant, leading_signed_number, leading_operand, parsed_destination, leading_address, atomic_size_of, at_end, match_option, parsed_jump, parsed_load, parsed_store, parsed_atomic, parsed_movsx, parsed_neg, parsed_end, parsed_constant_load, parsed_map_fd, parsed_map_value, parsed_wide_move, parsed_special_move, is_move, parsed_alu, parsed_assignment, parsed_assigned, parsed_goto, parsed_gotol, parsed_call, without_label, parsed_form, parsed_label, line_of, bool_eq, ◌>>=◌}
 
 -- ---- options and tests, where a value comes out
 
@@ -53,28 +61,8 @@ if_false false o y e = (refl, e)
 is_eq : (x y : List ℕ) → bytes_eq x y ≡ true → x ≡ y
 is_eq x y e = (bytes_eq-Decides x y).0 e
 
--- what is found in a table passes the test that its rows pass
-named_passes : {A : Type 0} (test : List ℕ → A → Bool) (table : List (List ℕ × A)) (n : List ℕ) (v : A) → list_all (λ row. test row.0 row.1) table ≡ true → named table n ≡ Some v → test n v ≡ true
-named_passes test [] n v all e = absurd (none-some v e)
-named_passes test (row ∷ table) n v all e =
-    let (here, more) = and_parts (test row.0 row.1) (list_all (λ row. test row.0 row.1) table) all in
-    elim (bytes_eq n row.0) as (λ b. bytes_eq n row.0 ≡ b → cond b (Some row.1) (named table n) ≡ Some v → test n v ≡ true) [
-      | true ↦ λ same e. cc (here, is_eq n row.0 same, same_Some row.1 v e)
-      | false ↦ λ _ e. named_passes test table n v more e
-    ] refl e
-
-named_is : {A : Type 0} (name_of : A → List ℕ) (table : List (List ℕ × A)) (n : List ℕ) (v : A) → list_all (λ row. bytes_eq row.0 (name_of row.1)) table ≡ true → named table n ≡ Some v → n ≡ name_of v
-named_is name_of table n v all e = is_eq n (name_of v) (named_passes (λ n v. bytes_eq n (name_of v)) table n v all e)
-
-named_then : {A B P : Type 0} (name_of : A → List ℕ) (table : List (List ℕ × A)) (n : List ℕ) (k : A → Option B) (y : B) → list_all (λ row. bytes_eq row.0 (name_of row.1)) table ≡ true → (named table n >>= k) ≡ Some y
-    → ((v : A) → n ≡ name_of v → k v ≡ Some y → P) → P
-named_then name_of table n k y all e then = option_and_then_some k (named table n) y e (λ v found. then v (named_is name_of table n v all found))
-
 register_is : (n : List ℕ) (r : Bool × ℕ) → named registers n ≡ Some r → (n ≡ register_name r.0 r.1) × (r.1 ≤ 10)
-register_is n r e = (named_is (λ r. register_name r.0 r.1) registers n r refl e, leb-true r.1 10 (named_passes (λ _ r. leb r.1 10) registers n r refl e))
-
-size_listed : (n : List ℕ) (s : Bool × AccessSize) → named sizes n ≡ Some s → IsTrue (not (s.0 && is_double s.1))
-size_listed n s e = named_passes (λ _ s. not (s.0 && is_double s.1)) sizes n s refl e
+register_is n r e = (sym (name_of (λ r. register_name r.0 r.1) registers n r refl e), leb-true r.1 10 (found_named (λ _ r. leb r.1 10) registers n r refl e))
 
 -- ---- tokens: they begin with what is read first, and the reading goes on behind it
 
@@ -207,7 +195,7 @@ address_read ts p e =
     after_symbol_then (codes "*") ts _ p e (λ a is_a e.
     after_symbol_then (codes "(") a _ p e (λ b is_b e.
     name_then b _ p e (λ n c is_n e.
-    option_and_then_some _ (named sizes n) p e (λ s found e.
+    option_and_then_some _ (size_by_name n) p e (λ s found e.
     after_symbol_then (codes "*") c _ p e (λ d is_c e.
     after_symbol_then (codes ")") d _ p e (λ f is_d e.
     after_symbol_then (codes "(") f _ p e (λ g is_f e.
@@ -215,7 +203,7 @@ address_read ts p e =
     option_and_then_some _ (leading_signed_number r.1) p e (λ o signed e.
     after_symbol_then (codes ")") o.1 _ p e (λ h is_o e.
     let (is_g, bound) = register_read true g r read in
-    let is_size = named_is (λ s. size_name s.0 s.1) sizes n s refl found in
+    let is_size = size_name_is n s found in
     let is_r = signed_number_read r.1 o signed in
     subst (AddressRead ts) (same_Some _ p e) ((λ rest after. cc), bound, size_listed n s found)))))))))))
 
@@ -307,7 +295,8 @@ movsx_is : (wide : Bool) (dst : ℕ) (ts : List Token) (f : Form) → dst ≤ 10
 unfolding parsed_movsx
 movsx_is wide dst ts f fits e =
     name_then ts _ f e (λ n a is_n e.
-    named_then narrow_name narrows n _ f refl e (λ b is_b e.
+    option_and_then_some _ (narrow_by_name n) f e (λ b found_b e.
+    let is_b = narrow_name_is n b found_b in
     after_symbol_then (codes ")") a _ f e (λ c is_c e.
     option_and_then_some _ (leading_register wide c) f e (λ src found e.
     let (listed, e) = if_true (wide || is_short b) _ f e in
@@ -328,7 +317,8 @@ end_form_is : (dst : ℕ) (ts : List Token) (f : Form) → dst ≤ 10 → parsed
 unfolding parsed_end
 end_form_is dst ts f fits e =
     name_then ts _ f e (λ n a is_n e.
-    named_then (λ o. order_name o.0 o.1) orders n _ f refl e (λ o is_o e.
+    option_and_then_some _ (order_by_name n) f e (λ o found_o e.
+    let is_o = order_name_is n o found_o in
     option_and_then_some _ (leading_register true a) f e (λ r found e.
     let (again, e) = if_true (eqb r.0 dst) _ f e in
     let (end, same) = end_is r.1 _ f e in
@@ -386,22 +376,22 @@ moved_is wide dst ts f fits e =
     let (is_wide, e) = if_true wide _ f e in
     rw is_wide (wide_is dst ts f fits e)))
 
-alu_is : (wide : Bool) (op : AluOp) (dst : ℕ) (ts : List Token) (f : Form) → dst ≤ 10 → parsed_alu wide op dst ts ≡ Some f → Spelled (name (register_name wide dst) ∷ symbol (operator_name op) ∷ ts) f
+alu_is : (wide : Bool) (op : AluOp) (dst : ℕ) (ts : List Token) (f : Form) → dst ≤ 10 → parsed_alu wide op dst ts ≡ Some f → Spelled (name (register_name wide dst) ∷ symbol (alu_symbol op) ∷ ts) f
 unfolding parsed_alu
 alu_is wide op dst ts f fits e =
     option_and_then_some _ (leading_operand wide ts) f e (λ src found e.
     let (end, same) = end_is src.1 _ f e in
     let (is, source) = operand_read wide ts src found in
-    let front : List Token → List Token = λ l. name (register_name wide dst) ∷ symbol (operator_name op) ∷ l in
+    let front : List Token → List Token = λ l. name (register_name wide dst) ∷ symbol (alu_symbol op) ∷ l in
     subst (Spelled (front ts)) same (ap front (is [] (sym end)), (fits, source)))
 
-move_name : (op : AluOp) → is_move op ≡ true → operator_name op ≡ codes "="
+move_name : (op : AluOp) → is_move op ≡ true → alu_symbol op ≡ codes "="
 move_name Mov e = refl
 move_name _ e = absurd (false≢true e)
 
 -- behind the register and the operator
 operated_is : (wide : Bool) (dst : ℕ) (op : AluOp) (ts : List Token) (f : Form) → dst ≤ 10
-    → match_option (parsed_alu wide op dst ts) (cond (is_move op) (parsed_special_move wide dst ts) None) (λ f. Some f) ≡ Some f → Spelled (name (register_name wide dst) ∷ symbol (operator_name op) ∷ ts) f
+    → match_option (parsed_alu wide op dst ts) (cond (is_move op) (parsed_special_move wide dst ts) None) (λ f. Some f) ≡ Some f → Spelled (name (register_name wide dst) ∷ symbol (alu_symbol op) ∷ ts) f
 operated_is wide dst op ts f fits e = elim (either (parsed_alu wide op dst ts) _ _ f e) [
   | inr (g, found, e) ↦ alu_is wide op dst ts f fits (found ∙ e)
   | inl e ↦ let (moves, e) = if_true (is_move op) _ f e in rw (move_name op moves) (moved_is wide dst ts f fits e)
@@ -411,8 +401,9 @@ assignment_is : (wide : Bool) (dst : ℕ) (ts : List Token) (f : Form) → dst �
 unfolding parsed_assignment
 assignment_is wide dst ts f fits e =
     symbol_then ts _ f e (λ s a is_s e.
-    named_then operator_name operators s _ f refl e (λ op is_op e.
-    let whole : symbol (operator_name op) ∷ a ≡ ts = cc in
+    option_and_then_some _ (alu_by_symbol s) f e (λ op found e.
+    let is_op = alu_symbol_is s op found in
+    let whole : symbol (alu_symbol op) ∷ a ≡ ts = cc in
     subst (λ ts. Spelled (name (register_name wide dst) ∷ ts) f) whole (operated_is wide dst op a f fits e)))
 
 assigned_is : (ts : List Token) (f : Form) → parsed_assigned ts ≡ Some f → Spelled ts f

@@ -20,10 +20,13 @@ use Rattle.insn_set.specs.declared.insn.Operand.TheVariants.{Imm, Reg}
 use Rattle.insn_set.specs.declared.insn.Insn.{Insn}
 use Rattle.insn_set.specs.declared.insn.Insn.TheVariants.{Alu, Movsx, Neg, End, Ja, Jal, Jump, Call, Exit, Load, Store, Atomic, Const, MapFd, MapValue}
 use Rattle.insn_set.specs.Spelling.{IsInsn, IsOperand}
+use Rattle.insn_set.specs.Operator.{alu_symbol}
+use Rattle.insn_set.specs.Conversion.{order_name, narrow_name}
+use Rattle.insn_set.specs.Load.{size_name}
 use Rattle.insn_set.specs.Condition.{condition_symbol}
 use Rattle.insn_set.specs.Atomic.{access_size, atomic_symbol}
 use Rattle.text_line.specs.declared.form.JumpTarget.TheVariants as target
-use Rattle.text_line.specs.Names.{operator_name, order_name, narrow_name, size_name, register_name, sign_name}
+use Rattle.text_line.specs.Names.{register_name, sign_name}
 use Rattle.text_line.specs.Form.{TokenLayout, layout, sign, word, reg, space, constant, operand_layout, destination, address, IsSource}
 use Rattle.text_line.specs.Line.{code, IsWellFormed}
 use Rattle.text_line.specs.Token.{number}
@@ -35,9 +38,9 @@ use Rattle.text_line.proofs.Spelled.{above_ten}
 
 -- ---- names
 
-operator_sign : (op : AluOp) → is_sign (operator_name op) ≡ true
-operator_sign Add = refl
-operator_sign _ = refl
+alu_sign : (op : AluOp) → is_sign (alu_symbol op) ≡ true
+alu_sign Add = refl
+alu_sign _ = refl
 
 condition_sign : (c : Condition) → is_sign (condition_symbol c) ≡ true
 condition_sign Equal = refl
@@ -122,7 +125,7 @@ address_apart signed s base z rest base_fits fits ends h =
 -- ---- forms
 
 pub printed_apart : (i : Insn) → IsInsn i → IsApart (layout (written i) [])
-printed_apart (Alu wide op dst src) h = (register_word wide dst h.0, refl, (operator_sign op, refl, operand_apart wide src [] h.1 (refl, tt)))
+printed_apart (Alu wide op dst src) h = (register_word wide dst h.0, refl, (alu_sign op, refl, operand_apart wide src [] h.1 (refl, tt)))
 printed_apart (Movsx m) h = (register_word m.wide m.dst h.0, refl, (refl, refl, (refl, refl, (narrow_word m.bits, refl, (refl, refl, (register_word m.wide m.src h.1, refl, tt))))))
 printed_apart (Neg wide dst) h = (register_word wide dst h, refl, (refl, refl, (refl, refl, (register_word wide dst h, refl, tt))))
 printed_apart (End how width dst) h = (register_word true dst h, refl, (refl, refl, (order_word how width, refl, (register_word true dst h, refl, tt))))

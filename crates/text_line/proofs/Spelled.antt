@@ -18,9 +18,13 @@ use Rattle.insn_set.specs.declared.atomic.AtomicSize.{AtomicSize}
 use Rattle.insn_set.specs.declared.atomic.AtomicSize.TheVariants as atomic_size
 use Rattle.insn_set.specs.declared.atomic.AtomicOp.{AtomicOp}
 use Rattle.insn_set.specs.Sizes.{is_short}
+use Rattle.insn_set.specs.Operator.{alu_symbol}
+use Rattle.insn_set.specs.Conversion.{order_name, narrow_name}
+use Rattle.insn_set.specs.Load.{size_name}
 use Rattle.insn_set.specs.Condition.{condition_symbol}
 use Rattle.insn_set.specs.Atomic.{access_size, atomic_symbol}
-use Rattle.insn_set.specs.RowLaws.{condition_symbol_again, atomic_symbol_again}
+use Rattle.insn_set.specs.Table.{named}
+use Rattle.insn_set.specs.RowLaws.{alu_symbol_again, order_name_again, narrow_name_again, size_name_again, condition_symbol_again, atomic_symbol_again}
 use Rattle.words.specs.Stack.{is_double}
 use Rattle.text_line.specs.declared.form.Number.{Number}
 use Rattle.text_line.specs.declared.form.SourceOperand.{SourceOperand}
@@ -30,31 +34,12 @@ use Rattle.text_line.specs.declared.form.JumpTarget.TheVariants as target
 use Rattle.text_line.specs.declared.form.Form.{Form}
 use Rattle.text_line.specs.declared.form.Form.TheVariants as form
 use Rattle.text_line.specs.Token.{Token, name, number, symbol}
-use Rattle.text_line.specs.Names.{operator_name, order_name, narrow_name, size_name, register_name, sign_name}
+use Rattle.text_line.specs.Names.{register_name, sign_name}
 use Rattle.text_line.specs.Form.{TokenLayout, layout, sign, word, space, tokens_of, reg, minus, to_label, constant, operand_layout, destination, address, IsForm, IsSource, names_label}
 use Rattle.text_line.specs.Line.{Line, blank, label, code, spelled, IsWellFormed, NoLabel}
-use Rattle.text_line.specs.inside.Reading.{named, operators, orders, narrows, sizes, registers, after_symbol, after_word, leading_register, leading_constant, leading_signed_number, leading_operand, parsed_destination, leading_address, atomic_size_of, parsed_jump, parsed_load, parsed_store, parsed_atomic, parsed_movsx, parsed_neg, parsed_end, parsed_constant_load, parsed_map_fd, parsed_map_value, parsed_wide_move, parsed_special_move, parsed_alu, parsed_assignment, parsed_assigned, parsed_goto, parsed_gotol, parsed_call, parsed_form, parsed_label, line_of}
+use Rattle.text_line.specs.inside.Reading.{registers, after_symbol, after_word, leading_register, leading_constant, leading_signed_number, leading_operand, parsed_destination, leading_address, atomic_size_of, parsed_jump, parsed_load, parsed_store, parsed_atomic, parsed_movsx, parsed_neg, parsed_end, parsed_constant_load, parsed_map_fd, parsed_map_value, parsed_wide_move, parsed_special_move, parsed_alu, parsed_assignment, parsed_assigned, parsed_goto, parsed_gotol, parsed_call, parsed_form, parsed_label, line_of}
 
 -- ---- names: a last line with `_` is checked in each case that is left
-
-named_operator : (op : AluOp) → named operators (operator_name op) ≡ Some op
-named_operator Add = refl
-named_operator _ = refl
-
-named_order : (how : ByteOrder) (b : KeptBits) → named orders (order_name how b) ≡ Some (how, b)
-named_order Little bits.Bits16 = refl
-named_order Big bits.Bits16 = refl
-named_order Swap bits.Bits16 = refl
-named_order _ _ = refl
-
-named_narrow : (b : ExtendedBits) → named narrows (narrow_name b) ≡ Some b
-named_narrow narrow.Bits8 = refl
-named_narrow _ = refl
-
-named_size : (signed : Bool) (s : AccessSize) → IsTrue (not (signed && is_double s)) → named sizes (size_name signed s) ≡ Some (signed, s)
-named_size true size.Double h = absurd (false≢true h)
-named_size false size.Byte h = refl
-named_size _ _ h = refl
 
 size_of_access : (z : AtomicSize) → atomic_size_of false (access_size z) ≡ Some z
 size_of_access atomic_size.Word = refl
@@ -119,7 +104,7 @@ destination_read target.Label n none = rw (signed_name n []) refl
 
 address_read : (signed : Bool) (s : AccessSize) (base : ℕ) (offset : Number) (rest : TokenLayout) → IsTrue (not (signed && is_double s)) → base ≤ 10 → leading_address (tokens_of (address (size_name signed s) base offset rest)) ≡ Some (record { signed = signed; size = s; base = base; offset = offset }, tokens_of rest)
 unfolding leading_address after_symbol
-address_read signed s base offset rest listed fits = rw (named_size signed s listed, register_read true base (symbol (sign_name offset.negative) ∷ number offset.magnitude ∷ symbol (codes ")") ∷ tokens_of rest) fits, signed_read offset (symbol (codes ")") ∷ tokens_of rest)) refl
+address_read signed s base offset rest listed fits = rw (size_name_again signed s listed, register_read true base (symbol (sign_name offset.negative) ∷ number offset.magnitude ∷ symbol (codes ")") ∷ tokens_of rest) fits, signed_read offset (symbol (codes ")") ∷ tokens_of rest)) refl
 
 -- ---- forms
 
@@ -144,7 +129,7 @@ atomic_read z op dst src offset dst_fits src_fits =
 
 movsx_read : (wide : Bool) (b : ExtendedBits) (dst src : ℕ) → src ≤ 10 → IsTrue (wide || is_short b) → parsed_special_move wide dst (symbol (codes "(") ∷ name (narrow_name b) ∷ symbol (codes ")") ∷ name (register_name wide src) ∷ []) ≡ Some (form.Movsx wide b dst src)
 unfolding parsed_special_move parsed_movsx after_symbol
-movsx_read wide b dst src fits listed = rw (named_narrow b, register_read wide src [] fits, listed) refl
+movsx_read wide b dst src fits listed = rw (narrow_name_again b, register_read wide src [] fits, listed) refl
 
 neg_read : (wide : Bool) (dst : ℕ) → dst ≤ 10 → parsed_special_move wide dst (symbol (codes "-") ∷ name (register_name wide dst) ∷ []) ≡ Some (form.Neg wide dst)
 unfolding parsed_special_move parsed_neg after_symbol
@@ -159,7 +144,7 @@ order_apart _ _ = (refl, refl, refl)
 
 end_read : (how : ByteOrder) (b : KeptBits) (dst : ℕ) → dst ≤ 10 → parsed_special_move true dst (name (order_name how b) ∷ name (register_name true dst) ∷ []) ≡ Some (form.End how b dst)
 unfolding parsed_special_move parsed_wide_move parsed_end after_symbol after_word
-end_read how b dst fits = let (_, no_fd, no_value) = order_apart how b in rw (no_fd, no_value, named_order how b, register_read true dst [] fits, eq-eqb dst dst refl) refl
+end_read how b dst fits = let (_, no_fd, no_value) = order_apart how b in rw (no_fd, no_value, order_name_again how b, register_read true dst [] fits, eq-eqb dst dst refl) refl
 
 const_read : (dst : ℕ) (v : Option ℕ) → parsed_special_move true dst (number v ∷ name (codes "ll") ∷ []) ≡ Some (form.Const dst v)
 unfolding parsed_special_move parsed_wide_move parsed_end parsed_constant_load after_symbol after_word
@@ -175,9 +160,9 @@ map_value_read dst n v = rw (constant_read n (space ∷ sign (codes "+") ∷ spa
 
 -- ---- what is assigned
 
-alu_read : (wide : Bool) (op : AluOp) (dst : ℕ) (src : SourceOperand) → IsSource src → parsed_assignment wide dst (symbol (operator_name op) ∷ tokens_of (operand_layout wide src [])) ≡ Some (form.Alu wide op dst src)
+alu_read : (wide : Bool) (op : AluOp) (dst : ℕ) (src : SourceOperand) → IsSource src → parsed_assignment wide dst (symbol (alu_symbol op) ∷ tokens_of (operand_layout wide src [])) ≡ Some (form.Alu wide op dst src)
 unfolding parsed_assignment parsed_alu
-alu_read wide op dst src s = rw (named_operator op, operand_read wide src [] s) refl
+alu_read wide op dst src s = rw (alu_symbol_again op, operand_read wide src [] s) refl
 
 assign_move : (wide : Bool) (dst : ℕ) (ts : List Token) {f : Form} → parsed_alu wide Mov dst ts ≡ None → parsed_special_move wide dst ts ≡ Some f → parsed_assignment wide dst (symbol (codes "=") ∷ ts) ≡ Some f
 unfolding parsed_assignment
@@ -201,9 +186,9 @@ no_alu_const wide op dst v = refl
 
 -- ---- whole lines
 
-operator_no_colon : (op : AluOp) → bytes_eq (operator_name op) (codes ":") ≡ false
-operator_no_colon Add = refl
-operator_no_colon _ = refl
+alu_no_colon : (op : AluOp) → bytes_eq (alu_symbol op) (codes ":") ≡ false
+alu_no_colon Add = refl
+alu_no_colon _ = refl
 
 no_label_constant : (w : List ℕ) (n : Number) → parsed_label (name w ∷ tokens_of (constant n [])) ≡ None
 unfolding parsed_label after_symbol
@@ -233,7 +218,7 @@ line_from_move wide r ts fits none alu e = line_from_register wide r (codes "=")
 
 code_read : (f : Form) (n : List ℕ) → IsForm f → NoLabel (names_label f) n → line_of (tokens_of (layout f n)) ≡ Some (code f n)
 unfolding line_of parsed_label parsed_form parsed_assigned parsed_goto parsed_gotol parsed_call after_symbol after_word
-code_read (form.Alu wide op dst src) n fits none = line_from_register wide dst (operator_name op) (tokens_of (operand_layout wide src [])) fits.0 (operator_no_colon op) none (alu_read wide op dst src fits.1)
+code_read (form.Alu wide op dst src) n fits none = line_from_register wide dst (alu_symbol op) (tokens_of (operand_layout wide src [])) fits.0 (alu_no_colon op) none (alu_read wide op dst src fits.1)
 code_read (form.Movsx wide b dst src) n fits none =
     let ts : List Token = name (narrow_name b) ∷ symbol (codes ")") ∷ name (register_name wide src) ∷ [] in
     line_from_move wide dst (symbol (codes "(") ∷ ts) fits.0 none (no_alu_symbol wide Mov dst (codes "(") ts refl) (movsx_read wide b dst src fits.1 fits.2)

@@ -1,6 +1,9 @@
 -- The forms of a line: the table of the grammar, for reading and for printing. It is this project's own.
 use Rattle.std.specs.Prelude.{ℕ, ◌≤◌, Bool, true, false, ◌&&◌, ◌||◌, not, IsTrue, List, [], ◌∷◌, codes, Option, Some, None}
 use Rattle.insn_set.specs.Sizes.{is_short}
+use Rattle.insn_set.specs.Operator.{alu_symbol}
+use Rattle.insn_set.specs.Conversion.{order_name, narrow_name}
+use Rattle.insn_set.specs.Load.{size_name}
 use Rattle.insn_set.specs.Condition.{condition_symbol}
 use Rattle.insn_set.specs.Atomic.{access_size, atomic_symbol}
 use Rattle.words.specs.Stack.{is_double}
@@ -12,7 +15,7 @@ use Rattle.text_line.specs.declared.form.JumpTarget.TheVariants as target
 use Rattle.text_line.specs.declared.form.Form.{Form}
 use Rattle.text_line.specs.declared.form.Form.TheVariants.{Alu, Movsx, Neg, End, Ja, Jal, Jump, Call, Exit, Load, Store, Atomic, Const, MapFd, MapValue}
 use Rattle.text_line.specs.Token.{Token, name, number, symbol}
-use Rattle.text_line.specs.Names.{operator_name, order_name, narrow_name, size_name, register_name, sign_name}
+use Rattle.text_line.specs.Names.{register_name, sign_name}
 
 -- A line is laid out as tokens and single spaces (`None`). On reading, any blanks may stand between tokens.
 abbrev pub TokenLayout : Type 0
@@ -56,7 +59,7 @@ address size base offset rest =
 
 -- the table: a line for each form, with the label that its jump names, if it names one
 abbrev pub layout : Form → List ℕ → TokenLayout
-layout (Alu wide op dst src) label = reg wide dst ∷ space ∷ sign (operator_name op) ∷ space ∷ operand_layout wide src []
+layout (Alu wide op dst src) label = reg wide dst ∷ space ∷ sign (alu_symbol op) ∷ space ∷ operand_layout wide src []
 layout (Movsx wide bits dst src) label = reg wide dst ∷ space ∷ sign (codes "=") ∷ space ∷ sign (codes "(") ∷ word (narrow_name bits) ∷ sign (codes ")") ∷ reg wide src ∷ []
 layout (Neg wide dst) label = reg wide dst ∷ space ∷ sign (codes "=") ∷ space ∷ sign (codes "-") ∷ reg wide dst ∷ []
 layout (End how bits dst) label = reg true dst ∷ space ∷ sign (codes "=") ∷ space ∷ word (order_name how bits) ∷ space ∷ reg true dst ∷ []

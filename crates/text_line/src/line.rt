@@ -6,13 +6,16 @@ ghost use Rattle.text_line.specs.Shown.{seen_line};
 ghost use Rattle.text_line.specs.inside.Reading.{parsed_jump, parsed_load, parsed_store, parsed_atomic, parsed_movsx, parsed_neg, parsed_end, parsed_constant_load, parsed_map_fd, parsed_map_value, parsed_wide_move, parsed_special_move, is_move, parsed_alu, parsed_assignment, parsed_assigned, parsed_goto, parsed_gotol, parsed_call, parsed_form, parsed_label, line_of, seen_destination};
 
 use crate::form::{Form, Line};
-use crate::names::{atomic_size, byte_order, narrow, operator, register_named};
+use crate::names::{atomic_size, register_named};
 use crate::parts::{
     address, after_symbol, after_word, at_end, constant, destination, ended, name, number, operand,
     register, symbol,
 };
 use crate::token::Token;
-use insn_set::{AluOp, AtomicOp, ExtendedBits, Reg, condition_by_symbol};
+use insn_set::{
+    AluOp, AtomicOp, ExtendedBits, Reg, alu_by_symbol, condition_by_symbol, narrow_by_name,
+    order_by_name,
+};
 
 /// A conditional jump, after `if`.
 #[tactic(auto, unfolding(crate::specs::inside::Reading::parsed_jump))]
@@ -118,7 +121,7 @@ fn movsx(wide: bool, dst: Reg, tokens: &[Token<'_>]) -> Option<Form>
     ensures { result ≡ parsed_movsx wide dst (shown_tokens tokens.now) }
 {
     let (name, rest) = name(tokens)?;
-    let bits = narrow(name)?;
+    let bits = narrow_by_name(name)?;
     let rest = after_symbol(rest, ")")?;
     let Some((src, rest)) = register(wide, rest) else {
         return None;
@@ -157,7 +160,7 @@ fn end(dst: Reg, tokens: &[Token<'_>]) -> Option<Form>
     ensures { result ≡ parsed_end dst (shown_tokens tokens.now) }
 {
     let (name, rest) = name(tokens)?;
-    let (how, bits) = byte_order(name)?;
+    let (how, bits) = order_by_name(name)?;
     let Some((again, rest)) = register(true, rest) else {
         return None;
     };
@@ -256,7 +259,7 @@ fn assignment(wide: bool, dst: Reg, tokens: &[Token<'_>]) -> Option<Form>
     ensures { result ≡ parsed_assignment wide dst (shown_tokens tokens.now) }
 {
     let (symbol, rest) = symbol(tokens)?;
-    let op = operator(symbol)?;
+    let op = alu_by_symbol(symbol)?;
     if let Some(form) = alu(wide, op, dst, rest) {
         return Some(form);
     }

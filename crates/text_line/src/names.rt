@@ -1,95 +1,10 @@
 //! The meanings of names and symbols.
 
 ghost use Rattle.std.specs.Prelude.{◌≡◌};
-ghost use Rattle.text_line.specs.inside.Reading.{rows, named, operators, orders, narrows, sizes, atomic_size_of, registers};
+ghost use Rattle.insn_set.specs.Table.{named};
+ghost use Rattle.text_line.specs.inside.Reading.{atomic_size_of, registers};
 
-use insn_set::{AccessSize, AluOp, AtomicSize, ByteOrder, ExtendedBits, KeptBits, Reg};
-
-/// The value of the first row with this name.
-fn named<T: Copy>(table: &[(&str, T)], name: &str) -> Option<T>
-    ensures { result ≡ named (rows table.now) name.now }
-{
-    for row in table {
-        if name == row.0 {
-            return Some(row.1);
-        }
-    }
-    None
-}
-
-pub(crate) fn operator(symbol: &str) -> Option<AluOp>
-    ensures { result ≡ named operators symbol.now }
-{
-    named(
-        &[
-            ("+=", AluOp::Add),
-            ("-=", AluOp::Sub),
-            ("*=", AluOp::Mul),
-            ("/=", AluOp::Div),
-            ("s/=", AluOp::SignedDiv),
-            ("|=", AluOp::Or),
-            ("&=", AluOp::And),
-            ("<<=", AluOp::ShiftLeft),
-            (">>=", AluOp::ShiftRight),
-            ("%=", AluOp::Mod),
-            ("s%=", AluOp::SignedMod),
-            ("^=", AluOp::Xor),
-            ("=", AluOp::Mov),
-            ("s>>=", AluOp::SignedShiftRight),
-        ],
-        symbol,
-    )
-}
-
-pub(crate) fn byte_order(name: &str) -> Option<(ByteOrder, KeptBits)>
-    ensures { result ≡ named orders name.now }
-{
-    named(
-        &[
-            ("le16", (ByteOrder::Little, KeptBits::Bits16)),
-            ("le32", (ByteOrder::Little, KeptBits::Bits32)),
-            ("le64", (ByteOrder::Little, KeptBits::Bits64)),
-            ("be16", (ByteOrder::Big, KeptBits::Bits16)),
-            ("be32", (ByteOrder::Big, KeptBits::Bits32)),
-            ("be64", (ByteOrder::Big, KeptBits::Bits64)),
-            ("bswap16", (ByteOrder::Swap, KeptBits::Bits16)),
-            ("bswap32", (ByteOrder::Swap, KeptBits::Bits32)),
-            ("bswap64", (ByteOrder::Swap, KeptBits::Bits64)),
-        ],
-        name,
-    )
-}
-
-pub(crate) fn narrow(name: &str) -> Option<ExtendedBits>
-    ensures { result ≡ named narrows name.now }
-{
-    named(
-        &[
-            ("s8", ExtendedBits::Bits8),
-            ("s16", ExtendedBits::Bits16),
-            ("s32", ExtendedBits::Bits32),
-        ],
-        name,
-    )
-}
-
-/// Whether the size is signed, and the size.
-pub(crate) fn size(name: &str) -> Option<(bool, AccessSize)>
-    ensures { result ≡ named sizes name.now }
-{
-    named(
-        &[
-            ("u8", (false, AccessSize::Byte)),
-            ("u16", (false, AccessSize::Half)),
-            ("u32", (false, AccessSize::Word)),
-            ("u64", (false, AccessSize::Double)),
-            ("s8", (true, AccessSize::Byte)),
-            ("s16", (true, AccessSize::Half)),
-            ("s32", (true, AccessSize::Word)),
-        ],
-        name,
-    )
-}
+use insn_set::{AccessSize, AtomicSize, Reg, named};
 
 /// The size of an atomic operation whose memory operand has this size; `None` if it is signed or below 4 bytes (RFC 9669,
 /// section 5.3).

@@ -5,9 +5,9 @@ ghost use Rattle.text_line.specs.inside.Shown.{shown_tokens};
 ghost use Rattle.text_line.specs.inside.Reading.{leading_symbol, leading_name, leading_number, after_symbol, after_word, leading_register, number_from, leading_constant, leading_signed_number, leading_operand, parsed_destination, leading_address, is_ended, at_end, seen, seen_pair, seen_label, seen_destination};
 
 use crate::form::{Address, JumpTarget, Number, SourceOperand};
-use crate::names::{register_named, size};
+use crate::names::register_named;
 use crate::token::Token;
-use insn_set::Reg;
+use insn_set::{Reg, size_by_name};
 
 // ---- one token, and the tokens after it
 
@@ -170,7 +170,7 @@ pub(crate) fn address<'t, 'a>(tokens: &'t [Token<'a>]) -> Option<(Address, &'t [
     let rest = after_symbol(tokens, "*")?;
     let rest = after_symbol(rest, "(")?;
     let (name, rest) = name(rest)?;
-    let (signed_size, size) = size(name)?;
+    let (signed_size, size) = size_by_name(name)?;
     let rest = after_symbol(rest, "*")?;
     let rest = after_symbol(rest, ")")?;
     let rest = after_symbol(rest, "(")?;

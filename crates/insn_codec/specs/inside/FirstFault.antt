@@ -1,33 +1,22 @@
 -- The fault at the front of bytes, in the order in which the code looks for it. That it is the fault of the grammar (`HasFault`) is
 -- proved. The fields are those of RFC 9669, sections 3 to 5; the order is this project's own.
-use Rattle.std.specs.Prelude.{ℕ, Bool, true, ◌&&◌, List, length, drop, Option, Some, None, nat_lt, nat_le, ◌==◌, if◌then◌else◌}
+use Rattle.std.specs.Prelude.{ℕ, Bool, ◌&&◌, ◌||◌, not, List, length, drop, Option, Some, None, nat_lt, nat_le, ◌==◌, if◌then◌else◌}
 use Rattle.insn_set.specs.declared.slot.SlotFields.{SlotFields}
 use Rattle.insn_codec.specs.declared.form.OpcodeForm.{OpcodeForm}
 use Rattle.insn_codec.specs.declared.form.OpcodeForm.TheVariants as form
 use Rattle.insn_codec.specs.declared.fault.FaultKind.{FaultKind}
 use Rattle.insn_codec.specs.declared.fault.FaultKind.TheVariants.{Opcode, Reserved, Register, SecondSlot, Ragged}
-use Rattle.insn_codec.specs.declared.opcode.WideKind.{WideKind}
-use Rattle.insn_codec.specs.declared.opcode.WideKind.TheVariants.{Number, Map, MapValue}
 use Rattle.insn_set.specs.Slot.{slot_of}
-use Rattle.insn_codec.specs.inside.Form.{form_at, listed, wide_at}
+use Rattle.insn_codec.specs.inside.Form.{form_at, listed}
 
 -- ---- the second slot of a wide instruction: RFC 9669, sections 3.2 and 5.4
 
--- the immediate of the second slot is zero if the load does not use it
-abbrev pub next_listed : WideKind → ℕ → Bool
-next_listed Number imm = true
-next_listed Map imm = imm == 0
-next_listed MapValue imm = true
-
-abbrev pub is_second : WideKind → SlotFields → Bool
-is_second kind next = next.opcode == 0 && next.dst == 0 && next.src == 0 && next.offset == 0 && next_listed kind next.imm
-
-abbrev pub next_fault : Option WideKind → SlotFields → Option FaultKind
-next_fault None next = None
-next_fault (Some kind) next = if is_second kind next then None else Some SecondSlot
+-- all fields are zero, except for a number that a load with this source field uses
+abbrev pub is_second : ℕ → SlotFields → Bool
+is_second src next = next.opcode == 0 && next.dst == 0 && next.src == 0 && next.offset == 0 && (not (src == 1) || next.imm == 0)
 
 abbrev pub second_fault : OpcodeForm → ℕ → List ℕ → Option FaultKind
-second_fault form.Wide src rest = if nat_lt (length rest) 8 then Some SecondSlot else next_fault (wide_at src) (slot_of rest)
+second_fault form.Wide src rest = if nat_lt (length rest) 8 then Some SecondSlot else (if is_second src (slot_of rest) then None else Some SecondSlot)
 second_fault _ src rest = None
 
 -- ---- the first slot

@@ -1,6 +1,12 @@
 -- The form of each opcode, and the values that its fields may have: RFC 9669, sections 4 and 5.
-use Rattle.std.specs.Prelude.{ℕ, ◌/◌, ◌%◌, Bool, true, false, ◌&&◌, ◌||◌, Option, Some, None, is_some, nat_le, ◌==◌, if◌then◌else◌, option_and_then}
+use Rattle.std.specs.Prelude.{ℕ, ◌/◌, ◌%◌, Bool, true, false, ◌&&◌, ◌||◌, Option, Some, None, is_some, nat_le, not, ◌==◌, if◌then◌else◌, option_and_then}
 use Rattle.insn_set.specs.declared.slot.SlotFields.{SlotFields}
+use Rattle.words.specs.declared.operator.AluOp.{AluOp}
+use Rattle.words.specs.declared.operator.AluOp.TheVariants.{Div, Mod, Mov}
+use Rattle.words.specs.Stack.{is_double}
+use Rattle.insn_set.specs.Operator.{alu_offset}
+use Rattle.insn_set.specs.OperatorRows.{alu_by_number}
+use Rattle.insn_set.specs.LoadRows.{load_by_opcode}
 use Rattle.words.specs.declared.operator.ByteOrder.TheVariants.{Little, Big, Swap}
 use Rattle.words.specs.declared.stack.AccessSize.{AccessSize}
 use Rattle.words.specs.declared.stack.AccessSize.TheVariants as size
@@ -9,29 +15,14 @@ use Rattle.insn_set.specs.ConditionRows.{condition_by_number}
 use Rattle.insn_set.specs.AtomicRows.{atomic_by_number}
 use Rattle.insn_codec.specs.declared.opcode.SourceBit.{SourceBit}
 use Rattle.insn_codec.specs.declared.opcode.SourceBit.TheVariants.{Imm, Reg}
-use Rattle.insn_codec.specs.declared.opcode.AluCode.{AluCode}
-use Rattle.insn_codec.specs.declared.opcode.AluCode.TheVariants.{Add, Sub, Mul, Div, Or, And, ShiftLeft, ShiftRight, Mod, Xor, Mov, SignedShiftRight}
-use Rattle.insn_codec.specs.declared.opcode.LoadKind.TheVariants.{Word, Half, Byte, Double, SignedWord, SignedHalf, SignedByte}
-use Rattle.insn_codec.specs.declared.opcode.WideKind.{WideKind}
-use Rattle.insn_codec.specs.declared.opcode.WideKind.TheVariants.{Number, Map, MapValue}
 use Rattle.insn_codec.specs.declared.form.OpcodeForm.{OpcodeForm}
 use Rattle.insn_codec.specs.declared.form.OpcodeForm.TheVariants as form
 
--- section 4.1: the operation of a code, the high four bits of an opcode
-abbrev pub alu_code_at : ℕ → Option AluCode
-alu_code_at code =
-    if code == 0 then Some Add else
-    (if code == 1 then Some Sub else
-    (if code == 2 then Some Mul else
-    (if code == 3 then Some Div else
-    (if code == 4 then Some Or else
-    (if code == 5 then Some And else
-    (if code == 6 then Some ShiftLeft else
-    (if code == 7 then Some ShiftRight else
-    (if code == 9 then Some Mod else
-    (if code == 10 then Some Xor else
-    (if code == 11 then Some Mov else
-    (if code == 12 then Some SignedShiftRight else None)))))))))))
+-- the forms that an opcode has: of two operators with one opcode the unsigned one is named, and a double word has no sign extension
+abbrev pub is_form : OpcodeForm → Bool
+is_form (form.Alu wide op source) = alu_offset op == 0
+is_form (form.Load size signed) = not (signed && is_double size)
+is_form _ = true
 
 -- section 5
 abbrev pub size_at : ℕ → AccessSize
@@ -52,7 +43,7 @@ abbrev pub alu_at : Bool → SourceBit → ℕ → Option OpcodeForm
 alu_at wide source code =
     if code == 8 then neg_at wide source else
     (if code == 13 then end_at wide source else
-    option_and_then (λ c. Some (form.Alu wide c source)) (alu_code_at code))
+    option_and_then (λ op. Some (form.Alu wide op source)) (alu_by_number code))
 
 -- section 4.3
 abbrev pub jump_by_condition : Bool → SourceBit → ℕ → Option OpcodeForm
@@ -68,14 +59,7 @@ jump_at false Imm code = if code == 0 then Some form.Jal else jump_by_condition 
 
 -- sections 5.1 and 5.2
 abbrev pub load_at : ℕ → Option OpcodeForm
-load_at opcode =
-    if opcode == 0x61 then Some (form.Load Word) else
-    (if opcode == 0x69 then Some (form.Load Half) else
-    (if opcode == 0x71 then Some (form.Load Byte) else
-    (if opcode == 0x79 then Some (form.Load Double) else
-    (if opcode == 0x81 then Some (form.Load SignedWord) else
-    (if opcode == 0x89 then Some (form.Load SignedHalf) else
-    (if opcode == 0x91 then Some (form.Load SignedByte) else None))))))
+load_at opcode = option_and_then (λ l. Some (form.Load l.1 l.0)) (load_by_opcode opcode)
 
 -- section 5.1
 abbrev pub store_at : ℕ → SourceBit → Option OpcodeForm
@@ -103,25 +87,21 @@ form_at opcode =
     (if opcode % 8 == 6 then jump_at false (source_at opcode) (opcode / 16) else
     alu_at true (source_at opcode) (opcode / 16)))))))
 
--- section 5.4: the meaning of a wide load's immediates, by its source field
-abbrev pub wide_at : ℕ → Option WideKind
-wide_at src = if src == 0 then Some Number else (if src == 1 then Some Map else (if src == 2 then Some MapValue else None))
-
 -- section 4: the unused operand field is zero
 abbrev pub one_operand : SourceBit → SlotFields → Bool
 one_operand Imm s = s.src == 0
 one_operand Reg s = s.imm == 0
 
--- section 4.1: the offsets that an operation allows
-abbrev pub offset_listed : Bool → AluCode → SourceBit → ℕ → Bool
+-- section 4.1: the offsets that an operator allows, if it is not a signed one
+abbrev pub offset_listed : Bool → AluOp → SourceBit → ℕ → Bool
 offset_listed wide Div source offset = nat_le offset 1
 offset_listed wide Mod source offset = nat_le offset 1
 offset_listed wide Mov Reg offset = offset == 0 || offset == 8 || offset == 16 || (wide && offset == 32)
-offset_listed wide code source offset = offset == 0
+offset_listed wide op source offset = offset == 0
 
 -- each field has a value that the form allows; an unused field is zero (section 3.1)
 abbrev pub listed : OpcodeForm → SlotFields → Bool
-listed (form.Alu wide code source) s = one_operand source s && offset_listed wide code source s.offset
+listed (form.Alu wide op source) s = one_operand source s && offset_listed wide op source s.offset
 listed (form.Neg wide) s = s.src == 0 && s.offset == 0 && s.imm == 0
 listed (form.End how) s = s.src == 0 && s.offset == 0 && (s.imm == 16 || s.imm == 32 || s.imm == 64)
 listed form.Ja s = (s.dst == 0 && s.src == 0) && s.imm == 0
@@ -129,7 +109,7 @@ listed form.Jal s = (s.dst == 0 && s.src == 0) && s.offset == 0
 listed (form.Jump wide cond source) s = one_operand source s
 listed form.Call s = (s.dst == 0 && s.src == 0) && s.offset == 0
 listed form.Exit s = (s.dst == 0 && s.src == 0) && s.offset == 0 && s.imm == 0
-listed (form.Load kind) s = s.imm == 0
+listed (form.Load size signed) s = s.imm == 0
 listed (form.Store size source) s = one_operand source s
 listed (form.Atomic size) s = is_some (atomic_by_number s.imm)
-listed form.Wide s = s.offset == 0 && is_some (wide_at s.src)
+listed form.Wide s = s.offset == 0 && nat_le s.src 2

@@ -1,19 +1,16 @@
 -- How the tokens of a line are read, from the left. This project's own.
 use Rattle.std.specs.Prelude.{ℕ, ◌==◌, Bool, true, false, ◌||◌, List, [], ◌∷◌, codes, Option, Some, None, option_and_then, option_map, map, not, if◌then◌else◌}
 use Rattle.std.specs.Str.{bytes_eq}
-use Rattle.std.specs.Map.{lookup}
 use Rattle.words.specs.declared.operator.AluOp.{AluOp}
-use Rattle.words.specs.declared.operator.AluOp.TheVariants.{Add, Sub, Mul, Div, SignedDiv, Or, And, ShiftLeft, ShiftRight, Mod, SignedMod, Xor, Mov, SignedShiftRight}
-use Rattle.words.specs.declared.operator.ByteOrder.{ByteOrder}
-use Rattle.words.specs.declared.operator.ByteOrder.TheVariants.{Little, Big, Swap}
-use Rattle.words.specs.declared.operator.KeptBits.{KeptBits}
-use Rattle.words.specs.declared.operator.KeptBits.TheVariants as bits
-use Rattle.words.specs.declared.operator.ExtendedBits.{ExtendedBits}
-use Rattle.words.specs.declared.operator.ExtendedBits.TheVariants as narrow
+use Rattle.words.specs.declared.operator.AluOp.TheVariants.{Mov}
 use Rattle.words.specs.declared.stack.AccessSize.{AccessSize}
 use Rattle.words.specs.declared.stack.AccessSize.TheVariants as size
 use Rattle.insn_set.specs.declared.atomic.AtomicSize.{AtomicSize}
 use Rattle.insn_set.specs.declared.atomic.AtomicSize.TheVariants as atomic_size
+use Rattle.insn_set.specs.Table.{named}
+use Rattle.insn_set.specs.OperatorRows.{alu_by_symbol}
+use Rattle.insn_set.specs.ConversionRows.{order_by_name, narrow_by_name}
+use Rattle.insn_set.specs.LoadRows.{size_by_name}
 use Rattle.insn_set.specs.ConditionRows.{condition_by_symbol}
 use Rattle.insn_set.specs.AtomicRows.{atomic_by_symbol}
 use Rattle.text_line.specs.declared.form.Number.{Number}
@@ -58,32 +55,6 @@ abbrev pub seen_destination : {A : Type 0} → Option (A × Bor (List ℕ)) → 
 seen_destination o = option_map (λ p. (p.0, p.1.now)) o
 
 -- ---- the names
-
-abbrev pub named : {A : Type 0} → List (List ℕ × A) → List ℕ → Option A
-named table n = lookup (λ m. bytes_eq n m) table
-
--- the rows of a table of the code
-abbrev pub rows : {A : Type 0} → List (Bor (List ℕ) × A) → List (List ℕ × A)
-rows table = map (λ row. (row.0.now, row.1)) table
-
-abbrev pub operators : List (List ℕ × AluOp)
-operators =
-    (codes "+=", Add) ∷ (codes "-=", Sub) ∷ (codes "*=", Mul) ∷ (codes "/=", Div) ∷ (codes "s/=", SignedDiv) ∷ (codes "|=", Or) ∷ (codes "&=", And)
-    ∷ (codes "<<=", ShiftLeft) ∷ (codes ">>=", ShiftRight) ∷ (codes "%=", Mod) ∷ (codes "s%=", SignedMod) ∷ (codes "^=", Xor) ∷ (codes "=", Mov) ∷ (codes "s>>=", SignedShiftRight) ∷ []
-
-abbrev pub orders : List (List ℕ × (ByteOrder × KeptBits))
-orders =
-    (codes "le16", (Little, bits.Bits16)) ∷ (codes "le32", (Little, bits.Bits32)) ∷ (codes "le64", (Little, bits.Bits64))
-    ∷ (codes "be16", (Big, bits.Bits16)) ∷ (codes "be32", (Big, bits.Bits32)) ∷ (codes "be64", (Big, bits.Bits64))
-    ∷ (codes "bswap16", (Swap, bits.Bits16)) ∷ (codes "bswap32", (Swap, bits.Bits32)) ∷ (codes "bswap64", (Swap, bits.Bits64)) ∷ []
-
-abbrev pub narrows : List (List ℕ × ExtendedBits)
-narrows = (codes "s8", narrow.Bits8) ∷ (codes "s16", narrow.Bits16) ∷ (codes "s32", narrow.Bits32) ∷ []
-
-abbrev pub sizes : List (List ℕ × (Bool × AccessSize))
-sizes =
-    (codes "u8", (false, size.Byte)) ∷ (codes "u16", (false, size.Half)) ∷ (codes "u32", (false, size.Word)) ∷ (codes "u64", (false, size.Double))
-    ∷ (codes "s8", (true, size.Byte)) ∷ (codes "s16", (true, size.Half)) ∷ (codes "s32", (true, size.Word)) ∷ []
 
 abbrev pub registers : List (List ℕ × (Bool × ℕ))
 registers =
@@ -154,7 +125,7 @@ leading_address ts = do
   ts ← after_symbol (codes "*") ts
   ts ← after_symbol (codes "(") ts
   n ← leading_name ts
-  s ← named sizes n.0
+  s ← size_by_name n.0
   ts ← after_symbol (codes "*") n.1
   ts ← after_symbol (codes ")") ts
   ts ← after_symbol (codes "(") ts
@@ -207,7 +178,7 @@ parsed_atomic ts = do
 unfoldable pub parsed_movsx : Bool → ℕ → List Token → Option Form
 parsed_movsx wide dst ts = do
   n ← leading_name ts
-  b ← named narrows n.0
+  b ← narrow_by_name n.0
   ts ← after_symbol (codes ")") n.1
   src ← leading_register wide ts
   if wide || is_short b then at_end (form.Movsx wide b dst src.0) src.1 else None
@@ -219,7 +190,7 @@ parsed_neg wide dst ts = leading_register wide ts >>= λ r. if r.0 == dst then a
 unfoldable pub parsed_end : ℕ → List Token → Option Form
 parsed_end dst ts = do
   n ← leading_name ts
-  o ← named orders n.0
+  o ← order_by_name n.0
   r ← leading_register true n.1
   if r.0 == dst then at_end (form.End o.0 o.1 dst) r.1 else None
 
@@ -273,7 +244,7 @@ parsed_alu wide op dst ts = leading_operand wide ts >>= λ src. at_end (form.Alu
 unfoldable pub parsed_assignment : Bool → ℕ → List Token → Option Form
 parsed_assignment wide dst ts = do
   s ← leading_symbol ts
-  op ← named operators s.0
+  op ← alu_by_symbol s.0
   match_option (parsed_alu wide op dst s.1) (if is_move op then parsed_special_move wide dst s.1 else None) (λ f. Some f)
 
 abbrev pub without_label : Option Form → Option (Form × List ℕ)

@@ -1,0 +1,22 @@
+-- The byte-order conversion with a name, and the sign extension with a name, by the tables of the code; they undo `order_name` and
+-- `narrow_name`. This project's own.
+use Rattle.std.specs.Prelude.{ℕ, List, Option, map}
+use Rattle.words.specs.declared.operator.ByteOrder.{ByteOrder}
+use Rattle.words.specs.declared.operator.KeptBits.{KeptBits}
+use Rattle.words.specs.declared.operator.ExtendedBits.{ExtendedBits}
+use Rattle.insn_set.specs.declared.conversion.TheConstants.{ORDERS, EXTENSIONS}
+use Rattle.insn_set.specs.Table.{named}
+
+-- each name and its byte-order conversion
+abbrev pub orders : List (List ℕ × (ByteOrder × KeptBits))
+orders = map (λ row. (row.0.now, row.1)) ORDERS
+
+abbrev pub order_by_name : List ℕ → Option (ByteOrder × KeptBits)
+order_by_name n = named orders n
+
+-- each name and its sign extension
+abbrev pub extensions : List (List ℕ × ExtendedBits)
+extensions = map (λ row. (row.0.now, row.1)) EXTENSIONS
+
+abbrev pub narrow_by_name : List ℕ → Option ExtendedBits
+narrow_by_name n = named extensions n

@@ -1,0 +1,58 @@
+//! The names of byte-order conversions (RFC 9669, section 4.2) and of sign extensions (section 4.1): a row for each.
+
+ghost use Rattle.std.specs.Prelude.{◌≡◌, IfSome};
+ghost use Rattle.insn_set.specs.Conversion.{order_name, narrow_name};
+ghost use Rattle.insn_set.specs.ConversionRows.{order_by_name, narrow_by_name};
+
+use crate::table::named;
+use words::{ByteOrder, ExtendedBits, KeptBits};
+
+/// The name that a line of text has for each byte-order conversion, in the order of the two enums.
+const ORDERS: [(&str, (ByteOrder, KeptBits)); 9] = [
+    ("le16", (ByteOrder::Little, KeptBits::Bits16)),
+    ("le32", (ByteOrder::Little, KeptBits::Bits32)),
+    ("le64", (ByteOrder::Little, KeptBits::Bits64)),
+    ("be16", (ByteOrder::Big, KeptBits::Bits16)),
+    ("be32", (ByteOrder::Big, KeptBits::Bits32)),
+    ("be64", (ByteOrder::Big, KeptBits::Bits64)),
+    ("bswap16", (ByteOrder::Swap, KeptBits::Bits16)),
+    ("bswap32", (ByteOrder::Swap, KeptBits::Bits32)),
+    ("bswap64", (ByteOrder::Swap, KeptBits::Bits64)),
+];
+
+/// The name that a line of text has for each sign extension, in the order of the enum.
+const EXTENSIONS: [(&str, ExtendedBits); 3] = [
+    ("s8", ExtendedBits::Bits8),
+    ("s16", ExtendedBits::Bits16),
+    ("s32", ExtendedBits::Bits32),
+];
+
+/// The name of a byte-order conversion in a line of text.
+pub fn order_name(how: ByteOrder, bits: KeptBits) -> &'static str
+    ensures { result.now ≡ order_name how bits }
+{
+    ORDERS[3 * (how as usize) + bits as usize].0
+}
+
+/// The byte-order conversion with this name, if there is one.
+pub fn order_by_name(name: &str) -> Option<(ByteOrder, KeptBits)>
+    ensures value { result ≡ order_by_name name.now }
+    ensures inverse { IfSome result (λ o. order_name o.0 o.1 ≡ name.now) }
+{
+    named(&ORDERS, name)
+}
+
+/// The name of a sign extension in a line of text.
+pub fn narrow_name(bits: ExtendedBits) -> &'static str
+    ensures { result.now ≡ narrow_name bits }
+{
+    EXTENSIONS[bits as usize].0
+}
+
+/// The sign extension with this name, if there is one.
+pub fn narrow_by_name(name: &str) -> Option<ExtendedBits>
+    ensures value { result ≡ narrow_by_name name.now }
+    ensures inverse { IfSome result (λ b. narrow_name b ≡ name.now) }
+{
+    named(&EXTENSIONS, name)
+}

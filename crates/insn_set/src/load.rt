@@ -1,0 +1,54 @@
+//! The loads from memory (RFC 9669, sections 5.1 and 5.2): a row for each, with its opcode and the name of its size.
+
+ghost use Rattle.std.specs.Prelude.{◌≡◌, IfSome, IsTrue, not, ◌&&◌};
+ghost use Rattle.words.specs.Stack.{is_double};
+ghost use Rattle.insn_set.specs.Load.{load_opcode, size_name};
+ghost use Rattle.insn_set.specs.LoadRows.{load_by_opcode, size_by_name};
+
+use crate::table::{by_number, by_symbol};
+use words::AccessSize;
+
+/// The size of each load, and whether it extends the sign; its opcode (RFC 9669, sections 5.1 and 5.2); and the name that a line of
+/// text has for its size. A double word has no sign extension.
+const LOADS: [((bool, AccessSize), u32, &str); 7] = [
+    ((false, AccessSize::Byte), 0x71, "u8"),
+    ((false, AccessSize::Half), 0x69, "u16"),
+    ((false, AccessSize::Word), 0x61, "u32"),
+    ((false, AccessSize::Double), 0x79, "u64"),
+    ((true, AccessSize::Byte), 0x91, "s8"),
+    ((true, AccessSize::Half), 0x89, "s16"),
+    ((true, AccessSize::Word), 0x81, "s32"),
+];
+
+/// Whether the load with this opcode extends the sign, and its size, if there is one.
+pub fn load_by_opcode(opcode: u8) -> Option<(bool, AccessSize)>
+    ensures value { result ≡ load_by_opcode opcode }
+    ensures inverse { IfSome result (λ l. load_opcode l.0 l.1 ≡ opcode) }
+    ensures listed { IfSome result (λ l. IsTrue (not (l.0 && is_double l.1))) }
+{
+    by_number(&LOADS, u32::from(opcode))
+}
+
+/// Whether the size with this name is signed, and the size, if there is one.
+pub fn size_by_name(name: &str) -> Option<(bool, AccessSize)>
+    ensures value { result ≡ size_by_name name.now }
+    ensures inverse { IfSome result (λ l. size_name l.0 l.1 ≡ name.now) }
+{
+    by_symbol(&LOADS, name)
+}
+
+/// The name of a size in a line of text: of an access that extends the sign, or of another.
+pub fn size_name(signed: bool, size: AccessSize) -> &'static str
+    ensures { result.now ≡ size_name signed size }
+{
+    match (signed, size) {
+        (false, AccessSize::Byte) => "u8",
+        (false, AccessSize::Half) => "u16",
+        (false, AccessSize::Word) => "u32",
+        (false, AccessSize::Double) => "u64",
+        (true, AccessSize::Byte) => "s8",
+        (true, AccessSize::Half) => "s16",
+        (true, AccessSize::Word) => "s32",
+        (true, AccessSize::Double) => "s64",
+    }
+}

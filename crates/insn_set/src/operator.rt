@@ -1,0 +1,69 @@
+//! The operators with two operands (RFC 9669, section 4.1): a row for each, with its code and its symbol.
+
+ghost use Rattle.std.specs.Prelude.{◌≡◌, ◌≤◌, IfSome};
+ghost use Rattle.insn_set.specs.Operator.{alu_number, alu_offset, alu_symbol};
+ghost use Rattle.insn_set.specs.OperatorRows.{alu_by_number, alu_by_symbol};
+
+use crate::table::{by_number, by_symbol};
+use words::AluOp;
+
+/// Each operator in the order of its variants, its code (RFC 9669, section 4.1), and the symbol that a line of text has for it. Where
+/// two share a code, the unsigned one stands first: the offset distinguishes them.
+const OPERATORS: [(AluOp, u32, &str); 14] = [
+    (AluOp::Add, 0, "+="),
+    (AluOp::Sub, 1, "-="),
+    (AluOp::Mul, 2, "*="),
+    (AluOp::Div, 3, "/="),
+    (AluOp::SignedDiv, 3, "s/="),
+    (AluOp::Or, 4, "|="),
+    (AluOp::And, 5, "&="),
+    (AluOp::ShiftLeft, 6, "<<="),
+    (AluOp::ShiftRight, 7, ">>="),
+    (AluOp::Mod, 9, "%="),
+    (AluOp::SignedMod, 9, "s%="),
+    (AluOp::Xor, 10, "^="),
+    (AluOp::Mov, 11, "="),
+    (AluOp::SignedShiftRight, 12, "s>>="),
+];
+
+/// The code of an operator.
+pub fn alu_number(op: AluOp) -> u8
+    ensures value { result ≡ alu_number op }
+    ensures bound { result ≤ 12 }
+{
+    OPERATORS[op as usize].1 as u8
+}
+
+/// The offset of an operator: 1 for signed division and remainder, else 0.
+pub fn alu_offset(op: AluOp) -> u16
+    ensures { result ≡ alu_offset op }
+{
+    match op {
+        AluOp::SignedDiv | AluOp::SignedMod => 1,
+        _ => 0,
+    }
+}
+
+/// The operator with this code and offset 0, if there is one.
+pub fn alu_by_number(number: u8) -> Option<AluOp>
+    ensures value { result ≡ alu_by_number number }
+    ensures inverse { IfSome result (λ op. alu_number op ≡ number) }
+    ensures unsigned { IfSome result (λ op. alu_offset op ≡ 0) }
+{
+    by_number(&OPERATORS, u32::from(number))
+}
+
+/// The symbol of an operator in a line of text.
+pub fn alu_symbol(op: AluOp) -> &'static str
+    ensures { result.now ≡ alu_symbol op }
+{
+    OPERATORS[op as usize].2
+}
+
+/// The operator with this symbol, if there is one.
+pub fn alu_by_symbol(symbol: &str) -> Option<AluOp>
+    ensures value { result ≡ alu_by_symbol symbol.now }
+    ensures inverse { IfSome result (λ op. alu_symbol op ≡ symbol.now) }
+{
+    by_symbol(&OPERATORS, symbol)
+}

@@ -1,5 +1,5 @@
 -- The fields of a slot and its eight bytes.
-use Rattle.std.proofs.Common.{◌≡◌, ℕ, ◌+◌, ◌*◌, ◌/◌, ◌%◌, ◌^◌, ◌<◌, ◌≤◌, List, [], ◌∷◌, ◌++◌, length, get_or, take, drop, Option, refl, sym, ap, ◌∙◌, append_assoc, arith, inl, inr}
+use Rattle.std.proofs.Common.{◌≡◌, ℕ, ◌+◌, ◌*◌, ◌/◌, ◌%◌, ◌^◌, ◌<◌, ◌≤◌, List, [], ◌∷◌, ◌++◌, length, get_or, take, drop, map, Option, Some, None, refl, sym, ap, ◌∙◌, append_assoc, arith, inl, inr}
 use Rattle.std.specs.Int.{w16, w32, from_le_bytes, to_le_bytes}
 use Rattle.std.specs.List.{flat_map}
 use Rattle.std.specs.Option.{option_to_list}
@@ -9,7 +9,9 @@ use Rattle.std.proofs.lemmas.Nat.{le_bytes_2, le_bytes_4, from_le_bytes-to_le_by
 use Rattle.std.proofs.Math.Seq.{take-add}
 use Rattle.insn_set.specs.declared.slot.SlotFields.{SlotFields}
 use Rattle.insn_set.specs.declared.insn.Insn.{Insn}
-use Rattle.insn_set.specs.Slot.{slot_bytes}
+use Rattle.insn_set.specs.declared.slot.RawSlot.{RawSlot}
+use Rattle.insn_set.specs.Slot.{fields, slot_bytes}
+use Rattle.insn_codec.specs.inside.Code.{IsSecond}
 use Rattle.insn_set.specs.Slot.{slot_of}
 use Rattle.insn_set.specs.Spelling.{first, second, slots, spelling, Begins}
 
@@ -85,6 +87,13 @@ begins_two i bytes rest fits long rest-is long_rest slots-is =
     let e : slots i ≡ slot_of bytes ∷ slot_of (drop 8 bytes) ∷ [] = rw rest-is at slots-is in
     two_slots (slots i) bytes fits long more e
 
+-- the bytes begin with the slots that were read of them
+pub begins_read : (i : Insn) (s : RawSlot) (t : Option RawSlot) (bytes rest : List ℕ) → IsBytes bytes → 8 ≤ length bytes → rest ≡ drop 8 bytes → fields s ≡ slot_of bytes → IsSecond rest t → slots i ≡ map fields (s ∷ option_to_list t) → Begins i bytes
+begins_read i s None bytes rest fits long rest-is first second read =
+    begins_one i bytes fits long (read ∙ ap (λ (x : SlotFields). x ∷ []) first)
+begins_read i s (Some t) bytes rest fits long rest-is first second read =
+    begins_two i bytes rest fits long rest-is second.0 (read ∙ ap (λ (x : SlotFields). x ∷ fields t ∷ []) first ∙ ap (λ (x : SlotFields). slot_of bytes ∷ x ∷ []) second.1)
+
 -- the other way: the bytes are a slot and a rest
 slot_before : {s : SlotFields} {bytes : List ℕ} (rest : List ℕ) → IsSlot s → bytes ≡ slot_bytes s ++ rest → (slot_of bytes ≡ s) × (8 ≤ length bytes)
 slot_before {s} rest fits whole = (ap slot_of whole ∙ slot_of-append rest fits, omega (arith, ap length whole, length-append (slot_bytes s) rest))
@@ -104,6 +113,6 @@ pub second_of_begins : {t : SlotFields} (i : Insn) (s : SlotFields) (bytes : Lis
 second_of_begins {t} i s bytes fits e h = slot_before (drop (length (spelling i)) bytes) fits (ap (drop 8) (whole_of_begins i s (t ∷ []) bytes e h))
 
 -- the spelling is that of a first slot and, if there is one, of a second
-pub spelled_by : (i : Insn) (s : SlotFields) (next : Option SlotFields) → s ≡ first i → second i ≡ option_to_list next → spelling i ≡ slot_bytes s ++ flat_map slot_bytes (option_to_list next)
+pub spelled_by : (i : Insn) (s : RawSlot) (next : Option RawSlot) → map fields (s ∷ option_to_list next) ≡ slots i → spelling i ≡ slot_bytes (fields s) ++ flat_map slot_bytes (map fields (option_to_list next))
 unfolding spelling
-spelled_by i s next first-is second-is = ap (λ (x : SlotFields). slot_bytes x ++ flat_map slot_bytes (second i)) (sym first-is) ∙ ap (λ (ss : List SlotFields). slot_bytes s ++ flat_map slot_bytes ss) second-is
+spelled_by i s next slots-are = ap (flat_map slot_bytes) (sym slots-are)

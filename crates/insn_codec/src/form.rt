@@ -4,7 +4,7 @@ ghost use Rattle.std.specs.Prelude.{◌≡◌, ◌≢◌, ◌+◌, ◌%◌, ◌�
 
 use crate::opcode::{SourceBit, lists_offset, signed_form, size_at};
 use insn_set::{
-    AtomicOp, AtomicSize, Insn, Load, Movsx, Reg, SlotFields, alu_by_number, condition_by_number,
+    AtomicOp, AtomicSize, Insn, Load, Movsx, RawSlot, Reg, alu_by_number, condition_by_number,
     load_by_opcode,
 };
 use words::{AccessSize, AluOp, ByteOrder, Condition, ExtendedBits, KeptBits};
@@ -53,6 +53,7 @@ impl OpcodeForm {
     ghost use Rattle.insn_set.specs.Numbers.{opcode as opcode_from, alu_class, jump_class};
     ghost use Rattle.insn_codec.specs.Spelled.{source_number};
     ghost use Rattle.insn_codec.specs.inside.Opcodes.{opcode_of};
+    ghost use Rattle.insn_set.specs.Slot.{fields};
     ghost use Rattle.insn_set.specs.Spelling.{slots, IsInsn};
     ghost use Rattle.insn_codec.specs.declared.form.OpcodeForm.TheVariants.{Wide, Alu, Jump, Store, Atomic, End};
 
@@ -177,42 +178,42 @@ impl OpcodeForm {
 
     /// Whether each field that the form does not use is zero, and each other field has a value that the form allows.
     #[inline(always)]
-    pub fn lists(self, slot: SlotFields) -> bool
-        ensures { result ≡ listed self slot }
+    pub fn lists(self, slot: RawSlot) -> bool
+        ensures { result ≡ listed self (fields slot) }
     {
         match self {
             OpcodeForm::Alu { wide, op, source } => {
                 source.lists_operand(slot) && lists_offset(op, wide, source, slot.offset)
             }
-            OpcodeForm::Neg { wide: _ } => slot.src == 0 && slot.offset == 0 && slot.imm == 0,
+            OpcodeForm::Neg { wide: _ } => slot.src() == 0 && slot.offset == 0 && slot.imm == 0,
             OpcodeForm::End { how: _ } => {
                 let is_width = slot.imm == 16 || slot.imm == 32 || slot.imm == 64;
-                slot.src == 0 && slot.offset == 0 && is_width
+                slot.src() == 0 && slot.offset == 0 && is_width
             }
-            OpcodeForm::Ja => slot.dst == 0 && slot.src == 0 && slot.imm == 0,
-            OpcodeForm::Jal => slot.dst == 0 && slot.src == 0 && slot.offset == 0,
+            OpcodeForm::Ja => slot.has_no_register() && slot.imm == 0,
+            OpcodeForm::Jal => slot.has_no_register() && slot.offset == 0,
             OpcodeForm::Jump { source, .. } | OpcodeForm::Store { source, .. } =>
                 source.lists_operand(slot),
-            OpcodeForm::Call => slot.dst == 0 && slot.src == 0 && slot.offset == 0,
-            OpcodeForm::Exit => slot.dst == 0 && slot.src == 0 && slot.offset == 0 && slot.imm == 0,
+            OpcodeForm::Call => slot.has_no_register() && slot.offset == 0,
+            OpcodeForm::Exit => slot.has_no_register() && slot.offset == 0 && slot.imm == 0,
             OpcodeForm::Load { .. } => slot.imm == 0,
             OpcodeForm::Atomic { size: _ } => AtomicOp::from_number(slot.imm).is_some(),
-            OpcodeForm::Wide => slot.offset == 0 && slot.src <= 2,
+            OpcodeForm::Wide => slot.offset == 0 && slot.src() <= 2,
         }
     }
 
     /// Writes the instruction of a slot of this form to an entry.
     #[inline(always)]
-    pub fn put(self, entry: &mut Insn, slot: SlotFields, dst: Reg, src: Reg)
+    pub fn put(self, entry: &mut Insn, slot: RawSlot, dst: Reg, src: Reg)
         requires single { self ≢ Wide }
         requires form { IsTrue (is_form self) }
         requires opcode { slot.opcode ≡ opcode_of self }
-        requires listed { IsTrue (listed self slot) }
-        requires dst { slot.dst ≡ dst }
-        requires src { slot.src ≡ src }
+        requires listed { IsTrue (listed self (fields slot)) }
+        requires dst { (fields slot).dst ≡ dst }
+        requires src { (fields slot).src ≡ src }
         requires dst_bound { dst ≤ 10 }
         requires src_bound { src ≤ 10 }
-        ensures slots { slots entry.new ≡ slot ∷ [] }
+        ensures slots { slots entry.new ≡ fields slot ∷ [] }
         ensures value { IsInsn entry.new }
     {
         let off = slot.offset.cast_signed();

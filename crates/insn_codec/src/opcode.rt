@@ -4,10 +4,11 @@ ghost use Rattle.std.specs.Prelude.{◌≡◌, ◌≢◌, ◌<◌, ◌≤◌, Is
 ghost use Rattle.insn_codec.specs.declared.opcode.SourceBit.TheVariants as source_variant;
 ghost use Rattle.insn_codec.specs.inside.Form.{size_at, offset_listed};
 ghost use Rattle.insn_codec.specs.inside.FirstFault.{is_second};
+ghost use Rattle.insn_set.specs.Slot.{fields};
 ghost use Rattle.insn_set.specs.Numbers.{size_number};
 ghost use Rattle.insn_set.specs.Operator.{alu_number, alu_offset};
 
-use insn_set::{Operand, Reg, SlotFields};
+use insn_set::{Operand, RawSlot, Reg};
 use words::{AccessSize, AluOp};
 
 /// Which of the two operand fields is used: the source bit (RFC 9669, section 4).
@@ -23,22 +24,22 @@ impl SourceBit {
     ghost use Rattle.insn_set.specs.Spelling.{source_bit, src_field, imm_field, IsOperand};
 
     /// Whether the unused operand field is zero.
-    pub fn lists_operand(self, slot: SlotFields) -> bool
-        ensures { result ≡ one_operand self slot }
+    pub fn lists_operand(self, slot: RawSlot) -> bool
+        ensures { result ≡ one_operand self (fields slot) }
     {
         match self {
-            SourceBit::Imm => slot.src == 0,
+            SourceBit::Imm => slot.src() == 0,
             SourceBit::Reg => slot.imm == 0,
         }
     }
 
     /// The second operand of a slot.
-    pub fn operand(self, slot: SlotFields, src: Reg) -> Operand
-        requires listed { IsTrue (one_operand self slot) }
-        requires src { slot.src ≡ src }
+    pub fn operand(self, slot: RawSlot, src: Reg) -> Operand
+        requires listed { IsTrue (one_operand self (fields slot)) }
+        requires src { (fields slot).src ≡ src }
         requires bound { src ≤ 10 }
         ensures source { source_bit result ≡ source_number self }
-        ensures src { src_field result ≡ slot.src }
+        ensures src { src_field result ≡ (fields slot).src }
         ensures imm { imm_field result ≡ slot.imm }
         ensures value { IsOperand result }
     {
@@ -96,9 +97,9 @@ pub fn size_at(code: u8) -> AccessSize
 
 /// Whether a slot is the second slot of a wide load with this source field: all fields are zero, except for a number that the load
 /// uses (RFC 9669, section 5.4).
-pub fn lists_second(src: u8, next: SlotFields) -> bool
-    ensures { result ≡ is_second src next }
+pub fn lists_second(src: u8, next: RawSlot) -> bool
+    ensures { result ≡ is_second src (fields next) }
 {
     let number = src != 1 || next.imm == 0;
-    next.opcode == 0 && next.dst == 0 && next.src == 0 && next.offset == 0 && number
+    next.opcode == 0 && next.has_no_register() && next.offset == 0 && number
 }

@@ -1,7 +1,9 @@
 //! Decoding of bytes.
 
-ghost use Rattle.std.specs.Prelude.{List, ℕ, ◌≡◌, ◌≢◌, ◌+◌, ◌*◌, ◌≤◌, [], ◌∷◌, length, drop, IfOk, OnOk, IfErr, IsErrAnd, Ok, Some, None, IsTrue};
-ghost use Rattle.insn_set.specs.Slot.{slot_of};
+ghost use Rattle.std.specs.Prelude.{List, ℕ, ◌≡◌, ◌≢◌, ◌≤◌, [], ◌∷◌, length, map, IfOk, OnOk, IfErr, IsErrAnd, Ok, Some, None, IsTrue};
+ghost use Rattle.std.specs.Option.{option_to_list};
+ghost use Rattle.insn_set.specs.Slot.{fields};
+ghost use Rattle.insn_codec.specs.inside.Code.{IsSecond};
 ghost use Rattle.insn_codec.specs.inside.Form.{listed, is_form};
 ghost use Rattle.insn_codec.specs.inside.Opcodes.{opcode_of};
 ghost use Rattle.insn_set.specs.Spelling.{slots, IsInsn, Begins};
@@ -13,33 +15,29 @@ ghost use Rattle.insn_codec.specs.declared.form.OpcodeForm.TheVariants.{Wide};
 use crate::fault::{CodecFault, FaultKind};
 use crate::form::OpcodeForm;
 use crate::opcode::{SourceBit, lists_second};
-use insn_set::{Insn, Reg, SlotFields};
+use insn_set::{Insn, RawSlot, Reg};
 
-/// Reads the wide instruction whose first slot is at the front of the bytes into an entry. `Err` with the kind of the fault if its
-/// second slot is missing or wrong.
-fn read_wide(entry: &mut Insn, dst: Reg, bytes: &[u8]) -> Result<(), FaultKind>
-    requires long { 8 ≤ length bytes.now }
-    requires opcode { (slot_of bytes.now).opcode ≡ 0x18 }
-    requires listed { IsTrue (listed Wide (slot_of bytes.now)) }
-    requires dst { (slot_of bytes.now).dst ≡ dst }
+/// Reads the wide instruction of this first slot into an entry, with its second slot at the front of the bytes, and returns the second
+/// slot. `Err` with the kind of the fault if that slot is missing or wrong.
+fn read_wide(entry: &mut Insn, slot: RawSlot, dst: Reg, rest: &[u8]) -> Result<RawSlot, FaultKind>
+    requires opcode { slot.opcode ≡ 0x18 }
+    requires listed { IsTrue (listed Wide (fields slot)) }
+    requires dst { (fields slot).dst ≡ dst }
     requires dst_bound { dst ≤ 10 }
-    ensures found { OnOk result (IsInsn entry.new × (8 ≤ length (drop 8 bytes.now))
-        × (slots entry.new ≡ slot_of bytes.now ∷ slot_of (drop 8 bytes.now) ∷ [])) }
-    ensures none { OnOk result (second_fault Wide (slot_of bytes.now).src (drop 8 bytes.now)
-        ≡ None) }
-    ensures fault { IfErr result (λ kind. second_fault Wide (slot_of bytes.now).src
-        (drop 8 bytes.now) ≡ Some kind) }
+    ensures value { OnOk result (IsInsn entry.new) }
+    ensures slots { IfOk result (λ next. slots entry.new ≡ fields slot ∷ fields next ∷ []) }
+    ensures next { IfOk result (λ next. IsSecond rest.now (Some next)) }
+    ensures fault { IfErr result (λ kind. second_fault Wide (fields slot).src rest.now
+        ≡ Some kind) }
 {
-    let slot = SlotFields::first(bytes);
-    let (_, rest) = bytes.split_at(8);
     if rest.len() < 8 {
         return Err(FaultKind::SecondSlot);
     }
-    let next = SlotFields::first(rest);
-    if !lists_second(slot.src, next) {
+    let next = RawSlot::first(rest);
+    if !lists_second(slot.src(), next) {
         return Err(FaultKind::SecondSlot);
     }
-    *entry = match slot.src {
+    *entry = match slot.src() {
         0 => Insn::Const {
             dst,
             value: u64::from(slot.imm) + u64::from(next.imm) * 0x1_0000_0000,
@@ -54,123 +52,143 @@ fn read_wide(entry: &mut Insn, dst: Reg, bytes: &[u8]) -> Result<(), FaultKind>
             off: next.imm,
         },
     };
-    Ok(())
+    Ok(next)
 }
 
 /// Checks that the fields of a slot have values that its form allows, and that both registers exist.
 #[inline(always)]
 #[tactic(auto, unfolding(crate::specs::inside::FirstFault::fault_in_form))]
-fn check_fields(form: OpcodeForm, slot: SlotFields) -> Result<(), FaultKind>
-    ensures listed { OnOk result (IsTrue (listed form slot)) }
-    ensures dst { OnOk result (slot.dst ≤ 10) }
-    ensures src { OnOk result (slot.src ≤ 10) }
-    ensures fault { IfErr result (λ kind. (rest : List ℕ) → fault_in_form form slot rest
+fn check_fields(form: OpcodeForm, slot: RawSlot) -> Result<(), FaultKind>
+    ensures listed { OnOk result (IsTrue (listed form (fields slot))) }
+    ensures dst { OnOk result ((fields slot).dst ≤ 10) }
+    ensures src { OnOk result ((fields slot).src ≤ 10) }
+    ensures fault { IfErr result (λ kind. (rest : List ℕ) → fault_in_form form (fields slot) rest
         ≡ Some kind) }
 {
     if !form.lists(slot) {
         return Err(FaultKind::Reserved);
     }
-    if slot.dst > 10 || slot.src > 10 {
+    if slot.dst() > 10 || slot.src() > 10 {
         return Err(FaultKind::Register);
     }
     Ok(())
 }
 
-/// Reads an instruction of one slot, of this form, into an entry. Returns the number of its slots.
+/// Reads the instruction of a slot of this form into an entry. It has no second slot.
 #[inline(always)]
-fn read_as(form: OpcodeForm, entry: &mut Insn, bytes: &[u8]) -> Result<usize, FaultKind>
+fn read_as(form: OpcodeForm, entry: &mut Insn, slot: RawSlot) -> Result<Option<RawSlot>, FaultKind>
     requires single { form ≢ Wide }
-    requires long { 8 ≤ length bytes.now }
-    requires opcode { (slot_of bytes.now).opcode ≡ opcode_of form }
+    requires opcode { slot.opcode ≡ opcode_of form }
     requires form { IsTrue (is_form form) }
-    ensures found { OnOk result (IsInsn entry.new × Begins entry.new bytes.now) }
-    ensures count { IfOk result (λ n. n ≡ length (slots entry.new)) }
-    ensures fault { IfErr result (λ kind. fault_in_form form (slot_of bytes.now)
-        (drop 8 bytes.now) ≡ Some kind) }
+    ensures value { OnOk result (IsInsn entry.new) }
+    ensures slots { OnOk result (slots entry.new ≡ fields slot ∷ []) }
+    ensures none { IfOk result (λ second. second ≡ None) }
+    ensures fault { IfErr result (λ kind. (rest : List ℕ) → fault_in_form form (fields slot) rest
+        ≡ Some kind) }
 {
-    let slot = SlotFields::first(bytes);
     check_fields(form, slot)?;
-    form.put(entry, slot, Reg::new(slot.dst), Reg::new(slot.src));
-    Ok(1)
+    form.put(entry, slot, Reg::new(slot.dst()), Reg::new(slot.src()));
+    Ok(None)
 }
 
-/// Reads the instruction of this form at the front of the bytes into an entry. Each form has an arm of its own, and so has each
-/// source of the most frequent ones: with the form known, only its own tests remain of the two functions above.
+/// Reads the instruction of this form and first slot into an entry, with the bytes after that slot, and returns its second slot, if it
+/// is wide. Each form has an arm of its own, and so has each source of the most frequent ones: with the form known, only its own tests
+/// remain of the two functions above.
 #[inline(always)]
-fn read_form(form: OpcodeForm, entry: &mut Insn, bytes: &[u8]) -> Result<usize, FaultKind>
-    requires long { 8 ≤ length bytes.now }
-    requires opcode { (slot_of bytes.now).opcode ≡ opcode_of form }
+fn read_form(
+    form: OpcodeForm,
+    entry: &mut Insn,
+    slot: RawSlot,
+    rest: &[u8],
+) -> Result<Option<RawSlot>, FaultKind>
+    requires opcode { slot.opcode ≡ opcode_of form }
     requires form { IsTrue (is_form form) }
-    ensures found { OnOk result (IsInsn entry.new × Begins entry.new bytes.now) }
-    ensures count { IfOk result (λ n. n ≡ length (slots entry.new)) }
-    ensures fault { IfErr result (λ kind. fault_in_form form (slot_of bytes.now)
-        (drop 8 bytes.now) ≡ Some kind) }
+    ensures value { OnOk result (IsInsn entry.new) }
+    ensures slots { IfOk result (λ second. slots entry.new
+        ≡ map fields (slot ∷ option_to_list second)) }
+    ensures second { IfOk result (λ second. IsSecond rest.now second) }
+    ensures fault { IfErr result (λ kind. fault_in_form form (fields slot) rest.now ≡ Some kind) }
 {
     match form {
         OpcodeForm::Alu { wide, op, source } => match source {
             SourceBit::Imm => {
                 let source = SourceBit::Imm;
-                read_as(OpcodeForm::Alu { wide, op, source }, entry, bytes)
+                read_as(OpcodeForm::Alu { wide, op, source }, entry, slot)
             }
             SourceBit::Reg => {
                 let source = SourceBit::Reg;
-                read_as(OpcodeForm::Alu { wide, op, source }, entry, bytes)
+                read_as(OpcodeForm::Alu { wide, op, source }, entry, slot)
             }
         },
-        OpcodeForm::Neg { wide } => read_as(OpcodeForm::Neg { wide }, entry, bytes),
-        OpcodeForm::End { how } => read_as(OpcodeForm::End { how }, entry, bytes),
-        OpcodeForm::Ja => read_as(OpcodeForm::Ja, entry, bytes),
-        OpcodeForm::Jal => read_as(OpcodeForm::Jal, entry, bytes),
+        OpcodeForm::Neg { wide } => read_as(OpcodeForm::Neg { wide }, entry, slot),
+        OpcodeForm::End { how } => read_as(OpcodeForm::End { how }, entry, slot),
+        OpcodeForm::Ja => read_as(OpcodeForm::Ja, entry, slot),
+        OpcodeForm::Jal => read_as(OpcodeForm::Jal, entry, slot),
         OpcodeForm::Jump { wide, cond, source } => match source {
             SourceBit::Imm => {
                 let source = SourceBit::Imm;
-                read_as(OpcodeForm::Jump { wide, cond, source }, entry, bytes)
+                read_as(OpcodeForm::Jump { wide, cond, source }, entry, slot)
             }
             SourceBit::Reg => {
                 let source = SourceBit::Reg;
-                read_as(OpcodeForm::Jump { wide, cond, source }, entry, bytes)
+                read_as(OpcodeForm::Jump { wide, cond, source }, entry, slot)
             }
         },
-        OpcodeForm::Call => read_as(OpcodeForm::Call, entry, bytes),
-        OpcodeForm::Exit => read_as(OpcodeForm::Exit, entry, bytes),
+        OpcodeForm::Call => read_as(OpcodeForm::Call, entry, slot),
+        OpcodeForm::Exit => read_as(OpcodeForm::Exit, entry, slot),
         OpcodeForm::Load { size, signed } => {
-            read_as(OpcodeForm::Load { size, signed }, entry, bytes)
-        },
+            read_as(OpcodeForm::Load { size, signed }, entry, slot)
+        }
         OpcodeForm::Store { size, source } => match source {
             SourceBit::Imm => {
                 let source = SourceBit::Imm;
-                read_as(OpcodeForm::Store { size, source }, entry, bytes)
+                read_as(OpcodeForm::Store { size, source }, entry, slot)
             }
             SourceBit::Reg => {
                 let source = SourceBit::Reg;
-                read_as(OpcodeForm::Store { size, source }, entry, bytes)
+                read_as(OpcodeForm::Store { size, source }, entry, slot)
             }
         },
-        OpcodeForm::Atomic { size } => read_as(OpcodeForm::Atomic { size }, entry, bytes),
+        OpcodeForm::Atomic { size } => read_as(OpcodeForm::Atomic { size }, entry, slot),
         OpcodeForm::Wide => {
-            let slot = SlotFields::first(bytes);
             check_fields(OpcodeForm::Wide, slot)?;
-            read_wide(entry, Reg::new(slot.dst), bytes)?;
-            Ok(2)
+            let next = read_wide(entry, slot, Reg::new(slot.dst()), rest)?;
+            Ok(Some(next))
         }
     }
 }
 
 /// Reads the instruction at the front of the bytes into an entry, in place, since an instruction is as large as two slots.
-/// Returns the number of its slots.
+/// Returns its one or two slots.
 #[tactic(auto, unfolding(crate::specs::inside::FirstFault::first_fault))]
-pub(crate) fn read_front(entry: &mut Insn, bytes: &[u8]) -> Result<usize, FaultKind>
+pub(crate) fn read_front(
+    entry: &mut Insn,
+    bytes: &[u8],
+) -> Result<(RawSlot, Option<RawSlot>), FaultKind>
     ensures found { OnOk result (IsInsn entry.new × Begins entry.new bytes.now) }
-    ensures count { IfOk result (λ n. n ≡ length (slots entry.new)) }
+    ensures slots { IfOk result (λ read. map fields (read.0 ∷ option_to_list read.1)
+        ≡ slots entry.new) }
     ensures fault { IfErr result (λ kind. first_fault bytes.now ≡ Some kind) }
 {
     if bytes.len() < 8 {
         return Err(FaultKind::Ragged);
     }
-    let slot = SlotFields::first(bytes);
-    match OpcodeForm::of(slot.opcode) {
-        Some(form) => read_form(form, entry, bytes),
-        None => Err(FaultKind::Opcode),
+    let slot = RawSlot::first(bytes);
+    let Some(form) = OpcodeForm::of(slot.opcode) else {
+        return Err(FaultKind::Opcode);
+    };
+    let (_, rest) = bytes.split_at(8);
+    let second = read_form(form, entry, slot, rest)?;
+    Ok((slot, second))
+}
+
+/// The number of slots that were read: 1 or 2.
+fn count(slots: (RawSlot, Option<RawSlot>)) -> usize
+    ensures { result ≡ length (map fields (slots.0 ∷ option_to_list slots.1)) }
+{
+    match slots.1 {
+        None => 1,
+        Some(_) => 2,
     }
 }
 
@@ -195,7 +213,7 @@ pub fn decode(bytes: &[u8]) -> Result<(Insn, usize), CodecFault>
 {
     let mut insn = Insn::Exit;
     match read_front(&mut insn, bytes) {
-        Ok(slots) => Ok((insn, slots)),
+        Ok(slots) => Ok((insn, count(slots))),
         Err(kind) => Err(CodecFault { slot: 0, kind }),
     }
 }

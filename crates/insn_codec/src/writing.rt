@@ -1,12 +1,12 @@
 //! Encoding of instructions.
 
-ghost use Rattle.std.specs.Prelude.{◌≡◌, ◌+◌, ◌*◌, ◌≤◌, ◌<◌, ◌%◌, ◌++◌, length, drop, IfSome};
+ghost use Rattle.std.specs.Prelude.{◌≡◌, ◌+◌, ◌≤◌, ◌<◌, ◌∷◌, ◌++◌, length, drop, map};
 ghost use Rattle.std.specs.Option.{option_to_list};
-ghost use Rattle.insn_set.specs.Slot.{slot as slot_from};
-ghost use Rattle.insn_set.specs.Spelling.{first as first_slot, second as second_slot, spelling, source_bit, src_field, imm_field};
+ghost use Rattle.insn_set.specs.Slot.{fields};
+ghost use Rattle.insn_set.specs.Spelling.{first as first_slot, second as second_slot, slots as slots_of, spelling, source_bit, src_field, imm_field};
 ghost use Rattle.insn_set.specs.Numbers.{opcode as opcode_from, memory_opcode, alu_class, jump_class, size_number, end_opcode};
 
-use insn_set::{Insn, Operand, SlotFields, alu_number, alu_offset, condition_number};
+use insn_set::{Insn, Operand, RawSlot, alu_number, alu_offset, condition_number};
 use words::{AccessSize, ByteOrder};
 
 /// The code of a size (RFC 9669, section 5).
@@ -96,29 +96,14 @@ fn sized_opcode(mode: u8, size: AccessSize, class: u8) -> u8
     32 * mode + 8 * size_number(size) + class
 }
 
-/// The slot with these fields.
-fn slot(opcode: u8, dst: u8, src: u8, offset: u16, imm: u32) -> SlotFields
-    ensures { result ≡ slot_from opcode dst src offset imm }
-{
-    SlotFields {
-        opcode,
-        dst,
-        src,
-        offset,
-        imm,
-    }
-}
-
 /// The first slot of an instruction.
-fn first(insn: &Insn) -> SlotFields
-    ensures value { result ≡ first_slot insn.now }
-    ensures dst { result.dst < 16 }
-    ensures src { result.src < 16 }
+fn first(insn: &Insn) -> RawSlot
+    ensures { fields result ≡ first_slot insn.now }
 {
     match *insn {
         Insn::Alu { wide, op, dst, src } => {
             let opcode = opcode(alu_number(op), source_bit(src), arithmetic_class(wide));
-            slot(
+            RawSlot::new(
                 opcode,
                 dst.number(),
                 src_field(src),
@@ -128,14 +113,20 @@ fn first(insn: &Insn) -> SlotFields
         }
         Insn::Movsx(m) => {
             let opcode = opcode(11, 1, arithmetic_class(m.wide));
-            slot(opcode, m.dst.number(), m.src.number(), m.bits.count(), 0)
+            RawSlot::new(opcode, m.dst.number(), m.src.number(), m.bits.count(), 0)
         }
         Insn::Neg { wide, dst } => {
-            slot(opcode(8, 0, arithmetic_class(wide)), dst.number(), 0, 0, 0)
+            RawSlot::new(opcode(8, 0, arithmetic_class(wide)), dst.number(), 0, 0, 0)
         }
-        Insn::End { how, bits, dst } => slot(end_opcode(how), dst.number(), 0, 0, bits.count()),
-        Insn::Ja { off } => slot(0x05, 0, 0, off.cast_unsigned(), 0),
-        Insn::Jal { off } => slot(0x06, 0, 0, 0, off.cast_unsigned()),
+        Insn::End { how, bits, dst } => RawSlot::new(
+            end_opcode(how),
+            dst.number(),
+            0,
+            0,
+            bits.count(),
+        ),
+        Insn::Ja { off } => RawSlot::new(0x05, 0, 0, off.cast_unsigned(), 0),
+        Insn::Jal { off } => RawSlot::new(0x06, 0, 0, 0, off.cast_unsigned()),
         Insn::Jump {
             wide,
             cond,
@@ -144,7 +135,7 @@ fn first(insn: &Insn) -> SlotFields
             off,
         } => {
             let opcode = opcode(condition_number(cond), source_bit(src), jumping_class(wide));
-            slot(
+            RawSlot::new(
                 opcode,
                 dst.number(),
                 src_field(src),
@@ -152,11 +143,11 @@ fn first(insn: &Insn) -> SlotFields
                 imm_field(src),
             )
         }
-        Insn::Call { id } => slot(0x85, 0, 0, 0, id.cast_unsigned()),
-        Insn::Exit => slot(0x95, 0, 0, 0, 0),
+        Insn::Call { id } => RawSlot::new(0x85, 0, 0, 0, id.cast_unsigned()),
+        Insn::Exit => RawSlot::new(0x95, 0, 0, 0, 0),
         Insn::Load(l) => {
             let opcode = sized_opcode(if l.signed { 4 } else { 3 }, l.size, 1);
-            slot(
+            RawSlot::new(
                 opcode,
                 l.dst.number(),
                 l.src.number(),
@@ -171,7 +162,7 @@ fn first(insn: &Insn) -> SlotFields
             off,
         } => {
             let opcode = sized_opcode(3, size, 2 + source_bit(src));
-            slot(
+            RawSlot::new(
                 opcode,
                 dst.number(),
                 src_field(src),
@@ -187,7 +178,7 @@ fn first(insn: &Insn) -> SlotFields
             off,
         } => {
             let opcode = sized_opcode(6, size.access(), 3);
-            slot(
+            RawSlot::new(
                 opcode,
                 dst.number(),
                 src.number(),
@@ -196,24 +187,38 @@ fn first(insn: &Insn) -> SlotFields
             )
         }
         Insn::Const { dst, value } => {
-            slot(0x18, dst.number(), 0, 0, (value % 0x1_0000_0000) as u32)
+            RawSlot::new(0x18, dst.number(), 0, 0, (value % 0x1_0000_0000) as u32)
         }
-        Insn::MapFd { dst, fd } => slot(0x18, dst.number(), 1, 0, fd.cast_unsigned()),
-        Insn::MapValue { dst, fd, .. } => slot(0x18, dst.number(), 2, 0, fd.cast_unsigned()),
+        Insn::MapFd { dst, fd } => RawSlot::new(0x18, dst.number(), 1, 0, fd.cast_unsigned()),
+        Insn::MapValue { dst, fd, .. } => RawSlot::new(
+            0x18,
+            dst.number(),
+            2,
+            0,
+            fd.cast_unsigned(),
+        ),
     }
 }
 
 /// The second slot of an instruction, if it is wide.
-fn second(insn: &Insn) -> Option<SlotFields>
-    ensures value { second_slot insn.now ≡ option_to_list result }
-    ensures fits { IfSome result (λ next. (next.dst < 16) × (next.src < 16)) }
+fn second(insn: &Insn) -> Option<RawSlot>
+    ensures { second_slot insn.now ≡ map fields (option_to_list result) }
 {
     match *insn {
-        Insn::Const { dst: _, value } => { Some(slot(0, 0, 0, 0, (value / 0x1_0000_0000) as u32)) }
-        Insn::MapFd { .. } => Some(slot(0, 0, 0, 0, 0)),
-        Insn::MapValue { off, .. } => Some(slot(0, 0, 0, 0, off)),
+        Insn::Const { dst: _, value } => {
+            Some(RawSlot::new(0, 0, 0, 0, (value / 0x1_0000_0000) as u32))
+        }
+        Insn::MapFd { .. } => Some(RawSlot::new(0, 0, 0, 0, 0)),
+        Insn::MapValue { off, .. } => Some(RawSlot::new(0, 0, 0, 0, off)),
         _ => None,
     }
+}
+
+/// The one or two slots of an instruction.
+pub(crate) fn slots(insn: &Insn) -> (RawSlot, Option<RawSlot>)
+    ensures { map fields (result.0 ∷ option_to_list result.1) ≡ slots_of insn.now }
+{
+    (first(insn), second(insn))
 }
 
 /// Writes the instruction's spelling, 8 or 16 bytes, to the front of `out`, and returns its length. The bytes after it are
@@ -223,10 +228,10 @@ pub fn encode(insn: &Insn, out: &mut [u8; 16]) -> usize
     ensures room { result ≤ 16 }
     ensures bytes { out.new ≡ spelling insn.now ++ drop result out.old }
 {
-    let first = first(insn);
+    let (first, second) = slots(insn);
     let (front, back) = out.split_at_mut(8);
     front.copy_from_slice(&first.bytes());
-    match second(insn) {
+    match second {
         None => 8,
         Some(next) => {
             back.copy_from_slice(&next.bytes());

@@ -1,6 +1,6 @@
 -- A number and a symbol are those of the row that is found by them, for each family that has a table. This project's own. No contract
 -- cites these laws, so there is nothing in them to believe.
-use Rattle.std.specs.Prelude.{ℕ, Bool, true, false, List, Option, IsTrue, not, ◌&&◌}
+use Rattle.std.specs.Prelude.{ℕ, Bool, true, false, List, IsTrue, not, ◌&&◌}
 use Rattle.std.proofs.Common.{◌≡◌, Some, refl}
 use Rattle.std.proofs.lemmas.Bool.{false≢true}
 use Rattle.words.specs.declared.operator.AluOp.{AluOp}
@@ -22,7 +22,7 @@ use Rattle.insn_set.specs.Atomic.{atomic_number, atomic_symbol}
 use Rattle.insn_set.specs.AtomicRows.{atomic_rows, atomic_by_number, atomic_by_symbol}
 use Rattle.insn_set.specs.Condition.{condition_number, condition_symbol}
 use Rattle.insn_set.specs.ConditionRows.{condition_rows, condition_by_number, condition_by_symbol}
-use Rattle.insn_set.specs.Operator.{alu_number, alu_offset, alu_symbol}
+use Rattle.insn_set.specs.Operator.{alu_number, alu_symbol}
 use Rattle.insn_set.specs.OperatorRows.{alu_rows, alu_by_number, alu_by_symbol}
 use Rattle.insn_set.specs.Load.{load_opcode, size_name}
 use Rattle.insn_set.specs.LoadRows.{load_rows, load_by_opcode, size_by_name}

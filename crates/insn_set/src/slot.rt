@@ -1,8 +1,9 @@
 //! Slots of eight bytes, and their fields (RFC 9669, section 3.1).
 
-ghost use Rattle.std.specs.Prelude.{◌≡◌, ◌≤◌, ◌<◌, length};
+ghost use Rattle.std.specs.Prelude.{◌≡◌, ◌≤◌, ◌<◌, ◌==◌, ◌&&◌, length};
 
-/// The fields of a slot, as bits: no field is read as signed here. The two register numbers have four bits each.
+/// The fields of a slot, as bits: no field is read as signed here. The two register numbers have four bits each. Definitions are in
+/// these terms; the code keeps a [`RawSlot`].
 #[derive(Clone, Copy, Debug, PartialEq, Eq)]
 pub struct SlotFields {
     pub opcode: u8,
@@ -22,49 +23,8 @@ pub struct RawSlot {
     pub imm: u32,
 }
 
-impl SlotFields {
-    ghost use Rattle.insn_set.specs.Slot.{slot_bytes};
-    ghost use Rattle.insn_set.specs.Slot.{slot_of};
-
-    /// Reads the slot at the front of the bytes, of which there are at least eight.
-    #[tactic(auto, unfolding(crate::specs::Slot::slot_of))]
-    pub fn first(bytes: &[u8]) -> SlotFields
-        requires { 8 ≤ length bytes.now }
-        ensures { result ≡ slot_of bytes.now }
-    {
-        SlotFields {
-            opcode: bytes[0],
-            dst: bytes[1] % 16,
-            src: bytes[1] / 16,
-            offset: u16::from_le_bytes([bytes[2], bytes[3]]),
-            imm: u32::from_le_bytes([bytes[4], bytes[5], bytes[6], bytes[7]]),
-        }
-    }
-
-    /// The slot's eight bytes. Both register numbers are below 16.
-    pub fn bytes(self) -> [u8; 8]
-        requires dst { self.dst < 16 }
-        requires src { self.src < 16 }
-        ensures { result ≡ slot_bytes self }
-    {
-        let [offset_low, offset_high] = self.offset.to_le_bytes();
-        let [a, b, c, d] = self.imm.to_le_bytes();
-        [
-            self.opcode,
-            16 * self.src + self.dst,
-            offset_low,
-            offset_high,
-            a,
-            b,
-            c,
-            d,
-        ]
-    }
-}
-
 impl RawSlot {
-    ghost use Rattle.insn_set.specs.Slot.{fields};
-    ghost use Rattle.insn_set.specs.Slot.{slot_of};
+    ghost use Rattle.insn_set.specs.Slot.{fields, slot, slot_bytes, slot_of};
 
     /// Reads the slot at the front of the bytes, of which there are at least eight.
     #[tactic(auto, unfolding(crate::specs::Slot::slot_of))]
@@ -78,5 +38,61 @@ impl RawSlot {
             offset: u16::from_le_bytes([bytes[2], bytes[3]]),
             imm: u32::from_le_bytes([bytes[4], bytes[5], bytes[6], bytes[7]]),
         }
+    }
+    /// The slot with these fields. Both register numbers are below 16.
+    #[inline(always)]
+    pub fn new(opcode: u8, dst: u8, src: u8, offset: u16, imm: u32) -> RawSlot
+        requires dst { dst < 16 }
+        requires src { src < 16 }
+        ensures { fields result ≡ slot opcode dst src offset imm }
+    {
+        RawSlot {
+            opcode,
+            registers: 16 * src + dst,
+            offset,
+            imm,
+        }
+    }
+
+    /// The number in the field of the destination register.
+    #[inline(always)]
+    pub fn dst(self) -> u8
+        ensures { result ≡ (fields self).dst }
+    {
+        self.registers % 16
+    }
+
+    /// The number in the field of the source register.
+    #[inline(always)]
+    pub fn src(self) -> u8
+        ensures { result ≡ (fields self).src }
+    {
+        self.registers / 16
+    }
+
+    /// Whether the fields of both registers are zero.
+    #[inline(always)]
+    pub fn has_no_register(self) -> bool
+        ensures { result ≡ ((fields self).dst == 0 && (fields self).src == 0) }
+    {
+        self.registers == 0
+    }
+
+    /// The slot's eight bytes.
+    pub fn bytes(self) -> [u8; 8]
+        ensures { result ≡ slot_bytes (fields self) }
+    {
+        let [offset_low, offset_high] = self.offset.to_le_bytes();
+        let [a, b, c, d] = self.imm.to_le_bytes();
+        [
+            self.opcode,
+            self.registers,
+            offset_low,
+            offset_high,
+            a,
+            b,
+            c,
+            d,
+        ]
     }
 }

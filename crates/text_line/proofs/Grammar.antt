@@ -1,10 +1,9 @@
 -- What is read is spelled so.
 use Rattle.std.proofs.Common.{◌≡◌, ℕ, ◌≤◌, Bool, true, false, cond, List, [], ◌∷◌, Option, Some, None, refl, ap, ◌∙◌, ◌⊎◌, inl, inr, subst, sym, eqb, leb, option_map}
 use Rattle.std.specs.Prelude.{codes, IsTrue, ◌||◌, ◌&&◌, not}
-use Rattle.std.specs.List.{list_all}
 use Rattle.std.specs.Str.{bytes_eq}
 use Rattle.std.proofs.lemmas.Slice.Eq.{bytes_eq-Decides}
-use Rattle.std.proofs.lemmas.Bool.{false≢true, and_parts, eqb-true, leb-true}
+use Rattle.std.proofs.lemmas.Bool.{false≢true, eqb-true, leb-true}
 use Rattle.std.proofs.lemmas.Option.{none-some, same_Some, cond_some, option_and_then_some}
 use Rattle.words.specs.declared.operator.AluOp.{AluOp}
 use Rattle.words.specs.declared.operator.AluOp.TheVariants.{Mov}
@@ -15,7 +14,6 @@ use Rattle.insn_set.specs.declared.atomic.AtomicSize.TheVariants as atomic_size
 use Rattle.insn_set.specs.Sizes.{is_short}
 use Rattle.insn_set.specs.Atomic.{access_size, atomic_symbol}
 use Rattle.insn_set.specs.Operator.{alu_symbol}
-use Rattle.insn_set.specs.Conversion.{order_name, narrow_name}
 use Rattle.insn_set.specs.Load.{size_name}
 use Rattle.insn_set.specs.RowLaws.{alu_symbol_is, order_name_is, narrow_name_is, size_name_is, size_listed, condition_symbol_is, atomic_symbol_is}
 use Rattle.insn_set.specs.Table.{named}

@@ -2,7 +2,7 @@
 use Rattle.std.proofs.Common.{◌≡◌, ℕ, suc, ◌≤◌, Bool, true, false, List, [], ◌∷◌, Option, Some, None, refl, sym, ap, arith}
 use Rattle.std.specs.Prelude.{codes, IsTrue, ◌||◌, ◌&&◌, not}
 use Rattle.std.specs.Str.{bytes_eq}
-use Rattle.std.proofs.lemmas.Bool.{false≢true, eq-eqb}
+use Rattle.std.proofs.lemmas.Bool.{eq-eqb}
 use Rattle.words.specs.declared.operator.AluOp.{AluOp}
 use Rattle.words.specs.declared.operator.AluOp.TheVariants.{Add, Mov}
 use Rattle.words.specs.declared.operator.Condition.{Condition}
@@ -11,9 +11,7 @@ use Rattle.words.specs.declared.operator.ByteOrder.TheVariants.{Little, Big, Swa
 use Rattle.words.specs.declared.operator.KeptBits.{KeptBits}
 use Rattle.words.specs.declared.operator.KeptBits.TheVariants as bits
 use Rattle.words.specs.declared.operator.ExtendedBits.{ExtendedBits}
-use Rattle.words.specs.declared.operator.ExtendedBits.TheVariants as narrow
 use Rattle.words.specs.declared.stack.AccessSize.{AccessSize}
-use Rattle.words.specs.declared.stack.AccessSize.TheVariants as size
 use Rattle.insn_set.specs.declared.atomic.AtomicSize.{AtomicSize}
 use Rattle.insn_set.specs.declared.atomic.AtomicSize.TheVariants as atomic_size
 use Rattle.insn_set.specs.declared.atomic.AtomicOp.{AtomicOp}

@@ -13,7 +13,7 @@ use Rattle.insn_codec.specs.inside.Form.{form_at, listed}
 
 -- all fields are zero, except for a number that a load with this source field uses
 abbrev pub is_second : ℕ → SlotFields → Bool
-is_second src next = next.opcode == 0 && next.dst == 0 && next.src == 0 && next.offset == 0 && (not (src == 1) || next.imm == 0)
+is_second src next = next.opcode == 0 && (next.dst == 0 && next.src == 0) && next.offset == 0 && (not (src == 1) || next.imm == 0)
 
 abbrev pub second_fault : OpcodeForm → ℕ → List ℕ → Option FaultKind
 second_fault form.Wide src rest = if nat_lt (length rest) 8 then Some SecondSlot else (if is_second src (slot_of rest) then None else Some SecondSlot)

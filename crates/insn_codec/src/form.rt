@@ -178,8 +178,8 @@ impl OpcodeForm {
 
     /// Whether each field that the form does not use is zero, and each other field has a value that the form allows.
     #[inline(always)]
-    pub fn lists(self, slot: RawSlot) -> bool
-        ensures { result ≡ listed self (fields slot) }
+    pub fn lists(self, slot: &RawSlot) -> bool
+        ensures { result ≡ listed self (fields slot.now) }
     {
         match self {
             OpcodeForm::Alu { wide, op, source } => {
@@ -204,16 +204,16 @@ impl OpcodeForm {
 
     /// Writes the instruction of a slot of this form to an entry.
     #[inline(always)]
-    pub fn put(self, entry: &mut Insn, slot: RawSlot, dst: Reg, src: Reg)
+    pub fn put(self, entry: &mut Insn, slot: &RawSlot, dst: Reg, src: Reg)
         requires single { self ≢ Wide }
         requires form { IsTrue (is_form self) }
-        requires opcode { slot.opcode ≡ opcode_of self }
-        requires listed { IsTrue (listed self (fields slot)) }
-        requires dst { (fields slot).dst ≡ dst }
-        requires src { (fields slot).src ≡ src }
+        requires opcode { slot.now.opcode ≡ opcode_of self }
+        requires listed { IsTrue (listed self (fields slot.now)) }
+        requires dst { (fields slot.now).dst ≡ dst }
+        requires src { (fields slot.now).src ≡ src }
         requires dst_bound { dst ≤ 10 }
         requires src_bound { src ≤ 10 }
-        ensures slots { slots entry.new ≡ fields slot ∷ [] }
+        ensures slots { slots entry.new ≡ fields slot.now ∷ [] }
         ensures value { IsInsn entry.new }
     {
         let off = slot.offset.cast_signed();

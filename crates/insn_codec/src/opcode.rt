@@ -24,8 +24,8 @@ impl SourceBit {
     ghost use Rattle.insn_set.specs.Spelling.{source_bit, src_field, imm_field, IsOperand};
 
     /// Whether the unused operand field is zero.
-    pub fn lists_operand(self, slot: RawSlot) -> bool
-        ensures { result ≡ one_operand self (fields slot) }
+    pub fn lists_operand(self, slot: &RawSlot) -> bool
+        ensures { result ≡ one_operand self (fields slot.now) }
     {
         match self {
             SourceBit::Imm => slot.src() == 0,
@@ -34,13 +34,13 @@ impl SourceBit {
     }
 
     /// The second operand of a slot.
-    pub fn operand(self, slot: RawSlot, src: Reg) -> Operand
-        requires listed { IsTrue (one_operand self (fields slot)) }
-        requires src { (fields slot).src ≡ src }
+    pub fn operand(self, slot: &RawSlot, src: Reg) -> Operand
+        requires listed { IsTrue (one_operand self (fields slot.now)) }
+        requires src { (fields slot.now).src ≡ src }
         requires bound { src ≤ 10 }
         ensures source { source_bit result ≡ source_number self }
-        ensures src { src_field result ≡ (fields slot).src }
-        ensures imm { imm_field result ≡ slot.imm }
+        ensures src { src_field result ≡ (fields slot.now).src }
+        ensures imm { imm_field result ≡ slot.now.imm }
         ensures value { IsOperand result }
     {
         match self {
@@ -97,8 +97,8 @@ pub fn size_at(code: u8) -> AccessSize
 
 /// Whether a slot is the second slot of a wide load with this source field: all fields are zero, except for a number that the load
 /// uses (RFC 9669, section 5.4).
-pub fn lists_second(src: u8, next: RawSlot) -> bool
-    ensures { result ≡ is_second src (fields next) }
+pub fn lists_second(src: u8, next: &RawSlot) -> bool
+    ensures { result ≡ is_second src (fields next.now) }
 {
     let number = src != 1 || next.imm == 0;
     next.opcode == 0 && next.has_no_register() && next.offset == 0 && number

@@ -19,22 +19,22 @@ use insn_set::{Insn, RawSlot, Reg};
 
 /// Reads the wide instruction of this first slot into an entry, with its second slot at the front of the bytes, and returns the second
 /// slot. `Err` with the kind of the fault if that slot is missing or wrong.
-fn read_wide(entry: &mut Insn, slot: RawSlot, dst: Reg, rest: &[u8]) -> Result<RawSlot, FaultKind>
-    requires opcode { slot.opcode ≡ 0x18 }
-    requires listed { IsTrue (listed Wide (fields slot)) }
-    requires dst { (fields slot).dst ≡ dst }
+fn read_wide(entry: &mut Insn, slot: &RawSlot, dst: Reg, rest: &[u8]) -> Result<RawSlot, FaultKind>
+    requires opcode { slot.now.opcode ≡ 0x18 }
+    requires listed { IsTrue (listed Wide (fields slot.now)) }
+    requires dst { (fields slot.now).dst ≡ dst }
     requires dst_bound { dst ≤ 10 }
     ensures value { OnOk result (IsInsn entry.new) }
-    ensures slots { IfOk result (λ next. slots entry.new ≡ fields slot ∷ fields next ∷ []) }
+    ensures slots { IfOk result (λ next. slots entry.new ≡ fields slot.now ∷ fields next ∷ []) }
     ensures next { IfOk result (λ next. IsSecond rest.now (Some next)) }
-    ensures fault { IfErr result (λ kind. second_fault Wide (fields slot).src rest.now
+    ensures fault { IfErr result (λ kind. second_fault Wide (fields slot.now).src rest.now
         ≡ Some kind) }
 {
     if rest.len() < 8 {
         return Err(FaultKind::SecondSlot);
     }
     let next = RawSlot::first(rest);
-    if !lists_second(slot.src(), next) {
+    if !lists_second(slot.src(), &next) {
         return Err(FaultKind::SecondSlot);
     }
     *entry = match slot.src() {
@@ -58,11 +58,11 @@ fn read_wide(entry: &mut Insn, slot: RawSlot, dst: Reg, rest: &[u8]) -> Result<R
 /// Checks that the fields of a slot have values that its form allows, and that both registers exist.
 #[inline(always)]
 #[tactic(auto, unfolding(crate::specs::inside::FirstFault::fault_in_form))]
-fn check_fields(form: OpcodeForm, slot: RawSlot) -> Result<(), FaultKind>
-    ensures listed { OnOk result (IsTrue (listed form (fields slot))) }
-    ensures dst { OnOk result ((fields slot).dst ≤ 10) }
-    ensures src { OnOk result ((fields slot).src ≤ 10) }
-    ensures fault { IfErr result (λ kind. (rest : List ℕ) → fault_in_form form (fields slot) rest
+fn check_fields(form: OpcodeForm, slot: &RawSlot) -> Result<(), FaultKind>
+    ensures listed { OnOk result (IsTrue (listed form (fields slot.now))) }
+    ensures dst { OnOk result ((fields slot.now).dst ≤ 10) }
+    ensures src { OnOk result ((fields slot.now).src ≤ 10) }
+    ensures fault { IfErr result (λ kind. (rest : List ℕ) → fault_in_form form (fields slot.now) rest
         ≡ Some kind) }
 {
     if !form.lists(slot) {
@@ -76,14 +76,14 @@ fn check_fields(form: OpcodeForm, slot: RawSlot) -> Result<(), FaultKind>
 
 /// Reads the instruction of a slot of this form into an entry. It has no second slot.
 #[inline(always)]
-fn read_as(form: OpcodeForm, entry: &mut Insn, slot: RawSlot) -> Result<Option<RawSlot>, FaultKind>
+fn read_as(form: OpcodeForm, entry: &mut Insn, slot: &RawSlot) -> Result<Option<RawSlot>, FaultKind>
     requires single { form ≢ Wide }
-    requires opcode { slot.opcode ≡ opcode_of form }
+    requires opcode { slot.now.opcode ≡ opcode_of form }
     requires form { IsTrue (is_form form) }
     ensures value { OnOk result (IsInsn entry.new) }
-    ensures slots { OnOk result (slots entry.new ≡ fields slot ∷ []) }
+    ensures slots { OnOk result (slots entry.new ≡ fields slot.now ∷ []) }
     ensures none { IfOk result (λ second. second ≡ None) }
-    ensures fault { IfErr result (λ kind. (rest : List ℕ) → fault_in_form form (fields slot) rest
+    ensures fault { IfErr result (λ kind. (rest : List ℕ) → fault_in_form form (fields slot.now) rest
         ≡ Some kind) }
 {
     check_fields(form, slot)?;
@@ -98,16 +98,16 @@ fn read_as(form: OpcodeForm, entry: &mut Insn, slot: RawSlot) -> Result<Option<R
 fn read_form(
     form: OpcodeForm,
     entry: &mut Insn,
-    slot: RawSlot,
+    slot: &RawSlot,
     rest: &[u8],
 ) -> Result<Option<RawSlot>, FaultKind>
-    requires opcode { slot.opcode ≡ opcode_of form }
+    requires opcode { slot.now.opcode ≡ opcode_of form }
     requires form { IsTrue (is_form form) }
     ensures value { OnOk result (IsInsn entry.new) }
     ensures slots { IfOk result (λ second. slots entry.new
-        ≡ map fields (slot ∷ option_to_list second)) }
+        ≡ map fields (slot.now ∷ option_to_list second)) }
     ensures second { IfOk result (λ second. IsSecond rest.now second) }
-    ensures fault { IfErr result (λ kind. fault_in_form form (fields slot) rest.now ≡ Some kind) }
+    ensures fault { IfErr result (λ kind. fault_in_form form (fields slot.now) rest.now ≡ Some kind) }
 {
     match form {
         OpcodeForm::Alu { wide, op, source } => match source {
@@ -178,7 +178,7 @@ pub(crate) fn read_front(
         return Err(FaultKind::Opcode);
     };
     let (_, rest) = bytes.split_at(8);
-    let second = read_form(form, entry, slot, rest)?;
+    let second = read_form(form, entry, &slot, rest)?;
     Ok((slot, second))
 }
 

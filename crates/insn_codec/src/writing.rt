@@ -228,10 +228,10 @@ pub fn encode(insn: &Insn, out: &mut [u8; 16]) -> usize
     ensures room { result ≤ 16 }
     ensures bytes { out.new ≡ spelling insn.now ++ drop result out.old }
 {
-    let (first, second) = slots(insn);
+    let first = first(insn);
     let (front, back) = out.split_at_mut(8);
     front.copy_from_slice(&first.bytes());
-    match second {
+    match second(insn) {
         None => 8,
         Some(next) => {
             back.copy_from_slice(&next.bytes());

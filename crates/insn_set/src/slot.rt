@@ -56,31 +56,31 @@ impl RawSlot {
 
     /// The number in the field of the destination register.
     #[inline(always)]
-    pub fn dst(self) -> u8
-        ensures { result ≡ (fields self).dst }
+    pub fn dst(&self) -> u8
+        ensures { result ≡ (fields self.now).dst }
     {
         self.registers % 16
     }
 
     /// The number in the field of the source register.
     #[inline(always)]
-    pub fn src(self) -> u8
-        ensures { result ≡ (fields self).src }
+    pub fn src(&self) -> u8
+        ensures { result ≡ (fields self.now).src }
     {
         self.registers / 16
     }
 
     /// Whether the fields of both registers are zero.
     #[inline(always)]
-    pub fn has_no_register(self) -> bool
-        ensures { result ≡ ((fields self).dst == 0 && (fields self).src == 0) }
+    pub fn has_no_register(&self) -> bool
+        ensures { result ≡ ((fields self.now).dst == 0 && (fields self.now).src == 0) }
     {
         self.registers == 0
     }
 
     /// The slot's eight bytes.
-    pub fn bytes(self) -> [u8; 8]
-        ensures { result ≡ slot_bytes (fields self) }
+    pub fn bytes(&self) -> [u8; 8]
+        ensures { result ≡ slot_bytes (fields self.now) }
     {
         let [offset_low, offset_high] = self.offset.to_le_bytes();
         let [a, b, c, d] = self.imm.to_le_bytes();

@@ -12,5 +12,5 @@ pub returns-in_err-next-in-Wide-clause-fault : goal.returns-in_err-next-in-Wide-
 returns-in_err-next-in-Wide-clause-fault c =
     let p = err_from_is_err_and c.from_residual-in_err-next-in-Wide.result c.from_residual-in_err-next-in-Wide.ensures.1 in
     let checked = c.in_ok-check_fields-in-Wide.ensures in
-    let told = fault_by_second Wide (fields c.args.slot) (fields c.args.slot) c.args.rest.now c.in_err-next-in-Wide.field-0.0 refl checked.listed checked.dst checked.src c.in_err-next-in-Wide.ensures.fault in
-    rw (p.1, p.2) (ap (λ (f : OpcodeForm). fault_in_form f (fields c.args.slot) c.args.rest.now) c.in-Wide.is ∙ told)
+    let told = fault_by_second Wide (fields c.args.slot.now) (fields c.args.slot.now) c.args.rest.now c.in_err-next-in-Wide.field-0.0 refl checked.listed checked.dst checked.src c.in_err-next-in-Wide.ensures.fault in
+    rw (p.1, p.2) (ap (λ (f : OpcodeForm). fault_in_form f (fields c.args.slot.now) c.args.rest.now) c.in-Wide.is ∙ told)

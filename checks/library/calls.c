@@ -9,20 +9,21 @@ static void checks_new(void)
 {
     bpfhost host = BPFHOST_EMPTY;
     void *first;
-    CHECK(bpfhost_new(NULL, 1) == BPFHOST_NULL);
-    CHECK(bpfhost_new(&host, 0) == BPFHOST_TENANTS && host.at == NULL);
-    CHECK(bpfhost_new(&host, BPFHOST_MOST_TENANTS + 1) == BPFHOST_TENANTS && host.at == NULL);
-    CHECK(bpfhost_new(&host, SIZE_MAX) == BPFHOST_TENANTS && host.at == NULL);
-    CHECK(bpfhost_new(&host, BPFHOST_MOST_TENANTS) == BPFHOST_DONE && host.at != NULL);
+    CHECK(bpfhost_new(NULL, 1, &test_seed) == BPFHOST_NULL);
+    CHECK(bpfhost_new(&host, 1, NULL) == BPFHOST_NULL && host.at == NULL);
+    CHECK(bpfhost_new(&host, 0, &test_seed) == BPFHOST_TENANTS && host.at == NULL);
+    CHECK(bpfhost_new(&host, BPFHOST_MOST_TENANTS + 1, &test_seed) == BPFHOST_TENANTS && host.at == NULL);
+    CHECK(bpfhost_new(&host, SIZE_MAX, &test_seed) == BPFHOST_TENANTS && host.at == NULL);
+    CHECK(bpfhost_new(&host, BPFHOST_MOST_TENANTS, &test_seed) == BPFHOST_DONE && host.at != NULL);
     bpfhost_free(&host);
     CHECK(host.at == NULL);
-    CHECK(bpfhost_new(&host, 2) == BPFHOST_DONE);
+    CHECK(bpfhost_new(&host, 2, &test_seed) == BPFHOST_DONE);
     open_counter(&host, 1);
     CHECK(count_once(&host, 1) == 1);
     /* A second one leaves the first. */
     first = host.at;
-    CHECK(bpfhost_new(&host, 3) == BPFHOST_HAS_HOST && host.at == first);
-    CHECK(bpfhost_new(&host, 0) == BPFHOST_TENANTS && host.at == first);
+    CHECK(bpfhost_new(&host, 3, &test_seed) == BPFHOST_HAS_HOST && host.at == first);
+    CHECK(bpfhost_new(&host, 0, &test_seed) == BPFHOST_TENANTS && host.at == first);
     CHECK(count_once(&host, 1) == 2);
     bpfhost_free(&host);
     bpfhost_free(&host);
@@ -265,7 +266,7 @@ static void checks_packets(void)
     size_t end = sizeof long_packet, length;
     CHECK(bpfhost_run_packets(&host, 0, 3, NULL, three_bytes, 8, three_ends, 3, results, &status) == BPFHOST_NO_HOST);
     CHECK(status == 1 && results[0] == 7);
-    CHECK(bpfhost_new(&host, 2) == BPFHOST_DONE);
+    CHECK(bpfhost_new(&host, 2, &test_seed) == BPFHOST_DONE);
     open_counter(&host, 1);
     length = bpfhost_frame_prog_load(frame, sizeof frame, 1, BPFHOST_SOCKET_FILTER, answers_length, 2);
     CHECK(ask(&host, frame, length).status == 5);
@@ -306,7 +307,7 @@ int main(void)
     bpfhost host = BPFHOST_EMPTY;
     checks_new();
     checks_empty_handle();
-    CHECK(bpfhost_new(&host, 2) == BPFHOST_DONE);
+    CHECK(bpfhost_new(&host, 2, &test_seed) == BPFHOST_DONE);
     checks_nulls_and_lengths(&host);
     checks_overlaps(&host);
     checks_replies(&host);

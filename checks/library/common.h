@@ -1,4 +1,4 @@
-/* What the tests share: a check that tells its line, numbers out of nothing, and two programs. */
+/* What the tests share: a check that tells its line, numbers out of nothing, a seed, and two programs. */
 #ifndef COMMON_H
 #define COMMON_H
 
@@ -22,6 +22,9 @@ static inline uint64_t random_number(uint64_t *state)
     *state ^= *state << 17;
     return *state;
 }
+
+/* The seed of each host: the same in each run. */
+static const bpfhost_seed test_seed = {{0x0123456789abcdef, 0xfedcba9876543210}};
 
 /* r0 = the packet's length; exit */
 static const uint8_t answers_length[16] = {0x61, 0x10, 0, 0, 0, 0, 0, 0, 0x95};
@@ -74,7 +77,7 @@ static inline uint32_t count_once(bpfhost *host, uint16_t tenant)
 static inline void make_and_free(bool is_used)
 {
     bpfhost host = BPFHOST_EMPTY;
-    CHECK(bpfhost_new(&host, 1) == BPFHOST_DONE);
+    CHECK(bpfhost_new(&host, 1, &test_seed) == BPFHOST_DONE);
     if (is_used) {
         open_counter(&host, 0);
         CHECK(count_once(&host, 0) == 1);

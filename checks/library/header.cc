@@ -4,7 +4,7 @@
 int main()
 {
     bpfhost host = BPFHOST_EMPTY;
-    CHECK(bpfhost_new(&host, 1) == BPFHOST_DONE);
+    CHECK(bpfhost_new(&host, 1, &test_seed) == BPFHOST_DONE);
     open_counter(&host, 0);
     CHECK(count_once(&host, 0) == 1 && count_once(&host, 0) == 2);
     uint8_t frame[64];

@@ -70,7 +70,7 @@ int main(int argc, char **argv)
     long count = argc > 1 ? atol(argv[1]) : 100000;
     long done[2] = {0, 0};
     bpfhost copies = BPFHOST_EMPTY, lends = BPFHOST_EMPTY;
-    CHECK(bpfhost_new(&copies, TENANTS) == BPFHOST_DONE && bpfhost_new(&lends, TENANTS) == BPFHOST_DONE);
+    CHECK(bpfhost_new(&copies, TENANTS, &test_seed) == BPFHOST_DONE && bpfhost_new(&lends, TENANTS, &test_seed) == BPFHOST_DONE);
     memset(room, 0xa5, sizeof room);
     for (long i = 0; i < count; i++) {
         bool is_right = random_number(&state) % 2 == 0;

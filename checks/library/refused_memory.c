@@ -108,7 +108,7 @@ static bool round_of(int outcomes[STEPS][TENANTS])
 {
     bpfhost host = BPFHOST_EMPTY;
     bool saw[TENANTS] = {false, false};
-    int code = bpfhost_new(&host, TENANTS);
+    int code = bpfhost_new(&host, TENANTS, &test_seed);
     if (code != BPFHOST_DONE) {
         CHECK(code == BPFHOST_MEMORY && host.at == NULL && blocks == 0);
         return false;

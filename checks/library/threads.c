@@ -9,7 +9,7 @@ static void *runs_its_own(void *count)
 {
     bpfhost host = BPFHOST_EMPTY;
     uint32_t last = 0;
-    CHECK(bpfhost_new(&host, 2) == BPFHOST_DONE);
+    CHECK(bpfhost_new(&host, 2, &test_seed) == BPFHOST_DONE);
     open_counter(&host, 1);
     for (int i = 0; i < ROUNDS; i++)
         last = count_once(&host, 1);
@@ -45,7 +45,7 @@ int main(void)
         CHECK(pthread_join(threads[i], NULL) == 0);
         CHECK(counts_found[i] == ROUNDS);
     }
-    CHECK(bpfhost_new(&shared, 1) == BPFHOST_DONE);
+    CHECK(bpfhost_new(&shared, 1, &test_seed) == BPFHOST_DONE);
     open_counter(&shared, 0);
     for (int i = 0; i < THREADS; i++)
         CHECK(pthread_create(&threads[i], NULL, takes_turns, &sums[i]) == 0);

@@ -12,12 +12,17 @@
  *   - A pointer that is not null is aligned for its type and leads to as many bytes as the call says. They belong to the call
  *     while it lasts.
  *   - A lent reply (bpfhost_handle_lent, bpfhost_ask) is read only before the next call on its handle, bpfhost_free included, and
- *     is not the frame of that call.
+ *     is not the frame of that call. Only the library writes it.
  *   - A handle is in one call at a time. It may go from thread to thread, ordered by a lock, or by a thread's start or join; a
  *     lent reply goes with it. Two handles share nothing.
  *   - No call from a signal handler, or from the forked child of a process with threads.
  *   - There is stack: 256 KiB are more than enough.
  *   - malloc, realloc and free come from one allocator, and align as malloc does.
+ *
+ * What each function tests before it writes anything: that no pointer is null which must lead somewhere, that no length is above
+ * PTRDIFF_MAX, and that what it may write overlaps nothing else that it is given. If a test fails, the function returns which one, or
+ * 0 if it builds a frame, and writes nothing; bpfhost_handle_lent alone may empty its reply then. Only bpfhost_put16 and the small
+ * functions beside it test nothing.
  */
 #ifndef BPFHOST_H
 #define BPFHOST_H
@@ -49,10 +54,10 @@ enum bpfhost_code {
     BPFHOST_TENANTS = -3,  /* a host has 1 to BPFHOST_MOST_TENANTS tenants */
     BPFHOST_MEMORY = -4,   /* there is no memory for the host */
     BPFHOST_ROOM = -5,     /* the room has less than BPFHOST_LONGEST_REPLY bytes */
-    /* of this header alone */
+    /* of this header alone; if more than one of them holds, the answer is one that does */
     BPFHOST_NULL = -16,     /* a pointer is null */
     BPFHOST_LENGTH = -17,   /* no object has so many bytes: the length is above PTRDIFF_MAX */
-    BPFHOST_OVERLAP = -18,  /* two of the frame, the room, the handle and what the call writes overlap */
+    BPFHOST_OVERLAP = -18,  /* what the call may write, its handle included, overlaps something else that it is given */
     BPFHOST_NO_REPLY = -19  /* the bytes are not one whole reply */
 };
 
@@ -77,8 +82,8 @@ typedef struct bpfhost_seed {
     uint64_t words[2];
 } bpfhost_seed;
 
-/* The proved functions. No pointer is null, no length is above PTRDIFF_MAX, what they are given does not overlap, `*refused` is
- * false or true, and `reply->at` leads to `reply->length` bytes. Call those below in their place. */
+/* The proved functions. No pointer is null, no length is above PTRDIFF_MAX, what they may write overlaps nothing else that they are
+ * given, `*refused` is false or true, and `reply->at` leads to `reply->length` bytes. Call those below in their place. */
 int32_t bpfhost_c_new(bpfhost *handle, size_t tenants, uint64_t first, uint64_t second);
 int32_t bpfhost_c_handle(bpfhost *handle, const uint8_t *frame, size_t frame_length, uint8_t *room, size_t room_length,
                          size_t *written);
@@ -94,6 +99,23 @@ static inline bool bpfhost_are_apart(const void *a, size_t a_length, const void 
 {
     return a_length == 0 || b_length == 0
         || ((uintptr_t)a - (uintptr_t)b >= b_length && (uintptr_t)b - (uintptr_t)a >= a_length);
+}
+
+/* What is wrong with two objects of a call that may write one of them, or DONE. */
+static inline int bpfhost_pair_code(const void *a, size_t a_length, const void *b, size_t b_length)
+{
+    if (a == NULL || b == NULL)
+        return BPFHOST_NULL;
+    if (a_length > PTRDIFF_MAX || b_length > PTRDIFF_MAX)
+        return BPFHOST_LENGTH;
+    return bpfhost_are_apart(a, a_length, b, b_length) ? BPFHOST_DONE : BPFHOST_OVERLAP;
+}
+
+/* Where bytes stand; if there are none, they may be null. */
+static inline const uint8_t *bpfhost_bytes_at(const void *bytes, size_t length)
+{
+    static const uint8_t no_bytes[1] = {0};
+    return length == 0 ? no_bytes : (const uint8_t *)bytes;
 }
 
 /* Fills a seed with random bytes of the system, of /dev/urandom. false: there are none, and the seed is as it was; then take words
@@ -113,31 +135,23 @@ static inline bool bpfhost_random_seed(bpfhost_seed *seed)
 }
 
 /* Makes a host for so many tenants, numbered from 0, with the seed of its hash maps, and puts it behind an empty handle. It takes
- * some 260 KiB for each tenant, which bpfhost_free gives back. TENANTS, HAS_HOST, MEMORY, NULL: the handle is as it was. */
+ * some 260 KiB for each tenant, which bpfhost_free gives back. TENANTS, HAS_HOST, MEMORY, NULL, OVERLAP: the handle is as it was. */
 static inline int bpfhost_new(bpfhost *handle, size_t tenants, const bpfhost_seed *seed)
 {
-    if (handle == NULL || seed == NULL)
-        return BPFHOST_NULL;
-    return (int)bpfhost_c_new(handle, tenants, seed->words[0], seed->words[1]);
+    int code = bpfhost_pair_code(handle, sizeof *handle, seed, sizeof *seed);
+    return code == BPFHOST_DONE ? (int)bpfhost_c_new(handle, tenants, seed->words[0], seed->words[1]) : code;
 }
 
-/* What is wrong with a frame for a call, or DONE. */
-static inline int bpfhost_frame_code(const bpfhost *handle, const void *frame, size_t frame_length)
+/* What is wrong with the objects of a call that handles a frame and writes `out` beside its handle, or DONE. */
+static inline int bpfhost_frame_code(const bpfhost *handle, const uint8_t *frame, size_t frame_length, const void *out,
+                                     size_t out_length)
 {
-    if (handle == NULL || (frame == NULL && frame_length != 0))
-        return BPFHOST_NULL;
-    if (frame_length > PTRDIFF_MAX)
-        return BPFHOST_LENGTH;
-    if (!bpfhost_are_apart(handle, sizeof *handle, frame, frame_length))
-        return BPFHOST_OVERLAP;
-    return BPFHOST_DONE;
-}
-
-/* Where a frame stands; an empty one may be null. */
-static inline const uint8_t *bpfhost_frame_at(const void *frame, size_t frame_length)
-{
-    static const uint8_t no_bytes[1] = {0};
-    return frame_length == 0 ? no_bytes : (const uint8_t *)frame;
+    int code = bpfhost_pair_code(handle, sizeof *handle, frame, frame_length);
+    if (code == BPFHOST_DONE)
+        code = bpfhost_pair_code(handle, sizeof *handle, out, out_length);
+    if (code == BPFHOST_DONE)
+        code = bpfhost_pair_code(frame, frame_length, out, out_length);
+    return code;
 }
 
 /* Handles a frame of any length and content, which is what follows the length field in a stream, and leaves the reply, with its
@@ -146,39 +160,36 @@ static inline const uint8_t *bpfhost_frame_at(const void *frame, size_t frame_le
 static inline int bpfhost_handle(bpfhost *handle, const void *frame, size_t frame_length, void *room, size_t room_length,
                                  size_t *written)
 {
-    int code = bpfhost_frame_code(handle, frame, frame_length);
-    if (room == NULL || written == NULL)
-        return BPFHOST_NULL;
-    if (code != BPFHOST_DONE)
-        return code;
-    if (room_length > PTRDIFF_MAX)
-        return BPFHOST_LENGTH;
-    if (!bpfhost_are_apart(room, room_length, frame, frame_length)
-        || !bpfhost_are_apart(room, room_length, handle, sizeof *handle)
-        || !bpfhost_are_apart(room, room_length, written, sizeof *written)
-        || !bpfhost_are_apart(written, sizeof *written, frame, frame_length)
-        || !bpfhost_are_apart(written, sizeof *written, handle, sizeof *handle))
-        return BPFHOST_OVERLAP;
-    return (int)bpfhost_c_handle(handle, bpfhost_frame_at(frame, frame_length), frame_length, (uint8_t *)room, room_length,
-                                 written);
+    const uint8_t *at = bpfhost_bytes_at(frame, frame_length);
+    int code = bpfhost_frame_code(handle, at, frame_length, room, room_length);
+    if (code == BPFHOST_DONE)
+        code = bpfhost_frame_code(handle, at, frame_length, written, sizeof *written);
+    if (code == BPFHOST_DONE)
+        code = bpfhost_pair_code(room, room_length, written, sizeof *written);
+    return code == BPFHOST_DONE ? (int)bpfhost_c_handle(handle, at, frame_length, (uint8_t *)room, room_length, written) : code;
+}
+
+/* Whether a refused call may empty its reply: it is there, and overlaps neither the handle nor the frame. A frame that is longer than
+ * any object might overlap anything. */
+static inline bool bpfhost_may_empty(const bpfhost_bytes *reply, const bpfhost *handle, const uint8_t *frame, size_t frame_length)
+{
+    return reply != NULL && frame_length <= PTRDIFF_MAX
+        && (handle == NULL || bpfhost_are_apart(reply, sizeof *reply, handle, sizeof *handle))
+        && (frame == NULL || bpfhost_are_apart(reply, sizeof *reply, frame, frame_length));
 }
 
 /* The same, but the reply is lent where it stands, in the host's own room, until the next call on this handle: nothing is copied.
- * NO_HOST, NULL, LENGTH, OVERLAP: `reply` has no bytes, unless it is null or overlaps, and no tenant's state has changed. */
+ * NO_HOST, NULL, LENGTH, OVERLAP: no tenant's state has changed, and `reply` has no bytes. But it is as it was if the frame's length
+ * is above PTRDIFF_MAX, or if `reply` itself overlaps the handle or the frame. */
 static inline int bpfhost_handle_lent(bpfhost *handle, const void *frame, size_t frame_length, bpfhost_bytes *reply)
 {
-    int code = bpfhost_frame_code(handle, frame, frame_length);
-    if (reply == NULL)
-        return BPFHOST_NULL;
-    if (code == BPFHOST_DONE
-        && (!bpfhost_are_apart(reply, sizeof *reply, frame, frame_length)
-            || !bpfhost_are_apart(reply, sizeof *reply, handle, sizeof *handle)))
-        return BPFHOST_OVERLAP;
-    reply->at = bpfhost_frame_at(NULL, 0);
-    reply->length = 0;
-    if (code != BPFHOST_DONE)
-        return code;
-    return (int)bpfhost_c_handle_lent(handle, bpfhost_frame_at(frame, frame_length), frame_length, reply);
+    const uint8_t *at = bpfhost_bytes_at(frame, frame_length);
+    int code = bpfhost_frame_code(handle, at, frame_length, reply, sizeof *reply);
+    if (code == BPFHOST_DONE || bpfhost_may_empty(reply, handle, at, frame_length)) {
+        reply->at = bpfhost_bytes_at(NULL, 0);
+        reply->length = 0;
+    }
+    return code == BPFHOST_DONE ? (int)bpfhost_c_handle_lent(handle, at, frame_length, reply) : code;
 }
 
 /* What a run finds in its context behind the packet's length: the fields of the kernel's __sk_buff, with any values. */
@@ -186,11 +197,20 @@ typedef struct bpfhost_context {
     uint32_t pkt_type, mark, queue_mapping, protocol, vlan_present, vlan_tci, vlan_proto, priority, ingress_ifindex, ifindex;
 } bpfhost_context;
 
-/* The words of a context as they stand behind one another; zeros for null. */
-static inline void bpfhost_context_words(const bpfhost_context *context, uint32_t words[10])
+/* Where a context stands; one of zeros for null. */
+static inline const bpfhost_context *bpfhost_context_at(const bpfhost_context *context)
 {
     static const bpfhost_context zeros = {0, 0, 0, 0, 0, 0, 0, 0, 0, 0};
-    const bpfhost_context *c = context == NULL ? &zeros : context;
+    return context == NULL ? &zeros : context;
+}
+
+/* The words of a context as they stand behind one another; zeros for a null context. NULL, OVERLAP: nothing is written. */
+static inline int bpfhost_context_words(const bpfhost_context *context, uint32_t words[10])
+{
+    const bpfhost_context *c = bpfhost_context_at(context);
+    int code = bpfhost_pair_code(c, sizeof *c, words, 10 * sizeof *words);
+    if (code != BPFHOST_DONE)
+        return code;
     words[0] = c->pkt_type;
     words[1] = c->mark;
     words[2] = c->queue_mapping;
@@ -201,6 +221,41 @@ static inline void bpfhost_context_words(const bpfhost_context *context, uint32_
     words[7] = c->priority;
     words[8] = c->ingress_ifindex;
     words[9] = c->ifindex;
+    return BPFHOST_DONE;
+}
+
+/* What is wrong with what a run of many packets reads, beside an object that it may write, or DONE. */
+static inline int bpfhost_packets_code(const void *out, size_t out_length, const bpfhost_context *context, const uint8_t *bytes,
+                                       size_t byte_count, const size_t *ends, size_t packets)
+{
+    int code = bpfhost_pair_code(out, out_length, context, sizeof *context);
+    if (code == BPFHOST_DONE)
+        code = bpfhost_pair_code(out, out_length, bytes, byte_count);
+    if (code == BPFHOST_DONE)
+        code = bpfhost_pair_code(out, out_length, ends, packets * sizeof *ends);
+    return code;
+}
+
+/* What is wrong with the objects of a run of many packets, or DONE. */
+static inline int bpfhost_run_code(const bpfhost *handle, const bpfhost_context *context, const uint8_t *bytes, size_t byte_count,
+                                   const size_t *ends, size_t packets, const uint32_t *results, const int32_t *status)
+{
+    size_t results_size = packets * sizeof *results;
+    int code;
+    if (packets > PTRDIFF_MAX / sizeof *ends)
+        return BPFHOST_LENGTH;
+    code = bpfhost_packets_code(handle, sizeof *handle, context, bytes, byte_count, ends, packets);
+    if (code == BPFHOST_DONE)
+        code = bpfhost_packets_code(results, results_size, context, bytes, byte_count, ends, packets);
+    if (code == BPFHOST_DONE)
+        code = bpfhost_packets_code(status, sizeof *status, context, bytes, byte_count, ends, packets);
+    if (code == BPFHOST_DONE)
+        code = bpfhost_pair_code(handle, sizeof *handle, results, results_size);
+    if (code == BPFHOST_DONE)
+        code = bpfhost_pair_code(handle, sizeof *handle, status, sizeof *status);
+    if (code == BPFHOST_DONE)
+        code = bpfhost_pair_code(results, results_size, status, sizeof *status);
+    return code;
 }
 
 /* Runs a program of a tenant on many packets, one after another, as PROG_TEST_RUN does on each, without frames and replies. The
@@ -215,30 +270,17 @@ static inline int bpfhost_run_packets(bpfhost *handle, uint16_t tenant, uint32_t
                                       uint32_t *results, int32_t *status)
 {
     static const size_t no_ends[1] = {0};
-    static const uint8_t no_bytes[1] = {0};
-    uint32_t no_results[1] = {0};
-    uint32_t words[10];
+    uint32_t no_results[1] = {0}, words[10];
+    const bpfhost_context *c = bpfhost_context_at(context);
+    const uint8_t *at = bpfhost_bytes_at(bytes, byte_count);
+    const size_t *stops = packets == 0 ? no_ends : ends;
+    uint32_t *room = packets == 0 ? no_results : results;
     int32_t told = 0;
-    int code;
-    if (handle == NULL || status == NULL || (bytes == NULL && byte_count != 0)
-        || ((ends == NULL || results == NULL) && packets != 0))
-        return BPFHOST_NULL;
-    if (byte_count > PTRDIFF_MAX || packets > PTRDIFF_MAX / sizeof *ends)
-        return BPFHOST_LENGTH;
-    if (!bpfhost_are_apart(handle, sizeof *handle, bytes, byte_count)
-        || !bpfhost_are_apart(handle, sizeof *handle, ends, packets * sizeof *ends)
-        || !bpfhost_are_apart(handle, sizeof *handle, results, packets * sizeof *results)
-        || !bpfhost_are_apart(handle, sizeof *handle, status, sizeof *status)
-        || !bpfhost_are_apart(results, packets * sizeof *results, bytes, byte_count)
-        || !bpfhost_are_apart(results, packets * sizeof *results, ends, packets * sizeof *ends)
-        || !bpfhost_are_apart(results, packets * sizeof *results, status, sizeof *status)
-        || !bpfhost_are_apart(status, sizeof *status, bytes, byte_count)
-        || !bpfhost_are_apart(status, sizeof *status, ends, packets * sizeof *ends))
-        return BPFHOST_OVERLAP;
-    bpfhost_context_words(context, words);
-    code = (int)bpfhost_c_run_packets(handle, tenant, fd, words, byte_count == 0 ? no_bytes : (const uint8_t *)bytes, byte_count,
-                                      packets == 0 ? no_ends : ends, packets, packets == 0 ? no_results : results, packets,
-                                      &told);
+    int code = bpfhost_run_code(handle, c, at, byte_count, stops, packets, room, status);
+    if (code == BPFHOST_DONE)
+        code = bpfhost_context_words(c, words);
+    if (code == BPFHOST_DONE)
+        code = (int)bpfhost_c_run_packets(handle, tenant, fd, words, at, byte_count, stops, packets, room, packets, &told);
     if (code == BPFHOST_DONE)
         *status = told;
     return code;
@@ -249,12 +291,9 @@ static inline int bpfhost_run_packets(bpfhost *handle, uint16_t tenant, uint32_t
 static inline int bpfhost_memory_refused(bpfhost *handle, uint16_t tenant, bool *refused)
 {
     bool found = false;
-    int code;
-    if (handle == NULL || refused == NULL)
-        return BPFHOST_NULL;
-    if (!bpfhost_are_apart(refused, sizeof *refused, handle, sizeof *handle))
-        return BPFHOST_OVERLAP;
-    code = (int)bpfhost_c_memory_refused(handle, tenant, &found);
+    int code = bpfhost_pair_code(handle, sizeof *handle, refused, sizeof *refused);
+    if (code == BPFHOST_DONE)
+        code = (int)bpfhost_c_memory_refused(handle, tenant, &found);
     if (code == BPFHOST_DONE)
         *refused = found;
     return code;
@@ -267,9 +306,9 @@ static inline void bpfhost_free(bpfhost *handle)
         bpfhost_c_free(handle);
 }
 
-/* ---- frames. Each function writes a frame into a room and answers its length; 0 where the room is too small, or a pointer is
- * null that has bytes to give, and then nothing is written. What they are given may not overlap the room. A number of a tenant, a
- * descriptor or a size need not be right: the host says so in its reply. */
+/* ---- frames. Each function writes a frame into a room and answers its length. If the room is too small, a pointer is null that
+ * has bytes to give, a length is above PTRDIFF_MAX, or what it is given overlaps the room, it answers 0 and writes nothing. A number
+ * of a tenant, a descriptor or a size need not be right: the host says so in its reply. */
 
 enum bpfhost_command {
     BPFHOST_MAP_CREATE = 0,
@@ -286,6 +325,7 @@ enum bpfhost_map_type { BPFHOST_HASH = 1, BPFHOST_ARRAY = 2 };
 enum bpfhost_prog_type { BPFHOST_SOCKET_FILTER = 1 };
 enum bpfhost_update_flags { BPFHOST_ANY = 0, BPFHOST_NOEXIST = 1, BPFHOST_EXIST = 2 };
 
+/* Numbers and bytes of frames and replies. These test nothing: there is room, and each `put` returns where it ends. */
 static inline uint8_t *bpfhost_put16(uint8_t *at, uint16_t number)
 {
     at[0] = (uint8_t)number;
@@ -315,11 +355,12 @@ static inline uint32_t bpfhost_get32(const uint8_t *at)
     return (uint32_t)bpfhost_get16(at) | (uint32_t)bpfhost_get16(at + 2) << 16;
 }
 
-/* The head of a frame and a first number, where a frame of `fixed` bytes and `more` behind them fits; else null. */
+/* The head of a frame and a first number, if a frame of `fixed` bytes and `more` behind them fits; else null, and nothing is
+ * written. */
 static inline uint8_t *bpfhost_frame_begin(void *frame, size_t room, size_t fixed, size_t more, uint16_t tenant,
                                            enum bpfhost_command command, uint32_t first)
 {
-    if (frame == NULL || room < fixed || room - fixed < more)
+    if (frame == NULL || room > PTRDIFF_MAX || room < fixed || room - fixed < more)
         return NULL;
     return bpfhost_put32(bpfhost_put16(bpfhost_put16((uint8_t *)frame, tenant), (uint16_t)command), first);
 }
@@ -335,11 +376,20 @@ static inline size_t bpfhost_frame_map_create(void *frame, size_t room, uint16_t
     return 24;
 }
 
+/* Whether bytes may be copied into a room: there may be none. */
+static inline bool bpfhost_may_copy(const void *room, size_t room_length, const void *bytes, size_t length)
+{
+    return bpfhost_pair_code(room, room_length, bpfhost_bytes_at(bytes, length), length) == BPFHOST_DONE;
+}
+
 /* A frame of a descriptor and bytes: 8 and the bytes'. */
 static inline size_t bpfhost_frame_of_key(void *frame, size_t room, uint16_t tenant, enum bpfhost_command command, uint32_t fd,
                                           const void *key, size_t key_size)
 {
-    uint8_t *at = key == NULL && key_size != 0 ? NULL : bpfhost_frame_begin(frame, room, 8, key_size, tenant, command, fd);
+    uint8_t *at;
+    if (!bpfhost_may_copy(frame, room, key, key_size))
+        return 0;
+    at = bpfhost_frame_begin(frame, room, 8, key_size, tenant, command, fd);
     if (at == NULL)
         return 0;
     bpfhost_put_bytes(at, key, key_size);
@@ -372,7 +422,7 @@ static inline size_t bpfhost_frame_map_update(void *frame, size_t room, uint16_t
                                               const void *key, size_t key_size, const void *value, size_t value_size)
 {
     uint8_t *at;
-    if ((key == NULL && key_size != 0) || (value == NULL && value_size != 0) || key_size > SIZE_MAX - value_size)
+    if (!bpfhost_may_copy(frame, room, key, key_size) || !bpfhost_may_copy(frame, room, value, value_size))
         return 0;
     at = bpfhost_frame_begin(frame, room, 16, key_size + value_size, tenant, BPFHOST_MAP_UPDATE, fd);
     if (at == NULL)
@@ -397,9 +447,11 @@ static inline size_t bpfhost_frame_prog_load(void *frame, size_t room, uint16_t 
 static inline size_t bpfhost_frame_test_run_head(void *head, size_t room, uint16_t tenant, uint32_t fd,
                                                  const bpfhost_context *context)
 {
-    static const bpfhost_context zeros = {0, 0, 0, 0, 0, 0, 0, 0, 0, 0};
-    const bpfhost_context *c = context == NULL ? &zeros : context;
-    uint8_t *at = bpfhost_frame_begin(head, room, BPFHOST_TEST_RUN_HEAD, 0, tenant, BPFHOST_PROG_TEST_RUN, fd);
+    const bpfhost_context *c = bpfhost_context_at(context);
+    uint8_t *at;
+    if (!bpfhost_may_copy(head, room, c, sizeof *c))
+        return 0;
+    at = bpfhost_frame_begin(head, room, BPFHOST_TEST_RUN_HEAD, 0, tenant, BPFHOST_PROG_TEST_RUN, fd);
     if (at == NULL)
         return 0;
     at = bpfhost_put32(bpfhost_put32(bpfhost_put32(at, c->pkt_type), c->mark), c->queue_mapping);
@@ -413,7 +465,7 @@ static inline size_t bpfhost_frame_test_run_head(void *head, size_t room, uint16
 static inline size_t bpfhost_frame_prog_test_run(void *frame, size_t room, uint16_t tenant, uint32_t fd,
                                                  const bpfhost_context *context, const void *packet, size_t packet_length)
 {
-    if ((packet == NULL && packet_length != 0) || room < BPFHOST_TEST_RUN_HEAD
+    if (!bpfhost_may_copy(frame, room, packet, packet_length) || room < BPFHOST_TEST_RUN_HEAD
         || room - BPFHOST_TEST_RUN_HEAD < packet_length || bpfhost_frame_test_run_head(frame, room, tenant, fd, context) == 0)
         return 0;
     bpfhost_put_bytes((uint8_t *)frame + BPFHOST_TEST_RUN_HEAD, packet, packet_length);
@@ -439,12 +491,13 @@ typedef struct bpfhost_reply {
     uint16_t reason;
 } bpfhost_reply;
 
-/* Reads one whole reply. NULL, NO_REPLY: nothing is written. */
+/* Reads one whole reply. NULL, LENGTH, OVERLAP, NO_REPLY: nothing is written. */
 static inline int bpfhost_read_reply(const void *bytes, size_t length, bpfhost_reply *reply)
 {
     const uint8_t *at = (const uint8_t *)bytes;
-    if (bytes == NULL || reply == NULL)
-        return BPFHOST_NULL;
+    int code = bpfhost_pair_code(bytes, length, reply, sizeof *reply);
+    if (code != BPFHOST_DONE)
+        return code;
     if (length < 12 || length > BPFHOST_LONGEST_REPLY || bpfhost_get32(at) != length - 4)
         return BPFHOST_NO_REPLY;
     reply->tenant = bpfhost_get16(at + 4);
@@ -464,15 +517,15 @@ static inline int bpfhost_read_reply(const void *bytes, size_t length, bpfhost_r
     return BPFHOST_DONE;
 }
 
-/* Handles a frame and reads the reply, whose payload is lent until the next call on this handle. The codes are those of
- * bpfhost_handle_lent; `reply` is written where DONE is answered. */
+/* Handles a frame and reads the reply, whose payload is lent until the next call on this handle. NO_HOST, NULL, LENGTH, OVERLAP:
+ * nothing is written, and no tenant's state has changed. */
 static inline int bpfhost_ask(bpfhost *handle, const void *frame, size_t frame_length, bpfhost_reply *reply)
 {
-    bpfhost_bytes lent;
-    int code;
-    if (reply == NULL)
-        return BPFHOST_NULL;
-    code = bpfhost_handle_lent(handle, frame, frame_length, &lent);
+    const uint8_t *at = bpfhost_bytes_at(frame, frame_length);
+    bpfhost_bytes lent = {bpfhost_bytes_at(NULL, 0), 0};
+    int code = bpfhost_frame_code(handle, at, frame_length, reply, sizeof *reply);
+    if (code == BPFHOST_DONE)
+        code = (int)bpfhost_c_handle_lent(handle, at, frame_length, &lent);
     return code == BPFHOST_DONE ? bpfhost_read_reply(lent.at, lent.length, reply) : code;
 }
 

@@ -1,0 +1,355 @@
+/* The functions of bpfhost.h that may write something: their objects, how they are called, and what a call has to do.
+ *
+ * Not here, since they write nothing: bpfhost_pair_code, bpfhost_bytes_at, bpfhost_frame_code, bpfhost_may_empty, bpfhost_context_at,
+ * bpfhost_packets_code, bpfhost_run_code, bpfhost_may_copy, bpfhost_code_text, bpfhost_get16, bpfhost_get32. Since they test nothing:
+ * bpfhost_put16, bpfhost_put32, bpfhost_put_bytes. In objects.c: bpfhost_are_apart. */
+#ifndef FUNCTIONS_H
+#define FUNCTIONS_H
+
+#include <bpfhost.h>
+#include <stdalign.h>
+#include "stubs.h"
+
+#define MOST_OBJECTS 6
+#define MOST_COUNTS 3
+#define UNCOUNTED MOST_COUNTS
+
+/* What is done with an object, and when it may be null. */
+enum { READ = 0, WRITTEN = 1, EMPTIED = 2, MAY_BE_NULL = 4, NULL_IF_EMPTY = 8 };
+
+/* An object of a function: `units` times `unit` bytes. */
+struct object {
+    const char *name;
+    size_t unit, units, alignment;
+    size_t count; /* which of the call's counts says how many units there are */
+    unsigned uses;
+    const uint8_t *content; /* null for any */
+};
+
+/* What a function is given: its objects and the counts of their units. */
+struct given {
+    void *at[MOST_OBJECTS];
+    size_t counts[MOST_COUNTS];
+};
+
+/* The code here of a function that builds a frame, if it returns 0. */
+#define REFUSED (-100)
+
+struct function {
+    const char *name;
+    int (*call)(const struct given *given);
+    /* Whether a call did what it should, with this code. It is asked if nothing is wrong. */
+    bool (*holds)(const struct given *given, int code);
+    bool builds;  /* a frame in its first object: then all its refusals are REFUSED */
+    size_t least; /* of the first count, without what the others count; 0 if it may be any */
+    size_t objects, counts;
+    struct object object[MOST_OBJECTS];
+};
+
+/* The length of the frame that was built last. */
+static size_t built;
+
+static int code_of(size_t length)
+{
+    built = length;
+    return length == 0 ? REFUSED : BPFHOST_DONE;
+}
+
+static bool is_marked(const void *at, size_t length)
+{
+    for (size_t i = 0; i < length; i++)
+        if (((const uint8_t *)at)[i] != MARK)
+            return false;
+    return true;
+}
+
+/* Whether one proved function was called, with the handle and, if it has a length, the frame, and its code came back; if that is
+ * DONE, with its mark on the handle. */
+static bool is_asked(const struct given *given, size_t frame_length, int code)
+{
+    return asked.calls == 1 && code == asked.code && asked.at[0] == given->at[0]
+        && (frame_length == 0 || asked.at[1] == given->at[1])
+        && (code != BPFHOST_DONE || is_marked(given->at[0], sizeof(bpfhost)));
+}
+
+static int call_random_seed(const struct given *given)
+{
+    return bpfhost_random_seed((bpfhost_seed *)given->at[0]) ? BPFHOST_DONE : BPFHOST_NULL;
+}
+
+static bool holds_random_seed(const struct given *given, int code)
+{
+    return given->at[0] != NULL && code == BPFHOST_DONE;
+}
+
+static int call_new(const struct given *given)
+{
+    return bpfhost_new((bpfhost *)given->at[0], 17, (const bpfhost_seed *)given->at[1]);
+}
+
+static bool holds_new(const struct given *given, int code)
+{
+    const bpfhost_seed *seed = (const bpfhost_seed *)given->at[1];
+    return is_asked(given, 0, code) && asked.numbers[0] == 17 && asked.numbers[1] == seed->words[0]
+        && asked.numbers[2] == seed->words[1];
+}
+
+static int call_handle(const struct given *given)
+{
+    return bpfhost_handle((bpfhost *)given->at[0], given->at[1], given->counts[0], given->at[2], given->counts[1],
+                          (size_t *)given->at[3]);
+}
+
+static bool holds_handle(const struct given *given, int code)
+{
+    return is_asked(given, given->counts[0], code) && asked.numbers[0] == given->counts[0] && asked.numbers[1] == given->counts[1]
+        && asked.at[2] == given->at[2] && asked.at[3] == given->at[3]
+        && (code != BPFHOST_DONE
+            || (is_marked(given->at[2], given->counts[1]) && is_marked(given->at[3], sizeof(size_t))));
+}
+
+static int call_handle_lent(const struct given *given)
+{
+    return bpfhost_handle_lent((bpfhost *)given->at[0], given->at[1], given->counts[0], (bpfhost_bytes *)given->at[2]);
+}
+
+static bool holds_handle_lent(const struct given *given, int code)
+{
+    const bpfhost_bytes *reply = (const bpfhost_bytes *)given->at[2];
+    return is_asked(given, given->counts[0], code) && asked.numbers[0] == given->counts[0] && asked.at[2] == reply
+        && (code != BPFHOST_DONE || (reply->at == lent_reply && reply->length == sizeof lent_reply));
+}
+
+/* Whether a reply is `lent_reply`, read at `bytes`. */
+static bool is_read(const bpfhost_reply *reply, const uint8_t *bytes)
+{
+    return reply->tenant == 1 && reply->command == BPFHOST_PROG_LOAD && reply->status == -13 && reply->payload == bytes + 12
+        && reply->payload_length == 6 && reply->result == 0 && reply->slot == 7 && reply->reason == 20;
+}
+
+static int call_ask(const struct given *given)
+{
+    return bpfhost_ask((bpfhost *)given->at[0], given->at[1], given->counts[0], (bpfhost_reply *)given->at[2]);
+}
+
+static bool holds_ask(const struct given *given, int code)
+{
+    return is_asked(given, given->counts[0], code) && asked.numbers[0] == given->counts[0]
+        && (code != BPFHOST_DONE || is_read((const bpfhost_reply *)given->at[2], lent_reply));
+}
+
+static int call_read_reply(const struct given *given)
+{
+    return bpfhost_read_reply(given->at[0], given->counts[0], (bpfhost_reply *)given->at[1]);
+}
+
+static bool holds_read_reply(const struct given *given, int code)
+{
+    return code == BPFHOST_DONE && is_read((const bpfhost_reply *)given->at[1], (const uint8_t *)given->at[0]);
+}
+
+/* Whether ten words are those of a context, or zeros for null. */
+static bool are_words_of(const void *words, const void *context)
+{
+    static const uint8_t zeros[sizeof(bpfhost_context)] = {0};
+    return memcmp(words, context == NULL ? zeros : context, sizeof zeros) == 0;
+}
+
+static int call_context_words(const struct given *given)
+{
+    return bpfhost_context_words((const bpfhost_context *)given->at[0], (uint32_t *)given->at[1]);
+}
+
+static bool holds_context_words(const struct given *given, int code)
+{
+    return code == BPFHOST_DONE && are_words_of(given->at[1], given->at[0]);
+}
+
+static int call_run_packets(const struct given *given)
+{
+    return bpfhost_run_packets((bpfhost *)given->at[0], 258, 4, (const bpfhost_context *)given->at[1], given->at[2],
+                               given->counts[0], (const size_t *)given->at[3], given->counts[1], (uint32_t *)given->at[4],
+                               (int32_t *)given->at[5]);
+}
+
+static bool holds_run_packets(const struct given *given, int code)
+{
+    size_t packets = given->counts[1];
+    return is_asked(given, 0, code) && asked.numbers[0] == 258 && asked.numbers[1] == 4 && asked.numbers[2] == given->counts[0]
+        && asked.numbers[3] == packets && asked.numbers[4] == packets && are_words_of(asked.words, given->at[1])
+        && (given->counts[0] == 0 || asked.at[2] == given->at[2])
+        && (packets == 0 || (asked.at[3] == given->at[3] && asked.at[4] == given->at[4]))
+        && (code != BPFHOST_DONE
+            || (is_marked(given->at[4], packets * sizeof(uint32_t)) && is_marked(given->at[5], sizeof(int32_t))));
+}
+
+static int call_memory_refused(const struct given *given)
+{
+    return bpfhost_memory_refused((bpfhost *)given->at[0], 258, (bool *)given->at[1]);
+}
+
+static bool holds_memory_refused(const struct given *given, int code)
+{
+    return is_asked(given, 0, code) && asked.numbers[0] == 258 && (code != BPFHOST_DONE || *(const uint8_t *)given->at[1] == 1);
+}
+
+static int call_free(const struct given *given)
+{
+    bpfhost_free((bpfhost *)given->at[0]);
+    return asked.calls == 0 ? BPFHOST_DONE : asked.code;
+}
+
+static bool holds_free(const struct given *given, int code)
+{
+    return given->at[0] == NULL ? asked.calls == 0 : is_asked(given, 0, code);
+}
+
+static int call_frame_begin(const struct given *given)
+{
+    return code_of(bpfhost_frame_begin(given->at[0], given->counts[0], 9, 2, 1, BPFHOST_CLOSE, 3) == NULL ? 0 : 8);
+}
+
+static int call_frame_map_create(const struct given *given)
+{
+    return code_of(bpfhost_frame_map_create(given->at[0], given->counts[0], 1, BPFHOST_HASH, 4, 8, 16, 0));
+}
+
+static int call_frame_of_key(const struct given *given)
+{
+    return code_of(bpfhost_frame_of_key(given->at[0], given->counts[0], 1, BPFHOST_MAP_LOOKUP, 3, given->at[1], given->counts[1]));
+}
+
+static int call_frame_map_lookup(const struct given *given)
+{
+    return code_of(bpfhost_frame_map_lookup(given->at[0], given->counts[0], 1, 3, given->at[1], given->counts[1]));
+}
+
+static int call_frame_map_delete(const struct given *given)
+{
+    return code_of(bpfhost_frame_map_delete(given->at[0], given->counts[0], 1, 3, given->at[1], given->counts[1]));
+}
+
+static int call_frame_map_next_key(const struct given *given)
+{
+    return code_of(bpfhost_frame_map_next_key(given->at[0], given->counts[0], 1, 3, given->at[1], given->counts[1]));
+}
+
+static int call_frame_map_update(const struct given *given)
+{
+    return code_of(bpfhost_frame_map_update(given->at[0], given->counts[0], 1, 3, BPFHOST_ANY, given->at[1], given->counts[1],
+                                            given->at[2], given->counts[2]));
+}
+
+static int call_frame_prog_load(const struct given *given)
+{
+    return code_of(bpfhost_frame_prog_load(given->at[0], given->counts[0], 1, BPFHOST_SOCKET_FILTER, given->at[1],
+                                           given->counts[1]));
+}
+
+static int call_frame_test_run_head(const struct given *given)
+{
+    return code_of(bpfhost_frame_test_run_head(given->at[0], given->counts[0], 1, 4, (const bpfhost_context *)given->at[1]));
+}
+
+static int call_frame_prog_test_run(const struct given *given)
+{
+    return code_of(bpfhost_frame_prog_test_run(given->at[0], given->counts[0], 1, 4, (const bpfhost_context *)given->at[1],
+                                               given->at[2], given->counts[1]));
+}
+
+static int call_frame_close(const struct given *given)
+{
+    return code_of(bpfhost_frame_close(given->at[0], given->counts[0], 1, 4));
+}
+
+/* A frame for tenant 1 has so many bytes, and ends with a copy of bytes. */
+static bool ends_with(const struct given *given, size_t length, const void *bytes, size_t count)
+{
+    const uint8_t *frame = (const uint8_t *)given->at[0];
+    return built == length && bpfhost_get16(frame) == 1 && (count == 0 || memcmp(frame + length - count, bytes, count) == 0);
+}
+
+static bool holds_begun(const struct given *given, int code)
+{
+    return code == BPFHOST_DONE && ends_with(given, 8, NULL, 0);
+}
+
+static bool holds_map_create(const struct given *given, int code)
+{
+    return code == BPFHOST_DONE && ends_with(given, 24, NULL, 0);
+}
+
+static bool holds_key(const struct given *given, int code)
+{
+    return code == BPFHOST_DONE && ends_with(given, 8 + given->counts[1], given->at[1], given->counts[1]);
+}
+
+static bool holds_map_update(const struct given *given, int code)
+{
+    size_t keys = given->counts[1], values = given->counts[2];
+    return code == BPFHOST_DONE && ends_with(given, 16 + keys + values, given->at[2], values)
+        && (keys == 0 || memcmp((const uint8_t *)given->at[0] + 16, given->at[1], keys) == 0);
+}
+
+static bool holds_prog_load(const struct given *given, int code)
+{
+    return code == BPFHOST_DONE && ends_with(given, 8 + 8 * given->counts[1], given->at[1], 8 * given->counts[1]);
+}
+
+static bool holds_test_run_head(const struct given *given, int code)
+{
+    return code == BPFHOST_DONE && ends_with(given, 48, NULL, 0)
+        && are_words_of((const uint8_t *)given->at[0] + 8, given->at[1]);
+}
+
+static bool holds_prog_test_run(const struct given *given, int code)
+{
+    return code == BPFHOST_DONE && ends_with(given, 48 + given->counts[1], given->at[2], given->counts[1])
+        && are_words_of((const uint8_t *)given->at[0] + 8, given->at[1]);
+}
+
+#define ONE(name, type, uses) {name, sizeof(type), 1, alignof(type), UNCOUNTED, uses, NULL}
+#define BYTES(name, units, count, uses) {name, 1, units, 1, count, uses, NULL}
+#define HANDLE ONE("handle", bpfhost, WRITTEN)
+#define FRAME BYTES("frame", 12, 0, READ | NULL_IF_EMPTY)
+#define CONTEXT ONE("context", bpfhost_context, READ | MAY_BE_NULL)
+#define ROOM(units) BYTES("room", units, 0, WRITTEN)
+#define KEY BYTES("key", 4, 1, READ | NULL_IF_EMPTY)
+
+static const struct function random_seed = {
+    "bpfhost_random_seed", call_random_seed, holds_random_seed, false, 0, 1, 0, {ONE("seed", bpfhost_seed, WRITTEN)}};
+
+static const struct function functions[] = {
+    {"bpfhost_new", call_new, holds_new, false, 0, 2, 0, {HANDLE, ONE("seed", bpfhost_seed, READ)}},
+    {"bpfhost_handle", call_handle, holds_handle, false, 0, 4, 2,
+     {HANDLE, FRAME, BYTES("room", 20, 1, WRITTEN), ONE("written", size_t, WRITTEN)}},
+    {"bpfhost_handle_lent", call_handle_lent, holds_handle_lent, false, 0, 3, 1,
+     {HANDLE, FRAME, ONE("reply", bpfhost_bytes, WRITTEN | EMPTIED)}},
+    {"bpfhost_ask", call_ask, holds_ask, false, 0, 3, 1, {HANDLE, FRAME, ONE("reply", bpfhost_reply, WRITTEN)}},
+    {"bpfhost_read_reply", call_read_reply, holds_read_reply, false, sizeof lent_reply, 2, 1,
+     {{"bytes", 1, sizeof lent_reply, 1, 0, READ, lent_reply}, ONE("reply", bpfhost_reply, WRITTEN)}},
+    {"bpfhost_context_words", call_context_words, holds_context_words, false, 0, 2, 0,
+     {CONTEXT, {"words", 4, 10, alignof(uint32_t), UNCOUNTED, WRITTEN, NULL}}},
+    {"bpfhost_run_packets", call_run_packets, holds_run_packets, false, 0, 6, 2,
+     {HANDLE, CONTEXT, BYTES("bytes", 11, 0, READ | NULL_IF_EMPTY),
+      {"ends", sizeof(size_t), 3, alignof(size_t), 1, READ | NULL_IF_EMPTY, NULL},
+      {"results", sizeof(uint32_t), 3, alignof(uint32_t), 1, WRITTEN | NULL_IF_EMPTY, NULL}, ONE("status", int32_t, WRITTEN)}},
+    {"bpfhost_memory_refused", call_memory_refused, holds_memory_refused, false, 0, 2, 0, {HANDLE, ONE("refused", bool, WRITTEN)}},
+    {"bpfhost_free", call_free, holds_free, false, 0, 1, 0, {ONE("handle", bpfhost, WRITTEN | MAY_BE_NULL)}},
+    {"bpfhost_frame_begin", call_frame_begin, holds_begun, true, 11, 1, 1, {ROOM(12)}},
+    {"bpfhost_frame_map_create", call_frame_map_create, holds_map_create, true, 24, 1, 1, {ROOM(26)}},
+    {"bpfhost_frame_of_key", call_frame_of_key, holds_key, true, 8, 2, 2, {ROOM(14), KEY}},
+    {"bpfhost_frame_map_lookup", call_frame_map_lookup, holds_key, true, 8, 2, 2, {ROOM(14), KEY}},
+    {"bpfhost_frame_map_delete", call_frame_map_delete, holds_key, true, 8, 2, 2, {ROOM(14), KEY}},
+    {"bpfhost_frame_map_next_key", call_frame_map_next_key, holds_key, true, 8, 2, 2, {ROOM(14), KEY}},
+    {"bpfhost_frame_map_update", call_frame_map_update, holds_map_update, true, 16, 3, 3,
+     {ROOM(30), KEY, BYTES("value", 8, 2, READ | NULL_IF_EMPTY)}},
+    {"bpfhost_frame_prog_load", call_frame_prog_load, holds_prog_load, true, 8, 2, 2,
+     {ROOM(26), {"slots", 8, 2, 1, 1, READ | NULL_IF_EMPTY, NULL}}},
+    {"bpfhost_frame_test_run_head", call_frame_test_run_head, holds_test_run_head, true, 48, 2, 1, {ROOM(50), CONTEXT}},
+    {"bpfhost_frame_prog_test_run", call_frame_prog_test_run, holds_prog_test_run, true, 48, 3, 2,
+     {ROOM(55), CONTEXT, BYTES("packet", 5, 1, READ | NULL_IF_EMPTY)}},
+    {"bpfhost_frame_close", call_frame_close, holds_begun, true, 8, 1, 1, {ROOM(10)}},
+};
+
+#endif

@@ -11,7 +11,7 @@ WIDE_LOAD = 0x18
 _OF_MAPS = (1, 2)
 
 
-def first_slots(slots: bytes) -> Iterator[int]:
+def first_slots(slots: bytes | bytearray) -> Iterator[int]:
     """The whole slots at which instructions begin: a wide load has two."""
     slot = 0
     while slot < len(slots) // SLOT_SIZE:

@@ -9,10 +9,12 @@ It wants pyelftools (Debian: python3-pyelftools), and `load_object` raises a Mis
 
 from bpfhost.objects.errors import ObjectError
 from bpfhost.objects.load import load_object
-from bpfhost.objects.model import MapSlot, ObjectFile, ObjectMap, ObjectProgram, SourceLine
+from bpfhost.objects.model import CallSlot, Form, MapSlot, ObjectFile, ObjectMap, ObjectProgram, SourceLine
 from bpfhost.objects.types import Types
 
 __all__ = [
+    "CallSlot",
+    "Form",
     "MapSlot",
     "ObjectError",
     "ObjectFile",

@@ -2,13 +2,17 @@
 
 Source: libbpf's conventions: bpf_helpers.h (`__uint`, `__type`) and parse_btf_map_def of libbpf.c; for the struct
 bpf_object__init_user_maps, which libbpf.c had before version 1.0.
+
+The host runs one program at a time, so a map with a value for each processor has one value, as any other. It takes memory for a hash
+map's keys as they come, which is what BPF_F_NO_PREALLOC asks for. It has no file system of its own, so what a pinned map shares by a
+file it does not share. So these are taken for maps without them, which is told; a strict reading refuses them.
 """
 
 from __future__ import annotations
 
 import struct
 from collections.abc import Iterator
-from dataclasses import dataclass
+from dataclasses import dataclass, field
 
 from bpfhost.numbers import MOST_MAPS, MapType
 from bpfhost.objects.btf import Array, Btf, Composite, Member, Pointer, Variable
@@ -47,6 +51,40 @@ _MAP_TYPES = {
 }
 
 
+_BY_PROCESSOR = {5: MapType.HASH, 6: MapType.ARRAY}
+_NO_PREALLOC = 1
+
+
+@dataclass
+class MapChanges:
+    """What is changed of the maps of an object, in a sentence each; nothing may be where the reading is strict."""
+
+    is_strict: bool
+    told: list[str] = field(default_factory=list)
+
+    def map_type(self, number: int, where: str) -> MapType:
+        """The kind of a map, by its number in linux/bpf.h."""
+        if number in _BY_PROCESSOR and not self.is_strict:
+            kind = _BY_PROCESSOR[number]
+            self.told.append(f"{where}: {_MAP_TYPES[number]} is taken as {kind.name}, since one processor runs all programs")
+            return kind
+        return _map_type(number, where)
+
+    def check_flags(self, number: int, where: str) -> None:
+        """Drops BPF_F_NO_PREALLOC, and refuses other flags."""
+        if number == _NO_PREALLOC and not self.is_strict:
+            self.told.append(f"{where}: BPF_F_NO_PREALLOC is dropped, since no map takes memory for its keys before they come")
+        elif number:
+            raise ObjectError(f"{where} has map_flags {number}, and the host has none")
+
+    def check_pinning(self, number: int, where: str) -> None:
+        """Leaves pinning out."""
+        if number and self.is_strict:
+            raise ObjectError(f"{where} has pinning {number}, and the host has none")
+        if number:
+            self.told.append(f"{where}: pinning is left out, since the host has no files for maps")
+
+
 @dataclass(frozen=True)
 class DefinedMap:
     """A map with the place that relocations name: the number of a section, and an offset in bytes there."""
@@ -56,14 +94,14 @@ class DefinedMap:
     map: ObjectMap
 
 
-def defined_maps(elf: ElfObject, btf: Btf | None) -> list[DefinedMap]:
+def defined_maps(elf: ElfObject, btf: Btf | None, changes: MapChanges) -> list[DefinedMap]:
     """All maps that the object defines, those of each section in their order. An ObjectError where the host has no such map."""
     found: list[DefinedMap] = []
     for section in elf.sections:
         if section.name == BTF_MAPS and section.size:
-            found.extend(_by_btf(elf, btf, section))
+            found.extend(_by_btf(elf, btf, section, changes))
         elif section.name == LEGACY_MAPS and section.size:
-            found.extend(_by_struct(elf, section))
+            found.extend(_by_struct(elf, section, changes))
     return found
 
 
@@ -90,11 +128,11 @@ def _symbols(elf: ElfObject, section: Section) -> list[Symbol]:
 
 # By BTF.
 
-_OTHERS = ("map_flags", "pinning", "numa_node", "map_extra")
-_NUMBERS = ("type", "key_size", "value_size", "max_entries", *_OTHERS)
+_OTHERS = ("numa_node", "map_extra")
+_NUMBERS = ("type", "key_size", "value_size", "max_entries", "map_flags", "pinning", *_OTHERS)
 
 
-def _by_btf(elf: ElfObject, btf: Btf | None, section: Section) -> Iterator[DefinedMap]:
+def _by_btf(elf: ElfObject, btf: Btf | None, section: Section, changes: MapChanges) -> Iterator[DefinedMap]:
     if btf is None:
         raise ObjectError(f"section {section.name} has maps, and there is no section .BTF that describes them: compile with -g")
     variables = _variables(btf, section.name)
@@ -105,7 +143,7 @@ def _by_btf(elf: ElfObject, btf: Btf | None, section: Section) -> Iterator[Defin
         found = resolve(btf, variables[symbol.name].type)
         if not isinstance(found, Composite) or found.is_union:
             raise ObjectError(f"{where} is no struct")
-        yield DefinedMap(section.index, symbol.value, _Attributes(btf, where).read(symbol.name, found))
+        yield DefinedMap(section.index, symbol.value, _Attributes(btf, where).read(symbol.name, found, changes))
 
 
 def _variables(btf: Btf, name: str) -> dict[str, Variable]:
@@ -124,16 +162,18 @@ class _Attributes:
         self._numbers: dict[str, int] = {}
         self._types: dict[str, int] = {}
 
-    def read(self, name: str, found: Composite) -> ObjectMap:
+    def read(self, name: str, found: Composite, changes: MapChanges) -> ObjectMap:
         """The map that the members describe."""
         for member in found.members:
             self._add(member)
+        changes.check_flags(self._numbers.get("map_flags", 0), self._where)
+        changes.check_pinning(self._numbers.get("pinning", 0), self._where)
         self._refuse_others()
         if "type" not in self._numbers:
             raise ObjectError(f"{self._where} has no type")
         declared = ObjectMap(
             name=name,
-            map_type=_map_type(self._numbers["type"], self._where),
+            map_type=changes.map_type(self._numbers["type"], self._where),
             key_size=self._size("key"),
             value_size=self._size("value"),
             max_entries=self._numbers.get("max_entries", 0),
@@ -195,7 +235,7 @@ _FIELDS = ("type", "key_size", "value_size", "max_entries", "map_flags")
 _LEAST_FIELDS = 4
 
 
-def _by_struct(elf: ElfObject, section: Section) -> Iterator[DefinedMap]:
+def _by_struct(elf: ElfObject, section: Section, changes: MapChanges) -> Iterator[DefinedMap]:
     data = elf.data(section)
     for symbol in _symbols(elf, section):
         where = f"map {symbol.name} in section {section.name}"
@@ -204,15 +244,14 @@ def _by_struct(elf: ElfObject, section: Section) -> Iterator[DefinedMap]:
         if symbol.value + symbol.size > len(data):
             raise ObjectError(f"{where} ends at byte {symbol.value + symbol.size}, and the section has {len(data)}")
         definition = data[symbol.value : symbol.value + symbol.size]
-        yield DefinedMap(section.index, symbol.value, _legacy(symbol.name, definition, where))
+        yield DefinedMap(section.index, symbol.value, _legacy(symbol.name, definition, where, changes))
 
 
-def _legacy(name: str, definition: bytes, where: str) -> ObjectMap:
+def _legacy(name: str, definition: bytes, where: str, changes: MapChanges) -> ObjectMap:
     size = 4 * len(_FIELDS)
     if any(definition[size:]):
         raise ObjectError(f"{where} has fields behind those of struct bpf_map_def that are not 0")
     kind, key_size, value_size, max_entries, flags = struct.unpack("<5I", definition[:size].ljust(size, b"\0"))
-    if flags:
-        raise ObjectError(f"{where} has map_flags {flags}, and the host has none")
-    declared = ObjectMap(name, _map_type(kind, where), key_size, value_size, max_entries, None, None, None)
+    changes.check_flags(flags, where)
+    declared = ObjectMap(name, changes.map_type(kind, where), key_size, value_size, max_entries, None, None, None)
     return check_map(declared, where)

@@ -31,19 +31,29 @@ def is_wide_load(slots: bytes | bytearray, slot: int) -> bool:
     return at + 16 <= len(slots) and slots[at] == WIDE_LOAD and slots[at + 1] >> 4 == 0
 
 
-def check_instructions(slots: bytes, place: Place) -> None:
-    """Refuses the first instruction that asks for what the host does not have, in a sentence."""
+def calls_of(slots: bytes | bytearray) -> dict[int, int]:
+    """The slots with calls of functions of the object, each with the distance of what it calls from the next slot."""
+    found: dict[int, int] = {}
     for slot in first_slots(slots):
-        lacks = _lacks(slots[SLOT_SIZE * slot : SLOT_SIZE * (slot + 1)], slot, place)
+        at = SLOT_SIZE * slot
+        if slots[at] == _CALL and slots[at + 1] >> 4 == 1:
+            found[slot] = int.from_bytes(slots[at + 4 : at + 8], "little", signed=True)
+    return found
+
+
+def check_instructions(slots: bytes, place: Place) -> None:
+    """Refuses the first instruction that asks for what the host does not have, in a sentence; calls of functions are no matter here."""
+    for slot in first_slots(slots):
+        lacks = _lacks(slots[SLOT_SIZE * slot : SLOT_SIZE * (slot + 1)])
         if lacks:
             raise place.refused(slot, lacks)
 
 
-def _lacks(instruction: bytes, slot: int, place: Place) -> str | None:
+def _lacks(instruction: bytes) -> str | None:
     opcode, source = instruction[0], instruction[1] >> 4
     constant = int.from_bytes(instruction[4:], "little", signed=True)
     if opcode == _CALL:
-        return _lacks_call(source, constant, slot, place)
+        return _lacks_call(source, constant)
     if opcode == _CALL_REGISTER:
         return "calls a function by its address, and the host has no such calls"
     if opcode in _ATOMIC and constant not in _ATOMIC_OPERATIONS:
@@ -53,13 +63,11 @@ def _lacks(instruction: bytes, slot: int, place: Place) -> str | None:
     return None
 
 
-def _lacks_call(source: int, constant: int, slot: int, place: Place) -> str | None:
+def _lacks_call(source: int, constant: int) -> str | None:
     if source == 0:
         return None if constant in HELPERS else f"calls helper {constant}, and the host has {_helpers()}"
     if source == 1:
-        target = place.begin + SLOT_SIZE * (slot + 1 + constant)
-        callee = next((function.name for function in place.functions if function.value == target), None)
-        return f"calls function {callee or f'at byte {target}'}, and calls between functions are not supported"
+        return None
     return f"calls function {constant} of the kernel, which the host does not have"
 
 

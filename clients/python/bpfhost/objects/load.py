@@ -6,37 +6,39 @@ import os
 
 from bpfhost.objects.btf import Btf, read_btf
 from bpfhost.objects.btf_ext import NOTHING, BtfExt, read_btf_ext
-from bpfhost.objects.definitions import defined_maps
+from bpfhost.objects.definitions import MapChanges, defined_maps
 from bpfhost.objects.elf import ElfObject, read_elf
 from bpfhost.objects.errors import ObjectError
 from bpfhost.objects.limits import check_maps
-from bpfhost.objects.model import ObjectFile
+from bpfhost.objects.model import Form, ObjectFile
 from bpfhost.objects.programs import read_programs
 from bpfhost.objects.types import Types
 from bpfhost.objects.variables import variable_maps, with_places
 
 
-def load_object(path: str | os.PathLike[str]) -> ObjectFile:
-    """Reads an ELF object of machine BPF, and refuses what the host does not have.
+def load_object(path: str | os.PathLike[str], form: Form = Form.LOWERED) -> ObjectFile:
+    """Reads an ELF object of machine BPF, to be taken in a form, and refuses what the host does not have.
 
     An ObjectError, which begins with the path, where the file can't be read, is no such object or is damaged; or where it
-    asks for what is not there: another helper or kind of map than the host's, calls between functions, atomic operations
-    that fetch, addresses in variables, CO-RE relocations, more than the limits of docs/PROTOCOL.md. A MissingPackage where
-    there is no pyelftools.
+    asks for what is not there: another helper or kind of map than the host's, atomic operations that fetch, addresses in variables,
+    CO-RE relocations, more than the limits of docs/PROTOCOL.md; and, where programs are taken as they are, calls between functions.
+    A MissingPackage where there is no pyelftools.
     """
     name = os.fsdecode(path)
     try:
-        return _read(name, read_elf(path))
+        return _read(name, read_elf(path), form)
     except ObjectError as error:
         raise ObjectError(f"{name}: {error}") from error
 
 
-def _read(name: str, elf: ElfObject) -> ObjectFile:
+def _read(name: str, elf: ElfObject, form: Form) -> ObjectFile:
     btf, btf_ext = _types(elf)
-    maps = [*defined_maps(elf, btf), *variable_maps(elf, btf)]
+    changes = MapChanges(form is not Form.LOWERED)
+    maps = [*defined_maps(elf, btf, changes), *variable_maps(elf, btf)]
     check_maps([each.map for each in maps])
-    programs = read_programs(elf, maps, btf_ext)
-    return ObjectFile(name, programs, tuple(each.map for each in maps), Types(btf) if btf else None)
+    programs, functions = read_programs(elf, maps, btf_ext, has_calls=form is not Form.AS_IS)
+    types = Types(btf) if btf else None
+    return ObjectFile(name, programs, tuple(each.map for each in maps), types, functions, tuple(changes.told), form)
 
 
 def _types(elf: ElfObject) -> tuple[Btf | None, BtfExt]:

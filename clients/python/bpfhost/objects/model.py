@@ -1,7 +1,8 @@
-"""What an object file has: programs, maps, types."""
+"""What an object file has: programs, the functions that they call, maps, types."""
 
 from __future__ import annotations
 
+import enum
 import os
 from bisect import bisect_right
 from collections.abc import Sequence
@@ -9,6 +10,19 @@ from dataclasses import dataclass
 
 from bpfhost.numbers import SLOT_SIZE, MapType
 from bpfhost.objects.types import Types
+
+
+class Form(enum.Enum):
+    """How an object is taken, and its programs are loaded.
+
+    LOWERED: a map that the host does not have is replaced by one that serves the same program (`ObjectFile.changes` tells it), and
+    `bpfhost.lowering` writes programs in another form where that is needed. STRICT: the same with maps as they are declared, or
+    refused. AS_IS: programs too are taken as they are, or refused.
+    """
+
+    LOWERED = "lowered"
+    STRICT = "strict"
+    AS_IS = "as is"
 
 
 @dataclass(frozen=True)
@@ -45,6 +59,14 @@ class MapSlot:
 
 
 @dataclass(frozen=True)
+class CallSlot:
+    """A call of another function of the object, by its slot; `function` is an index in `ObjectFile.functions`."""
+
+    slot: int
+    function: int
+
+
+@dataclass(frozen=True)
 class ObjectMap:
     """A map that an object asks for; sizes in bytes.
 
@@ -64,13 +86,17 @@ class ObjectMap:
 
 @dataclass(frozen=True)
 class ObjectProgram:
-    """A function of an executable section. Its slots lack the descriptors of maps, which `linked` fills in."""
+    """A function of an executable section. Its slots lack the descriptors of maps, which `linked` fills in.
+
+    What it calls of the object are `calls`, in the order of their slots; the host has no such calls.
+    """
 
     section: str
     name: str
     slots: bytes
     map_slots: tuple[MapSlot, ...]
     lines: tuple[SourceLine, ...]
+    calls: tuple[CallSlot, ...] = ()
 
     def line_of(self, slot: int) -> SourceLine | None:
         """The last line that begins at the slot or before it, or None where none does."""
@@ -87,9 +113,16 @@ class ObjectProgram:
 
 @dataclass(frozen=True)
 class ObjectFile:
-    """An object file: its programs in the order of their sections, its maps, and its types where it has any."""
+    """An object file: its programs in the order of their sections, its maps, and its types where it has any.
+
+    `functions` are those that programs call, in the order in which they are met. `changes` tells, in a sentence each, which maps are
+    others than the object declares.
+    """
 
     path: str
     programs: tuple[ObjectProgram, ...]
     maps: tuple[ObjectMap, ...]
     types: Types | None
+    functions: tuple[ObjectProgram, ...] = ()
+    changes: tuple[str, ...] = ()
+    form: Form = Form.LOWERED

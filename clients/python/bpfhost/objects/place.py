@@ -11,11 +11,10 @@ from bpfhost.objects.model import SourceLine, line_at
 
 @dataclass(frozen=True)
 class Place:
-    """A function of a section: `functions` are all of the section, and `lines` those of this one by their slots."""
+    """A function of a section, with its lines by their slots."""
 
     section: Section
     function: Symbol
-    functions: tuple[Symbol, ...]
     lines: tuple[SourceLine, ...]
 
     @property

@@ -1,14 +1,14 @@
-"""Programs: the functions of executable sections.
+"""Programs: the functions of executable sections, and the functions that they call.
 
 Source: libbpf's bpf_object__add_programs for which functions are programs. What stands in .text is called by others, and
-so is no program of its own.
+so is no program of its own; it is read where a program calls it.
 """
 
 from __future__ import annotations
 
 from bisect import bisect_left, bisect_right
 from collections.abc import Callable, Sequence
-from dataclasses import dataclass
+from dataclasses import dataclass, replace
 from itertools import accumulate
 from typing import TypeVar
 
@@ -19,26 +19,74 @@ from bpfhost.objects.elf import ElfObject, Relocation, Section, Symbol
 from bpfhost.objects.errors import ObjectError
 from bpfhost.objects.instructions import check_instructions
 from bpfhost.objects.limits import MOST_PROGRAMS, check_slots
-from bpfhost.objects.model import ObjectProgram, SourceLine
+from bpfhost.objects.model import CallSlot, ObjectProgram, SourceLine
 from bpfhost.objects.place import Place
-from bpfhost.objects.relocations import Linker
+from bpfhost.objects.relocations import Callee, Linker
 
 SUBPROGRAMS = ".text"
 
 _Row = TypeVar("_Row")
 
 
-def read_programs(elf: ElfObject, maps: Sequence[DefinedMap], btf_ext: BtfExt) -> tuple[ObjectProgram, ...]:
-    """All programs, in the order of the sections and of the functions there. An ObjectError where one is not for the host."""
+def read_programs(
+    elf: ElfObject, maps: Sequence[DefinedMap], btf_ext: BtfExt, has_calls: bool = True
+) -> tuple[tuple[ObjectProgram, ...], tuple[ObjectProgram, ...]]:
+    """All programs, in the order of the sections and of the functions there, and the functions that they call.
+
+    An ObjectError where one is not for the host; a call between functions is one such reason where `has_calls` is false.
+    """
     sections = [section for section in elf.sections if _has_programs(section)]
     if not sections:
         raise ObjectError(_nothing(elf))
-    of_sections = [_Section.of(elf, section, btf_ext) for section in sections]
-    count = sum(len(each.functions) for each in of_sections)
-    if count > MOST_PROGRAMS:
-        raise ObjectError(f"the object has {count:,} functions with a section, and at most {MOST_PROGRAMS} are read")
-    linker = Linker(elf, maps)
-    return tuple(each.program(function, linker) for each in of_sections for function in each.functions)
+    reader = _Reader(elf, Linker(elf, maps), btf_ext, has_calls)
+    named = [(section, function) for section in sections for function in reader.section(section).functions]
+    if len(named) > MOST_PROGRAMS:
+        raise ObjectError(f"the object has {len(named):,} functions with a section, and at most {MOST_PROGRAMS} are read")
+    programs = tuple(reader.function(section, function) for section, function in named)
+    return programs, reader.called()
+
+
+class _Reader:
+    """Reads functions, and those that they call, each once."""
+
+    def __init__(self, elf: ElfObject, linker: Linker, btf_ext: BtfExt, has_calls: bool) -> None:
+        self._elf = elf
+        self._linker = linker
+        self._btf_ext = btf_ext
+        self._has_calls = has_calls
+        self._sections: dict[int, _Section] = {}
+        # What is called, in the order in which it was met, by section and first byte.
+        self._callees: dict[tuple[int, int], Callee] = {}
+
+    def section(self, section: Section) -> _Section:
+        """What the object has of a section with functions."""
+        if section.index not in self._sections:
+            self._sections[section.index] = _Section.of(self._elf, section, self._btf_ext)
+        return self._sections[section.index]
+
+    def function(self, section: Section, function: Symbol) -> ObjectProgram:
+        """A function, with calls of functions by their numbers."""
+        place, program, callees = self.section(section).program(function, self._linker)
+        calls = tuple(CallSlot(slot, self._number(place, callees[slot])) for slot in sorted(callees))
+        return replace(program, calls=calls)
+
+    def called(self) -> tuple[ObjectProgram, ...]:
+        """All functions that are called by what was read, and by one another."""
+        found: list[ObjectProgram] = []
+        while len(found) < len(self._callees):
+            callee = list(self._callees.values())[len(found)]
+            found.append(self.function(callee.section, callee.function))
+        return tuple(found)
+
+    def _number(self, place: Place, callee: Callee) -> int:
+        if not self._has_calls:
+            called = f"calls function {callee.function.name} in section {callee.section.name}"
+            raise place.refused(callee.slot, f"{called}, and calls between functions are not supported")
+        key = callee.section.index, callee.function.value
+        self._callees.setdefault(key, callee)
+        if len(self._callees) > MOST_PROGRAMS:
+            raise place.refused(callee.slot, f"calls one function more than the {MOST_PROGRAMS} that are read")
+        return list(self._callees).index(key)
 
 
 def _has_programs(section: Section) -> bool:
@@ -80,17 +128,17 @@ class _Section:
         core = btf_ext.relocated.get(section.name, ())
         return cls(section, functions, elf.data(section), relocations, btf_ext.lines.get(section.name, ()), core)
 
-    def program(self, function: Symbol, linker: Linker) -> ObjectProgram:
-        """The program of a function."""
-        place = Place(self.section, function, self.functions, self._lines(function))
+    def program(self, function: Symbol, linker: Linker) -> tuple[Place, ObjectProgram, dict[int, Callee]]:
+        """The program of a function, with where it is, and what it calls by the slots of the calls."""
+        place = Place(self.section, function, self._lines(function))
         self._check_range(place)
         for offset in _between(self.core, place.begin, place.end, _same):
             slot = (offset - place.begin) // SLOT_SIZE
             raise place.refused(slot, "has a CO-RE relocation, which is for a kernel's types")
         slots = bytearray(self.code[place.begin : place.end])
-        map_slots = linker.link(place, slots, _between(self.relocations, place.begin, place.end, _relocated_byte))
+        map_slots, callees = linker.link(place, slots, _between(self.relocations, place.begin, place.end, _relocated_byte))
         check_instructions(bytes(slots), place)
-        return ObjectProgram(self.section.name, function.name, bytes(slots), map_slots, place.lines)
+        return place, ObjectProgram(self.section.name, function.name, bytes(slots), map_slots, place.lines), callees
 
     def _check_range(self, place: Place) -> None:
         if place.begin % SLOT_SIZE or place.end > len(self.code):

@@ -1,4 +1,4 @@
-"""Relocations of instructions: wide loads that name maps and variables.
+"""Relocations of instructions: wide loads that name maps and variables, and calls of functions.
 
 Source: the kernel's Documentation/bpf/llvm_reloc.rst; docs/INSTRUCTIONS.md for the wide loads.
 """
@@ -11,7 +11,7 @@ from dataclasses import dataclass
 from bpfhost.numbers import SLOT_SIZE
 from bpfhost.objects.definitions import MAP_SECTIONS, DefinedMap
 from bpfhost.objects.elf import ElfObject, Relocation, Section, Symbol
-from bpfhost.objects.instructions import is_wide_load
+from bpfhost.objects.instructions import calls_of, is_wide_load
 from bpfhost.objects.model import MapSlot
 from bpfhost.objects.place import Place
 
@@ -24,24 +24,39 @@ _NO_PLACE = {"SHN_COMMON": "is common (clang -fno-common)", "SHN_ABS": "is a num
 
 
 @dataclass(frozen=True)
+class Callee:
+    """The function that a slot calls, with its section."""
+
+    slot: int
+    section: Section
+    function: Symbol
+
+
+@dataclass(frozen=True)
 class Linker:
     """Does the relocations of programs, by the maps of their object."""
 
     elf: ElfObject
     maps: Sequence[DefinedMap]
 
-    def link(self, place: Place, slots: bytearray, relocations: Sequence[Relocation]) -> tuple[MapSlot, ...]:
-        """Does all relocations of a program in its slots, and gives those that want a descriptor. An ObjectError where one can't be."""
-        found = [self._link(place, slots, relocation) for relocation in relocations]
-        return tuple(sorted(found, key=_slot))
+    def link(self, place: Place, slots: bytearray, relocations: Sequence[Relocation]) -> tuple[tuple[MapSlot, ...], dict[int, Callee]]:
+        """Does all relocations of a program in its slots. It gives the wide loads that want a descriptor, and the functions that are called.
 
-    def _link(self, place: Place, slots: bytearray, relocation: Relocation) -> MapSlot:
+        An ObjectError where a relocation can't be done.
+        """
+        found = [self._link(place, slots, relocation) for relocation in relocations]
+        callees = {each.slot: each for each in found if isinstance(each, Callee)}
+        for slot in calls_of(slots).keys() - callees.keys():
+            callees[slot] = self._callee(place, slots, slot, place.section, place.begin + SLOT_SIZE * slot)
+        return tuple(sorted((each for each in found if isinstance(each, MapSlot)), key=_slot)), callees
+
+    def _link(self, place: Place, slots: bytearray, relocation: Relocation) -> MapSlot | Callee:
         slot, byte = divmod(relocation.offset - place.begin, SLOT_SIZE)
         name = relocation.symbol.name or "without a name"
         if byte:
             raise place.refused(slot, f"has a relocation for symbol {name} inside of an instruction")
         if relocation.kind == _CALL:
-            raise place.refused(slot, f"calls {self._callee(slots, slot, relocation.symbol)}")
+            return self._called(place, slots, slot, relocation.symbol)
         if relocation.kind != _WIDE_LOAD:
             kind = _KINDS.get(relocation.kind, f"of number {relocation.kind}")
             raise place.refused(slot, f"has a relocation {kind} for symbol {name}, which is none of a wide load or a call")
@@ -49,15 +64,22 @@ class Linker:
             raise place.refused(slot, f"has a relocation for symbol {name} where no wide load is")
         return self._address(place, slots, slot, relocation.symbol)
 
-    def _callee(self, slots: bytearray, slot: int, symbol: Symbol) -> str:
+    def _called(self, place: Place, slots: bytearray, slot: int, symbol: Symbol) -> Callee:
+        """What a call with a relocation calls: its distance counts from the symbol."""
         if symbol.section is None:
-            return f"function {symbol.name}, which the object does not define"
-        section = self.elf.sections[symbol.section]
-        # A call of a function by its section has the distance from the section's first slot, less 1.
-        distance = int.from_bytes(slots[SLOT_SIZE * slot + 4 : SLOT_SIZE * slot + 8], "little", signed=True)
-        by_section = self.elf.owner_of(section, symbol.value + SLOT_SIZE * (distance + 1))
-        name = by_section if symbol.kind == "STT_SECTION" else symbol.name
-        return f"function {name} in section {section.name}, and calls between functions are not supported"
+            raise place.refused(slot, f"calls function {symbol.name}, which the object does not define")
+        if slot not in calls_of(slots):
+            raise place.refused(slot, f"has a relocation for symbol {symbol.name or 'without a name'} where no call is")
+        return self._callee(place, slots, slot, self.elf.sections[symbol.section], symbol.value)
+
+    def _callee(self, place: Place, slots: bytearray, slot: int, section: Section, base: int) -> Callee:
+        """The function of a section that a call leads to, whose distance counts from the slot behind a byte of the section."""
+        begin = base + SLOT_SIZE * (calls_of(slots)[slot] + 1)
+        functions = (symbol for symbol in self.elf.symbols_of(section) if symbol.kind == "STT_FUNC")
+        function = next((symbol for symbol in functions if symbol.value == begin), None)
+        if function is None:
+            raise place.refused(slot, f"calls byte {begin} of section {section.name}, where no function begins")
+        return Callee(slot, section, function)
 
     def _address(self, place: Place, slots: bytearray, slot: int, symbol: Symbol) -> MapSlot:
         """A wide load of an address: that of the symbol, to which the number in the load is added."""

@@ -11,7 +11,7 @@ import tempfile
 import unittest
 from pathlib import Path
 
-from bpfhost.objects import ObjectError, ObjectFile, load_object
+from bpfhost.objects import Form, ObjectError, ObjectFile, load_object
 from tests.common import TimedTest
 
 SOURCES = Path(__file__).resolve().parent / "sources"
@@ -58,10 +58,10 @@ class ObjectTest(TimedTest):
         path.write_bytes(content)
         return path
 
-    def refusal_of(self, path: Path | str) -> str:
+    def refusal_of(self, path: Path | str, form: Form = Form.LOWERED) -> str:
         """The sentence that an object is refused with, behind its path."""
         with self.assertRaises(ObjectError) as caught:
-            load_object(path)
+            load_object(path, form)
         sentence = str(caught.exception)
         self.assertTrue(sentence.startswith(f"{path}: "), sentence)
         self.assertNotIn("\n", sentence)
@@ -90,6 +90,6 @@ class ClangTest(ObjectTest):
         source.write_text(f'#include "bpf.h"\n{text}\n')
         return compile_object(source, self.scratch / "filter.o", *flags)
 
-    def refusal(self, text: str, *flags: str) -> str:
+    def refusal(self, text: str, *flags: str, form: Form = Form.LOWERED) -> str:
         """The sentence that the object of a source is refused with, without the path and the folder of the source."""
-        return self.refusal_of(self.compiled(text, *flags)).replace(f"{self.scratch}/", "")
+        return self.refusal_of(self.compiled(text, *flags), form).replace(f"{self.scratch}/", "")

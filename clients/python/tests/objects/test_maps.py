@@ -3,7 +3,7 @@
 from __future__ import annotations
 
 from bpfhost import MapType
-from bpfhost.objects import ObjectMap, load_object
+from bpfhost.objects import Form, ObjectMap, load_object
 from tests.objects.common import ClangTest, ObjectTest
 from tests.objects.elf_builder import ALLOC, NOBITS, OBJECT, ElfBuilder
 
@@ -47,21 +47,45 @@ class ByBtf(ClangTest):
         for each in program.map_slots:
             self.assertEqual(linked[8 * each.slot + 4 : 8 * each.slot + 8], bytes([10 + each.map, 0, 0, 0]))
 
-    def refused(self, members: str, told: str) -> None:
-        self.assertEqual(self.refusal(f'struct {{ {members} }} m SEC(".maps");\n{PROGRAM}'), f"map m in section .maps{told}")
+    def refused(self, members: str, told: str, form: Form = Form.LOWERED) -> None:
+        text = f'struct {{ {members} }} m SEC(".maps");\n{PROGRAM}'
+        self.assertEqual(self.refusal(text, form=form), f"map m in section .maps{told}")
+
+    def changed(self, members: str, map_type: MapType, *told: str) -> None:
+        """A map that the host does not have is taken as one that it has, which is told; a strict reading refuses it."""
+        text = f'struct {{ {members} __type(key, __u32); __type(value, __u32); __uint(max_entries, 1); }} m SEC(".maps");\n{PROGRAM}'
+        found = self.text(text)
+        self.assertEqual([each.map_type for each in found.maps], [map_type])
+        self.assertEqual(found.changes, tuple(f"map m in section .maps: {each}" for each in told))
+
+    def test_maps_that_are_changed(self) -> None:
+        one = "since one processor runs all programs"
+        self.changed("__uint(type, 6);", MapType.ARRAY, f"PERCPU_ARRAY is taken as ARRAY, {one}")
+        self.changed("__uint(type, 5);", MapType.HASH, f"PERCPU_HASH is taken as HASH, {one}")
+        dropped = "BPF_F_NO_PREALLOC is dropped, since no map takes memory for its keys before they come"
+        pinning = "pinning is left out, since the host has no files for maps"
+        self.changed("__uint(type, 1); __uint(map_flags, 1);", MapType.HASH, dropped)
+        self.changed("__uint(type, 1); __uint(pinning, 1);", MapType.HASH, pinning)
+        self.changed(
+            "__uint(type, 5); __uint(pinning, 1); __uint(map_flags, 1);", MapType.HASH, dropped, pinning, f"PERCPU_HASH is taken as HASH, {one}"
+        )
 
     def test_other_types(self) -> None:
         rest = "__type(key, __u32); __type(value, __u32); __uint(max_entries, 1);"
         has = "and the host has HASH (1) and ARRAY (2) alone"
         self.refused(f"__uint(type, BPF_MAP_TYPE_LRU_HASH); {rest}", f" has type 9 (LRU_HASH), {has}")
-        self.refused(f"__uint(type, BPF_MAP_TYPE_PERCPU_ARRAY); {rest}", f" has type 6 (PERCPU_ARRAY), {has}")
+        for form in (Form.STRICT, Form.AS_IS):
+            self.refused(f"__uint(type, BPF_MAP_TYPE_PERCPU_ARRAY); {rest}", f" has type 6 (PERCPU_ARRAY), {has}", form)
+            self.refused(f"__uint(type, 5); {rest}", f" has type 5 (PERCPU_HASH), {has}", form)
         self.refused(f"__uint(type, 77); {rest}", f" has type 77, {has}")
         self.refused(rest, " has no type")
 
     def test_other_members(self) -> None:
         rest = "__uint(type, 1); __type(key, __u32); __type(value, __u32); __uint(max_entries, 1);"
-        self.refused(f"{rest} __uint(map_flags, 1);", " has map_flags 1, and the host has none")
-        self.refused(f"{rest} __uint(pinning, 1);", " has pinning 1, and the host has none")
+        self.refused(f"{rest} __uint(map_flags, 2);", " has map_flags 2, and the host has none")
+        for form in (Form.STRICT, Form.AS_IS):
+            self.refused(f"{rest} __uint(map_flags, 1);", " has map_flags 1, and the host has none", form)
+            self.refused(f"{rest} __uint(pinning, 1);", " has pinning 1, and the host has none", form)
         self.refused(f"{rest} __uint(unheard_of, 1);", " has a member unheard_of, which is not known")
         self.refused(f"{rest} int map_flags;", " has a member map_flags that is no pointer: __type tells it")
         self.refused(f"{rest} int *numa_node;", " has a member numa_node that is no pointer to an array: __uint tells it")
@@ -159,12 +183,18 @@ class BuiltByStruct(ObjectTest):
     def test_refusals(self) -> None:
         where = "map m in section maps"
         for builder, told in (
-            (self.built(self.definition(1)), f"{where} has map_flags 1, and the host has none"),
+            (self.built(self.definition(2)), f"{where} has map_flags 2, and the host has none"),
             (self.built(self.definition(0, 5)), f"{where} has fields behind those of struct bpf_map_def that are not 0"),
             (self.built(self.definition()[:12]), f"{where} has 12 bytes, and struct bpf_map_def has at least 16"),
             (self.built(self.definition(), 20), f"{where} ends at byte 20, and the section has 16"),
         ):
             self.assertEqual(self.refusal_of(self.written(builder.to_bytes())), told)
+
+    def test_a_flag_that_is_dropped(self) -> None:
+        path = self.written(self.built(self.definition(1)).to_bytes())
+        dropped = "map m in section maps: BPF_F_NO_PREALLOC is dropped, since no map takes memory for its keys before they come"
+        self.assertEqual(load_object(path).changes, (dropped,))
+        self.assertEqual(self.refusal_of(path, Form.STRICT), "map m in section maps has map_flags 1, and the host has none")
 
     def test_an_address_inside_of_a_map(self) -> None:
         builder = self.built(self.definition())

@@ -2,7 +2,7 @@
 
 from __future__ import annotations
 
-from bpfhost.objects import MapSlot, load_object
+from bpfhost.objects import CallSlot, Form, MapSlot, load_object
 from tests.objects.common import ClangTest, ObjectTest
 from tests.objects.elf_builder import ALLOC, EXECINSTR, SECTION, ElfBuilder
 
@@ -47,9 +47,9 @@ class Programs(ClangTest):
 class Lacking(ClangTest):
     """What the host does not have is refused by function, section and line."""
 
-    def lacks(self, what: str, slot: int, body: str, *flags: str) -> None:
+    def lacks(self, what: str, slot: int, body: str, *flags: str, form: Form = Form.LOWERED) -> None:
         line = f'SEC("socket") int f(struct __sk_buff *skb) {{ {body} }}'
-        told = self.refusal(f"int number, other = 1;\nNOINLINE int twice(int x) {{ return x * x + 1; }}\n{line}", *flags)
+        told = self.refusal(f"int number, other = 1;\nNOINLINE int twice(int x) {{ return x * x + 1; }}\n{line}", *flags, form=form)
         self.assertEqual(told, f"function f in section socket {what}, at slot {slot} (filter.c:4: {line})")
 
     def test_helpers(self) -> None:
@@ -57,20 +57,22 @@ class Lacking(ClangTest):
 
     def test_calls_of_functions(self) -> None:
         no_calls = "and calls between functions are not supported"
-        self.lacks(f"calls function twice in section .text, {no_calls}", 1, "return twice(skb->len);")
+        self.lacks(f"calls function twice in section .text, {no_calls}", 1, "return twice(skb->len);", form=Form.AS_IS)
         self.lacks("calls function out, which the object does not define", 1, "extern int out(int); return out(skb->len);")
 
     def test_call_of_a_static_function(self) -> None:
         told = self.refusal(
             "static int f0(int x) { return x; } static NOINLINE int inner(int x) { return x * x; }\n"
-            'SEC("socket") int f(struct __sk_buff *skb) { return inner(skb->len); }'
+            'SEC("socket") int f(struct __sk_buff *skb) { return inner(skb->len); }',
+            form=Form.AS_IS,
         )
         self.assertIn("calls function inner in section .text", told)
 
     def test_call_in_the_section(self) -> None:
         told = self.refusal(
             'SEC("socket") NOINLINE int g(struct __sk_buff *skb) { return skb->len * skb->mark; }\n'
-            'SEC("socket") int f(struct __sk_buff *skb) { return g(skb); }'
+            'SEC("socket") int f(struct __sk_buff *skb) { return g(skb); }',
+            form=Form.AS_IS,
         )
         self.assertIn("function f in section socket calls function g", told)
 
@@ -120,13 +122,47 @@ class Lacking(ClangTest):
         self.assertIn("loads the address of words, at offset 0 of section license, which is neither of maps nor .data", told)
 
 
+class Calls(ClangTest):
+    """Functions that programs call are read with them, each once."""
+
+    TEXT = """
+        int number;
+        NOINLINE int third(int x) { return x * number; }
+        static NOINLINE int second(int x) { return third(x) + third(x + 1); }
+        NOINLINE int never(void) { return bpf_ktime_get_ns(); }
+        SEC("socket/a") NOINLINE int first(struct __sk_buff *skb) { return second(skb->len) + 1; }
+        SEC("socket/b") int other(struct __sk_buff *skb) { return first(skb) * 2 + third(3); }"""
+
+    def test_by_their_numbers(self) -> None:
+        found = self.text(self.TEXT)
+        self.assertEqual([each.name for each in found.programs], ["first", "other"])
+        self.assertEqual(sorted(each.name for each in found.functions), ["first", "second", "third"])
+        called = {each.name: [found.functions[call.function].name for call in each.calls] for each in (*found.programs, *found.functions)}
+        self.assertEqual(called, {"first": ["second"], "other": ["first", "third"], "second": ["third", "third"], "third": []})
+        third = next(each for each in found.functions if each.name == "third")
+        self.assertEqual([found.maps[each.map].name for each in third.map_slots], [".bss"])
+        self.assertIn("return x * number;", str(third.lines[-1]))
+
+    def test_the_slots_of_calls(self) -> None:
+        for program in self.text(self.TEXT).programs:
+            self.assertTrue(program.calls)
+            for call in program.calls:
+                self.assertEqual(program.slots[8 * call.slot : 8 * call.slot + 2], bytes([0x85, 0x10]))
+
+    def test_what_a_called_function_lacks(self) -> None:
+        told = self.refusal(
+            'NOINLINE int now(int x) { return bpf_ktime_get_ns() + x; }\nSEC("socket") int f(struct __sk_buff *skb) { return now(skb->len); }'
+        )
+        self.assertIn("function now in section .text calls helper 5, and the host has 1, 2, 3 and 26, at slot ", told)
+
+
 class Built(ObjectTest):
     """Functions and instructions that no compiler writes."""
 
-    def built(self, slots: str, value: int = 0, size: int = 8) -> str:
+    def built(self, slots: str, value: int = 0, size: int = 8, form: Form = Form.LOWERED) -> str:
         builder = ElfBuilder()
         builder.symbol("f", builder.program("socket", slots), value, size)
-        return self.refusal_of(self.written(builder.to_bytes()))
+        return self.refusal_of(self.written(builder.to_bytes()), form)
 
     def test_ranges_of_functions(self) -> None:
         where = "function f in section socket"
@@ -153,14 +189,38 @@ class Built(ObjectTest):
 
     def test_calls(self) -> None:
         where = "function f in section socket"
+        self.assertEqual(self.built("8510000000000000"), f"{where} calls byte 8 of section socket, where no function begins, at slot 0")
+        no_calls = "and calls between functions are not supported"
         self.assertEqual(
-            self.built("8510000000000000"), f"{where} calls function at byte 8, and calls between functions are not supported, at slot 0"
+            self.built("85100000ffffffff", form=Form.AS_IS), f"{where} calls function f in section socket, {no_calls}, at slot 0"
         )
         self.assertEqual(self.built("8520000007000000"), f"{where} calls function 7 of the kernel, which the host does not have, at slot 0")
         self.assertEqual(
             self.built("8d00000000000000"), f"{where} calls a function by its address, and the host has no such calls, at slot 0"
         )
         self.assertEqual(self.built("85000000ffffffff"), f"{where} calls helper -1, and the host has 1, 2, 3 and 26, at slot 0")
+
+    def test_calls_with_relocations(self) -> None:
+        """By a symbol of a section the distance counts from the section's first slot, and by one of a function from the function."""
+        builder = ElfBuilder()
+        section = builder.program("socket", "8510000001000000 8510000000000000 85100000ffffffff 9500000000000000")
+        builder.symbol("f", section, 0, 32)
+        text = builder.program(".text", NONE * 3)
+        functions = [builder.symbol(f"g{number}", text, 16 * number, 16) for number in range(3)]
+        builder.relocations(section, (0, 10, builder.symbol("", text, kind=SECTION)), (16, 10, functions[2]))
+        with self.assertRaisesRegex(Exception, "calls byte 16 of section socket, where no function begins, at slot 1"):
+            load_object(self.written(builder.to_bytes()))
+        builder.parts[section - 1].data = bytes.fromhex("8510000001000000 b700000000000000 85100000ffffffff 9500000000000000")
+        found = load_object(self.written(builder.to_bytes()))
+        self.assertEqual([each.name for each in found.functions], ["g1", "g2"])
+        self.assertEqual(found.programs[0].calls, (CallSlot(0, 0), CallSlot(2, 1)))
+
+    def test_a_relocation_of_a_call_where_none_is(self) -> None:
+        builder = ElfBuilder()
+        section = builder.program("socket", NONE)
+        builder.relocations(section, (0, 10, builder.symbol("f", section, 0, 16)))
+        told = "function f in section socket has a relocation for symbol f where no call is, at slot 0"
+        self.assertEqual(self.refusal_of(self.written(builder.to_bytes())), told)
 
     def test_second_slots_are_no_instructions(self) -> None:
         builder = ElfBuilder()

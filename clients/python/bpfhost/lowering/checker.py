@@ -1,0 +1,246 @@
+"""The checker of a form: each path of it is a path of the program as it was, with the same instructions.
+
+It uses nothing of the steps that wrote the form but what they state: for each slot of the form where it comes from, and for each inlined
+call how its registers and its stack are named (`Frame`). It decodes the form again, and walks over it from the first slot on, in the order
+of the slots, since all jumps have to go forward. On the way it follows the program as it was, at the place that each slot names:
+
+- Each instruction of the form is what the instruction at that place becomes in its frame.
+- Each edge of the form leads to a slot that names the place where the program goes on. On the way there the program may pass what leaves
+  no trace: jumps, calls and exits of inlined functions for which nothing is saved, and comparisons that the numbers known on this edge
+  decide (`values`).
+
+A frame is right if its registers are other names of the same registers, if its stack and what is saved for it lie below its caller's, and
+if all that it writes of registers 6 to 9, and its caller reads later, is saved before it and read again behind it.
+"""
+
+from __future__ import annotations
+
+from collections.abc import Mapping, Sequence
+
+from bpfhost.lowering import instructions as op
+from bpfhost.lowering.code import Function
+from bpfhost.lowering.frames import Frame, Frames
+from bpfhost.lowering.graph import Origin
+from bpfhost.lowering.instructions import CALLEE_SAVED, FRAME_POINTER, Instruction, decoded
+from bpfhost.lowering.values import STACK_SIZE, State, edges
+from bpfhost.numbers import MOST_SLOTS, SLOT_SIZE
+
+_WORD = 8
+
+
+class WrongForm(Exception):
+    """A form that is not the program that it should be: a fault of this package, and nothing is loaded."""
+
+
+def check(functions: Sequence[Function], frames: Frames, slots: bytes, origins: Sequence[Origin]) -> None:
+    """A WrongForm where the form of these slots is another program than function 0 with what it calls."""
+    if len(slots) % SLOT_SIZE or not 1 <= len(slots) // SLOT_SIZE <= MOST_SLOTS or len(origins) != len(slots) // SLOT_SIZE:
+        raise WrongForm(f"{len(slots)} bytes with {len(origins)} origins are no program")
+    program = _Program(functions, frames)
+    program.check_frames()
+    _Walk(program, decoded(slots), origins).check()
+    _check_registers(program, decoded(slots), origins)
+
+
+class _Program:
+    """The program as it was, with its calls in their frames: the places of it, and what stands there by the names of a form."""
+
+    def __init__(self, functions: Sequence[Function], frames: Frames) -> None:
+        self.frames = frames
+        if not frames or any(not 0 <= frame.function < len(functions) for frame in frames):
+            raise WrongForm("a frame has no function")
+        self.functions = [functions[frame.function] for frame in frames]
+        self.inner = {(frame.caller, frame.call): number for number, frame in enumerate(frames)}
+
+    def check_frames(self) -> None:
+        """Frame 0 is the program itself, and each other one is below its caller."""
+        if self.frames[0] != Frame(0, None, 0, tuple(range(FRAME_POINTER + 1)), 0, ()):
+            raise WrongForm("the first frame is not that of the program")
+        for number, frame in enumerate(self.frames[1:], 1):
+            if frame.caller is None or not 0 <= frame.caller < number:
+                raise WrongForm(f"frame {number} has no caller before it")
+            self._check_frame(number, frame, self.frames[frame.caller])
+
+    def _check_frame(self, number: int, frame: Frame, caller: Frame) -> None:
+        function = self.functions[frame.caller or 0]
+        if function.calls.get(frame.call) != frame.function or self.inner[frame.caller, frame.call] != number:
+            raise WrongForm(f"frame {number} is not of the call at its slot")
+        others = tuple(register for register in range(FRAME_POINTER + 1) if register not in CALLEE_SAVED)
+        same = len(frame.registers) == FRAME_POINTER + 1 and all(frame.registers[register] == register for register in others)
+        if not same or sorted(frame.registers[register] for register in CALLEE_SAVED) != list(CALLEE_SAVED):
+            raise WrongForm(f"frame {number} does not name each register once")
+        bottom = caller.depth + function.stack
+        places = sorted(place for _, place in frame.saved)
+        between = all(-frame.depth <= place <= -bottom - _WORD and place % _WORD == 0 for place in places)
+        if not between or len(set(places)) != len(places) or frame.depth < bottom or frame.depth % _WORD:
+            raise WrongForm(f"frame {number} is not below its caller")
+        if frame.depth + self.functions[number].stack > STACK_SIZE:
+            raise WrongForm(f"frame {number} is outside of the stack")
+
+    def instruction(self, place: Origin) -> Instruction:
+        """The instruction at a place, as the function has it; a WrongForm where there is none."""
+        found = self.functions[place.frame].instructions.get(place.slot) if 0 <= place.frame < len(self.frames) else None
+        if found is None:
+            raise WrongForm(f"there is no instruction at {place}")
+        return found
+
+    def _called(self, place: Origin) -> int:
+        """The frame of the call at a place."""
+        called = self.inner.get((place.frame, place.slot))
+        if called is None:
+            raise WrongForm(f"the call at {place} has no frame")
+        return called
+
+    def becomes(self, place: Origin) -> tuple[Instruction, ...]:
+        """What the instruction at a place is in a form: nothing of a jump, and of calls and exits what saves registers."""
+        found, frame = self.instruction(place), self.frames[place.frame]
+        if found.is_goto:
+            return ()
+        if found.calls_function:
+            inner = self.frames[self._called(place)]
+            return tuple(Instruction(op.STORE_64, FRAME_POINTER, register, at, 0) for register, at in inner.saved)
+        if found.is_exit and frame.caller is not None:
+            return tuple(Instruction(op.LOAD_64, register, FRAME_POINTER, at, 0) for register, at in frame.saved)
+        return _named(found, frame)
+
+    def behind(self, place: Origin, is_taken: bool) -> Origin | None:
+        """The place that follows, where a comparison holds or does not; None behind the program's exit."""
+        found, function, frame = self.instruction(place), self.functions[place.frame], self.frames[place.frame]
+        if found.calls_function:
+            return Origin(self._called(place), 0)
+        if found.is_exit:
+            return None if frame.caller is None else Origin(frame.caller, self.functions[frame.caller].after(frame.call))
+        return Origin(place.frame, function.target(place.slot) if found.is_goto or is_taken else function.after(place.slot))
+
+    def leads(self, place: Origin | None, state: State, goal: Origin) -> bool:
+        """Whether the program comes from one place to another without a trace, where this is known."""
+        passed = set()
+        while place is not None and place != goal:
+            if place in passed or self.becomes(place) and not self.instruction(place).is_comparison:
+                return False
+            passed.add(place)
+            is_taken = False
+            if self.instruction(place).is_comparison:
+                taken, fallen = edges(state, self.becomes(place)[0])
+                if taken is not None and fallen is not None:
+                    return False
+                is_taken = fallen is None
+            place = self.behind(place, is_taken)
+        return place == goal
+
+
+def _named(found: Instruction, frame: Frame) -> tuple[Instruction, ...]:
+    """An instruction that stays, by the names of its frame: written apart from what writes it."""
+    dst, src = found.dst, found.src
+    is_operator = found.kind in (op.ALU, op.ALU64) and found.code != op.END
+    if found.kind in (op.LDX, op.STX) or found.from_register and (is_operator or found.is_comparison):
+        src = frame.registers[src]
+    if found.opcode not in (op.CALL, op.EXIT):
+        dst = frame.registers[dst]
+    offset = found.offset
+    if found.kind == op.LDX and found.src == FRAME_POINTER or found.kind in (op.ST, op.STX) and found.dst == FRAME_POINTER:
+        offset -= frame.depth
+    named = Instruction(found.opcode, dst, src, offset, found.constant, found.second)
+    reads_frame = frame.depth and FRAME_POINTER in op.reads(found) and found.kind not in (op.LDX, op.ST, op.STX)
+    stores_frame = frame.depth and found.kind == op.STX and found.src == FRAME_POINTER
+    if stores_frame or reads_frame and (found.opcode != op.MOVE_64 or found.offset):
+        raise WrongForm("an inlined function uses its frame pointer otherwise than by a copy")
+    return (named, Instruction(op.ADD_64, dst, 0, 0, -frame.depth)) if reads_frame else (named,)
+
+
+class _Walk:
+    """One pass over a form, with what is known before each of its instructions."""
+
+    def __init__(self, program: _Program, form: Mapping[int, Instruction], origins: Sequence[Origin]) -> None:
+        self._program = program
+        self._form = form
+        self._origins = origins
+        self._states: dict[int, State] = {}
+
+    def check(self) -> None:
+        """Looks at each instruction and each edge."""
+        self._arrive(0, Origin(0, 0), State())
+        for slot, found in self._form.items():
+            state = self._states.pop(slot, None)
+            if state is None:
+                raise WrongForm(f"no path leads to slot {slot}")
+            if found.second and self._origins[slot + 1] != self._origins[slot]._replace(slot=self._origins[slot].slot + 1):
+                raise WrongForm(f"the second half of slot {slot} is of something else")
+            if found.is_goto:
+                self._go(slot + 1 + (found.distance() or 0), slot, self._origins[slot], state)
+            else:
+                self._follow(slot, found, state)
+
+    def _follow(self, slot: int, found: Instruction, state: State) -> None:
+        place = self._origins[slot]
+        parts = self._program.becomes(place)
+        if not 0 <= place.part < len(parts):
+            raise WrongForm(f"slot {slot} is a part of {place} that there is not")
+        if found.is_comparison:
+            self._compare(slot, found, parts[place.part], state)
+            return
+        if found != parts[place.part]:
+            raise WrongForm(f"slot {slot} is another instruction than that of {place}")
+        behind = place._replace(part=place.part + 1) if place.part + 1 < len(parts) else self._program.behind(place, False)
+        if behind is not None:
+            state.apply(found)
+            self._go(slot + found.slots, slot, behind, state)
+
+    def _compare(self, slot: int, found: Instruction, wanted: Instruction, state: State) -> None:
+        """A comparison is that of its place, or its opposite with exchanged edges."""
+        place = self._origins[slot]
+        is_opposite = found.code != wanted.code
+        if found.jumping(0) != ((wanted.opposite() or wanted) if is_opposite else wanted).jumping(0):
+            raise WrongForm(f"slot {slot} is another comparison than that of {place}")
+        for is_jump, known in zip((True, False), edges(state, found)):
+            behind = self._program.behind(place, is_jump != is_opposite)
+            target = slot + 1 + (found.offset if is_jump else 0)
+            self._go(target, slot, behind, known or state.copy())
+
+    def _go(self, target: int, slot: int, behind: Origin | None, state: State) -> None:
+        """An edge of the form, from where the program goes on at a place."""
+        if target <= slot or target not in self._form:
+            raise WrongForm(f"slot {slot} leads to slot {target}, where no later instruction begins")
+        if behind is None:
+            raise WrongForm(f"slot {slot} goes on, and the program ends there")
+        self._arrive(target, behind, state)
+
+    def _arrive(self, target: int, behind: Origin, state: State) -> None:
+        if not self._leads(behind, state, target):
+            raise WrongForm(f"slot {target} is of {self._origins[target]}, and the program goes on at {behind}")
+        self._states[target] = state.joined(self._states.get(target))
+
+    def _leads(self, behind: Origin, state: State, target: int) -> bool:
+        return self._program.leads(behind, state, self._origins[target])
+
+
+def _check_registers(program: _Program, form: Mapping[int, Instruction], origins: Sequence[Origin]) -> None:
+    """Registers 6 to 9 that a frame writes, and does not save, are not read by its caller later."""
+    written: list[set[int]] = [set() for _ in program.frames]
+    for slot, found in form.items():
+        if not (program.instruction(origins[slot]).is_exit and found.opcode == op.LOAD_64):
+            written[origins[slot].frame] |= set(op.writes(found)) & set(CALLEE_SAVED)
+    for number in range(len(program.frames) - 1, 0, -1):
+        frame = program.frames[number]
+        caller = frame.caller or 0
+        kept = written[number] - {register for register, _ in frame.saved}
+        function, names = program.functions[caller], program.frames[caller].registers
+        for register in CALLEE_SAVED:
+            if names[register] in kept and _is_read(function, function.after(frame.call), register):
+                raise WrongForm(f"frame {number} writes register {names[register]}, which its caller reads later")
+        written[caller] |= kept
+
+
+def _is_read(function: Function, begin: int, register: int) -> bool:
+    """Whether a path from a slot on reads a register before it writes it."""
+    seen, waiting = {begin}, [begin]
+    while waiting:
+        slot = waiting.pop()
+        found = function.instructions[slot]
+        if register in op.reads(found):
+            return True
+        if register not in op.writes(found):
+            following = set(function.successors[slot]) - seen
+            seen |= following
+            waiting.extend(following)
+    return False

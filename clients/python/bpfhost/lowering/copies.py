@@ -1,0 +1,117 @@
+"""Copies of blocks: one that several edges lead to is written once for each, so that none of them loses what is known on it."""
+
+from __future__ import annotations
+
+from collections.abc import Callable, Collection, Iterator
+from dataclasses import dataclass
+
+from bpfhost.lowering.graph import Block, Graph, Written, predecessors, written
+from bpfhost.numbers import MOST_SLOTS
+
+# The most slots of a block that is copied: small ones are tried first.
+SIZES = (4, 8, 16)
+# So many forms of a program are tried at most.
+MOST_TRIES = 48
+
+Refusal = tuple[int, int]
+Ask = Callable[[Written], Refusal | None]
+
+
+@dataclass(frozen=True)
+class Copied:
+    """A graph with copies: `sources` has the block of the original graph that each one is of."""
+
+    graph: dict[int, Block]
+    sources: dict[int, int]
+
+
+def copied(graph: Graph, chosen: Collection[int]) -> Copied | None:
+    """The graph with a copy of each chosen block for each edge that leads there; None where that has too many slots."""
+    return _Copying(graph, chosen).copied()
+
+
+class _Copying:
+    """Follows the copies from the first block on."""
+
+    def __init__(self, graph: Graph, chosen: Collection[int]) -> None:
+        self._graph = graph
+        self._chosen = chosen
+        # The shared copy of each block that is not chosen.
+        self._shared: dict[int, int] = {}
+        self._sources: dict[int, int] = {}
+        self._waiting: list[int] = []
+        self._slots = 0
+
+    def copied(self) -> Copied | None:
+        """All copies."""
+        found: dict[int, Block] = {}
+        self._number(0)
+        while self._waiting:
+            number = self._waiting.pop()
+            block = self._graph[self._sources[number]]
+            self._slots += block.slots
+            if self._slots > MOST_SLOTS:
+                return None
+            found[number] = block.leading(self._number)
+        return Copied(found, self._sources)
+
+    def _number(self, block: int) -> int:
+        """The number of the copy that an edge leads to."""
+        if block not in self._chosen and block in self._shared:
+            return self._shared[block]
+        number = len(self._sources)
+        self._sources[number] = block
+        self._shared.setdefault(block, number)
+        self._waiting.append(number)
+        return number
+
+
+@dataclass(frozen=True)
+class Accepted:
+    """A form that is accepted, and how many of its blocks are copies."""
+
+    written: Written
+    copies: int
+
+
+def with_copies(graph: Graph, refused: Refusal, ask: Ask) -> Accepted | None:
+    """The form with the fewest copies that is found and accepted, of a graph whose plain form is refused; None where none is.
+
+    What a refused instruction lacks was lost where edges meet above it. So the nearest such block, and those from there down to the
+    instruction, are copied for each edge, and the verdict is asked again. Small blocks are tried first, then larger ones.
+    """
+    tries = iter(range(MOST_TRIES))
+    for size in SIZES:
+        found = _with_copies_of(graph, size, refused, ask, tries)
+        if found is not None:
+            return found
+    return None
+
+
+def _with_copies_of(graph: Graph, size: int, refused: Refusal | None, ask: Ask, tries: Iterator[int]) -> Accepted | None:
+    """Copies more and more blocks of so many slots at most, until a form is accepted, or nothing more can be copied."""
+    chosen: set[int] = set()
+    now = copied(graph, chosen)
+    while now is not None and next(tries, None) is not None:
+        form = written(now.graph)
+        if chosen:
+            refused = ask(form) if len(form.origins) <= MOST_SLOTS else (0, 0)
+        if refused is None:
+            return Accepted(form, len(now.graph) - len(graph))
+        more = _to_copy(now, form, refused[0], size) - chosen
+        chosen |= more
+        now = copied(graph, chosen) if more else None
+    return None
+
+
+def _to_copy(now: Copied, form: Written, slot: int, size: int) -> set[int]:
+    """The blocks from the nearest one above a slot that several edges lead to, down to the slot's; none where one of them is too large."""
+    before = predecessors(now.graph)
+    number = form.blocks[slot]
+    found = {number}
+    while len(set(before[number])) == 1:
+        (number,) = set(before[number])
+        found.add(number)
+    if not before[number] or any(now.graph[each].slots > size for each in found):
+        return set()
+    return {now.sources[each] for each in found}

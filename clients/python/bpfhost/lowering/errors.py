@@ -1,0 +1,17 @@
+"""What stops lowering."""
+
+from __future__ import annotations
+
+from bpfhost.errors import BpfhostError
+
+
+class LoweringError(BpfhostError):
+    """A program that can't be written in a form that the host takes; the text is one sentence."""
+
+
+class Cycle(Exception):
+    """Blocks that lead to one another in a circle, by their numbers: the graph has no topological order."""
+
+    def __init__(self, blocks: list[int]) -> None:
+        super().__init__(f"blocks {blocks} are a cycle")
+        self.blocks = blocks

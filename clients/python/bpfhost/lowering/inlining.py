@@ -1,0 +1,92 @@
+"""The graph of a program, with the functions that it calls inlined."""
+
+from __future__ import annotations
+
+from collections.abc import Sequence
+
+from bpfhost.lowering.code import Function
+from bpfhost.lowering.frames import Frames, moved, restoring, saving
+from bpfhost.lowering.graph import Block, Origin, Step
+from bpfhost.lowering.instructions import Instruction
+
+# A block by its frame and its first slot.
+_Leader = tuple[int, int]
+
+
+def inlined(functions: Sequence[Function], frames: Frames) -> dict[int, Block]:
+    """The blocks that a path reaches; the program's first one is block 0."""
+    return _Inlining(functions, frames).graph()
+
+
+class _Inlining:
+    """Builds blocks by their leaders: a call of a function goes on in its frame, and its exit behind the call."""
+
+    def __init__(self, functions: Sequence[Function], frames: Frames) -> None:
+        self._frames = frames
+        self._functions = [functions[frame.function] for frame in frames]
+        self._inner = {(frame.caller, frame.call): number for number, frame in enumerate(frames)}
+        leaders = {number: _leaders(functions[number]) for number in {frame.function for frame in frames}}
+        self._leaders = [leaders[frame.function] for frame in frames]
+        self._numbers: dict[_Leader, int] = {}
+        self._waiting: list[_Leader] = []
+
+    def graph(self) -> dict[int, Block]:
+        """All blocks from the program's first on."""
+        blocks: dict[int, Block] = {}
+        self._number((0, 0))
+        while self._waiting:
+            leader = self._waiting.pop()
+            blocks[self._numbers[leader]] = self._block(*leader)
+        return blocks
+
+    def _number(self, leader: _Leader) -> int:
+        if leader not in self._numbers:
+            self._numbers[leader] = len(self._numbers)
+            self._waiting.append(leader)
+        return self._numbers[leader]
+
+    def _block(self, frame: int, slot: int) -> Block:
+        function, steps = self._functions[frame], list[Step]()
+        origin = Origin(frame, slot)
+        while True:
+            found = function.instructions[slot]
+            if found.is_comparison:
+                (jump,) = self._steps(frame, slot)
+                taken, fallen = (frame, function.target(slot)), (frame, function.after(slot))
+                return Block(origin, tuple(steps), self._number(fallen), jump, self._number(taken))
+            if found.is_goto:
+                return Block(origin, tuple(steps), self._number((frame, function.target(slot))))
+            if slot in function.calls:
+                inner = self._inner[frame, slot]
+                steps += _numbered(frame, slot, saving(self._frames[inner]))
+                return Block(origin, tuple(steps), self._number((inner, 0)))
+            if found.is_exit:
+                return self._ended(origin, frame, slot, steps)
+            steps += self._steps(frame, slot)
+            slot = function.after(slot)
+            if slot in self._leaders[frame]:
+                return Block(origin, tuple(steps), self._number((frame, slot)))
+
+    def _ended(self, origin: Origin, frame: int, slot: int, steps: list[Step]) -> Block:
+        """A block at whose end the function exits: the program ends there, or its caller goes on."""
+        here = self._frames[frame]
+        if here.caller is None:
+            return Block(origin, (*steps, *self._steps(frame, slot)))
+        behind = self._functions[here.caller].after(here.call)
+        return Block(origin, (*steps, *_numbered(frame, slot, restoring(here))), self._number((here.caller, behind)))
+
+    def _steps(self, frame: int, slot: int) -> list[Step]:
+        return _numbered(frame, slot, moved(self._functions[frame].instructions[slot], self._frames[frame]))
+
+
+def _numbered(frame: int, slot: int, instructions: Sequence[Instruction]) -> list[Step]:
+    return [Step(each, Origin(frame, slot, part)) for part, each in enumerate(instructions)]
+
+
+def _leaders(function: Function) -> set[int]:
+    """The slots at which blocks begin."""
+    found = {0}
+    for slot, instruction in function.instructions.items():
+        if instruction.is_goto or instruction.is_comparison:
+            found |= {function.target(slot), function.after(slot)}
+    return found

@@ -1,0 +1,178 @@
+"""Instructions by their fields (docs/INSTRUCTIONS.md, "Layout"): which registers they read and write, and where they lead."""
+
+from __future__ import annotations
+
+import struct
+from collections.abc import Sequence
+from typing import NamedTuple
+
+from bpfhost.numbers import SLOT_SIZE
+from bpfhost.slots import WIDE_LOAD, first_slots
+
+FRAME_POINTER = 10
+# Registers that a call leaves as they are, by the calling convention.
+CALLEE_SAVED = (6, 7, 8, 9)
+
+# Classes, and what the upper half of an opcode says.
+LD, LDX, ST, STX, ALU, JMP, JMP32, ALU64 = range(8)
+_FROM_REGISTER = 0x08
+GOTO, GOTO_LONG, CALL, CALL_FUNCTION, EXIT = 0x05, 0x06, 0x85, 1, 0x95
+MOVE_64, ADD_64 = 0xBF, 0x07
+STORE_64, LOAD_64 = 0x7B, 0x79
+# Codes of arithmetic, without the source and the class.
+ADD, SUB, MUL, DIV, OR, AND, LSH, RSH, NEG, MOD, XOR, MOV, ARSH, END = (16 * code for code in range(14))
+# Codes of comparisons, the same way.
+JEQ, JGT, JGE, JSET, JNE, JSGT, JSGE, JLT, JLE, JSLT, JSLE = (16 * code for code in (1, 2, 3, 4, 5, 6, 7, 10, 11, 12, 13))
+OPPOSITE = {JEQ: JNE, JGT: JLE, JGE: JLT, JSGT: JSLE, JSGE: JSLT}
+OPPOSITE |= {opposite: code for code, opposite in OPPOSITE.items()}
+_COMPARISONS = (*OPPOSITE, JSET)
+_MOVE_MODES = {LDX: (0x60, 0x80), ST: (0x60,), STX: (0x60, 0xC0)}
+SIZES = {0x00: 4, 0x08: 2, 0x10: 1, 0x18: 8}
+ATOMIC = 0xC0
+SIGNED_LOAD = 0x80
+
+
+class Instruction(NamedTuple):
+    """An instruction by its fields; `second` is the second slot of a wide load, and no byte of any other."""
+
+    opcode: int
+    dst: int
+    src: int
+    offset: int
+    constant: int
+    second: bytes = b""
+
+    @classmethod
+    def at(cls, slots: bytes | bytearray, slot: int) -> Instruction:
+        """The instruction whose first slot this is; of a wide load that is cut off, the half that is there."""
+        opcode, registers, offset, constant = struct.unpack_from("<BBhi", slots, SLOT_SIZE * slot)
+        second = bytes(slots[SLOT_SIZE * (slot + 1) : SLOT_SIZE * (slot + 2)]) if opcode == WIDE_LOAD else b""
+        return cls(opcode, registers & 15, registers >> 4, offset, constant, second)
+
+    def to_bytes(self) -> bytes:
+        """The slots."""
+        return struct.pack("<BBhi", self.opcode, self.dst | self.src << 4, self.offset, self.constant) + self.second
+
+    @property
+    def slots(self) -> int:
+        """How many slots it has."""
+        return 2 if self.second else 1
+
+    @property
+    def kind(self) -> int:
+        """Its class."""
+        return self.opcode & 7
+
+    @property
+    def code(self) -> int:
+        """What the upper half of its opcode says: of arithmetic the operator, of a comparison which one."""
+        return self.opcode & 0xF0
+
+    @property
+    def is_goto(self) -> bool:
+        """Whether it is an unconditional jump."""
+        return self.opcode in (GOTO, GOTO_LONG)
+
+    @property
+    def is_comparison(self) -> bool:
+        """Whether it is a conditional jump."""
+        return self.kind in (JMP, JMP32) and self.code in _COMPARISONS
+
+    @property
+    def is_exit(self) -> bool:
+        """Whether it ends the program or the function."""
+        return self.opcode == EXIT
+
+    @property
+    def calls_function(self) -> bool:
+        """Whether it calls a function of the object."""
+        return self.opcode == CALL and self.src == CALL_FUNCTION
+
+    @property
+    def from_register(self) -> bool:
+        """Whether arithmetic or a comparison has a register for its second operand."""
+        return bool(self.opcode & _FROM_REGISTER)
+
+    @property
+    def size(self) -> int:
+        """How many bytes a load or a store moves."""
+        return SIZES[self.opcode & 0x18]
+
+    def distance(self) -> int | None:
+        """Of a jump the distance of its target from the next slot."""
+        if self.opcode == GOTO_LONG:
+            return self.constant
+        return self.offset if self.opcode == GOTO or self.is_comparison else None
+
+    def jumping(self, distance: int) -> Instruction:
+        """A conditional jump or a jump by 16 bits with another distance, which a program of 4,096 slots never exceeds."""
+        return self._replace(offset=distance)
+
+    def opposite(self) -> Instruction | None:
+        """The comparison that holds where this one does not, if there is one."""
+        code = OPPOSITE.get(self.code)
+        return None if code is None else self._replace(opcode=self.opcode & 0x0F | code)
+
+
+def goto(distance: int) -> Instruction:
+    """An unconditional jump."""
+    return Instruction(GOTO, 0, 0, distance, 0)
+
+
+def decoded(slots: bytes) -> dict[int, Instruction]:
+    """The instructions by their first slots, in order."""
+    return {slot: Instruction.at(slots, slot) for slot in first_slots(slots)}
+
+
+def is_known(found: Instruction) -> bool:
+    """Whether an instruction has a form of RFC 9669, as far as its opcode tells."""
+    kind, code = found.kind, found.code
+    if kind in (ALU, ALU64):
+        return code <= END
+    if kind in (JMP, JMP32):
+        return found.opcode in (GOTO, GOTO_LONG, CALL, EXIT) or code in _COMPARISONS
+    if kind == LD:
+        return found.opcode == WIDE_LOAD and len(found.second) == SLOT_SIZE
+    return found.opcode & 0xE0 in _MOVE_MODES[kind]
+
+
+def reads(found: Instruction) -> tuple[int, ...]:
+    """The registers that an instruction reads; of a call those that may have arguments."""
+    match found.kind:
+        case 4 | 7:
+            source = (found.src,) if _has_source(found) else ()
+            return source if found.code == MOV else (found.dst, *source)
+        case 1:
+            return (found.src,)
+        case 2:
+            return (found.dst,)
+        case 3:
+            return (found.dst, found.src)
+        case 5 | 6 if found.is_comparison:
+            return (found.dst, found.src) if found.from_register else (found.dst,)
+    if found.opcode == CALL:
+        return (1, 2, 3, 4, 5)
+    return (0,) if found.is_exit else ()
+
+
+def writes(found: Instruction) -> tuple[int, ...]:
+    """The registers that an instruction writes; a call leaves nothing in those for arguments."""
+    if found.kind in (LD, LDX, ALU, ALU64):
+        return (found.dst,)
+    return (0, 1, 2, 3, 4, 5) if found.opcode == CALL else ()
+
+
+def _has_source(found: Instruction) -> bool:
+    """Whether arithmetic reads its second register: a byte-order conversion has a width there."""
+    return found.from_register and found.code != END
+
+
+def renamed(found: Instruction, names: Sequence[int]) -> Instruction:
+    """The same instruction on other registers: register r is `names[r]`."""
+    if found.opcode in (GOTO, GOTO_LONG, CALL, EXIT):
+        return found
+    if found.kind == LD:
+        return found._replace(dst=names[found.dst])
+    of_source = found.kind in (LDX, STX) or found.kind in (ALU, ALU64) and _has_source(found)
+    has_source = of_source or found.is_comparison and found.from_register
+    return found._replace(dst=names[found.dst], src=names[found.src] if has_source else found.src)

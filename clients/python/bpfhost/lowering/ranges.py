@@ -1,0 +1,205 @@
+"""Ranges of numbers of 64 bits: what operators and comparisons make of them, by the tables of docs/VERIFIER.md ("Ranges").
+
+Where that page leaves an operator open, its result is any number; a comparison of constants is decided, also a signed one.
+"""
+
+from __future__ import annotations
+
+from typing import NamedTuple
+
+from bpfhost.lowering import instructions as op
+
+
+class Range(NamedTuple):
+    """All whole numbers from `lo` to `hi`, both included."""
+
+    lo: int
+    hi: int
+
+    @property
+    def is_constant(self) -> bool:
+        """Whether it has one member."""
+        return self.lo == self.hi
+
+
+Refined = tuple[Range, Range] | None
+
+
+def full(bits: int) -> Range:
+    """All numbers of so many bits."""
+    return Range(0, (1 << bits) - 1)
+
+
+ANY_NUMBER = full(64)
+
+
+def constant(number: int, bits: int = 64) -> Range:
+    """The range of one number, modulo 2^bits."""
+    number %= 1 << bits
+    return Range(number, number)
+
+
+def hull(a: Range, b: Range) -> Range:
+    """The least range that has the members of both."""
+    return Range(min(a.lo, b.lo), max(a.hi, b.hi))
+
+
+def cut(a: Range, bits: int) -> Range:
+    """The members modulo 2^bits."""
+    if a.hi < 1 << bits:
+        return a
+    return constant(a.lo, bits) if a.is_constant else full(bits)
+
+
+def signed(number: int, bits: int) -> int:
+    """A number of so many bits, read as signed."""
+    return number - (1 << bits) if number >> bits - 1 else number
+
+
+def result(code: int, a: Range, b: Range, bits: int, offset: int = 0) -> Range:
+    """The results of an operator, by its code, on 64 or 32 bits; the operands are cut to them. `offset` is the instruction's."""
+    a, b = cut(a, bits), cut(b, bits)
+    if offset and code in (op.DIV, op.MOD):
+        return full(bits)
+    if code == op.MOV:
+        return _extended(b, offset, bits) if offset else b
+    if a.is_constant and b.is_constant:
+        return constant(_computed(code, a.lo, b.lo, bits), bits)
+    return _of_ranges(code, a, b, bits)
+
+
+def _extended(b: Range, width: int, bits: int) -> Range:
+    """What a move with sign extension from so many bits gives."""
+    if b.is_constant:
+        return constant(signed(b.lo % (1 << width), width), bits)
+    return b if b.hi < 1 << width - 1 else full(bits)
+
+
+def _computed(code: int, a: int, b: int, bits: int) -> int:
+    """The result of an operator on two numbers, before it is taken modulo 2^bits."""
+    match code:
+        case op.ADD:
+            return a + b
+        case op.SUB:
+            return a - b
+        case op.MUL:
+            return a * b
+        case op.DIV:
+            return a // b if b else 0
+        case op.MOD:
+            return a % b if b else a
+        case op.OR:
+            return a | b
+        case op.AND:
+            return a & b
+        case op.XOR:
+            return a ^ b
+        case op.LSH:
+            return a << b % bits
+        case op.RSH:
+            return a >> b % bits
+        case op.ARSH:
+            return signed(a, bits) >> b % bits
+    return -a
+
+
+def _of_ranges(code: int, a: Range, b: Range, bits: int) -> Range:
+    most = (1 << bits) - 1
+    match code:
+        case op.ADD:
+            return _wrapped(a.lo + b.lo, a.hi + b.hi, bits)
+        case op.SUB:
+            return _wrapped(a.lo - b.hi, a.hi - b.lo, bits)
+        case op.MUL:
+            return Range(a.lo * b.lo, a.hi * b.hi) if a.hi * b.hi <= most else full(bits)
+        case op.DIV:
+            return Range(a.lo // b.hi, a.hi // b.lo) if b.lo else Range(0, a.hi)
+        case op.MOD:
+            return Range(0, min(a.hi, b.hi - 1)) if b.lo else Range(0, a.hi)
+        case op.AND:
+            return Range(0, min(a.hi, b.hi))
+        case op.OR | op.XOR:
+            return Range(max(a.lo, b.lo) if code == op.OR else 0, (1 << max(a.hi, b.hi).bit_length()) - 1)
+    return _shifted(code, a, b, bits)
+
+
+def _wrapped(lo: int, hi: int, bits: int) -> Range:
+    """A range of sums or differences, where none of them wraps or all do."""
+    size = 1 << bits
+    return Range(lo % size, hi % size) if lo // size == hi // size else full(bits)
+
+
+def _shifted(code: int, a: Range, b: Range, bits: int) -> Range:
+    if not b.is_constant:
+        is_right = code == op.RSH or code == op.ARSH and a.hi < 1 << bits - 1
+        return Range(0, a.hi) if is_right else full(bits)
+    count = b.lo % bits
+    if code == op.LSH and a.hi << count < 1 << bits:
+        return Range(a.lo << count, a.hi << count)
+    if code == op.RSH or code == op.ARSH and a.hi < 1 << bits - 1:
+        return Range(a.lo >> count, a.hi >> count)
+    return full(bits)
+
+
+def refine(code: int, a: Range, b: Range, bits: int) -> tuple[Refined, Refined]:
+    """The ranges of two operands where a comparison holds, and where it does not; None where that can't be."""
+    if bits == 32 and max(a.hi, b.hi) >= 1 << 32:
+        return (a, b), (a, b)
+    if code in _AS_UNSIGNED:
+        code = _AS_UNSIGNED[code]
+        if not _same_sign(a, b, bits):
+            return _signed_constants(code, a, b, bits)
+    if code == op.JSET:
+        return _tested(a, b)
+    return _held(code, a, b), _held(op.OPPOSITE[code], a, b)
+
+
+_AS_UNSIGNED = {op.JSGT: op.JGT, op.JSGE: op.JGE, op.JSLT: op.JLT, op.JSLE: op.JLE}
+
+
+def _same_sign(a: Range, b: Range, bits: int) -> bool:
+    """Whether all members of both have one sign, so that a signed comparison is the unsigned one."""
+    least_negative = 1 << bits - 1
+    return max(a.hi, b.hi) < least_negative or min(a.lo, b.lo) >= least_negative
+
+
+def _signed_constants(code: int, a: Range, b: Range, bits: int) -> tuple[Refined, Refined]:
+    """A signed comparison of numbers of both signs, which constants alone decide: with the sign bits turned it is unsigned."""
+    both, sign = (a, b), 1 << bits - 1
+    if not (a.is_constant and b.is_constant):
+        return both, both
+    return (both, None) if _held(code, constant(a.lo ^ sign), constant(b.lo ^ sign)) else (None, both)
+
+
+def _tested(a: Range, b: Range) -> tuple[Refined, Refined]:
+    """A test of common bits, which constants alone decide."""
+    both = a, b
+    if not (a.is_constant and b.is_constant):
+        return both, both
+    return (both, None) if a.lo & b.lo else (None, both)
+
+
+def _held(code: int, a: Range, b: Range) -> Refined:
+    """The ranges where an unsigned comparison holds."""
+    match code:
+        case op.JEQ:
+            common = Range(max(a.lo, b.lo), min(a.hi, b.hi))
+            return (common, common) if common.lo <= common.hi else None
+        case op.JNE:
+            left, right = _without(a, b), _without(b, a)
+            return None if left is None or right is None else (left, right)
+        case op.JGT:
+            return None if a.hi <= b.lo else (Range(max(a.lo, b.lo + 1), a.hi), Range(b.lo, min(b.hi, a.hi - 1)))
+        case op.JGE:
+            return None if a.hi < b.lo else (Range(max(a.lo, b.lo), a.hi), Range(b.lo, min(b.hi, a.hi)))
+    held = _held(op.JGT if code == op.JLT else op.JGE, b, a)
+    return held and (held[1], held[0])
+
+
+def _without(a: Range, b: Range) -> Range | None:
+    """The range without a number, where the other operand is one; None where it has no other member."""
+    if not b.is_constant or b.lo not in (a.lo, a.hi):
+        return a
+    if a.is_constant:
+        return None
+    return Range(a.lo + 1, a.hi) if b.lo == a.lo else Range(a.lo, a.hi - 1)

@@ -1,27 +1,28 @@
-"""Programs of objects, loaded with their maps for a tenant; and refusals that point at the source."""
+"""Programs of objects, lowered where that is needed, and loaded with their maps for a tenant; and refusals that point at the source."""
 
 from __future__ import annotations
 
 from dataclasses import dataclass
 
 from bpfhost.errors import InputError, ProgramRefused, Refused, SourceRefused
+from bpfhost.lowering import Lowered, as_is, lower
 from bpfhost.maps import Map
-from bpfhost.objects import ObjectFile, ObjectMap, ObjectProgram
-from bpfhost.program import MapShape, log_or_fault
+from bpfhost.numbers import FIRST_DESCRIPTOR
+from bpfhost.objects import Form, ObjectFile, ObjectMap, ObjectProgram
+from bpfhost.program import MapShape, Program, log_or_fault, verify
 from bpfhost.runs import TestRuns
 from bpfhost.tenant import Tenant
 from bpfhost.words import reason_words
 
 
-def refused_at(
-    object_file: ObjectFile, program: ObjectProgram, slot: int, reason: int, log: str | None = None
-) -> SourceRefused:
+def refused_at(object_file: ObjectFile, lowered: Lowered, slot: int, reason: int, log: str | None = None) -> SourceRefused:
     """The error of a program that is refused at a slot for a reason, with the line of the source and the reason in words."""
-    told = f"{place(object_file, program, slot)} (slot {slot}: {reason_words(reason)}, reason {reason})"
+    place, moved = _place(object_file, lowered.program, slot), lowered.place(slot)
+    told = f"{place} (slot {slot}{f', {moved}' if moved else ''}: {reason_words(reason)}, reason {reason})"
     return SourceRefused(told, slot, reason, log)
 
 
-def place(object_file: ObjectFile, program: ObjectProgram, slot: int) -> str:
+def _place(object_file: ObjectFile, program: ObjectProgram, slot: int) -> str:
     """The line of the source that a slot is of, as `filter.c:23: return table[i];`, or else the function and its section."""
     line = program.line_of(slot)
     if line is None:
@@ -32,6 +33,63 @@ def place(object_file: ObjectFile, program: ObjectProgram, slot: int) -> str:
 def shape_of(declared: ObjectMap) -> MapShape:
     """The shape of a map that an object declares."""
     return MapShape(declared.map_type, declared.key_size, declared.value_size, declared.max_entries)
+
+
+def first_descriptors(object_file: ObjectFile) -> list[int]:
+    """The descriptors that the object's maps are given by a tenant that has nothing else."""
+    return [FIRST_DESCRIPTOR + number for number in range(len(object_file.maps))]
+
+
+def shapes_of(object_file: ObjectFile) -> dict[int, MapShape]:
+    """The shapes of the object's maps by these descriptors."""
+    return {fd: shape_of(declared) for fd, declared in zip(first_descriptors(object_file), object_file.maps)}
+
+
+def lowered_program(bpfhost: Program, object_file: ObjectFile, program: ObjectProgram) -> Lowered:
+    """A program of an object in a form that the verifier accepts, or else in the plainest one, by the verdicts of `bpfhost verify`.
+
+    A LoweringError where the program can't be written in any form. Of an object that is taken as it is, the program is as it is.
+    """
+    descriptors, shapes = first_descriptors(object_file), shapes_of(object_file)
+
+    def ask(form: ObjectProgram) -> tuple[int, int] | None:
+        return verify(bpfhost, form.linked(descriptors), shapes).refused
+
+    if object_file.form is Form.AS_IS:
+        return as_is(program, ask(program))
+    return lower(object_file, program, ask)
+
+
+def log_of(bpfhost: Program, object_file: ObjectFile, lowered: Lowered) -> str | None:
+    """The verifier's log on a program, or why there is none; None where there is no program to write it.
+
+    Of a program in another form it has the lines of the source, each before the first instruction that comes from it.
+    """
+    log = log_or_fault(bpfhost, lowered.program.linked(first_descriptors(object_file)), shapes_of(object_file))
+    return log if log is None or not lowered.origins else with_sources(log, lowered)
+
+
+def with_sources(text: str, lowered: Lowered) -> str:
+    """Lines of a text or of a log of a program, with a line of the source before those that come from it.
+
+    A line that begins with a slot is of that slot. Others are of the slot behind the line before, but for the last lines of a log.
+    """
+    slot, parts, last = 0, [], ""
+    for line in text.splitlines():
+        number, colon, _ = line.partition(": ")
+        slot = int(number) if colon and number.isdecimal() else slot
+        source = _source(lowered, slot) or last
+        parts += [source if source != last else "", f"{line}\n"]
+        slot, last = slot + (2 if line.partition("//")[0].rstrip().endswith(" ll") else 1), source
+    return "".join(parts)
+
+
+def _source(lowered: Lowered, slot: int) -> str:
+    """The line of the source that a slot is of, with the number of the copy, as a comment; none of a jump that was added."""
+    line, (copy, count) = lowered.program.line_of(slot), lowered.copy_of(slot)
+    if line is None or lowered.is_added(slot):
+        return ""
+    return f"// {line}{f' (copy {copy} of {count})' if count > 1 else ''}\n"
 
 
 def choose_program(object_file: ObjectFile, named: str | None = None) -> ObjectProgram:
@@ -59,30 +117,39 @@ class LoadedMap:
 
 @dataclass(frozen=True)
 class LoadedProgram:
-    """A program of an object, as a tenant has it: its descriptor, and the object's maps."""
+    """A program of an object, as a tenant has it: its form, its descriptor, and the object's maps."""
 
     tenant: Tenant
-    program: ObjectProgram
+    lowered: Lowered
     descriptor: int
     maps: tuple[LoadedMap, ...]
+
+    @property
+    def program(self) -> ObjectProgram:
+        """The program in the form that is loaded."""
+        return self.lowered.program
 
     def runs(self) -> TestRuns:
         """Test runs of the program."""
         return TestRuns(self.tenant.host, self.tenant.number, self.descriptor)
 
 
-def load_program(tenant: Tenant, object_file: ObjectFile, program: ObjectProgram) -> LoadedProgram:
-    """Makes the maps of an object, with their first values, and loads one of its programs.
+def load_program(tenant: Tenant, object_file: ObjectFile, program: ObjectProgram | Lowered) -> LoadedProgram:
+    """Makes the maps of an object, with their first values, and loads one of its programs, lowered where that is needed.
 
-    A SourceRefused where the program is refused at a slot, a Refused where it is for another reason, and an InputError where a map is.
+    A SourceRefused where the program is refused at a slot, and a LoweringError where it has no form, before anything is made; a Refused
+    where it is refused for another reason, and an InputError where a map is.
     """
+    bpfhost = tenant.host.program
+    lowered = lowered_program(bpfhost, object_file, program) if isinstance(program, ObjectProgram) else program
+    if lowered.refused is not None:
+        raise refused_at(object_file, lowered, *lowered.refused, log_of(bpfhost, object_file, lowered))
     maps = tuple(LoadedMap(declared, _made(tenant, declared)) for declared in object_file.maps)
-    slots = program.linked([loaded.map.descriptor for loaded in maps])
+    slots = lowered.program.linked([loaded.map.descriptor for loaded in maps])
     try:
-        return LoadedProgram(tenant, program, tenant.prog_load(slots), maps)
+        return LoadedProgram(tenant, lowered, tenant.prog_load(slots), maps)
     except ProgramRefused as refused:
-        log = log_or_fault(tenant.host.program, slots, {each.map.descriptor: each.map.shape for each in maps})
-        raise refused_at(object_file, program, refused.slot, refused.reason, log) from refused
+        raise refused_at(object_file, lowered, refused.slot, refused.reason, log_of(bpfhost, object_file, lowered)) from refused
 
 
 def _made(tenant: Tenant, declared: ObjectMap) -> Map:

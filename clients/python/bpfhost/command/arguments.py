@@ -6,7 +6,7 @@ import argparse
 from collections.abc import Callable, Sequence
 from typing import TypeAlias
 
-from bpfhost.command import check, frames, run, texts
+from bpfhost.command import build, check, frames, run, texts
 from bpfhost.numbers import MOST_TENANTS
 from bpfhost.telling import Parser, add_program, in_range, named
 
@@ -24,6 +24,7 @@ def _parser() -> Parser:
     words = parser.add_subparsers(metavar="WORD", required=True, parser_class=Parser)
     _add_run(words)
     _add_check(words)
+    _add_build(words)
     _add_texts(words)
     _add_frames(words)
     return parser
@@ -40,17 +41,39 @@ def _add_run(words: _Words) -> None:
     parser = _word(words, "run", run.run, "run a filter on every packet of a capture")
     parser.add_argument("object", metavar="OBJECT", help="an ELF object of machine BPF, as clang -target bpf -g writes it")
     parser.add_argument("capture", metavar="CAPTURE", help="a capture, pcap or pcapng; - is standard input")
-    parser.add_argument("--section", metavar="S", help="the section of the filter, or its function's name")
+    _add_section(parser)
     parser.add_argument("--tenants", metavar="N", type=_tenants, default=1, help="so many tenants run the filter, each on every packet")
     parser.add_argument("--limit", metavar="N", type=_number, help="so many packets at most")
     parser.add_argument("--json", action="store_true", help="write JSON in place of tables")
     parser.add_argument("--accepted", metavar="FILE", help="write the packets that are kept, cut as the filter says, as a pcap file")
+    _add_form(parser)
     add_program(parser)
+
+
+def _add_section(parser: Parser) -> None:
+    parser.add_argument("--section", metavar="S", help="the section of the filter, or its function's name")
+
+
+def _add_form(parser: Parser) -> None:
+    """The words that say in which form an object is taken."""
+    forms = parser.add_mutually_exclusive_group()
+    forms.add_argument("--strict", action="store_true", help="refuse maps that the host does not have, and change none")
+    forms.add_argument("--as-is", action="store_true", help="take programs as they are compiled, and change nothing")
 
 
 def _add_check(words: _Words) -> None:
     parser = _word(words, "check", check.run, "verify each program of an object, and show the verifier's log where there is one")
     parser.add_argument("object", metavar="OBJECT")
+    _add_form(parser)
+    add_program(parser)
+
+
+def _add_build(words: _Words) -> None:
+    parser = _word(words, "build", build.run, "write a program of an object, with its maps, as a file that is loaded without Python")
+    parser.add_argument("object", metavar="OBJECT")
+    parser.add_argument("-o", "--output", metavar="FILE", required=True, help="the file")
+    _add_section(parser)
+    _add_form(parser)
     add_program(parser)
 
 
@@ -60,6 +83,7 @@ def _add_texts(words: _Words) -> None:
     for parser in (asm, dis):
         parser.add_argument("file", metavar="FILE", nargs="?", help="standard input, if it is not named")
         add_program(parser)
+    _add_form(dis)
 
 
 def _add_frames(words: _Words) -> None:

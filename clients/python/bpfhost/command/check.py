@@ -4,25 +4,32 @@ from __future__ import annotations
 
 import argparse
 
-from bpfhost.command.objects import first_descriptors, read_object
-from bpfhost.program import find_program, log_or_fault, verify
+from bpfhost.command.objects import read_object
+from bpfhost.errors import SourceRefused
+from bpfhost.program import find_program
 
 
 def run(said: argparse.Namespace) -> int:
     """Verifies each program by itself, with the maps of the object; the status is 1 where one is refused."""
-    program, object_file = find_program(said.bpfhost), read_object(said.object)
-    from bpfhost.loading import choose_program, refused_at, shape_of
+    program, object_file = find_program(said.bpfhost), read_object(said, said.object)
+    from bpfhost.loading import choose_program, log_of, lowered_program, refused_at
+    from bpfhost.lowering import LoweringError
 
     if not object_file.programs:
         choose_program(object_file)
-    descriptors = first_descriptors(object_file)
-    maps = {fd: shape_of(declared) for fd, declared in zip(descriptors, object_file.maps)}
     status = 0
     for each in object_file.programs:
-        slots = each.linked(descriptors)
-        refused = verify(program, slots, maps).refused
-        verdict = f"refused: {refused_at(object_file, each, *refused)}" if refused else "accepted"
-        print(f"{each.name} in section {each.section} is {verdict}")
-        print(log_or_fault(program, slots, maps) or "", end="")
+        name = f"{each.name} in section {each.section}"
+        try:
+            lowered = lowered_program(program, object_file, each)
+        except LoweringError as error:
+            print(f"{name} is refused: {error}")
+            status = 1
+            continue
+        refused: SourceRefused | None = refused_at(object_file, lowered, *lowered.refused) if lowered.refused else None
+        verdict = f"refused: {refused}" if refused else f"accepted{' in another form' if lowered.changes else ''}"
+        print(f"{name} is {verdict}")
+        print("".join(f"- {change}\n" for change in lowered.changes), end="")
+        print(log_of(program, object_file, lowered) or "", end="")
         status = 1 if refused else status
     return status

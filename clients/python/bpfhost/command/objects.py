@@ -2,24 +2,33 @@
 
 from __future__ import annotations
 
+import argparse
+import sys
+from collections.abc import Iterable
 from typing import TYPE_CHECKING
 
 from bpfhost.errors import MissingPackage
-from bpfhost.numbers import FIRST_DESCRIPTOR
 
 if TYPE_CHECKING:
     from bpfhost.objects import ObjectFile
 
 
-def read_object(path: str) -> ObjectFile:
-    """The object of a file; a MissingPackage where there is no pyelftools."""
+def read_object(said: argparse.Namespace, path: str) -> ObjectFile:
+    """The object of a file in the form that the words ask for; a MissingPackage where there is no pyelftools.
+
+    What is changed of its maps is told.
+    """
     try:
-        from bpfhost.objects import load_object
+        from bpfhost.objects import Form, load_object
     except ModuleNotFoundError as error:
         raise MissingPackage("elftools", "python3-pyelftools") from error
-    return load_object(path)
+    form = Form.AS_IS if said.as_is else Form.STRICT if said.strict else Form.LOWERED
+    found = load_object(path, form)
+    tell_changes(path, found.changes)
+    return found
 
 
-def first_descriptors(object_file: ObjectFile) -> list[int]:
-    """The descriptors that the object's maps are given by a tenant that has nothing else."""
-    return [FIRST_DESCRIPTOR + number for number in range(len(object_file.maps))]
+def tell_changes(what: str, changes: Iterable[str]) -> None:
+    """Tells what is changed of an object or of a program, a line each."""
+    for change in changes:
+        print(f"bpfhost: {what}: {change}", file=sys.stderr)

@@ -10,7 +10,7 @@ from collections.abc import Callable, Iterator
 from typing import TYPE_CHECKING
 
 from bpfhost.captures import open_capture
-from bpfhost.command.objects import read_object
+from bpfhost.command.objects import read_object, tell_changes
 from bpfhost.errors import InputError
 from bpfhost.host import Host
 from bpfhost.packets import ETHERNET
@@ -28,16 +28,18 @@ _STANDARD_INPUT = "/dev/stdin"
 
 def run(said: argparse.Namespace) -> int:
     """Loads the filter, runs it, and shows what came of it; the status is 1 where the capture is wrong behind some packet."""
-    object_file = read_object(said.object)
+    object_file = read_object(said, said.object)
     from bpfhost.command import show
     from bpfhost.filtering import Filter
-    from bpfhost.loading import choose_program, load_program
+    from bpfhost.loading import choose_program, load_program, lowered_program
 
     program = choose_program(object_file, said.section)
     path = _STANDARD_INPUT if said.capture == "-" else said.capture
     _refuse_loss(said.accepted, (said.object, "object that is run"), (path, "capture that they are read from"))
     with open_capture(path) as capture, Host(find_program(said.bpfhost), said.tenants) as host:
-        loaded = [load_program(host.tenant(number), object_file, program) for number in range(said.tenants)]
+        lowered = lowered_program(host.program, object_file, program)
+        loaded = [load_program(host.tenant(number), object_file, lowered) for number in range(said.tenants)]
+        tell_changes(program.name, lowered.changes)
         with _accepting(said, capture) as accept, _progress(capture) as advanced:
             outcome = Filter([each.runs() for each in loaded]).run(capture, said.limit, accept, advanced)
         report = show.Report.of(object_file, loaded[0], said.capture, said.tenants, outcome)

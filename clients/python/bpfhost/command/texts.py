@@ -7,7 +7,7 @@ import re
 import sys
 from pathlib import Path
 
-from bpfhost.command.objects import first_descriptors, read_object
+from bpfhost.command.objects import read_object
 from bpfhost.errors import BpfhostError, HostError, InputError
 from bpfhost.program import assemble, disassemble, find_program, hex_lines, slots_of
 from bpfhost.words import TEXT_FAULTS, reason_words
@@ -81,19 +81,20 @@ def _dis_object(said: argparse.Namespace, program: str) -> int:
         raise InputError("an object is read from a file that is named, and not from standard input")
     if not Path(said.file).is_file():
         raise InputError(f"{said.file}: an object is read from a regular file, and not from a pipe")
-    object_file = read_object(said.file)
+    object_file = read_object(said, said.file)
+    from bpfhost.loading import first_descriptors, lowered_program, with_sources
+    from bpfhost.lowering import LoweringError, as_is
+
     for each in object_file.programs:
         print(f"// {each.name}, section {each.section}")
-        text = _text_of(program, each.linked(first_descriptors(object_file)), said.file)
-        sys.stdout.write(_with_sources(text, {line.slot: f"// {line}\n" for line in each.lines}))
+        try:
+            lowered = lowered_program(program, object_file, each)
+        except LoweringError as error:
+            if each.calls:
+                raise
+            print(f"// as compiled, for it is in no other form: {error}")
+            lowered = as_is(each)
+        print("".join(f"// {change}\n" for change in lowered.changes), end="")
+        text = _text_of(program, lowered.program.linked(first_descriptors(object_file)), said.file)
+        sys.stdout.write(with_sources(text, lowered))
     return 0
-
-
-def _with_sources(text: str, sources: dict[int, str]) -> str:
-    """A program's text, with a line of the source before the instructions that come from it."""
-    slot, parts, last = 0, [], ""
-    for line in text.splitlines():
-        source = sources.get(slot, last)
-        parts += [source if source != last else "", f"{line}\n"]
-        slot, last = slot + (2 if line.endswith(" ll") else 1), source
-    return "".join(parts)

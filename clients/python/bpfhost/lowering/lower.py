@@ -33,8 +33,9 @@ _CURABLE = frozenset((_BACKWARD, _UNREACHED, *range(20, 37)))
 class Lowered:
     """A program in a form that is accepted, or, where none is, in the plainest one, with what that is refused for.
 
-    `program` is loaded as any other. `changes` tells, in a sentence each, what was changed; none was where there are none. `origins` has
-    for each slot the place that it comes from, in a frame of `frames`; both are empty where the program is as it was.
+    `program` is loaded as any other. `changes` tells, in a sentence each, what was changed, by the steps of `steps`; none was where there
+    are none. `origins` has for each slot the place that it comes from, in a frame of `frames`; both are empty where the program is as it
+    was.
     """
 
     declared: ObjectProgram
@@ -44,6 +45,7 @@ class Lowered:
     origins: tuple[Origin, ...] = ()
     frames: Frames = ()
     functions: tuple[Function, ...] = ()
+    steps: tuple[str, ...] = ()
 
     def place(self, slot: int) -> str:
         """What is to be told of a slot beside its line: the slot that it comes from, which copy, and the calls that lead there."""
@@ -112,7 +114,8 @@ class _Lowering:
         self._refused = refused
         self._functions = functions_of(object_file, program)
         self._frames = frames_of(self._functions)
-        self._changes: list[str] = []
+        # What is told, by the names of the steps: calls, loops, order, copies.
+        self._changes: dict[str, str] = {}
 
     def lowered(self) -> Lowered:
         """The form, by the steps in their order."""
@@ -130,7 +133,8 @@ class _Lowering:
         if accepted is None:
             return self._form(plain, refused)
         more = len(accepted.written.origins) - len(plain.origins)
-        self._changes.append(f"blocks that several edges lead to are written once for each: {_counted(accepted.copies, 'copy', 'copies')}, {more} slots more")
+        copies = f"{_counted(accepted.copies, 'copy', 'copies')}, {more} slots more"
+        self._changes["copies"] = f"blocks that several edges lead to are written once for each: {copies}"
         return self._form(accepted.written, None)
 
     def _without_loops(self, graph: dict[int, Block]) -> dict[int, Block]:
@@ -140,7 +144,7 @@ class _Lowering:
         except Cycle:
             found = without_empty(unrolled(graph, self._where))
         before, after = (sum(block.slots for block in each.values()) for each in (graph, found))
-        self._changes.append(f"loops are unrolled: {after} slots of {before}")
+        self._changes["loops"] = f"loops are unrolled: {after} slots of {before}"
         return found
 
     def _tell_calls(self) -> None:
@@ -149,13 +153,13 @@ class _Lowering:
             names = sorted({self._functions[frame.function].declared.name for frame in self._frames[1:]})
             saved = sum(len(frame.saved) for frame in self._frames)
             what = f", which save {_counted(saved, 'register', 'registers')}" if saved else ""
-            self._changes.append(f"{_counted(count, 'call is', 'calls are')} inlined, of {', '.join(names)}{what}")
+            self._changes["calls"] = f"{_counted(count, 'call is', 'calls are')} inlined, of {', '.join(names)}{what}"
 
     def _tell_order(self, plain: Written) -> None:
         if self._refused is not None and self._refused[1] in (_BACKWARD, _UNREACHED) and not self._changes:
             left_out = len(self._functions[0].instructions) - len({origin for origin in plain.origins})
             what = " and those that no path reaches are left out" if self._refused[1] == _UNREACHED and left_out else ""
-            self._changes.append(f"blocks stand in the order of their paths{what}")
+            self._changes["order"] = f"blocks stand in the order of their paths{what}"
 
     def _where(self, origin: Origin) -> str:
         return self._functions[self._frames[origin.frame].function].where(origin.slot)
@@ -168,7 +172,8 @@ class _Lowering:
         check(self._functions, self._frames, form.slots, form.origins)
         if not self._changes and form.slots == self._functions[0].linked:
             return as_is(self._program, refused)
-        return Lowered(self._program, self._as_program(form), refused, tuple(self._changes), form.origins, self._frames, self._functions)
+        told, steps = tuple(self._changes.values()), tuple(self._changes)
+        return Lowered(self._program, self._as_program(form), refused, told, form.origins, self._frames, self._functions, steps)
 
     def _as_program(self, form: Written) -> ObjectProgram:
         """A form as a program of the object, with its lines and the slots of its maps."""

@@ -1,0 +1,273 @@
+#!/usr/bin/env python3
+"""Compiles the filters of this folder in many ways, lowers them, and runs them. usage: forms.py BPFHOST [--write]
+
+It compares what comes of it with table.md, or writes that page with --write. A filter is compiled by each clang that there is, with each
+of -O1, -O2 and -Os and for each processor of BPF that the compiler knows. What is accepted runs on two captures, as packets that came in
+and as packets that go out: as it was compiled, lowered, and in topological order where it needs none. All forms of a filter have to answer
+the same and to leave the same in their maps. Where a compiler is missing, its columns are not looked at, which is told.
+"""
+
+from __future__ import annotations
+
+import functools
+import hashlib
+import json
+import os
+import shutil
+import subprocess
+import sys
+import tempfile
+from collections.abc import Iterable, Iterator, Mapping, Sequence
+from concurrent.futures import ProcessPoolExecutor
+from dataclasses import dataclass, field
+from pathlib import Path
+
+HERE = Path(__file__).resolve().parent
+sys.path.insert(0, str(HERE.parents[1] / "clients/python"))
+
+from bpfhost import Context, Host, verify  # noqa: E402
+from bpfhost.captures import open_capture  # noqa: E402
+from bpfhost.loading import LoadedProgram, first_descriptors, load_program, lowered_program, shapes_of  # noqa: E402
+from bpfhost.lowering import Lowered, LoweringError, as_is, lower  # noqa: E402
+from bpfhost.objects import Form, ObjectError, ObjectFile, ObjectProgram, load_object  # noqa: E402
+from bpfhost.runs import TestRuns  # noqa: E402
+
+TABLE = HERE / "table.md"
+COMPILERS = ("14", "19")
+LEVELS = ("-O1", "-O2", "-Os")
+PROCESSORS = ("v1", "v2", "v3", "v4")
+# The words of linux/if_packet.h: a packet that came in, and one that goes out.
+CONTEXTS = (Context(pkt_type=0), Context(pkt_type=4))
+STEPS = ("maps", "calls", "loops", "order", "copies")
+PASSED, DIFFERS, NO_COMPILER = 0, 1, 0
+
+
+@dataclass
+class Tally:
+    """What came of one filter by one compiler: how many programs there are, are accepted as compiled, and are lowered."""
+
+    programs: int = 0
+    compiled: int = 0
+    lowered: int = 0
+    slots: int = 0
+    steps: set[str] = field(default_factory=set)
+    faults: list[str] = field(default_factory=list)
+
+    def cells(self) -> tuple[str, str, str, str]:
+        """The compiler's cells of the table."""
+        needed = ", ".join(step for step in STEPS if step in self.steps) or "nothing"
+        return f"{self.compiled} of {self.programs}", f"{self.lowered} of {self.programs}", needed, str(self.slots)
+
+
+@dataclass
+class Filter:
+    """What came of a filter: a tally for each compiler, and what its forms answered."""
+
+    name: str
+    tallies: dict[str, Tally]
+    kept: int
+    faults: list[str]
+
+
+@functools.cache
+def clang(version: str) -> str | None:
+    """The compiler of a version, if it is there and compiles for BPF."""
+    found = shutil.which(f"clang-{version}")
+    if found is None:
+        return None
+    targets = subprocess.run([found, "--print-targets"], capture_output=True, text=True, check=False).stdout
+    return found if " bpf " in targets else None
+
+
+@functools.cache
+def processors(version: str) -> tuple[str, ...]:
+    """The processors that a compiler knows."""
+    words = [clang(version) or "clang", "-target", "bpf", "-c", "-x", "c", "-", "-o", os.devnull]
+    return tuple(each for each in PROCESSORS if not subprocess.run([*words, f"-mcpu={each}"], input=b"", capture_output=True, check=False).returncode)
+
+
+def compiled(source: Path, version: str, scratch: Path) -> Iterator[Path]:
+    """The objects that a compiler makes of a source."""
+    for level in LEVELS:
+        for processor in processors(version):
+            made = scratch / f"{source.stem}{level}-{version}-{processor}.o"
+            words = [clang(version) or "clang", level, "-g", "-Wall", "-Wno-unused-function", "-target", "bpf", f"-mcpu={processor}"]
+            ended = subprocess.run([*words, "-c", source.name, "-o", str(made)], capture_output=True, text=True, check=False, cwd=HERE)
+            if ended.returncode or ended.stderr:
+                sys.exit(f"filters: {made.name}: {ended.stderr}")
+            yield made
+
+
+def forms_of(bpfhost: str, made: Path, tally: Tally) -> Iterator[tuple[ObjectFile, Lowered]]:
+    """The forms of an object's program that are accepted, each with its object."""
+    tally.programs += 1
+    try:
+        plain = load_object(made, Form.AS_IS)
+        if lowered_program(bpfhost, plain, plain.programs[0]).refused is None:
+            tally.compiled += 1
+            yield plain, as_is(plain.programs[0])
+    except ObjectError:
+        pass
+    try:
+        found = load_object(made)
+        lowered = lowered_program(bpfhost, found, found.programs[0])
+    except (ObjectError, LoweringError) as error:
+        tally.faults.append(f"{made.name}: {error}")
+        return
+    if lowered.refused is not None:
+        tally.faults.append(f"{made.name} is refused at slot {lowered.refused[0]} for reason {lowered.refused[1]}")
+        return
+    tally.lowered += 1
+    tally.slots = max(tally.slots, len(lowered.program.slots) // 8)
+    tally.steps |= {*lowered.steps, *(["maps"] if found.changes else [])}
+    yield found, lowered
+    yield found, ordered(bpfhost, found)
+
+
+def ordered(bpfhost: str, found: ObjectFile) -> Lowered:
+    """The program in another form, also where it is accepted as it is."""
+    program = found.programs[0]
+
+    def ask(form: ObjectProgram) -> tuple[int, int] | None:
+        return (0, 2) if form is program else verify(bpfhost, form.linked(first_descriptors(found)), shapes_of(found)).refused
+
+    return lower(found, program, ask)
+
+
+def answers(host: Host, found: ObjectFile, form: Lowered, captures: Sequence[Path]) -> tuple[str, int]:
+    """What a form answers to all packets and leaves in its maps, as one number, and how many packets it keeps."""
+    tenant = host.tenant()
+    loaded = load_program(tenant, found, form)
+    results: list[int] = []
+    for path in captures:
+        for context in CONTEXTS:
+            runs = TestRuns(host, tenant.number, loaded.descriptor, context)
+            with open_capture(path) as capture:
+                for few in runs.results(capture.pieces(runs.most)):
+                    results += few
+    told = json.dumps([results, left(found, loaded)], sort_keys=True)
+    tenant.close(loaded.descriptor)
+    for each in loaded.maps:
+        tenant.close(each.map.descriptor)
+    return hashlib.sha256(told.encode()).hexdigest(), sum(1 for result in results if result)
+
+
+def left(found: ObjectFile, loaded: LoadedProgram) -> Mapping[str, object]:
+    """What is in the maps, by their names; variables by their names too, as compilers put them into their sections in any order."""
+    assert found.types is not None
+    values: dict[str, object] = {}
+    for each in loaded.maps:
+        declared = each.declared
+        if declared.name.startswith(".rodata"):
+            continue
+        shown = [[key.hex(), found.types.plain(declared.value_type, value) if declared.value_type else value.hex()] for key, value in each.map.entries()]
+        if declared.initial is not None and shown and isinstance(shown[0][1], dict):
+            values |= shown[0][1]
+        else:
+            values[declared.name] = shown
+    return values
+
+
+def tried(job: tuple[str, str, tuple[str, ...]]) -> Filter:
+    """What comes of one filter."""
+    bpfhost, name, captures = job
+    tallies = {version: Tally() for version in COMPILERS if clang(version)}
+    told: dict[str, list[str]] = {}
+    seen: dict[tuple[bytes, str], str] = {}
+    kept = 0
+    with tempfile.TemporaryDirectory() as scratch, Host(bpfhost) as host:
+        for version, tally in tallies.items():
+            for made in compiled(HERE / f"{name}.c", version, Path(scratch)):
+                for found, form in forms_of(bpfhost, made, tally):
+                    key = form.program.slots, str(found.maps)
+                    if key not in seen:
+                        seen[key], kept = answers(host, found, form, [Path(each) for each in captures])
+                    told.setdefault(seen[key], []).append(f"{made.name} {', '.join(form.steps) or 'as compiled'}")
+    faults = [fault for tally in tallies.values() for fault in tally.faults]
+    if len(told) > 1:
+        faults.append("; ".join(f"{few[0]} answers otherwise than {others[0]}" for few, others in zip(list(told.values())[1:], told.values())))
+    return Filter(name, tallies, kept, faults)
+
+
+def about(name: str) -> str:
+    """What a filter does: the first sentence of its source."""
+    comment = (HERE / f"{name}.c").read_text().partition("*/")[0].removeprefix("/*")
+    text = " ".join(line.strip().removeprefix("*").strip() for line in comment.splitlines())
+    first = text.split(". ")[0].rstrip(".")
+    return first.partition(": ")[0] if len(first) > 90 else first
+
+
+def rows(found: Sequence[Filter]) -> list[list[str]]:
+    """The table's rows; a compiler that is missing has empty cells."""
+    empty = ("", "", "", "")
+    return [
+        [f"`{each.name}`", about(each.name), f"{each.kept:,}", *(cell for version in COMPILERS for cell in (each.tallies[version].cells() if version in each.tallies else empty))]
+        for each in found
+    ]
+
+
+HEAD = ("Filter", "Does", "Keeps", *(f"{cell}, clang {version}" for version in COMPILERS for cell in ("As compiled", "Lowered", "Needs", "Slots")))
+
+
+def page(table: Iterable[Sequence[str]], totals: Mapping[str, Tally]) -> str:
+    """The page."""
+    lines = [f"| {' | '.join(row)} |" for row in (HEAD, ["---"] * len(HEAD), *table)]
+    told = [f"Of {each.programs} programs by clang {version}, {each.compiled} are accepted as compiled and {each.lowered} lowered." for version, each in totals.items()]
+    return "\n".join(["# What each filter needs", "", *told, "", *lines, ""])
+
+
+def total(found: Sequence[Filter]) -> dict[str, Tally]:
+    """The sums of all filters, by compiler."""
+    sums: dict[str, Tally] = {}
+    for each in found:
+        for version, tally in each.tallies.items():
+            of_all = sums.setdefault(version, Tally())
+            of_all.programs += tally.programs
+            of_all.compiled += tally.compiled
+            of_all.lowered += tally.lowered
+    return sums
+
+
+def compared(found: Sequence[Filter]) -> list[str]:
+    """Where the page says otherwise than what was found, in the columns of the compilers that there are."""
+    has = {version: clang(version) is not None for version in COMPILERS}
+    columns = [True] * 3 + [has[version] for version in COMPILERS for _ in range(4)]
+    written = [line for line in (TABLE.read_text() if TABLE.exists() else "").splitlines() if line.startswith("| `")]
+    stand = {cells[0]: cells for cells in ([cell.strip() for cell in line.strip("|").split("|")] for line in written)}
+    wrong = []
+    for row in rows(found):
+        before = stand.pop(row[0], [""] * len(row))
+        if any(is_there and old != new for is_there, old, new in zip(columns, before, row)):
+            wrong.append(f"table.md says of {row[0]}: {' | '.join(before)}; and now it is {' | '.join(row)}")
+    return [*wrong, *(f"table.md has {name}, which there is not" for name in stand)]
+
+
+def main(words: Sequence[str]) -> int:
+    """Tries all filters; the status is 1 where a form differs, a program is refused, or the page is another."""
+    if not words or words[1:] not in ([], ["--write"]):
+        sys.exit("usage: forms.py BPFHOST [--write]")
+    there = [version for version in COMPILERS if clang(version)]
+    for version in COMPILERS:
+        if version not in there:
+            print(f"filters: left out is clang {version}, which is missing")
+    if not there:
+        return NO_COMPILER
+    names = sorted(path.stem for path in HERE.glob("*.c"))
+    with tempfile.TemporaryDirectory() as scratch:
+        traffic = Path(scratch) / "traffic.pcap"
+        subprocess.run([sys.executable, str(HERE / "make_traffic.py"), str(traffic)], check=True)
+        captures = (str(traffic), str(HERE.parent / "capture/sample.pcap"))
+        with ProcessPoolExecutor(os.cpu_count()) as pool:
+            found = list(pool.map(tried, [(str(Path(words[0]).resolve()), name, captures) for name in names]))
+    faults = [f"{each.name}: {fault}" for each in found for fault in each.faults]
+    if words[1:] and len(there) == len(COMPILERS):
+        TABLE.write_text(page(rows(found), total(found)))
+    faults += compared(found)
+    print("".join(f"filters: {fault}\n" for fault in faults), end="")
+    for version, sums in total(found).items():
+        print(f"filters: of {sums.programs} programs by clang {version}, {sums.compiled} are accepted as compiled and {sums.lowered} lowered")
+    return DIFFERS if faults else PASSED
+
+
+if __name__ == "__main__":
+    sys.exit(main(sys.argv[1:]))

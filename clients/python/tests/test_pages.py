@@ -47,7 +47,8 @@ class Pages(HostTest):
             self.skipTest("clang 14 is missing")
         self.set_up()
         page = TUTORIAL.read_text()
-        (self.scratch / "flows.c").write_text(blocks(page, "c")[0])
+        for name, text in zip(("flows.c", "labels.c"), blocks(page, "c"), strict=True):
+            (self.scratch / name).write_text(text)
         for file in (EXAMPLE.parent / "c_filter/bpfhost.h", EXAMPLE / "sample.pcap"):
             shutil.copy(file, self.scratch)
         for block in blocks(page, "console"):

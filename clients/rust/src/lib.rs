@@ -1,15 +1,18 @@
 #![doc = include_str!("../README.md")]
 #![deny(missing_docs, unsafe_op_in_unsafe_fn, clippy::undocumented_unsafe_blocks)]
 
+mod built;
 mod errno;
 mod error;
 mod host;
+mod json;
 mod library;
 mod numbers;
 mod packet;
 mod reply;
 mod tenant;
 
+pub use built::{BuiltMap, BuiltProgram, LoadedProgram, NotBuilt};
 pub use errno::Errno;
 pub use error::Error;
 pub use host::Host;

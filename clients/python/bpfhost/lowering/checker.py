@@ -19,6 +19,7 @@ from collections.abc import Mapping, Sequence
 
 from bpfhost.lowering import instructions as op
 from bpfhost.lowering.code import Function
+from bpfhost.lowering.errors import LoweringError
 from bpfhost.lowering.frames import Frame, Frames
 from bpfhost.lowering.graph import Origin
 from bpfhost.lowering.instructions import CALLEE_SAVED, FRAME_POINTER, Instruction, decoded
@@ -28,8 +29,11 @@ from bpfhost.numbers import MOST_SLOTS, SLOT_SIZE
 _WORD = 8
 
 
-class WrongForm(Exception):
+class WrongForm(LoweringError):
     """A form that is not the program that it should be: a fault of this package, and nothing is loaded."""
+
+    def __init__(self, what: str) -> None:
+        super().__init__(f"a form is not loaded, as it is another program: {what}")
 
 
 def check(functions: Sequence[Function], frames: Frames, slots: bytes, origins: Sequence[Origin]) -> None:

@@ -18,6 +18,8 @@ from bpfhost.lowering.values import STACK_SIZE
 from bpfhost.numbers import MOST_SLOTS
 
 _WORD = 8
+# The most calls inside of one another; a kernel has eight frames.
+DEEPEST = 32
 
 
 @dataclass(frozen=True)
@@ -103,6 +105,8 @@ class _Calls:
         self._slots += len(function.instructions)
         if self._slots > MOST_SLOTS:
             raise LoweringError(f"with the functions that it calls, {self._functions[0].declared.name} has more than {MOST_SLOTS:,} slots")
+        if len(callers) > DEEPEST:
+            raise LoweringError(f"{function.declared.name} is called inside of more than {DEEPEST} other functions")
         inner = []
         for at, callee in sorted(function.calls.items()):
             if callee in (*callers, number):

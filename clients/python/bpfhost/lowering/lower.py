@@ -131,7 +131,7 @@ class _Lowering:
             return self._form(plain, refused)
         accepted = with_copies(graph, refused, self._ask)
         if accepted is None:
-            return self._form(plain, refused)
+            return self._refusal(plain, refused)
         more = len(accepted.written.origins) - len(plain.origins)
         copies = f"{_counted(accepted.copies, 'copy', 'copies')}, {more} slots more"
         self._changes["copies"] = f"blocks that several edges lead to are written once for each: {copies}"
@@ -155,11 +155,19 @@ class _Lowering:
             what = f", which save {_counted(saved, 'register', 'registers')}" if saved else ""
             self._changes["calls"] = f"{_counted(count, 'call is', 'calls are')} inlined, of {', '.join(names)}{what}"
 
+    def _refusal(self, plain: Written, refused: Refusal) -> Lowered:
+        """What is told of a program that no form cures: the refusal of the program as it is, if that is not of the order of its blocks."""
+        if self._refused is not None and self._refused[1] not in (_BACKWARD, _UNREACHED):
+            return as_is(self._program, self._refused)
+        return self._form(plain, refused)
+
     def _tell_order(self, plain: Written) -> None:
-        if self._refused is not None and self._refused[1] in (_BACKWARD, _UNREACHED) and not self._changes:
-            left_out = len(self._functions[0].instructions) - len({origin for origin in plain.origins})
-            what = " and those that no path reaches are left out" if self._refused[1] == _UNREACHED and left_out else ""
-            self._changes["order"] = f"blocks stand in the order of their paths{what}"
+        if self._changes or plain.slots == self._functions[0].linked:
+            return
+        reached = {origin.slot for origin in plain.origins}
+        is_less = any(slot not in reached for slot, found in self._functions[0].instructions.items() if not found.is_goto)
+        what = " and those that no path reaches are left out" if is_less else ""
+        self._changes["order"] = f"blocks stand in the order of their paths{what}"
 
     def _where(self, origin: Origin) -> str:
         return self._functions[self._frames[origin.frame].function].where(origin.slot)

@@ -59,10 +59,11 @@ def signed(number: int, bits: int) -> int:
 def result(code: int, a: Range, b: Range, bits: int, offset: int = 0) -> Range:
     """The results of an operator, by its code, on 64 or 32 bits; the operands are cut to them. `offset` is the instruction's."""
     a, b = cut(a, bits), cut(b, bits)
-    if offset and code in (op.DIV, op.MOD):
-        return full(bits)
+    if offset:
+        # A sign extension, a signed operator, or what no instruction has there.
+        return _extended(b, offset, bits) if code == op.MOV and offset in (8, 16, 32) else full(bits)
     if code == op.MOV:
-        return _extended(b, offset, bits) if offset else b
+        return b
     if a.is_constant and b.is_constant:
         return constant(_computed(code, a.lo, b.lo, bits), bits)
     return _of_ranges(code, a, b, bits)

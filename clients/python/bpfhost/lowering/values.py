@@ -233,4 +233,5 @@ def _places_moved(found: Instruction, before: dict[int, frozenset[int]]) -> froz
         # By how much is not known; an index goes up from where the object begins.
         return own | before.get(found.src, frozenset())
     by = found.constant if found.code == op.ADD else -found.constant
-    return frozenset(place + by for place in own if -STACK_SIZE - 1 <= place + by <= 0)
+    # Places that are further away than the stack is large are taken for the next ones: below it all are too far.
+    return frozenset(min(max(place + by, -STACK_SIZE - 1), STACK_SIZE) for place in own)

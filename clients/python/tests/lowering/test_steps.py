@@ -198,6 +198,11 @@ class Inlining(StepTest):
         big = "r0 = 1\n" * 700 + "exit"
         self.stops(object_of(f="call g\n" * 6 + "exit", g=big), "with the functions that it calls, f has more than 4,096 slots")
 
+    def test_too_deep(self) -> None:
+        functions = {f"g{number}": f"call g{number + 1}\nexit" for number in range(40)}
+        found = object_of((), f="call g0\nexit", **functions, g40="r0 = 1\nexit")
+        self.stops(found, "g32 is called inside of more than 32 other functions")
+
     def test_a_frame_pointer_that_is_no_copy(self) -> None:
         found = object_of(f="*(u64 *)(r10 - 8) = 1\ncall g\nexit", g="*(u64 *)(r10 - 8) = r10\nr0 = 1\nexit")
         self.stops(found, "g.c:1: *(u64 *)(r10 - 8) = r10: g has no copy of its frame pointer here, and is not inlined")

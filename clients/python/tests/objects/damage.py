@@ -4,8 +4,9 @@ usage: python3 -m tests.objects.damage [--count N] [--seed N] [--checks N]   (in
 
 It takes the objects of `sources`, where a clang compiles for BPF, and one that is built. In each it flips bits, writes other
 bytes, clears, cuts, or repeats a range, most often in the parts that are read: headers, symbols, relocations, types, lines,
-code. Of what is loaded all is tried: slots with descriptors, lines, values in their types. `--checks` gives that many to the
-command `check` too, which asks the program of the variable BPFHOST. An object that is not treated so is kept, and named.
+code. Of what is loaded all is tried: slots with descriptors, lines, values in their types, and lowering with verdicts that accept
+all forms or none. `--checks` gives that many to the command `check` too, which asks the program of the variable BPFHOST. An object that
+is not treated so is kept, and named.
 """
 
 from __future__ import annotations
@@ -16,7 +17,8 @@ import sys
 from pathlib import Path
 
 from bpfhost.command import main as command
-from bpfhost.objects import ObjectError, ObjectFile, load_object
+from bpfhost.lowering import LoweringError, WrongForm, lower
+from bpfhost.objects import ObjectError, ObjectFile, ObjectProgram, load_object
 from bpfhost.objects.elf import read_elf
 from tests.damaging import Original, Trial, limit
 from tests.objects.btf_builder import BtfBuilder
@@ -71,6 +73,9 @@ def try_all(found: ObjectFile) -> None:
         assert len(slots) == len(program.slots) and len(slots) % 8 == 0
         for slot in range(len(slots) // 8):
             program.line_of(slot)
+        for refused in (None, (0, 2), (len(slots) // 16, 20)):
+            with contextlib.suppress(LoweringError):
+                try_lowering(found, program, refused)
     for each in found.maps:
         for type_id, data in ((each.key_type, bytes(each.key_size)), (each.value_type, each.initial or bytes(each.value_size))):
             if found.types and type_id is not None:
@@ -78,6 +83,17 @@ def try_all(found: ObjectFile) -> None:
                     found.types.show(type_id, data)
                     found.types.plain(type_id, data)
                     found.types.name(type_id)
+
+
+def try_lowering(found: ObjectFile, program: ObjectProgram, refused: tuple[int, int] | None) -> None:
+    """Lowers a program while this is the verdict on it and on each form. A LoweringError is an answer, if it is no WrongForm."""
+    try:
+        lowered = lower(found, program, lambda _: refused)
+    except WrongForm as error:
+        raise AssertionError(str(error)) from error
+    assert lowered.refused == refused
+    for slot in range(len(lowered.program.slots) // 8):
+        lowered.place(slot)
 
 
 def outcome_of(path: Path) -> str:

@@ -39,7 +39,7 @@ PROCESSORS = ("v1", "v2", "v3", "v4")
 # The words of linux/if_packet.h: a packet that came in, and one that goes out.
 CONTEXTS = (Context(pkt_type=0), Context(pkt_type=4))
 STEPS = ("maps", "calls", "loops", "order", "copies")
-PASSED, DIFFERS, NO_COMPILER = 0, 1, 0
+PASSED, DIFFERS = 0, 1
 
 
 @dataclass
@@ -83,7 +83,8 @@ def clang(version: str) -> str | None:
 def processors(version: str) -> tuple[str, ...]:
     """The processors that a compiler knows."""
     words = [clang(version) or "clang", "-target", "bpf", "-c", "-x", "c", "-", "-o", os.devnull]
-    return tuple(each for each in PROCESSORS if not subprocess.run([*words, f"-mcpu={each}"], input=b"", capture_output=True, check=False).returncode)
+    ended = {each: subprocess.run([*words, f"-mcpu={each}"], input=b"", capture_output=True, check=False) for each in PROCESSORS}
+    return tuple(each for each in PROCESSORS if ended[each].returncode == 0)
 
 
 def compiled(source: Path, version: str, scratch: Path) -> Iterator[Path]:
@@ -160,7 +161,9 @@ def left(found: ObjectFile, loaded: LoadedProgram) -> Mapping[str, object]:
         declared = each.declared
         if declared.name.startswith(".rodata"):
             continue
-        shown = [[key.hex(), found.types.plain(declared.value_type, value) if declared.value_type else value.hex()] for key, value in each.map.entries()]
+        types, of_value = found.types, declared.value_type
+        entries = each.map.entries()
+        shown = [[key.hex(), value.hex() if of_value is None else types.plain(of_value, value)] for key, value in entries]
         if declared.initial is not None and shown and isinstance(shown[0][1], dict):
             values |= shown[0][1]
         else:
@@ -185,7 +188,8 @@ def tried(job: tuple[str, str, tuple[str, ...]]) -> Filter:
                     told.setdefault(seen[key], []).append(f"{made.name} {', '.join(form.steps) or 'as compiled'}")
     faults = [fault for tally in tallies.values() for fault in tally.faults]
     if len(told) > 1:
-        faults.append("; ".join(f"{few[0]} answers otherwise than {others[0]}" for few, others in zip(list(told.values())[1:], told.values())))
+        first, *others = told.values()
+        faults += [f"{few[0]} answers otherwise than {first[0]}" for few in others]
     return Filter(name, tallies, kept, faults)
 
 
@@ -199,20 +203,26 @@ def about(name: str) -> str:
 
 def rows(found: Sequence[Filter]) -> list[list[str]]:
     """The table's rows; a compiler that is missing has empty cells."""
-    empty = ("", "", "", "")
-    return [
-        [f"`{each.name}`", about(each.name), f"{each.kept:,}", *(cell for version in COMPILERS for cell in (each.tallies[version].cells() if version in each.tallies else empty))]
-        for each in found
-    ]
+    return [[f"`{each.name}`", about(each.name), f"{each.kept:,}", *cells_of(each)] for each in found]
 
 
-HEAD = ("Filter", "Does", "Keeps", *(f"{cell}, clang {version}" for version in COMPILERS for cell in ("As compiled", "Lowered", "Needs", "Slots")))
+def cells_of(found: Filter) -> list[str]:
+    """The cells of all compilers."""
+    empty = [""] * len(CELLS)
+    return [cell for version in COMPILERS for cell in (found.tallies[version].cells() if version in found.tallies else empty)]
+
+
+CELLS = ("As compiled", "Lowered", "Needs", "Slots")
+HEAD = ("Filter", "Does", "Keeps", *(f"{cell}, clang {version}" for version in COMPILERS for cell in CELLS))
 
 
 def page(table: Iterable[Sequence[str]], totals: Mapping[str, Tally]) -> str:
     """The page."""
     lines = [f"| {' | '.join(row)} |" for row in (HEAD, ["---"] * len(HEAD), *table)]
-    told = [f"Of {each.programs} programs by clang {version}, {each.compiled} are accepted as compiled and {each.lowered} lowered." for version, each in totals.items()]
+    told = [
+        f"Of {each.programs} programs by clang {version}, {each.compiled} are accepted as compiled and {each.lowered} lowered."
+        for version, each in totals.items()
+    ]
     return "\n".join(["# What each filter needs", "", *told, "", *lines, ""])
 
 
@@ -231,7 +241,7 @@ def total(found: Sequence[Filter]) -> dict[str, Tally]:
 def compared(found: Sequence[Filter]) -> list[str]:
     """Where the page says otherwise than what was found, in the columns of the compilers that there are."""
     has = {version: clang(version) is not None for version in COMPILERS}
-    columns = [True] * 3 + [has[version] for version in COMPILERS for _ in range(4)]
+    columns = [True] * 3 + [has[version] for version in COMPILERS for _ in CELLS]
     written = [line for line in (TABLE.read_text() if TABLE.exists() else "").splitlines() if line.startswith("| `")]
     stand = {cells[0]: cells for cells in ([cell.strip() for cell in line.strip("|").split("|")] for line in written)}
     wrong = []
@@ -242,30 +252,34 @@ def compared(found: Sequence[Filter]) -> list[str]:
     return [*wrong, *(f"table.md has {name}, which there is not" for name in stand)]
 
 
-def main(words: Sequence[str]) -> int:
-    """Tries all filters; the status is 1 where a form differs, a program is refused, or the page is another."""
-    if not words or words[1:] not in ([], ["--write"]):
-        sys.exit("usage: forms.py BPFHOST [--write]")
-    there = [version for version in COMPILERS if clang(version)]
-    for version in COMPILERS:
-        if version not in there:
-            print(f"filters: left out is clang {version}, which is missing")
-    if not there:
-        return NO_COMPILER
+def found_of(bpfhost: str) -> list[Filter]:
+    """What comes of all filters, each tried in a process of its own."""
     names = sorted(path.stem for path in HERE.glob("*.c"))
     with tempfile.TemporaryDirectory() as scratch:
         traffic = Path(scratch) / "traffic.pcap"
         subprocess.run([sys.executable, str(HERE / "make_traffic.py"), str(traffic)], check=True)
         captures = (str(traffic), str(HERE.parent / "capture/sample.pcap"))
         with ProcessPoolExecutor(os.cpu_count()) as pool:
-            found = list(pool.map(tried, [(str(Path(words[0]).resolve()), name, captures) for name in names]))
+            return list(pool.map(tried, [(bpfhost, name, captures) for name in names]))
+
+
+def main(words: Sequence[str]) -> int:
+    """Tries all filters; the status is 1 where a form differs, a program is refused, or the page is another."""
+    if not words or words[1:] not in ([], ["--write"]):
+        sys.exit("usage: forms.py BPFHOST [--write]")
+    missing = [version for version in COMPILERS if clang(version) is None]
+    print("".join(f"filters: left out is clang {version}, which is missing\n" for version in missing), end="")
+    found = found_of(str(Path(words[0]).resolve())) if len(missing) < len(COMPILERS) else []
     faults = [f"{each.name}: {fault}" for each in found for fault in each.faults]
-    if words[1:] and len(there) == len(COMPILERS):
+    if words[1:] and not missing:
         TABLE.write_text(page(rows(found), total(found)))
-    faults += compared(found)
+    faults += compared(found) if found else []
+    if not missing and not faults and TABLE.read_text() != page(rows(found), total(found)):
+        faults.append("table.md has other sums or other words than these")
     print("".join(f"filters: {fault}\n" for fault in faults), end="")
     for version, sums in total(found).items():
-        print(f"filters: of {sums.programs} programs by clang {version}, {sums.compiled} are accepted as compiled and {sums.lowered} lowered")
+        told = f"of {sums.programs} programs by clang {version}, {sums.compiled} are accepted as compiled and {sums.lowered} lowered"
+        print(f"filters: {told}")
     return DIFFERS if faults else PASSED
 
 

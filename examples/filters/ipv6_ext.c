@@ -18,7 +18,8 @@ SEC("socket") int walk(struct __sk_buff *skb)
         return 0;
 #pragma clang loop unroll(disable)
     for (int depth = 0; depth < 8; depth++) {
-        if (next != IPPROTO_HOPOPTS && next != IPPROTO_ROUTING && next != IPPROTO_FRAGMENT && next != IPPROTO_DSTOPTS && next != IPPROTO_AH) {
+        if (next != IPPROTO_HOPOPTS && next != IPPROTO_ROUTING && next != IPPROTO_FRAGMENT && next != IPPROTO_DSTOPTS
+            && next != IPPROTO_AH) {
             depths[depth] += 1;
             count_at(&protocols, next);
             return at;

@@ -1,4 +1,7 @@
-"""Built programs: a program of an object with its maps, as a file that is loaded without Python (README.md of this package, "Built programs")."""
+"""Built programs: a program of an object with its maps, as a file that is loaded without Python.
+
+README.md of this package has the format ("Built programs").
+"""
 
 from __future__ import annotations
 

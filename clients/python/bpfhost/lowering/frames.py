@@ -1,8 +1,9 @@
 """Frames: where the registers and the stack of an inlined function are.
 
-A call of a function of the object leaves registers 6 to 9 and the caller's stack as they are. The code of an inlined function has them in
-common with its caller. So its stack begins below its caller's, its registers 6 to 9 are given such names that as few as possible of
-those that its caller needs later are written to, and those few are saved below the caller's stack before the call, and read again behind it.
+A call of a function of the object leaves registers 6 to 9 and the caller's stack as they are. The code of an inlined function has them
+in common with its caller. So its stack begins below its caller's, its registers 6 to 9 are given such names that as few as possible of
+those that its caller needs later are written to, and those few are saved below the caller's stack before the call, and read again behind
+it.
 """
 
 from __future__ import annotations
@@ -169,7 +170,8 @@ class _Placing:
             raise LoweringError(self._too_deep(frame, bottom))
         for slot, found in function.instructions.items() if frame.depth else ():
             if _is_odd(found):
-                raise LoweringError(f"{function.where(slot)}: {function.declared.name} has no copy of its frame pointer here, and is not inlined")
+                what = f"{function.declared.name} has no copy of its frame pointer here, and is not inlined"
+                raise LoweringError(f"{function.where(slot)}: {what}")
 
     def _inner(self, call: _Call, caller: int, frame: Frame, bottom: int) -> Frame:
         registers = list(frame.registers)

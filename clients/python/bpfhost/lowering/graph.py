@@ -11,7 +11,7 @@ from bpfhost.lowering.instructions import Instruction, goto
 
 
 class Origin(NamedTuple):
-    """Where an instruction comes from: a frame by its number, a slot of the frame's function, and which one of those that the slot became."""
+    """Where an instruction comes from: a frame by its number, a slot of its function, and which one of those that the slot became."""
 
     frame: int
     slot: int

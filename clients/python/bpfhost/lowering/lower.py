@@ -124,7 +124,8 @@ class _Lowering:
         graph = self._without_loops(graph)
         plain = written(graph)
         if len(plain.origins) > MOST_SLOTS:
-            raise LoweringError(f"{self._program.name} has {len(plain.origins):,} slots in this form, and a program has {MOST_SLOTS:,} at most")
+            form = f"{self._program.name} has {len(plain.origins):,} slots in this form"
+            raise LoweringError(f"{form}, and a program has {MOST_SLOTS:,} at most")
         self._tell_order(plain)
         refused = self._ask(plain)
         if refused is None or refused[1] not in _CURABLE:

@@ -1,4 +1,4 @@
-"""What is known of registers and of the stack before an instruction, as far as lowering asks: numbers by their ranges, and places in the stack.
+"""What is known of registers and of the stack before an instruction, as far as lowering asks: ranges of numbers, and places in the stack.
 
 It is less than the verifier knows (docs/VERIFIER.md): a pointer to anything but the stack is any number here. It decides comparisons
 (`edges`), and tells how much of the stack a function uses (`stack_used`).

@@ -40,7 +40,7 @@ class Linker:
     maps: Sequence[DefinedMap]
 
     def link(self, place: Place, slots: bytearray, relocations: Sequence[Relocation]) -> tuple[tuple[MapSlot, ...], dict[int, Callee]]:
-        """Does all relocations of a program in its slots. It gives the wide loads that want a descriptor, and the functions that are called.
+        """Does all relocations of a program in its slots, and gives the wide loads that want a descriptor, and what is called.
 
         An ObjectError where a relocation can't be done.
         """

@@ -112,7 +112,8 @@ class Lowered(LoweredTest):
         text = COUNT.replace("return total;", "return bytes[total];").replace("static NOINLINE", "__u8 bytes[16];\nstatic NOINLINE")
         ended = self.command("check", self.object(text))
         told = ended.stdout.decode().splitlines()[0]
-        self.assertRegex(told, r"^count in section socket is refused: count.c:\d+: return bytes\[total\]; \(slot \d+, slot \d+ of sum as compiled")
+        refused = r"^count in section socket is refused: count.c:\d+: return bytes\[total\]; \(slot \d+, slot \d+ of sum as compiled"
+        self.assertRegex(told, refused)
         self.assertRegex(told, r", called at count.c:\d+: return sum\(skb\);: outside a map's value, reason 29\)$")
 
     def test_a_log_has_the_source_of_moved_slots(self) -> None:

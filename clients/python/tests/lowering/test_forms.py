@@ -146,14 +146,16 @@ class Speed(LoweringTest):
 
     def test_thousand_slots(self) -> None:
         far = "".join(f"far{at}:\nr0 ^= {at}\ngoto back{at}\n" for at in range(100))
-        body = "".join(f"r0 += {at}\nr0 *= 3\nr0 -= r6\nr0 |= 1\nif r0 > {at} goto far{at}\nback{at}:\nr0 &= r6\nr0 <<= 1\n" for at in range(100))
+        line = "r0 += {0}\nr0 *= 3\nr0 -= r6\nr0 |= 1\nif r0 > {0} goto far{0}\nback{0}:\nr0 &= r6\nr0 <<= 1\n"
+        body = "".join(line.format(at) for at in range(100))
         found = object_of(f=f"r6 = *(u32 *)(r1 + 0)\nr0 = 1\n{body}exit\n{far}")
         self.first = only(found)
         self.assertGreater(len(only(found).slots), 8 * 900)
         self.assertLess(self.seconds(found), SECONDS * SLACK)
 
     def test_a_loop_of_thousand_slots(self) -> None:
-        found = object_of(f="r0 = *(u32 *)(r1 + 0)\nr6 = 0\nloop:\nr0 ^= r6\nr0 += 3\nif r0 == 5 goto end\nr6 += 1\nif r6 != 250 goto loop\nend:\nexit")
+        turn = "r0 ^= r6\nr0 += 3\nif r0 == 5 goto end\nr6 += 1\nif r6 != 250 goto loop"
+        found = object_of(f=f"r0 = *(u32 *)(r1 + 0)\nr6 = 0\nloop:\n{turn}\nend:\nexit")
         self.first = only(found)
         self.assertEqual(len(lower(found, only(found), self.verdict).program.slots) // 8, 1003)
         self.assertLess(self.seconds(found), SECONDS * SLACK)

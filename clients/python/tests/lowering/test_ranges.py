@@ -49,7 +49,8 @@ class Numbers(HostTest):
 
     def test_operators(self) -> None:
         for _ in range(400):
-            kind, code, is_register = self.chance.choice((op.ALU, op.ALU64)), self.chance.choice((*CODES, op.NEG)), self.chance.random() < 0.5
+            kind, code = self.chance.choice((op.ALU, op.ALU64)), self.chance.choice((*CODES, op.NEG))
+            is_register = self.chance.random() < 0.5
             a, b = self.number(), self.number()
             k = b % (1 << 31)
             source = 8 if is_register and code != op.NEG else 0

@@ -174,7 +174,8 @@ class Inlining(StepTest):
 
     def test_a_stack_below_the_callers(self) -> None:
         outer = "*(u64 *)(r10 - 16) = 6\nr1 = r10\nr1 += -16\ncall g\nr1 = *(u64 *)(r10 - 16)\nr0 += r1\nexit"
-        inner = "*(u32 *)(r10 - 4) = 2\nr0 = *(u64 *)(r1 + 0)\nr2 = *(u32 *)(r10 - 4)\nr0 += r2\nr3 = r10\nr3 += -4\n*(u32 *)(r3 + 0) = 1\nexit"
+        inner = "*(u32 *)(r10 - 4) = 2\nr0 = *(u64 *)(r1 + 0)\nr2 = *(u32 *)(r10 - 4)\nr0 += r2\nr3 = r10\nr3 += -4\n"
+        inner += "*(u32 *)(r3 + 0) = 1\nexit"
         found = object_of(f=outer, g=inner)
         self.changed(found, "1 call is inlined, of g")
         self.assertIn("r3 += -16\nr3 += -4\n", self.text(self.lowered(found)))
@@ -184,7 +185,8 @@ class Inlining(StepTest):
             object_of(f="call g\nexit", g="call h\nexit", h="r0 = 1\ncall g\nexit"),
             "h.c:2: call g: g calls h calls g, and a function that calls itself can't be inlined",
         )
-        self.stops(object_of(f="call g\nexit", g="call g\nexit"), "g.c:1: call g: g calls g, and a function that calls itself can't be inlined")
+        told = "g.c:1: call g: g calls g, and a function that calls itself can't be inlined"
+        self.stops(object_of(f="call g\nexit", g="call g\nexit"), told)
 
     def test_too_much_of_the_stack(self) -> None:
         deep = "*(u64 *)(r10 - 264) = 1\nr0 = 1\nexit"
@@ -212,7 +214,8 @@ class Inlining(StepTest):
         lowered = self.lowered(found)
         assert lowered.refused is not None
         told = str(refused_at(found, lowered, *lowered.refused))
-        self.assertTrue(told.startswith("h.c:1: r0 = r9 (slot 2, slot 0 of h as compiled, called at g.c:2: call h, called at f.c:2: call g: "), told)
+        wanted = "h.c:1: r0 = r9 (slot 2, slot 0 of h as compiled, called at g.c:2: call h, called at f.c:2: call g: "
+        self.assertTrue(told.startswith(wanted), told)
 
 
 class Loops(StepTest):
@@ -245,7 +248,8 @@ class Loops(StepTest):
         self.changed(object_of(f=text), "loops are unrolled: 125 slots of 16")
 
     def test_a_count_in_the_stack(self) -> None:
-        text = "*(u32 *)(r10 - 4) = 0\nr0 = 0\nloop:\nr1 = *(u32 *)(r10 - 4)\nr0 += r1\nr1 += 2\n*(u32 *)(r10 - 4) = r1\nif w1 s< 9 goto loop\nexit"
+        turn = "r1 = *(u32 *)(r10 - 4)\nr0 += r1\nr1 += 2\n*(u32 *)(r10 - 4) = r1\nif w1 s< 9 goto loop"
+        text = f"*(u32 *)(r10 - 4) = 0\nr0 = 0\nloop:\n{turn}\nexit"
         self.changed(object_of(f=text), "loops are unrolled: 23 slots of 8")
 
     def test_a_count_below_a_bound(self) -> None:
@@ -289,7 +293,8 @@ class Loops(StepTest):
         bound = "a counter that begins at a constant, is changed by constants and compared with one, or with a number below one"
         text = "r6 = *(u32 *)(r1 + 0)\nr0 = 1\nloop:\nif r6 == 0 goto end\nr6 += -1\ngoto loop\nend:\nexit"
         self.stops(object_of(f=text), f"f.c:4: if r6 == 0 goto end: no bound of this loop is found: what bounds it is {bound}")
-        self.stops(object_of(f="r0 = 1\nloop:\ngoto loop\nexit"), f"f.c:3: goto loop: no bound of this loop is found: what bounds it is {bound}")
+        told = f"f.c:3: goto loop: no bound of this loop is found: what bounds it is {bound}"
+        self.stops(object_of(f="r0 = 1\nloop:\ngoto loop\nexit"), told)
 
     def test_too_many_turns(self) -> None:
         text = "r0 = 0\nr6 = 0\nloop:\nr0 += r6\nr6 += 1\nif r6 != 3000 goto loop\nexit"

@@ -1,4 +1,4 @@
-"""What is known before instructions: numbers and places in the stack, what makes them unknown, and how much of the stack a function uses."""
+"""What is known before instructions: numbers and places in the stack, what makes them unknown; how much of the stack a function uses."""
 
 from __future__ import annotations
 

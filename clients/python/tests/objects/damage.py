@@ -73,7 +73,8 @@ def try_all(found: ObjectFile) -> None:
         assert len(slots) == len(program.slots) and len(slots) % 8 == 0
         for slot in range(len(slots) // 8):
             program.line_of(slot)
-        for refused in (None, (0, 2), (len(slots) // 16, 20)):
+        # Copies are tried of short programs alone, as they take long.
+        for refused in (None, (0, 2), *([(len(slots) // 16, 20)] if len(slots) < 8 * 64 else [])):
             with contextlib.suppress(LoweringError):
                 try_lowering(found, program, refused)
     for each in found.maps:

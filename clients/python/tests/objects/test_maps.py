@@ -66,9 +66,8 @@ class ByBtf(ClangTest):
         pinning = "pinning is left out, since the host has no files for maps"
         self.changed("__uint(type, 1); __uint(map_flags, 1);", MapType.HASH, dropped)
         self.changed("__uint(type, 1); __uint(pinning, 1);", MapType.HASH, pinning)
-        self.changed(
-            "__uint(type, 5); __uint(pinning, 1); __uint(map_flags, 1);", MapType.HASH, dropped, pinning, f"PERCPU_HASH is taken as HASH, {one}"
-        )
+        all_of_them = "__uint(type, 5); __uint(pinning, 1); __uint(map_flags, 1);"
+        self.changed(all_of_them, MapType.HASH, dropped, pinning, f"PERCPU_HASH is taken as HASH, {one}")
 
     def test_other_types(self) -> None:
         rest = "__type(key, __u32); __type(value, __u32); __uint(max_entries, 1);"

@@ -151,7 +151,8 @@ class Calls(ClangTest):
 
     def test_what_a_called_function_lacks(self) -> None:
         told = self.refusal(
-            'NOINLINE int now(int x) { return bpf_ktime_get_ns() + x; }\nSEC("socket") int f(struct __sk_buff *skb) { return now(skb->len); }'
+            "NOINLINE int now(int x) { return bpf_ktime_get_ns() + x; }\n"
+            'SEC("socket") int f(struct __sk_buff *skb) { return now(skb->len); }'
         )
         self.assertIn("function now in section .text calls helper 5, and the host has 1, 2, 3 and 26, at slot ", told)
 

@@ -8,7 +8,7 @@ The blocks are followed from the program's first one, each copy once, in topolog
 from __future__ import annotations
 
 import heapq
-from collections.abc import Callable, Iterator, Mapping
+from collections.abc import Callable, Collection, Iterator, Mapping
 from dataclasses import dataclass, replace
 
 from bpfhost.lowering.errors import LoweringError
@@ -60,9 +60,18 @@ def _header(graph: Graph, region: set[int], component: set[int], outer: int | No
     if 0 in component:
         entered.add(0)
     if len(entered) != 1:
-        begin = graph[min(component)].origin
-        raise LoweringError(f"{where(begin)}: this loop is entered at {len(entered)} places, and one with a single entry is unrolled")
+        loop = f"{where(graph[min(component)].origin)}: this loop, {_slots(graph, component)}"
+        raise LoweringError(f"{loop}, is entered at {len(entered)} places, and one with a single entry is unrolled")
     return entered.pop()
+
+
+def _slots(graph: Graph, blocks: Collection[int]) -> str:
+    """The slots of a loop, in the function that it is of: those of functions that it calls are others."""
+    origins = [graph[number].origin for number in blocks]
+    origins += [step.origin for number in blocks for step in (*graph[number].steps, *filter(None, (graph[number].jump,)))]
+    frame = min(origin.frame for origin in origins)
+    slots = [origin.slot for origin in origins if origin.frame == frame]
+    return f"slots {min(slots)} to {max(slots)}"
 
 
 def _components(graph: Graph, region: set[int], header: int | None) -> list[set[int]]:
@@ -214,12 +223,15 @@ class _Unrolling:
             raise LoweringError(self._unbounded(headers[-1]))
         what = "its loops are unrolled"
         if headers:
-            what = f"{self._line(headers[-1])}: this loop is unrolled"
+            what = f"{self._line(headers[-1])}: this loop, {self._slots_of(headers[-1])}, is unrolled"
         raise LoweringError(f"{what} to more than {MOST_SLOTS:,} slots, which a program has at most: fewer turns, or less in each, fit")
 
     def _unbounded(self, header: int) -> str:
         bound = "a counter that begins at a constant, is changed by constants and compared with one, or with a number below one"
-        return f"{self._line(header)}: no bound of this loop is found: what bounds it is {bound}"
+        return f"{self._line(header)}: no bound of this loop, {self._slots_of(header)}, is found: what bounds it is {bound}"
+
+    def _slots_of(self, header: int) -> str:
+        return _slots(self._graph, [number for number, headers in self._nest.headers.items() if header in headers])
 
     def _line(self, header: int) -> str:
         """The line of a loop: of the comparison that leaves it, which most often has the loop's condition, or else of its first block."""

@@ -106,7 +106,7 @@ class Lowered(LoweredTest):
         self.assertIn("// as compiled, for it is in no other form: count.c:", shown.stdout.decode())
         plain = self.command("dis", "--as-is", name)
         self.assertIn("goto -", plain.stdout.decode())
-        self.refuses(1, "no bound of this loop is found", "build", name, "-o", "count.json")
+        self.refuses(1, "no bound of this loop, slots ", "build", name, "-o", "count.json")
 
     def test_a_refusal_points_at_the_line_and_the_copy(self) -> None:
         text = COUNT.replace("return total;", "return bytes[total];").replace("static NOINLINE", "__u8 bytes[16];\nstatic NOINLINE")

@@ -292,15 +292,17 @@ class Loops(StepTest):
     def test_a_bound_that_is_not_found(self) -> None:
         bound = "a counter that begins at a constant, is changed by constants and compared with one, or with a number below one"
         text = "r6 = *(u32 *)(r1 + 0)\nr0 = 1\nloop:\nif r6 == 0 goto end\nr6 += -1\ngoto loop\nend:\nexit"
-        self.stops(object_of(f=text), f"f.c:4: if r6 == 0 goto end: no bound of this loop is found: what bounds it is {bound}")
-        told = f"f.c:3: goto loop: no bound of this loop is found: what bounds it is {bound}"
+        told = "f.c:4: if r6 == 0 goto end: no bound of this loop, slots 2 to 3, is found: what bounds it is"
+        self.stops(object_of(f=text), f"{told} {bound}")
+        told = f"f.c:3: goto loop: no bound of this loop, slots 1 to 1, is found: what bounds it is {bound}"
         self.stops(object_of(f="r0 = 1\nloop:\ngoto loop\nexit"), told)
 
     def test_too_many_turns(self) -> None:
         text = "r0 = 0\nr6 = 0\nloop:\nr0 += r6\nr6 += 1\nif r6 != 3000 goto loop\nexit"
-        told = "f.c:6: if r6 != 3000 goto loop: this loop is unrolled to more than 4,096 slots, which a program has at most"
+        told = "f.c:6: if r6 != 3000 goto loop: this loop, slots 2 to 4, is unrolled to more than 4,096 slots, which a program has at most"
         self.stops(object_of(f=text), f"{told}: fewer turns, or less in each, fit")
 
     def test_two_entries(self) -> None:
         text = "r0 = *(u32 *)(r1 + 0)\nif r0 > 4 goto two\none:\nr0 += 1\ntwo:\nif r0 > 9 goto one\nexit"
-        self.stops(object_of(f=text), "f.c:4: r0 += 1: this loop is entered at 2 places, and one with a single entry is unrolled")
+        told = "f.c:4: r0 += 1: this loop, slots 2 to 3, is entered at 2 places, and one with a single entry is unrolled"
+        self.stops(object_of(f=text), told)

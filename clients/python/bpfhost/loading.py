@@ -2,7 +2,9 @@
 
 from __future__ import annotations
 
+from collections.abc import Sequence
 from dataclasses import dataclass
+from itertools import accumulate
 
 from bpfhost.errors import InputError, ProgramRefused, Refused, SourceRefused
 from bpfhost.lowering import Lowered, as_is, lower
@@ -72,16 +74,24 @@ def log_of(bpfhost: Program, object_file: ObjectFile, lowered: Lowered) -> str |
 def with_sources(text: str, lowered: Lowered) -> str:
     """Lines of a text or of a log of a program, with a line of the source before those that come from it.
 
-    A line that begins with a slot is of that slot. Others are of the slot behind the line before, but for the last lines of a log.
+    A line that begins with a slot is of that slot, and in a text that has such lines the others are of none. Else a line is of the slot
+    behind the line before.
     """
-    slot, parts, last = 0, [], ""
-    for line in text.splitlines():
-        number, colon, _ = line.partition(": ")
-        slot = int(number) if colon and number.isdecimal() else slot
-        source = _source(lowered, slot) or last
+    lines = text.splitlines()
+    parts, last = [], ""
+    for line, slot in zip(lines, _slots_of(lines)):
+        source = last if slot is None else _source(lowered, slot) or last
         parts += [source if source != last else "", f"{line}\n"]
-        slot, last = slot + (2 if line.partition("//")[0].rstrip().endswith(" ll") else 1), source
+        last = source
     return "".join(parts)
+
+
+def _slots_of(lines: Sequence[str]) -> Sequence[int | None]:
+    """The slot of each line of a text or of a log, where it has one."""
+    numbers = [line.partition(": ")[0] for line in lines]
+    if any(number.isdecimal() for number in numbers):
+        return [int(number) if number.isdecimal() else None for number in numbers]
+    return [0, *accumulate(2 if line.endswith(" ll") else 1 for line in lines)][:-1] if lines else []
 
 
 def _source(lowered: Lowered, slot: int) -> str:

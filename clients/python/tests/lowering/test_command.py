@@ -120,7 +120,7 @@ class Lowered(LoweredTest):
         script = "for at in range(70): print(f'{at}: an instruction // what is known')\nprint('accepted')"
         log = self.pretender(f"read(){chr(10)}{script}")
         lines = self.command("check", self.object(COUNT), VERIFIER_LOG=log).stdout.decode().splitlines()
-        self.assertEqual(lines[-1], "accepted")
+        self.assertEqual(lines[-2:], ["69: an instruction // what is known", "accepted"])
         self.assertTrue(any("if (bpf_skb_load_bytes(skb, at, &byte, 1)) (copy 2 of 4)" in line for line in lines), lines)
 
     def test_loops_and_cycles(self) -> None:

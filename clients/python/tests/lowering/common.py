@@ -3,14 +3,12 @@
 from __future__ import annotations
 
 import re
-from dataclasses import replace
 
-from bpfhost import assemble
+from bpfhost import assemble, disassemble
 from bpfhost.loading import lowered_program
 from bpfhost.lowering import Lowered, lower
 from bpfhost.lowering.code import Function, functions_of
 from bpfhost.objects import CallSlot, ObjectFile, ObjectMap, ObjectProgram, SourceLine
-from bpfhost.slots import WIDE_LOAD
 from tests.common import PROGRAM, HostTest
 
 # The number of a helper that there is not stands for a call of a function until its slot is written.
@@ -61,10 +59,6 @@ def decoded_functions(found: ObjectFile) -> tuple[Function, ...]:
     return functions_of(found, only(found))
 
 
-def always(_form: ObjectProgram) -> None:
-    """A verdict that accepts all."""
-
-
 class LoweringTest(HostTest):
     """A test that lowers programs and asks the verifier."""
 
@@ -81,13 +75,9 @@ class LoweringTest(HostTest):
     def form(self, found: ObjectFile) -> Lowered:
         """The plainest form, whatever the verifier says."""
         program = only(found)
-        return lower(found, replace(program), lambda form: (0, 2) if form.slots == program.slots else None)
+        return lower(found, program, lambda form: (0, 2) if form.slots == program.slots else None)
 
     def text(self, lowered: Lowered) -> str:
         """The text of a form."""
-        from bpfhost import disassemble
-
         return disassemble(PROGRAM, lowered.program.slots)
 
-
-__all__ = ["WIDE_LOAD", "LoweringTest", "always", "decoded_functions", "object_of", "only"]

@@ -12,7 +12,12 @@ pub enum Error {
     },
     /// There is no memory for a host.
     NoMemory,
-    /// A command was answered with an error number.
+    /// There is room for fewer results than there are packets.
+    Room {
+        /// For how many results there is room.
+        results: usize,
+    },
+    /// A command, or a run of many packets, was answered with an error number.
     Status(Errno),
     /// A program was refused.
     Refused {
@@ -26,11 +31,11 @@ pub enum Error {
 }
 
 impl Error {
-    /// The error number of the reply, if there was a reply.
+    /// Its error number, if it has one.
     pub fn errno(&self) -> Option<Errno> {
         match *self {
             Error::Status(errno) | Error::Refused { errno, .. } => Some(errno),
-            Error::Tenants { .. } | Error::NoMemory => None,
+            Error::Tenants { .. } | Error::NoMemory | Error::Room { .. } => None,
         }
     }
 }
@@ -40,6 +45,7 @@ impl fmt::Display for Error {
         match *self {
             Error::Tenants { asked } => write!(f, "a host has 1 to {MOST_TENANTS} tenants, not {asked}"),
             Error::NoMemory => f.write_str("there is no memory for the host"),
+            Error::Room { results } => write!(f, "there is room for {results} results, and there are more packets"),
             Error::Status(errno) => errno.fmt(f),
             Error::Refused { errno, slot, reason } => {
                 write!(f, "slot {slot} is refused: {} (reason {reason}, {errno:?})", reason_words(reason))

@@ -1,6 +1,9 @@
-use crate::library::{Handle, Lent, bpfhost_c_free, bpfhost_c_handle_lent, bpfhost_c_memory_refused, bpfhost_c_new};
+use crate::batch::Batch;
+use crate::library::{
+    Handle, Lent, bpfhost_c_free, bpfhost_c_handle_lent, bpfhost_c_memory_refused, bpfhost_c_new, bpfhost_c_run_packets,
+};
 use crate::numbers::{DONE, LONGEST_FRAME, MEMORY, TENANTS};
-use crate::{Error, Reply, Tenant};
+use crate::{Context, Errno, Error, Reply, Tenant};
 use std::collections::hash_map::RandomState;
 use std::fmt;
 use std::hash::{BuildHasher, Hasher};
@@ -23,6 +26,8 @@ pub struct Host {
     handle: Handle,
     // Where the commands of `Tenant` build their frames.
     frame: Vec<u8>,
+    // Where `Tenant::run_packets` puts its packets.
+    batch: Batch,
 }
 
 /// A word of the keys that the standard library draws for its hash maps.
@@ -39,7 +44,7 @@ impl Host {
     pub fn new(tenants: usize) -> Result<Host, Error> {
         let mut handle = Handle::empty();
         match bpfhost_c_new(&mut handle, tenants, random_word(), random_word()) {
-            DONE => Ok(Host { handle, frame: Vec::new() }),
+            DONE => Ok(Host { handle, frame: Vec::new(), batch: Batch::default() }),
             TENANTS => Err(Error::Tenants { asked: tenants }),
             MEMORY => Err(Error::NoMemory),
             code => panic!("{}", unexpected(code)),
@@ -68,6 +73,34 @@ impl Host {
             self.frame.extend_from_slice(&field[..field.len().min(left)]);
         }
         handle(&mut self.handle, &self.frame)
+    }
+
+    /// Copies packets one behind another, and runs a program of a tenant on them. Returns how many there were.
+    pub(crate) fn run_packets(
+        &mut self,
+        tenant: u16,
+        prog: u32,
+        context: &Context,
+        packets: impl IntoIterator<Item: AsRef<[u8]>>,
+        results: &mut [u32],
+    ) -> Result<usize, Error> {
+        self.batch.fill(packets, results.len())?;
+        let Batch { bytes, ends } = &self.batch;
+        run_packets(&mut self.handle, tenant, prog, context, bytes, ends, results)?;
+        Ok(ends.len())
+    }
+
+    /// Runs a program of a tenant on packets that lie one behind another.
+    pub(crate) fn run_packets_in_place(
+        &mut self,
+        tenant: u16,
+        prog: u32,
+        context: &Context,
+        bytes: &[u8],
+        ends: &[usize],
+        results: &mut [u32],
+    ) -> Result<(), Error> {
+        run_packets(&mut self.handle, tenant, prog, context, bytes, ends, results)
     }
 
     /// Whether memory was ever refused to a tenant. While it was not, the tenant's replies are those that it would be given alone.
@@ -103,6 +136,42 @@ fn handle<'a>(handle: &'a mut Handle, frame: &[u8]) -> Reply<'a> {
     // SAFETY: by `done` of the same contract the reply stands there (`StandsAt`): these are the bytes of a vector that the handle
     // owns. They change at the next call with the handle, and none can come while the reply is used, which borrows the handle for 'a.
     Reply::new(unsafe { std::slice::from_raw_parts(lent.at, lent.length) })
+}
+
+/// Runs a program of a tenant on packets that lie one behind another in `bytes`, and end where `ends` says.
+fn run_packets(
+    handle: &mut Handle,
+    tenant: u16,
+    prog: u32,
+    context: &Context,
+    bytes: &[u8],
+    ends: &[usize],
+    results: &mut [u32],
+) -> Result<(), Error> {
+    if results.len() < ends.len() {
+        return Err(Error::Room { results: results.len() });
+    }
+    let mut status = 0;
+    // SAFETY: the contract of `bpfhost_c_run_packets` requires nothing but its types. Each address with its length is that of a slice:
+    // it is not null, is aligned and leads to so many items, of isize::MAX bytes at most, that outlive the call. What may be written is
+    // the handle, `results` and `status`: each is behind a `&mut`, which overlaps no other parameter.
+    let code = unsafe {
+        bpfhost_c_run_packets(
+            handle,
+            tenant,
+            prog,
+            &context.words(),
+            bytes.as_ptr(),
+            bytes.len(),
+            ends.as_ptr(),
+            ends.len(),
+            results.as_mut_ptr(),
+            results.len(),
+            &mut status,
+        )
+    };
+    assert_eq!(code, DONE, "{}", unexpected(code));
+    if status == 0 { Ok(()) } else { Err(Error::Status(Errno::of_status(status))) }
 }
 
 /// By `code` of the contracts no other code comes: a `Host` has a host behind its handle from its first moment to its last.

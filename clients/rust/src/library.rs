@@ -29,8 +29,9 @@ unsafe impl Send for Handle {}
 
 // SAFETY: these are the symbols and the types of `bpfhost.h`. No contract of these functions has a `requires`, so all that a call
 // owes are its parameters' types. A `Handle` is empty or as the library left it, since its field is private; a `&mut` is aligned, leads
-// to a whole value and overlaps no other parameter. So three of the functions are safe. The one that is not takes an address and a
-// length of C, and its caller owes that they are those of bytes that no other parameter overlaps.
+// to a whole value and overlaps no other parameter. So three of the functions are safe. The two that are not take addresses and
+// lengths of C, and their caller owes that each address with its length is that of a slice, which outlives the call, and that no
+// other parameter overlaps what is written.
 unsafe extern "C" {
     pub(crate) safe fn bpfhost_c_new(handle: &mut Handle, tenants: usize, first: u64, second: u64) -> i32;
     pub(crate) fn bpfhost_c_handle_lent(
@@ -38,6 +39,19 @@ unsafe extern "C" {
         frame: *const u8,
         frame_length: usize,
         lent: &mut Lent,
+    ) -> i32;
+    pub(crate) fn bpfhost_c_run_packets(
+        handle: &mut Handle,
+        tenant: u16,
+        fd: u32,
+        words: &[u32; 10],
+        bytes: *const u8,
+        byte_count: usize,
+        ends: *const usize,
+        packets: usize,
+        results: *mut u32,
+        room: usize,
+        status: &mut i32,
     ) -> i32;
     pub(crate) safe fn bpfhost_c_memory_refused(handle: &mut Handle, tenant: u16, refused: &mut bool) -> i32;
     pub(crate) safe fn bpfhost_c_free(handle: &mut Handle);

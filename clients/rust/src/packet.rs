@@ -17,7 +17,8 @@ pub struct Context {
 }
 
 impl Context {
-    fn words(&self) -> [u32; 10] {
+    /// The fields one after another.
+    pub(crate) fn words(&self) -> [u32; 10] {
         let Context { pkt_type, mark, queue_mapping, protocol, vlan_present, .. } = *self;
         let Context { vlan_tci, vlan_proto, priority, ingress_ifindex, ifindex, .. } = *self;
         [

@@ -46,8 +46,9 @@ pub enum Update {
 
 /// What speaks for one tenant of a host: whoever has it can ask nothing for another tenant.
 ///
-/// Its functions are the commands of bpf(2). docs/PROTOCOL.md has all limits, and all errors in the order in which they are tried;
-/// [`EPERM`](Errno::EPERM) comes before them, where the tenant is not served. A refused command changes nothing.
+/// Its functions are the commands of bpf(2), and test runs of many packets by one call. docs/PROTOCOL.md has all limits, and all
+/// errors in the order in which they are tried; [`EPERM`](Errno::EPERM) comes before them, where the tenant is not served. A refused
+/// command changes nothing.
 #[derive(Debug)]
 pub struct Tenant<'a> {
     host: &'a mut Host,
@@ -151,6 +152,81 @@ impl<'a> Tenant<'a> {
         *head = context.head(self.number, prog.0);
         let reply = self.host.handle(room);
         reply.done().map(|_| reply.result())
+    }
+
+    /// Runs a program on many packets by one call of the library, one after another and with the same context. Results, maps and all
+    /// else afterwards are those of [`prog_test_run`](Tenant::prog_test_run) on each of them in this order. The result of each is
+    /// written to the front of `results`, whose rest stays as it is. Returns how many packets there were.
+    ///
+    /// The packets are copied one behind another into memory that the host keeps, so that later calls allocate only for more bytes or
+    /// packets than before. [`run_packets_in_place`](Tenant::run_packets_in_place) copies none.
+    ///
+    /// ```
+    /// # use bpfhost::{Context, Error, Host};
+    /// # use std::io::IoSlice;
+    /// # /// r0 = the packet's length; exit
+    /// # const LENGTH: [u64; 2] = [0x6110_0000_0000_0000, 0x9500_0000_0000_0000];
+    /// # let mut host = Host::new(1)?;
+    /// # let mut tenant = host.tenant(0);
+    /// # let prog = tenant.prog_load(&LENGTH.map(u64::to_be_bytes))?;
+    /// // The program answers the packet's length.
+    /// let mut results = [0; 64];
+    /// let count = tenant.run_packets(prog, &Context::default(), [&b"one"[..], b"", b"three"], &mut results)?;
+    /// assert_eq!(results[..count], [3, 0, 5]);
+    ///
+    /// // Slices for vectored input and output, as they were received.
+    /// let received = [IoSlice::new(b"four"), IoSlice::new(b"fifth")];
+    /// let packets = received.iter().map(|packet| &packet[..]);
+    /// let count = tenant.run_packets(prog, &Context::default(), packets, &mut results)?;
+    /// assert_eq!(results[..count], [4, 5]);
+    /// # Ok::<(), Error>(())
+    /// ```
+    ///
+    /// # Errors
+    ///
+    /// First of all [`Error::Room`]: `results` has room for fewer results than there are packets, of which no more than one too many
+    /// is asked for. EBADF; EINVAL: the descriptor names a map. E2BIG: a packet has more than 65,536 bytes. Then no packet was run,
+    /// and `results` is as it was.
+    pub fn run_packets(
+        &mut self,
+        prog: Fd,
+        context: &Context,
+        packets: impl IntoIterator<Item: AsRef<[u8]>>,
+        results: &mut [u32],
+    ) -> Result<usize, Error> {
+        self.host.run_packets(self.number, prog.0, context, packets, results)
+    }
+
+    /// Runs a program on many packets where they lie, one behind another in `bytes`: the first begins at 0, and packet i ends before
+    /// byte `ends[i]`, where the next one begins. All else is as in [`run_packets`](Tenant::run_packets).
+    ///
+    /// ```
+    /// # use bpfhost::{Context, Error, Host};
+    /// # /// r0 = the packet's length; exit
+    /// # const LENGTH: [u64; 2] = [0x6110_0000_0000_0000, 0x9500_0000_0000_0000];
+    /// # let mut host = Host::new(1)?;
+    /// # let mut tenant = host.tenant(0);
+    /// # let prog = tenant.prog_load(&LENGTH.map(u64::to_be_bytes))?;
+    /// // The program answers the packet's length.
+    /// let mut results = [0; 3];
+    /// tenant.run_packets_in_place(prog, &Context::default(), b"onethree", &[3, 3, 8], &mut results)?;
+    /// assert_eq!(results, [3, 0, 5]);
+    /// # Ok::<(), Error>(())
+    /// ```
+    ///
+    /// # Errors
+    ///
+    /// As [`run_packets`](Tenant::run_packets); and EINVAL: a packet ends before it begins, or behind the bytes. The first packet that
+    /// is wrong tells which error it is.
+    pub fn run_packets_in_place(
+        &mut self,
+        prog: Fd,
+        context: &Context,
+        bytes: &[u8],
+        ends: &[usize],
+        results: &mut [u32],
+    ) -> Result<(), Error> {
+        self.host.run_packets_in_place(self.number, prog.0, context, bytes, ends, results)
     }
 
     /// Closes a descriptor. A map goes when no descriptor and no open program names it.

@@ -1,0 +1,42 @@
+/* Packets of a capture file or of an interface, a batch at a time. */
+#ifndef PACKETS_H
+#define PACKETS_H
+
+#include <stdbool.h>
+#include <stddef.h>
+#include <stdint.h>
+#include <stdio.h>
+
+enum { BATCH = 64, LONGEST_PACKET = 65536 };
+
+/* Packets one after another: packet i ends before byte ends[i], where the next one begins. */
+struct batch {
+    size_t count, ends[BATCH];
+    uint8_t bytes[BATCH * LONGEST_PACKET];
+};
+
+/* Where packets come from: a capture in the format pcap, or an interface until some moment. `wrong` tells why no more came, and is
+ * null if all came. */
+struct source {
+    const char *name, *wrong;
+    FILE *file;
+    bool is_big_endian;
+    int socket;
+    double until;
+};
+
+/* Opens a capture, of either byte order, with microseconds or nanoseconds; or an interface, for so many seconds. What is refused is told,
+ * and the program ends with status 1. */
+struct source open_capture(const char *name);
+struct source open_interface(const char *name, double seconds);
+
+/* Fills the batch, which may stay empty if an interface has no packets. false: no more will come. */
+bool next_batch(struct source *source, struct batch *batch);
+
+/* Seconds of a clock that only goes forward. */
+double now(void);
+
+/* Tells what is wrong on standard error, and ends the program with status 1. */
+_Noreturn void fail(const char *form, ...);
+
+#endif

@@ -179,14 +179,19 @@ def look_at_packet() -> Slots:
     return slots
 
 
+def segment() -> bytes:
+    """A TCP segment to port 443 in IPv4 in an Ethernet frame."""
+    ethernet = bytes.fromhex("020000000001 020000000002 0800")
+    ip = struct.pack(">BBHHHBBHII", 0x45, 0, 40, 7, 0x4000, 64, 6, 0, 0x0A000001, 0xC0A80117)
+    tcp = struct.pack(">HHIIBBHHH", 50123, 443, 1, 2, 0x50, 0x10, 1024, 0, 0)
+    return ethernet + ip + tcp
+
+
 def parser() -> Program:
     """Eight looks at one packet, each with three calls that copy bytes of it."""
     looks = look_at_packet() * 8
     slots = [slot(MOV64_X, 6, 1), slot(MOV64_K, 9), *looks, slot(MOV64_X, 0, 9), slot(EXIT)]
-    ethernet = bytes.fromhex("020000000001 020000000002 0800")
-    ip = struct.pack(">BBHHHBBHII", 0x45, 0, 40, 7, 0x4000, 64, 6, 0, 0x0A000001, 0xC0A80117)
-    tcp = struct.pack(">HHIIBBHHH", 50123, 443, 1, 2, 0x50, 0x10, 1024, 0, 0)
-    return Program(slots, packet=ethernet + ip + tcp, executed=len(slots))
+    return Program(slots, packet=segment(), executed=len(slots))
 
 
 def counts(fd: int, key: int) -> Slots:
@@ -229,6 +234,42 @@ def counter() -> Program:
     maps = [(ARRAY, 4, 8, 16), (HASH, 4, 8, 64)]
     # Once every key is there: a wide load is one instruction of two slots, and the updates are jumped over.
     return Program(slots, maps=maps, executed=16 * 10 + 3)
+
+
+def counter_in_array() -> Program:
+    """One count in an array, by a look-up; it answers the count."""
+    counted = [slot(LOAD_DOUBLE, 1, 0), slot(ADD64_K, 1, imm=1), slot(STORE_DOUBLE, 0, 1), slot(MOV64_X, 0, 1)]
+    slots = [
+        slot(STORE_WORD_K, 10, off=-4, imm=3),
+        *loads_map(1, 3),
+        slot(MOV64_X, 2, 10),
+        slot(ADD64_K, 2, imm=-4),
+        call(LOOK_UP),
+        slot(JEQ_K, 0, off=len(counted)),
+        *counted,
+        slot(EXIT),
+    ]
+    return Program(slots, maps=[(ARRAY, 4, 8, 16)], executed=11)
+
+
+def on_context() -> Program:
+    """Twenty instructions on six words of the context."""
+    mixed = [[slot(LOAD_WORD, 2, 1, off=4 * word), slot(XOR64_X, 0, 2), slot(MUL32_K, 0, imm=31)] for word in range(6)]
+    slots = [slot(MOV64_K, 0, imm=7), *sum(mixed, []), slot(EXIT)]
+    return Program(slots, executed=len(slots))
+
+
+def one_copy() -> Program:
+    """A copy of the 20 bytes of an IPv4 header, of which it answers the address of the sender."""
+    answer = [slot(JNE_K, 0, off=1), slot(LOAD_WORD, 0, 10, off=-12), slot(EXIT)]
+    slots = [slot(MOV64_X, 6, 1), *copies_of_packet(14, -24, 20), *answer]
+    return Program(slots, executed=len(slots))
+
+
+def one_look() -> Program:
+    """One look at a TCP segment: the two addresses mixed where it goes to port 443, and 0 else."""
+    slots = [slot(MOV64_X, 6, 1), slot(MOV64_K, 9), *look_at_packet(), slot(MOV64_X, 0, 9), slot(EXIT)]
+    return Program(slots, executed=len(slots))
 
 
 def counts_and_keeps_greatest(counts_one: Slots, rounds: int) -> Slots:
@@ -280,6 +321,15 @@ RUN: dict[str, Callable[[], Program]] = {
     "counter": counter,
     "globals": lambda: globals_of(100),
     "globals, atomic": lambda: atomic_globals_of(100),
+}
+
+# Filters that are run on packets by the batch.
+FILTERS: dict[str, Callable[[], Program]] = {
+    "empty": empty,
+    "20 on the context": on_context,
+    "TCP port 443": one_look,
+    "copy of 20 bytes": one_copy,
+    "counter in an array": counter_in_array,
 }
 
 # Programs that are only loaded: 4,096 slots each.

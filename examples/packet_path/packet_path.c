@@ -244,6 +244,8 @@ int main(int word_count, char **words)
     printf("%s: %" PRIu64 " packets\n", source.name, packets);
     for (size_t i = 0; i < count; i++)
         printf("%s: passed %" PRIu64 " packets, %" PRIu64 " bytes\n", tenants[i].name, tenants[i].packets, tenants[i].bytes);
+    if (fflush(stdout) != 0)
+        fail("the counts can't be written: %s", strerror(errno));
     if (source.wrong != NULL)
         fail("%s: packet %" PRIu64 ": %s", source.name, packets + 1, source.wrong);
     bpfhost_free(&host);

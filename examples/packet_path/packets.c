@@ -136,11 +136,13 @@ bool next_batch(struct source *source, struct batch *batch)
     size_t end = 0, length = 0;
     bool is_capture = source->file != NULL;
     batch->count = 0;
+    if (!is_capture && now() >= source->until)
+        return false;
     while (batch->count < BATCH && source->wrong == NULL
            && (is_capture ? next_of_capture(source, batch->bytes + end, &length)
                           : next_of_interface(source, batch->bytes + end, &length, batch->count == 0))) {
         end += length;
         batch->ends[batch->count++] = end;
     }
-    return batch->count != 0 || (!is_capture && source->wrong == NULL && now() < source->until);
+    return batch->count != 0 || (!is_capture && source->wrong == NULL);
 }

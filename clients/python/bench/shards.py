@@ -29,7 +29,8 @@ sys.path.insert(0, str(Path(__file__).resolve().parents[1]))
 from bpfhost import Host, MapType, find_program, frames  # noqa: E402
 from bpfhost.shards import Client, Settings, ShardKeys, Worker  # noqa: E402
 from bpfhost.shards.connection import connect  # noqa: E402
-from bpfhost.shards.names import MOST_ENTRIES  # noqa: E402
+from bpfhost.shards.registering import register  # noqa: E402
+from bpfhost.shards.settings import MOST_BYTES, MOST_ENTRIES  # noqa: E402
 from tests.shards.redis_server import RedisServer, missing  # noqa: E402
 from tests.shards.streams import slots_of  # noqa: E402
 
@@ -38,9 +39,8 @@ CALLS = (1, 16, 256)
 SHARDS = ((1, 1), (2, 1), (4, 1), (4, 4))
 # A customer sends so many calls before it waits for the reply to the first one.
 CUSTOMERS, AHEAD = 8, 8
-NEVER = MOST_ENTRIES // 2
 REPLAYED = 100_000
-SETTINGS = Settings(snapshot_entries=NEVER, demand_durable=False)
+SETTINGS = Settings(snapshot_entries=MOST_ENTRIES, snapshot_frames=10**9, snapshot_bytes=MOST_BYTES, demand_durable=False)
 _context = multiprocessing.get_context("fork")
 _TICKS = os.sysconf("SC_CLK_TCK")
 
@@ -69,9 +69,10 @@ def by_pipe(program: str, many: int, size: int) -> float:
         return many / (time.monotonic() - began)
 
 
-def work(url: str, program: str, shard: int) -> None:
+def work(url: str, program: str, shard: int, directory: str) -> None:
     """A worker that takes no snapshot."""
-    Worker(connect(url), ShardKeys(shard), program, SETTINGS, lambda _sentence: None).run()
+    other = connect(directory) if directory != url else None
+    Worker(connect(url), ShardKeys(shard), program, SETTINGS, lambda _sentence: None, other).run()
 
 
 def ask(url: str, program: str, name: str, calls: int, size: int, barrier: Any) -> None:
@@ -127,7 +128,7 @@ class Shards:
             self._place(urls)
             barrier = _context.Barrier(CUSTOMERS + 1)
             calls = max(1, many // CUSTOMERS // size)
-            workers = [_context.Process(target=work, args=(url, self._program, shard)) for shard, url in enumerate(urls)]
+            workers = [_context.Process(target=work, args=(url, self._program, shard, urls[0])) for shard, url in enumerate(urls)]
             customers = [
                 _context.Process(target=ask, args=(urls[0], self._program, f"customer-{number}", calls, size, barrier))
                 for number in range(CUSTOMERS)
@@ -146,7 +147,9 @@ class Shards:
         """Gives each shard as many customers as the others."""
         with Client(urls[0]) as client:
             for shard, url in enumerate(urls):
-                client.directory.add_shard(shard, url)
+                server, keys = connect(url), ShardKeys(shard)
+                client.directory.beat(shard, register(server, keys, client.directory, url if url != urls[0] else ""))
+                server.close()
             for number in range(CUSTOMERS):
                 client.directory.place(f"customer-{number}")
 
@@ -178,17 +181,17 @@ def replay(folder: Path, program: str, size: int) -> float:
     Redis does not wait for its disk here, since nothing is written in this time, and much before it.
     """
     with tempfile.TemporaryDirectory(dir=folder) as room, RedisServer(Path(room), "no") as server, Client(server.url) as client:
-        client.directory.add_shard(0)
-        first = _context.Process(target=work, args=(server.url, program, 0), daemon=True)
+        redis, keys = client.shard(0)
+        client.directory.beat(0, register(redis, keys, client.directory, ""))
+        first = _context.Process(target=work, args=(server.url, program, 0, server.url), daemon=True)
         first.start()
         customer = client.customer("one", 600)
         customer.wait(customer.post(b"".join(begins(program))))
-        for ticket in [customer.post(call(size)) for _ in range(REPLAYED // size)][-1:]:
+        for ticket in [customer.post(call(size), 600) for _ in range(REPLAYED // size)][-1:]:
             customer.wait(ticket)
         first.kill()
         first.join()
-        redis, keys = client.shard(0)
-        redis.execute_command("DEL", keys.lease)
+        redis.hdel(keys.lease, "token")
         began = time.monotonic()
         Worker(connect(server.url), keys, program, SETTINGS, lambda _sentence: None).run(lambda: True)
         return time.monotonic() - began

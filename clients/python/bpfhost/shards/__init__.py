@@ -2,25 +2,32 @@
 when a process dies. docs/SCALING.md of the repository says how, what is proved, and what rests on Redis.
 """
 
-from bpfhost.shards.client import Client, Customer, Ticket
+from bpfhost.shards.client import Client, Customer
 from bpfhost.shards.directory import Directory, Seat
 from bpfhost.shards.errors import (
+    CallError,
     LeaseHeld,
     LeaseLost,
     MemoryRefused,
     MoveError,
     NoReply,
+    NotDone,
     NotTaken,
+    OtherShard,
     RedisError,
     RepliesDiffer,
     ReplyGone,
+    SetAside,
     ShardError,
 )
-from bpfhost.shards.moving import move, remove
+from bpfhost.shards.moving import abort_move, move, remove
 from bpfhost.shards.names import ShardKeys
-from bpfhost.shards.worker import Settings, Worker
+from bpfhost.shards.settings import Settings
+from bpfhost.shards.tickets import Place, Ticket
+from bpfhost.shards.worker import Worker
 
 __all__ = [
+    "CallError",
     "Client",
     "Customer",
     "Directory",
@@ -29,16 +36,21 @@ __all__ = [
     "MemoryRefused",
     "MoveError",
     "NoReply",
+    "NotDone",
     "NotTaken",
+    "OtherShard",
+    "Place",
     "RedisError",
     "RepliesDiffer",
     "ReplyGone",
     "Seat",
+    "SetAside",
     "Settings",
     "ShardError",
     "ShardKeys",
     "Ticket",
     "Worker",
+    "abort_move",
     "move",
     "remove",
 ]

@@ -8,32 +8,52 @@ from collections.abc import Sequence
 from bpfhost.shards.client import SECONDS
 from bpfhost.shards.directory import MOST_SHARD, demand_name
 from bpfhost.shards.lease import SECONDS as LEASE_SECONDS
-from bpfhost.shards.names import MOST_ENTRIES, PREFIX
-from bpfhost.shards.worker import Settings
+from bpfhost.shards.names import PREFIX
+from bpfhost.shards.settings import MOST_ENTRIES, Settings
 from bpfhost.telling import Parser, add_program, in_range, named
 
 _ABOUT = "Serves customers by many hosts, behind Redis Streams (docs/SCALING.md)."
 
 _shard = in_range(int, f"shard from 0 to {MOST_SHARD}", 0, MOST_SHARD)
 _seconds = in_range(float, "number of seconds from 0.1 on", 0.1, 1e6)
-_many = in_range(int, f"number from 1 to {MOST_ENTRIES // 2}", 1, MOST_ENTRIES // 2)
+_many = in_range(int, f"number from 1 to {MOST_ENTRIES}", 1, MOST_ENTRIES)
 _name = named(demand_name, "name of 1 to 255 printable characters without spaces")
+# Words for one customer, and for one shard, with what they do.
+_OF_CUSTOMERS = {
+    "client": "send the frames on standard input for a customer, and write their replies",
+    "move": "move a customer to another shard; what was begun is ended",
+    "remove": "remove a customer, with all that it has",
+    "abort-move": "take a move back that was begun: the customer is on the shard where it was",
+    "skip": "go on behind what is set aside of a customer: its frames are not done, or what this build makes of its state is taken",
+    "retry": "try again what is set aside of a customer",
+}
+_OF_SHARDS = {
+    "drain": "offer a shard to no customer any more, and move its customers away",
+    "remove-shard": "take a shard out of the directory that has no customers and is not served",
+}
 
 
 def _parser() -> Parser:
     parser = Parser(prog="python3 -m bpfhost.shards", description=_ABOUT)
     words = parser.add_subparsers(metavar="WORD", required=True, parser_class=Parser, dest="word")
     _add_worker(words)
-    client = words.add_parser("client", help="send the frames on standard input for a customer, and write their replies")
-    move = words.add_parser("move", help="move a customer to another shard; what was begun is ended")
-    remove = words.add_parser("remove", help="remove a customer, with all that it has")
-    for one in (client, move, remove):
+    for word, does in _OF_CUSTOMERS.items():
+        one = words.add_parser(word, help=does)
         one.add_argument("name", metavar="NAME", type=_name)
-        one.add_argument("--seconds", metavar="S", type=_seconds, default=SECONDS, help="how long to wait for a reply (30)")
-    move.add_argument("--to", metavar="SHARD", type=_shard, help="else the least loaded other one")
-    show = words.add_parser("show", help="show the shards, their workers, and where each customer is")
-    for one in (client, move, remove, show):
-        _add_redis(one, "the directory's Redis")
+        _add_seconds(one)
+        if word == "move":
+            one.add_argument("--to", metavar="SHARD", type=_shard, help="else the least loaded other one")
+    for word, does in _OF_SHARDS.items():
+        one = words.add_parser(word, help=does)
+        one.add_argument("shard", metavar="SHARD", type=_shard)
+        _add_seconds(one)
+        if word == "drain":
+            one.add_argument("--undo", action="store_true", help="offer it again")
+        else:
+            one.add_argument("--lost", action="store_true", help="also with its customers, whose data are lost")
+    words.add_parser("show", help="show the shards, their workers, moves, what is set aside, and where each customer is")
+    for word, one in words.choices.items():
+        _add_redis(one, "the shard's Redis" if word == "worker" else "the directory's Redis")
     return parser
 
 
@@ -41,17 +61,20 @@ def _add_worker(words: argparse._SubParsersAction[Parser]) -> None:
     usual = Settings()
     parser = words.add_parser("worker", help="serve a shard until SIGTERM")
     parser.add_argument("shard", metavar="SHARD", type=_shard)
-    _add_redis(parser, "the shard's Redis")
     parser.add_argument("--directory", metavar="URL", help="the directory's Redis, where it is another one")
     add_program(parser)
     parser.add_argument("--lease", metavar="S", type=_seconds, default=LEASE_SECONDS, help="the seconds of the lease (5)")
     parser.add_argument(
-        "--snapshot-entries", metavar="N", type=_many, default=usual.snapshot_entries, help="calls between two snapshots (50000)"
+        "--snapshot-entries", metavar="N", type=_many, default=usual.snapshot_entries, help="calls that are played again at most (50000)"
     )
     parser.add_argument(
         "--keep-replies", metavar="S", type=_seconds, default=usual.reply_seconds, help="how long replies stay that nobody has read (3600)"
     )
     parser.add_argument("--volatile", action="store_true", help="also on a Redis that may lose what it has answered")
+
+
+def _add_seconds(parser: argparse.ArgumentParser) -> None:
+    parser.add_argument("--seconds", metavar="S", type=_seconds, default=SECONDS, help="how long to wait for a worker (30)")
 
 
 def _add_redis(parser: argparse.ArgumentParser, whose: str) -> None:

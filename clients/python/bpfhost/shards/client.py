@@ -6,10 +6,7 @@ stream. So a call is sent again where it is not known whether it was taken.
 
 from __future__ import annotations
 
-import time
-import uuid
 from collections.abc import Iterable, Iterator
-from dataclasses import dataclass, field
 from types import TracebackType
 from typing import cast
 
@@ -18,31 +15,35 @@ from bpfhost.frames import NO_CONTEXT, Context
 from bpfhost.host import Host
 from bpfhost.packets import Packets
 from bpfhost.replies import Reply, read_replies
-from bpfhost.shards import scripts
-from bpfhost.shards.connection import Away, Redis, connect, entries_behind, last_id, patiently
+from bpfhost.shards import names, scripts
+from bpfhost.shards.aside import Aside
+from bpfhost.shards.calls import LONGEST_CALL, MOST_FRAMES, whole_frames
+from bpfhost.shards.connection import Redis
 from bpfhost.shards.directory import Directory, Seat, demand_name
-from bpfhost.shards.errors import NoReply, NotTaken, ReplyGone, ShardError
-from bpfhost.shards.names import FAULT, MOST_BYTES, MOST_ENTRIES, PREFIX, REPLIES, ShardKeys, before, order
+from bpfhost.shards.errors import Away, NoReply, NotDone, NotTaken, OutOfMemory, ReplyGone, SetAside, ShardError
+from bpfhost.shards.names import FAULT, PREFIX, REPLIES, ShardKeys, before, order
 from bpfhost.shards.parts import in_parts
-from bpfhost.shards.serving import LONGEST_CALL, MOST_FRAMES, whole_frames
 from bpfhost.shards.snapshot import split
+from bpfhost.shards.system import MACHINE, System
+from bpfhost.shards.tickets import Place, Ticket
 from bpfhost.tenant import Tenant
 
 SECONDS = 30.0
-# So long the number of a session's last call is remembered; for half of that a call is sent again.
-SECONDS_REMEMBERED = 86_400
-_PAUSE = 0.02
+_PAUSE, _LONGEST_PAUSE = 0.005, 0.1
+# Who waits for a reply looks so often whether the call is set aside.
+_SECONDS_TO_LOOK = 1.0
+# With which the names of sessions begin that nobody chose; they are forgotten after a day in which the shard was served.
+NAMELESS = "~"
 
 
 class Client:
     """What knows the directory and the shards. It is a context manager, which closes its connections."""
 
-    def __init__(self, url: str | None = None, prefix: str = PREFIX) -> None:
+    def __init__(self, url: str | None = None, prefix: str = PREFIX, system: System = MACHINE) -> None:
         """The directory's Redis, by its URL (`connect`)."""
-        self._redis, self._prefix = connect(url), prefix
-        self.directory = Directory(self._redis, prefix)
-        self._servers: dict[str, Redis] = {"": self._redis}
-        self._shards: dict[int, tuple[Redis, ShardKeys]] = {}
+        self.redis, self.prefix, self.system = Redis(url, system), prefix, system
+        self.directory = Directory(self.redis, prefix)
+        self._servers: dict[str, Redis] = {"": self.redis}
 
     def __enter__(self) -> Client:
         return self
@@ -55,41 +56,34 @@ class Client:
         for redis in self._servers.values():
             redis.close()
 
-    def customer(self, name: str, seconds: float = SECONDS) -> Customer:
-        """What speaks for one customer, and waits for so many seconds at most."""
-        return Customer(self, demand_name(name), seconds)
+    def customer(self, name: str, seconds: float = SECONDS, session: str | None = None) -> Customer:
+        """What speaks for one customer, and waits for so many seconds at most.
 
-    def shard(self, number: int) -> tuple[Redis, ShardKeys]:
+        A session with a name can be gone on with by the next process (`Customer.resume`); two at once must not have the same one.
+        """
+        if session is not None and (not session or session.startswith(NAMELESS)):
+            raise ValueError(f"a session's name is not empty and does not begin with {NAMELESS}, and is not {session!r}")
+        return Customer(self, demand_name(name), seconds, session or NAMELESS + self.system.fresh())
+
+    def shard(self, number: int, deadline: float | None = None) -> tuple[Redis, ShardKeys]:
         """The Redis of a shard, and its keys."""
-        if number not in self._shards:
-            url = patiently(lambda: self.directory.server(number), time.monotonic() + SECONDS)
-            if url not in self._servers:
-                self._servers[url] = connect(url)
-            self._shards[number] = self._servers[url], ShardKeys(number, self._prefix)
-        return self._shards[number]
-
-
-@dataclass
-class Ticket:
-    """A call: its frames, its number in a session, the seat where it was first sent, and its entry once that is known."""
-
-    stream: bytes
-    session: str
-    number: int
-    began: float
-    seat: Seat | None = None
-    entry: bytes | None = None
-    answered: list[bytes] = field(default_factory=list)
+        until = self.system.now() + SECONDS if deadline is None else deadline
+        url = self.redis.patiently(lambda redis: Directory(redis, self.prefix).server(number), until)
+        if url not in self._servers:
+            self._servers[url] = Redis(url, self.system)
+        return self._servers[url], ShardKeys(number, self.prefix)
 
 
 class Customer:
     """What speaks for one customer, in one thread. Frames name tenant 0, and so do replies, wherever the customer's host is."""
 
-    def __init__(self, client: Client, name: str, seconds: float) -> None:
-        self._client, self.name, self.seconds = client, name, seconds
+    def __init__(self, client: Client, name: str, seconds: float, session: str) -> None:
+        self._client, self.name, self.seconds, self.session = client, name, seconds, session
+        self._system = client.system
         self._seat: Seat | None = None
-        self._session, self._number = str(uuid.uuid4()), 0
+        self._number = 0
         self._open: Ticket | None = None
+        self._at: dict[int, tuple[Redis, ShardKeys]] = {}
 
     # As a host is asked.
 
@@ -113,111 +107,191 @@ class Customer:
 
     # Calls.
 
-    def post(self, stream: bytes) -> Ticket:
+    def resume(self) -> int:
+        """How many calls of this session were taken, by this process or one before it; the next call has the number behind it.
+
+        So a producer that is killed and started again, with the same name for its session, knows which of its calls it sends next.
+        """
+        deadline = self._system.now() + self.seconds
+        seat = self._take_seat(deadline, None)
+        redis, keys = self._shard(seat.shard, deadline)
+        record = redis.patiently(lambda limited: limited.hget(keys.sessions(seat.generation), self.session), deadline)
+        self._number = max(self._number, int(record.split()[0]) if record else 0)
+        return self._number
+
+    def last(self) -> Ticket | None:
+        """The last call of this session that was taken, also by a process before this one, to be waited for; or None."""
+        deadline = self._system.now() + self.seconds
+        seat = self._take_seat(deadline, None)
+        redis, keys = self._shard(seat.shard, deadline)
+        record = redis.patiently(lambda limited: limited.hget(keys.sessions(seat.generation), self.session), deadline)
+        number, _, place = record.split(b" ", 2) if record else (b"0", b"", b"-")
+        if place == b"-":
+            return None
+        return Ticket(b"", self.session, int(number), self._system.now(), seat, Place.read(place))
+
+    def post(self, stream: bytes, seconds: float | None = None) -> Ticket:
         """Puts a call into the stream of the customer's shard, without waiting for its replies.
 
-        A NotTaken where there is no room, and a NoReply, which the next call begins with, where it is not known.
+        A NotTaken where there is no room: then the call is not done later either. A NoReply where it is not known whether it was
+        taken: it has the ticket, and waiting for that, or the next call, sends it again.
         """
         whole_frames(stream)
-        self.settle()
+        self.settle(seconds)
         self._number += 1
-        self._open = ticket = Ticket(stream, self._session, self._number, time.monotonic())
-        self.settle()
+        self._open = ticket = Ticket(stream, self.session, self._number, self._system.now())
+        self.settle(seconds)
         return ticket
 
-    def settle(self) -> None:
+    def settle(self, seconds: float | None = None) -> None:
         """Sends a call again of which it is not known whether it was taken, if there is one."""
         ticket = self._open
         if ticket is None:
             return
-        deadline = time.monotonic() + self.seconds
-        if time.monotonic() - ticket.began > SECONDS_REMEMBERED / 2:
-            self._open = None
-            raise NoReply(f"a call of customer {self.name} is so old that nobody knows whether it was taken; it is not sent again")
+        deadline = self._deadline(seconds)
         try:
-            while ticket.entry is None:
-                self._send(ticket, deadline)
+            self._send(ticket, deadline)
         except NotTaken:
             self._open = None
             raise
         except Away as away:
-            raise self._unknown(away) from None
+            raise NoReply(f"it is not known whether a call of customer {self.name} was taken: {away}", ticket) from None
         self._open = None
 
     def wait(self, ticket: Ticket, seconds: float | None = None) -> list[bytes]:
-        """Waits for the replies to a call, one for each frame; a NoReply after so many seconds, and then it can be called again."""
+        """Waits for the replies to a call, one for each frame; a NoReply after so many seconds, and then it can be called again.
+
+        A SetAside where the call waits for an operator, a NotDone where its frames were not done and won't be, and a ReplyGone where
+        its replies were dropped.
+        """
         if ticket.answered:
             return ticket.answered
-        if ticket.entry is None:
-            self.settle()
-        if ticket.entry is None or ticket.seat is None:
-            raise NoReply(f"the call of customer {self.name} was given up")
-        deadline = time.monotonic() + (self.seconds if seconds is None else seconds)
-        ticket.answered = self._replies(ticket.seat, ticket.entry, deadline)
+        deadline = self._deadline(seconds)
+        if ticket.place is None and ticket is self._open:
+            self.settle(max(0.0, deadline - self._system.now()))
+        if ticket.place is None:
+            raise NotTaken(f"the call of customer {self.name} was given up", ticket)
+        ticket.answered = self._replies(ticket, ticket.place, deadline)
         return ticket.answered
 
+    def _deadline(self, seconds: float | None) -> float:
+        return self._system.now() + (self.seconds if seconds is None else seconds)
+
+    def _shard(self, number: int, deadline: float) -> tuple[Redis, ShardKeys]:
+        if number not in self._at:
+            self._at[number] = self._client.shard(number, deadline)
+        return self._at[number]
+
+    # Sending.
+
     def _send(self, ticket: Ticket, deadline: float) -> None:
-        """Sends a call once; where its seat is not the customer's any more, the next one is looked up."""
-        seat = ticket.seat or self._seat or self._take_seat(deadline)
-        ticket.seat = seat
-        redis, keys = self._client.shard(seat.shard)
-        names = [keys.asked(ticket.session), keys.seats, keys.frames]
-        limits = [MOST_ENTRIES, MOST_BYTES, SECONDS_REMEMBERED]
-        arguments = [ticket.number, seat.owned_by(self.name), seat.tenant, ticket.stream, *limits]
-        what, *entry = scripts.ASK.patiently(redis, names, arguments, deadline)
+        """Sends a call until it is taken, or is not taken for ever: a NotTaken then."""
+        pause = _PAUSE
+        while ticket.place is None:
+            seat = ticket.seat = ticket.seat or self._seat or self._take_seat(deadline, ticket)
+            why = self._send_to(ticket, seat, deadline)
+            if not why:
+                continue
+            if self._system.now() + pause > deadline:
+                self._give_up(ticket, seat, why)
+                return
+            self._system.sleep(pause)
+            pause = min(2 * pause, _LONGEST_PAUSE)
+
+    def _send_to(self, ticket: Ticket, seat: Seat, deadline: float) -> str:
+        """Sends a call once; what has no room just now is told."""
+        redis, keys = self._shard(seat.shard, deadline)
+        used = [keys.seats, keys.frames(seat.tenant), keys.sessions(seat.generation), keys.waiting, keys.lease]
+        session = [ticket.session, ticket.number, seat.owned_by(self.name), seat.shard, seat.tenant]
+        limits = [names.weight(len(ticket.stream)), names.MOST_WAITING, names.MOST_SESSIONS]
+        try:
+            what, *said = scripts.ASK.patiently(redis, used, [*session, ticket.stream, *limits], deadline)
+        except OutOfMemory as error:
+            return f"a call of customer {self.name} is not taken: {error}"
         if what == b"taken":
-            ticket.entry = entry[0]
+            ticket.place = Place.read(said[0])
         elif what == b"seat":
             # It was not taken there, and won't be.
             ticket.seat = self._seat = None
-            self._take_seat(deadline)
         elif what == b"full":
-            self._pause(deadline, f"the stream of shard {seat.shard} is full: its worker is behind")
+            return f"customer {self.name} has as many calls waiting as one may have: the worker of shard {seat.shard} is behind"
+        elif what == b"sessions":
+            raise NotTaken(f"customer {self.name} has {names.MOST_SESSIONS} sessions", ticket)
+        elif what == b"given up":
+            raise NotTaken(f"call {ticket.number} of customer {self.name} was given up", ticket)
         else:
-            raise ShardError(f"call {ticket.number} of customer {self.name} was passed by a later one of its session")
+            raise ShardError(f"call {ticket.number} of customer {self.name} was passed by call {int(said[0])} of its session")
+        return ""
 
-    def _unknown(self, away: Away) -> NoReply:
-        return NoReply(f"it is not known whether a call of customer {self.name} was taken: {away}")
+    def _give_up(self, ticket: Ticket, seat: Seat, why: str) -> None:
+        """Makes sure that a call is not taken later, when something of it is still on its way to the server."""
+        deadline = self._system.now() + _SECONDS_TO_LOOK
+        redis, keys = self._shard(seat.shard, deadline)
+        used = [keys.sessions(seat.generation), keys.lease]
+        what, *said = scripts.GIVE_UP.patiently(redis, used, [ticket.session, ticket.number], deadline)
+        if what == b"taken":
+            ticket.place = Place.read(said[0])
+        else:
+            raise NotTaken(why, ticket)
 
-    def _pause(self, deadline: float, why: str) -> None:
-        if time.monotonic() + _PAUSE > deadline:
-            raise NotTaken(why)
-        time.sleep(_PAUSE)
-
-    def _take_seat(self, deadline: float) -> Seat:
+    def _take_seat(self, deadline: float, ticket: Ticket | None) -> Seat:
         """The customer's seat by the directory. While the customer is moved there is none, and this waits."""
+        pause = _PAUSE
         while True:
-            seat = patiently(lambda: self._client.directory.place(self.name), deadline)
-            redis, keys = self._client.shard(seat.shard)
-            arguments = [seat.tenant, seat.generation, seat.owned_by(self.name)]
-            if scripts.CLAIM.patiently(redis, [keys.seats], arguments, deadline):
+            seat = self._client.redis.patiently(lambda redis: Directory(redis, self._client.prefix).place(self.name), deadline)
+            # A shard may have come to another server since it was last looked for.
+            self._at.pop(seat.shard, None)
+            redis, keys = self._shard(seat.shard, deadline)
+            claim = [seat.tenant, seat.generation, seat.owned_by(self.name)]
+            if scripts.CLAIM.patiently(redis, [keys.seats], claim, deadline):
                 self._seat = seat
                 return seat
-            self._pause(deadline, f"customer {self.name} is being moved")
+            if self._system.now() + pause > deadline:
+                raise NotTaken(f"customer {self.name} is being moved", ticket)
+            self._system.sleep(pause)
+            pause = min(2 * pause, _LONGEST_PAUSE)
 
-    def _replies(self, seat: Seat, entry: bytes, deadline: float) -> list[bytes]:
-        redis, keys = self._client.shard(seat.shard)
+    # Waiting.
+
+    def _replies(self, ticket: Ticket, place: Place, deadline: float) -> list[bytes]:
+        redis, keys = self._shard(place.shard, deadline)
+        name, behind = keys.replies(place.tenant), before(place.entry)
+
+        def give_up(away: Away) -> Exception:
+            return NoReply(f"customer {self.name} waits for a reply: {away}", ticket)
+
         while True:
-            left = max(0.001, deadline - time.monotonic())
+            wait = min(_SECONDS_TO_LOOK, deadline - self._system.now())
             # The first reply behind the last id below this one is this one's, since there is one for each.
-            found = patiently(lambda: entries_behind(redis, keys.replies, before(entry), 1, left), deadline, self._no_reply)
-            if found and found[0][0] == entry:
-                return self._said(found[0][1])
-            last = patiently(lambda: last_id(redis, keys.replies), deadline, self._no_reply)
-            if found or order(last) >= order(entry):
-                if not found:
-                    continue
-                raise ReplyGone(f"the replies to entry {entry.decode()} of shard {seat.shard} were dropped: nobody read them in time")
-            if time.monotonic() >= deadline:
-                raise NoReply(f"shard {seat.shard} has not answered entry {entry.decode()}: does its worker run?")
+            found = redis.patiently(lambda limited: limited.xread({name: behind}, 1, wait), deadline, give_up).get(name)
+            if found and found[0][0] == place.entry:
+                return self._said(found[0][1], ticket)
+            if found:
+                raise redis.patiently(lambda limited: self._gone(limited, keys, place, ticket), deadline, give_up)
+            redis.patiently(lambda limited: self._demand_hope(limited, keys, place, ticket), deadline, give_up)
+            if self._system.now() >= deadline:
+                raise NoReply(f"shard {place.shard} has not answered entry {place.entry.decode()}: does its worker run?", ticket)
 
-    def _no_reply(self, away: Away) -> NoReply:
-        return NoReply(f"customer {self.name} waits for a reply: {away}")
-
-    def _said(self, fields: dict[bytes, bytes]) -> list[bytes]:
+    def _said(self, fields: dict[bytes, bytes], ticket: Ticket) -> list[bytes]:
         if FAULT in fields:
-            raise ShardError(fields[FAULT].decode(errors="replace"))
+            raise NotDone(fields[FAULT].decode(errors="replace"), ticket)
         return split(fields[REPLIES])
+
+    def _gone(self, redis: Redis, keys: ShardKeys, place: Place, ticket: Ticket) -> Exception:
+        """Why there is no reply to an entry, and there are replies to later ones."""
+        entry = f"entry {place.entry.decode()} of shard {place.shard}"
+        if order(redis.dropped_id(keys.replies(place.tenant))) >= order(place.entry):
+            return ReplyGone(f"the replies to {entry} were dropped: nobody read them in time", ticket)
+        return NotDone(f"{entry} was dropped from its stream before it was done: its frames were not done, and won't be", ticket)
+
+    def _demand_hope(self, redis: Redis, keys: ShardKeys, place: Place, ticket: Ticket) -> None:
+        """Raises what is wrong where there won't be a reply: the call is set aside, or was dropped."""
+        kept = redis.hget(keys.aside, place.tenant)
+        if kept and order(Aside.read(kept).entry.encode()) <= order(place.entry):
+            raise SetAside(f"customer {self.name} is set aside until an operator has looked: {Aside.read(kept).why}", ticket)
+        is_dropped = order(redis.dropped_id(keys.frames(place.tenant))) >= order(place.entry)
+        if is_dropped and order(redis.last_id(keys.replies(place.tenant))) < order(place.entry):
+            raise self._gone(redis, keys, place, ticket)
 
 
 class CustomersTenant(Tenant):

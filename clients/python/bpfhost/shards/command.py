@@ -1,9 +1,9 @@
-"""The command `python3 -m bpfhost.shards`: a worker of a shard, calls of a customer, moves, and who is where.
+"""The command `python3 -m bpfhost.shards`: a worker of a shard, calls of a customer, moves, and an operator's words.
 
-Its status is 0 where all went well; 1 where an input is refused, a customer can't be moved or a stream can't be written; 2 where the words are wrong; 3 where the
-host or Redis does not do its part, memory is refused, a reply does not come, or a package is missing; 4 where the lease on a shard is
-another worker's; 5 where a frame that is played again is answered otherwise, which somebody has to look at. Each error is one
-sentence on standard error.
+Its status is 0 where all went well; 1 where an input is refused, a customer can't be moved, a call is set aside or a stream can't be
+written; 2 where the words are wrong; 3 where the host or Redis does not do its part, a reply does not come, or a package is missing; 4
+where the lease on a shard is another worker's; 5 where the shard is another one than the directory knows, which somebody has to look at.
+Each error is one sentence on standard error.
 """
 
 from __future__ import annotations
@@ -12,27 +12,28 @@ import signal
 import sys
 from argparse import Namespace
 from collections.abc import Callable, Sequence
-from contextlib import closing
+from contextlib import closing, nullcontext
 
 from bpfhost.program import find_program
-from bpfhost.shards import moving
+from bpfhost.shards import moving, operating
 from bpfhost.shards.arguments import parse
 from bpfhost.shards.client import Client
-from bpfhost.shards.connection import connect, last_id, redis_url, told
-from bpfhost.shards.directory import Directory, Seat
-from bpfhost.shards.errors import LeaseHeld, LeaseLost, MemoryRefused, NoReply, RedisError, RepliesDiffer
+from bpfhost.shards.connection import connect
+from bpfhost.shards.errors import LeaseHeld, LeaseLost, MemoryRefused, NoReply, OtherShard, RedisError, SetAside
 from bpfhost.shards.names import ShardKeys
+from bpfhost.shards.settings import Settings
 from bpfhost.shards.snapshot import split
-from bpfhost.shards.worker import Settings, Worker
-from bpfhost.telling import FAILED, GOOD, status_of
+from bpfhost.shards.worker import Worker
+from bpfhost.telling import FAILED, GOOD, REFUSED, status_of
 
-NO_LEASE, DIFFERENT = 4, 5
+NO_LEASE, OTHER = 4, 5
 _STATUSES: dict[type[Exception], int] = {
     LeaseHeld: NO_LEASE,
     LeaseLost: NO_LEASE,
-    RepliesDiffer: DIFFERENT,
+    OtherShard: OTHER,
     RedisError: FAILED,
     MemoryRefused: FAILED,
+    SetAside: REFUSED,
     NoReply: FAILED,
 }
 
@@ -40,16 +41,13 @@ _STATUSES: dict[type[Exception], int] = {
 def main(words: Sequence[str] | None = None) -> int:
     """Runs the command with these words, or those of the process, and gives its status."""
     said = parse(words)
-    runs: dict[str, Callable[[Namespace], None]] = {
-        "worker": run_worker,
-        "client": run_client,
-        "move": run_move,
-        "remove": run_remove,
-        "show": run_show,
-    }
 
     def run() -> int:
-        runs[said.word](said)
+        if said.word == "worker":
+            run_worker(said)
+        else:
+            with Client(said.redis, said.prefix) as client:
+                _RUNS[said.word](client, said)
         return GOOD
 
     return status_of("bpfhost.shards", run, _STATUSES)
@@ -64,54 +62,76 @@ def run_worker(said: Namespace) -> None:
 
     for number in (signal.SIGTERM, signal.SIGINT):
         signal.signal(number, stop)
-    with closing(connect(said.directory or said.redis)) as redis:
-        Directory(redis, said.prefix).add_shard(said.shard, redis_url(said.redis) if said.directory else "")
-    settings = Settings(said.lease, said.snapshot_entries, said.keep_replies, demand_durable=not said.volatile)
-    with closing(connect(said.redis)) as redis:
-        worker = Worker(redis, ShardKeys(said.shard, said.prefix), find_program(said.bpfhost), settings, _say)
-        worker.run(lambda: stopped[0])
+    settings = Settings(
+        lease_seconds=said.lease,
+        snapshot_entries=said.snapshot_entries,
+        reply_seconds=said.keep_replies,
+        demand_durable=not said.volatile,
+    )
+    with closing(connect(said.redis)) as redis, closing(connect(said.directory)) if said.directory else nullcontext() as directory:
+        keys = ShardKeys(said.shard, said.prefix)
+        Worker(redis, keys, find_program(said.bpfhost), settings, _say, directory).run(lambda: stopped[0])
 
 
 def _say(sentence: str) -> None:
     print(sentence, file=sys.stderr, flush=True)
 
 
-def run_client(said: Namespace) -> None:
+def run_client(client: Client, said: Namespace) -> None:
     """Sends the frames of standard input, and writes their replies, as `bpfhost serve` does for one tenant."""
     frames = split(sys.stdin.buffer.read())
-    with Client(said.redis, said.prefix) as client:
-        for reply in client.customer(said.name, said.seconds).ask_bytes(frames):
-            sys.stdout.buffer.write(reply)
+    for reply in client.customer(said.name, said.seconds).ask_bytes(frames):
+        sys.stdout.buffer.write(reply)
 
 
-def run_move(said: Namespace) -> None:
+def run_move(client: Client, said: Namespace) -> None:
     """Moves a customer, and says where it is."""
-    with Client(said.redis, said.prefix) as client:
-        print(_place(said.name, moving.move(client, said.name, said.to, said.seconds)))
+    print(operating.place(said.name, moving.move(client, said.name, said.to, said.seconds)))
 
 
-def run_remove(said: Namespace) -> None:
+def run_remove(client: Client, said: Namespace) -> None:
     """Removes a customer."""
-    with Client(said.redis, said.prefix) as client:
-        moving.remove(client, said.name, said.seconds)
+    moving.remove(client, said.name, said.seconds)
 
 
-def run_show(said: Namespace) -> None:
-    """Shows the shards with their customers, and how far each worker is behind."""
-    with Client(said.redis, said.prefix) as client:
-        for shard, load in sorted(client.directory.loads().items()):
-            redis, keys = client.shard(shard)
-            with told():
-                behind = len(redis.xrange(keys.frames, b"(" + last_id(redis, keys.replies), count=_MOST_SHOWN))
-                holder = (redis.get(keys.lease) or b"").decode(errors="replace").partition(" ")[2]
-            waiting = f"{behind} calls" if behind < _MOST_SHOWN else f"{behind} calls or more"
-            print(f"shard {shard}: {load} customers, {waiting} wait, {'served by ' + holder if holder else 'not served'}")
-        for name, seat in sorted(client.directory.customers().items()):
-            print(_place(name, seat))
+def run_abort(client: Client, said: Namespace) -> None:
+    """Takes a move back, and says where the customer is."""
+    print(operating.place(said.name, moving.abort_move(client, said.name, said.seconds)))
 
 
-_MOST_SHOWN = 1000
+def run_word(client: Client, said: Namespace) -> None:
+    """Says a word on what is set aside of a customer."""
+    print(f"{said.name}: {operating.say(client, said.name, said.word, said.seconds)}")
 
 
-def _place(name: str, seat: Seat) -> str:
-    return f"{name}: shard {seat.shard}, tenant {seat.tenant}"
+def run_drain(client: Client, said: Namespace) -> None:
+    """Empties a shard, or offers it again."""
+    if said.undo:
+        client.directory.drain(said.shard, False)
+        return
+    for name, seat in operating.drain(client, said.shard, said.seconds):
+        print(operating.place(name, seat))
+
+
+def run_remove_shard(client: Client, said: Namespace) -> None:
+    """Takes a shard out."""
+    client.directory.remove_shard(said.shard, said.lost)
+
+
+def run_show(client: Client, said: Namespace) -> None:
+    """Shows what there is."""
+    for line in operating.show(client):
+        print(line)
+
+
+_RUNS: dict[str, Callable[[Client, Namespace], None]] = {
+    "client": run_client,
+    "move": run_move,
+    "remove": run_remove,
+    "abort-move": run_abort,
+    "skip": run_word,
+    "retry": run_word,
+    "drain": run_drain,
+    "remove-shard": run_remove_shard,
+    "show": run_show,
+}

@@ -1,64 +1,27 @@
-"""Redis, as shards use it: the calls that they make, what is wrong with it in one sentence, and whether it keeps what it is given.
-
-This is the one module that touches the library redis (of Debian: python3-redis), which has no types.
-"""
+"""Redis, as shards use it: the calls that they make, scripts, and whether it keeps what it is given."""
 
 from __future__ import annotations
 
-import contextlib
 import hashlib
 import os
-import time
-from collections.abc import Callable, Iterator, Sequence
-from typing import Any, Protocol, TypeVar, cast
+import threading
+from collections.abc import Callable, Mapping, Sequence
+from typing import Any, TypeVar
 
-from bpfhost.errors import PACKAGES, MissingPackage
-from bpfhost.shards.errors import RedisError
+from bpfhost.shards.errors import Away, NoScript, RedisError
+from bpfhost.shards.names import START, before
+from bpfhost.shards.system import MACHINE, Link, System, Word
 
 DEFAULT_URL = "redis://127.0.0.1:6379/0"
 # A server that does not answer for so many seconds is taken to be away. No call blocks for longer than LONGEST_WAIT.
-_SECONDS_TO_ANSWER, LONGEST_WAIT = 10, 5.0
+_SECONDS_TO_ANSWER, LONGEST_WAIT = 30.0, 5.0
+_LEAST_SECONDS, _SECONDS_FOR_AN_ANSWER = 0.25, 0.2
 _PAUSE, _LONGEST_PAUSE = 0.01, 0.25
+# Flags of scripts are known from this version on.
+_LEAST_VERSION = (7, 0)
 
-Argument = bytes | str | int
 Entry = tuple[bytes, dict[bytes, bytes]]
 Answer = TypeVar("Answer")
-
-
-class Redis(Protocol):
-    """The calls of redis.Redis that are made here. Bytes come back as bytes."""
-
-    def evalsha(self, sha: str, numkeys: int, *keys_and_args: object) -> Any: ...
-    def script_load(self, script: str) -> Any: ...
-    def xread(self, streams: dict[str, bytes], count: int | None = None, block: int | None = None) -> Any: ...
-    def xrange(self, name: str, min: bytes | str = "-", max: bytes | str = "+", count: int | None = None) -> list[Entry]: ...
-    def xlen(self, name: str) -> int: ...
-    def xinfo_stream(self, name: str) -> dict[str, Any]: ...
-    def get(self, name: str) -> bytes | None: ...
-    def set(self, name: str, value: Argument, nx: bool = False, px: int | None = None) -> Any: ...
-    def pttl(self, name: str) -> int: ...
-    def exists(self, name: str) -> int: ...
-    def hget(self, name: str, key: Argument) -> bytes | None: ...
-    def hset(self, name: str, key: Argument, value: Argument) -> int: ...
-    def hdel(self, name: str, *keys: Argument) -> int: ...
-    def hgetall(self, name: str) -> dict[bytes, bytes]: ...
-    def zadd(self, name: str, mapping: dict[str, float], nx: bool = False) -> Any: ...
-    def zrange(self, name: str, start: int, end: int, withscores: bool = False) -> Any: ...
-    def config_get(self, pattern: str) -> dict[str, str]: ...
-    def execute_command(self, *words: object) -> Any: ...
-    def close(self) -> None: ...
-
-
-class Away(RedisError):
-    """Redis can't be reached just now, or is reading its files; whether it did what it was last asked is not known."""
-
-
-def _library() -> Any:
-    try:
-        import redis  # type: ignore[import]
-    except ModuleNotFoundError:
-        raise MissingPackage("redis", PACKAGES["redis"]) from None
-    return redis
 
 
 def redis_url(url: str | None = None) -> str:
@@ -66,93 +29,185 @@ def redis_url(url: str | None = None) -> str:
     return url or os.environ.get("BPFHOST_REDIS") or DEFAULT_URL
 
 
-def connect(url: str | None = None) -> Redis:
-    """The Redis of a URL (`redis_url`)."""
-    library = _library()
-    where = redis_url(url)
-    try:
-        made = library.Redis.from_url(where, socket_timeout=_SECONDS_TO_ANSWER)
-    except ValueError as error:
-        raise RedisError(f"{where} is no URL of a Redis: {error}") from None
-    return cast(Redis, made)
+class _Links:
+    """The connections to a server that nobody uses just now."""
 
+    def __init__(self, system: System, url: str) -> None:
+        self._system, self._url = system, url
+        self._idle: list[Link] = [system.link(url)]
+        self._lock = threading.Lock()
 
-@contextlib.contextmanager
-def told() -> Iterator[None]:
-    """Makes errors of the library errors of this package: an Away where the server is, and a RedisError else."""
-    library = _library()
-    try:
-        yield
-    except (library.exceptions.ConnectionError, library.exceptions.TimeoutError, OSError) as error:
-        raise Away(f"Redis can't be reached: {error}") from error
-    except library.exceptions.RedisError as error:
-        raise RedisError(f"Redis refuses a command: {error}") from error
-
-
-def patiently(call: Callable[[], Answer], deadline: float, give_up: Callable[[Away], Exception] | None = None) -> Answer:
-    """Calls again while Redis is away, until a time of `time.monotonic`; what is called must be right to do twice."""
-    pause = _PAUSE
-    while True:
+    def call(self, words: Sequence[Word], seconds: float) -> Any:
+        with self._lock:
+            link = self._idle.pop() if self._idle else None
+        link = link or self._system.link(self._url)
         try:
-            with told():
-                return call()
-        except Away as away:
-            if time.monotonic() + pause > deadline:
-                raise (give_up(away) if give_up else away) from None
-        time.sleep(pause)
-        pause = min(2 * pause, _LONGEST_PAUSE)
+            return link.call(words, seconds)
+        finally:
+            with self._lock:
+                self._idle.append(link)
+
+    def close(self) -> None:
+        with self._lock:
+            links, self._idle = self._idle, []
+        for link in links:
+            link.close()
+
+
+class Redis:
+    """A server. Threads may share it: each call has a connection for itself. Bytes come back as bytes."""
+
+    def __init__(self, url: str | None = None, system: System = MACHINE) -> None:
+        """The server of a URL (`redis_url`), to which a connection is made when it is first called."""
+        self.url, self.system = redis_url(url), system
+        self._links = _Links(system, self.url)
+        self._deadline: float | None = None
+
+    def until(self, deadline: float) -> Redis:
+        """The same server, whose calls end at a time of the system's clock."""
+        limited = object.__new__(Redis)
+        limited.url, limited.system, limited._links, limited._deadline = self.url, self.system, self._links, deadline
+        return limited
+
+    def close(self) -> None:
+        """Ends the connections."""
+        self._links.close()
+
+    def call(self, *words: Word, wait: float = 0.0) -> Any:
+        """The answer to a command, which may block for so many seconds. An Away where the server can't be reached in time."""
+        seconds = wait + _SECONDS_TO_ANSWER
+        if self._deadline is not None:
+            seconds = max(_LEAST_SECONDS, min(seconds, self._deadline - self.system.now()))
+        return self._links.call(words, seconds)
+
+    def patiently(
+        self, call: Callable[[Redis], Answer], deadline: float, give_up: Callable[[Away], Exception] | None = None
+    ) -> Answer:
+        """Calls again while the server is away, until a time of the system's clock; what is called must be right to do twice."""
+        pause = _PAUSE
+        while True:
+            try:
+                return call(self.until(deadline))
+            except Away as away:
+                if self.system.now() + pause > deadline:
+                    raise (give_up(away) if give_up else away) from None
+            self.system.sleep(pause)
+            pause = min(2 * pause, _LONGEST_PAUSE)
+
+    # Commands, by their names.
+
+    def hget(self, name: str, field: Word) -> bytes | None:
+        found: bytes | None = self.call("HGET", name, field)
+        return found
+
+    def hset(self, name: str, field: Word, value: Word) -> None:
+        self.call("HSET", name, field, value)
+
+    def hdel(self, name: str, *fields: Word) -> None:
+        self.call("HDEL", name, *fields)
+
+    def get(self, name: str) -> bytes | None:
+        found: bytes | None = self.call("GET", name)
+        return found
+
+    def delete(self, name: str) -> None:
+        self.call("DEL", name)
+
+    def hgetall(self, name: str) -> dict[bytes, bytes]:
+        return _pairs(self.call("HGETALL", name))
+
+    def hkeys(self, name: str) -> list[bytes]:
+        return list(self.call("HKEYS", name))
+
+    def xlen(self, name: str) -> int:
+        return int(self.call("XLEN", name))
+
+    def xrange(self, name: str, least: bytes, most: bytes, many: int) -> list[Entry]:
+        """Entries from one id up to another one, at most so many; a `(` before an id leaves it out."""
+        return _entries(self.call("XRANGE", name, least, most, "COUNT", many))
+
+    def xread(self, places: Mapping[str, bytes], many: int, wait: float) -> dict[str, list[Entry]]:
+        """Entries of streams behind places, at most so many of each; waits so many seconds where there is none."""
+        wait = min(wait, LONGEST_WAIT)
+        if self._deadline is not None:
+            # The server answers before the call is given up.
+            left = self._deadline - self.system.now()
+            wait = min(wait, left - min(_SECONDS_FOR_AN_ANSWER, left / 2))
+        block: list[Word] = ["BLOCK", max(1, int(wait * 1000))] if wait > 0 else []
+        found = self.call("XREAD", "COUNT", many, *block, "STREAMS", *places, *places.values(), wait=max(0.0, wait))
+        return {name.decode(): _entries(entries) for name, entries in found or []}
+
+    def stream(self, name: str) -> dict[bytes, Any]:
+        """What is told of a stream: nothing where there is none."""
+        return _pairs(self.call("XINFO", "STREAM", name)) if self.call("EXISTS", name) else {}
+
+    def last_id(self, name: str) -> bytes:
+        """The id of the last entry that a stream was ever given."""
+        return bytes(self.stream(name).get(b"last-generated-id", b"0-0"))
+
+    def dropped_id(self, name: str) -> bytes:
+        """An id up to which no entry of a stream is there any more, though some were; 0-0 where nothing was dropped."""
+        said = self.stream(name)
+        if said.get(b"length") == said.get(b"entries-added"):
+            return START
+        return bytes(said[b"last-generated-id"]) if not said[b"length"] else before(bytes(said[b"recorded-first-entry-id"]))
+
+
+def _pairs(flat: Sequence[Any]) -> dict[bytes, Any]:
+    return dict(zip(flat[::2], flat[1::2], strict=True))
+
+
+def _entries(found: Sequence[Any]) -> list[Entry]:
+    return [(entry, _pairs(fields)) for entry, fields in found]
+
+
+def connect(url: str | None = None, system: System = MACHINE) -> Redis:
+    """The Redis of a URL (`redis_url`)."""
+    return Redis(url, system)
 
 
 class Script:
     """A script that the server runs as one step: nothing else runs meanwhile, and all of its writes are kept, or none."""
 
-    def __init__(self, text: str) -> None:
-        self.text = text
-        self._name = hashlib.sha1(text.encode()).hexdigest()
+    def __init__(self, text: str, without_memory: bool = False) -> None:
+        """`without_memory` is for one that makes room, or needs next to none: it runs also where the server has no memory left."""
+        self.text = f"#!lua{' flags=allow-oom' if without_memory else ''}\n{text}"
+        self._name = hashlib.sha1(self.text.encode()).hexdigest()
 
-    def __call__(self, redis: Redis, keys: Sequence[str], arguments: Sequence[object]) -> Any:
+    def __call__(self, redis: Redis, keys: Sequence[str], arguments: Sequence[Word]) -> Any:
         """What the script gives. A server that has just begun does not know it yet."""
-        missing = _library().exceptions.NoScriptError
         try:
-            return redis.evalsha(self._name, len(keys), *keys, *arguments)
-        except missing:
-            redis.script_load(self.text)
-            return redis.evalsha(self._name, len(keys), *keys, *arguments)
+            return redis.call("EVALSHA", self._name, len(keys), *keys, *arguments)
+        except NoScript:
+            return redis.call("EVAL", self.text, len(keys), *keys, *arguments)
 
     def patiently(
         self,
         redis: Redis,
         keys: Sequence[str],
-        arguments: Sequence[object],
+        arguments: Sequence[Word],
         deadline: float,
         give_up: Callable[[Away], Exception] | None = None,
     ) -> Any:
-        """The same, again while Redis is away (`patiently`)."""
+        """The same, again while Redis is away (`Redis.patiently`)."""
+        
+        def call(limited: Redis) -> Any:
+            return self(limited, keys, arguments)
 
-        def call() -> Any:
-            return self(redis, keys, arguments)
-
-        return patiently(call, deadline, give_up)
-
-
-def last_id(redis: Redis, stream: str) -> bytes:
-    """The id of the last entry that a stream was ever given."""
-    if not redis.exists(stream):
-        return b"0-0"
-    return bytes(redis.xinfo_stream(stream)["last-generated-id"])
-
-
-def entries_behind(redis: Redis, stream: str, place: bytes, many: int, wait: float) -> list[Entry]:
-    """Entries of a stream behind a place, at most so many; waits so many seconds where there is none."""
-    milliseconds = max(1, int(min(wait, LONGEST_WAIT) * 1000))
-    found: list[tuple[bytes, list[Entry]]] = redis.xread({stream: place}, count=many, block=milliseconds)
-    return found[0][1] if found else []
+        return redis.patiently(call, deadline, give_up)
 
 
 def demand_durable(redis: Redis) -> None:
     """A RedisError where the server does not write each change to its disk before it answers, or may drop keys."""
-    wanted = {"appendonly": "yes", "appendfsync": "always", "maxmemory-policy": "noeviction"}
-    for name, value in wanted.items():
-        has = redis.config_get(name).get(name)
-        if has != value:
-            raise RedisError(f"Redis has {name} {has}, and a shard's log needs {value}: else it may lose what it has answered")
+    for name, wanted in {"appendonly": "yes", "appendfsync": "always", "maxmemory-policy": "noeviction"}.items():
+        has = dict(_pairs(redis.call("CONFIG", "GET", name))).get(name.encode(), b"").decode()
+        if has != wanted:
+            raise RedisError(f"Redis has {name} {has}, and a shard's log needs {wanted}: else it may lose what it has answered")
+
+
+def demand_version(redis: Redis) -> None:
+    """A RedisError where the server is too old for flags of scripts."""
+    lines = bytes(redis.call("INFO", "server")).decode().splitlines()
+    version = next((line.partition(":")[2] for line in lines if line.startswith("redis_version:")), "0.0")
+    if tuple(map(int, version.split(".")[:2])) < _LEAST_VERSION:
+        raise RedisError(f"Redis is of version {version}, and shards need one from 7.0 on")

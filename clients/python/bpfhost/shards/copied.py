@@ -11,16 +11,18 @@ from __future__ import annotations
 from collections.abc import Iterable, Iterator
 
 from bpfhost import frames
-from bpfhost.host import Host
 from bpfhost.numbers import FIRST_DESCRIPTOR, MOST_DESCRIPTORS, MOST_MAPS, SOCKET_FILTER, Command
 from bpfhost.program import Program
 from bpfhost.replies import Reply
-from bpfhost.shards.errors import ShardError
-from bpfhost.shards.snapshot import Pairs, read_pairs
+from bpfhost.shards.errors import CopyDiffers
+from bpfhost.shards.parts import in_parts
+from bpfhost.shards.snapshot import Pairs, Steps, read_pairs
+from bpfhost.shards.system import MACHINE, System
 from bpfhost.shards.tenancy import BODY, LiveMap, OpenProgram, Tenancy, command_of, status_of
 from bpfhost.slots import renamed_maps
 
 _MOST_PROGRAMS = MOST_DESCRIPTORS - MOST_MAPS
+_PLAYED_IN_A_STEP = 400
 _OF_MAPS = (Command.MAP_UPDATE_ELEM, Command.MAP_DELETE_ELEM)
 
 # A frame and the reply that it has to have, but for the tenant.
@@ -30,8 +32,8 @@ Asked = tuple[bytes, bytes]
 class Copy:
     """The copy of one tenant, on a host of its own. It is a context manager, which ends the host."""
 
-    def __init__(self, program: Program) -> None:
-        self._host = Host(program, 1)
+    def __init__(self, program: Program, system: System = MACHINE) -> None:
+        self._host = system.host(program, 1)
         self._tenancy = Tenancy()
         self._numbers: dict[LiveMap | OpenProgram, int] = {}
 
@@ -41,26 +43,22 @@ class Copy:
     def __exit__(self, *_error: object) -> None:
         self._host.kill()
 
-    def play(self, played: Iterable[Asked]) -> None:
+    def play(self, played: Iterable[Asked]) -> Steps[None]:
         """Plays frames that were answered by these replies; a ShardError where the copy answers otherwise."""
-        wanted: list[bytes] = []
+        for part in in_parts(played, lambda _: 1, _PLAYED_IN_A_STEP):
+            sent = [asked for frame, reply in part for asked in self._frames_here(frame, reply)]
+            answers = self._host.ask_bytes(frame for frame, _ in sent)
+            for (_, wanted), reply in zip(sent, answers, strict=True):
+                if reply[6:] != wanted[6:]:
+                    raise CopyDiffers(f"the copy of a tenant answers {reply[:60].hex()} where the customer has {wanted[:60].hex()}")
+            yield
 
-        def sent() -> Iterator[bytes]:
-            for frame, reply in played:
-                for here, answer in self._frames_here(frame, reply):
-                    wanted.append(answer)
-                    yield here
-
-        for at, reply in enumerate(self._host.ask_bytes(sent())):
-            if reply[6:] != wanted[at][6:]:
-                raise ShardError(f"the copy of a tenant answers {reply[:60].hex()} where the customer has {wanted[at][:60].hex()}")
-
-    def pairs(self, tenancy: Tenancy) -> dict[LiveMap, Pairs]:
+    def pairs(self, tenancy: Tenancy) -> Steps[dict[LiveMap, Pairs]]:
         """What is in each live map of the tenant, which has played the same frames."""
         theirs, ours = tenancy.live(), self._tenancy.live()
-        read = read_pairs(self._host, 0, {on: self._numbers[on] for on in ours})
+        read = yield from read_pairs(self._host, 0, {on: self._numbers[on] for on in ours})
         if [on.body for on in theirs] != [on.body for on in ours]:
-            raise ShardError("the copy of a tenant has other maps than the tenant")
+            raise CopyDiffers("the copy of a tenant has other maps than the tenant")
         return {on: read[same] for on, same in zip(theirs, ours)}
 
     def _frames_here(self, frame: bytes, reply: bytes) -> Iterator[Asked]:

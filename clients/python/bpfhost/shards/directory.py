@@ -5,9 +5,9 @@ from __future__ import annotations
 from dataclasses import dataclass
 
 from bpfhost.numbers import MOST_TENANTS
-from bpfhost.shards import scripts
-from bpfhost.shards.connection import Redis, told
-from bpfhost.shards.errors import MoveError, NotTaken, ShardError
+from bpfhost.shards import directory_scripts as scripts
+from bpfhost.shards.connection import Redis
+from bpfhost.shards.errors import MoveError, NotTaken, OtherShard, ShardError
 from bpfhost.shards.names import PREFIX, DirectoryKeys
 
 # The highest number of a shard.
@@ -16,7 +16,8 @@ NOWHERE = b"nowhere"
 _WHY = {
     b"no shards": "no shard is there: no worker has begun yet",
     b"no shard": "there is no such shard",
-    b"full": f"no shard has room: each has {MOST_TENANTS} customers",
+    b"full": f"no shard has room: the least loaded one has {MOST_TENANTS} customers",
+    b"not served": "no shard that may have it is served",
     b"unknown": "the customer is not in the directory",
     b"no other": "there is no other shard",
     b"here": "the customer is there already",
@@ -42,47 +43,105 @@ class Seat:
 
     def owned_by(self, name: str) -> bytes:
         """What the shard's seats say while it is this customer's."""
-        return b"%d %s" % (self.generation, name.encode())
+        return b"%d name:%s" % (self.generation, name.encode())
 
 
 class Directory:
     """The directory in a Redis."""
 
     def __init__(self, redis: Redis, prefix: str = PREFIX) -> None:
-        self._redis, self._keys = redis, DirectoryKeys(prefix)
+        self.redis, self.keys = redis, DirectoryKeys(prefix)
 
-    def add_shard(self, shard: int, server: str = "") -> None:
-        """Makes a shard known, and the URL of its Redis where that is another one; twice is once. A ShardError where it is no number."""
+    def until(self, deadline: float) -> Directory:
+        """The same, whose calls end at a time of the system's clock."""
+        return Directory(self.redis.until(deadline), self.keys.prefix)
+
+    # Shards.
+
+    def register(self, shard: int, incarnation: bytes, server: str = "") -> None:
+        """Makes a shard known, by the name that was made with it, and the URL of its Redis where that is another one; twice is once.
+
+        A ShardError where it is no number, an OtherShard where the directory knows it by another name.
+        """
         demand_shard(shard)
-        with told():
-            if server:
-                self._redis.hset(self._keys.servers, shard, server)
-            self._redis.zadd(self._keys.loads, {str(shard): 0}, nx=True)
+        keys = [self.keys.loads, self.keys.incarnations, self.keys.servers]
+        known = scripts.REGISTER(self.redis, keys, [shard, incarnation, server])
+        if known != incarnation:
+            raise OtherShard(_OTHER.format(shard=shard))
+
+    def incarnation(self, shard: int) -> bytes | None:
+        """The name that was made with a shard, or None where it is not known."""
+        return self.redis.hget(self.keys.incarnations, shard)
+
+    def beat(self, shard: int, incarnation: bytes) -> None:
+        """Says that a shard is served, so it is offered; an OtherShard where the directory does not know it by this name."""
+        if not scripts.BEAT(self.redis, [self.keys.incarnations, self.keys.beats], [shard, incarnation]):
+            raise OtherShard(_OTHER.format(shard=shard))
+
+    def withdraw(self, shard: int, count: bytes = b"") -> None:
+        """Says that a shard is not served any more, if its count is still the one that was seen."""
+        scripts.WITHDRAW(self.redis, [self.keys.beats], [shard, count])
+
+    def beats(self) -> dict[int, bytes]:
+        """The shards that are served, with the counts that their workers raise."""
+        return {int(shard): count for shard, count in self.redis.hgetall(self.keys.beats).items()}
+
+    def drain(self, shard: int, is_drained: bool = True) -> None:
+        """Offers a shard to no customer any more, or again. A ShardError where it is not known."""
+        if shard not in self.loads():
+            raise ShardError(f"the directory knows no shard {shard}")
+        if is_drained:
+            self.redis.hset(self.keys.drained, shard, "1")
+        else:
+            self.redis.hdel(self.keys.drained, shard)
+
+    def drained(self) -> set[int]:
+        """The shards that are offered to no customer."""
+        return {int(shard) for shard in self.redis.hkeys(self.keys.drained)}
+
+    def remove_shard(self, shard: int, lost: bool = False) -> None:
+        """Takes a shard out that has no customers, or whose customers are lost. A ShardError where that can't be."""
+        keys = [*self.keys.all, self.keys.incarnations, self.keys.servers]
+        what = scripts.REMOVE_SHARD(self.redis, keys, [shard, "lost" if lost else ""])
+        if what != b"removed":
+            raise ShardError(f"shard {shard} can't be removed: {_WHY_NOT_REMOVED[what]}")
 
     def server(self, shard: int) -> str:
         """The URL of a shard's Redis, or nothing where it is that of the directory."""
-        with told():
-            return (self._redis.hget(self._keys.servers, shard) or b"").decode()
+        return (self.redis.hget(self.keys.servers, shard) or b"").decode()
+
+    def loads(self) -> dict[int, int]:
+        """How many customers each shard has, those on the way to it included."""
+        found = self.redis.call("ZRANGE", self.keys.loads, 0, -1, "WITHSCORES")
+        return {int(shard): int(float(load)) for shard, load in zip(found[::2], found[1::2])}
+
+    # Customers.
 
     def place(self, name: str) -> Seat:
         """The seat of a customer, which is given one if it has none; a NotTaken where there is no room."""
-        with told():
-            seat, *why = scripts.PLACE(self._redis, self._keys.all, [name])
+        seat, *why = scripts.PLACE(self.redis, self.keys.all, [name])
         if not seat:
             raise NotTaken(f"customer {name}: {_WHY[why[0]]}")
         return Seat.read(seat)
 
     def seat(self, name: str) -> Seat | None:
         """The seat of a customer, or None."""
-        with told():
-            seat = self._redis.hget(self._keys.customers, name)
+        seat = self.redis.hget(self.keys.customers, name)
         return Seat.read(seat) if seat else None
+
+    def customers(self) -> dict[str, Seat]:
+        """All customers."""
+        return {name.decode(): Seat.read(seat) for name, seat in self.redis.hgetall(self.keys.customers).items()}
+
+    def moves(self) -> dict[str, Seat | None]:
+        """The customers that are being moved, and their next seats; None where they are removed."""
+        found = self.redis.hgetall(self.keys.moves)
+        return {name.decode(): None if seat == NOWHERE else Seat.read(seat) for name, seat in found.items()}
 
     def begin_move(self, name: str, shard: int | None = None, removed: bool = False) -> tuple[Seat, Seat | None]:
         """The seat of a customer, and the next one, which is reserved, or None where it is removed. Twice is once."""
-        with told():
-            words = [name, "" if shard is None else shard, NOWHERE if removed else b""]
-            seat, what = scripts.BEGIN_MOVE(self._redis, self._keys.all, words)
+        words = [name, "" if shard is None else shard, NOWHERE if removed else b""]
+        seat, what = scripts.BEGIN_MOVE(self.redis, self.keys.all, words)
         if not seat:
             raise MoveError(f"customer {name} can't be moved: {_WHY[what]}")
         if removed and what != NOWHERE:
@@ -93,20 +152,28 @@ class Directory:
 
     def end_move(self, name: str, seat: Seat, next_seat: Seat | None) -> None:
         """Gives the customer its next seat, and frees the old one, if this move has not ended. Twice is once."""
-        with told():
-            scripts.END_MOVE(self._redis, self._keys.all, [name, seat.text(), next_seat.text() if next_seat else NOWHERE])
+        scripts.END_MOVE(self.redis, self.keys.all, [name, seat.text(), next_seat.text() if next_seat else NOWHERE])
 
-    def customers(self) -> dict[str, Seat]:
-        """All customers."""
-        with told():
-            found = self._redis.hgetall(self._keys.customers)
-        return {name.decode(): Seat.read(seat) for name, seat in found.items()}
+    def turn_move(self, name: str, seat: Seat, next_seat: Seat | None) -> Seat | None:
+        """Turns the move of a customer that has left its seat back to the same shard, and gives the next seat there. Where the move is
+        another one by now, that one's next seat."""
+        words = [name, seat.text(), next_seat.text() if next_seat else NOWHERE]
+        given, why = scripts.TURN_MOVE(self.redis, self.keys.all, words)
+        if why:
+            raise MoveError(f"customer {name} can't go back to shard {seat.shard}: it is full")
+        return Seat.read(given) if given and given != NOWHERE else None
 
-    def loads(self) -> dict[int, int]:
-        """How many customers each shard has, those on the way to it included."""
-        with told():
-            found = self._redis.zrange(self._keys.loads, 0, -1, withscores=True)
-        return {int(shard): int(load) for shard, load in found}
+
+_OTHER = (
+    "shard {shard} is not the one that the directory knows: this Redis is another one, or has lost what it had;"
+    " `remove-shard {shard} --lost` gives up what was there"
+)
+_WHY_NOT_REMOVED = {
+    b"unknown": "the directory does not know it",
+    b"served": "it is served: stop its worker first",
+    b"customers": "it has customers: `drain` moves them away",
+    b"moves": "a customer is being moved to it: `abort-move` ends that",
+}
 
 
 def demand_name(name: str) -> str:

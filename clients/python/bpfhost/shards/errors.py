@@ -1,6 +1,13 @@
 """What can go wrong with shards, as exceptions. Each one's text is a plain sentence."""
 
+from __future__ import annotations
+
+from typing import TYPE_CHECKING
+
 from bpfhost.errors import BpfhostError
+
+if TYPE_CHECKING:
+    from bpfhost.shards.tickets import Ticket
 
 
 class ShardError(BpfhostError):
@@ -11,12 +18,32 @@ class RedisError(ShardError):
     """Redis can't be reached, or refuses a command; or it does not keep what it is given."""
 
 
+class Away(RedisError):
+    """Redis can't be reached just now, or is reading its files; whether it did what it was last asked is not known."""
+
+
+class OutOfMemory(RedisError):
+    """Redis has no memory for a command; it has done nothing of it."""
+
+
+class NoScript(RedisError):
+    """Redis does not have a script yet."""
+
+
 class LeaseHeld(ShardError):
     """Another worker serves the shard."""
 
 
 class LeaseLost(ShardError):
-    """The worker's lease ran out, and nothing can be written by it any more."""
+    """Another worker has taken the lease, and nothing can be written by this one any more."""
+
+
+class Stopped(ShardError):
+    """A worker was told to stop while it waited."""
+
+
+class OtherShard(ShardError):
+    """The shard's Redis is not the one that the directory knows, or the directory is not the one that the shard knows."""
 
 
 class RepliesDiffer(ShardError):
@@ -27,16 +54,44 @@ class MemoryRefused(ShardError):
     """The host answered -12 to a frame; such a reply is not written."""
 
 
-class NotTaken(ShardError):
-    """A call is in no stream: no shard has room for a customer, a shard's stream is full, or the customer is being moved."""
+class SnapshotDamaged(ShardError):
+    """The bytes of a snapshot are not those that were written."""
 
 
-class NoReply(ShardError):
+class CopyDiffers(ShardError):
+    """A second copy of a tenant is not as the tenant is."""
+
+
+class StateRefused(ShardError):
+    """The frames of a state are not answered as they have to be: by another build of bpfhost."""
+
+
+class CallError(ShardError):
+    """What is wrong with one call; `ticket` is the call, where one was made: it can be waited for, also later."""
+
+    def __init__(self, sentence: str, ticket: Ticket | None = None) -> None:
+        super().__init__(sentence)
+        self.ticket = ticket
+
+
+class NotTaken(CallError):
+    """A call is in no stream, and will be in none: there is no room, or the customer is being moved."""
+
+
+class NoReply(CallError):
     """No reply came in time. The call may be in its stream; its ticket can be waited for again."""
 
 
-class ReplyGone(ShardError):
+class SetAside(NoReply):
+    """The call, or one before it, is set aside: an operator skips it or tries it again."""
+
+
+class ReplyGone(CallError):
     """The frames of a call were done, and their replies were dropped before anybody read them."""
+
+
+class NotDone(CallError):
+    """A call was dropped from its stream, or skipped by an operator: its frames were not done, and won't be."""
 
 
 class MoveError(ShardError):

@@ -1,6 +1,7 @@
-"""A lease on a shard: one worker serves it, and one that was paused past its lease can write nothing.
+"""A lease on a shard: one worker serves it, and one that was paused past its lease can write nothing once another one has it.
 
-The lease is a key of Redis that expires, by the server's clock alone. Each script that writes for a worker compares the key with the
+The lease is a count that its holder raises. Who wants it watches the count over an interval of its own monotonic clock, and takes it
+where the count stood still; no clock of a server, nor of another machine, is asked. Each script that writes for a worker compares the
 worker's token, in the same step as it writes.
 """
 
@@ -8,81 +9,119 @@ from __future__ import annotations
 
 import os
 import socket
-import time
-import uuid
+from collections.abc import Callable
 
 from bpfhost.shards import scripts
-from bpfhost.shards.connection import Redis, told
-from bpfhost.shards.errors import LeaseHeld, LeaseLost
+from bpfhost.shards.connection import Redis
+from bpfhost.shards.errors import Away, LeaseHeld, LeaseLost, Stopped
 from bpfhost.shards.names import ShardKeys
 
 SECONDS = 5.0
 _LEAST_SECONDS = 0.1
 _PAUSE = 0.02
-# What Redis says of the time that is left to a key that is not there.
-_EXPIRED = -2
+
+# What is seen of a lease: its token and its count, and how long it runs.
+_Seen = tuple[bytes, bytes]
 
 
 class Lease:
     """The lease of a worker on a shard."""
 
     def __init__(self, redis: Redis, keys: ShardKeys, seconds: float = SECONDS) -> None:
-        """A lease that runs for so many seconds from each time that it is renewed."""
+        """A lease that another worker may take where it was not raised for so many seconds."""
         if seconds < _LEAST_SECONDS:
             raise ValueError(f"a lease runs for at least {_LEAST_SECONDS} seconds, and not for {seconds}")
         self._redis, self._keys, self.seconds = redis, keys, seconds
-        self.token = f"{uuid.uuid4()} {socket.gethostname()} process {os.getpid()}"
-        self.milliseconds = int(seconds * 1000)
-        self._renewed = 0.0
+        self._system = redis.system
+        self.token = f"{self._system.fresh()} {socket.gethostname()} process {os.getpid()}"
+        self._raised = 0.0
+        self._is_lost = False
+        self._work_until = 0.0
 
-    def take(self) -> None:
-        """Takes the lease. Where another worker has it, waits until that would run out; a LeaseHeld where it is renewed meanwhile."""
-        holder, until = b"", 0.0
-        while not self._redis.set(self._keys.lease, self.token, nx=True, px=self.milliseconds):
-            found, left = self._redis.get(self._keys.lease) or b"", self._redis.pttl(self._keys.lease)
-            if found == self.token.encode():
-                # It was taken, and the answer was lost.
+    def take(self, is_stopped: Callable[[], bool] = lambda: False) -> None:
+        """Takes the lease. Where another worker has it, waits until that stood still for its time; a LeaseHeld where it was raised
+        meanwhile, and a Stopped where this worker is told to stop."""
+        first: _Seen | None = None
+        seen, since = (b"", b""), 0.0
+        while True:
+            expected = seen if first and self._system.now() >= since else (b"", b"")
+            try:
+                token, count, milliseconds = scripts.TAKE(self._redis, [self._keys.lease], [self.token, self._milliseconds(), *expected])
+            except Away:
+                # Its holder may not have reached it either.
+                first = None
+                raise
+            if token == self.token.encode():
                 break
-            if found and found != holder:
-                holder, until = found, time.monotonic() + left / 1000 + _PAUSE
-            if found and time.monotonic() > until and left != _EXPIRED:
-                raise LeaseHeld(f"shard {self._keys.number} is served by another worker, {_who(found)}, whose lease is renewed")
-            time.sleep(_PAUSE)
-        self._renewed = time.monotonic()
+            if first and (token == first[0] and count != first[1]):
+                raise LeaseHeld(f"shard {self._keys.number} is served by another worker, {_who(token)}, who raises its lease")
+            if not first or token != seen[0]:
+                first = seen = (token, count)
+                since = self._system.now() + max(self.seconds, int(milliseconds) / 1000) + _PAUSE
+            if is_stopped():
+                raise Stopped(f"shard {self._keys.number} was not served: its lease was waited for")
+            self._system.sleep(_PAUSE)
+        self._raised = self._system.now()
+
+    def _milliseconds(self) -> int:
+        return int(self.seconds * 1000)
 
     def keep(self) -> None:
-        """Renews the lease, if a third of its time is gone; a LeaseLost where it ran out."""
-        if time.monotonic() < self._renewed + self.seconds / 3:
-            return
-        now = time.monotonic()
-        with told():
-            kept = scripts.KEEP(self._redis, [self._keys.lease], [self.token, self.milliseconds])
-        if not kept:
+        """Raises the count, if a third of the lease's time is gone; a LeaseLost where the lease is another worker's."""
+        if self._is_lost:
             raise self.lost()
-        self._renewed = now
+        now = self._system.now()
+        if now >= self._raised + self.seconds / 3:
+            since, self._raised = self._raised, now
+            if not scripts.KEEP(self._redis, [self._keys.lease], [self.token, int((now - since) * 1000)]):
+                self._is_lost = True
+                raise self.lost()
+
+    def keep_beside(self, until: Callable[[], bool]) -> None:
+        """Raises the count beside the work until that ends: however long a write takes over a slow link, the lease goes on.
+
+        It ends where the worker has told nothing for a while (`at_work`): one that hangs is not to hold its shard for ever.
+        """
+        while not until():
+            try:
+                if self._system.now() < self._work_until:
+                    self.keep()
+            except Away:
+                pass
+            except LeaseLost:
+                return
+            self._system.sleep(min(self.seconds / 6, 0.5))
+
+    def at_work(self, seconds: float) -> None:
+        """Says that the worker goes on, and may take so many seconds for what it does now."""
+        self._work_until = self._system.now() + seconds
+        if self._is_lost:
+            raise self.lost()
 
     def is_held(self) -> bool:
         """Whether the lease is this worker's."""
-        with told():
-            return self._redis.get(self._keys.lease) == self.token.encode()
+        return self._redis.hget(self._keys.lease, "token") == self.token.encode()
 
-    def renewed(self, when: float) -> None:
-        """Notes that a script has renewed the lease, which was asked at a time of `time.monotonic`."""
-        self._renewed = when
+    def served(self) -> float:
+        """For how many seconds the shard was served, by all its workers."""
+        return int(self._redis.hget(self._keys.lease, "served") or 0) / 1000
 
     def release(self) -> None:
         """Gives the lease back, so that another worker need not wait."""
-        with told():
-            scripts.RELEASE(self._redis, [self._keys.lease], [self.token])
+        scripts.RELEASE(self._redis, [self._keys.lease], [self.token])
 
     def lost(self) -> LeaseLost:
         """What to raise where the lease is not this worker's any more."""
-        with told():
-            holder = self._redis.get(self._keys.lease)
+        holder = self._redis.hget(self._keys.lease, "token")
         now = f"; it is now {_who(holder)}'s" if holder else ""
-        return LeaseLost(f"the lease on shard {self._keys.number} ran out{now}: this worker writes nothing more")
+        return LeaseLost(f"the lease on shard {self._keys.number} is lost{now}: this worker writes nothing more")
 
 
 def _who(token: bytes) -> str:
     """The machine and the process in a token."""
     return token.decode(errors="replace").partition(" ")[2] or "a worker that tells no name"
+
+
+def holder_of(token: bytes | None) -> str:
+    """Who holds a lease, in words, or nothing."""
+    return _who(token) if token else ""

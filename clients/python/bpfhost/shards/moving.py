@@ -1,22 +1,30 @@
-"""Moves a customer to another shard, or removes it. What was begun and did not end is ended by the same call.
+"""Moves a customer to another shard, or removes it. What was begun and did not end is ended by the same call, or by a worker.
 
-The old shard takes back the seat and writes the frames that make the tenant's state; they are kept there until the new shard has
-played them, and the directory then has the new seat. Calls that come in between wait; no other customer is touched.
+The old shard takes back the seat and keeps the frames that make the tenant's state; they are kept there until the new shard has made
+it, and the directory then has the new seat. Calls that come in between wait; no other customer is touched. An arrival that the new
+shard refuses turns the move back: the customer gets a new seat where it was.
 """
 
 from __future__ import annotations
 
-import time
+from collections.abc import Callable
+from dataclasses import dataclass
+from typing import TypeVar
 
 from bpfhost.shards import scripts
+from bpfhost.shards.aside import Aside
 from bpfhost.shards.client import Client
-from bpfhost.shards.connection import last_id, patiently
-from bpfhost.shards.directory import Seat
-from bpfhost.shards.errors import MoveError, NoReply
-from bpfhost.shards.names import order
+from bpfhost.shards.connection import Redis
+from bpfhost.shards.directory import Directory, Seat
+from bpfhost.shards.errors import MoveError, NoReply, SetAside, SnapshotDamaged
+from bpfhost.shards.manifest import Manifest
+from bpfhost.shards.names import FAULT, ShardKeys, before, order
 
 SECONDS = 60.0
-_PAUSE = 0.005
+_PAUSE, _SECONDS_TO_LOOK = 0.005, 1.0
+_AT_ONCE = 500
+
+Answer = TypeVar("Answer")
 
 
 def move(client: Client, name: str, shard: int | None = None, seconds: float = SECONDS) -> Seat:
@@ -24,90 +32,226 @@ def move(client: Client, name: str, shard: int | None = None, seconds: float = S
 
     A MoveError where that can't be, and a NoReply where a worker does not answer in time: then the same call goes on later.
     """
-    deadline = time.monotonic() + seconds
-    seat, next_seat = patiently(lambda: client.directory.begin_move(name, shard), deadline)
+    deadline = client.system.now() + seconds
+    seat, next_seat = _directory(client, deadline, lambda directory: directory.begin_move(name, shard))
     if next_seat is None:
         raise MoveError(f"customer {name} is being removed")
-    if not _has_arrived(client, next_seat, deadline):
-        _leave(client, name, seat, deadline)
-        _arrive(client, seat, next_seat, deadline)
-    _seat(client, name, next_seat, deadline)
-    _forget(client, seat, deadline)
-    patiently(lambda: client.directory.end_move(name, seat, next_seat), deadline)
-    return next_seat
+    return _Move(client, name, seat, deadline).to(next_seat)
 
 
 def remove(client: Client, name: str, seconds: float = SECONDS) -> None:
     """Removes a customer, with all that it has."""
-    deadline = time.monotonic() + seconds
-    seat, _ = patiently(lambda: client.directory.begin_move(name, removed=True), deadline)
-    _leave(client, name, seat, deadline)
-    _forget(client, seat, deadline)
-    patiently(lambda: client.directory.end_move(name, seat, None), deadline)
+    deadline = client.system.now() + seconds
+    seat, _ = _directory(client, deadline, lambda directory: directory.begin_move(name, removed=True))
+    moved = _Move(client, name, seat, deadline)
+    moved.leave()
+    moved.forget()
+    moved.end(None)
 
 
-def _leave(client: Client, name: str, seat: Seat, deadline: float) -> None:
-    """Lets a customer leave its shard, and waits until it has."""
-    redis, keys = client.shard(seat.shard)
-    claim = [seat.tenant, seat.generation, seat.owned_by(name)]
-
-    def leave() -> bytes | None:
-        # A customer that never called has a seat in the directory alone.
-        scripts.CLAIM(redis, [keys.seats], claim)
-        entry: bytes | None = scripts.LEAVE(redis, [keys.seats, keys.frames], claim)
-        return entry
-
-    entry = patiently(leave, deadline)
-    if entry is None:
-        raise MoveError(f"customer {name} can't leave shard {seat.shard}: its seat there is another's")
-    _wait(client, seat.shard, entry, deadline)
+def end_move(client: Client, name: str, seconds: float = SECONDS) -> None:
+    """Ends a move, or a removal, that was begun; nothing where there is none."""
+    moves = client.directory.moves()
+    if name in moves:
+        if moves[name] is None:
+            remove(client, name, seconds)
+        else:
+            move(client, name, None, seconds)
 
 
-def _arrive(client: Client, seat: Seat, next_seat: Seat, deadline: float) -> None:
-    """Gives what has left to the next shard, and waits until it has arrived."""
-    redis, keys = client.shard(seat.shard)
-    stream = patiently(lambda: redis.hget(keys.left, seat.generation), deadline)
-    if stream is None:
-        if _has_arrived(client, next_seat, deadline):
-            # Another one has ended the same move meanwhile.
-            return
-        raise MoveError(f"shard {seat.shard} has no state of generation {seat.generation}, which has left it")
-    redis, keys = client.shard(next_seat.shard)
-    words = [next_seat.tenant, next_seat.generation, stream]
-    entry = scripts.ARRIVE.patiently(redis, [keys.seats, keys.frames], words, deadline)
-    if entry is None:
-        raise MoveError(f"tenant {next_seat.tenant} of shard {next_seat.shard} was given to a later customer")
-    if entry != b"has":
-        _wait(client, next_seat.shard, entry, deadline)
+def abort_move(client: Client, name: str, seconds: float = SECONDS) -> Seat:
+    """Takes back a move that was begun, or a removal, and gives the seat that the customer has then.
+
+    It is a new seat of the shard where the customer was; one that has arrived stays where it is.
+    """
+    deadline = client.system.now() + seconds
+    moves = _directory(client, deadline, lambda directory: directory.moves())
+    seat = _directory(client, deadline, lambda directory: directory.seat(name))
+    if name not in moves or seat is None:
+        raise MoveError(f"customer {name} is not being moved")
+    return _Move(client, name, seat, deadline).turn_back(moves[name])
 
 
-def _has_arrived(client: Client, seat: Seat, deadline: float) -> bool:
-    """Whether the arrival is in the new shard's stream, and then waits until it is done."""
-    redis, keys = client.shard(seat.shard)
-    said = patiently(lambda: redis.hget(keys.seats, seat.tenant), deadline) or b""
-    generation, _, rest = said.partition(b" ")
-    if not generation or int(generation) != seat.generation:
-        return False
-    what, _, entry = rest.partition(b" ")
-    if what == b"arrives":
-        _wait(client, seat.shard, entry, deadline)
-    return True
+def _directory(client: Client, deadline: float, call: Callable[[Directory], Answer]) -> Answer:
+    return client.redis.patiently(lambda redis: call(Directory(redis, client.prefix)), deadline)
 
 
-def _seat(client: Client, name: str, seat: Seat, deadline: float) -> None:
-    redis, keys = client.shard(seat.shard)
-    scripts.SEAT.patiently(redis, [keys.seats], [seat.tenant, seat.generation, seat.owned_by(name)], deadline)
+@dataclass
+class _Refused(Exception):
+    """The new shard refuses what arrives."""
+
+    entry: bytes
+    why: str
 
 
-def _forget(client: Client, seat: Seat, deadline: float) -> None:
-    redis, keys = client.shard(seat.shard)
-    patiently(lambda: redis.hdel(keys.left, seat.generation), deadline)
+class _Move:
+    """A customer on its way from a seat."""
+
+    def __init__(self, client: Client, name: str, seat: Seat, deadline: float) -> None:
+        self._client, self._name, self._seat, self._deadline = client, name, seat, deadline
+        self._redis, self._keys = client.shard(seat.shard, deadline)
+
+    def to(self, next_seat: Seat, turned: str = "") -> Seat:
+        """Goes on until the customer has its next seat; where that is refused, back to the shard where it was, once."""
+        try:
+            if not self._has_arrived(next_seat):
+                self.leave()
+                self._arrive(next_seat)
+        except _Refused as refused:
+            if turned:
+                raise MoveError(f"customer {self._name} is refused by both shards: {turned}; and {refused.why}") from None
+            self._turn(next_seat, refused)
+            raise MoveError(f"customer {self._name} stays on shard {self._seat.shard}: {refused.why}") from None
+        self._give(next_seat)
+        self.forget()
+        self.end(next_seat)
+        return next_seat
+
+    # Leaving.
+
+    def leave(self) -> None:
+        """Lets the customer leave its shard, and waits until it has."""
+        seat, keys = self._seat, self._keys
+        claim = [seat.tenant, seat.generation, seat.owned_by(self._name)]
+
+        def leave(redis: Redis) -> bytes | None:
+            # A customer that never called has a seat in the directory alone.
+            scripts.CLAIM(redis, [keys.seats], claim)
+            entry: bytes | None = scripts.LEAVE(redis, [keys.seats, keys.frames(seat.tenant)], claim)
+            return entry
+
+        entry = self._redis.patiently(leave, self._deadline)
+        if entry is None:
+            raise MoveError(f"customer {self._name} can't leave shard {seat.shard}: its seat there is another's")
+        self._wait(self._redis, keys, seat.tenant, entry)
+
+    def _wait(self, redis: Redis, keys: ShardKeys, tenant: int, entry: bytes) -> dict[bytes, bytes]:
+        """The reply to an entry that says that a tenant leaves or arrives; nothing where that was dropped since."""
+        name, behind = keys.replies(tenant), before(entry)
+        while True:
+            wait = min(_SECONDS_TO_LOOK, self._deadline - self._client.system.now())
+            found = redis.patiently(lambda limited: limited.xread({name: behind}, 1, wait), self._deadline).get(name)
+            if found:
+                return found[0][1] if found[0][0] == entry else {}
+            kept = redis.patiently(lambda limited: limited.hget(keys.aside, tenant), self._deadline)
+            if kept and order(Aside.read(kept).entry.encode()) <= order(entry):
+                raise SetAside(f"customer {self._name} is set aside until an operator has looked: {Aside.read(kept).why}")
+            if self._client.system.now() >= self._deadline:
+                raise NoReply(f"shard {keys.number} has not come to entry {entry.decode()}: does its worker run?")
+
+    # Arriving.
+
+    def _arrive(self, next_seat: Seat) -> None:
+        """Gives what has left to the next shard, and waits until it has arrived; a _Refused where the shard refuses it."""
+        redis, keys = self._client.shard(next_seat.shard, self._deadline)
+        kept = self._redis.patiently(lambda limited: limited.hget(self._keys.left, self._seat.generation), self._deadline)
+        if kept is None:
+            if self._has_arrived(next_seat):
+                # Another one has ended the same move meanwhile.
+                return
+            raise MoveError(f"shard {self._seat.shard} has no state of customer {self._name}, which has left it")
+        try:
+            manifest = self._bring(redis, keys, next_seat, Manifest.read(kept))
+        except SnapshotDamaged as damaged:
+            raise MoveError(f"customer {self._name} can't be moved: {damaged}") from None
+        records = self._redis.patiently(lambda limited: limited.hgetall(self._keys.sessions(self._seat.generation)), self._deadline)
+        used = [keys.seats, keys.frames(next_seat.tenant), keys.sessions(next_seat.generation)]
+        words = [next_seat.tenant, next_seat.generation, manifest.to_bytes(), *(word for pair in records.items() for word in pair)]
+        entry = scripts.ARRIVE.patiently(redis, used, words, self._deadline)
+        if entry is None:
+            raise MoveError(f"tenant {next_seat.tenant} of shard {next_seat.shard} is closed, or was given to a later customer")
+        if entry != b"has":
+            self._demand_made(redis, keys, next_seat, entry)
+
+    def _bring(self, redis: Redis, keys: ShardKeys, next_seat: Seat, manifest: Manifest) -> Manifest:
+        """Copies the pieces of the state to the next shard, under names of this arrival."""
+        arriving = manifest.renamed(arrival(next_seat.generation))
+        for old, new in zip(manifest.names(), arriving.names()):
+            piece = self._redis.patiently(lambda limited: limited.hget(self._keys.pieces, old), self._deadline)
+            if piece is not None:
+                words = [next_seat.tenant, next_seat.generation, new, piece]
+                scripts.BRING.patiently(redis, [keys.seats, keys.pieces], words, self._deadline)
+        return arriving
+
+    def _has_arrived(self, seat: Seat) -> bool:
+        """Whether the arrival is in the new shard's stream, and then waits until it is done."""
+        redis, keys = self._client.shard(seat.shard, self._deadline)
+        said = redis.patiently(lambda limited: limited.hget(keys.seats, seat.tenant), self._deadline) or b""
+        generation, _, rest = said.partition(b" ")
+        what, _, entry = rest.partition(b":")
+        if not generation or int(generation) != seat.generation or what == b"closed":
+            return False
+        if what == b"arrives":
+            self._demand_made(redis, keys, seat, entry)
+        return True
+
+    def _demand_made(self, redis: Redis, keys: ShardKeys, seat: Seat, entry: bytes) -> None:
+        reply = self._wait(redis, keys, seat.tenant, entry)
+        if FAULT in reply:
+            raise _Refused(entry, reply[FAULT].decode(errors="replace"))
+
+    def _give(self, seat: Seat) -> None:
+        redis, keys = self._client.shard(seat.shard, self._deadline)
+        scripts.SEAT.patiently(redis, [keys.seats], [seat.tenant, seat.generation, seat.owned_by(self._name)], self._deadline)
+
+    # The end.
+
+    def forget(self) -> None:
+        """Drops what the old shard has kept."""
+        kept = self._redis.patiently(lambda limited: limited.hget(self._keys.left, self._seat.generation), self._deadline)
+        if kept is not None:
+            _drop_pieces(self._redis, self._keys, Manifest.read(kept), self._deadline)
+        self._redis.patiently(lambda limited: limited.delete(self._keys.sessions(self._seat.generation)), self._deadline)
+        self._redis.patiently(lambda limited: limited.hdel(self._keys.left, self._seat.generation), self._deadline)
+
+    def end(self, next_seat: Seat | None) -> None:
+        """Says it in the directory."""
+        _directory(self._client, self._deadline, lambda directory: directory.end_move(self._name, self._seat, next_seat))
+
+    # Back.
+
+    def turn_back(self, next_seat: Seat | None) -> Seat:
+        """Takes the move back: the customer leaves and comes back, so that no step of the move that is late does anything. One that has
+        arrived is ended."""
+        if next_seat and not self._close(next_seat, b""):
+            return self.to(next_seat)
+        self.leave()
+        if self._redis.patiently(lambda limited: limited.hget(self._keys.left, self._seat.generation), self._deadline) is None:
+            raise MoveError(f"customer {self._name} has left shard {self._seat.shard}, and nothing of it is kept there")
+        again = _directory(self._client, self._deadline, lambda directory: directory.turn_move(self._name, self._seat, next_seat))
+        if again is None:
+            raise MoveError(f"the move of customer {self._name} has ended meanwhile")
+        return self.to(again, "the move was taken back")
+
+    def _turn(self, next_seat: Seat, refused: _Refused) -> None:
+        """Lets the customer come back where it was, after the next shard has refused it."""
+        self._close(next_seat, refused.entry)
+        again = _directory(self._client, self._deadline, lambda directory: directory.turn_move(self._name, self._seat, next_seat))
+        if again:
+            self.to(again, refused.why)
+
+    def _close(self, seat: Seat, entry: bytes) -> bool:
+        """Closes a seat where nobody has arrived, or an entry by which nobody could; whether it is closed."""
+        redis, keys = self._client.shard(seat.shard, self._deadline)
+        words = [seat.tenant, seat.generation, entry]
+        closed = scripts.CLOSE_SEAT.patiently(redis, [keys.seats, keys.sessions(seat.generation)], words, self._deadline)
+        if closed:
+            prefix = arrival(seat.generation).encode() + b":"
+            names = [name for name in redis.patiently(lambda limited: limited.hkeys(keys.pieces), self._deadline) if name.startswith(prefix)]
+            _drop(redis, keys, names, self._deadline)
+        return bool(closed)
 
 
-def _wait(client: Client, shard: int, entry: bytes, deadline: float) -> None:
-    """Waits until a shard has come as far as an entry."""
-    redis, keys = client.shard(shard)
-    while order(patiently(lambda: last_id(redis, keys.replies), deadline)) < order(entry):
-        if time.monotonic() > deadline:
-            raise NoReply(f"shard {shard} has not come to entry {entry.decode()}: does its worker run?")
-        time.sleep(_PAUSE)
+def arrival(generation: int) -> str:
+    """With which the names of pieces begin that arrive at a seat."""
+    return f"arrival-{generation}"
+
+
+def _drop_pieces(redis: Redis, keys: ShardKeys, manifest: Manifest, deadline: float) -> None:
+    _drop(redis, keys, [name.encode() for name in manifest.names()], deadline)
+
+
+def _drop(redis: Redis, keys: ShardKeys, names: list[bytes], deadline: float) -> None:
+    for at in range(0, len(names), _AT_ONCE):
+        some = names[at : at + _AT_ONCE]
+        redis.patiently(lambda limited: limited.hdel(keys.pieces, *some), deadline)

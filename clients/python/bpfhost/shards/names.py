@@ -10,14 +10,15 @@ from dataclasses import dataclass
 
 PREFIX = "bpfhost"
 
-# Fields of an entry of frames: the tenant's number, and what is asked: frames, or that a tenant leaves or arrives.
-TENANT, FRAMES, LEAVES, ARRIVES = b"t", b"f", b"leave", b"arrive"
-# Fields of an entry of replies: replies, or a sentence that says why the entry of frames is none.
+# Fields of an entry of frames, what it asks: frames, or that the tenant leaves or arrives.
+FRAMES, LEAVES, ARRIVES = b"f", b"leave", b"arrive"
+# Fields of an entry of replies: replies, or a sentence that says why there are none.
 REPLIES, FAULT = b"r", b"e"
 
-# A shard's stream of frames has about so many entries and bytes at most: a call that finds more waits. A worker takes a snapshot, which
-# drops them, long before.
-MOST_ENTRIES, MOST_BYTES = 400_000, 1 << 30
+# What one customer may have waiting, in bytes of frames, where a call counts CALL_WEIGHT bytes more. A call more than that waits.
+MOST_WAITING, CALL_WEIGHT = 4 << 20, 1024
+# So many sessions of one customer are remembered.
+MOST_SESSIONS = 1000
 
 # Where no entry is.
 START = b"0-0"
@@ -34,43 +35,67 @@ class ShardKeys:
     def _key(self, what: str) -> str:
         return f"{self.prefix}:{{{self.number}}}:{what}"
 
-    @property
-    def frames(self) -> str:
-        """The stream of frames."""
-        return self._key("frames")
+    def frames(self, tenant: int) -> str:
+        """The stream of a tenant's frames."""
+        return self._key(f"frames:{tenant}")
 
-    @property
-    def replies(self) -> str:
-        """The stream of replies; each has the id of its entry of frames, so the last id is how far the shard has come."""
-        return self._key("replies")
+    def replies(self, tenant: int) -> str:
+        """The stream of a tenant's replies; each has the id of its entry of frames, so the last id is how far the tenant has come."""
+        return self._key(f"replies:{tenant}")
 
     @property
     def lease(self) -> str:
-        """The token of the worker that serves the shard, which expires."""
+        """A hash: the token of the worker that serves the shard, the count that it raises, and for how long the shard was served."""
         return self._key("lease")
 
     @property
     def seats(self) -> str:
-        """A hash from tenant numbers to generations and customers' names."""
+        """A hash from tenant numbers to generations, and who sits there (`Seat`)."""
         return self._key("seats")
 
     @property
-    def snapshot(self) -> str:
-        """A hash with the place of the snapshot, and for each tenant that is not empty the frames that make its state."""
-        return self._key("snapshot")
+    def waiting(self) -> str:
+        """A hash from tenant numbers to the weight of calls that wait."""
+        return self._key("waiting")
 
-    def parts(self, place: bytes) -> str:
-        """A hash with the parts of the snapshot at a place that is too large for one call, while it is written; it expires."""
-        return self._key(f"parts:{place.decode()}")
+    @property
+    def snapshots(self) -> str:
+        """A hash from tenant numbers to the last snapshot, and the one before it (`Manifest`)."""
+        return self._key("snapshots")
+
+    @property
+    def pieces(self) -> str:
+        """A hash with the bytes of snapshots, in pieces."""
+        return self._key("pieces")
 
     @property
     def left(self) -> str:
-        """A hash from generations to the frames that make the state of a customer that has left and not yet arrived."""
+        """A hash from generations to the snapshots of customers that have left and not yet arrived."""
         return self._key("left")
 
-    def asked(self, session: str) -> str:
-        """The number and the entry of a session's last call, which expires."""
-        return self._key(f"asked:{session}")
+    @property
+    def marks(self) -> str:
+        """A hash from tenant numbers to places, with how long the shard had been served then."""
+        return self._key("marks")
+
+    @property
+    def aside(self) -> str:
+        """A hash from tenant numbers to what is set aside, and why."""
+        return self._key("aside")
+
+    @property
+    def words(self) -> str:
+        """A hash from tenant numbers to an operator's words on what is set aside."""
+        return self._key("words")
+
+    @property
+    def incarnation(self) -> str:
+        """A name that was made with the shard, which the directory knows too."""
+        return self._key("incarnation")
+
+    def sessions(self, generation: int) -> str:
+        """A hash from the sessions of a seat's customer to the number and the entry of the last call."""
+        return self._key(f"sessions:{generation}")
 
 
 @dataclass(frozen=True)
@@ -79,10 +104,13 @@ class DirectoryKeys:
 
     prefix: str = PREFIX
 
+    def _key(self, what: str) -> str:
+        return f"{self.prefix}:{{directory}}:{what}"
+
     @property
     def all(self) -> list[str]:
-        """The directory's keys in the order that its scripts have them: customers, loads, numbers, generation, moves."""
-        return [f"{self.prefix}:{{directory}}:{what}" for what in ("customers", "loads", "numbers", "generation", "moves")]
+        """The keys that scripts have, in their order."""
+        return [self._key(what) for what in ("customers", "loads", "numbers", "generation", "moves", "beats", "drained")]
 
     @property
     def customers(self) -> str:
@@ -100,9 +128,24 @@ class DirectoryKeys:
         return self.all[4]
 
     @property
+    def beats(self) -> str:
+        """A hash from the shards that are served to a count that their workers raise."""
+        return self.all[5]
+
+    @property
+    def drained(self) -> str:
+        """A hash of shards that are given no customers."""
+        return self.all[6]
+
+    @property
     def servers(self) -> str:
         """A hash from shards to the URL of their Redis, where that is not the directory's."""
-        return f"{self.prefix}:{{directory}}:servers"
+        return self._key("servers")
+
+    @property
+    def incarnations(self) -> str:
+        """A hash from shards to the names that were made with them."""
+        return self._key("incarnations")
 
 
 def order(entry: bytes) -> tuple[int, int]:
@@ -121,3 +164,8 @@ def after(entry: bytes) -> bytes:
     """The first id above this one."""
     milliseconds, sequence = order(entry)
     return b"%d-%d" % ((milliseconds, sequence + 1) if sequence < _MOST_SEQUENCE else (milliseconds + 1, 0))
+
+
+def weight(stream: int) -> int:
+    """What a call of so many bytes counts while it waits."""
+    return stream + CALL_WEIGHT

@@ -1,28 +1,53 @@
-"""The scripts of shards and of the directory. Redis runs each as one step.
+"""The scripts of a shard. Redis runs each as one step.
 
 Each is right to run twice, and late: what was asked on a connection that was cut may be done after it was asked again on another one.
 """
 
 from bpfhost.shards.connection import Script
 
-# Takes a call: once for each number of a session, while the customer has its seat and the stream has room. Its bytes are looked at
-# for each 64th entry, and none is added to a stream that has too many.
-# KEYS: asked, seats, frames. ARGV: number, seat, tenant, frames, most entries, most bytes, seconds that the number is remembered.
+# A seat's text is its generation and a word: `name:` a customer who has it, `leaves:` or `arrives:` an entry, or `closed:`.
+
+# Takes a call: once for each number of a session, while the customer has its seat and may have more waiting. A record of a session is
+# the number of its last call, how long the shard had been served, and the shard, tenant and entry of the call, or `-` where it is given up.
+# KEYS: seats, frames, sessions, waiting, lease. ARGV: session, number, seat, shard, tenant, frames, weight, most waiting, most sessions.
 ASK = Script("""
-local asked = redis.call('GET', KEYS[1])
-if asked then
-  local number, entry = string.match(asked, '^(%d+) (.+)$')
-  if number == ARGV[1] then return {'taken', entry} end
-  if tonumber(number) > tonumber(ARGV[1]) then return {'passed'} end
+local record = redis.call('HGET', KEYS[3], ARGV[1])
+if record then
+  local number, place = string.match(record, '^(%d+) %d+ (.+)$')
+  if number == ARGV[2] then return {place == '-' and 'given up' or 'taken', place} end
+  if tonumber(number) > tonumber(ARGV[2]) then return {'passed', number} end
 end
-if redis.call('HGET', KEYS[2], ARGV[3]) ~= ARGV[2] then return {'seat'} end
-local entries = redis.call('XLEN', KEYS[3])
-if entries >= tonumber(ARGV[5]) then return {'full'} end
-if entries > 0 and entries % 64 == 0 and redis.call('MEMORY', 'USAGE', KEYS[3]) > tonumber(ARGV[6]) then return {'full'} end
-local entry = redis.call('XADD', KEYS[3], '*', 't', ARGV[3], 'f', ARGV[4])
-redis.call('SET', KEYS[1], ARGV[1] .. ' ' .. entry, 'EX', ARGV[7])
-return {'taken', entry}
+if redis.call('HGET', KEYS[1], ARGV[5]) ~= ARGV[3] then return {'seat'} end
+local waits = tonumber(redis.call('HGET', KEYS[4], ARGV[5]) or '0')
+if waits > 0 and waits + tonumber(ARGV[7]) > tonumber(ARGV[8]) then return {'full'} end
+if not record and redis.call('HLEN', KEYS[3]) >= tonumber(ARGV[9]) then return {'sessions'} end
+local entry = redis.call('XADD', KEYS[2], '*', 'f', ARGV[6])
+local served = redis.call('HGET', KEYS[5], 'served') or '0'
+local place = ARGV[4] .. ' ' .. ARGV[5] .. ' ' .. entry
+redis.call('HINCRBY', KEYS[4], ARGV[5], ARGV[7])
+redis.call('HSET', KEYS[3], ARGV[1], ARGV[2] .. ' ' .. served .. ' ' .. place)
+return {'taken', place}
 """)
+
+# Gives a call up, so that it is not taken later; where it was taken, says so.
+# KEYS: sessions, lease. ARGV: session, number.
+GIVE_UP = Script("""
+local record = redis.call('HGET', KEYS[1], ARGV[1])
+if record then
+  local number, place = string.match(record, '^(%d+) %d+ (.+)$')
+  if number == ARGV[2] then return {place == '-' and 'given up' or 'taken', place} end
+  if tonumber(number) > tonumber(ARGV[2]) then return {'passed', number} end
+end
+local served = redis.call('HGET', KEYS[2], 'served') or '0'
+redis.call('HSET', KEYS[1], ARGV[1], ARGV[2] .. ' ' .. served .. ' -')
+return {'given up', '-'}
+""", without_memory=True)
+
+# Drops the record of a session, if it is still this one. KEYS: sessions. ARGV: session, record.
+FORGET_SESSION = Script("""
+if redis.call('HGET', KEYS[1], ARGV[1]) ~= ARGV[2] then return 0 end
+return redis.call('HDEL', KEYS[1], ARGV[1])
+""", without_memory=True)
 
 # Gives a seat to a customer, if it was never given with this generation or a later one.
 # KEYS: seats. ARGV: tenant, generation, seat.
@@ -38,24 +63,37 @@ return 1
 # KEYS: seats, frames. ARGV: tenant, generation, seat.
 LEAVE = Script("""
 local seat = redis.call('HGET', KEYS[1], ARGV[1])
-local left = seat and string.match(seat, '^' .. ARGV[2] .. ' leaves (.+)$')
+local left = seat and string.match(seat, '^' .. ARGV[2] .. ' leaves:(.+)$')
 if left then return left end
 if seat ~= ARGV[3] then return false end
-local entry = redis.call('XADD', KEYS[2], '*', 't', ARGV[1], 'leave', ARGV[2])
-redis.call('HSET', KEYS[1], ARGV[1], ARGV[2] .. ' leaves ' .. entry)
+local entry = redis.call('XADD', KEYS[2], '*', 'leave', ARGV[2])
+redis.call('HSET', KEYS[1], ARGV[1], ARGV[2] .. ' leaves:' .. entry)
 return entry
 """)
 
-# Lets a tenant arrive, and reserves its seat; it is the customer's when it has arrived (CLAIM would refuse it, as the generation is
-# the same, so SEAT gives it).
-# KEYS: seats, frames. ARGV: tenant, generation, frames that make its state.
+# Puts a piece of a customer's state beside a seat where it is to arrive, if it has not yet.
+# KEYS: seats, pieces. ARGV: tenant, generation, name of the piece, bytes.
+BRING = Script("""
+local seat = redis.call('HGET', KEYS[1], ARGV[1])
+if seat and tonumber(string.match(seat, '^%d+')) >= tonumber(ARGV[2]) then return 0 end
+redis.call('HSET', KEYS[2], ARGV[3], ARGV[4])
+return 1
+""")
+
+# Lets a tenant arrive with the sessions of its customer, and reserves its seat; it is the customer's when it has arrived (CLAIM would
+# refuse it, as the generation is the same, so SEAT gives it).
+# KEYS: seats, frames, sessions. ARGV: tenant, generation, manifest of its state, then sessions and their records.
 ARRIVE = Script("""
 local seat = redis.call('HGET', KEYS[1], ARGV[1])
 local known = seat and tonumber(string.match(seat, '^%d+')) or -1
-if known == tonumber(ARGV[2]) then return string.match(seat, '^%d+ arrives (.+)$') or 'has' end
+if known == tonumber(ARGV[2]) then
+  if string.match(seat, '^%d+ closed:') then return false end
+  return string.match(seat, '^%d+ arrives:(.+)$') or 'has'
+end
 if known > tonumber(ARGV[2]) then return false end
-local entry = redis.call('XADD', KEYS[2], '*', 't', ARGV[1], 'arrive', ARGV[3])
-redis.call('HSET', KEYS[1], ARGV[1], ARGV[2] .. ' arrives ' .. entry)
+local entry = redis.call('XADD', KEYS[2], '*', 'arrive', ARGV[3])
+for at = 4, #ARGV, 2 do redis.call('HSET', KEYS[3], ARGV[at], ARGV[at + 1]) end
+redis.call('HSET', KEYS[1], ARGV[1], ARGV[2] .. ' arrives:' .. entry)
 return entry
 """)
 
@@ -63,138 +101,143 @@ return entry
 # KEYS: seats. ARGV: tenant, generation, seat.
 SEAT = Script("""
 local seat = redis.call('HGET', KEYS[1], ARGV[1])
-if not seat or not string.match(seat, '^' .. ARGV[2] .. ' arrives ') then return 0 end
+if not seat or not string.match(seat, '^' .. ARGV[2] .. ' arrives:') then return 0 end
 redis.call('HSET', KEYS[1], ARGV[1], ARGV[3])
 return 1
 """)
 
-# Renews a lease that is still held.
-# KEYS: lease. ARGV: token, milliseconds.
+# Closes a seat to which nobody has come: nobody arrives there with this generation any more. One that is arriving or has arrived is
+# closed only if the entry is named, whose arrival was refused. KEYS: seats, sessions. ARGV: tenant, generation, entry or nothing.
+CLOSE_SEAT = Script("""
+local seat = redis.call('HGET', KEYS[1], ARGV[1])
+local known = seat and tonumber(string.match(seat, '^%d+')) or -1
+if known > tonumber(ARGV[2]) then return 1 end
+if known == tonumber(ARGV[2]) then
+  if string.match(seat, '^%d+ closed:') then return 1 end
+  if seat ~= ARGV[2] .. ' arrives:' .. ARGV[3] then return 0 end
+end
+redis.call('HSET', KEYS[1], ARGV[1], ARGV[2] .. ' closed:')
+redis.call('DEL', KEYS[2])
+return 1
+""")
+
+# The lease: `token` of the worker that has it, `count` that it raises, `milliseconds` without a raise after which another one may take
+# it, and for how many milliseconds the shard was `served`. Nothing of it goes by the server's clock.
+
+# Takes the lease where nobody has it, or where it is still the one that was seen. Else gives the one that is there.
+# KEYS: lease. ARGV: token, milliseconds, the token and the count that were seen.
+TAKE = Script("""
+local token, count = redis.call('HGET', KEYS[1], 'token') or '', redis.call('HGET', KEYS[1], 'count') or '0'
+if token ~= '' and token ~= ARGV[1] and (token ~= ARGV[3] or count ~= ARGV[4]) then
+  return {token, count, redis.call('HGET', KEYS[1], 'milliseconds')}
+end
+redis.call('HSET', KEYS[1], 'token', ARGV[1], 'milliseconds', ARGV[2])
+redis.call('HINCRBY', KEYS[1], 'count', 1)
+return {ARGV[1], count, ARGV[2]}
+""", without_memory=True)
+
+# Raises the count of a lease that is still held, and adds to how long the shard was served.
+# KEYS: lease. ARGV: token, milliseconds since the last time.
 KEEP = Script("""
-if redis.call('GET', KEYS[1]) ~= ARGV[1] then return 0 end
-return redis.call('PEXPIRE', KEYS[1], ARGV[2])
-""")
+if redis.call('HGET', KEYS[1], 'token') ~= ARGV[1] then return 0 end
+redis.call('HINCRBY', KEYS[1], 'served', ARGV[2])
+return redis.call('HINCRBY', KEYS[1], 'count', 1)
+""", without_memory=True)
 
-# Gives a lease back.
-# KEYS: lease. ARGV: token.
+# Gives a lease back. KEYS: lease. ARGV: token.
 RELEASE = Script("""
-if redis.call('GET', KEYS[1]) ~= ARGV[1] then return 0 end
-return redis.call('DEL', KEYS[1])
-""")
+if redis.call('HGET', KEYS[1], 'token') ~= ARGV[1] then return 0 end
+return redis.call('HDEL', KEYS[1], 'token')
+""", without_memory=True)
 
-# Writes replies under the ids of their frames, where the lease is held; once, if it is asked twice. What leaves is kept with them.
-# KEYS: lease, replies, left. ARGV: token, milliseconds, how many replies, then id, field and bytes of each, then fields and bytes.
-WRITE = Script("""
-if redis.call('GET', KEYS[1]) ~= ARGV[1] then return 0 end
-redis.call('PEXPIRE', KEYS[1], ARGV[2])
-if #redis.call('XRANGE', KEYS[2], ARGV[4], ARGV[4]) > 0 then return 1 end
-local behind = 3 + 3 * tonumber(ARGV[3])
-for at = 4, behind, 3 do redis.call('XADD', KEYS[2], ARGV[at], ARGV[at + 1], ARGV[at + 2]) end
-for at = behind + 1, #ARGV, 2 do redis.call('HSET', KEYS[3], ARGV[at], ARGV[at + 1]) end
-return 1
-""")
+# What a worker writes, it writes where the lease is held.
+_UNDER_LEASE = "if redis.call('HGET', KEYS[1], 'token') ~= ARGV[1] then return 0 end\n"
 
-# Puts a part of a snapshot aside that is too large for one call, for an hour, where the lease is held.
-# KEYS: lease, parts. ARGV: token, milliseconds, then fields of the snapshot with their bytes.
-KEEP_PART = Script("""
-if redis.call('GET', KEYS[1]) ~= ARGV[1] then return 0 end
-redis.call('PEXPIRE', KEYS[1], ARGV[2])
-for at = 3, #ARGV, 2 do redis.call('HSET', KEYS[2], ARGV[at], ARGV[at + 1]) end
-redis.call('EXPIRE', KEYS[2], 3600)
-return 1
-""")
-
-# Puts a snapshot in the place of the last one, where the lease is held, and drops what came before it.
-# KEYS: lease, snapshot, frames, replies, parts. ARGV: token, milliseconds, the first id of frames and of replies that is kept, the places
-# of the last snapshot and of this one, then fields with their bytes, of which empty ones are no field.
-KEEP_SNAPSHOT = Script("""
-if redis.call('GET', KEYS[1]) ~= ARGV[1] then return 0 end
-redis.call('PEXPIRE', KEYS[1], ARGV[2])
-local place = redis.call('HGET', KEYS[2], 'place') or '0-0'
-if place == ARGV[6] then return 1 end
-if place ~= ARGV[5] then return redis.error_reply('the last snapshot is at ' .. place .. ' and not at ' .. ARGV[5]) end
-local function keep(field, bytes)
-  if bytes == '' then redis.call('HDEL', KEYS[2], field) else redis.call('HSET', KEYS[2], field, bytes) end
-end
-for _, field in ipairs(redis.call('HKEYS', KEYS[5])) do keep(field, redis.call('HGET', KEYS[5], field)) end
-redis.call('DEL', KEYS[5])
-for at = 7, #ARGV, 2 do keep(ARGV[at], ARGV[at + 1]) end
-redis.call('HSET', KEYS[2], 'place', ARGV[6])
-redis.call('XTRIM', KEYS[3], 'MINID', ARGV[3])
-redis.call('XTRIM', KEYS[4], 'MINID', ARGV[4])
-return 1
-""")
-
-# A tenant number of the least loaded shard, or of the one that is named. A shard's numbers are a string of 0 and 1, by tenant.
-_GIVE = """
-local function give(wanted)
-  local shard, load
-  if wanted ~= '' then
-    shard, load = wanted, redis.call('ZSCORE', KEYS[2], wanted)
-    if not load then return nil, 'no shard' end
-  else
-    local least = redis.call('ZRANGE', KEYS[2], 0, 0, 'WITHSCORES')
-    if #least == 0 then return nil, 'no shards' end
-    shard, load = least[1], least[2]
+# Writes replies of some tenants under the ids of their frames; once, if it is asked twice.
+# KEYS: lease, waiting, then the replies of each tenant. ARGV: token, then for each tenant its number, the weight of the calls and how
+# many there are, and id, field and bytes of each.
+WRITE = Script(_UNDER_LEASE + """
+local at = 2
+for key = 3, #KEYS do
+  local tenant, weight, last = ARGV[at], ARGV[at + 1], at + 3 * tonumber(ARGV[at + 2])
+  if #redis.call('XRANGE', KEYS[key], ARGV[at + 3], ARGV[at + 3]) == 0 then
+    for reply = at + 3, last, 3 do redis.call('XADD', KEYS[key], ARGV[reply], ARGV[reply + 1], ARGV[reply + 2]) end
+    local waits = tonumber(redis.call('HGET', KEYS[2], tenant) or '0') - tonumber(weight)
+    redis.call('HSET', KEYS[2], tenant, math.max(waits, 0))
   end
-  local numbers = redis.call('HGET', KEYS[3], shard) or string.rep('0', 64)
-  local free = string.find(numbers, '0', 1, true)
-  if not free then return nil, 'full' end
-  redis.call('HSET', KEYS[3], shard, string.sub(numbers, 1, free - 1) .. '1' .. string.sub(numbers, free + 1))
-  redis.call('ZINCRBY', KEYS[2], 1, shard)
-  return shard .. ' ' .. (free - 1) .. ' ' .. redis.call('INCR', KEYS[4])
+  at = last + 3
 end
-local function take_back(seat)
-  local shard, tenant = string.match(seat, '^(%d+) (%d+) ')
-  local numbers = redis.call('HGET', KEYS[3], shard)
-  redis.call('HSET', KEYS[3], shard, string.sub(numbers, 1, tenant) .. '0' .. string.sub(numbers, tenant + 2))
-  redis.call('ZINCRBY', KEYS[2], -1, shard)
-end
-"""
-
-# The seat of a customer, which is given one if it has none. KEYS: those of the directory. ARGV: name.
-PLACE = Script(_GIVE + """
-local seat = redis.call('HGET', KEYS[1], ARGV[1])
-if seat then return {seat} end
-local given, why = give('')
-if not given then return {false, why} end
-redis.call('HSET', KEYS[1], ARGV[1], given)
-return {given}
-""")
-
-# The next seat of a customer that is moved: one of the shard that is named, or of the least loaded other one; `nowhere` to remove it.
-# KEYS: those of the directory. ARGV: name, shard or nothing, `nowhere` or nothing.
-BEGIN_MOVE = Script(_GIVE + """
-local seat = redis.call('HGET', KEYS[1], ARGV[1])
-if not seat then return {false, 'unknown'} end
-local next = redis.call('HGET', KEYS[5], ARGV[1])
-if next then return {seat, next} end
-if ARGV[3] ~= '' then
-  redis.call('HSET', KEYS[5], ARGV[1], ARGV[3])
-  return {seat, ARGV[3]}
-end
-local here, wanted = string.match(seat, '^%d+'), ARGV[2]
-if wanted == '' then
-  for _, shard in ipairs(redis.call('ZRANGE', KEYS[2], 0, 1)) do
-    if shard ~= here and wanted == '' then wanted = shard end
-  end
-  if wanted == '' then return {false, 'no other'} end
-elseif wanted == here then
-  return {false, 'here'}
-end
-local given, why = give(wanted)
-if not given then return {false, why} end
-redis.call('HSET', KEYS[5], ARGV[1], given)
-return {seat, given}
-""")
-
-# Ends a move from a seat to the next one: the customer has that, and the old one is free.
-# KEYS: those of the directory. ARGV: name, seat, next seat.
-END_MOVE = Script(_GIVE + """
-local seat, next = redis.call('HGET', KEYS[1], ARGV[1]), redis.call('HGET', KEYS[5], ARGV[1])
-if seat ~= ARGV[2] or next ~= ARGV[3] then return 0 end
-if next == 'nowhere' then redis.call('HDEL', KEYS[1], ARGV[1]) else redis.call('HSET', KEYS[1], ARGV[1], next) end
-redis.call('HDEL', KEYS[5], ARGV[1])
-take_back(seat)
 return 1
+""")
+
+# Writes that a tenant has left: its state is kept under its generation, and the tenant is as a new one from this entry on.
+# KEYS: lease, replies, snapshots, left. ARGV: token, entry, tenant, generation, manifest of the state, manifest of no state.
+WRITE_LEFT = Script(_UNDER_LEASE + """
+if #redis.call('XRANGE', KEYS[2], ARGV[2], ARGV[2]) > 0 then return 1 end
+redis.call('XADD', KEYS[2], ARGV[2], 'r', '')
+redis.call('HSET', KEYS[4], ARGV[4], ARGV[5])
+redis.call('HSET', KEYS[3], ARGV[3], ARGV[6])
+redis.call('HDEL', KEYS[3], ARGV[3] .. ':before')
+return 1
+""")
+
+# Writes that a tenant has arrived: the state that it came with is its last snapshot.
+# KEYS: lease, replies, snapshots. ARGV: token, entry, tenant, manifest.
+WRITE_ARRIVED = Script(_UNDER_LEASE + """
+if #redis.call('XRANGE', KEYS[2], ARGV[2], ARGV[2]) > 0 then return 1 end
+redis.call('XADD', KEYS[2], ARGV[2], 'r', '')
+redis.call('HSET', KEYS[3], ARGV[3], ARGV[4])
+redis.call('HDEL', KEYS[3], ARGV[3] .. ':before')
+return 1
+""")
+
+# Puts pieces of a snapshot down, of which nothing speaks yet. A snapshot makes room, so it is taken without memory too.
+# KEYS: lease, pieces. ARGV: token, then names with their bytes.
+KEEP_PIECES = Script(_UNDER_LEASE + """
+for at = 2, #ARGV, 2 do redis.call('HSET', KEYS[2], ARGV[at], ARGV[at + 1]) end
+return 1
+""", without_memory=True)
+
+# Puts a snapshot of a tenant in the place of the last one, which becomes the one before it.
+# KEYS: lease, snapshots. ARGV: token, tenant, manifest, manifest of the last snapshot or nothing.
+KEEP_SNAPSHOT = Script(_UNDER_LEASE + """
+local last = redis.call('HGET', KEYS[2], ARGV[2]) or ''
+if last == ARGV[3] then return 1 end
+if last ~= ARGV[4] then return redis.error_reply('the last snapshot of tenant ' .. ARGV[2] .. ' is another one') end
+if last ~= '' then redis.call('HSET', KEYS[2], ARGV[2] .. ':before', last) end
+redis.call('HSET', KEYS[2], ARGV[2], ARGV[3])
+return 1
+""", without_memory=True)
+
+# Drops some of the entries of a stream that are below an id; says how many. KEYS: lease, stream. ARGV: token, id.
+DROP = Script("""
+if redis.call('HGET', KEYS[1], 'token') ~= ARGV[1] then return -1 end
+local dropped = redis.call('XTRIM', KEYS[2], 'MINID', '~', ARGV[2], 'LIMIT', 1000)
+if dropped == 0 then redis.call('XTRIM', KEYS[2], 'MINID', '=', ARGV[2]) end
+return dropped
+""", without_memory=True)
+
+# Drops pieces. KEYS: lease, pieces. ARGV: token, names.
+DROP_PIECES = Script(_UNDER_LEASE + """
+for at = 2, #ARGV do redis.call('HDEL', KEYS[2], ARGV[at]) end
+return 1
+""", without_memory=True)
+
+# Writes a field of a hash, or takes it out where nothing is given. KEYS: lease, hash. ARGV: token, field, bytes.
+NOTE = Script(_UNDER_LEASE + """
+if ARGV[3] == '' then redis.call('HDEL', KEYS[2], ARGV[2]) else redis.call('HSET', KEYS[2], ARGV[2], ARGV[3]) end
+return 1
+""", without_memory=True)
+
+# An operator's word on what is set aside, if that is still the same. KEYS: aside, words. ARGV: tenant, what is set aside, word.
+SAY = Script("""
+if redis.call('HGET', KEYS[1], ARGV[1]) ~= ARGV[2] then return 0 end
+redis.call('HSET', KEYS[2], ARGV[1], ARGV[3])
+return 1
+""", without_memory=True)
+
+# The name of a shard, which is made when it is first served. KEYS: incarnation. ARGV: name.
+BE_MADE = Script("""
+redis.call('SETNX', KEYS[1], ARGV[1])
+return redis.call('GET', KEYS[1])
 """)

@@ -5,16 +5,17 @@ docs/SCALING.md says why they do. All of them name tenant 0; who plays them puts
 
 from __future__ import annotations
 
-from collections.abc import Iterable, Iterator, Mapping, Sequence
-from typing import Protocol
+from collections.abc import Generator, Iterable, Iterator, Mapping, Sequence
+from typing import Protocol, TypeVar, cast
 
 from bpfhost import frames
 from bpfhost.numbers import FIRST_DESCRIPTOR, REPLY_HEAD, SOCKET_FILTER, Command, Errno, MapType
 from bpfhost.shards.errors import ShardError
+from bpfhost.shards.parts import in_parts
 from bpfhost.shards.tenancy import BODY, LiveMap, OpenProgram, Tenancy, command_of, status_of
 
 # r0 = 0; exit: it takes a descriptor, and none of the room for maps.
-_FILLER = frames.prog_load(0, bytes.fromhex("b700000000000000 9500000000000000"), SOCKET_FILTER)
+FILLER = frames.prog_load(0, bytes.fromhex("b700000000000000 9500000000000000"), SOCKET_FILTER)
 
 # The pairs of a map, in order; of an array those alone that are not zero.
 Pairs = list[tuple[bytes, bytes]]
@@ -52,7 +53,7 @@ def _filled_up_to(descriptor: int, taken: set[int]) -> Iterator[bytes]:
     for number in range(FIRST_DESCRIPTOR, descriptor):
         if number not in taken:
             taken.add(number)
-            yield _FILLER
+            yield FILLER
     taken.add(descriptor)
 
 
@@ -78,20 +79,36 @@ def split(stream: bytes) -> list[bytes]:
     return found
 
 
-# Reading what is in maps.
+# Reading what is in maps, in steps: a step asks the host some hundred frames, so that others are served between two of them.
+
+_ASKED_IN_A_STEP = 400
+
+Result = TypeVar("Result")
+# What is done in steps, and gives a result at its end.
+Steps = Generator[None, None, Result]
 
 
-def read_pairs(host: AsksBytes, tenant: int, maps: Mapping[LiveMap, int]) -> dict[LiveMap, Pairs]:
+def at_once(steps: Steps[Result]) -> Result:
+    """Does all steps, and gives the result."""
+    while True:
+        try:
+            next(steps)
+        except StopIteration as end:
+            return cast(Result, end.value)
+
+
+def read_pairs(host: AsksBytes, tenant: int, maps: Mapping[LiveMap, int]) -> Steps[dict[LiveMap, Pairs]]:
     """What is in maps, by the descriptors that name them. It changes nothing."""
     keys = {on: _indices(on) for on in maps if on.shape.map_type == MapType.ARRAY}
-    keys.update(_walked(host, tenant, {on: fd for on, fd in maps.items() if on not in keys}))
-    asked = [(on, key) for on in maps for key in keys[on]]
-    replies = host.ask_bytes(frames.map_lookup_elem(tenant, maps[on], key) for on, key in asked)
+    keys.update((yield from _walked(host, tenant, {on: fd for on, fd in maps.items() if on not in keys})))
     pairs: dict[LiveMap, Pairs] = {on: [] for on in maps}
-    for (on, key), reply in zip(asked, replies):
-        value = _payload(reply)
-        if on.shape.map_type == MapType.HASH or any(value):
-            pairs[on].append((key, value))
+    for asked in in_parts(((on, key) for on in maps for key in keys[on]), lambda _: 1, _ASKED_IN_A_STEP):
+        replies = list(host.ask_bytes(frames.map_lookup_elem(tenant, maps[on], key) for on, key in asked))
+        for (on, key), reply in zip(asked, replies, strict=True):
+            value = _payload(reply)
+            if on.shape.map_type == MapType.HASH or any(value):
+                pairs[on].append((key, value))
+        yield
     return pairs
 
 
@@ -99,17 +116,21 @@ def _indices(on: LiveMap) -> list[bytes]:
     return [index.to_bytes(4, "little") for index in range(on.shape.max_entries)]
 
 
-def _walked(host: AsksBytes, tenant: int, maps: Mapping[LiveMap, int]) -> dict[LiveMap, list[bytes]]:
+def _walked(host: AsksBytes, tenant: int, maps: Mapping[LiveMap, int]) -> Steps[dict[LiveMap, list[bytes]]]:
     """The keys of hash maps in order. All maps are walked at once, a key of each in a batch of frames."""
     keys: dict[LiveMap, list[bytes]] = {on: [] for on in maps}
-    going = dict(maps)
+    going, left = dict(maps), _ASKED_IN_A_STEP
     while going:
+        left -= len(going)
         asked = (frames.map_get_next_key(tenant, fd, keys[on][-1] if keys[on] else b"") for on, fd in going.items())
         for on, reply in zip(list(going), list(host.ask_bytes(asked))):
             if status_of(reply) == -Errno.ENOENT:
                 del going[on]
             else:
                 keys[on].append(_payload(reply))
+        if left <= 0:
+            left = _ASKED_IN_A_STEP
+            yield
     return keys
 
 

@@ -1,245 +1,455 @@
-"""A worker serves a shard: it reads frames from the stream, asks its host, and writes each reply under the id of its frames.
+"""A worker serves a shard: it reads frames from the streams of its tenants, asks its host, and writes each reply under the id of its frames.
 
-How far it has come is the last id of the stream of replies, so replies and place are one. A worker that begins makes the state of the
-last snapshot, plays again what has replies already, compares, and goes on with the next.
+How far a tenant has come is the last id of its stream of replies, so replies and place are one. A worker that begins makes each
+tenant's state of its last snapshot, plays again what has replies already, compares, and goes on with the next.
 """
 
 from __future__ import annotations
 
 import contextlib
-import time
-from collections.abc import Callable, Iterator, Mapping, Sequence
-from dataclasses import dataclass
+from collections import deque
+from collections.abc import Callable, Iterator, Sequence
+from typing import Generator, TypeVar
 
+from bpfhost.errors import HostError, ReplyError
+from bpfhost.numbers import MOST_TENANTS
 from bpfhost.program import Program
 from bpfhost.shards import scripts
-from bpfhost.shards.connection import Entry, Redis, demand_durable, entries_behind, last_id, patiently, told
-from bpfhost.shards.copied import Asked
-from bpfhost.shards.errors import LeaseLost, RedisError, RepliesDiffer, ShardError
-from bpfhost.shards.lease import SECONDS, Lease
-from bpfhost.shards.names import ARRIVES, FRAMES, LEAVES, MOST_BYTES, MOST_ENTRIES, REPLIES, START, TENANT, ShardKeys, after, before, order
-from bpfhost.shards.parts import in_parts
-from bpfhost.shards.serving import MOST_ASKED, Serving, Written, answered
-from bpfhost.shards.snapshot import split
+from bpfhost.shards.aside import ENTRY, LOST, MOST_TRIES, RETRY, SKIP, STATE, Aside
+from bpfhost.shards.attending import Attending
+from bpfhost.shards.building import build_of
+from bpfhost.shards.calls import Arrives, Call, Item, Leaves, NoCall, item_of, size_of
+from bpfhost.shards.connection import Redis, demand_durable, demand_version
+from bpfhost.shards.directory import Directory
+from bpfhost.shards.errors import (
+    Away,
+    CopyDiffers,
+    LeaseLost,
+    MemoryRefused,
+    OutOfMemory,
+    RedisError,
+    ShardError,
+    SnapshotDamaged,
+    StateRefused,
+    Stopped,
+)
+from bpfhost.shards.keeping import Keeping
+from bpfhost.shards.lease import Lease
+from bpfhost.shards.log import Log, Since
+from bpfhost.shards.manifest import Manifest
+from bpfhost.shards.names import FAULT, ShardKeys, order
+from bpfhost.shards.registering import register
+from bpfhost.shards.restoring import Restored, restored
+from bpfhost.shards.serving import Serving, Written
+from bpfhost.shards.settings import Settings
+from bpfhost.shards.snapshot import Steps, at_once
+from bpfhost.shards.writing import Writing
 
-_READ_AT_ONCE = 128
-# A script is given about so many bytes of replies at most.
-_WRITTEN_AT_ONCE = 1 << 22
-_SECONDS_FOR_REDIS = 30.0
-_PLACE, _TENANT = "place", "tenant:"
+# In a turn each tenant has calls of so many frames and bytes at most, or one call.
+TURN_FRAMES, TURN_BYTES = 512, 1 << 18
+_MOST_READ = 64
+# So long the steps of what is done beside calls take between two turns.
+_SECONDS_BESIDE = 0.01
+# So long the worker may take for what it does at a time, before it is taken to hang.
+_SECONDS_AT_WORK = 120.0
+_SECONDS_TO_LOOK, _SECONDS_TO_TELL = 1.0, 30.0
+_LONGEST_PAUSE = 0.5
 
-
-@dataclass(frozen=True)
-class Settings:
-    """How a worker works: the seconds of its lease, how many entries, or bytes of frames and replies, lie between two snapshots, how
-    long replies stay for those that have not read them, and how many frames a host is asked before another one is started with the
-    same state. Where there are too many entries between two snapshots, the stream would be full before: that is a ValueError."""
-
-    lease_seconds: float = SECONDS
-    snapshot_entries: int = 50_000
-    snapshot_bytes: int = MOST_BYTES // 4
-    reply_seconds: float = 3600.0
-    most_asked: int = MOST_ASKED
-    demand_durable: bool = True
-
-    def __post_init__(self) -> None:
-        if self.snapshot_entries > MOST_ENTRIES // 2 or self.snapshot_bytes > MOST_BYTES // 2:
-            raise ValueError(f"between two snapshots lie at most {MOST_ENTRIES // 2} entries and {MOST_BYTES // 2} bytes")
+# What is done in steps beside calls, for one tenant, which is asked nothing meanwhile.
+_Job = tuple[int, Generator[None, None, None]]
+Answer = TypeVar("Answer")
 
 
 class Worker:
     """The worker of one shard."""
 
     def __init__(
-        self, redis: Redis, keys: ShardKeys, program: Program, settings: Settings = Settings(), tell: Callable[[str], None] = print
+        self,
+        redis: Redis,
+        keys: ShardKeys,
+        program: Program,
+        settings: Settings = Settings(),
+        tell: Callable[[str], None] = print,
+        directory: Redis | None = None,
     ) -> None:
+        """The directory is in the shard's Redis where no other one is named."""
         self._redis, self._keys, self._program, self._settings, self._tell = redis, keys, program, settings, tell
+        self._system = redis.system
+        self._server = redis.url if directory else ""
+        self._directory = Directory(directory or redis, keys.prefix)
         self._lease = Lease(redis, keys, settings.lease_seconds)
-        self._place = self._snapshot_place = START
-        # Entries and bytes since the last snapshot.
-        self._entries = self._bytes = 0
+        self._writing = Writing(redis, keys, self._lease)
+        self._keeping = Keeping(self._writing, settings, build_of(program))
+        self._logs: list[Log] = []
+        self._jobs: deque[_Job] = deque()
+        # Tenants with a job, and the entries that may have ended a host, with how often each was tried.
+        self._busy: set[int] = set()
+        self._tries: dict[tuple[int, bytes], int] = {}
+        self._careful: dict[int, bytes] = {}
+        self._read_at_once = _MOST_READ
+        self._looked = self._told_at = -_SECONDS_TO_TELL
+        self._is_stopped: Callable[[], bool] = lambda: False
+        self._has_ended = False
 
     def run(self, is_stopped: Callable[[], bool] = lambda: False) -> None:
-        """Serves until it is stopped; then the lease is given back.
+        """Serves until it is stopped; then the lease is given back. Where Redis is away, it waits, and says so.
 
-        A LeaseHeld where another worker serves the shard, a LeaseLost where this one's lease ran out, a RepliesDiffer where a frame is
-        answered otherwise than it was, a MemoryRefused, a HostError or a RedisError else. What was written before is right.
+        A LeaseHeld where another worker serves the shard, a LeaseLost where another one has taken the lease, an OtherShard where the
+        directory knows another shard by this number, a HostError or a RedisError else. What was written before is right.
         """
+        self._is_stopped = is_stopped
         # The host begins first, so that none of the lease's time goes by meanwhile.
-        with Serving(self._program, self._history, self._lease.keep) as serving:
-            self._with_redis(self._begin)
-            self._serve_under_lease(serving, is_stopped)
+        with contextlib.suppress(Stopped), Serving(self._program, self._system, self._alive) as serving:
+            self._waiting_for_redis(self._take_lease)
+            self._serve_under_lease(serving)
 
-    def _begin(self) -> None:
-        with told():
-            if self._settings.demand_durable:
-                demand_durable(self._redis)
-            self._lease.take()
+    def _take_lease(self) -> None:
+        demand_version(self._redis)
+        if self._settings.demand_durable:
+            demand_durable(self._redis)
+        self._lease.take(self._is_stopped)
 
-    def _serve_under_lease(self, serving: Serving, is_stopped: Callable[[], bool]) -> None:
+    def _serve_under_lease(self, serving: Serving) -> None:
+        incarnation = b""
+        beside = self._system.beside(lambda: self._lease.keep_beside(lambda: self._has_ended))
+        attending = None
         try:
-            self._serve(serving, is_stopped)
+            self._alive()
+            incarnation = self._waiting_for_redis(lambda: register(self._redis, self._keys, self._directory, self._server))
+            self._waiting_for_redis(lambda: self._restore(serving))
+            self._waiting_for_redis(lambda: self._directory.beat(self._keys.number, incarnation))
+            self._tell(f"shard {self._keys.number} is served{self._last_places()}")
+            attending = Attending(self._directory, self._keys.number, incarnation, self._settings.lease_seconds, self._tell)
+            attended = self._system.beside(lambda: attending.run(lambda: self._has_ended) if attending else None)
+            while not self._is_stopped():
+                self._turn(serving)
         except (RedisError, LeaseLost):
             raise
         except ShardError as error:
             # Another worker may have dropped what this one was about to read.
-            if not self._lease.is_held():
+            if not isinstance(error, Stopped) and not self._lease.is_held():
                 raise self._lease.lost() from error
             raise
         finally:
+            self._has_ended = True
             # Nothing is written any more, so the next worker need not wait.
             with contextlib.suppress(RedisError):
+                if attending:
+                    attended.join(2.0)
+                    attending.end()
+                beside.join(2.0)
                 self._lease.release()
 
-    def _serve(self, serving: Serving, is_stopped: Callable[[], bool]) -> None:
-        self._with_redis(lambda: self._restore(serving))
-        self._tell(f"shard {self._keys.number} is served, from entry {self._place.decode()} on")
-        while not is_stopped():
-            self._turn(serving)
+    def _alive(self) -> None:
+        self._lease.at_work(_SECONDS_AT_WORK)
 
-    def _with_redis(self, call: Callable[[], None]) -> None:
-        patiently(call, time.monotonic() + _SECONDS_FOR_REDIS)
+    def _waiting_for_redis(self, call: Callable[[], Answer]) -> Answer:
+        """Calls until Redis is there, and says so where it is not; a Stopped where the worker is stopped meanwhile."""
+        pause = 0.02
+        while True:
+            try:
+                return call()
+            except Away as away:
+                self._tell_now_and_then(f"shard {self._keys.number} waits: {away}")
+            if self._is_stopped():
+                raise Stopped(f"shard {self._keys.number} waited for its Redis")
+            self._system.sleep(pause)
+            pause = min(2 * pause, _LONGEST_PAUSE)
 
-    # One turn.
+    def _tell_now_and_then(self, sentence: str) -> None:
+        if self._system.now() >= self._told_at + _SECONDS_TO_TELL:
+            self._told_at = self._system.now()
+            self._tell(sentence)
 
-    def _turn(self, serving: Serving) -> None:
-        wait = self._settings.lease_seconds / 4
-
-        def read() -> list[Entry]:
-            self._lease.keep()
-            return entries_behind(self._redis, self._keys.frames, self._place, _READ_AT_ONCE, wait)
-
-        for entries in _parted(patiently(read, time.monotonic() + _SECONDS_FOR_REDIS)):
-            for written in in_parts(serving.play(entries), _size, _WRITTEN_AT_ONCE):
-                self._write(written)
-                self._bytes += sum(len(one.value) for one in written)
-            self._count(entries)
-        if self._is_due() or serving.asked >= self._settings.most_asked:
-            self._take_snapshot(serving)
-
-    def _count(self, entries: Sequence[Entry]) -> None:
-        self._entries += len(entries)
-        self._bytes += sum(len(value) for _, fields in entries for value in fields.values())
-
-    def _is_due(self) -> bool:
-        return self._entries >= self._settings.snapshot_entries or self._bytes >= self._settings.snapshot_bytes
-
-    def _write(self, written: Sequence[Written]) -> None:
-        """Writes replies; they are there once, also where it is not known whether they were written and they are written again."""
-        keys = [self._keys.lease, self._keys.replies, self._keys.left]
-        replies = [part for one in written for part in (one.entry, one.name, one.value)]
-        kept = [part for one in written for pair in one.kept.items() for part in pair]
-        arguments = [self._lease.token, self._lease.milliseconds, len(written), *replies, *kept]
-        self._under_lease(lambda: scripts.WRITE(self._redis, keys, arguments))
-        self._place = written[-1].entry
-
-    def _under_lease(self, call: Callable[[], object]) -> None:
-        when = time.monotonic()
-        if not patiently(call, when + _SECONDS_FOR_REDIS):
-            raise self._lease.lost()
-        self._lease.renewed(when)
+    def _last_places(self) -> str:
+        last = max((log.place for log in self._logs), key=order)
+        return f", from entry {last.decode()} on"
 
     # Beginning.
 
     def _restore(self, serving: Serving) -> None:
-        """The state of the last snapshot, and then what has replies already."""
-        with told():
-            fields = self._redis.hgetall(self._keys.snapshot)
-            last = last_id(self._redis, self._keys.replies)
-        self._place = self._snapshot_place = fields.pop(_PLACE.encode(), START)
-        serving.restore({int(name.removeprefix(_TENANT.encode())): stream for name, stream in fields.items()})
-        self._entries = self._bytes = 0
-        for entries, replies in self._both(self._place, last):
-            for piece in _parted(entries):
-                self._compare(serving.play(piece), replies)
-            self._count(entries)
-            self._bytes += sum(len(value) for fields in replies.values() for value in fields.values())
-            self._place = entries[-1][0]
-            self._lease.keep()
-        if self._place != last and order(self._place) < order(last):
-            raise ShardError(f"the stream of shard {self._keys.number} has no entry {last.decode()}, and a reply to it")
+        """Makes all tenants' states; a host that ends meanwhile is tried again."""
+        for tried in range(1, MOST_TRIES + 1):
+            if serving.asked or tried > 1:
+                serving.restart()
+            self._jobs.clear()
+            self._busy.clear()
+            self._keeping.begin()
+            self._logs = [Log(self._redis, self._keys, tenant) for tenant in range(MOST_TENANTS)]
+            try:
+                for log in self._logs:
+                    self._alive()
+                    at_once(self._restore_one(serving, log))
+                self._writing.drop_strays(self._logs)
+                return
+            except (HostError, ReplyError, MemoryRefused):
+                if tried == MOST_TRIES:
+                    raise
 
-    def _compare(self, written: Sequence[Written], replies: dict[bytes, dict[bytes, bytes]]) -> None:
-        for one in written:
-            was = replies.get(one.entry)
-            if was != {one.name: one.value}:
-                told_before = "none" if was is None else _shown(b"".join(was.values()))
-                raise RepliesDiffer(
-                    f"entry {one.entry.decode()} of shard {self._keys.number} is answered {_shown(one.value)}, and was answered"
-                    f" {told_before}: the shard is not served before somebody has looked at it"
-                )
+    def _restore_one(self, serving: Serving, log: Log, word: str = "") -> Steps[None]:
+        """Makes a tenant's state; what can't be made is set aside."""
+        kept = self._redis.hget(self._keys.aside, log.tenant)
+        found: Restored = yield from restored(serving, log, self._alive, accepts=word == SKIP)
+        for sentence in found.told:
+            self._tell(f"shard {self._keys.number}, tenant {log.tenant}: {sentence}")
+        if found.aside:
+            self._set_aside(log, found.aside)
+        elif kept and Aside.read(kept).kind == ENTRY:
+            log.aside = Aside.read(kept)
+        elif kept:
+            self._writing.note(self._keys.aside, log.tenant, b"")
 
-    def _both(self, place: bytes, last: bytes) -> Iterator[tuple[list[Entry], dict[bytes, dict[bytes, bytes]]]]:
-        """The entries behind a place up to another one, in pieces, with their replies."""
-        while order(place) < order(last):
-            with told():
-                entries = self._redis.xrange(self._keys.frames, after(place), last, count=_READ_AT_ONCE)
-                if not entries:
-                    return
-                place = entries[-1][0]
-                replies = dict(self._redis.xrange(self._keys.replies, entries[0][0], place))
-            yield entries, replies
+    def _set_aside(self, log: Log, aside: Aside) -> None:
+        if log.aside != aside:
+            log.aside = aside
+            self._writing.note(self._keys.aside, log.tenant, aside.to_bytes())
+            self._tell(f"shard {self._keys.number}, tenant {log.tenant} is set aside: {aside.why}")
+
+    # One turn.
+
+    def _turn(self, serving: Serving) -> None:
+        self._alive()
+        self._waiting_for_redis(self._lease.keep)
+        self._waiting_for_redis(lambda: self._look_at_words(serving))
+        self._waiting_for_redis(lambda: self._keeping.look_at_waiting(self._logs, self._busy))
+        items = self._waiting_for_redis(lambda: list(self._read()))
+        calls = [item for one in items for item in one if isinstance(item, (Call, NoCall))]
+        if calls:
+            self._play(serving, calls)
+        for one in items:
+            if one and isinstance(one[0], (Leaves, Arrives)):
+                self._begin(one[0].tenant, self._control(serving, one[0]), first=True)
+        self._look_at_snapshots(serving)
+        self._do_jobs(serving)
+
+    def _read(self) -> Iterator[list[Item]]:
+        """What each tenant has in this turn: calls, or one entry that is none."""
+        readable = [log for log in self._logs if not log.aside and log.tenant not in self._busy]
+        wait = 0.0 if self._jobs else min(self._settings.lease_seconds / 4, _SECONDS_TO_LOOK)
+        if not readable:
+            self._system.sleep(min(wait, 0.05))
+            return
+        found = self._redis.xread({log.frames: log.place for log in readable}, self._read_at_once, wait)
+        most = 1
+        for log in readable:
+            items = [item_of(log.tenant, entry) for entry in found.get(log.frames, [])]
+            most = max([most, *(len(item.frames) for item in items if isinstance(item, Call))])
+            yield _turn_of(items)
+        self._read_at_once = max(1, min(_MOST_READ, TURN_FRAMES // most))
+
+    def _play(self, serving: Serving, calls: Sequence[Call | NoCall]) -> None:
+        """Plays calls, and writes their replies; one at a time where one of them may have ended a host."""
+        parts: list[Sequence[Call | NoCall]] = [[call] for call in calls] if self._careful else [calls]
+        for some in parts:
+            answered: list[tuple[Written, bool]] = []
+            try:
+                answered.extend(serving.play(some))
+            except (HostError, ReplyError, MemoryRefused) as error:
+                self._write(serving, some, answered)
+                self._host_has_ended(serving, some[len(answered) :], error)
+                return
+            self._write(serving, some, answered)
+
+    def _write(self, serving: Serving, calls: Sequence[Call | NoCall], answered: Sequence[tuple[Written, bool]]) -> None:
+        """Writes replies; they are there once, also where it is not known whether they were written and they are written again."""
+        for some in self._writing.parted([written for written, _ in answered]):
+            while True:
+                try:
+                    self._waiting_for_redis(lambda: self._writing.write(some))
+                    break
+                except OutOfMemory as error:
+                    self._make_room(serving, calls, error)
+        for call, (written, changed) in zip(calls, answered):
+            log = self._logs[call.tenant]
+            log.place = written.entry
+            log.since.entries += 1
+            log.since.frames += len(call.frames) if isinstance(call, Call) else 0
+            log.since.size += call.size + len(written.value)
+            log.since.changed |= changed
+            if self._careful.get(call.tenant) == written.entry:
+                del self._careful[call.tenant]
+                self._tries.pop((call.tenant, written.entry), None)
+
+    # A host that ends.
+
+    def _host_has_ended(self, serving: Serving, suspects: Sequence[Call | NoCall], error: Exception) -> None:
+        """Notes which entries may have done it, sets the one aside that has three times, and begins anew on another host."""
+        for call in suspects:
+            key = call.tenant, call.entry
+            self._tries[key] = self._tries.get(key, 0) + 1
+            self._careful.setdefault(call.tenant, call.entry)
+        self._tell(f"shard {self._keys.number} begins a new host: {error}")
+        self._waiting_for_redis(lambda: self._restore(serving))
+        if len(suspects) == 1 and self._tries[suspects[0].tenant, suspects[0].entry] >= MOST_TRIES:
+            self._give_up(suspects[0], error)
+
+    def _give_up(self, call: Call | NoCall, error: Exception) -> None:
+        log, entry = self._logs[call.tenant], call.entry.decode()
+        self._careful.pop(call.tenant, None)
+        self._tries.pop((call.tenant, call.entry), None)
+        aside = Aside(ENTRY, entry, f"entry {entry} of shard {self._keys.number} ended the host {MOST_TRIES} times: {error}")
+        self._waiting_for_redis(lambda: self._set_aside(log, aside))
+
+    # An operator's words.
+
+    def _look_at_words(self, serving: Serving) -> None:
+        aside = [log for log in self._logs if log.aside and log.tenant not in self._busy]
+        if not aside or self._system.now() < self._looked + _SECONDS_TO_LOOK:
+            return
+        self._looked = self._system.now()
+        said = self._redis.hgetall(self._keys.words)
+        for log in aside:
+            word, _, entry = said.get(b"%d" % log.tenant, b"").decode().partition(" ")
+            if log.aside and word and entry == log.aside.entry:
+                self._begin(log.tenant, self._decide(serving, log, log.aside, word))
+
+    def _decide(self, serving: Serving, log: Log, aside: Aside, word: str) -> Steps[None]:
+        """Does what an operator says of a tenant that is set aside."""
+        if aside.kind == ENTRY:
+            if word == SKIP:
+                sentence = f"entry {aside.entry} was skipped by an operator: its frames were not done, and won't be"
+                size = sum(size_of(fields) for _, fields in self._redis.xrange(log.frames, aside.entry.encode(), aside.entry.encode(), 1))
+                self._writing.write([Written(log.tenant, aside.entry.encode(), FAULT, sentence.encode(), self._writing.weight(size))])
+                log.place = aside.entry.encode()
+            else:
+                self._careful[log.tenant] = aside.entry.encode()
+            self._writing.note(self._keys.aside, log.tenant, b"")
+            log.aside = None
+        elif word == RETRY or aside.kind != LOST:
+            log.aside = None
+            serving.empty(log.tenant)
+            yield from self._restore_one(serving, log, word)
+        self._writing.note(self._keys.words, log.tenant, b"")
+        self._tell(f"shard {self._keys.number}, tenant {log.tenant}: an operator said {word}")
+
+    # What is done in steps.
+
+    def _begin(self, tenant: int, job: Generator[None, None, None], first: bool = False) -> None:
+        self._busy.add(tenant)
+        if first:
+            self._jobs.appendleft((tenant, job))
+        else:
+            self._jobs.append((tenant, job))
+
+    def _do_jobs(self, serving: Serving) -> None:
+        """Some steps of the first job. One that Redis or the host broke off is begun anew, when it is due again."""
+        until = self._system.now() + _SECONDS_BESIDE
+        while self._jobs:
+            tenant, job = self._jobs[0]
+            try:
+                next(job)
+            except StopIteration:
+                self._end_job(tenant)
+            except (Away, OutOfMemory) as error:
+                self._end_job(tenant)
+                self._tell_now_and_then(f"shard {self._keys.number} waits: {error}")
+                self._waiting_for_redis(lambda: self._restore_after(serving, tenant))
+            except (HostError, ReplyError, MemoryRefused) as error:
+                self._tell(f"shard {self._keys.number} begins a new host: {error}")
+                self._waiting_for_redis(lambda: self._restore(serving))
+                return
+            except (LeaseLost, RedisError, Stopped):
+                raise
+            except ShardError as error:
+                self._end_job(tenant)
+                self._keeping.failed.add(tenant)
+                self._tell(f"shard {self._keys.number}, tenant {tenant}: no snapshot can be taken: {error}")
+            if self._system.now() >= until:
+                return
+
+    def _end_job(self, tenant: int) -> None:
+        if self._jobs and self._jobs[0][0] == tenant:
+            self._jobs.popleft()
+        self._busy.discard(tenant)
+
+    def _restore_after(self, serving: Serving, tenant: int) -> None:
+        """Makes a tenant anew, whose job broke off anywhere."""
+        serving.empty(tenant)
+        self._logs[tenant] = Log(self._redis, self._keys, tenant)
+        at_once(self._restore_one(serving, self._logs[tenant]))
+
+    def _control(self, serving: Serving, item: Leaves | Arrives) -> Steps[None]:
+        log = self._logs[item.tenant]
+        old = [one for one in (log.snapshot, log.before) if one]
+        if isinstance(item, Leaves):
+            try:
+                manifest = yield from self._keeping.keep(serving, log)
+            except (SnapshotDamaged, CopyDiffers) as error:
+                self._set_aside(log, Aside(STATE, item.entry.decode(), f"the tenant can't leave: {error}"))
+                return
+            serving.empty(item.tenant)
+            self._writing.write_left(log, item, manifest, self._keeping.empty(item.entry))
+        else:
+            yield from self._arrive(serving, log, item)
+        log.place, log.since = item.entry, Since()
+        for one in old:
+            yield from self._keeping.forget_old(log, one)
+
+    def _arrive(self, serving: Serving, log: Log, item: Arrives) -> Steps[None]:
+        """Makes a state that arrives; one that can't be made is refused, and the tenant is empty then."""
+        try:
+            manifest = Manifest.read(item.manifest)
+            stream = log.stream_of(manifest)
+            yield from serving.make(item.tenant, stream)
+        except (SnapshotDamaged, StateRefused, ValueError) as error:
+            serving.empty(item.tenant)
+            sentence = f"what arrives at shard {self._keys.number} is refused: {error}"
+            self._writing.write([Written(item.tenant, item.entry, FAULT, sentence.encode())])
+            return
+        self._writing.write_arrived(log, item, self._keeping.at(manifest, item.entry, stream))
 
     # Snapshots.
 
-    def _take_snapshot(self, serving: Serving) -> None:
-        """Keeps the state, and drops the entries that led to it; a host that was asked often is replaced by a new one."""
-        new = serving.take_snapshot(after(self._place))
-        # By the server's clock, which has written the place.
-        kept = max(0, order(self._place)[0] - int(self._settings.reply_seconds * 1000))
-        *parts, last = _parts(new)
-        held, aside = [self._lease.token, self._lease.milliseconds], self._keys.parts(self._place)
-        for part in parts:
-            words = [*held, *part]
-            self._under_lease(lambda: scripts.KEEP_PART(self._redis, [self._keys.lease, aside], words))
-        keys = [self._keys.lease, self._keys.snapshot, self._keys.frames, self._keys.replies, aside]
-        arguments = [*held, after(self._place), b"%d-0" % kept, self._snapshot_place, self._place, *last]
-        self._under_lease(lambda: scripts.KEEP_SNAPSHOT(self._redis, keys, arguments))
-        self._snapshot_place, self._entries, self._bytes = self._place, 0, 0
+    def _look_at_snapshots(self, serving: Serving) -> None:
+        """Begins a snapshot of the tenant that has most to be played again, where there is too much of that."""
+        self._keeping.look_at_ages(self._logs, lambda tenant, job: self._begin(tenant, job), self._busy)
+        if self._jobs:
+            return
         if serving.asked >= self._settings.most_asked:
-            serving.restore(dict(serving.snapshot))
+            self._replace_host(serving)
+            return
+        due = self._keeping.due(self._logs, self._busy)
+        if due is not None:
+            self._begin(due.tenant, self._keeping.snapshot(serving, due))
 
-    def _history(self, tenant: int, behind: bytes | None, limit: bytes) -> Iterator[Asked]:
-        """The frames of a tenant, with their replies, between two entries."""
-        own = b"%d" % tenant
-        for entries, replies in self._both(behind or self._snapshot_place, before(limit)):
-            self._lease.keep()
-            for entry, fields in entries:
-                if fields.get(TENANT) != own or LEAVES in fields:
-                    continue
-                if ARRIVES in fields:
-                    yield from answered(fields[ARRIVES])
-                elif entry not in replies:
-                    raise ShardError(f"entry {entry.decode()} of shard {self._keys.number} has no reply any more")
-                elif REPLIES in replies[entry]:
-                    yield from zip(split(fields[FRAMES]), split(replies[entry][REPLIES]), strict=True)
-
-
-def _parted(entries: Sequence[Entry]) -> Iterator[list[Entry]]:
-    """Entries in pieces, so that a tenant that leaves is alone in its piece: what was answered before is written then."""
-    piece: list[Entry] = []
-    for entry in entries:
-        if LEAVES in entry[1]:
-            if piece:
-                yield piece
-            yield [entry]
-            piece = []
+    def _replace_host(self, serving: Serving) -> None:
+        """A host that was asked often is replaced by a new one: after snapshots of all, so that little is played again."""
+        changed = [log for log in self._logs if not log.aside and log.since.frames > 1000]
+        if changed:
+            for log in changed:
+                self._begin(log.tenant, self._keeping.snapshot(serving, log))
         else:
-            piece.append(entry)
-    if piece:
-        yield piece
+            self._waiting_for_redis(lambda: self._restore(serving))
+
+    def _make_room(self, serving: Serving, calls: Sequence[Call | NoCall], error: OutOfMemory) -> None:
+        """Makes room in a Redis that has no memory left: drops replies that are old, and the log of what has most of it. The tenants
+        whose replies are not written yet have a state of which no snapshot can speak."""
+        played = {call.tenant for call in calls}
+        for log in self._logs:
+            at_once(self._keeping.drop_old(log))
+            at_once(self._keeping.drop_before(log))
+        idle = [log for log in self._logs if log.tenant not in played | self._busy and not log.aside and log.since.size]
+        if idle:
+            log = max(idle, key=lambda one: one.since.size)
+            at_once(self._keeping.snapshot(serving, log))
+            at_once(self._keeping.drop_before(log))
+        self._tell_now_and_then(f"shard {self._keys.number} waits: {error}. {self._writing.memory()}")
+        self._alive()
+        if self._is_stopped():
+            raise Stopped("stopped")
+        self._system.sleep(_LONGEST_PAUSE)
 
 
-def _parts(snapshot: Mapping[int, bytes]) -> list[list[str | bytes]]:
-    """Fields of a snapshot with their bytes, in parts that a script is given at once; one at least."""
-    fields: Iterator[list[str | bytes]] = ([f"{_TENANT}{tenant}", stream] for tenant, stream in snapshot.items())
-    parts = in_parts(fields, lambda field: len(field[1]), _WRITTEN_AT_ONCE)
-    return [[word for field in part for word in field] for part in parts] or [[]]
-
-
-def _size(written: Written) -> int:
-    return len(written.value) + sum(map(len, written.kept.values()))
-
-
-def _shown(value: bytes) -> str:
-    return value[:60].hex() + (".." if len(value) > 60 else "")
+def _turn_of(items: Sequence[Item]) -> list[Item]:
+    """What of a tenant's entries has its turn: the calls in front, up to its share, or one entry that is no call."""
+    taken: list[Item] = []
+    frames, size = TURN_FRAMES, TURN_BYTES
+    for item in items:
+        if not isinstance(item, (Call, NoCall)):
+            return taken or [item]
+        frames -= len(item.frames) if isinstance(item, Call) else 1
+        size -= item.size
+        if taken and (frames < 0 or size < 0):
+            break
+        taken.append(item)
+    return taken

@@ -6,10 +6,12 @@ import threading
 import time
 import unittest
 import warnings
+from collections.abc import Callable
 
 from bpfhost import MapType, frames
 from bpfhost.shards import Client, Settings, ShardKeys, Worker
-from bpfhost.shards.connection import connect
+from bpfhost.shards.connection import Redis, connect
+from bpfhost.shards.registering import register
 from tests.common import PROGRAM, HostTest
 from tests.shards.redis_server import RedisServer, missing
 
@@ -30,11 +32,14 @@ def put(value: int) -> bytes:
 class WorkerThread:
     """A worker in a thread; `error` is what it ended with."""
 
-    def __init__(self, url: str, shard: int, settings: Settings = SETTINGS, program: str = PROGRAM) -> None:
+    def __init__(
+        self, url: str, shard: int, settings: Settings = SETTINGS, program: str = PROGRAM, directory: str | None = None
+    ) -> None:
         self.told: list[str] = []
         self.error: Exception | None = None
         self._stopped = threading.Event()
-        self.worker = Worker(connect(url), ShardKeys(shard), program, settings, self.told.append)
+        other = connect(directory) if directory else None
+        self.worker = Worker(connect(url), ShardKeys(shard), program, settings, self.told.append, other)
         self._thread = threading.Thread(target=self._run, daemon=True)
         self._thread.start()
 
@@ -45,10 +50,14 @@ class WorkerThread:
             self.error = error
 
     def wait(self) -> None:
-        """Waits until it serves, or has ended."""
+        """Waits until it serves and is offered, or has ended."""
         until = time.monotonic() + 30
-        while not self.told and self._thread.is_alive() and time.monotonic() < until:
+        while not self.serves() and self._thread.is_alive() and time.monotonic() < until:
             time.sleep(0.005)
+
+    def serves(self) -> bool:
+        """Whether it has said so."""
+        return any("is served" in sentence for sentence in self.told)
 
     def stop(self) -> None:
         """Ends the worker."""
@@ -75,9 +84,22 @@ class ShardTest(HostTest):
         self.addCleanup(self.client.close)
 
     def shard(self, number: int, settings: Settings = SETTINGS) -> WorkerThread:
-        """A shard of the directory, and its worker."""
-        self.client.directory.add_shard(number)
+        """The worker of a shard, which serves it or has ended."""
         worker = WorkerThread(self.server.url, number, settings)
         self.addCleanup(worker.stop)
         worker.wait()
         return worker
+
+    def empty_shard(self, number: int) -> tuple[Redis, ShardKeys]:
+        """A shard of the directory that nobody serves any more, and that is offered all the same."""
+        redis, keys = self.client.shard(number)
+        name = register(redis, keys, self.client.directory, "")
+        self.client.directory.beat(number, name)
+        return redis, keys
+
+    def until(self, holds: Callable[[], bool], what: str = "it never comes") -> None:
+        """Waits until something holds."""
+        end = time.monotonic() + 30
+        while not holds():
+            self.assertLess(time.monotonic(), end, what)
+            time.sleep(0.01)

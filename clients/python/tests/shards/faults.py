@@ -24,8 +24,9 @@ from collections.abc import Callable
 from pathlib import Path
 
 from bpfhost import Host
+from bpfhost.numbers import MOST_TENANTS
 from bpfhost.shards import Client, NoReply, moving
-from bpfhost.shards.connection import connect, told
+from bpfhost.shards.connection import connect
 from tests.shards.redis_server import RedisServer, missing
 from tests.shards.streams import Stream
 from tests.shards.worker_process import WorkerProcess
@@ -219,8 +220,7 @@ class Faults:
     def _cut(self) -> None:
         """Closes each connection to Redis, in the middle of whatever is asked there."""
         redis = connect(self._redis.url)
-        with told():
-            redis.execute_command("CLIENT", "KILL", "TYPE", "normal")
+        redis.call("CLIENT", "KILL", "TYPE", "normal")
         redis.close()
         self.counts["cut"] += 1
 
@@ -271,10 +271,11 @@ class Faults:
         with Client(self._redis.url) as client:
             for number in range(SHARDS):
                 redis, keys = client.shard(number)
-                asked, replied = (redis.xinfo_stream(name) for name in (keys.frames, keys.replies))
-                if asked["entries-added"] != replied["entries-added"] or asked["last-generated-id"] != replied["last-generated-id"]:
-                    raise Differs(f"shard {number} has {asked} and {replied}")
-                entries += asked["entries-added"]
+                for tenant in range(MOST_TENANTS):
+                    asked, replied = (redis.stream(name) for name in (keys.frames(tenant), keys.replies(tenant)))
+                    if any(asked.get(what) != replied.get(what) for what in (b"entries-added", b"last-generated-id")):
+                        raise Differs(f"tenant {tenant} of shard {number} has {asked} and {replied}")
+                    entries += asked.get(b"entries-added", 0)
         calls = sum(self._calls.values())
         if entries != calls + 2 * self.counts["moved"]:
             raise Differs(f"{entries} entries, and {calls} calls and {self.counts['moved']} moves")

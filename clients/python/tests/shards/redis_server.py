@@ -7,7 +7,8 @@ import subprocess
 import time
 from pathlib import Path
 
-from bpfhost.shards.connection import Away, Redis, connect, told
+from bpfhost.shards.connection import connect
+from bpfhost.shards.errors import Away
 
 SERVER = shutil.which("redis-server")
 _SECONDS = 20
@@ -63,14 +64,13 @@ class RedisServer:
             raise
 
     def _wait(self) -> None:
-        redis: Redis = connect(self.url)
+        redis = connect(self.url)
         until = time.monotonic() + _SECONDS
         while not (self.folder / "s").exists() and time.monotonic() < until:
             time.sleep(0.005)
         while time.monotonic() < until:
             try:
-                with told():
-                    redis.exists("nothing")
+                redis.get("nothing")
                 redis.close()
                 return
             except Away:

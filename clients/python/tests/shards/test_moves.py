@@ -7,8 +7,8 @@ import threading
 from unittest import mock
 
 from bpfhost import Errno, MapType
-from bpfhost.shards import Client, MoveError, Seat, ShardError, ShardKeys, move, remove, scripts
-from bpfhost.shards.connection import Script
+from bpfhost.shards import Client, MoveError, Seat, ShardError, ShardKeys, directory_scripts, move, remove, scripts
+from bpfhost.shards.connection import Redis, Script
 from tests.shards.common import CREATE, LOOK_UP, ShardTest, WorkerThread, put
 from tests.shards.redis_server import RedisServer
 
@@ -60,10 +60,10 @@ class Moves(ShardTest):
                 return done[-1]
 
             mover = Client(self.server.url)
-            moves = (scripts.BEGIN_MOVE, scripts.CLAIM, scripts.LEAVE, scripts.ARRIVE, scripts.SEAT, scripts.END_MOVE)
+            moves = (directory_scripts.BEGIN_MOVE, scripts.CLAIM, scripts.LEAVE, scripts.ARRIVE, scripts.SEAT, directory_scripts.END_MOVE)
 
-            def only_moves(script: Script, redis: object, *arguments: object) -> object:
-                if redis in mover._servers.values() and script in moves:
+            def only_moves(script: Script, redis: Redis, *arguments: object) -> object:
+                if redis._links in [one._links for one in mover._servers.values()] and script in moves:
                     return breaks(script, redis, *arguments)
                 return right(script, redis, *arguments)  # type: ignore[arg-type]
 
@@ -89,12 +89,12 @@ class Moves(ShardTest):
         self.client.directory.begin_move("acme")
         redis, keys = self.client.shard(second.shard)
         leaves = [second.tenant, second.generation, second.owned_by("acme")]
-        left = scripts.LEAVE(redis, [keys.seats, keys.frames], leaves)
+        left = scripts.LEAVE(redis, [keys.seats, keys.frames(second.tenant)], leaves)
         # Of the first move, late: the seat stays taken back, and the directory does not have the next one yet.
         self.assertEqual(scripts.SEAT(redis, [keys.seats], leaves), 0)
         self.client.directory.end_move("acme", first, second)
         self.assertEqual(self.client.directory.seat("acme"), second)
-        self.assertEqual(scripts.LEAVE(redis, [keys.seats, keys.frames], leaves), left)
+        self.assertEqual(scripts.LEAVE(redis, [keys.seats, keys.frames(second.tenant)], leaves), left)
         third = move(self.client, "acme")
         self.assertNotEqual(third, second)
         self.assertEqual(customer.ask(LOOK_UP).payload, (5).to_bytes(8, "little"))
@@ -131,8 +131,8 @@ class Moves(ShardTest):
     def test_shards_on_two_servers(self) -> None:
         (self.scratch / "two").mkdir()
         with RedisServer(self.scratch / "two") as other:
-            self.client.directory.add_shard(1, other.url)
-            far = WorkerThread(other.url, 1)
+            far = WorkerThread(other.url, 1, directory=self.server.url)
+            far.wait()
             self.shard(0)
             for name in ("one", "two"):
                 self.assertEqual(self.client.customer(name).ask(CREATE).status, 3)

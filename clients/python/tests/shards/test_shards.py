@@ -2,27 +2,34 @@
 
 from __future__ import annotations
 
+import signal
 import time
+from collections.abc import Callable
 from unittest import mock
 
 from bpfhost import Errno, Host, MapType, Packets, Refused, frames
 from bpfhost.shards import (
+    Client,
     LeaseHeld,
     LeaseLost,
     NoReply,
+    NotDone,
     NotTaken,
     RedisError,
-    RepliesDiffer,
     ReplyGone,
+    SetAside,
     Settings,
     ShardError,
     ShardKeys,
-    client as clients,
+    manifest as manifests,
+    move,
+    names,
+    operating,
     remove,
     scripts,
-    worker as workers,
 )
 from bpfhost.shards.connection import Script, connect, demand_durable
+from bpfhost.shards.errors import Away
 from bpfhost.shards.names import after, before, order
 from tests.common import LENGTH, PROGRAM
 from tests.shards.common import CREATE, LOOK_UP, SECONDS, ShardTest, WorkerThread, put
@@ -78,10 +85,10 @@ class Asking(ShardTest):
     def test_no_shard_and_no_room(self) -> None:
         with self.assertRaisesRegex(NotTaken, "no worker has begun yet"):
             self.client.customer("acme").ask(CREATE)
-        self.client.directory.add_shard(0)
+        self.empty_shard(0)
         for number in range(64):
             self.client.directory.place(f"customer-{number}")
-        with self.assertRaisesRegex(NotTaken, "customer more: no shard has room: each has 64 customers"):
+        with self.assertRaisesRegex(NotTaken, "customer more: no shard has room: the least loaded one has 64 customers"):
             self.client.customer("more").ask(CREATE)
 
 
@@ -89,26 +96,34 @@ class Calls(ShardTest):
     """A call is taken once, whatever becomes of its answer."""
 
     def test_a_number_of_a_session_is_taken_once(self) -> None:
-        self.client.directory.add_shard(0)
+        redis, keys = self.empty_shard(0)
         seat = self.client.directory.place("acme")
-        redis, keys = self.client.shard(0)
-        names = [keys.asked("session"), keys.seats, keys.frames]
+        used = [keys.seats, keys.frames(0), keys.sessions(1), keys.waiting, keys.lease]
 
-        def ask(number: int, of: bytes = seat.owned_by("acme"), most: int = 10) -> object:
-            return scripts.ASK(redis, names, [number, of, 0, CREATE, most, 1 << 30, 60])
+        def ask(number: int, of: bytes = seat.owned_by("acme"), most: int = 10_000, session: str = "one") -> list[bytes]:
+            words = [session, number, of, 0, 0, CREATE, 1000, most, 2]
+            return list(scripts.ASK(redis, used, words))
 
         self.assertEqual(ask(1), [b"seat"])
         self.assertEqual(scripts.CLAIM(redis, [keys.seats], [0, 1, seat.owned_by("acme")]), 1)
         first = ask(1)
         self.assertEqual([ask(1), ask(1)], [first, first])
         self.assertNotEqual(ask(2), first)
-        self.assertEqual(ask(1), [b"passed"])
-        self.assertEqual(redis.xlen(keys.frames), 2)
-        # A seat that is the customer's no more, and a stream that is full, take nothing; what was taken stays known.
-        self.assertEqual([ask(3, b"7 acme"), ask(3, b"1 other"), ask(3, most=2)], [[b"seat"], [b"seat"], [b"full"]])
-        self.assertEqual(scripts.CLAIM(redis, [keys.seats], [0, 9, b"9 other"]), 1)
+        self.assertEqual(ask(1), [b"passed", b"2"])
+        self.assertEqual((redis.xlen(keys.frames(0)), redis.hgetall(keys.waiting)), (2, {b"0": b"2000"}))
+        # A seat that is the customer's no more, and one who has enough waiting, take nothing; what was taken stays known.
+        others = [ask(3, b"7 name:acme"), ask(3, b"1 name:other"), ask(3, most=2999)]
+        self.assertEqual(others, [[b"seat"], [b"seat"], [b"full"]])
+        # A call that was given up is not taken later; one that was taken is not given up.
+        gives = [keys.sessions(1), keys.lease]
+        self.assertEqual(scripts.GIVE_UP(redis, gives, ["one", 3])[0], b"given up")
+        self.assertEqual([ask(3)[0], ask(2)], [b"given up", [b"passed", b"3"]])
+        fourth = ask(4)
+        self.assertEqual(scripts.GIVE_UP(redis, gives, ["one", 4]), fourth)
+        self.assertEqual((ask(1, session="two")[0], ask(1, session="three")), (b"taken", [b"sessions"]))
+        self.assertEqual(scripts.CLAIM(redis, [keys.seats], [0, 9, b"9 name:other"]), 1)
         self.assertEqual(scripts.CLAIM(redis, [keys.seats], [0, 1, seat.owned_by("acme")]), 0)
-        self.assertEqual(ask(2)[0], b"taken")  # type: ignore[index]
+        self.assertEqual(ask(4), fourth)
 
     def test_an_answer_that_is_lost(self) -> None:
         self.shard(0)
@@ -121,13 +136,13 @@ class Calls(ShardTest):
             answer = right(script, *arguments)  # type: ignore[arg-type]
             if script is scripts.ASK and len(lost) < 3:
                 lost.append(answer)
-                raise ConnectionError("cut")
+                raise Away("cut")
             return answer
 
         with mock.patch.object(Script, "__call__", loses):
             self.assertEqual(customer.ask(frames.map_update_elem(0, 3, b"key1", bytes(8), 1)).status, 0)
         self.assertEqual(len(lost), 3)
-        self.assertEqual(self.client.shard(0)[0].xlen(ShardKeys(0).frames), 2)
+        self.assertEqual(self.client.shard(0)[0].xlen(ShardKeys(0).frames(0)), 2)
 
     def test_a_call_that_is_not_taken_is_not_sent_later(self) -> None:
         customer = self.client.customer("acme")
@@ -136,67 +151,127 @@ class Calls(ShardTest):
         self.shard(0)
         self.assertEqual(customer.ask(CREATE).status, 3)
 
+    def test_a_call_that_comes_late(self) -> None:
+        """A call that was given up is refused when what was on its way comes to the server after all."""
+        redis, keys = self.empty_shard(0)
+        customer = self.client.customer("acme", seconds=0.1)
+        right, late = Script.__call__, list[tuple[object, ...]]()
+
+        def delays(script: Script, *arguments: object) -> object:
+            if script is scripts.ASK and not late:
+                late.append(arguments)
+                raise Away("cut")
+            return right(script, *arguments)  # type: ignore[arg-type]
+
+        with mock.patch.object(Script, "__call__", delays), mock.patch.object(names, "MOST_WAITING", 1):
+            redis.hset(keys.waiting, 0, 1)
+            with self.assertRaisesRegex(NotTaken, "customer acme has as many calls waiting as one may have"):
+                customer.post(CREATE)
+            redis.hset(keys.waiting, 0, 0)
+            self.assertEqual(scripts.ASK(*late[0])[0], b"given up")  # type: ignore[arg-type]
+        self.assertEqual(redis.xlen(keys.frames(0)), 0)
+
     def test_a_worker_that_comes_later(self) -> None:
-        self.client.directory.add_shard(0)
+        self.empty_shard(0)
         customer = self.client.customer("acme")
         ticket = customer.post(CREATE)
-        with self.assertRaisesRegex(NoReply, "shard 0 has not answered entry .*: does its worker run"):
+        with self.assertRaisesRegex(NoReply, "shard 0 has not answered entry .*: does its worker run") as told:
             customer.wait(ticket, 0.1)
+        self.assertIs(told.exception.ticket, ticket)
         self.shard(0)
         self.assertEqual(customer.wait(ticket)[0][8:], bytes([3, 0, 0, 0]))
+
+    def test_the_deadline_holds(self) -> None:
+        self.empty_shard(0)
+        customer = self.client.customer("acme")
+        ticket = customer.post(CREATE)
+        # A server that takes connections and says nothing.
+        assert self.server.process is not None
+        self.server.process.send_signal(signal.SIGSTOP)
+        self.addCleanup(self.server.process.send_signal, signal.SIGCONT)
+        calls: tuple[Callable[[], object], ...] = (lambda: customer.wait(ticket, 0.5), lambda: customer.post(CREATE, 0.5))
+        for call in calls:
+            began = time.monotonic()
+            with self.assertRaises(NoReply):
+                call()
+            self.assertLess(time.monotonic() - began, 1.0)
 
     def test_a_redis_that_comes_later(self) -> None:
         self.shard(0)
         customer = self.client.customer("acme", seconds=0.3)
         customer.ask(CREATE)
         self.server.kill()
-        with self.assertRaisesRegex(NoReply, "not known whether a call of customer acme was taken: Redis can't be reached"):
+        with self.assertRaisesRegex(NoReply, "not known whether a call of customer acme was taken: Redis can't be reached") as told:
             customer.ask(put(1))
         self.server.start()
-        # The next call begins with the one that was given up on.
         customer.seconds = 30
+        # The exception has the call, which is sent again when it is waited for.
+        assert told.exception.ticket is not None
+        self.assertEqual([reply[8:] for reply in customer.wait(told.exception.ticket)], [bytes(4)])
         self.assertEqual(customer.ask(LOOK_UP).payload, (1).to_bytes(8, "little"))
 
-    def test_a_full_stream(self) -> None:
-        self.client.directory.add_shard(0)
-        customer = self.client.customer("acme", seconds=0.1)
-        with mock.patch.object(clients, "MOST_ENTRIES", 2):
-            customer.post(CREATE)
-            customer.post(LOOK_UP)
-            with self.assertRaisesRegex(NotTaken, "the stream of shard 0 is full"):
-                customer.post(LOOK_UP)
-        self.shard(0)
-        self.assertEqual(customer.ask(put(5)).status, 0)
-
-    def test_a_stream_with_many_bytes(self) -> None:
-        self.client.directory.add_shard(0)
-        customer = self.client.customer("acme", seconds=0.1)
-        with mock.patch.object(clients, "MOST_BYTES", 1 << 20):
-            with self.assertRaisesRegex(NotTaken, "the stream of shard 0 is full"):
+    def test_more_than_one_may_have_waiting(self) -> None:
+        self.empty_shard(0)
+        customer, other = self.client.customer("acme", seconds=0.1), self.client.customer("other")
+        with mock.patch.object(names, "MOST_WAITING", 1 << 20):
+            with self.assertRaisesRegex(NotTaken, "customer acme has as many calls waiting as one may have: the worker of shard 0 is behind"):
                 for _ in range(65):
                     customer.post(frames.frame(0, 1, bytes(100_000)))
-            # What is due by its bytes is dropped by a snapshot.
-            self.shard(0, Settings(SECONDS, snapshot_bytes=1 << 20))
-            redis, keys = self.client.shard(0)
-            while redis.xlen(keys.frames):
-                time.sleep(0.01)
-            self.assertEqual(customer.ask(CREATE).status, 3)
+            # What one has waiting takes nothing from another.
+            ticket = other.post(CREATE)
+        self.shard(0, Settings(SECONDS, snapshot_bytes=1 << 20))
+        redis, keys = self.client.shard(0)
+        self.assertEqual(other.wait(ticket)[0][8:], bytes([3, 0, 0, 0]))
+        self.until(lambda: redis.hget(keys.waiting, 0) == b"0")
+        customer.seconds = 30
+        self.assertEqual(customer.ask(CREATE).status, 3)
 
     def test_replies_that_nobody_read(self) -> None:
         self.shard(0, Settings(SECONDS, snapshot_entries=1, reply_seconds=0.0))
         customer = self.client.customer("acme")
         ticket = customer.post(CREATE)
-        time.sleep(0.01)
-        for value in range(20):
-            customer.post(put(value))
-        last = customer.post(LOOK_UP)
         redis, keys = self.client.shard(0)
-        while redis.hget(keys.snapshot, "place") != last.entry:
-            time.sleep(0.01)
+        for value in range(20):
+            customer.wait(customer.post(put(value)))
+        self.until(lambda: redis.dropped_id(keys.replies(0)) >= (ticket.entry or b""))
         for _ in range(2):
             with self.assertRaisesRegex(ReplyGone, "nobody read them in time"):
                 customer.wait(ticket)
-        self.assertEqual(redis.xlen(keys.frames), 0)
+
+    def test_calls_that_were_dropped_undone(self) -> None:
+        redis, keys = self.empty_shard(0)
+        customer = self.client.customer("acme")
+        tickets = [customer.post(CREATE) for _ in range(3)]
+        redis.call("XTRIM", keys.frames(0), "MINID", tickets[2].entry)
+        self.shard(0)
+        for ticket in tickets[:2]:
+            with self.assertRaisesRegex(NotDone, "was dropped from its stream before it was done: its frames were not done"):
+                customer.wait(ticket)
+        self.assertEqual(customer.wait(tickets[2])[0][8:], bytes([3, 0, 0, 0]))
+        self.until(lambda: redis.hget(keys.waiting, 0) == b"0")
+
+    def test_a_session_that_the_next_process_goes_on_with(self) -> None:
+        for shard in (0, 1):
+            self.shard(shard)
+        first = self.client.customer("acme", session="counts")
+        self.assertEqual((first.resume(), first.last()), (0, None))
+        first.ask(CREATE).done()
+        first.post(put(1))
+        # As if the process had died here, and the customer was moved meanwhile.
+        for _ in range(2):
+            with Client(self.server.url) as client:
+                second = client.customer("acme", session="counts")
+                self.assertEqual(second.resume(), 2)
+                last = second.last()
+                assert last is not None
+                self.assertEqual(second.wait(last), [bytes.fromhex("08000000 0000 0200 00000000")])
+            move(self.client, "acme")
+        third = self.client.customer("acme", session="counts")
+        self.assertEqual(third.resume(), 2)
+        self.assertEqual(third.ask(LOOK_UP).payload, (1).to_bytes(8, "little"))
+        self.assertEqual(self.client.customer("acme", session="counts").resume(), 3)
+        with self.assertRaisesRegex(ShardError, "call 1 of customer acme was passed by call 3 of its session"):
+            self.client.customer("acme", session="counts").ask(LOOK_UP)
 
 
 class Workers(ShardTest):
@@ -205,71 +280,113 @@ class Workers(ShardTest):
         second = WorkerThread(self.server.url, 0)
         second.join()
         self.assertIsInstance(second.error, LeaseHeld)
-        self.assertRegex(str(second.error), "^shard 0 is served by another worker, .* process [0-9]+, whose lease is renewed$")
+        self.assertRegex(str(second.error), "^shard 0 is served by another worker, .* process [0-9]+, who raises its lease$")
         self.assertEqual(self.client.customer("acme").ask(CREATE).status, 3)
         self.assertIsNone(first.error)
 
-    def test_a_lease_without_an_end(self) -> None:
+    def test_a_lease_whose_holder_is_gone(self) -> None:
         redis, keys = self.client.shard(0)
-        redis.set(keys.lease, "token elsewhere process 7")
-        worker = self.shard(0)
-        self.assertIsInstance(worker.error, LeaseHeld)
+        for field, value in (("token", "token elsewhere process 7"), ("count", "5"), ("milliseconds", "700")):
+            redis.hset(keys.lease, field, value)
+        began = time.monotonic()
+        worker = self.shard(0, Settings(0.5))
+        self.assertIsNone(worker.error)
+        self.assertGreater(time.monotonic() - began, 0.7)
 
     def test_a_lease_that_is_gone(self) -> None:
         worker = self.shard(0)
         customer = self.client.customer("acme")
         customer.ask(CREATE)
         redis, keys = self.client.shard(0)
-        redis.set(keys.lease, "token elsewhere process 7", px=500)
+        redis.hset(keys.lease, "token", "token elsewhere process 7")
         customer.post(put(1))
         worker.join()
         self.assertIsInstance(worker.error, LeaseLost)
         self.assertIn("it is now elsewhere process 7's", str(worker.error))
         # Nothing of it was written, and the next worker does it.
-        self.assertEqual(redis.xlen(keys.replies), 1)
+        self.assertEqual(redis.xlen(keys.replies(0)), 1)
+        redis.hdel(keys.lease, "token")
         self.shard(0)
         self.assertEqual(customer.ask(LOOK_UP).payload, (1).to_bytes(8, "little"))
+
+    def test_a_worker_that_is_stopped_while_it_waits(self) -> None:
+        redis, keys = self.client.shard(0)
+        for field, value in (("token", "token elsewhere process 7"), ("count", "5"), ("milliseconds", "60000")):
+            redis.hset(keys.lease, field, value)
+        worker = WorkerThread(self.server.url, 0)
+        time.sleep(0.2)
+        began = time.monotonic()
+        worker.stop()
+        self.assertLess(time.monotonic() - began, 2)
+        self.assertIsNone(worker.error)
+
+    def test_a_worker_that_starts_before_its_redis(self) -> None:
+        self.server.kill()
+        worker = WorkerThread(self.server.url, 0)
+        self.addCleanup(worker.stop)
+        self.until(lambda: bool(worker.told))
+        self.assertRegex(worker.told[0], "^shard 0 waits: Redis can't be reached: ")
+        self.server.start()
+        worker.wait()
+        self.assertEqual(self.client.customer("acme").ask(CREATE).status, 3)
+        # It also waits for one that goes away later.
+        self.server.kill()
+        time.sleep(1)
+        self.server.start()
+        self.assertEqual(self.client.customer("acme").ask(CREATE).status, 4)
+        self.assertIsNone(worker.error)
 
     def test_what_was_answered_is_played_again(self) -> None:
         first = self.shard(0, Settings(SECONDS, snapshot_entries=100))
         customer = self.client.customer("acme")
         customer.ask(CREATE)
-        for value in range(250):
+        for value in range(350):
             customer.ask(put(value))
         first.stop()
         redis, keys = self.client.shard(0)
-        self.assertEqual(redis.xlen(keys.frames), 51)
-        self.assertEqual(redis.xlen(keys.replies), 251)
+        # The entries since the snapshot before the last one are there.
+        self.assertLess(redis.xlen(keys.frames(0)), 250)
+        self.assertEqual(redis.xlen(keys.replies(0)), 351)
         second = self.shard(0)
-        self.assertEqual(customer.ask(LOOK_UP).payload, (249).to_bytes(8, "little"))
+        self.assertEqual(customer.ask(LOOK_UP).payload, (349).to_bytes(8, "little"))
         self.assertIsNone(second.error)
 
     def test_a_reply_that_was_another_one(self) -> None:
-        self.client.directory.add_shard(0)
+        """The tenant alone is set aside; its customer is told, others go on, and an operator's word decides."""
+        redis, keys = self.empty_shard(0)
         ticket = self.client.customer("acme").post(CREATE)
-        redis, keys = self.client.shard(0)
-        redis.execute_command("XADD", keys.replies, ticket.entry, "r", bytes.fromhex("0800000000000000 04000000"))
-        worker = self.shard(0)
-        worker.join()
-        self.assertIsInstance(worker.error, RepliesDiffer)
-        wanted = "is answered 080000000000000003000000, and was answered 080000000000000004000000: the shard is not served"
-        self.assertIn(wanted, str(worker.error))
+        redis.call("XADD", keys.replies(0), ticket.entry, "r", bytes.fromhex("0800000000000000 04000000"))
+        self.shard(0)
+        customer, other = self.client.customer("acme"), self.client.customer("other")
+        self.assertEqual(other.ask(CREATE).status, 3)
+        wanted = "is answered 080000000000000003000000 when it is played again, and was answered 080000000000000004000000"
+        with self.assertRaisesRegex(SetAside, f"customer acme is set aside until an operator has looked: .* {wanted}"):
+            customer.ask(LOOK_UP)
+        self.assertIn(wanted, operating.say(self.client, "acme", "retry", 20))
+        with self.assertRaises(SetAside):
+            customer.ask(LOOK_UP)
+        operating.say(self.client, "acme", "skip", 20)
+        self.assertEqual(customer.ask(LOOK_UP).status, -Errno.ENOENT)
 
     def test_an_entry_that_is_missing(self) -> None:
-        self.client.directory.add_shard(0)
+        redis, keys = self.empty_shard(0)
         ticket = self.client.customer("acme").post(CREATE)
-        redis, keys = self.client.shard(0)
-        redis.execute_command("XADD", keys.replies, after(ticket.entry or b""), "r", b"")
+        redis.call("XADD", keys.replies(0), after(ticket.entry or b""), "r", b"")
         worker = self.shard(0)
-        worker.join()
-        self.assertIsInstance(worker.error, ShardError)
+        self.assertEqual(self.client.customer("other").ask(CREATE).status, 3)
+        with self.assertRaises(SetAside):
+            self.client.customer("acme").ask(CREATE)
+        self.assertIsNone(worker.error)
 
     def test_entries_of_others(self) -> None:
-        self.shard(0)
+        worker = self.shard(0)
         redis, keys = self.client.shard(0)
-        for fields in (("t", "64"), ("x", "y"), ("t", "0", "f", b"\1\2\3"), ("t", "0", "arrive", b"\1\2")):
-            redis.execute_command("XADD", keys.frames, "*", *fields)
-        self.assertEqual(self.client.customer("acme").ask(CREATE).status, 3)
+        for tenant in (0, 1):
+            for fields in (("x", "y"), ("f", b"\1\2\3"), ("arrive", b"\1\2"), ("arrive", "{}"), ("leave", "7")):
+                redis.call("XADD", keys.frames(tenant), "*", *fields)
+        for name in ("arrives", "leaves", "name:", "7", "closed:"):
+            self.assertEqual(self.client.customer(name).ask(CREATE).status, 3)
+        self.assertIsNone(worker.error)
 
     def test_a_host_that_was_asked_often(self) -> None:
         worker = self.shard(0, Settings(SECONDS, most_asked=100))
@@ -278,47 +395,45 @@ class Workers(ShardTest):
         for value in range(500):
             self.assertEqual([reply.status for reply in customer.ask_all([put(value), LOOK_UP])], [0, 0])
         self.assertIsNone(worker.error)
-        self.assertTrue(self.client.shard(0)[0].hget(ShardKeys(0).snapshot, "tenant:0"))
 
-    def test_a_snapshot_in_parts(self) -> None:
+    def test_a_snapshot_in_pieces(self) -> None:
         """More bytes than a script is given at once, of tenants that come and go."""
         redis, keys = self.client.shard(0)
-        with mock.patch.object(workers, "_WRITTEN_AT_ONCE", 100):
+        with mock.patch.object(manifests, "PIECE", 100):
             first = self.shard(0, Settings(SECONDS, snapshot_entries=12))
             for number in range(8):
                 customer = self.client.customer(f"customer-{number}")
                 self.assertEqual([reply.status for reply in customer.ask_all([CREATE, put(number)])], [3, 0])
+                self.assertEqual([reply.status for reply in customer.ask_all([CREATE, put(number)])], [4, 0])
             for number in (0, 3):
                 remove(self.client, f"customer-{number}")
             for _ in range(30):
                 self.client.customer("customer-7").ask(LOOK_UP)
-        first.stop()
-        self.assertEqual(redis.execute_command("KEYS", "*parts*"), [])
-        self.assertEqual(sorted(redis.hgetall(keys.snapshot)), sorted([b"place", *(b"tenant:%d" % at for at in (1, 2, 4, 5, 6, 7))]))
-        self.shard(0)
-        for number in (1, 2, 4, 5, 6, 7):
-            self.assertEqual(self.client.customer(f"customer-{number}").ask(LOOK_UP).payload, number.to_bytes(8, "little"))
+            first.stop()
+            # Each piece is one that a snapshot has.
+            self.assertGreater(len(redis.hkeys(keys.pieces)), 1)
+            second = self.shard(0)
+            found = {name for log in second.worker._logs for one in log.manifests() for name in one.names()}
+            self.assertEqual({name.decode() for name in redis.hkeys(keys.pieces)} - found, set())
+            for number in (1, 2, 4, 5, 6, 7):
+                self.assertEqual(self.client.customer(f"customer-{number}").ask(LOOK_UP).payload, number.to_bytes(8, "little"))
 
     def test_a_snapshot_that_comes_late(self) -> None:
-        self.client.directory.add_shard(0)
-        redis, keys = self.client.shard(0)
-        redis.set(keys.lease, "token")
-        names = [keys.lease, keys.snapshot, keys.frames, keys.replies, keys.parts(b"5-0")]
+        redis, keys = self.empty_shard(0)
+        redis.hset(keys.lease, "token", "token")
 
-        def keep(last: str, this: str, tenant: bytes) -> object:
-            return scripts.KEEP_SNAPSHOT(redis, names, ["token", 60_000, "0-1", "0-1", last, this, "tenant:0", tenant])
+        def keep(this: str, last: str) -> object:
+            return scripts.KEEP_SNAPSHOT(redis, [keys.lease, keys.snapshots], ["token", 0, this, last])
 
-        self.assertEqual(keep("0-0", "5-0", b"one"), 1)
-        self.assertEqual(keep("5-0", "9-0", b"two"), 1)
-        self.assertEqual(keep("5-0", "9-0", b"two"), 1)
-        with self.assertRaisesRegex(Exception, "the last snapshot is at 9-0 and not at 0-0"):
-            keep("0-0", "5-0", b"one")
-        self.assertEqual(redis.hgetall(keys.snapshot), {b"place": b"9-0", b"tenant:0": b"two"})
+        self.assertEqual([keep("one", ""), keep("two", "one"), keep("two", "one")], [1, 1, 1])
+        with self.assertRaisesRegex(RedisError, "the last snapshot of tenant 0 is another one"):
+            keep("one", "")
+        self.assertEqual(redis.hgetall(keys.snapshots), {b"0": b"two", b"0:before": b"one"})
 
     def test_a_redis_that_may_lose(self) -> None:
         redis = connect(self.server.url)
         demand_durable(redis)
-        redis.execute_command("CONFIG", "SET", "appendfsync", "everysec")
+        redis.call("CONFIG", "SET", "appendfsync", "everysec")
         with self.assertRaisesRegex(RedisError, "Redis has appendfsync everysec, and a shard's log needs always"):
             demand_durable(redis)
         worker = self.shard(0)
@@ -330,7 +445,7 @@ class Ids(ShardTest):
     def test_numbers_of_shards(self) -> None:
         for number in (-1, 1 << 31):
             told = f"a shard's number is 0 to 2147483647, and not {number}"
-            self.assertRaisesRegex(ShardError, told, self.client.directory.add_shard, number)
+            self.assertRaisesRegex(ShardError, told, self.client.directory.register, number, b"name")
         self.assertEqual(self.client.directory.loads(), {})
 
     def test_order(self) -> None:

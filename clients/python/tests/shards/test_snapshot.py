@@ -4,52 +4,59 @@ from __future__ import annotations
 
 import random
 import signal
-from collections.abc import Iterable
 
 from bpfhost import Host, MapType, assemble, frames
-from bpfhost.shards.connection import Entry
+from bpfhost.shards.calls import Call, NoCall, item_of
 from bpfhost.shards.copied import Asked, Copy
-from bpfhost.shards.errors import MemoryRefused, ShardError
-from bpfhost.shards.names import ARRIVES, FRAMES, LEAVES, TENANT, order
+from bpfhost.shards.errors import CopyDiffers, MemoryRefused, StateRefused
+from bpfhost.shards.names import FRAMES
 from bpfhost.shards.serving import Serving, answered
-from bpfhost.shards.snapshot import split, state_frames, with_tenant
+from bpfhost.shards.snapshot import at_once, split, state_frames, with_tenant
+from bpfhost.shards.system import MACHINE
 from bpfhost.shards.tenancy import Tenancy, status_of
 from bpfhost.slots import named_maps, renamed_maps
 from tests.common import PROGRAM, SECONDS, HostTest, TimedTest
+from tests.shards.common import CREATE, LOOK_UP
 from tests.shards.streams import Stream, is_without_descriptor, slots_of
 
 SERVINGS, TENANTS, LENGTH = 5, 64, 200
 
 
-class Log:
-    """Entries with their replies, as the streams of a shard have them."""
+class Played:
+    """The calls of one tenant on one host since its last snapshot, with their replies."""
 
-    def __init__(self) -> None:
-        self.entries: list[Entry] = []
-        self.replies: dict[bytes, bytes] = {}
-        self.snapshot = b"0-0"
+    def __init__(self, serving: Serving, tenant: int) -> None:
+        self.serving, self.tenant = serving, tenant
+        self.before, self.asked = b"", list[Asked]()
 
-    def add(self, tenant: int, name: bytes, value: bytes) -> Entry:
-        entry = b"%d-0" % (len(self.entries) + 1), {TENANT: b"%d" % tenant, name: value}
-        self.entries.append(entry)
-        return entry
+    def play(self, frames: list[bytes]) -> list[bytes]:
+        """Plays frames as a call, and gives the replies."""
+        ((written, _),) = self.serving.play([Call(b"1-0", self.tenant, frames, 0)])
+        replies = split(written.value)
+        self.asked += zip(frames, replies, strict=True)
+        return replies
 
-    def history(self, tenant: int, behind: bytes | None, before: bytes) -> Iterable[Asked]:
-        """What a tenant has sent between two entries, with its replies."""
-        for entry, fields in self.entries:
-            is_between = order(behind or self.snapshot) < order(entry) < order(before)
-            if is_between and fields[TENANT] == b"%d" % tenant and LEAVES not in fields:
-                yield from answered(fields[ARRIVES]) if ARRIVES in fields else zip(split(fields[FRAMES]), split(self.replies[entry]))
+    def snapshot(self) -> bytes:
+        """The frames of a snapshot; what is played from then on is behind it."""
+        self.before = at_once(self.serving.state(self.tenant, self.before, lambda: self.asked))
+        self.asked = []
+        return self.before
 
-    def play(self, serving: Serving, entry: Entry) -> list[bytes]:
-        """Plays an entry, and gives the replies."""
-        written = serving.play([entry])
-        self.replies[entry[0]] = written[0].value
-        return split(written[0].value)
+    def restore(self, stream: bytes) -> None:
+        """Makes the state of a snapshot."""
+        at_once(self.serving.make(self.tenant, stream))
+        self.before, self.asked = stream, []
+
+    def leave(self) -> bytes:
+        """Takes a snapshot, after which the tenant is a new one."""
+        state = self.snapshot()
+        self.serving.empty(self.tenant)
+        self.before = b""
+        return state
 
 
-def serving(log: Log) -> Serving:
-    return Serving(PROGRAM, log.history, lambda: None)
+def serving() -> Serving:
+    return Serving(PROGRAM, MACHINE)
 
 
 class Told:
@@ -62,80 +69,81 @@ class Told:
         self.without_descriptor = is_without_descriptor(stream.tenancy)
         self.at = 0
 
-    def call(self, log: Log, tenant: int, many: int) -> tuple[Entry, list[bytes]]:
-        """The next frames as an entry, and the replies that are wanted."""
+    def call(self, many: int) -> tuple[list[bytes], list[bytes]]:
+        """The next frames, and the replies that are wanted."""
         start, self.at = self.at, min(self.at + many, len(self.frames))
-        entry = log.add(tenant, FRAMES, b"".join(self.frames[start : self.at]))
-        return entry, self.replies[start : self.at]
+        return self.frames[start : self.at], self.replies[start : self.at]
 
     def done(self) -> bool:
         return self.at == len(self.frames)
 
 
+Tenants = dict[int, Played]
+
+
+def tenants(host: Serving) -> Tenants:
+    """All tenants of a host."""
+    return {tenant: Played(host, tenant) for tenant in range(TENANTS)}
+
+
 class Snapshots(HostTest):
-    def play(self, log: Log, hosts: list[Serving], streams: dict[int, Told], draw: random.Random, until: int = LENGTH) -> None:
+    def play(self, hosts: list[Tenants], streams: dict[int, Told], draw: random.Random, until: int = LENGTH) -> None:
         """Plays streams by chance, up to so many frames each, on all of the hosts; each is told what it is told alone."""
         while going := [tenant for tenant, one in streams.items() if one.at < min(until, len(one.frames))]:
             tenant = draw.choice(going)
-            entry, wanted = streams[tenant].call(log, tenant, min(draw.randrange(1, 40), until - streams[tenant].at))
+            asked, wanted = streams[tenant].call(min(draw.randrange(1, 40), until - streams[tenant].at))
             for host in hosts:
-                self.assertEqual(log.play(host, entry), wanted)
+                self.assertEqual(host[tenant].play(asked), wanted)
 
     def test_hundreds_of_streams(self) -> None:
         without = 0
         for number in range(SERVINGS):
             # Each host has the time of a test.
             signal.alarm(SECONDS)
-            draw, log = random.Random(number), Log()
+            draw = random.Random(number)
             streams = {tenant: Told(f"{number} {tenant}", LENGTH) for tenant in range(TENANTS)}
             without += sum(one.without_descriptor for one in streams.values())
-            with serving(log) as first, serving(log) as second:
-                self.play(log, [first], streams, draw, LENGTH // 3)
-                first.take_snapshot(b"%d-0" % (len(log.entries) + 1))
-                log.snapshot = log.entries[-1][0]
-                self.play(log, [first], streams, draw, 2 * LENGTH // 3)
-                # Of the tenants that have changed alone, some of which have maps without descriptors since before the first one.
-                first.take_snapshot(b"%d-0" % (len(log.entries) + 1))
-                log.snapshot = log.entries[-1][0]
-                second.restore(first.snapshot)
-                self.play(log, [first, second], streams, draw)
-                for host in (first, second):
-                    host.take_snapshot(b"%d-0" % (len(log.entries) + 1))
-                self.assertEqual(first.snapshot, second.snapshot)
+            with serving() as one, serving() as other:
+                first, second = tenants(one), tenants(other)
+                self.play([first], streams, draw, LENGTH // 3)
+                for played in first.values():
+                    played.snapshot()
+                self.play([first], streams, draw, 2 * LENGTH // 3)
+                # Some have maps without descriptors since before the first one.
+                for tenant, played in first.items():
+                    second[tenant].restore(played.snapshot())
+                self.play([first, second], streams, draw)
+                for tenant, played in first.items():
+                    self.assertEqual(played.snapshot(), second[tenant].snapshot())
         self.assertGreater(without, 100)
 
-    def test_nothing_changed(self) -> None:
-        log = Log()
-        with serving(log) as host:
-            streams = {3: Told("one", 100)}
-            self.play(log, [host], streams, random.Random(1))
-            self.assertEqual(list(host.take_snapshot(b"999-0")), [3])
-            log.snapshot = log.entries[-1][0]
-            log.play(host, log.add(3, FRAMES, frames.map_lookup_elem(0, 3, bytes(4))))
-            self.assertEqual(host.take_snapshot(b"999-0"), {})
+    def test_what_does_not_change(self) -> None:
+        with serving() as host:
+            ((_, changed),) = host.play([Call(b"1-0", 3, [CREATE], 0)])
+            self.assertTrue(changed)
+            ((_, changed),) = host.play([Call(b"2-0", 3, [LOOK_UP], 0)])
+            self.assertFalse(changed)
 
     def test_moves(self) -> None:
-        draw, old, new = random.Random(1), Log(), Log()
-        with serving(old) as first, serving(new) as second:
-            for round in range(3):
-                streams = {tenant: Told(f"move {round} {tenant}", 150) for tenant in range(16)}
-                self.play(old, [first], streams, draw, 100)
-                if round == 1:
-                    first.take_snapshot(b"%d-0" % (len(old.entries) + 1))
-                    old.snapshot = old.entries[-1][0]
-                for tenant in range(0, 16, 2):
-                    leaves = old.add(tenant, LEAVES, b"7")
-                    (left,) = first.play([leaves])
-                    second.play([new.add(tenant + 1, ARRIVES, left.kept[b"7"])])
-                moved = {tenant + 1: streams.pop(tenant) for tenant in range(0, 16, 2)}
-                self.play(new, [second], moved, draw)
-                self.play(old, [first], streams, draw)
-                # What comes next to a tenant's number finds it as a new one, on both.
-                for log, host in ((old, first), (new, second)):
+        draw = random.Random(1)
+        with serving() as one, serving() as other:
+            first, second = tenants(one), tenants(other)
+            for number in range(3):
+                streams = {tenant: Told(f"move {number} {tenant}", 150) for tenant in range(16)}
+                self.play([first], streams, draw, 100)
+                if number == 1:
                     for tenant in range(16):
-                        host.play([log.add(tenant, LEAVES, b"8")])
-            first.take_snapshot(b"%d-0" % (len(old.entries) + 1))
-            self.assertEqual(first.snapshot, {})
+                        first[tenant].snapshot()
+                for tenant in range(0, 16, 2):
+                    second[tenant + 1].restore(first[tenant].leave())
+                moved = {tenant + 1: streams.pop(tenant) for tenant in range(0, 16, 2)}
+                self.play([second], moved, draw)
+                self.play([first], streams, draw)
+                # What comes next to a tenant's number finds it as a new one, on both.
+                for host in (first, second):
+                    for tenant in range(16):
+                        host[tenant].leave()
+            self.assertEqual([first[tenant].snapshot() for tenant in range(16)], [b""] * 16)
 
 
 class WrongFrames(TimedTest):
@@ -163,8 +171,8 @@ class MapsWithoutDescriptors(HostTest):
     def restored(self, tenancy: Tenancy, played: list[Asked]) -> Host:
         """A host with the state that these frames lead to, made of a snapshot of it."""
         with Copy(PROGRAM) as copy:
-            copy.play(played)
-            made = state_frames(tenancy, copy.pairs(tenancy))
+            at_once(copy.play(played))
+            made = state_frames(tenancy, at_once(copy.pairs(tenancy)))
         host = Host(PROGRAM)
         for frame in made:
             host.ask(frame).done()
@@ -215,8 +223,8 @@ class MapsWithoutDescriptors(HostTest):
         asked = [frames.map_create(0, MapType.ARRAY, 4, 8, 1), frames.prog_load(0, slots_of(PROGRAM, "add")), frames.prog_test_run(0, 4)]
         _, played = self.play(asked)
         played[2] = played[2][0], played[2][1][:-4] + bytes(4)
-        with Copy(PROGRAM) as copy, self.assertRaisesRegex(ShardError, "the copy of a tenant answers"):
-            copy.play(played)
+        with Copy(PROGRAM) as copy, self.assertRaisesRegex(CopyDiffers, "the copy of a tenant answers"):
+            at_once(copy.play(played))
 
 
 class Names(HostTest):
@@ -234,24 +242,50 @@ class Entries(HostTest):
     def test_what_is_no_call_is_told(self) -> None:
         frame = frames.close(0, 3)
         wrong = {
-            "no tenant 64": {TENANT: b"64", FRAMES: frame},
-            "invalid literal": {FRAMES: frame},
-            "no whole frame": {TENANT: b"1", FRAMES: frame[:-1]},
-            "1 to 512 frames": {TENANT: b"1", FRAMES: b""},
-            "and not 513": {TENANT: b"1", FRAMES: frame * 513},
-            "names tenant 0": {TENANT: b"1", FRAMES: with_tenant(frame, 2)},
-            "has a head": {TENANT: b"1", FRAMES: b"\3\0\0\0\0\0\0"},
+            "no whole frame": {FRAMES: frame[:-1]},
+            "1 to 512 frames": {FRAMES: b""},
+            "and not 0 of 0": {b"other": frame},
+            "and not 513": {FRAMES: frame * 513},
+            "names tenant 0": {FRAMES: with_tenant(frame, 2)},
+            "has a head": {FRAMES: b"\3\0\0\0\0\0\0"},
         }
-        with serving(Log()) as host:
+        with serving() as host:
             for sentence, fields in wrong.items():
-                (one,) = host.play([(b"1-0", fields)])
-                self.assertEqual(one.name, b"e")
+                item = item_of(1, (b"1-0", fields))
+                assert isinstance(item, NoCall)
+                ((one, changed),) = host.play([item])
+                self.assertEqual((one.name, changed), (b"e", False))
                 self.assertIn(sentence, one.value.decode())
-            (right,) = host.play([(b"2-0", {TENANT: b"1", FRAMES: frame})])
-            self.assertEqual(right.value.hex(), "08000000" "0000" "0001" "f7ffffff")
+            right = item_of(1, (b"2-0", {FRAMES: frame}))
+            assert isinstance(right, Call)
+            ((one, _),) = host.play([right])
+            self.assertEqual(one.value.hex(), "08000000" "0000" "0001" "f7ffffff")
 
     def test_memory_refused_is_not_written(self) -> None:
         refuses = "while read(4):\n    read(28 - 4)\n    os.write(1, bytes.fromhex('08000000000000 00f4ffffff'))\n"
-        with Serving(self.pretender(refuses), Log().history, lambda: None) as host:
+        with Serving(self.pretender(refuses), MACHINE) as host:
             with self.assertRaisesRegex(MemoryRefused, "memory was refused to entry 5-0"):
-                host.play([(b"5-0", {TENANT: b"0", FRAMES: frames.map_create(0, MapType.HASH, 4, 8, 1)})])
+                list(host.play([Call(b"5-0", 0, [CREATE], 0)]))
+
+
+class RefusedStates(HostTest):
+    """States that a build does not make as another one did."""
+
+    # A program that no build takes stands for one that a stricter one refuses.
+    REFUSED = frames.prog_load(0, bytes(8))
+    ONE = frames.prog_load(0, bytes.fromhex("b700000001000000 9500000000000000"))
+
+    def test_the_tenant_is_empty_then(self) -> None:
+        with serving() as host:
+            with self.assertRaisesRegex(StateRefused, "the state of tenant 5 can't be made: the host answers -[0-9]+ to frame 1 of it"):
+                at_once(host.make(5, CREATE + self.REFUSED + self.ONE))
+            self.assertEqual(host.tenancies[5].open, {})
+            at_once(host.make(5, CREATE + self.ONE))
+
+    def test_what_is_refused_is_closed(self) -> None:
+        with serving() as host:
+            at_once(host.make(5, CREATE + self.REFUSED + self.ONE + self.REFUSED, closes_refused=True))
+            played = Played(host, 5)
+            runs = [frames.prog_test_run(0, number) for number in (3, 4, 5, 6)]
+            self.assertEqual([status_of(reply) for reply in played.play(runs)], [-22, -9, 0, -9])
+            self.assertEqual([status_of(reply) for reply in played.play([LOOK_UP, self.ONE])], [-2, 4])

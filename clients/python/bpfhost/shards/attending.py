@@ -1,0 +1,93 @@
+"""What a worker does in the directory beside its shard: it says that the shard is served, watches whether others say so, and ends moves
+that nobody ends."""
+
+from __future__ import annotations
+
+from collections.abc import Callable
+from typing import TypeVar
+
+from bpfhost.shards.directory import Directory
+from bpfhost.shards.errors import Away, RedisError, ShardError
+
+_LEAST_SECONDS = 0.2
+# A shard whose count stood still for so many beats is not offered any more.
+_BEATS_MISSED = 5
+# A move that stood still for so many beats is ended by a worker of one of its shards.
+_BEATS_OF_A_MOVE = 3
+_SECONDS_FOR_A_MOVE = 5.0
+
+Seen = TypeVar("Seen")
+
+
+class _Watch:
+    """For how long things have been the same, by the watcher's own clock."""
+
+    def __init__(self) -> None:
+        self._seen: dict[object, tuple[object, float]] = {}
+
+    def stood_still(self, seen: dict[Seen, object], now: float, seconds: float) -> list[Seen]:
+        """Those that have been the same for so many seconds."""
+        self._seen = {name: self._seen[name] if name in self._seen and self._seen[name][0] == what else (what, now) for name, what in seen.items()}
+        return [name for name in seen if self._seen[name][1] <= now - seconds]
+
+    def forget(self) -> None:
+        """Begins anew, where nothing could be seen for a while."""
+        self._seen.clear()
+
+
+class Attending:
+    """Attends to the directory for one shard."""
+
+    def __init__(self, directory: Directory, shard: int, incarnation: bytes, seconds: float, tell: Callable[[str], None]) -> None:
+        self._directory, self._shard, self._incarnation, self._tell = directory, shard, incarnation, tell
+        self._system = directory.redis.system
+        self._seconds = max(_LEAST_SECONDS, seconds / 3)
+        self._beats, self._moves = _Watch(), _Watch()
+        self._is_known = True
+
+    def run(self, until: Callable[[], bool]) -> None:
+        """Attends until that ends. What goes wrong is told, and tried again."""
+        while not until():
+            began = self._system.now()
+            try:
+                self._attend()
+            except Away:
+                self._beats.forget()
+                self._moves.forget()
+            except ShardError as error:
+                self._tell(f"shard {self._shard}: {error}")
+                self._sleep(began + 10 * self._seconds, until)
+            self._sleep(began + self._seconds, until)
+
+    def _sleep(self, deadline: float, until: Callable[[], bool]) -> None:
+        while not until() and self._system.now() < deadline:
+            self._system.sleep(min(_LEAST_SECONDS, self._seconds))
+
+    def _attend(self) -> None:
+        self._directory.beat(self._shard, self._incarnation)
+        now = self._system.now()
+        beats: dict[int, object] = dict(self._directory.beats())
+        for shard in self._beats.stood_still(beats, now, _BEATS_MISSED * self._seconds):
+            if shard != self._shard:
+                self._directory.withdraw(shard, bytes(beats[shard]))  # type: ignore[call-overload]
+        self._end_moves(now)
+
+    def _end_moves(self, now: float) -> None:
+        """Ends moves from this shard or to it that stood still."""
+        from bpfhost.shards import moving
+        from bpfhost.shards.client import Client
+
+        moves: dict[str, object] = dict(self._directory.moves())
+        for name in self._moves.stood_still(moves, now, _BEATS_OF_A_MOVE * self._seconds):
+            seat, next_seat = self._directory.seat(name), self._directory.moves().get(name)
+            if self._shard in (seat and seat.shard, next_seat and next_seat.shard):
+                with Client(self._directory.redis.url, self._directory.keys.prefix, self._system) as client:
+                    moving.end_move(client, name, _SECONDS_FOR_A_MOVE)
+                self._tell(f"shard {self._shard}: the move of customer {name} was ended, which had broken off")
+
+    def end(self) -> None:
+        """Says that the shard is not served any more."""
+        try:
+            self._directory.withdraw(self._shard)
+        except RedisError:
+            pass

@@ -1,0 +1,18 @@
+"""Which build of bpfhost a program is."""
+
+from __future__ import annotations
+
+import hashlib
+from pathlib import Path
+
+from bpfhost.program import Program
+
+_DIGITS = 16
+
+
+def build_of(program: Program) -> str:
+    """A name of the program's bytes, the same for the same build; nothing where they can't be read."""
+    try:
+        return hashlib.sha256(Path(program).read_bytes()).hexdigest()[:_DIGITS]
+    except OSError:
+        return ""

@@ -1,0 +1,84 @@
+"""Entries of a tenant's stream: calls of frames, and that the tenant leaves or arrives."""
+
+from __future__ import annotations
+
+from collections.abc import Mapping
+from dataclasses import dataclass
+
+from bpfhost.shards.connection import Entry
+from bpfhost.shards.names import ARRIVES, FRAMES, LEAVES
+from bpfhost.shards.snapshot import split
+
+# An entry has at most so many frames and bytes; each of the replies may have 4,108 bytes.
+MOST_FRAMES, LONGEST_CALL = 512, 262_144
+
+
+@dataclass(frozen=True)
+class Call:
+    """Frames of a tenant, and what they weigh while they wait (`names.weight`)."""
+
+    entry: bytes
+    tenant: int
+    frames: list[bytes]
+    size: int
+
+
+@dataclass(frozen=True)
+class Leaves:
+    """A tenant leaves, whose seat had this generation."""
+
+    entry: bytes
+    tenant: int
+    generation: bytes
+
+
+@dataclass(frozen=True)
+class Arrives:
+    """A tenant arrives, with the manifest of its state."""
+
+    entry: bytes
+    tenant: int
+    manifest: bytes
+
+
+@dataclass(frozen=True)
+class NoCall:
+    """An entry that nobody of this package wrote, and why it is no call."""
+
+    entry: bytes
+    tenant: int
+    why: str
+    size: int
+
+
+Item = Call | Leaves | Arrives | NoCall
+
+
+def item_of(tenant: int, entry: Entry) -> Item:
+    """What an entry of a tenant's stream asks."""
+    name, fields = entry
+    if LEAVES in fields:
+        return Leaves(name, tenant, fields[LEAVES])
+    if ARRIVES in fields:
+        return Arrives(name, tenant, fields[ARRIVES])
+    stream = fields.get(FRAMES, b"")
+    try:
+        return Call(name, tenant, whole_frames(stream), len(stream))
+    except ValueError as error:
+        return NoCall(name, tenant, f"no call: {error}", len(stream) if FRAMES in fields else 0)
+
+
+def size_of(fields: Mapping[bytes, bytes]) -> int:
+    """The bytes of an entry."""
+    return sum(map(len, fields.values()))
+
+
+def whole_frames(stream: bytes) -> list[bytes]:
+    """The frames of a call; a ValueError where the bytes are none, or there are too many."""
+    frames = split(stream)
+    if not frames or len(frames) > MOST_FRAMES or len(stream) > LONGEST_CALL:
+        limits = f"1 to {MOST_FRAMES} frames of {LONGEST_CALL} bytes together"
+        raise ValueError(f"a call has {limits}, and not {len(frames)} of {len(stream)}")
+    if any(len(frame) < 8 or frame[4] or frame[5] for frame in frames):
+        raise ValueError("a frame of a call has a head, and names tenant 0")
+    return frames

@@ -1,0 +1,161 @@
+"""Snapshots of tenants, and what is dropped after them: entries that are in a snapshot, replies that are old, sessions of long ago.
+
+All of it is done in steps, so that other tenants are served between two of them.
+"""
+
+from __future__ import annotations
+
+from collections.abc import Callable, Generator, Sequence
+
+from bpfhost.shards import scripts
+from bpfhost.shards.client import NAMELESS
+from bpfhost.shards.log import Log, Since
+from bpfhost.shards.manifest import Manifest
+from bpfhost.shards.names import START, after, order
+from bpfhost.shards.serving import Serving
+from bpfhost.shards.settings import Settings
+from bpfhost.shards.snapshot import Steps
+from bpfhost.shards.writing import Writing
+
+# Replies are looked at so often while they get as old as they may.
+_LOOKS = 8
+SECONDS_OF_SESSIONS = 86_400.0
+_LEAST_SECONDS, _SECONDS_TO_SETTLE = 1.0, 3.0
+
+
+class Keeping:
+    """Takes snapshots of one shard's tenants."""
+
+    def __init__(self, writing: Writing, settings: Settings, build: str) -> None:
+        self._writing, self._settings, self._build = writing, settings, build
+        self._redis, self._keys = writing.redis, writing.keys
+        self._looked = self._settled = 0.0
+        # Tenants of which no snapshot could be taken.
+        self.failed: set[int] = set()
+
+    def begin(self) -> None:
+        """Begins with tenants that were just made."""
+        self._looked = self._redis.system.now()
+        self.failed.clear()
+
+    # Manifests.
+
+    def empty(self, entry: bytes) -> Manifest:
+        """The snapshot of a new tenant."""
+        return Manifest(entry.decode(), self._build).over(b"")
+
+    def at(self, manifest: Manifest, entry: bytes, stream: bytes) -> Manifest:
+        """The same frames, as the snapshot at an entry."""
+        return Manifest(entry.decode(), self._build, manifest.name).over(stream)
+
+    def keep(self, serving: Serving, log: Log) -> Steps[Manifest]:
+        """Puts the state of a tenant down, in pieces of which nothing speaks yet."""
+        before = log.stream_of(log.snapshot) if log.snapshot else b""
+        stream = yield from serving.state(log.tenant, before, log.history)
+        manifest = Manifest(log.place.decode(), self._build, self._redis.system.fresh()).over(stream)
+        for name, piece in manifest.pieces(stream):
+            self._writing.keep_piece(name, piece)
+            yield
+        return manifest
+
+    # Snapshots.
+
+    def due(self, logs: Sequence[Log], busy: set[int]) -> Log | None:
+        """The tenant that has most to be played again, if all of them have more than a worker that begins should play."""
+        settings = self._settings
+        shares = [
+            max(
+                log.since.entries / settings.snapshot_entries,
+                log.since.frames / settings.snapshot_frames,
+                log.since.size / settings.snapshot_bytes,
+            )
+            for log in logs
+        ]
+        if sum(shares) < 1:
+            return None
+        can = [log for log in logs if log.tenant not in busy and not log.aside and log.tenant not in self.failed and log.since.entries]
+        return max(can, key=lambda log: shares[log.tenant]) if can else None
+
+    def snapshot(self, serving: Serving, log: Log) -> Steps[None]:
+        """Takes a snapshot of a tenant, and drops what came before the one before it."""
+        old = log.before
+        if log.since.changed or log.snapshot is None:
+            manifest = yield from self.keep(serving, log)
+        else:
+            # The same state, behind more frames.
+            stream = log.stream_of(log.snapshot)
+            manifest = self.at(log.snapshot, log.place, stream)
+        self._writing.keep_snapshot(log, manifest)
+        log.since = Since()
+        yield from self.forget_old(log, old)
+        yield from self._forget_sessions(log)
+
+    def forget_old(self, log: Log, old: Manifest | None) -> Steps[None]:
+        """Drops the pieces of a snapshot, and what is in the one before the last."""
+        kept = {name for manifest in (log.snapshot, log.before) if manifest for name in manifest.names()}
+        if old:
+            yield from self._writing.drop_pieces([name for name in old.names() if name not in kept])
+        least = log.before or (log.snapshot if log.snapshot and not log.snapshot.size else None)
+        if least:
+            yield from self._writing.drop(log.frames, after(least.place.encode()))
+        yield from self.drop_old(log)
+
+    def drop_before(self, log: Log) -> Steps[None]:
+        """Drops the snapshot before the last one, and what is in the last one: where there is no memory for more."""
+        if log.before and log.snapshot:
+            names = set(log.before.names()) - set(log.snapshot.names())
+            self._writing.note(self._keys.snapshots, f"{log.tenant}:before", b"")
+            log.before = None
+            yield from self._writing.drop_pieces(sorted(names))
+        if log.snapshot:
+            yield from self._writing.drop(log.frames, after(log.snapshot.place.encode()))
+
+    # Ages, by how long the shard was served.
+
+    def look_at_ages(self, logs: Sequence[Log], begin: Callable[[int, Generator[None, None, None]], None], busy: set[int]) -> None:
+        """Now and then marks how far the tenants have come, and drops replies that are old."""
+        now = self._redis.system.now()
+        if now < self._looked + max(_LEAST_SECONDS, self._settings.reply_seconds / _LOOKS):
+            return
+        self._looked = now
+        for log in logs:
+            if log.tenant not in busy and (log.place != START) and (not log.marks or log.marks[-1][1] != log.place or len(log.marks) > 1):
+                begin(log.tenant, self.drop_old(log))
+
+    def look_at_waiting(self, logs: Sequence[Log], busy: set[int]) -> None:
+        """Now and then looks whether something is said to wait where nothing does."""
+        now = self._redis.system.now()
+        if now < self._settled + _SECONDS_TO_SETTLE:
+            return
+        self._settled = now
+        for tenant, weight in self._redis.hgetall(self._keys.waiting).items():
+            if weight != b"0" and int(tenant) not in busy:
+                logs[int(tenant)].settle(self._writing.note)
+
+    def drop_old(self, log: Log) -> Steps[None]:
+        """Marks how far a tenant has come, and drops replies that are old and in the snapshot before the last one."""
+        served = self._writing.lease.served()
+        kept = log.mark(served, self._settings.reply_seconds)
+        self._writing.note(self._keys.marks, log.tenant, kept)
+        least = min(log.old_place(served, self._settings.reply_seconds), self._kept_from(log), key=order)
+        if least != START:
+            yield from self._writing.drop(log.replies, after(least))
+
+    @staticmethod
+    def _kept_from(log: Log) -> bytes:
+        """Behind which entry replies are needed to compare what is played again."""
+        if log.before:
+            return log.before.place.encode()
+        return log.snapshot.place.encode() if log.snapshot and not log.snapshot.size else START
+
+    def _forget_sessions(self, log: Log) -> Steps[None]:
+        """Forgets sessions without a name whose last call is long ago."""
+        said = (self._redis.hget(self._keys.seats, log.tenant) or b"").partition(b" ")[0]
+        if not said:
+            return
+        name, served = self._keys.sessions(int(said)), self._writing.lease.served()
+        for session, record in self._redis.hgetall(name).items():
+            then = int(record.split()[1]) / 1000
+            if session.startswith(NAMELESS.encode()) and then < served - SECONDS_OF_SESSIONS:
+                scripts.FORGET_SESSION(self._redis, [name], [session, record])
+                yield

@@ -1,0 +1,133 @@
+"""What Redis has of one tenant: its streams, its snapshots, and how far it has come."""
+
+from __future__ import annotations
+
+from collections.abc import Callable, Iterator
+from dataclasses import dataclass, field
+
+from bpfhost.shards.aside import Aside
+from bpfhost.shards.calls import Arrives, Call, Leaves, item_of
+from bpfhost.shards.connection import Entry, Redis
+from bpfhost.shards.copied import Asked
+from bpfhost.shards.errors import ShardError, SnapshotDamaged
+from bpfhost.shards.manifest import Manifest, read_pieces
+from bpfhost.shards.names import REPLIES, START, ShardKeys, after, order
+from bpfhost.shards.serving import answered
+from bpfhost.shards.snapshot import split
+
+_READ_AT_ONCE = 64
+
+# The replies to entries, by their ids.
+Replies = dict[bytes, dict[bytes, bytes]]
+
+
+@dataclass
+class Since:
+    """What came since the last snapshot: so many entries, frames, and bytes of frames and replies."""
+
+    entries: int = 0
+    frames: int = 0
+    size: int = 0
+    changed: bool = False
+
+
+@dataclass
+class Log:
+    """The log of one tenant."""
+
+    redis: Redis
+    keys: ShardKeys
+    tenant: int
+    # The last entry that has a reply, and is part of the state.
+    place: bytes = START
+    snapshot: Manifest | None = None
+    before: Manifest | None = None
+    since: Since = field(default_factory=Since)
+    # Places by how many seconds the shard had been served then, the oldest first.
+    marks: list[tuple[float, bytes]] = field(default_factory=list)
+    aside: Aside | None = None
+
+    @property
+    def frames(self) -> str:
+        return self.keys.frames(self.tenant)
+
+    @property
+    def replies(self) -> str:
+        return self.keys.replies(self.tenant)
+
+    def last(self) -> bytes:
+        """The last entry that has a reply."""
+        return self.redis.last_id(self.replies)
+
+    def manifests(self) -> list[Manifest]:
+        """The snapshots, the last one first; those that are damaged are left out."""
+        found = []
+        for name in (f"{self.tenant}", f"{self.tenant}:before"):
+            kept = self.redis.hget(self.keys.snapshots, name)
+            try:
+                if kept is not None:
+                    found.append(Manifest.read(kept))
+            except SnapshotDamaged:
+                continue
+        return found
+
+    def reaches(self, place: bytes, last: bytes) -> bool:
+        """Whether the stream still has all entries behind a place that have replies."""
+        dropped = self.redis.dropped_id(self.frames)
+        if order(dropped) <= order(place) or order(last) <= order(place):
+            return True
+        return not self.redis.xrange(self.replies, after(place), min(dropped, last, key=order), 1)
+
+    def settle(self, note: Callable[[str, int, bytes], None]) -> None:
+        """Where nothing waits, says so: what was dropped by others still has its weight."""
+        if not self.redis.xrange(self.frames, after(self.place), b"+", 1):
+            note(self.keys.waiting, self.tenant, b"0")
+
+    def stream_of(self, manifest: Manifest) -> bytes:
+        """The frames of a snapshot; a SnapshotDamaged where they are not those that were written."""
+        return read_pieces(self.redis, self.keys.pieces, manifest)
+
+    def both(self, place: bytes, last: bytes) -> Iterator[tuple[list[Entry], Replies]]:
+        """The entries behind a place up to another one, in pieces, with their replies."""
+        while order(place) < order(last):
+            entries = self.redis.xrange(self.frames, after(place), last, _READ_AT_ONCE)
+            if not entries:
+                return
+            place = entries[-1][0]
+            yield entries, dict(self.redis.xrange(self.replies, entries[0][0], place, 2 * _READ_AT_ONCE))
+
+    def history(self) -> Iterator[Asked]:
+        """The frames since the last snapshot, with their replies."""
+        place = self.snapshot.place.encode() if self.snapshot else START
+        for entries, replies in self.both(place, self.place):
+            for entry in entries:
+                item = item_of(self.tenant, entry)
+                if isinstance(item, Arrives):
+                    yield from answered(self.stream_of(Manifest.read(item.manifest)))
+                elif isinstance(item, Leaves):
+                    raise ShardError(f"tenant {self.tenant} left at entry {item.entry.decode()}, and a snapshot from before that is its last")
+                elif item.entry not in replies:
+                    raise ShardError(f"entry {item.entry.decode()} of shard {self.keys.number} has no reply any more")
+                elif isinstance(item, Call) and REPLIES in replies[item.entry]:
+                    yield from zip(item.frames, split(replies[item.entry][REPLIES]), strict=True)
+
+    # Ages.
+
+    def read_marks(self) -> None:
+        """The marks of this worker and those before it."""
+        kept = self.redis.hget(self.keys.marks, self.tenant) or b""
+        self.marks = [(float(served), place) for served, _, place in (one.partition(b"@") for one in kept.split())]
+
+    def mark(self, served: float, most: float) -> bytes:
+        """Notes how far the tenant has come after so many seconds, and forgets what is older than the last mark above `most` seconds
+        ago; gives the marks as they are kept."""
+        if not self.marks or self.marks[-1][1] != self.place:
+            self.marks.append((served, self.place))
+        old = [at for at, (then, _) in enumerate(self.marks) if then <= served - most]
+        self.marks = self.marks[old[-1] :] if old else self.marks
+        return b" ".join(b"%.3f@%s" % one for one in self.marks)
+
+    def old_place(self, served: float, seconds: float) -> bytes:
+        """The last place that was reached so many seconds ago, or longer."""
+        old = [place for then, place in self.marks if then <= served - seconds]
+        return old[-1] if old else START

@@ -1,0 +1,138 @@
+"""Makes a tenant's state: of its last snapshot, or the one before it, or of its stream alone, and of what was answered since."""
+
+from __future__ import annotations
+
+from collections.abc import Callable
+from dataclasses import dataclass, field
+
+from bpfhost.shards.aside import DIFFERS, LOST, STATE, Aside
+from bpfhost.shards.calls import Arrives, Call, Item, Leaves, NoCall, item_of, size_of
+from bpfhost.shards.errors import RepliesDiffer, SnapshotDamaged, StateRefused
+from bpfhost.shards.log import Log, Replies, Since
+from bpfhost.shards.manifest import Manifest
+from bpfhost.shards.names import START, after, order
+from bpfhost.shards.serving import Serving
+from bpfhost.shards.snapshot import Steps
+
+
+@dataclass
+class Restored:
+    """What came of it: what is to be told, and what has to be set aside."""
+
+    told: list[str] = field(default_factory=list)
+    aside: Aside | None = None
+
+
+def restored(serving: Serving, log: Log, alive: Callable[[], None], accepts: bool = False) -> Steps[Restored]:
+    """Makes the state of a tenant that is empty, in steps. With `accepts`, an operator takes what this build makes of it: programs that
+    it refuses are closed, and replies that differ from those that were given are let be."""
+    found = Restored()
+    log.read_marks()
+    last = log.last()
+    try:
+        yield from _from_best(serving, log, last, found, alive, accepts)
+    except RepliesDiffer as error:
+        found.aside = Aside(DIFFERS, after(log.place).decode(), str(error))
+    except StateRefused as error:
+        found.aside = Aside(STATE, after(last).decode(), str(error))
+    except SnapshotDamaged as error:
+        found.aside = Aside(LOST, after(last).decode(), str(error))
+    if found.aside:
+        serving.empty(log.tenant)
+        log.place = last
+    return found
+
+
+def _from_best(
+    serving: Serving, log: Log, last: bytes, found: Restored, alive: Callable[[], None], accepts: bool
+) -> Steps[None]:
+    """From the last snapshot that is whole, or the whole stream."""
+    kept = log.redis.hget(log.keys.snapshots, f"{log.tenant}")
+    manifests = log.manifests()
+    damaged = SnapshotDamaged("what a snapshot says of itself is damaged") if kept and (not manifests or kept != manifests[0].to_bytes()) else None
+    for manifest in manifests:
+        try:
+            stream = log.stream_of(manifest)
+        except SnapshotDamaged as error:
+            damaged = damaged or error
+            continue
+        if not log.reaches(manifest.place.encode(), last):
+            damaged = damaged or SnapshotDamaged(f"entries behind {manifest.place} were dropped that are in no snapshot")
+            continue
+        log.snapshot, log.before = manifest, (manifests[1] if manifest is manifests[0] and len(manifests) > 1 else None)
+        yield from _made(serving, manifest, stream, log, accepts)
+        yield from _played(serving, log, manifest.place.encode(), last, alive, accepts)
+        break
+    else:
+        if not log.reaches(START, last):
+            raise SnapshotDamaged(f"{damaged or 'there is no snapshot'}, and the stream does not reach to what came before it")
+        yield from _played(serving, log, START, last, alive, accepts)
+    if damaged:
+        found.told.append(f"{damaged}; the state was made of {'the snapshot before it' if log.snapshot else 'the stream'}")
+        _mend(log)
+
+
+def _mend(log: Log) -> None:
+    """Takes a damaged snapshot out, so that the next one does not become the one after it."""
+    log.redis.hdel(log.keys.snapshots, f"{log.tenant}", f"{log.tenant}:before")
+    if log.snapshot:
+        log.redis.hset(log.keys.snapshots, f"{log.tenant}", log.snapshot.to_bytes())
+
+
+def _made(serving: Serving, manifest: Manifest, stream: bytes, log: Log, accepts: bool) -> Steps[None]:
+    try:
+        yield from serving.make(log.tenant, stream, accepts)
+    except StateRefused as error:
+        raise StateRefused(f"{error}; build {manifest.build or '?'} made its snapshot at entry {manifest.place}") from None
+
+
+def _played(
+    serving: Serving, log: Log, place: bytes, last: bytes, alive: Callable[[], None], accepts: bool
+) -> Steps[None]:
+    """Plays what was answered behind a place, and compares."""
+    log.place, log.since = place, Since(changed=True)
+    for entries, replies in log.both(place, last):
+        alive()
+        for entry in entries:
+            item = item_of(log.tenant, entry)
+            if isinstance(item, (Leaves, Arrives)):
+                yield from _play_control(serving, log, item)
+            else:
+                _play(serving, log, item, replies, accepts)
+            log.since.entries += 1
+            log.since.size += size_of(entry[1]) + size_of(replies.get(entry[0], {}))
+            log.place = entry[0]
+        yield
+    if order(log.place) < order(last):
+        sentence = f"the stream of tenant {log.tenant} of shard {log.keys.number} has no entry {last.decode()}, and a reply to it"
+        raise SnapshotDamaged(sentence)
+
+
+def _play_control(serving: Serving, log: Log, item: Leaves | Arrives) -> Steps[None]:
+    serving.empty(log.tenant)
+    if isinstance(item, Arrives):
+        yield from serving.make(log.tenant, log.stream_of(Manifest.read(item.manifest)))
+
+
+def _play(serving: Serving, log: Log, item: Item, replies: Replies, accepts: bool) -> None:
+    """Plays a call again; a RepliesDiffer where the reply is another one."""
+    was = replies.get(item.entry)
+    if not isinstance(item, (Call, NoCall)):
+        return
+    if was is not None and b"e" in was:
+        # It was skipped, or is no call.
+        return
+    log.since.frames += len(item.frames) if isinstance(item, Call) else 0
+    ((written, _),) = serving.play([item])
+    if was == {written.name: written.value} or accepts:
+        return
+    told_before = "none" if was is None else _shown(b"".join(was.values()))
+    raise RepliesDiffer(
+        f"entry {item.entry.decode()} of shard {log.keys.number} is answered {_shown(written.value)} when it is played again, and was"
+        f" answered {told_before}"
+    )
+
+
+def _shown(value: bytes) -> str:
+    return value[:60].hex() + (".." if len(value) > 60 else "")
+

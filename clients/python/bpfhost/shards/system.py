@@ -1,0 +1,92 @@
+"""What shards take from the machine: a clock, threads, connections, hosts and names that nobody else has.
+
+All of the package goes through a `System`, so that tests put a deterministic one in the place of the machine's.
+"""
+
+from __future__ import annotations
+
+import threading
+import time
+import uuid
+from collections.abc import Callable, Iterable, Iterator, Sequence
+from typing import Any, Protocol
+
+from bpfhost.host import Host
+from bpfhost.program import Program
+
+# A word of a command of Redis: bytes, a text or a number.
+Word = object
+
+
+class Link(Protocol):
+    """A connection to a Redis. An Away where the server can't be reached, a RedisError where it refuses the words."""
+
+    def call(self, words: Sequence[Word], seconds: float) -> Any:
+        """The answer to a command, which comes within so many seconds."""
+
+    def close(self) -> None:
+        """Ends the connection."""
+
+
+class Asked(Protocol):
+    """A host that is asked many frames at once, and gives the bytes of the replies in order."""
+
+    def ask_bytes(self, frames: Iterable[bytes]) -> Iterator[bytes]: ...
+    def kill(self) -> None: ...
+
+
+class Beside(Protocol):
+    """What runs beside its caller."""
+
+    def join(self, seconds: float) -> None:
+        """Waits until it has ended, at most so many seconds."""
+
+
+class System(Protocol):
+    """A machine. Its clock is monotonic, and no other machine's."""
+
+    def now(self) -> float: ...
+    def sleep(self, seconds: float) -> None: ...
+    def beside(self, run: Callable[[], None]) -> Beside: ...
+    def link(self, url: str) -> Link: ...
+    def host(self, program: Program, tenants: int) -> Asked: ...
+    def fresh(self) -> str:
+        """A name that was never given before."""
+
+
+class _Thread:
+    def __init__(self, run: Callable[[], None]) -> None:
+        self._thread = threading.Thread(target=run, daemon=True)
+        self._thread.start()
+
+    def join(self, seconds: float) -> None:
+        self._thread.join(seconds)
+
+
+class Machine:
+    """This machine."""
+
+    def now(self) -> float:
+        return time.monotonic()
+
+    def sleep(self, seconds: float) -> None:
+        time.sleep(seconds)
+
+    def beside(self, run: Callable[[], None]) -> Beside:
+        return _Thread(run)
+
+    def link(self, url: str) -> Link:
+        from bpfhost.shards.link import SocketLink
+
+        return SocketLink(url)
+
+    def host(self, program: Program, tenants: int) -> Asked:
+        host = Host(program, tenants)
+        host.widen()
+        return host
+
+    def fresh(self) -> str:
+        return uuid.uuid4().hex
+
+
+MACHINE = Machine()

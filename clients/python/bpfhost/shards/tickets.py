@@ -1,0 +1,40 @@
+"""Calls of a customer: their numbers in a session, and where they are once that is known."""
+
+from __future__ import annotations
+
+from dataclasses import dataclass, field
+
+from bpfhost.shards.directory import Seat
+
+
+@dataclass(frozen=True)
+class Place:
+    """Where a call is: a shard, a tenant number, and the entry."""
+
+    shard: int
+    tenant: int
+    entry: bytes
+
+    @classmethod
+    def read(cls, text: bytes) -> Place:
+        """As a session's record has it."""
+        shard, tenant, entry = text.split()
+        return cls(int(shard), int(tenant), entry)
+
+
+@dataclass
+class Ticket:
+    """A call: its frames, its number in a session, the seat where it was sent last, and its place once that is known."""
+
+    stream: bytes
+    session: str
+    number: int
+    began: float
+    seat: Seat | None = None
+    place: Place | None = None
+    answered: list[bytes] = field(default_factory=list)
+
+    @property
+    def entry(self) -> bytes | None:
+        """The id of its entry, once that is known."""
+        return self.place.entry if self.place else None

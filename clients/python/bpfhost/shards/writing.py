@@ -1,0 +1,120 @@
+"""What a worker writes, each time where its lease is held."""
+
+from __future__ import annotations
+
+from collections.abc import Iterable, Iterator, Sequence
+
+from bpfhost.shards import names, scripts
+from bpfhost.shards.calls import Arrives, Leaves
+from bpfhost.shards.connection import Redis, Script
+from bpfhost.shards.errors import ShardError, SnapshotDamaged
+from bpfhost.shards.lease import Lease
+from bpfhost.shards.log import Log
+from bpfhost.shards.manifest import Manifest
+from bpfhost.shards.names import ShardKeys
+from bpfhost.shards.parts import in_parts
+from bpfhost.shards.serving import Written
+from bpfhost.shards.snapshot import Steps
+from bpfhost.shards.system import Word
+
+# A script is given about so many bytes of replies at most, and so many names of pieces.
+WRITTEN_AT_ONCE = 1 << 20
+_NAMES_AT_ONCE = 500
+_SECONDS_FOR_REDIS = 10.0
+
+
+class Writing:
+    """What is written of a shard. A LeaseLost where another worker has the lease."""
+
+    def __init__(self, redis: Redis, keys: ShardKeys, lease: Lease) -> None:
+        self.redis, self.keys, self.lease = redis, keys, lease
+
+    def _do(self, script: Script, keys: Sequence[str], words: Iterable[Word]) -> int:
+        deadline = self.redis.system.now() + _SECONDS_FOR_REDIS
+        done = script.patiently(self.redis, [self.keys.lease, *keys], [self.lease.token, *words], deadline)
+        if done == (-1 if script is scripts.DROP else 0):
+            raise self.lease.lost()
+        return int(done)
+
+    # Replies.
+
+    @staticmethod
+    def weight(size: int) -> int:
+        """What a call of so many bytes weighed while it waited."""
+        return names.weight(size)
+
+    @staticmethod
+    def parted(written: Sequence[Written]) -> Iterator[list[Written]]:
+        """Replies in parts that a script is given at once."""
+        return in_parts(written, lambda one: len(one.value), WRITTEN_AT_ONCE)
+
+    def write(self, written: Sequence[Written]) -> None:
+        """Writes replies of tenants, those of each in order."""
+        of: dict[int, list[Written]] = {}
+        for one in written:
+            of.setdefault(one.tenant, []).append(one)
+        words: list[Word] = []
+        for tenant, own in of.items():
+            words += [tenant, sum(one.weight for one in own), len(own)]
+            words += (word for one in own for word in (one.entry, one.name, one.value))
+        self._do(scripts.WRITE, [self.keys.waiting, *map(self.keys.replies, of)], words)
+
+    def write_left(self, log: Log, item: Leaves, state: Manifest, nothing: Manifest) -> None:
+        """Writes that a tenant has left."""
+        keys = [log.replies, self.keys.snapshots, self.keys.left]
+        self._do(scripts.WRITE_LEFT, keys, [item.entry, item.tenant, item.generation, state.to_bytes(), nothing.to_bytes()])
+        log.snapshot, log.before = nothing, None
+
+    def write_arrived(self, log: Log, item: Arrives, state: Manifest) -> None:
+        """Writes that a tenant has arrived."""
+        self._do(scripts.WRITE_ARRIVED, [log.replies, self.keys.snapshots], [item.entry, item.tenant, state.to_bytes()])
+        log.snapshot, log.before = state, None
+
+    def note(self, name: str, field: Word, value: bytes) -> None:
+        """Writes a field of a hash of the shard, or takes it out."""
+        self._do(scripts.NOTE, [name], [field, value])
+
+    # Snapshots.
+
+    def keep_piece(self, name: str, piece: bytes) -> None:
+        """Puts a piece of a snapshot down."""
+        self._do(scripts.KEEP_PIECES, [self.keys.pieces], [name, piece])
+
+    def keep_snapshot(self, log: Log, manifest: Manifest) -> None:
+        """Puts a snapshot in the place of the last one, which becomes the one before it."""
+        last = log.snapshot.to_bytes() if log.snapshot else b""
+        self._do(scripts.KEEP_SNAPSHOT, [self.keys.snapshots], [log.tenant, manifest.to_bytes(), last])
+        log.before, log.snapshot = log.snapshot, manifest
+
+    def drop(self, stream: str, least: bytes) -> Steps[None]:
+        """Drops the entries of a stream below an id, some in each step."""
+        while self._do(scripts.DROP, [stream], [least]):
+            yield
+
+    def drop_pieces(self, dropped: Sequence[str]) -> Steps[None]:
+        """Drops pieces, some in each step."""
+        for some in in_parts(dropped, lambda _: 1, _NAMES_AT_ONCE):
+            self._do(scripts.DROP_PIECES, [self.keys.pieces], some)
+            yield
+
+    def drop_strays(self, logs: Sequence[Log]) -> None:
+        """Drops pieces of which nothing speaks, since a worker died before it could say that they are a snapshot."""
+        kept: set[str] = set()
+        for log in logs:
+            kept.update(name for manifest in log.manifests() for name in manifest.names())
+        for said in self.redis.hgetall(self.keys.left).values():
+            try:
+                kept.update(Manifest.read(said).names())
+            except SnapshotDamaged as damaged:
+                raise ShardError(f"the state of a customer that left shard {self.keys.number} is damaged: {damaged}") from None
+        strays = [name.decode() for name in self.redis.hkeys(self.keys.pieces)]
+        for _ in self.drop_pieces([name for name in strays if name not in kept and not name.startswith("arrival-")]):
+            pass
+
+    # Memory.
+
+    def memory(self) -> str:
+        """What the server says of its memory, in words."""
+        lines = bytes(self.redis.call("INFO", "memory")).decode().splitlines()
+        said = dict(line.partition(":")[::2] for line in lines if ":" in line)
+        return f"Redis has {said.get('used_memory', '?')} bytes of at most {said.get('maxmemory', '?')}: it needs more (maxmemory), or replies that stay for less long"

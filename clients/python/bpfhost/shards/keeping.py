@@ -95,9 +95,9 @@ class Keeping:
         kept = {name for manifest in (log.snapshot, log.before) if manifest for name in manifest.names()}
         if old:
             yield from self._writing.drop_pieces([name for name in old.names() if name not in kept])
-        least = log.before or (log.snapshot if log.snapshot and not log.snapshot.size else None)
-        if least:
-            yield from self._writing.drop(log.frames, after(least.place.encode()))
+        least = self._kept_from(log)
+        if least != START:
+            yield from self._writing.drop(log.frames, after(least))
         yield from self.drop_old(log)
 
     def drop_before(self, log: Log) -> Steps[None]:
@@ -108,7 +108,15 @@ class Keeping:
             log.before = None
             yield from self._writing.drop_pieces(sorted(names))
         if log.snapshot:
+            log.is_cut = True
             yield from self._writing.drop(log.frames, after(log.snapshot.place.encode()))
+            yield from self.drop_old(log)
+
+    def make_room(self, serving: Serving, log: Log) -> Steps[None]:
+        """Drops all that can be of a tenant: what its state can be made without, and replies that are old."""
+        if log.since.size:
+            yield from self.snapshot(serving, log)
+        yield from self.drop_before(log)
 
     # Ages, by how long the shard was served.
 
@@ -122,12 +130,16 @@ class Keeping:
             if log.tenant not in busy and (log.place != START) and (not log.marks or log.marks[-1][1] != log.place or len(log.marks) > 1):
                 begin(log.tenant, self.drop_old(log))
 
-    def look_at_waiting(self, logs: Sequence[Log], busy: set[int]) -> None:
-        """Now and then looks whether something is said to wait where nothing does."""
+    def is_due_to_look(self) -> bool:
+        """Whether it is time to look at what waits, and at the server's memory."""
         now = self._redis.system.now()
         if now < self._settled + _SECONDS_TO_SETTLE:
-            return
+            return False
         self._settled = now
+        return True
+
+    def look_at_waiting(self, logs: Sequence[Log], busy: set[int]) -> None:
+        """Looks whether something is said to wait where nothing does."""
         for tenant, weight in self._redis.hgetall(self._keys.waiting).items():
             if weight != b"0" and int(tenant) not in busy:
                 logs[int(tenant)].settle(self._writing.note)
@@ -143,10 +155,10 @@ class Keeping:
 
     @staticmethod
     def _kept_from(log: Log) -> bytes:
-        """Behind which entry replies are needed to compare what is played again."""
+        """Behind which entry frames and replies are needed to make the state of the snapshot before the last one."""
         if log.before:
             return log.before.place.encode()
-        return log.snapshot.place.encode() if log.snapshot and not log.snapshot.size else START
+        return log.snapshot.place.encode() if log.snapshot and log.is_cut else START
 
     def _forget_sessions(self, log: Log) -> Steps[None]:
         """Forgets sessions without a name whose last call is long ago."""

@@ -46,6 +46,8 @@ class Log:
     # Places by how many seconds the shard had been served then, the oldest first.
     marks: list[tuple[float, bytes]] = field(default_factory=list)
     aside: Aside | None = None
+    # Whether the last snapshot is the only one, and the stream has nothing of what came before it.
+    is_cut: bool = False
 
     @property
     def frames(self) -> str:

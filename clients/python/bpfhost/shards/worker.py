@@ -37,7 +37,7 @@ from bpfhost.shards.keeping import Keeping
 from bpfhost.shards.lease import Lease
 from bpfhost.shards.log import Log, Since
 from bpfhost.shards.manifest import Manifest
-from bpfhost.shards.names import FAULT, ShardKeys, order
+from bpfhost.shards.names import FAULT, START, ShardKeys, order
 from bpfhost.shards.registering import register
 from bpfhost.shards.restoring import Restored, restored
 from bpfhost.shards.serving import Serving, Written
@@ -54,6 +54,8 @@ _SECONDS_BESIDE = 0.01
 _SECONDS_AT_WORK = 120.0
 _SECONDS_TO_LOOK, _SECONDS_TO_TELL = 1.0, 30.0
 _LONGEST_PAUSE = 0.5
+# With so much of its memory in use, Redis is about to have none left.
+_FULL_MEMORY = 0.9
 
 # What is done in steps beside calls, for one tenant, which is asked nothing meanwhile.
 _Job = tuple[int, Generator[None, None, None]]
@@ -211,7 +213,8 @@ class Worker:
         self._alive()
         self._waiting_for_redis(self._lease.keep)
         self._waiting_for_redis(lambda: self._look_at_words(serving))
-        self._waiting_for_redis(lambda: self._keeping.look_at_waiting(self._logs, self._busy))
+        if self._keeping.is_due_to_look():
+            self._waiting_for_redis(lambda: self._look_around(serving))
         items = self._waiting_for_redis(lambda: list(self._read()))
         calls = [item for one in items for item in one if isinstance(item, (Call, NoCall))]
         if calls:
@@ -421,23 +424,34 @@ class Worker:
         else:
             self._waiting_for_redis(lambda: self._restore(serving))
 
+    def _look_around(self, serving: Serving) -> None:
+        """Looks at what waits, and at the memory that Redis has: where little is left, room is made before it is none."""
+        self._keeping.look_at_waiting(self._logs, self._busy)
+        used, most = self._writing.memory()
+        if most and used > most * _FULL_MEMORY and not self._jobs:
+            self._tell_now_and_then(f"shard {self._keys.number} makes room: {_memory(used, most)}")
+            for log in self._logs:
+                if not log.aside and log.place != START:
+                    self._begin(log.tenant, self._keeping.make_room(serving, log))
+
     def _make_room(self, serving: Serving, calls: Sequence[Call | NoCall], error: OutOfMemory) -> None:
-        """Makes room in a Redis that has no memory left: drops replies that are old, and the log of what has most of it. The tenants
-        whose replies are not written yet have a state of which no snapshot can speak."""
+        """Makes room in a Redis that has no memory for replies. Of the tenants whose replies are not written yet no snapshot is taken:
+        their state is behind calls that are not answered."""
         played = {call.tenant for call in calls}
         for log in self._logs:
-            at_once(self._keeping.drop_old(log))
-            at_once(self._keeping.drop_before(log))
-        idle = [log for log in self._logs if log.tenant not in played | self._busy and not log.aside and log.since.size]
-        if idle:
-            log = max(idle, key=lambda one: one.since.size)
-            at_once(self._keeping.snapshot(serving, log))
-            at_once(self._keeping.drop_before(log))
-        self._tell_now_and_then(f"shard {self._keys.number} waits: {error}. {self._writing.memory()}")
+            if log.tenant in played | self._busy or log.aside or log.place == START:
+                at_once(self._keeping.drop_before(log))
+            else:
+                at_once(self._keeping.make_room(serving, log))
+        self._tell_now_and_then(f"shard {self._keys.number} waits: {error}. {_memory(*self._writing.memory())}")
         self._alive()
         if self._is_stopped():
             raise Stopped("stopped")
         self._system.sleep(_LONGEST_PAUSE)
+
+
+def _memory(used: int, most: int) -> str:
+    return f"Redis has {used} bytes of at most {most}: it needs more memory (maxmemory), or replies that stay less long (--keep-replies)"
 
 
 def _turn_of(items: Sequence[Item]) -> list[Item]:

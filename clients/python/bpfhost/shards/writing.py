@@ -63,12 +63,12 @@ class Writing:
         """Writes that a tenant has left."""
         keys = [log.replies, self.keys.snapshots, self.keys.left]
         self._do(scripts.WRITE_LEFT, keys, [item.entry, item.tenant, item.generation, state.to_bytes(), nothing.to_bytes()])
-        log.snapshot, log.before = nothing, None
+        log.snapshot, log.before, log.is_cut = nothing, None, True
 
     def write_arrived(self, log: Log, item: Arrives, state: Manifest) -> None:
         """Writes that a tenant has arrived."""
         self._do(scripts.WRITE_ARRIVED, [log.replies, self.keys.snapshots], [item.entry, item.tenant, state.to_bytes()])
-        log.snapshot, log.before = state, None
+        log.snapshot, log.before, log.is_cut = state, None, True
 
     def note(self, name: str, field: Word, value: bytes) -> None:
         """Writes a field of a hash of the shard, or takes it out."""
@@ -84,7 +84,7 @@ class Writing:
         """Puts a snapshot in the place of the last one, which becomes the one before it."""
         last = log.snapshot.to_bytes() if log.snapshot else b""
         self._do(scripts.KEEP_SNAPSHOT, [self.keys.snapshots], [log.tenant, manifest.to_bytes(), last])
-        log.before, log.snapshot = log.snapshot, manifest
+        log.before, log.snapshot, log.is_cut = log.snapshot, manifest, False
 
     def drop(self, stream: str, least: bytes) -> Steps[None]:
         """Drops the entries of a stream below an id, some in each step."""
@@ -113,8 +113,8 @@ class Writing:
 
     # Memory.
 
-    def memory(self) -> str:
-        """What the server says of its memory, in words."""
+    def memory(self) -> tuple[int, int]:
+        """How many bytes of memory the server uses, and may use at most: 0 where there is no such limit."""
         lines = bytes(self.redis.call("INFO", "memory")).decode().splitlines()
         said = dict(line.partition(":")[::2] for line in lines if ":" in line)
-        return f"Redis has {said.get('used_memory', '?')} bytes of at most {said.get('maxmemory', '?')}: it needs more (maxmemory), or replies that stay for less long"
+        return int(said["used_memory"]), int(said["maxmemory"])

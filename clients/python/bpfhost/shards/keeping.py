@@ -5,12 +5,13 @@ All of it is done in steps, so that other tenants are served between two of them
 
 from __future__ import annotations
 
+import hashlib
 from collections.abc import Callable, Generator, Sequence
 
 from bpfhost.shards import scripts
 from bpfhost.shards.client import NAMELESS
 from bpfhost.shards.log import Log, Since
-from bpfhost.shards.manifest import Manifest
+from bpfhost.shards.manifest import Manifest, pieces_of
 from bpfhost.shards.names import START, after, order
 from bpfhost.shards.serving import Serving
 from bpfhost.shards.settings import Settings
@@ -38,25 +39,19 @@ class Keeping:
         self._looked = self._redis.system.now()
         self.failed.clear()
 
-    # Manifests.
-
     def empty(self, entry: bytes) -> Manifest:
         """The snapshot of a new tenant."""
-        return Manifest(entry.decode(), self._build).over(b"")
-
-    def at(self, manifest: Manifest, entry: bytes, stream: bytes) -> Manifest:
-        """The same frames, as the snapshot at an entry."""
-        return Manifest(entry.decode(), self._build, manifest.name).over(stream)
+        return Manifest(entry.decode(), self._build).summed()
 
     def keep(self, serving: Serving, log: Log) -> Steps[Manifest]:
         """Puts the state of a tenant down, in pieces of which nothing speaks yet."""
-        before = log.stream_of(log.snapshot) if log.snapshot else b""
-        stream = yield from serving.state(log.tenant, before, log.history)
-        manifest = Manifest(log.place.decode(), self._build, self._redis.system.fresh()).over(stream)
-        for name, piece in manifest.pieces(stream):
-            self._writing.keep_piece(name, piece)
+        stream = yield from serving.state(log.tenant, log.last_snapshot, log.history)
+        name, digest = self._redis.system.fresh(), hashlib.sha256()
+        for at, piece in enumerate(pieces_of(stream)):
+            digest.update(piece)
+            self._writing.keep_piece(f"{name}:{at}", piece)
             yield
-        return manifest
+        return Manifest(log.place.decode(), self._build, name, len(stream), digest.hexdigest()).summed()
 
     # Snapshots.
 
@@ -83,8 +78,7 @@ class Keeping:
             manifest = yield from self.keep(serving, log)
         else:
             # The same state, behind more frames.
-            stream = log.stream_of(log.snapshot)
-            manifest = self.at(log.snapshot, log.place, stream)
+            manifest = log.snapshot.at(log.place)
         self._writing.keep_snapshot(log, manifest)
         log.since = Since()
         yield from self.forget_old(log, old)

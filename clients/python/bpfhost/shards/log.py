@@ -12,8 +12,7 @@ from bpfhost.shards.copied import Asked
 from bpfhost.shards.errors import ShardError, SnapshotDamaged
 from bpfhost.shards.manifest import Manifest, read_pieces
 from bpfhost.shards.names import REPLIES, START, ShardKeys, after, order
-from bpfhost.shards.serving import answered
-from bpfhost.shards.snapshot import split
+from bpfhost.shards.snapshot import Steps, split
 
 _READ_AT_ONCE = 64
 
@@ -85,9 +84,16 @@ class Log:
         if not self.redis.xrange(self.frames, after(self.place), b"+", 1):
             note(self.keys.waiting, self.tenant, b"0")
 
-    def stream_of(self, manifest: Manifest) -> bytes:
-        """The frames of a snapshot; a SnapshotDamaged where they are not those that were written."""
+    def stream_of(self, manifest: Manifest) -> Steps[bytes]:
+        """The frames of a snapshot, in steps; a SnapshotDamaged where they are not those that were written."""
         return read_pieces(self.redis, self.keys.pieces, manifest)
+
+    def last_snapshot(self) -> Steps[bytes]:
+        """Those of the last snapshot."""
+        if not self.snapshot:
+            return b""
+        stream: bytes = yield from self.stream_of(self.snapshot)
+        return stream
 
     def both(self, place: bytes, last: bytes) -> Iterator[tuple[list[Entry], Replies]]:
         """The entries behind a place up to another one, in pieces, with their replies."""
@@ -104,10 +110,8 @@ class Log:
         for entries, replies in self.both(place, self.place):
             for entry in entries:
                 item = item_of(self.tenant, entry)
-                if isinstance(item, Arrives):
-                    yield from answered(self.stream_of(Manifest.read(item.manifest)))
-                elif isinstance(item, Leaves):
-                    raise ShardError(f"tenant {self.tenant} left at entry {item.entry.decode()}, and a snapshot from before that is its last")
+                if isinstance(item, (Arrives, Leaves)):
+                    raise ShardError(f"tenant {self.tenant} came or left at entry {item.entry.decode()}, which is a snapshot of its own")
                 elif item.entry not in replies:
                     raise ShardError(f"entry {item.entry.decode()} of shard {self.keys.number} has no reply any more")
                 elif isinstance(item, Call) and REPLIES in replies[item.entry]:

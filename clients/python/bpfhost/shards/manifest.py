@@ -1,7 +1,8 @@
 """Snapshots in Redis: the frames that make a tenant's state, in pieces, and a manifest that says which they are.
 
 A manifest is small, and is changed in one step; pieces are written before it speaks of them, and dropped after it has ceased to. Its
-checksum is over what it says (but for the names of pieces) and all of the frames: a snapshot that is damaged or not whole is refused.
+checksum is over what it says (but for the names of pieces) and a digest of all frames: a snapshot that is damaged or not whole is
+refused.
 """
 
 from __future__ import annotations
@@ -13,30 +14,40 @@ from dataclasses import asdict, dataclass, replace
 
 from bpfhost.shards.connection import Redis
 from bpfhost.shards.errors import SnapshotDamaged
+from bpfhost.shards.snapshot import Steps
 
 VERSION = 1
 PIECE = 1 << 18
+_LARGEST = 1 << 32
 
 
 @dataclass(frozen=True)
 class Manifest:
-    """A snapshot: the entry that its state is behind, the build of bpfhost that had it, its pieces by their names, and a checksum."""
+    """A snapshot: the entry that its state is behind, the build of bpfhost that had it, its pieces by their names, and checksums."""
 
     place: str
     build: str
     name: str = ""
     size: int = 0
+    digest: str = hashlib.sha256().hexdigest()
     version: int = VERSION
     checksum: str = ""
 
-    def over(self, stream: bytes) -> Manifest:
-        """The same, with the size and the checksum of these frames."""
-        sized = replace(self, size=len(stream))
-        return replace(sized, checksum=sized._sum(stream))
+    def _sum(self) -> str:
+        said = {**asdict(self), "checksum": "", "name": ""}
+        return hashlib.sha256(json.dumps(said, sort_keys=True).encode()).hexdigest()
 
-    def _sum(self, stream: bytes) -> str:
-        said = json.dumps({**asdict(self), "checksum": "", "name": ""}, sort_keys=True).encode()
-        return hashlib.sha256(b"%d " % len(said) + said + stream).hexdigest()
+    def summed(self) -> Manifest:
+        """The same, with its checksum."""
+        return replace(self, checksum=self._sum())
+
+    def at(self, place: bytes) -> Manifest:
+        """The same frames, as the snapshot at another entry."""
+        return replace(self, place=place.decode()).summed()
+
+    def renamed(self, name: str) -> Manifest:
+        """The same frames in pieces of other names. The checksum is not over the name."""
+        return replace(self, name=name)
 
     def to_bytes(self) -> bytes:
         """As it is kept."""
@@ -44,47 +55,41 @@ class Manifest:
 
     @classmethod
     def read(cls, kept: bytes) -> Manifest:
-        """What was kept; a SnapshotDamaged where it is none, or of another version."""
+        """What was kept; a SnapshotDamaged where it is none, or of another version, or not as it was written."""
         try:
             found = cls(**json.loads(kept))
-            if found.version != VERSION:
-                raise SnapshotDamaged(f"a snapshot is of version {found.version}, and this build knows {VERSION}")
-            if not (isinstance(found.place, str) and isinstance(found.name, str) and 0 <= int(found.size) <= 1 << 32):
-                raise ValueError
-            first, _, second = found.place.partition("-")
-            int(first), int(second)
+            is_whole = found.checksum == found._sum() and 0 <= found.size <= _LARGEST
         except (ValueError, TypeError):
             raise SnapshotDamaged("what a snapshot says of itself is damaged") from None
+        if not is_whole:
+            raise SnapshotDamaged("what a snapshot says of itself has a wrong checksum")
+        if found.version != VERSION:
+            raise SnapshotDamaged(f"a snapshot is of version {found.version}, and this build knows {VERSION}")
         return found
-
-    def demand(self, stream: bytes) -> bytes:
-        """The frames, if they are those that the manifest is over; a SnapshotDamaged else."""
-        if len(stream) != self.size:
-            raise SnapshotDamaged(f"the snapshot at {self.place} has {len(stream)} bytes, and had {self.size}")
-        if self._sum(stream) != self.checksum:
-            raise SnapshotDamaged(f"the checksum of the snapshot at {self.place} is wrong")
-        return stream
-
-    def renamed(self, name: str) -> Manifest:
-        """The same frames in pieces of other names. The checksum is not over the name."""
-        return replace(self, name=name)
 
     def names(self) -> list[str]:
         """The names of its pieces."""
         return [f"{self.name}:{at}" for at in range((self.size + PIECE - 1) // PIECE)]
 
-    def pieces(self, stream: bytes) -> Iterator[tuple[str, bytes]]:
-        """The pieces of the frames, by their names."""
-        for at, name in enumerate(self.names()):
-            yield name, stream[at * PIECE : (at + 1) * PIECE]
+
+def pieces_of(stream: bytes) -> Iterator[bytes]:
+    """The pieces of frames."""
+    for at in range(0, len(stream), PIECE):
+        yield stream[at : at + PIECE]
 
 
-def read_pieces(redis: Redis, pieces: str, manifest: Manifest) -> bytes:
-    """The frames of a snapshot; a SnapshotDamaged where a piece is missing or anything of it is not as it was."""
-    found = []
+def read_pieces(redis: Redis, pieces: str, manifest: Manifest) -> Steps[bytes]:
+    """The frames of a snapshot, in steps; a SnapshotDamaged where a piece is missing or anything of it is not as it was."""
+    stream, digest = bytearray(), hashlib.sha256()
     for name in manifest.names():
         piece = redis.hget(pieces, name)
         if piece is None:
             raise SnapshotDamaged(f"the snapshot at {manifest.place} has no piece {name} any more")
-        found.append(piece)
-    return manifest.demand(b"".join(found))
+        stream += piece
+        digest.update(piece)
+        yield
+    if len(stream) != manifest.size:
+        raise SnapshotDamaged(f"the snapshot at {manifest.place} has {len(stream)} bytes, and had {manifest.size}")
+    if digest.hexdigest() != manifest.digest:
+        raise SnapshotDamaged(f"the checksum of the snapshot at {manifest.place} is wrong")
+    return bytes(stream)

@@ -52,7 +52,7 @@ def _from_best(
     damaged = SnapshotDamaged("what a snapshot says of itself is damaged") if kept and (not manifests or kept != manifests[0].to_bytes()) else None
     for manifest in manifests:
         try:
-            stream = log.stream_of(manifest)
+            stream = yield from log.stream_of(manifest)
         except SnapshotDamaged as error:
             damaged = damaged or error
             continue
@@ -111,7 +111,7 @@ def _played(
 def _play_control(serving: Serving, log: Log, item: Leaves | Arrives) -> Steps[None]:
     serving.empty(log.tenant)
     if isinstance(item, Arrives):
-        yield from serving.make(log.tenant, log.stream_of(Manifest.read(item.manifest)))
+        yield from serving.make(log.tenant, (yield from log.stream_of(Manifest.read(item.manifest))))
 
 
 def _play(serving: Serving, log: Log, item: Item, replies: Replies, accepts: bool) -> None:

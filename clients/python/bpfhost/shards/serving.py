@@ -145,8 +145,8 @@ class Serving:
                 raise ShardError(f"the host answers {reply.hex()} to the end of tenant {tenant}")
             tenancy.note(frame, 0)
 
-    def state(self, tenant: int, before: bytes, history: History) -> Steps[bytes]:
-        """The frames that make a tenant's state, in steps; meanwhile the tenant is asked nothing. `before` are those of its last
+    def state(self, tenant: int, before: Callable[[], Steps[bytes]], history: History) -> Steps[bytes]:
+        """The frames that make a tenant's state, in steps; meanwhile the tenant is asked nothing. `before` gives those of its last
         snapshot, and `history` what it was asked since: they are played again where a map has no descriptor any more."""
         tenancy = self.tenancies[tenant]
         live = tenancy.live()
@@ -154,13 +154,17 @@ class Serving:
         pairs = yield from read_pairs(self, tenant, {on: on.descriptor for on in named})
         if len(named) < len(live):
             with Copy(self._program, self._system) as copy:
-                yield from copy.play(answered(before))
+                yield from copy.play(answered((yield from before())))
                 yield from copy.play(history())
                 copied = yield from copy.pairs(tenancy)
             if not same_pairs(pairs, copied, named):
                 raise CopyDiffers(f"the copy of tenant {tenant} has other values than the tenant")
             pairs = copied
-        return b"".join(state_frames(tenancy, pairs))
+        stream = bytearray()
+        for part in in_parts(state_frames(tenancy, pairs), lambda _: 1, _MADE_IN_A_STEP):
+            stream += b"".join(part)
+            yield
+        return bytes(stream)
 
 
 def answered(stream: bytes) -> Iterator[Asked]:

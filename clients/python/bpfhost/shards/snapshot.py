@@ -27,23 +27,20 @@ class AsksBytes(Protocol):
     def ask_bytes(self, frames: Iterable[bytes]) -> Iterator[bytes]: ...
 
 
-def state_frames(tenancy: Tenancy, pairs: Mapping[LiveMap, Pairs]) -> list[bytes]:
+def state_frames(tenancy: Tenancy, pairs: Mapping[LiveMap, Pairs]) -> Iterator[bytes]:
     """The frames that make the state of a tenant: what is open, and what is in each live map.
 
     Maps and programs are made in their order, each at its descriptor: the free numbers below it are filled by programs that are
     closed at the end, as are the maps that no descriptor names.
     """
-    made: list[bytes] = []
     taken: set[int] = set()
     objects: list[LiveMap | OpenProgram] = [*tenancy.live(), *tenancy.programs()]
     for on in sorted(objects, key=lambda on: on.number):
-        made += _filled_up_to(on.descriptor, taken)
-        command = Command.MAP_CREATE if isinstance(on, LiveMap) else Command.PROG_LOAD
-        made.append(frames.frame(0, command, on.body))
+        yield from _filled_up_to(on.descriptor, taken)
+        yield frames.frame(0, Command.MAP_CREATE if isinstance(on, LiveMap) else Command.PROG_LOAD, on.body)
         if isinstance(on, LiveMap):
-            made += (frames.map_update_elem(0, on.descriptor, key, value) for key, value in pairs[on])
-    made += (frames.close(0, number) for number in sorted(taken - set(tenancy.open)))
-    return made
+            yield from (frames.map_update_elem(0, on.descriptor, key, value) for key, value in pairs[on])
+    yield from (frames.close(0, number) for number in sorted(taken - set(tenancy.open)))
 
 
 def _filled_up_to(descriptor: int, taken: set[int]) -> Iterator[bytes]:

@@ -392,14 +392,14 @@ class Worker:
         """Makes a state that arrives; one that can't be made is refused, and the tenant is empty then."""
         try:
             manifest = Manifest.read(item.manifest)
-            stream = log.stream_of(manifest)
+            stream = yield from log.stream_of(manifest)
             yield from serving.make(item.tenant, stream)
         except (SnapshotDamaged, StateRefused, ValueError) as error:
             serving.empty(item.tenant)
             sentence = f"what arrives at shard {self._keys.number} is refused: {error}"
             self._writing.write([Written(item.tenant, item.entry, FAULT, sentence.encode())])
             return
-        self._writing.write_arrived(log, item, self._keeping.at(manifest, item.entry, stream))
+        self._writing.write_arrived(log, item, manifest.at(item.entry))
 
     # Snapshots.
 

@@ -11,7 +11,7 @@ from bpfhost.shards.copied import Asked, Copy
 from bpfhost.shards.errors import CopyDiffers, MemoryRefused, StateRefused
 from bpfhost.shards.names import FRAMES
 from bpfhost.shards.serving import Serving, answered
-from bpfhost.shards.snapshot import at_once, split, state_frames, with_tenant
+from bpfhost.shards.snapshot import Steps, at_once, split, state_frames, with_tenant
 from bpfhost.shards.system import MACHINE
 from bpfhost.shards.tenancy import Tenancy, status_of
 from bpfhost.slots import named_maps, renamed_maps
@@ -38,8 +38,12 @@ class Played:
 
     def snapshot(self) -> bytes:
         """The frames of a snapshot; what is played from then on is behind it."""
-        self.before = at_once(self.serving.state(self.tenant, self.before, lambda: self.asked))
+        self.before = at_once(self.serving.state(self.tenant, self._last, lambda: self.asked))
         self.asked = []
+        return self.before
+
+    def _last(self) -> Steps[bytes]:
+        yield
         return self.before
 
     def restore(self, stream: bytes) -> None:
@@ -172,7 +176,7 @@ class MapsWithoutDescriptors(HostTest):
         """A host with the state that these frames lead to, made of a snapshot of it."""
         with Copy(PROGRAM) as copy:
             at_once(copy.play(played))
-            made = state_frames(tenancy, at_once(copy.pairs(tenancy)))
+            made = list(state_frames(tenancy, at_once(copy.pairs(tenancy))))
         host = Host(PROGRAM)
         for frame in made:
             host.ask(frame).done()

@@ -1,0 +1,226 @@
+"""What one customer asks does not hold up another: each has its turn, and what takes long is done in steps."""
+
+from __future__ import annotations
+
+import socket
+import threading
+import time
+from collections.abc import Callable, Iterator, Sequence
+
+from bpfhost import MapType, frames
+from bpfhost.shards import Settings, ShardKeys, Worker, operating
+from bpfhost.shards.calls import Call
+from bpfhost.shards.connection import Redis, connect
+from bpfhost.shards.names import MOST_WAITING
+from bpfhost.shards.serving import Serving
+from bpfhost.shards.snapshot import Steps
+from bpfhost.shards.system import MACHINE, Link, Machine, Word
+from bpfhost.shards.worker import TURN_FRAMES, _turn_of
+from tests.common import PROGRAM, HostTest
+from tests.shards.common import CREATE, LOOK_UP, SECONDS, ShardTest, put
+
+# A step asks the host so many frames at most (the end of one part and the begin of another), and gives Redis so many bytes.
+STEP_FRAMES, STEP_BYTES = 820, 300_000
+STEP_SECONDS = 0.05
+
+
+def full_maps() -> Iterator[bytes]:
+    """Frames that fill eight maps of 4,096 keys."""
+    for number in range(8):
+        yield frames.map_create(0, MapType.HASH, 8, 8, 4096)
+        for key in range(4096):
+            yield frames.map_update_elem(0, 3 + number, key.to_bytes(8, "little"), bytes(8))
+
+
+class InSteps(HostTest):
+    """The steps in which the state of a customer with full maps is read and made."""
+
+    def steps_of(self, serving: Serving, steps: Steps[bytes] | Steps[None]) -> tuple[object, list[int], list[float]]:
+        """What comes of it, and of each step how many frames it asks, and its processor time."""
+        asked, took = list[int](), list[float]()
+        while True:
+            before, began = serving.asked, time.thread_time()
+            try:
+                next(steps)
+            except StopIteration as end:
+                return end.value, asked, took
+            finally:
+                asked.append(serving.asked - before)
+                took.append(time.thread_time() - began)
+
+    def test_full_maps(self) -> None:
+        with Serving(PROGRAM, MACHINE) as serving:
+            for _ in serving.play([Call(b"1-0", 0, list(full_maps()), 0)]):
+                pass
+            state, asked, took = self.steps_of(serving, serving.state(0, nothing, list))
+            assert isinstance(state, bytes)
+            self.assertGreater(len(asked), 100)
+            self.assertLessEqual(max(asked), STEP_FRAMES)
+            _, asked, took_to_make = self.steps_of(serving, serving.make(1, state))
+            self.assertGreater(len(asked), 50)
+            self.assertLessEqual(max(asked), STEP_FRAMES)
+            # By the processor's time, since others share it.
+            slow = [one for one in took + took_to_make if one > STEP_SECONDS]
+            self.assertLessEqual(len(slow), 1, slow)
+
+
+def nothing() -> Steps[bytes]:
+    """No frames."""
+    yield
+    return b""
+
+
+class Counting(Machine):
+    """A machine that notes the largest command that Redis is given, or gives an answer to."""
+
+    def __init__(self) -> None:
+        self.largest = 0
+
+    def link(self, url: str) -> Link:
+        return _CountingLink(self, super().link(url))
+
+
+class _CountingLink:
+    def __init__(self, counting: Counting, link: Link) -> None:
+        self._counting, self._link = counting, link
+        self.close = link.close
+
+    def call(self, words: Sequence[Word], seconds: float) -> object:
+        answer = self._link.call(words, seconds)
+        sizes = sum(len(word) for word in words if isinstance(word, bytes)), len(answer) if isinstance(answer, bytes) else 0
+        self._counting.largest = max(self._counting.largest, *sizes)
+        return answer
+
+
+class Stalls(ShardTest):
+    def longest(self, work: Callable[[], object]) -> tuple[float, int]:
+        """The longest that another customer waits for a look-up meanwhile, and how often it asks."""
+        other = self.client.customer("other")
+        if other.resume() == 0:
+            other.ask(CREATE).done()
+            other.ask(put(1)).done()
+        worker = threading.Thread(target=work)
+        worker.start()
+        waits = []
+        while worker.is_alive():
+            began = time.monotonic()
+            other.ask(LOOK_UP).done()
+            waits.append(time.monotonic() - began)
+        worker.join()
+        return max(waits), len(waits)
+
+    def test_a_customer_in_bulk(self) -> None:
+        """4,000 calls of 512 frames, of which one customer may have some waiting; another one's look-up has its turn."""
+        self.shard(0)
+        bulk = self.client.customer("bulk", 100)
+        bulk.ask(CREATE).done()
+
+        def work() -> None:
+            for ticket in [bulk.post(put(3) * 512) for _ in range(400)][-1:]:
+                bulk.wait(ticket)
+
+        longest, many = self.longest(work)
+        self.assertLess(longest, 1.0)
+        self.assertGreater(many, 20)
+        redis, keys = self.client.shard(0)
+        self.assertLessEqual(int(redis.hget(keys.waiting, 0) or 0), MOST_WAITING)
+
+    def test_a_turn(self) -> None:
+        call = Call(b"1-0", 0, [LOOK_UP] * 100, 2400)
+        self.assertEqual(len(_turn_of([call] * 60)), TURN_FRAMES // 100)
+        large = Call(b"1-0", 0, [LOOK_UP] * 512, 262_144)
+        self.assertEqual(_turn_of([large, call]), [large])
+
+    def test_a_customer_with_full_maps(self) -> None:
+        """No command of the worker is so large that Redis stands still for it."""
+        counting = Counting()
+        redis = Redis(self.server.url, counting)
+        stopped = threading.Event()
+        worker = Worker(redis, ShardKeys(0), PROGRAM, Settings(SECONDS, snapshot_entries=30), lambda _: None)
+        thread = threading.Thread(target=worker.run, args=(stopped.is_set,))
+        thread.start()
+        self.addCleanup(thread.join)
+        self.addCleanup(stopped.set)
+        self.until(lambda: 0 in self.client.directory.beats())
+        full = self.client.customer("full", 100)
+
+        def work() -> None:
+            for reply in full.ask_all(full_maps()):
+                reply.done() if reply.status < 0 else None
+            for value in range(100):
+                full.ask(frames.map_update_elem(0, 3, bytes(8), value.to_bytes(8, "little"))).done()
+
+        longest, _ = self.longest(work)
+        self.assertLess(longest, 1.0)
+        keys = ShardKeys(0)
+        self.assertGreater(len(self.client.redis.hkeys(keys.pieces)), 4)
+        self.assertLess(counting.largest, STEP_BYTES)
+
+    def test_a_slow_link(self) -> None:
+        """A reply of 2 MB over 300 kB a second outlasts the lease, which is raised beside it."""
+        slow = SlowLink(f"{self.scratch}/s", 300_000)
+        self.addCleanup(slow.close)
+        worker = Worker(connect(slow.url), ShardKeys(0), PROGRAM, Settings(1.0), lambda _: None)
+        stopped, errors = threading.Event(), list[Exception]()
+
+        def run() -> None:
+            try:
+                worker.run(stopped.is_set)
+            except Exception as error:
+                errors.append(error)
+
+        thread = threading.Thread(target=run)
+        thread.start()
+        self.addCleanup(thread.join)
+        self.addCleanup(stopped.set)
+        self.until(lambda: 0 in self.client.directory.beats())
+        customer = self.client.customer("acme", 60)
+        made = [frames.map_create(0, MapType.HASH, 4, 4096, 16), frames.map_update_elem(0, 3, b"key1", bytes(4096))]
+        self.assertEqual([reply.status for reply in customer.ask_all(made)], [3, 0])
+        began = time.monotonic()
+        self.assertEqual(len(customer.wait(customer.post(LOOK_UP * 500))), 500)
+        self.assertGreater(time.monotonic() - began, 3)
+        self.assertEqual(errors, [])
+        self.assertRegex("\n".join(operating.show(self.client)), "shard 0: 1 customers, 0 KiB of calls wait, served by ")
+
+
+class SlowLink:
+    """A port that hands on to a Unix socket, each connection with so many bytes a second towards it."""
+
+    def __init__(self, to: str, speed: int) -> None:
+        self._to, self._speed = to, speed
+        self._listens = socket.create_server(("127.0.0.1", 0))
+        self.url = f"redis://127.0.0.1:{self._listens.getsockname()[1]}"
+        threading.Thread(target=self._accept, daemon=True).start()
+
+    def close(self) -> None:
+        """Takes no more connections."""
+        self._listens.close()
+
+    def _accept(self) -> None:
+        while True:
+            try:
+                here, _ = self._listens.accept()
+            except OSError:
+                return
+            here.setsockopt(socket.SOL_SOCKET, socket.SO_RCVBUF, 1 << 16)
+            there = socket.socket(socket.AF_UNIX)
+            there.connect(self._to)
+            threading.Thread(target=self._pump, args=(here, there, self._speed), daemon=True).start()
+            threading.Thread(target=self._pump, args=(there, here, 0), daemon=True).start()
+
+    @staticmethod
+    def _pump(here: socket.socket, there: socket.socket, speed: int) -> None:
+        try:
+            while data := here.recv(1 << 14):
+                there.sendall(data)
+                if speed:
+                    time.sleep(len(data) / speed)
+        except OSError:
+            pass
+        for one in (here, there):
+            try:
+                one.shutdown(socket.SHUT_RDWR)
+            except OSError:
+                pass
+            one.close()

@@ -81,7 +81,7 @@ class Customer:
         self._client, self.name, self.seconds, self.session = client, name, seconds, session
         self._system = client.system
         self._seat: Seat | None = None
-        self._number = 0
+        self._number = self._given_up = 0
         self._open: Ticket | None = None
         self._at: dict[int, tuple[Redis, ShardKeys]] = {}
 
@@ -112,23 +112,23 @@ class Customer:
 
         So a producer that is killed and started again, with the same name for its session, knows which of its calls it sends next.
         """
-        deadline = self._system.now() + self.seconds
-        seat = self._take_seat(deadline, None)
-        redis, keys = self._shard(seat.shard, deadline)
-        record = redis.patiently(lambda limited: limited.hget(keys.sessions(seat.generation), self.session), deadline)
-        self._number = max(self._number, int(record.split()[0]) if record else 0)
-        return self._number
+        last = self.last()
+        return last.number if last else 0
 
     def last(self) -> Ticket | None:
         """The last call of this session that was taken, also by a process before this one, to be waited for; or None."""
-        deadline = self._system.now() + self.seconds
-        seat = self._take_seat(deadline, None)
-        redis, keys = self._shard(seat.shard, deadline)
-        record = redis.patiently(lambda limited: limited.hget(keys.sessions(seat.generation), self.session), deadline)
-        number, _, place = record.split(b" ", 2) if record else (b"0", b"", b"-")
+        deadline = self._deadline(None)
+        while True:
+            seat = self._take_seat(deadline, None)
+            redis, keys = self._shard(seat.shard, deadline)
+            record = redis.patiently(lambda limited: limited.hget(keys.sessions(seat.generation), self.session), deadline)
+            if record or redis.patiently(lambda limited: limited.hget(keys.seats, seat.tenant), deadline) == seat.owned_by(self.name):
+                break
+        number, given_up, _, place = record.split(b" ", 3) if record else (b"0", b"0", b"", b"-")
+        self._number, self._given_up = max(self._number, int(number)), max(self._given_up, int(given_up))
         if place == b"-":
             return None
-        return Ticket(b"", self.session, int(number), self._system.now(), seat, Place.read(place))
+        return Ticket(b"", self.session, int(number), int(given_up), seat, Place.read(place))
 
     def post(self, stream: bytes, seconds: float | None = None) -> Ticket:
         """Puts a call into the stream of the customer's shard, without waiting for its replies.
@@ -139,7 +139,7 @@ class Customer:
         whole_frames(stream)
         self.settle(seconds)
         self._number += 1
-        self._open = ticket = Ticket(stream, self.session, self._number, self._system.now())
+        self._open = ticket = Ticket(stream, self.session, self._number, self._given_up)
         self.settle(seconds)
         return ticket
 
@@ -152,7 +152,9 @@ class Customer:
         try:
             self._send(ticket, deadline)
         except NotTaken:
+            # No later one of this number is taken for it.
             self._open = None
+            self._number, self._given_up = ticket.number - 1, ticket.given_up + 1
             raise
         except Away as away:
             raise NoReply(f"it is not known whether a call of customer {self.name} was taken: {away}", ticket) from None
@@ -202,7 +204,7 @@ class Customer:
         """Sends a call once; what has no room just now is told."""
         redis, keys = self._shard(seat.shard, deadline)
         used = [keys.seats, keys.frames(seat.tenant), keys.sessions(seat.generation), keys.waiting, keys.lease]
-        session = [ticket.session, ticket.number, seat.owned_by(self.name), seat.shard, seat.tenant]
+        session = [ticket.session, ticket.number, ticket.given_up, seat.owned_by(self.name), seat.shard, seat.tenant]
         limits = [names.weight(len(ticket.stream)), names.MOST_WAITING, names.MOST_SESSIONS]
         try:
             what, *said = scripts.ASK.patiently(redis, used, [*session, ticket.stream, *limits], deadline)
@@ -216,7 +218,7 @@ class Customer:
         elif what == b"full":
             return f"customer {self.name} has as many calls waiting as one may have: the worker of shard {seat.shard} is behind"
         elif what == b"sessions":
-            raise NotTaken(f"customer {self.name} has {names.MOST_SESSIONS} sessions", ticket)
+            self._give_up(ticket, seat, f"customer {self.name} has {names.MOST_SESSIONS} sessions, and can't have another one")
         elif what == b"given up":
             raise NotTaken(f"call {ticket.number} of customer {self.name} was given up", ticket)
         else:
@@ -228,7 +230,7 @@ class Customer:
         deadline = self._system.now() + _SECONDS_TO_LOOK
         redis, keys = self._shard(seat.shard, deadline)
         used = [keys.sessions(seat.generation), keys.lease]
-        what, *said = scripts.GIVE_UP.patiently(redis, used, [ticket.session, ticket.number], deadline)
+        what, *said = scripts.GIVE_UP.patiently(redis, used, [ticket.session, ticket.number, ticket.given_up], deadline)
         if what == b"taken":
             ticket.place = Place.read(said[0])
         else:

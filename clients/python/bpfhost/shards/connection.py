@@ -2,6 +2,7 @@
 
 from __future__ import annotations
 
+import copy
 import hashlib
 import os
 import threading
@@ -62,12 +63,19 @@ class Redis:
         self.url, self.system = redis_url(url), system
         self._links = _Links(system, self.url)
         self._deadline: float | None = None
+        self._patience = 0.0
 
     def until(self, deadline: float) -> Redis:
         """The same server, whose calls end at a time of the system's clock."""
-        limited = object.__new__(Redis)
-        limited.url, limited.system, limited._links, limited._deadline = self.url, self.system, self._links, deadline
+        limited = copy.copy(self)
+        limited._deadline = deadline
         return limited
+
+    def patient(self, seconds: float) -> Redis:
+        """The same server, whose calls are made again for so many seconds where it is away: for what is right to do twice."""
+        patient = copy.copy(self)
+        patient._patience = seconds
+        return patient
 
     def close(self) -> None:
         """Ends the connections."""
@@ -75,6 +83,16 @@ class Redis:
 
     def call(self, *words: Word, wait: float = 0.0) -> Any:
         """The answer to a command, which may block for so many seconds. An Away where the server can't be reached in time."""
+        until = self.system.now() + self._patience
+        while True:
+            try:
+                return self._call_once(words, wait)
+            except Away:
+                if self.system.now() >= until:
+                    raise
+            self.system.sleep(_PAUSE)
+
+    def _call_once(self, words: Sequence[Word], wait: float) -> Any:
         seconds = wait + _SECONDS_TO_ANSWER
         if self._deadline is not None:
             seconds = max(_LEAST_SECONDS, min(seconds, self._deadline - self.system.now()))

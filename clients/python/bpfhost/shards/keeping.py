@@ -161,7 +161,7 @@ class Keeping:
             return
         name, served = self._keys.sessions(int(said)), self._writing.lease.served()
         for session, record in self._redis.hgetall(name).items():
-            then = int(record.split()[1]) / 1000
+            then = int(record.split()[2]) / 1000
             if session.startswith(NAMELESS.encode()) and then < served - SECONDS_OF_SESSIONS:
                 scripts.FORGET_SESSION(self._redis, [name], [session, record])
                 yield

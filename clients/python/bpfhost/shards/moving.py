@@ -159,7 +159,8 @@ class _Move:
         words = [next_seat.tenant, next_seat.generation, manifest.to_bytes(), *(word for pair in records.items() for word in pair)]
         entry = scripts.ARRIVE.patiently(redis, used, words, self._deadline)
         if entry is None:
-            raise MoveError(f"tenant {next_seat.tenant} of shard {next_seat.shard} is closed, or was given to a later customer")
+            # Who took the move back has not come to its end.
+            raise _Refused(b"", f"the seat on shard {next_seat.shard} is closed: the move was taken back")
         if entry != b"has":
             self._demand_made(redis, keys, next_seat, entry)
 

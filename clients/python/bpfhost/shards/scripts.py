@@ -7,40 +7,46 @@ from bpfhost.shards.connection import Script
 
 # A seat's text is its generation and a word: `name:` a customer who has it, `leaves:` or `arrives:` an entry, or `closed:`.
 
-# Takes a call: once for each number of a session, while the customer has its seat and may have more waiting. A record of a session is
-# the number of its last call, how long the shard had been served, and the shard, tenant and entry of the call, or `-` where it is given up.
-# KEYS: seats, frames, sessions, waiting, lease. ARGV: session, number, seat, shard, tenant, frames, weight, most waiting, most sessions.
+# Takes a call: once for each number of a session, while the customer has its seat and may have more waiting. The record of a session is
+# the number of its last call, how many calls were given up, how long the shard had been served, and the shard, tenant and entry of the
+# call, or `-`. A call that is older than the last one that was given up is not taken.
+# KEYS: seats, frames, sessions, waiting, lease. ARGV: session, number, given up, seat, shard, tenant, frames, weight, most waiting, most
+# sessions.
 ASK = Script("""
 local record = redis.call('HGET', KEYS[3], ARGV[1])
 if record then
-  local number, place = string.match(record, '^(%d+) %d+ (.+)$')
-  if number == ARGV[2] then return {place == '-' and 'given up' or 'taken', place} end
+  local number, given_up, place = string.match(record, '^(%d+) (%d+) %d+ (.+)$')
+  if number == ARGV[2] then return {'taken', place} end
   if tonumber(number) > tonumber(ARGV[2]) then return {'passed', number} end
+  if tonumber(given_up) > tonumber(ARGV[3]) then return {'given up'} end
 end
-if redis.call('HGET', KEYS[1], ARGV[5]) ~= ARGV[3] then return {'seat'} end
-local waits = tonumber(redis.call('HGET', KEYS[4], ARGV[5]) or '0')
-if waits > 0 and waits + tonumber(ARGV[7]) > tonumber(ARGV[8]) then return {'full'} end
-if not record and redis.call('HLEN', KEYS[3]) >= tonumber(ARGV[9]) then return {'sessions'} end
-local entry = redis.call('XADD', KEYS[2], '*', 'f', ARGV[6])
+if redis.call('HGET', KEYS[1], ARGV[6]) ~= ARGV[4] then return {'seat'} end
+local waits = tonumber(redis.call('HGET', KEYS[4], ARGV[6]) or '0')
+if waits > 0 and waits + tonumber(ARGV[8]) > tonumber(ARGV[9]) then return {'full'} end
+if not record and redis.call('HLEN', KEYS[3]) >= tonumber(ARGV[10]) then return {'sessions'} end
+local entry = redis.call('XADD', KEYS[2], '*', 'f', ARGV[7])
 local served = redis.call('HGET', KEYS[5], 'served') or '0'
-local place = ARGV[4] .. ' ' .. ARGV[5] .. ' ' .. entry
-redis.call('HINCRBY', KEYS[4], ARGV[5], ARGV[7])
-redis.call('HSET', KEYS[3], ARGV[1], ARGV[2] .. ' ' .. served .. ' ' .. place)
+local place = ARGV[5] .. ' ' .. ARGV[6] .. ' ' .. entry
+redis.call('HINCRBY', KEYS[4], ARGV[6], ARGV[8])
+redis.call('HSET', KEYS[3], ARGV[1], ARGV[2] .. ' ' .. ARGV[3] .. ' ' .. served .. ' ' .. place)
 return {'taken', place}
 """)
 
 # Gives a call up, so that it is not taken later; where it was taken, says so.
-# KEYS: sessions, lease. ARGV: session, number.
+# KEYS: sessions, lease. ARGV: session, number, given up before.
 GIVE_UP = Script("""
 local record = redis.call('HGET', KEYS[1], ARGV[1])
+local last, place = '0', '-'
 if record then
-  local number, place = string.match(record, '^(%d+) %d+ (.+)$')
-  if number == ARGV[2] then return {place == '-' and 'given up' or 'taken', place} end
+  local number, given_up, where = string.match(record, '^(%d+) (%d+) %d+ (.+)$')
+  if number == ARGV[2] then return {'taken', where} end
   if tonumber(number) > tonumber(ARGV[2]) then return {'passed', number} end
+  if tonumber(given_up) > tonumber(ARGV[3]) then return {'given up'} end
+  last, place = number, where
 end
 local served = redis.call('HGET', KEYS[2], 'served') or '0'
-redis.call('HSET', KEYS[1], ARGV[1], ARGV[2] .. ' ' .. served .. ' -')
-return {'given up', '-'}
+redis.call('HSET', KEYS[1], ARGV[1], last .. ' ' .. (ARGV[3] + 1) .. ' ' .. served .. ' ' .. place)
+return {'given up'}
 """, without_memory=True)
 
 # Drops the record of a session, if it is still this one. KEYS: sessions. ARGV: session, record.

@@ -56,6 +56,7 @@ class Serving:
     def _start(self) -> None:
         self._host = self._system.host(self._program, MOST_TENANTS)
         self.asked = 0
+        self.is_new = True
         self.tenancies = [Tenancy() for _ in range(MOST_TENANTS)]
 
     def __enter__(self) -> Serving:
@@ -98,6 +99,7 @@ class Serving:
 
     def ask(self, frames: Iterable[bytes]) -> Iterator[bytes]:
         """The same."""
+        self.is_new = False
         for reply in self._host.ask_bytes(frames):
             self.asked += 1
             if self.asked % _ASKED_AT_ONCE == 0:

@@ -24,12 +24,13 @@ class Place:
 
 @dataclass
 class Ticket:
-    """A call: its frames, its number in a session, the seat where it was sent last, and its place once that is known."""
+    """A call: its frames, its number in a session, in which so many were given up before it, the seat where it was sent last, and its
+    place once that is known."""
 
     stream: bytes
     session: str
     number: int
-    began: float
+    given_up: int = 0
     seat: Seat | None = None
     place: Place | None = None
     answered: list[bytes] = field(default_factory=list)

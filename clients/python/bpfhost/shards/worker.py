@@ -54,6 +54,7 @@ _SECONDS_BESIDE = 0.01
 _SECONDS_AT_WORK = 120.0
 _SECONDS_TO_LOOK, _SECONDS_TO_TELL = 1.0, 30.0
 _LONGEST_PAUSE = 0.5
+_SECONDS_OF_PATIENCE = 5.0
 # With so much of its memory in use, Redis is about to have none left.
 _FULL_MEMORY = 0.9
 
@@ -77,6 +78,8 @@ class Worker:
         """The directory is in the shard's Redis where no other one is named."""
         self._redis, self._keys, self._program, self._settings, self._tell = redis, keys, program, settings, tell
         self._system = redis.system
+        # What is read while a state is made is read again, and not the whole state made anew.
+        self._patient = redis.patient(_SECONDS_OF_PATIENCE)
         self._server = redis.url if directory else ""
         self._directory = Directory(directory or redis, keys.prefix)
         self._lease = Lease(redis, keys, settings.lease_seconds)
@@ -88,6 +91,8 @@ class Worker:
         self._busy: set[int] = set()
         self._tries: dict[tuple[int, bytes], int] = {}
         self._careful: dict[int, bytes] = {}
+        # Tenants with a job that ended hosts, and how far they had come then.
+        self._given_up: dict[int, bytes] = {}
         self._read_at_once = _MOST_READ
         self._looked = self._told_at = -_SECONDS_TO_TELL
         self._is_stopped: Callable[[], bool] = lambda: False
@@ -172,12 +177,12 @@ class Worker:
     def _restore(self, serving: Serving) -> None:
         """Makes all tenants' states; a host that ends meanwhile is tried again."""
         for tried in range(1, MOST_TRIES + 1):
-            if serving.asked or tried > 1:
+            if not serving.is_new:
                 serving.restart()
             self._jobs.clear()
             self._busy.clear()
             self._keeping.begin()
-            self._logs = [Log(self._redis, self._keys, tenant) for tenant in range(MOST_TENANTS)]
+            self._logs = [Log(self._patient, self._keys, tenant) for tenant in range(MOST_TENANTS)]
             try:
                 for log in self._logs:
                     self._alive()
@@ -190,7 +195,7 @@ class Worker:
 
     def _restore_one(self, serving: Serving, log: Log, word: str = "") -> Steps[None]:
         """Makes a tenant's state; what can't be made is set aside."""
-        kept = self._redis.hget(self._keys.aside, log.tenant)
+        kept = self._patient.hget(self._keys.aside, log.tenant)
         found: Restored = yield from restored(serving, log, self._alive, accepts=word == SKIP)
         for sentence in found.told:
             self._tell(f"shard {self._keys.number}, tenant {log.tenant}: {sentence}")
@@ -348,8 +353,7 @@ class Worker:
                 self._tell_now_and_then(f"shard {self._keys.number} waits: {error}")
                 self._waiting_for_redis(lambda: self._restore_after(serving, tenant))
             except (HostError, ReplyError, MemoryRefused) as error:
-                self._tell(f"shard {self._keys.number} begins a new host: {error}")
-                self._waiting_for_redis(lambda: self._restore(serving))
+                self._job_ended_host(serving, tenant, error)
                 return
             except (LeaseLost, RedisError, Stopped):
                 raise
@@ -360,6 +364,19 @@ class Worker:
             if self._system.now() >= until:
                 return
 
+    def _job_ended_host(self, serving: Serving, tenant: int, error: Exception) -> None:
+        """Begins anew on another host. What ended one three times is given up: no snapshot is taken, or what arrives is refused, or the
+        tenant that leaves is set aside."""
+        place = self._logs[tenant].place
+        key = tenant, b"behind " + place
+        self._tries[key] = self._tries.get(key, 0) + 1
+        self._tell(f"shard {self._keys.number} begins a new host: {error}")
+        self._waiting_for_redis(lambda: self._restore(serving))
+        if self._tries[key] >= MOST_TRIES:
+            del self._tries[key]
+            self._keeping.failed.add(tenant)
+            self._given_up[tenant] = place
+
     def _end_job(self, tenant: int) -> None:
         if self._jobs and self._jobs[0][0] == tenant:
             self._jobs.popleft()
@@ -368,7 +385,7 @@ class Worker:
     def _restore_after(self, serving: Serving, tenant: int) -> None:
         """Makes a tenant anew, whose job broke off anywhere."""
         serving.empty(tenant)
-        self._logs[tenant] = Log(self._redis, self._keys, tenant)
+        self._logs[tenant] = Log(self._patient, self._keys, tenant)
         at_once(self._restore_one(serving, self._logs[tenant]))
 
     def _control(self, serving: Serving, item: Leaves | Arrives) -> Steps[None]:
@@ -376,8 +393,9 @@ class Worker:
         old = [one for one in (log.snapshot, log.before) if one]
         if isinstance(item, Leaves):
             try:
+                self._demand_hope(log)
                 manifest = yield from self._keeping.keep(serving, log)
-            except (SnapshotDamaged, CopyDiffers) as error:
+            except (SnapshotDamaged, CopyDiffers, StateRefused) as error:
                 self._set_aside(log, Aside(STATE, item.entry.decode(), f"the tenant can't leave: {error}"))
                 return
             serving.empty(item.tenant)
@@ -388,9 +406,14 @@ class Worker:
         for one in old:
             yield from self._keeping.forget_old(log, one)
 
+    def _demand_hope(self, log: Log) -> None:
+        if self._given_up.get(log.tenant) == log.place:
+            raise StateRefused(f"it ended the host {MOST_TRIES} times")
+
     def _arrive(self, serving: Serving, log: Log, item: Arrives) -> Steps[None]:
         """Makes a state that arrives; one that can't be made is refused, and the tenant is empty then."""
         try:
+            self._demand_hope(log)
             manifest = Manifest.read(item.manifest)
             stream = yield from log.stream_of(manifest)
             yield from serving.make(item.tenant, stream)

@@ -100,8 +100,10 @@ class Calls(ShardTest):
         seat = self.client.directory.place("acme")
         used = [keys.seats, keys.frames(0), keys.sessions(1), keys.waiting, keys.lease]
 
-        def ask(number: int, of: bytes = seat.owned_by("acme"), most: int = 10_000, session: str = "one") -> list[bytes]:
-            words = [session, number, of, 0, 0, CREATE, 1000, most, 2]
+        def ask(
+            number: int, of: bytes = seat.owned_by("acme"), most: int = 10_000, session: str = "one", given_up: int = 0
+        ) -> list[bytes]:
+            words = [session, number, given_up, of, 0, 0, CREATE, 1000, most, 2]
             return list(scripts.ASK(redis, used, words))
 
         self.assertEqual(ask(1), [b"seat"])
@@ -116,14 +118,16 @@ class Calls(ShardTest):
         self.assertEqual(others, [[b"seat"], [b"seat"], [b"full"]])
         # A call that was given up is not taken later; one that was taken is not given up.
         gives = [keys.sessions(1), keys.lease]
-        self.assertEqual(scripts.GIVE_UP(redis, gives, ["one", 3])[0], b"given up")
-        self.assertEqual([ask(3)[0], ask(2)], [b"given up", [b"passed", b"3"]])
-        fourth = ask(4)
-        self.assertEqual(scripts.GIVE_UP(redis, gives, ["one", 4]), fourth)
+        for _ in range(2):
+            self.assertEqual(scripts.GIVE_UP(redis, gives, ["one", 3, 0]), [b"given up"])
+        self.assertEqual([ask(3), ask(1), ask(2)[0]], [[b"given up"], [b"passed", b"2"], b"taken"])
+        third = ask(3, given_up=1)
+        self.assertEqual((third[0], ask(3), scripts.GIVE_UP(redis, gives, ["one", 3, 1])), (b"taken", third, third))
+        self.assertEqual(scripts.GIVE_UP(redis, gives, ["one", 2, 0]), [b"passed", b"3"])
         self.assertEqual((ask(1, session="two")[0], ask(1, session="three")), (b"taken", [b"sessions"]))
         self.assertEqual(scripts.CLAIM(redis, [keys.seats], [0, 9, b"9 name:other"]), 1)
         self.assertEqual(scripts.CLAIM(redis, [keys.seats], [0, 1, seat.owned_by("acme")]), 0)
-        self.assertEqual(ask(4), fourth)
+        self.assertEqual(ask(3), third)
 
     def test_an_answer_that_is_lost(self) -> None:
         self.shard(0)

@@ -1,0 +1,380 @@
+"""Plays shards in the simulator: customers ask, their processes and all others die, servers go away and their clocks jump, customers are
+moved; each reply is compared with that of a host that serves the customer alone.
+
+usage: python3 -m tests.shards.simulator.play [--seed N] [--runs N] [--seconds S] [--tell]
+
+A run is decided by its seed: the same one is played again the same way.
+"""
+
+from __future__ import annotations
+
+import argparse
+import random
+import sys
+from collections import Counter
+from collections.abc import Callable
+
+from bpfhost import MapType, frames
+from bpfhost.shards import (
+    Client,
+    Customer,
+    LeaseHeld,
+    LeaseLost,
+    MoveError,
+    NoReply,
+    NotDone,
+    NotTaken,
+    SetAside,
+    Settings,
+    ShardError,
+    ShardKeys,
+    Worker,
+    abort_move,
+    move,
+)
+from bpfhost.shards.aside import Aside
+from bpfhost.shards.connection import Redis
+from bpfhost.shards.errors import RedisError
+from bpfhost.shards.operating import say
+from bpfhost.shards.tickets import Ticket
+from tests.shards.simulator.host import POISON, FakeHost
+from tests.shards.simulator.network import Network, Simulated, Weather
+from tests.shards.simulator.world import Process, World
+
+DIRECTORY = "redis://directory"
+SHARDS, CUSTOMERS, LEASE = 2, 4, 1.0
+SETTINGS = Settings(lease_seconds=LEASE, snapshot_entries=25, reply_seconds=400.0, most_asked=4000)
+_SECONDS_TO_SETTLE = 120.0
+_DAY = 86_400.0
+_SLOTS = bytes.fromhex("18110000 03000000 00000000 00000000 b700000000000000 9500000000000000")
+_KEYS = [bytes([key, 0, 0, 0]) for key in range(4)]
+_BAD_WEATHER = Weather(lost=0.02, unanswered=0.02, late=0.02)
+
+
+class Differs(AssertionError):
+    """Something is not as it has to be."""
+
+
+def frame_of(draw: random.Random, poison: bool) -> bytes:
+    """A random frame of one tenant."""
+    number, key = draw.choice((3, 3, 4, 5, 6)), draw.choice(_KEYS)
+    if poison and draw.random() < 0.01:
+        return frames.map_update_elem(0, number, POISON, bytes(8))
+    kinds: list[Callable[[], bytes]] = [
+        lambda: frames.map_create(0, draw.choice((MapType.HASH, MapType.ARRAY)), 4, 8, 3),
+        lambda: frames.map_update_elem(0, number, key, draw.randbytes(8)),
+        lambda: frames.map_lookup_elem(0, number, key),
+        lambda: frames.map_delete_elem(0, number, key),
+        lambda: frames.map_get_next_key(0, number, key),
+        lambda: frames.prog_load(0, _SLOTS.replace(b"\3\0\0\0", bytes([number, 0, 0, 0]))),
+        lambda: frames.prog_test_run(0, number),
+        lambda: frames.close(0, number),
+    ]
+    return draw.choices(kinds, (2, 6, 5, 2, 2, 3, 6, 2))[0]()
+
+
+class Said:
+    """A customer of the simulator: what it has asked, and what a host that serves it alone answers."""
+
+    def __init__(self, name: str, seed: str, poison: bool) -> None:
+        self.name, self._draw, self._poison = name, random.Random(f"{seed} {name}"), poison
+        self._alone = FakeHost()
+        # How many calls were taken, and the next one, which may be taken.
+        self.taken, self.next, self.calls = 0, self._new(), 0
+
+    def _new(self) -> list[bytes]:
+        return [frame_of(self._draw, self._poison) for _ in range(self._draw.randrange(1, 5))]
+
+    def is_poison(self) -> bool:
+        """Whether the next call ends a host."""
+        return any(frame[20:24] == POISON for frame in self.next)
+
+    def answered(self, replies: list[bytes] | None) -> None:
+        """Notes the replies to the next call, or that it was not done."""
+        if replies is not None:
+            wanted = list(self._alone.ask_bytes(self.next))
+            if replies != wanted:
+                raise Differs(f"{self.name} is told {[one.hex() for one in replies]}, and alone {[one.hex() for one in wanted]}")
+        self.taken, self.next, self.calls = self.taken + 1, self._new(), self.calls + 1
+
+
+class Play:
+    """One run."""
+
+    def __init__(self, seed: int, seconds: float) -> None:
+        self.world, self.counts, self._seconds = World(seed), Counter[str](), seconds
+        self.network = Network(self.world, _BAD_WEATHER)
+        self._draw = random.Random(f"faults {seed}")
+        self.customers = [Said(f"customer-{number}", str(seed), number == 0) for number in range(CUSTOMERS)]
+        self._workers: list[tuple[int, Process, Simulated]] = []
+        self._asking: dict[str, Process] = {}
+        self._is_ending = False
+
+    def run(self) -> None:
+        """All of it; a Differs where anything is wrong."""
+        try:
+            keeper = Process("supervisor")
+            for shard in range(SHARDS):
+                self.world.start(keeper, lambda shard=shard: self._supervise(shard))  # type: ignore[misc]
+            for said in self.customers:
+                self.world.start(keeper, lambda said=said: self._keep_asking(said))  # type: ignore[misc]
+            for run in (self._operate, self._move, self._do_faults):
+                self.world.start(keeper, run)
+            self.world.run(self._seconds)
+            self._is_ending = True
+            self.network.weather = Weather()
+            self.world.run(self._seconds + _SECONDS_TO_SETTLE)
+            self._compare()
+        finally:
+            self.world.end()
+
+    def _url(self, shard: int) -> str:
+        return f"redis://shard-{shard}" if shard else DIRECTORY
+
+    # Workers, which are started again when they end.
+
+    def _supervise(self, shard: int) -> None:
+        while True:
+            process = Process(f"worker {shard}")
+            machine = Simulated(self.network, process)
+            self._workers.append((shard, process, machine))
+            actor = self.world.start(process, lambda: self._work(shard, machine))
+            while not actor.has_ended:
+                self.world.sleep(0.1)
+            process.is_killed = True
+            self._workers.remove((shard, process, machine))
+            self.counts["workers"] += 1
+            self.world.sleep(0.2)
+
+    def _work(self, shard: int, machine: Simulated) -> None:
+        redis = Redis(self._url(shard), machine)
+        directory = Redis(DIRECTORY, machine) if shard else None
+        try:
+            Worker(redis, ShardKeys(shard), "none", SETTINGS, lambda said: self.world.tell(f"worker: {said}"), directory).run()
+        except (LeaseHeld, LeaseLost, RedisError) as error:
+            self.world.tell(f"worker {shard} ends: {error}")
+
+    # Customers, each in a process that dies now and then and is started again.
+
+    def _keep_asking(self, said: Said) -> None:
+        while True:
+            process = self._asking[said.name] = Process(said.name)
+            actor = self.world.start(process, lambda: self._ask(said, Simulated(self.network, process)))
+            while not actor.has_ended:
+                self.world.sleep(0.1)
+            self.counts["customers"] += 1
+            if self._is_ending and not process.is_killed:
+                return
+
+    def _ask(self, said: Said, machine: Simulated) -> None:
+        with Client(DIRECTORY, system=machine) as client:
+            customer = client.customer(said.name, 30.0, session="calls")
+            self._resume(said, self._last(customer), customer.wait)
+            while not self._is_ending:
+                machine.sleep(machine._world.draw.random() * 0.2)
+                ticket = self._posted(customer, said)
+                if ticket:
+                    self._wait(said, ticket, customer.wait)
+                else:
+                    self.counts["not taken"] += 1
+
+    def _posted(self, customer: Customer, said: Said) -> Ticket | None:
+        """Sends the next call; nothing where it is not taken, and the ticket also where that is not known."""
+        try:
+            return customer.post(b"".join(said.next))
+        except NoReply as error:
+            return error.ticket
+        except NotTaken:
+            return None
+
+    def _resume(self, said: Said, last: Ticket | None, wait: Callable[[Ticket], list[bytes]]) -> None:
+        """Goes on where the last process died: the call behind those that were answered was taken, or is sent again."""
+        number = last.number if last else 0
+        if number not in (said.taken, said.taken + 1):
+            raise Differs(f"{said.name} has {number} calls taken, and was answered {said.taken}")
+        if last and number == said.taken + 1:
+            self.counts["resumed"] += 1
+            self._wait(said, last, wait)
+
+    def _wait(self, said: Said, ticket: Ticket, wait: Callable[[Ticket], list[bytes]]) -> None:
+        while True:
+            try:
+                said.answered(wait(ticket))
+                return
+            except NotTaken:
+                return
+            except NotDone:
+                if not said.is_poison():
+                    raise
+                self.counts["skipped"] += 1
+                said.answered(None)
+                return
+            except SetAside:
+                self.counts["set aside"] += 1
+                self.world.sleep(1.0)
+            except NoReply:
+                self.counts["no reply"] += 1
+
+    def _last(self, customer: Customer) -> Ticket | None:
+        while True:
+            try:
+                return customer.last()
+            except (NotTaken, RedisError):
+                self.world.sleep(0.5)
+
+    # An operator, who says a word where something is set aside, and moves customers.
+
+    def _operate(self) -> None:
+        with Client(DIRECTORY, system=Simulated(self.network, Process("operator"))) as client:
+            while True:
+                self.world.sleep(2.0)
+                for said in self.customers:
+                    try:
+                        self._decide(client, said)
+                    except ShardError as error:
+                        self.world.tell(f"operator: {error}")
+
+    def _decide(self, client: Client, said: Said) -> None:
+        seat = client.directory.seat(said.name)
+        if seat is None:
+            return
+        redis, keys = client.shard(seat.shard)
+        kept = redis.hget(keys.aside, seat.tenant)
+        if kept is None:
+            return
+        if Aside.read(kept).kind != "entry":
+            raise Differs(f"{said.name} is set aside: {Aside.read(kept).why}")
+        say(client, said.name, "skip" if said.is_poison() else "retry", 20.0)
+
+    def _move(self) -> None:
+        while True:
+            self.world.sleep(self._draw.random() * 6)
+            process = Process("mover")
+            machine = Simulated(self.network, process)
+            actor = self.world.start(process, lambda: self._move_one(machine))
+            if self._draw.random() < 0.4:
+                self.world.sleep(self._draw.random() * 0.3)
+                self.world.kill(process)
+                self.counts["movers killed"] += 1
+            while not actor.has_ended:
+                self.world.sleep(0.1)
+            if self._is_ending:
+                return
+
+    def _move_one(self, machine: Simulated) -> None:
+        name = self._draw.choice(self.customers).name
+        with Client(DIRECTORY, system=machine) as client:
+            try:
+                if self._draw.random() < 0.2:
+                    abort_move(client, name, 20.0)
+                else:
+                    move(client, name, None, 20.0)
+                self.counts["moved"] += 1
+            except (MoveError, NoReply, RedisError) as error:
+                self.world.tell(f"mover: {error}")
+
+    # Faults.
+
+    def _do_faults(self) -> None:
+        kinds: dict[Callable[[], None], int] = {
+            self._kill_worker: 6,
+            self._pause_worker: 2,
+            self._kill_host: 2,
+            self._kill_customer: 5,
+            self._away: 3,
+            self._jump: 2,
+        }
+        while not self._is_ending:
+            self.world.sleep(self._draw.random() * 3)
+            self._draw.choices(list(kinds), list(kinds.values()))[0]()
+
+    def _kill_worker(self) -> None:
+        self.world.kill(self._draw.choice(self._workers)[1])
+        self.counts["kills"] += 1
+
+    def _pause_worker(self) -> None:
+        """Pauses a worker, so that another one that is started beside it has the lease when it goes on."""
+        shard, process, _ = self._draw.choice(self._workers)
+        process.paused_until = self.world.now + 1 + self._draw.random() * 4
+        second = Process(f"second worker {shard}")
+        machine = Simulated(self.network, second)
+        self._workers.append((shard, second, machine))
+
+        def work() -> None:
+            try:
+                self._work(shard, machine)
+            finally:
+                self._workers.remove((shard, second, machine))
+
+        self.world.start(second, work)
+        self.counts["pauses"] += 1
+
+    def _kill_host(self) -> None:
+        for host in self._draw.choice(self._workers)[2].hosts:
+            host.is_killed = True
+        self.counts["hosts"] += 1
+
+    def _kill_customer(self) -> None:
+        self.world.kill(self._asking[self._draw.choice(self.customers).name])
+
+    def _away(self) -> None:
+        server = self.network.server(self._url(self._draw.randrange(SHARDS)))
+        server.away_until = self.world.now + self._draw.random() * 8
+        self.counts["servers away"] += 1
+
+    def _jump(self) -> None:
+        """The clock of a server jumps a day, and back."""
+        server = self.network.server(self._url(self._draw.randrange(SHARDS)))
+        server.jumped = 0.0 if server.jumped else self._draw.choice((_DAY, -_DAY, 5.0))
+        self.counts["jumps"] += 1
+
+    # The end.
+
+    def _compare(self) -> None:
+        """All is answered, each entry once, and nobody is on the way."""
+        for said in self.customers:
+            self.counts["calls"] += said.calls
+        if any(self._asking[said.name] in [actor.process for actor in self.world.actors] for said in self.customers):
+            raise Differs("a customer waits for ever")
+        moves = self.network.server(DIRECTORY).store.keys.get(b"bpfhost:{directory}:moves", {})
+        if moves:
+            raise Differs(f"moves do not end: {moves}")
+        for shard in range(SHARDS):
+            keys, store = ShardKeys(shard), self.network.server(self._url(shard)).store.keys
+            for tenant in range(64):
+                asked, replied = (store.get(name(tenant).encode()) for name in (keys.frames, keys.replies))
+                if asked and (replied is None or (asked.added, asked.last) != (replied.added, replied.last)):
+                    raise Differs(f"tenant {tenant} of shard {shard} has {asked.added} entries up to {asked.last!r}")
+                self.counts["entries"] += asked.added if asked else 0
+
+
+def play(seed: int, seconds: float, tell: bool = False) -> Counter[str]:
+    """A run by its seed; a Differs where anything is wrong, which names the seed."""
+    played = Play(seed, seconds)
+    try:
+        played.run()
+    except BaseException as error:
+        print(*played.world.told[-40:], sep="\n")
+        raise Differs(f"seed {seed}: {error}") from error
+    if tell:
+        print(*played.world.told, sep="\n")
+    return played.counts
+
+
+def main() -> int:
+    """The command."""
+    parser = argparse.ArgumentParser(description="Plays shards in the simulator.")
+    parser.add_argument("--seed", type=int, default=1)
+    parser.add_argument("--runs", type=int, default=1, help="so many seeds, from this one on")
+    parser.add_argument("--seconds", type=float, default=60.0, help="of the simulator's clock")
+    parser.add_argument("--tell", action="store_true", help="what happened")
+    said = parser.parse_args()
+    counts = Counter[str]()
+    for seed in range(said.seed, said.seed + said.runs):
+        counts.update(play(seed, said.seconds, said.tell))
+    print(", ".join(f"{many:,} {what}" for what, many in sorted(counts.items())))
+    return 0
+
+
+if __name__ == "__main__":
+    sys.exit(main())

@@ -20,7 +20,7 @@ from bpfhost.shards.aside import Aside
 from bpfhost.shards.calls import LONGEST_CALL, MOST_FRAMES, whole_frames
 from bpfhost.shards.connection import Redis
 from bpfhost.shards.directory import Directory, Seat, demand_name
-from bpfhost.shards.errors import Away, NoReply, NotDone, NotTaken, OutOfMemory, ReplyGone, SetAside, ShardError
+from bpfhost.shards.errors import Away, NoReply, NotDone, NotServed, NotTaken, OutOfMemory, ReplyGone, SetAside, ShardError
 from bpfhost.shards.names import FAULT, PREFIX, REPLIES, ShardKeys, before, order
 from bpfhost.shards.parts import in_parts
 from bpfhost.shards.snapshot import split
@@ -237,21 +237,31 @@ class Customer:
             raise NotTaken(why, ticket)
 
     def _take_seat(self, deadline: float, ticket: Ticket | None) -> Seat:
-        """The customer's seat by the directory. While the customer is moved there is none, and this waits."""
+        """The customer's seat by the directory. While the customer is moved there is none, nor where no shard is served that may have
+        it: this waits."""
         pause = _PAUSE
         while True:
-            seat = self._client.redis.patiently(lambda redis: Directory(redis, self._client.prefix).place(self.name), deadline)
-            # A shard may have come to another server since it was last looked for.
-            self._at.pop(seat.shard, None)
-            redis, keys = self._shard(seat.shard, deadline)
-            claim = [seat.tenant, seat.generation, seat.owned_by(self.name)]
-            if scripts.CLAIM.patiently(redis, [keys.seats], claim, deadline):
-                self._seat = seat
-                return seat
+            try:
+                seat = self._client.redis.patiently(lambda redis: Directory(redis, self._client.prefix).place(self.name), deadline)
+                if self._claim(seat, deadline):
+                    return seat
+                why = f"customer {self.name} is being moved"
+            except NotServed as error:
+                why = str(error)
             if self._system.now() + pause > deadline:
-                raise NotTaken(f"customer {self.name} is being moved", ticket)
+                raise NotTaken(why, ticket)
             self._system.sleep(pause)
             pause = min(2 * pause, _LONGEST_PAUSE)
+
+    def _claim(self, seat: Seat, deadline: float) -> bool:
+        # A shard may have come to another server since it was last looked for.
+        self._at.pop(seat.shard, None)
+        redis, keys = self._shard(seat.shard, deadline)
+        claim = [seat.tenant, seat.generation, seat.owned_by(self.name)]
+        if not scripts.CLAIM.patiently(redis, [keys.seats], claim, deadline):
+            return False
+        self._seat = seat
+        return True
 
     # Waiting.
 

@@ -7,7 +7,7 @@ from dataclasses import dataclass
 from bpfhost.numbers import MOST_TENANTS
 from bpfhost.shards import directory_scripts as scripts
 from bpfhost.shards.connection import Redis
-from bpfhost.shards.errors import MoveError, NotTaken, OtherShard, ShardError
+from bpfhost.shards.errors import MoveError, NotServed, NotTaken, OtherShard, ShardError
 from bpfhost.shards.names import PREFIX, DirectoryKeys
 
 # The highest number of a shard.
@@ -121,7 +121,8 @@ class Directory:
         """The seat of a customer, which is given one if it has none; a NotTaken where there is no room."""
         seat, *why = scripts.PLACE(self.redis, self.keys.all, [name])
         if not seat:
-            raise NotTaken(f"customer {name}: {_WHY[why[0]]}")
+            kind = NotServed if why[0] == b"not served" else NotTaken
+            raise kind(f"customer {name}: {_WHY[why[0]]}")
         return Seat.read(seat)
 
     def seat(self, name: str) -> Seat | None:

@@ -78,6 +78,10 @@ class NotTaken(CallError):
     """A call is in no stream, and will be in none: there is no room, or the customer is being moved."""
 
 
+class NotServed(NotTaken):
+    """No shard is served that may have the customer."""
+
+
 class NoReply(CallError):
     """No reply came in time. The call may be in its stream; its ticket can be waited for again."""
 

@@ -143,6 +143,7 @@ class Worker:
             with contextlib.suppress(RedisError):
                 if attending:
                     attended.join(2.0)
+                if attending and self._is_stopped():
                     attending.end()
                 beside.join(2.0)
                 self._lease.release()

@@ -77,7 +77,7 @@ class Offered(ShardTest):
         self.client.customer("acme").ask(CREATE)
         first.stop()
         with self.assertRaisesRegex(NotTaken, "customer new: no shard that may have it is served"):
-            self.client.customer("new").ask(CREATE)
+            self.client.customer("new", 0.3).ask(CREATE)
         with self.assertRaisesRegex(ShardError, "shard 0 can't be removed: it has customers"):
             self.client.directory.remove_shard(0)
         self.shard(1)

@@ -118,11 +118,11 @@ class Store:
 
     def _zadd(self, name: bytes, nx: bytes, score: bytes, member: bytes) -> int:
         assert nx == b"NX"
-        self._of(name, _Sorted).setdefault(member, float(score))
+        self._of(name, Sorted).setdefault(member, float(score))
         return 1
 
     def _zincrby(self, name: bytes, by: bytes, member: bytes) -> bytes:
-        found = self._of(name, _Sorted)
+        found = self._of(name, Sorted)
         found[member] = found.get(member, 0.0) + float(by)
         return b"%g" % found[member]
 
@@ -195,8 +195,8 @@ class Store:
         return [part for pair in said.items() for part in pair]
 
 
-class _Sorted(dict[bytes, float]):
-    pass
+class Sorted(dict[bytes, float]):
+    """A sorted set: members with their scores."""
 
 
 def _bytes(word: object) -> bytes:

@@ -1,0 +1,307 @@
+"""Small cases of the protocol. A call asks a tenant to count, and is answered how many calls were done; so a call that is lost, done twice
+or done on another state shows in its reply.
+
+The processes do what the package does, in the same order, and call the same scripts: client.py, worker.py, moving.py.
+"""
+
+from __future__ import annotations
+
+import functools
+from collections.abc import Sequence
+from typing import Any
+
+from bpfhost.shards import directory_scripts as directory
+from bpfhost.shards import scripts
+from bpfhost.shards.connection import Script
+from bpfhost.shards.names import DirectoryKeys, ShardKeys, order
+from tests.shards.model.explorer import Local, Process, Step, Words
+from tests.shards.simulator.server import Store, Stream
+
+NAME = "c"
+_KEYS = [ShardKeys(0), ShardKeys(1)]
+_DIRECTORY = DirectoryKeys()
+
+
+def _script(script: Script, keys: Sequence[str], *arguments: object) -> Words:
+    return script, tuple(keys), arguments
+
+
+# A client, which sends its calls one after the other: ("place", number), ("claim", number, seat), ("ask", number, seat), ("wait", number,
+# place), ("done",).
+
+
+def client(calls: int) -> Process:
+    """A client with so many calls of one session."""
+
+    def steps(local: Local) -> list[Step]:
+        if local[0] == "done":
+            return []
+        number = local[1]
+        if local[0] == "place":
+            return [Step(_script(directory.PLACE, _DIRECTORY.all, NAME), lambda found: ("claim", number, found[0]))]
+        if local[0] == "wait":
+            shard, tenant, entry = local[2].split()
+            return [Step(("XRANGE", _KEYS[int(shard)].replies(int(tenant)), entry, entry), lambda found: _next(number, calls) if found else None)]
+        shard, tenant, generation = map(int, local[2].split())
+        keys, seat = _KEYS[shard], f"{generation} name:{NAME}"
+        if local[0] == "claim":
+            words = _script(scripts.CLAIM, [keys.seats], tenant, generation, seat)
+            return [Step(words, lambda has: ("ask", number, local[2]) if has else ("place", number))]
+        used = [keys.seats, keys.frames(tenant), keys.sessions(generation), keys.waiting, keys.lease]
+        words = _script(scripts.ASK, used, "s", number, 0, seat, shard, tenant, f"call {number}", 1, 1000, 10)
+        return [Step(words, lambda said: ("wait", number, said[1]) if said[0] == b"taken" else ("place", number))]
+
+    return Process(("place", 1), steps, _is_done)
+
+
+def _is_done(local: Local) -> bool:
+    return local[0] in ("done", "dead")
+
+
+def _next(number: int, calls: int) -> Local:
+    return ("place", number + 1) if number < calls else ("done",)
+
+
+# A worker: ("idle", starts, seen), ("restore", token), ("read", token, place, count), ("write", token, place, count, entry, fields).
+
+
+def worker(shard: int, name: str, starts: int, skips: bytes = b"", tenant: int = 0) -> Process:
+    """A worker of one tenant of a shard, which begins so many times at most, when it has died or its lease was taken. An entry with
+    these frames may be skipped, as an operator says of what is set aside. One that begins no time has the lease, and does not die."""
+    keys = _KEYS[shard]
+
+    def died(token: str) -> Local:
+        return ("idle", int(token[len(name) :]) + 1, ("", ""))
+
+    def steps(local: Local) -> list[Step]:
+        if local[0] == "idle":
+            return _take(local) if local[1] < starts else []
+        if local[0] == "restore":
+            return [Step(("XRANGE", keys.replies(tenant), "0-1", "+"), lambda found: _restored(local, found))]
+        if local[0] == "read":
+            behind = b"%d-%d" % (order(local[2])[0], order(local[2])[1] + 1)
+            words = ("XRANGE", keys.frames(tenant), behind, "+", "COUNT", 1)
+            return [Step(words, lambda found: ("write", *local[1:], found[0][0], tuple(found[0][1])) if found else None)]
+        return [Step(words, functools.partial(_written, local, count)) for words, count in _writes(local)]
+
+    def _take(local: Local) -> list[Step]:
+        token = f"{name}{local[1]}"
+        words = _script(scripts.TAKE, [keys.lease], token, 1000, *local[2])
+        return [
+            Step(words, lambda said: ("restore", token) if said[0] == token.encode() else ("idle", local[1], (said[0], said[1])))
+        ]
+
+    def _restored(local: Local, found: list[Any]) -> Local:
+        count = 0
+        for _, (field, value) in found:
+            count = 0 if value == b"left" else int(value.split()[1]) if value.startswith(b"arrived") else count + (field == b"r")
+        return ("read", local[1], found[-1][0] if found else b"0-0", count)
+
+    def _writes(local: Local) -> list[tuple[Words, int]]:
+        _, token, _, count, entry, (field, value) = local
+        replies = keys.replies(tenant)
+        if field == b"leave":
+            used = [keys.lease, replies, keys.snapshots, keys.left]
+            return [(_script(scripts.WRITE_LEFT, used, token, entry, tenant, value, f"state {count}", "nothing"), 0)]
+        if field == b"arrive":
+            arrived = int(value.split()[1])
+            return [(_script(scripts.WRITE_ARRIVED, [keys.lease, replies, keys.snapshots], token, entry, tenant, value), arrived)]
+        used = [keys.lease, keys.waiting, replies]
+        writes = [(_script(scripts.WRITE, used, token, tenant, 1, 1, entry, "r", b"%d" % (count + 1)), count + 1)]
+        if value == skips:
+            writes.append((_script(scripts.WRITE, used, token, tenant, 1, 1, entry, "e", "skipped"), count))
+        return writes
+
+    def _written(local: Local, count: int, has: Any) -> Local:
+        return ("read", local[1], local[4], count) if has == 1 else died(local[1])
+
+    def dies(local: Local) -> Local:
+        return local if local[0] == "idle" else died(local[1])
+
+    # A worker that has read all is at its end; one that has used its starts is spent.
+    if not starts:
+        return Process(("read", f"{name}0", b"0-0", 0), steps, lambda local: bool(local[0] == "read"), is_lossy=False)
+    return Process(
+        ("idle", 0, ("", "")),
+        steps,
+        lambda local: bool(local[0] in ("idle", "read")),
+        dies,
+        is_spent=lambda local: bool(local[0] == "idle" and local[1] >= starts),
+    )
+
+
+# A mover: ("begin",), ("look", seat, next), ("claim", ..), ("leave", ..), ("left", .., entry), ("fetch", ..), ("sessions", .., state),
+# ("arrive", .., state, sessions), ("arrived", .., entry), ("seat", ..), ("forget", ..), ("end", ..), ("done",).
+
+
+def mover(dies: bool, shard: str = "1") -> Process:
+    """Who moves the customer to a shard; one that dies does not come again."""
+
+    def steps(local: Local) -> list[Step]:
+        if local[0] in ("done", "dead"):
+            return []
+        if local[0] == "begin":
+            words = _script(directory.BEGIN_MOVE, _DIRECTORY.all, NAME, shard, "")
+            return [Step(words, lambda said: ("look", said[0], said[1]) if said[0] else (("done",) if said[1] == b"here" else None))]
+        return [_on_its_way(local)]
+
+    return Process(("begin",), steps, _is_done, (lambda _local: ("dead",)) if dies else None)
+
+
+def _on_its_way(local: Local) -> Step:
+    """A step of a move, also of one that was turned back."""
+    at, *rest = local
+    if at == "turn":
+        return _turned(local)
+    back = at.startswith("back ")
+    step = _moved((at[5:] if back else at, *rest))
+    return Step(step.words, lambda answer: _back(step.then(answer))) if back else step
+
+
+def _moved(local: Local) -> Step:
+    at, seat, next_seat, *rest = local
+    old, tenant, generation = map(int, seat.split())
+    new, next_tenant, next_generation = map(int, next_seat.split())
+    keys, others = _KEYS[old], _KEYS[new]
+    both = (seat, next_seat)
+    claim = [tenant, generation, f"{generation} name:{NAME}"]
+    if at == "look":
+        # Whether another one has let the customer arrive.
+        return Step(("HGET", others.seats, next_tenant), lambda said: _looked(said, next_generation, both))
+    if at == "claim":
+        return Step(_script(scripts.CLAIM, [keys.seats], *claim), lambda _: ("leave", *both))
+    if at == "leave":
+        return Step(_script(scripts.LEAVE, [keys.seats, keys.frames(tenant)], *claim), lambda entry: ("left", *both, entry) if entry else ("done",))
+    if at == "left":
+        return Step(("XRANGE", keys.replies(tenant), rest[0], rest[0]), lambda found: ("fetch", *both) if found else None)
+    if at == "fetch":
+        return Step(("HGET", keys.left, generation), lambda state: ("sessions", *both, state) if state else ("done",))
+    if at == "sessions":
+        return Step(("HGETALL", keys.sessions(generation)), lambda records: ("arrive", *both, rest[0], tuple(records)))
+    if at == "arrive":
+        used = [others.seats, others.frames(next_tenant), others.sessions(next_generation)]
+        words = _script(scripts.ARRIVE, used, next_tenant, next_generation, rest[0], *rest[1])
+        return Step(words, lambda entry: ("turn", *both) if not entry else ("seat", *both) if entry == b"has" else ("arrived", *both, entry))
+    if at == "arrived":
+        return Step(("XRANGE", others.replies(next_tenant), rest[0], rest[0]), lambda found: ("seat", *both) if found else None)
+    if at == "seat":
+        words = _script(scripts.SEAT, [others.seats], next_tenant, next_generation, f"{next_generation} name:{NAME}")
+        return Step(words, lambda _: ("forget", *both))
+    if at == "forget":
+        return Step(("DEL", keys.sessions(generation)), lambda _: ("forget left", *both))
+    if at == "forget left":
+        return Step(("HDEL", keys.left, generation), lambda _: ("end", *both))
+    return Step(_script(directory.END_MOVE, _DIRECTORY.all, NAME, seat, next_seat), lambda _: ("done",))
+
+
+def _looked(said: bytes | None, generation: int, both: tuple[bytes, bytes]) -> Local:
+    known, _, rest = (said or b"").partition(b" ")
+    what, _, entry = rest.partition(b":")
+    if not known or int(known) != generation or what == b"closed":
+        return ("claim", *both)
+    return ("arrived", *both, entry) if what == b"arrives" else ("seat", *both)
+
+
+# Who takes a move back: ("look",), ("close", seat, next), then as a mover to the seat that it is given.
+
+
+def aborter() -> Process:
+    """Who takes the move of the customer back, if there is one, and lets it come back where it was."""
+
+    def steps(local: Local) -> list[Step]:
+        at = local[0]
+        if at == "done":
+            return []
+        if at == "moves":
+            return [Step(("HGET", _DIRECTORY.moves, NAME), lambda to: ("customer", to) if to else ("done",))]
+        if at == "customer":
+            return [Step(("HGET", _DIRECTORY.customers, NAME), lambda seat: ("close", seat, local[1]) if seat != local[1] else ("done",))]
+        return [_on_its_way(local) if at.startswith("back ") else _turned(local)]
+
+    return Process(("moves",), steps, _is_done)
+
+
+def _back(local: Local | None) -> Local | None:
+    return local if local is None or local[0] in ("done", "turn") else ("back " + local[0], *local[1:])
+
+
+def _turned(local: Local) -> Step:
+    at, seat, next_seat, *rest = local
+    old, tenant, generation = map(int, seat.split())
+    new, next_tenant, next_generation = map(int, next_seat.split())
+    keys, others = _KEYS[old], _KEYS[new]
+    if at == "close":
+        words = _script(scripts.CLOSE_SEAT, [others.seats, others.sessions(next_generation)], next_tenant, next_generation, "")
+        # Where it has arrived, the move goes on to its end.
+        return Step(words, lambda closed: ("claim", seat, next_seat) if closed else ("back look", seat, next_seat))
+    claim = [tenant, generation, f"{generation} name:{NAME}"]
+    if at == "claim":
+        return Step(_script(scripts.CLAIM, [keys.seats], *claim), lambda _: ("leave", seat, next_seat))
+    if at == "leave":
+        return Step(
+            _script(scripts.LEAVE, [keys.seats, keys.frames(tenant)], *claim),
+            lambda entry: ("left", seat, next_seat, entry) if entry else ("done",),
+        )
+    if at == "left":
+        return Step(("XRANGE", keys.replies(tenant), rest[0], rest[0]), lambda found: ("kept", seat, next_seat) if found else None)
+    if at == "kept":
+        return Step(("HGET", keys.left, generation), lambda state: ("turn", seat, next_seat) if state else ("done",))
+    words = _script(directory.TURN_MOVE, _DIRECTORY.all, NAME, seat, next_seat)
+    return Step(words, lambda said: ("back look", seat, said[0]) if said[0] else ("done",))
+
+
+# What each state has to be like.
+
+
+def replies_are_right(keys: dict[bytes, Any]) -> None:
+    """Each call is taken once, each entry has one reply at most, in order, and the replies are those of one customer who counts."""
+    counts, called = dict[int, int](), list[bytes]()
+    for shard in _KEYS:
+        for tenant in (0, 1):
+            frames, replies = (keys.get(name(tenant).encode(), Stream()).entries for name in (shard.frames, shard.replies))
+            assert list(replies) == list(frames)[: len(replies)], f"replies to {list(replies)}, and entries {list(frames)}"
+            called += [value for field, value in frames.values() if field == b"f"]
+            for entry, (field, value) in replies.items():
+                number = int(frames[entry][1].split()[1]) if frames[entry][0] == b"f" else 0
+                if number and field == b"r":
+                    counts[number] = int(value)
+    assert len(called) == len(set(called)), f"a call is taken twice: {called}"
+    done = sorted(counts)
+    assert [counts[number] for number in done] == list(range(1, len(done) + 1)), f"calls are answered {counts}"
+
+
+def begun(held: bool = False) -> dict[bytes, Any]:
+    """The keys of two shards that are offered."""
+    store = Store()
+    for shard in ("0", "1"):
+        store.do(["ZADD", _DIRECTORY.loads, "NX", shard, shard])
+        store.do(["HSET", _DIRECTORY.beats, shard, "1"])
+        if held:
+            store.do(["HSET", _KEYS[int(shard)].lease, "token", f"w{shard}0", "count", "1"])
+    return store.keys
+
+
+# Mistakes that are planted, by the script and what is changed in its text.
+MISTAKES = {
+    "no token is compared": (scripts.WRITE, "if redis.call('HGET', KEYS[1], 'token') ~= ARGV[1] then return 0 end\n", ""),
+    "a reply without its id": (scripts.WRITE, "redis.call('XADD', KEYS[key], ARGV[reply],", "redis.call('XADD', KEYS[key], '*',"),
+    "a seat is given before the old one is taken": (
+        directory.BEGIN_MOVE,
+        "redis.call('HSET', KEYS[5], ARGV[1], given)\n",
+        "redis.call('HSET', KEYS[5], ARGV[1], given)\nredis.call('HSET', KEYS[1], ARGV[1], given)\n",
+    ),
+    "the old seat is not taken": (
+        scripts.LEAVE,
+        "redis.call('HSET', KEYS[1], ARGV[1], ARGV[2] .. ' leaves:' .. entry)\n",
+        "",
+    ),
+    "a call is not remembered": (scripts.ASK, "redis.call('HSET', KEYS[3], ARGV[1],", "redis.call('HSET', KEYS[3], 'x' .. ARGV[1],"),
+    "a seat that is closed is arrived at": (scripts.ARRIVE, "if string.match(seat, '^%d+ closed:') then return false end", ""),
+}
+
+
+def mutated(mistake: str) -> dict[str, str]:
+    """The text of a script, and the one with a mistake."""
+    script, right, wrong = MISTAKES[mistake]
+    assert right in script.text
+    return {script.text: script.text.replace(right, wrong)}

@@ -1,0 +1,73 @@
+"""The protocol in all interleavings of small cases, and mistakes that are planted in the scripts, each of which is found.
+
+`python3 -m tests.shards.test_model FAULTS` goes through the cases with more faults.
+"""
+
+from __future__ import annotations
+
+import importlib.util
+import sys
+import unittest
+from collections.abc import Sequence
+from typing import TYPE_CHECKING
+
+from tests.common import TimedTest
+
+if TYPE_CHECKING:
+    from tests.shards.model.explorer import Process
+
+_WHY = None if importlib.util.find_spec("lupa") else "python3-lupa is missing"
+
+
+def case(name: str) -> Sequence[Process]:
+    """The processes of a case."""
+    from tests.shards.model.cases import aborter, client, mover, worker
+
+    def served() -> list[Process]:
+        # Shard 0 with two of its tenants, since a customer that comes back has another number there.
+        return [worker(0, "w0", 0), worker(0, "w0", 0, tenant=1), worker(1, "w1", 0)]
+
+    if name == "calls":
+        # A client, and two workers who take the lease from each other; the first call may be skipped.
+        return [client(2), worker(0, "a", 2, b"call 1"), worker(0, "b", 2, b"call 1")]
+    if name == "moves":
+        # A client, a mover who may die, and another one.
+        return [client(2), *served(), mover(True), mover(False)]
+    # The move is taken back meanwhile.
+    return [client(2), *served(), mover(True), aborter()]
+
+
+def explore(name: str, faults: int, mistake: str | None = None) -> int:
+    """Goes through a case with so many faults of the network, and gives how many states it has."""
+    from tests.shards.model.cases import begun, mutated, replies_are_right
+    from tests.shards.model.explorer import Explorer
+
+    explorer = Explorer(case(name), replies_are_right, faults, mutated(mistake) if mistake else None)
+    return explorer.run(begun(held=name != "calls"))
+
+
+@unittest.skipIf(_WHY is not None, _WHY or "")
+class Model(TimedTest):
+    def test_all_interleavings(self) -> None:
+        self.assertGreater(explore("calls", 1), 20_000)
+        self.assertGreater(explore("moves", 1), 50_000)
+        self.assertGreater(explore("aborts", 0), 5_000)
+
+    def test_mistakes_are_found(self) -> None:
+        from tests.shards.model.explorer import Broken
+
+        for mistake, name, faults, sentence in (
+            ("no token is compared", "calls", 0, "calls are answered"),
+            ("a reply without its id", "calls", 0, "replies to .*, and entries"),
+            ("a seat is given before the old one is taken", "moves", 0, "calls are answered"),
+            ("the old seat is not taken", "moves", 0, "calls are answered"),
+            ("a call is not remembered", "calls", 1, "a call is taken twice"),
+            ("a seat that is closed is arrived at", "aborts", 1, "a call is taken twice"),
+        ):
+            with self.subTest(mistake), self.assertRaisesRegex(Broken, sentence):
+                explore(name, faults, mistake)
+
+
+if __name__ == "__main__":
+    for each in ("calls", "moves", "aborts"):
+        print(f"{each}: {explore(each, int(sys.argv[1])):,} states", flush=True)

@@ -28,6 +28,7 @@ sys.path.insert(0, str(Path(__file__).resolve().parents[1]))
 
 from bpfhost import Host, MapType, find_program, frames  # noqa: E402
 from bpfhost.shards import Client, Settings, ShardKeys, Worker  # noqa: E402
+from bpfhost.shards.command import main as command  # noqa: E402
 from bpfhost.shards.connection import connect  # noqa: E402
 from bpfhost.shards.registering import register  # noqa: E402
 from bpfhost.shards.settings import MOST_BYTES, MOST_ENTRIES  # noqa: E402
@@ -70,9 +71,10 @@ def by_pipe(program: str, many: int, size: int) -> float:
 
 
 def work(url: str, program: str, shard: int, directory: str) -> None:
-    """A worker that takes no snapshot."""
-    other = connect(directory) if directory != url else None
-    Worker(connect(url), ShardKeys(shard), program, SETTINGS, lambda _sentence: None, other).run()
+    """A worker, by the command, with as few snapshots as it allows."""
+    words = ["worker", str(shard), "--redis", url, "--bpfhost", program, "--snapshot-entries", str(MOST_ENTRIES), "--volatile"]
+    with open(os.devnull, "w") as nowhere, contextlib.redirect_stderr(nowhere):
+        sys.exit(command(words + (["--directory", directory] if directory != url else [])))
 
 
 def ask(url: str, program: str, name: str, calls: int, size: int, barrier: Any) -> None:

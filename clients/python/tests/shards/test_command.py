@@ -10,6 +10,7 @@ import sys
 import time
 
 from bpfhost import Host, MapType, frames
+from bpfhost.shards import Client, ShardKeys
 from bpfhost.shards.connection import connect
 from tests.common import PROGRAM
 from tests.shards.common import ShardTest
@@ -73,6 +74,57 @@ class Commands(ShardTest):
             frame = frames.map_create(0, MapType.HASH, 4, 8, 1)
             self.assertEqual(self.call("client", "acme", given=frame).stdout[8:], bytes([3, 0, 0, 0]))
             self.assertIn("shard 4: 1 customers, 0 KiB of calls wait, served by", self.call("show").stdout.decode())
+
+    def test_each_word_of_a_worker(self) -> None:
+        """Each word has its effect, and no other one."""
+        redis = connect(self.server.url)
+        self.addCleanup(redis.close)
+        for shard, words, seconds, has_snapshot, drops in (
+            (5, ["--lease", "2"], b"2000", False, False),
+            (6, ["--snapshot-entries", "7"], b"3000", True, False),
+            (7, ["--snapshot-entries", "7", "--keep-replies", "0.1"], b"3000", True, True),
+        ):
+            worker, keys = self.start(shard, *words), ShardKeys(shard)
+            with Client(self.server.url) as client:
+                client.directory.place(f"customer-{shard}")
+                customer = client.customer(f"customer-{shard}")
+                for value in range(24):
+                    customer.ask(frames.map_create(0, MapType.HASH, 4, 8, 1))
+                seat = client.directory.customers()[f"customer-{shard}"]
+            self.assertEqual((seat.shard, redis.hget(keys.lease, "milliseconds")), (shard, seconds))
+            self.until(lambda: bool(redis.hkeys(keys.snapshots)) == has_snapshot)
+            self.until(lambda: (redis.xlen(keys.replies(seat.tenant)) < 24) == drops)
+            worker.send_signal(signal.SIGTERM)
+            self.assertEqual(worker.wait(20), 0)
+        redis.call("CONFIG", "SET", "appendfsync", "everysec")
+        refused = self.call("worker", "8")
+        self.assertEqual((refused.returncode, refused.stderr[:46]), (3, b"bpfhost.shards: Redis has appendfsync everysec"))
+        self.start(8, "--volatile")
+        self.start(9, "--volatile", "--prefix", "other")
+        self.assertTrue(redis.get("other:{9}:incarnation"))
+
+    def test_words_of_an_operator(self) -> None:
+        workers = [self.start(shard) for shard in (0, 1)]
+        frame = frames.map_create(0, MapType.HASH, 4, 8, 1)
+        self.assertEqual(self.call("client", "acme", given=frame).returncode, 0)
+        for words, status, said in (
+            (["move", "acme", "--to", "1"], 0, "acme: shard 1, tenant 0\n"),
+            (["drain", "1"], 0, "acme: shard 0, tenant [01]\n"),
+            (["show"], 0, "(?s).*shard 1: 0 customers, 0 KiB of calls wait, served by [^\n]*, drained\n.*"),
+            (["drain", "1", "--undo"], 0, ""),
+            (["abort-move", "acme"], 1, "bpfhost.shards: customer acme is not being moved\n"),
+            (["skip", "acme"], 1, "bpfhost.shards: nothing of customer acme is set aside\n"),
+            (["retry", "nobody"], 1, "bpfhost.shards: customer nobody is not in the directory\n"),
+            (["remove-shard", "1"], 1, "bpfhost.shards: shard 1 can't be removed: it is served: stop its worker first\n"),
+            (["drain", "7"], 1, "bpfhost.shards: the directory knows no shard 7\n"),
+        ):
+            called = self.call(*words)
+            self.assertRegex((called.stdout + called.stderr).decode(), f"^{said}$")
+            self.assertEqual(called.returncode, status, words)
+        workers[1].send_signal(signal.SIGTERM)
+        self.assertEqual(workers[1].wait(20), 0)
+        self.assertEqual(self.call("remove-shard", "1").returncode, 0)
+        self.assertNotIn("shard 1", self.call("show").stdout.decode())
 
     def test_one_sentence(self) -> None:
         self.start(0)

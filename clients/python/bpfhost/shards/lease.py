@@ -13,7 +13,7 @@ from collections.abc import Callable
 
 from bpfhost.shards import scripts
 from bpfhost.shards.connection import Redis
-from bpfhost.shards.errors import Away, LeaseHeld, LeaseLost, Stopped
+from bpfhost.shards.errors import Away, LeaseHeld, LeaseLost, RedisError, Stopped
 from bpfhost.shards.names import ShardKeys
 
 SECONDS = 5.0
@@ -86,10 +86,11 @@ class Lease:
             try:
                 if self._system.now() < self._work_until:
                     self.keep()
-            except Away:
-                pass
             except LeaseLost:
                 return
+            except RedisError:
+                # The worker finds the same when it writes, and says so.
+                pass
             self._system.sleep(min(self.seconds / 6, 0.5))
 
     def at_work(self, seconds: float) -> None:

@@ -7,7 +7,7 @@ tenant's state of its last snapshot, plays again what has replies already, compa
 from __future__ import annotations
 
 import contextlib
-from collections import deque
+from collections import Counter, deque
 from collections.abc import Callable, Iterator, Sequence
 from typing import Generator, TypeVar
 
@@ -37,7 +37,7 @@ from bpfhost.shards.keeping import Keeping
 from bpfhost.shards.lease import Lease
 from bpfhost.shards.log import Log, Since
 from bpfhost.shards.manifest import Manifest
-from bpfhost.shards.names import FAULT, START, ShardKeys, order
+from bpfhost.shards.names import FAULT, START, ShardKeys, after, order
 from bpfhost.shards.registering import register
 from bpfhost.shards.restoring import Restored, restored
 from bpfhost.shards.serving import Serving, Written
@@ -176,23 +176,34 @@ class Worker:
     # Beginning.
 
     def _restore(self, serving: Serving) -> None:
-        """Makes all tenants' states; a host that ends meanwhile is tried again."""
-        for tried in range(1, MOST_TRIES + 1):
+        """Makes all tenants' states. Where the host ends meanwhile, another one is begun; a state that ends it three times is set aside."""
+        ended: Counter[int] = Counter()
+        while True:
             if not serving.is_new:
                 serving.restart()
             self._jobs.clear()
             self._busy.clear()
             self._keeping.begin()
             self._logs = [Log(self._patient, self._keys, tenant) for tenant in range(MOST_TENANTS)]
+            at = 0
             try:
-                for log in self._logs:
-                    self._alive()
-                    at_once(self._restore_one(serving, log))
+                for at, log in enumerate(self._logs):
+                    self._restore_or_set_aside(serving, log, ended[at])
                 self._writing.drop_strays(self._logs)
                 return
-            except (HostError, ReplyError, MemoryRefused):
-                if tried == MOST_TRIES:
-                    raise
+            except (HostError, ReplyError, MemoryRefused) as error:
+                ended[at] += 1
+                self._tell(f"shard {self._keys.number} begins a new host: {error}")
+
+    def _restore_or_set_aside(self, serving: Serving, log: Log, ended: int) -> None:
+        self._alive()
+        if self._is_stopped():
+            raise Stopped(f"shard {self._keys.number} was stopped while its states were made")
+        if ended < MOST_TRIES:
+            at_once(self._restore_one(serving, log))
+            return
+        log.place = log.last()
+        self._set_aside(log, Aside(STATE, after(log.place).decode(), f"the state of tenant {log.tenant} ended the host {MOST_TRIES} times"))
 
     def _restore_one(self, serving: Serving, log: Log, word: str = "") -> Steps[None]:
         """Makes a tenant's state; what can't be made is set aside."""
@@ -314,6 +325,7 @@ class Worker:
 
     def _decide(self, serving: Serving, log: Log, aside: Aside, word: str) -> Steps[None]:
         """Does what an operator says of a tenant that is set aside."""
+        self._given_up.pop(log.tenant, None)
         if aside.kind == ENTRY:
             if word == SKIP:
                 sentence = f"entry {aside.entry} was skipped by an operator: its frames were not done, and won't be"

@@ -25,7 +25,7 @@ from pathlib import Path
 
 from bpfhost import Host
 from bpfhost.numbers import MOST_TENANTS
-from bpfhost.shards import Client, NoReply, moving
+from bpfhost.shards import Client, MoveError, NoReply, RedisError, moving
 from bpfhost.shards.connection import connect
 from tests.shards.redis_server import RedisServer, missing
 from tests.shards.streams import Stream
@@ -34,7 +34,7 @@ from tests.shards.worker_process import WorkerProcess
 PROGRAM = os.environ.get("BPFHOST", "")
 SHARDS, CUSTOMERS, LEASE = 3, 10, 1.0
 SNAPSHOT_ENTRIES = 120
-_SECONDS_TO_SETTLE = 60.0
+_SECONDS_TO_SETTLE = 150.0
 # The statuses of a worker that ended since its host or Redis was away, or another worker has its lease.
 _AWAY, _NO_LEASE = 3, 4
 
@@ -229,18 +229,21 @@ class Faults:
         self.counts["cut"] += 1
 
     def _move(self) -> None:
+        """Moves a customer. Half of the moves have little time, and those that are broken off are ended by the next call, or by a worker."""
         name = f"customer-{self._draw.randrange(CUSTOMERS)}"
         with Client(self._redis.url) as client:
-            before = client.directory.seat(name)
-            if before is None:
+            if client.directory.seat(name) is None:
                 return
             try:
-                # Half of them have little time, and those that are broken off are ended by the next call.
                 moving.move(client, name, seconds=self._draw.choice((0.02, _SECONDS_TO_SETTLE)))
-            except NoReply:
+            except (NoReply, RedisError):
                 self.counts["broken off"] += 1
-                moving.move(client, name, seconds=_SECONDS_TO_SETTLE)
-            self.counts["moved"] += client.directory.seat(name) != before
+                moving.end_move(client, name, _SECONDS_TO_SETTLE)
+            except MoveError as error:
+                # Both other shards may have lost their workers just now.
+                if "is served" not in str(error):
+                    raise
+                self.counts["not moved"] += 1
 
     def _second_worker(self) -> None:
         """Starts a second worker on a shard that is served: it ends, and says why; or the first one stood still for longer than its
@@ -272,11 +275,17 @@ class Faults:
             f"    {counts['kills']} workers killed{short} and {counts['hosts']} hosts, {counts['served']} workers had begun to serve;\n"
             f"    {counts['paused']} workers paused past their lease, {counts['second']} second workers refused;\n"
             f"    Redis killed {counts['redis']} times, connections cut {counts['cut']} times;\n"
-            f"    {counts['moved']} moves, {counts['broken off']} of them broken off and ended by the next call"
+            f"    {counts['moved']} moves, {counts['broken off']} of them broken off, and ended by another call or by a worker"
         )
 
     def _end(self) -> None:
         """Stops the workers, and compares how many entries, replies and calls there are."""
+        with Client(self._redis.url) as client:
+            for name in client.directory.moves():
+                moving.end_move(client, name, _SECONDS_TO_SETTLE)
+            # Each seat that was given is a customer's first one, or that of a move.
+            given = int(client.redis.get(client.directory.keys.all[3]) or 0)
+            self.counts["moved"] = given - len(client.directory.customers())
         for shard in self.shards:
             shard.worker.send(signal.SIGTERM)
             shard.worker.wait(_SECONDS_TO_SETTLE)

@@ -96,6 +96,21 @@ class Poison(AsideTest):
         self.serve()
         self.assertEqual([reply.status for reply in customer.ask_all([LOOK_UP, put(4)])], [-2, 0])
 
+    def test_a_state_that_ends_the_host_each_time(self) -> None:
+        """What one build has answered ends another one when it is played again."""
+        first = self.serve()
+        customer = self.client.customer("acme", 20)
+        self.assertEqual([reply.status for reply in customer.ask_all([CREATE, POISON])], [3, 0])
+        first.stop()
+        fragile = self.serve(self.fragile())
+        self.assertEqual(self.client.customer("other").ask(CREATE).status, 3)
+        with self.assertRaisesRegex(SetAside, "the state of tenant 0 ended the host 3 times"):
+            customer.ask(LOOK_UP)
+        fragile.stop()
+        self.assertIsNone(fragile.error)
+        self.serve()
+        self.assertEqual(customer.ask(LOOK_UP).payload, _POISON)
+
     def test_memory_that_is_refused_each_time(self) -> None:
         refuses = """
 import subprocess

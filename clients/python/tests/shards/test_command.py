@@ -23,7 +23,7 @@ FROM_HOST = re.compile(r"served by \S+ process [0-9]+")
 class Commands(ShardTest):
     def call(self, *words: str, given: bytes = b"") -> subprocess.CompletedProcess[bytes]:
         """The command with these words."""
-        return subprocess.run(self.words(*words), input=given, capture_output=True, timeout=50)
+        return subprocess.run(self.words(*words), input=given, capture_output=True, timeout=150)
 
     def words(self, *words: str) -> list[str]:
         return [sys.executable, "-m", "bpfhost.shards", words[0], "--redis", self.server.url, *words[1:]]

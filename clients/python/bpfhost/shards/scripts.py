@@ -247,3 +247,10 @@ BE_MADE = Script("""
 redis.call('SETNX', KEYS[1], ARGV[1])
 return redis.call('GET', KEYS[1])
 """)
+
+# Which keys are there, as 1 and 0. KEYS: any.
+ARE_THERE = Script("""
+local found = {}
+for at, key in ipairs(KEYS) do found[at] = redis.call('EXISTS', key) end
+return found
+""", without_memory=True)

@@ -187,13 +187,19 @@ class Worker:
             self._logs = [Log(self._patient, self._keys, tenant) for tenant in range(MOST_TENANTS)]
             at = 0
             try:
-                for at, log in enumerate(self._logs):
-                    self._restore_or_set_aside(serving, log, ended[at])
+                for at in self._tenants_with_a_log():
+                    self._restore_or_set_aside(serving, self._logs[at], ended[at])
                 self._writing.drop_strays(self._logs)
                 return
             except (HostError, ReplyError, MemoryRefused) as error:
                 ended[at] += 1
                 self._tell(f"shard {self._keys.number} begins a new host: {error}")
+
+    def _tenants_with_a_log(self) -> list[int]:
+        """Those that were ever asked anything; the others are new."""
+        streams = [name for log in self._logs for name in (log.frames, log.replies)]
+        found = scripts.ARE_THERE(self._patient, streams, [])
+        return [tenant for tenant in range(MOST_TENANTS) if any(found[2 * tenant : 2 * tenant + 2])]
 
     def _restore_or_set_aside(self, serving: Serving, log: Log, ended: int) -> None:
         self._alive()

@@ -57,7 +57,7 @@ class WorkerThread:
 
     def serves(self) -> bool:
         """Whether it has said so."""
-        return any("is served" in sentence for sentence in self.told)
+        return any("is served, from" in sentence for sentence in self.told)
 
     def stop(self) -> None:
         """Ends the worker."""

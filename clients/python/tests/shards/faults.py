@@ -35,6 +35,8 @@ PROGRAM = os.environ.get("BPFHOST", "")
 SHARDS, CUSTOMERS, LEASE = 3, 10, 1.0
 SNAPSHOT_ENTRIES = 120
 _SECONDS_TO_SETTLE = 150.0
+# What a worker says when it serves.
+_SERVES = "is served, from"
 # The statuses of a worker that ended since its host or Redis was away, or another worker has its lease.
 _AWAY, _NO_LEASE = 3, 4
 
@@ -70,7 +72,7 @@ class Supervisor:
     def note(self, worker: WorkerProcess, status: int) -> None:
         """Notes how a worker has ended; a Differs where it should not have."""
         said = worker.said()
-        self._counts["served"] += "is served" in said
+        self._counts["served"] += _SERVES in said
         if status not in (0, -signal.SIGKILL, _AWAY, _NO_LEASE) or "Traceback" in said:
             raise Differs(f"the worker of shard {self._shard} ended with {status}: {said}")
 
@@ -193,7 +195,7 @@ class Faults:
         """A shard, once its worker serves it."""
         shard = self._draw.choice(self.shards)
         until = time.monotonic() + _SECONDS_TO_SETTLE
-        while "is served" not in shard.worker.said() and time.monotonic() < until:
+        while _SERVES not in shard.worker.said() and time.monotonic() < until:
             time.sleep(0.01)
         return shard
 
@@ -205,7 +207,7 @@ class Faults:
         shard.replace()
         # However busy the machine is, another worker has the lease when it wakes.
         until = time.monotonic() + _SECONDS_TO_SETTLE
-        while "is served" not in shard.worker.said() and time.monotonic() < until:
+        while _SERVES not in shard.worker.said() and time.monotonic() < until:
             time.sleep(0.02)
         time.sleep(self._draw.random() * 0.2)
         old.send(signal.SIGCONT)
@@ -241,7 +243,7 @@ class Faults:
                 moving.end_move(client, name, _SECONDS_TO_SETTLE)
             except MoveError as error:
                 # Both other shards may have lost their workers just now.
-                if "is served" not in str(error):
+                if _SERVES not in str(error):
                     raise
                 self.counts["not moved"] += 1
 
@@ -251,7 +253,7 @@ class Faults:
         shard = self._served_shard()
         first, second = shard.worker, shard.start()
         until = time.monotonic() + _SECONDS_TO_SETTLE
-        while second.status() is None and "is served" not in second.said() and time.monotonic() < until:
+        while second.status() is None and _SERVES not in second.said() and time.monotonic() < until:
             time.sleep(0.02)
         if second.status() is None:
             if first.wait(_SECONDS_TO_SETTLE) is None:

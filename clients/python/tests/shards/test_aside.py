@@ -54,7 +54,7 @@ class AsideTest(ShardTest):
 class Poison(AsideTest):
     def test_an_entry_that_ends_the_host_each_time(self) -> None:
         worker = self.serve(self.fragile())
-        customer, other = self.client.customer("acme", 20), self.client.customer("other", 20)
+        customer, other = self.client.customer("acme", 60), self.client.customer("other", 60)
         for one in (customer, other):
             self.assertEqual(one.ask(CREATE).status, 3)
         began = time.monotonic()
@@ -80,7 +80,7 @@ class Poison(AsideTest):
 
     def test_an_entry_that_is_skipped(self) -> None:
         first = self.serve(self.fragile())
-        customer = self.client.customer("acme", 20)
+        customer = self.client.customer("acme", 60)
         customer.ask(CREATE)
         poison, behind = customer.post(POISON), customer.post(LOOK_UP)
         with self.assertRaises(SetAside):
@@ -99,7 +99,7 @@ class Poison(AsideTest):
     def test_a_state_that_ends_the_host_each_time(self) -> None:
         """What one build has answered ends another one when it is played again."""
         first = self.serve()
-        customer = self.client.customer("acme", 20)
+        customer = self.client.customer("acme", 60)
         self.assertEqual([reply.status for reply in customer.ask_all([CREATE, POISON])], [3, 0])
         first.stop()
         fragile = self.serve(self.fragile())
@@ -123,7 +123,7 @@ while head := read(4):
     os.write(1, reply[:8] + (-12).to_bytes(4, 'little', signed=True) if {poison!r} in body else reply)
 """
         self.serve(self.pretender(refuses.format(program=PROGRAM, poison=_POISON)))
-        customer = self.client.customer("acme", 20)
+        customer = self.client.customer("acme", 60)
         customer.ask(CREATE)
         with self.assertRaisesRegex(SetAside, "memory was refused"):
             customer.ask(POISON)

@@ -243,7 +243,7 @@ class Faults:
                 moving.end_move(client, name, _SECONDS_TO_SETTLE)
             except MoveError as error:
                 # Both other shards may have lost their workers just now.
-                if _SERVES not in str(error):
+                if "is served" not in str(error):
                     raise
                 self.counts["not moved"] += 1
 

@@ -110,7 +110,7 @@ class Commands(ShardTest):
         for words, status, said in (
             (["move", "acme", "--to", "1"], 0, "acme: shard 1, tenant 0\n"),
             (["drain", "1"], 0, "acme: shard 0, tenant [01]\n"),
-            (["show"], 0, "(?s).*shard 1: 0 customers, 0 KiB of calls wait, served by [^\n]*, drained\n.*"),
+            (["show"], 0, r"[\s\S]*shard 1: 0 customers, 0 KiB of calls wait, served by [^\n]*, drained\n[\s\S]*"),
             (["drain", "1", "--undo"], 0, ""),
             (["abort-move", "acme"], 1, "bpfhost.shards: customer acme is not being moved\n"),
             (["skip", "acme"], 1, "bpfhost.shards: nothing of customer acme is set aside\n"),

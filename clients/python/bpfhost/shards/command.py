@@ -115,7 +115,7 @@ def run_drain(client: Client, said: Namespace) -> None:
 
 def run_remove_shard(client: Client, said: Namespace) -> None:
     """Takes a shard out."""
-    client.directory.remove_shard(said.shard, said.lost)
+    operating.remove_shard(client, said.shard, said.lost)
 
 
 def run_show(client: Client, said: Namespace) -> None:

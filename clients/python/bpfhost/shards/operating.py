@@ -28,6 +28,16 @@ def drain(client: Client, shard: int, seconds: float) -> Iterator[tuple[str, Sea
             yield name, moving.move(client, name, None, seconds) if found.shard == shard else found
 
 
+def remove_shard(client: Client, shard: int, lost: bool) -> None:
+    """Takes a shard out (`Directory.remove_shard`). One that is said to be served is watched for some seconds: it is not, where its
+    count stands still."""
+    seen = client.directory.beats().get(shard)
+    if seen is not None:
+        client.system.sleep(_SECONDS_TO_ANSWER)
+        client.directory.withdraw(shard, seen)
+    client.directory.remove_shard(shard, lost)
+
+
 def say(client: Client, name: str, word: str, seconds: float) -> str:
     """Says a word on what is set aside of a customer, and waits until the worker has done it; gives what was set aside.
 

@@ -143,10 +143,10 @@ class Worker:
             with contextlib.suppress(RedisError):
                 if attending:
                     attended.join(2.0)
-                if attending and self._is_stopped():
-                    attending.end()
                 beside.join(2.0)
                 self._lease.release()
+                if attending and not self._redis.hget(self._keys.lease, "token"):
+                    attending.end()
 
     def _alive(self) -> None:
         self._lease.at_work(_SECONDS_AT_WORK)

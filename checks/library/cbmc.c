@@ -117,10 +117,11 @@ static bool may_be_written(void)
 
 static void end(int code, bool asks)
 {
-    if (is_any_null || is_any_too_long || overlap()) {
+    const bool do_overlap = overlap();
+    if (is_any_null || is_any_too_long || do_overlap) {
         __CPROVER_assert(!is_asked, "no proved function is called if something is wrong");
         __CPROVER_assert((code == BPFHOST_NULL && is_any_null) || (code == BPFHOST_LENGTH && is_any_too_long)
-                             || (code == BPFHOST_OVERLAP && overlap()),
+                             || (code == BPFHOST_OVERLAP && do_overlap),
                          "the code says something that is wrong");
     } else {
         __CPROVER_assert(is_asked == asks, "the proved function is called if nothing is wrong");
@@ -333,7 +334,7 @@ void try_context_words(void)
 
 void try_run_packets(void)
 {
-    uint8_t here[72];
+    uint8_t here[68];
     lie_in(here, sizeof here);
     size_t byte_count = any_length(), ends_size = any_length(), packets = any_units(ends_size, sizeof(size_t));
     size_t results_size = ends_size > PTRDIFF_MAX ? ends_size : packets * sizeof(uint32_t);

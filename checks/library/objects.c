@@ -36,6 +36,7 @@ static union {
     uint64_t number;
     void *pointer;
 } arena;
+static uint8_t any_bytes[ARENA];             /* none of them a mark */
 static uint8_t before[ARENA], owners[ARENA]; /* what stood there, and a bit for each object that has the byte */
 
 /* What is tried. */
@@ -76,11 +77,10 @@ static size_t size_of(const struct object *object)
     return object->unit * units;
 }
 
-/* Fills the arena, and puts each object that is not null to its place. */
+/* Puts each object that is not null to its place in the arena. */
 static void lay(const bool *is_null)
 {
-    for (size_t i = 0; i < ARENA; i++)
-        before[i] = (uint8_t)(0x80 + i * 7 % 61);
+    memcpy(before, any_bytes, ARENA);
     memset(owners, 0, ARENA);
     for (size_t i = 0; i < function->objects; i++) {
         const struct object *object = &function->object[i];
@@ -95,10 +95,11 @@ static void lay(const bool *is_null)
     memcpy(arena.bytes, before, ARENA);
 }
 
+/* Whether an object that is not null has a byte that another has too. */
 static bool is_shared(size_t which)
 {
-    for (size_t at = 0; at < ARENA; at++)
-        if (owners[at] >> which & 1 && owners[at] != 1u << which)
+    for (size_t at = 0; at < size_of(&function->object[which]); at++)
+        if (owners[places[which] + at] != 1u << which)
             return true;
     return false;
 }
@@ -327,6 +328,8 @@ static void try_are_apart(uintptr_t around)
 int main(void)
 {
     bpfhost_seed seed;
+    for (size_t i = 0; i < ARENA; i++)
+        any_bytes[i] = (uint8_t)(0x80 + i * 7 % 61);
     try_are_apart(UINTPTR_MAX / 3);
     try_are_apart(UINTPTR_MAX - 3);
     for (size_t i = 0; i < sizeof functions / sizeof functions[0]; i++)

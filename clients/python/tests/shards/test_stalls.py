@@ -110,7 +110,7 @@ class Stalls(ShardTest):
         return max(waits), len(waits)
 
     def test_a_customer_in_bulk(self) -> None:
-        """4,000 calls of 512 frames, of which one customer may have some waiting; another one's look-up has its turn."""
+        """400 calls of 512 frames, of which one customer may have some waiting; another one's look-up has its turn."""
         self.shard(0)
         bulk = self.client.customer("bulk", 100)
         bulk.ask(CREATE).done()

@@ -18,6 +18,7 @@ from bpfhost.shards.system import MACHINE, Link, Machine, Word
 from bpfhost.shards.worker import TURN_FRAMES, _turn_of
 from tests.common import PROGRAM, HostTest
 from tests.shards.common import CREATE, LOOK_UP, SECONDS, ShardTest, put
+from tests.shards.streams import slots_of
 
 # A step asks the host so many frames at most (the end of one part and the begin of another), and gives Redis so many bytes.
 STEP_FRAMES, STEP_BYTES = 820, 300_000
@@ -131,17 +132,21 @@ class Stalls(ShardTest):
         large = Call(b"1-0", 0, [LOOK_UP] * 512, 262_144)
         self.assertEqual(_turn_of([large, call]), [large])
 
-    def test_a_customer_with_full_maps(self) -> None:
-        """No command of the worker is so large that Redis stands still for it."""
-        counting = Counting()
-        redis = Redis(self.server.url, counting)
+    def worker_with_snapshots(self, machine: Machine) -> None:
+        """Shard 0 is served by a worker that makes a snapshot each thirty entries."""
         stopped = threading.Event()
+        redis = Redis(self.server.url, machine)
         worker = Worker(redis, ShardKeys(0), PROGRAM, Settings(SECONDS, snapshot_entries=30), lambda _: None)
         thread = threading.Thread(target=worker.run, args=(stopped.is_set,))
         thread.start()
         self.addCleanup(thread.join)
         self.addCleanup(stopped.set)
         self.until(lambda: 0 in self.client.directory.beats())
+
+    def test_a_customer_with_full_maps(self) -> None:
+        """No command of the worker is so large that Redis stands still for it."""
+        counting = Counting()
+        self.worker_with_snapshots(counting)
         full = self.client.customer("full", 100)
 
         def work() -> None:
@@ -155,6 +160,26 @@ class Stalls(ShardTest):
         keys = ShardKeys(0)
         self.assertGreater(len(self.client.redis.hkeys(keys.pieces)), 4)
         self.assertLess(counting.largest, STEP_BYTES)
+
+    def test_maps_that_only_programs_have(self) -> None:
+        """Their values are read by playing their customer's own frames again, and nobody else's."""
+        self.worker_with_snapshots(MACHINE)
+        customers = [self.client.customer(f"closed-{number}", 100) for number in range(10)]
+        load = frames.prog_load(0, slots_of(PROGRAM, "add"))
+        begin = [frames.map_create(0, MapType.ARRAY, 4, 8, 1), load, frames.close(0, 3)]
+        run = frames.prog_test_run(0, 4)
+
+        def work() -> None:
+            for customer in customers:
+                statuses = [reply.status for reply in customer.ask_all(begin + [run] * 300)]
+                self.assertEqual(statuses, [3, 4, 0] + [0] * 300)
+            for _ in range(40):
+                for customer in customers:
+                    customer.ask(run).done()
+
+        longest, _ = self.longest(work)
+        self.assertLess(longest, 1.0)
+        self.assertGreater(len(self.client.redis.hkeys(ShardKeys(0).snapshots)), 10)
 
     def test_a_slow_link(self) -> None:
         """A reply of 2 MB over 300 kB a second outlasts the lease, which is raised beside it."""

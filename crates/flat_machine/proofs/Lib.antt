@@ -17,4 +17,7 @@ pub mod Opcodes
 pub mod Ending
 pub mod SetUp
 pub mod Clear
+pub mod GivenWords
+pub mod ContextWritten
+pub mod Batches
 mod Vectors

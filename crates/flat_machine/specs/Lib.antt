@@ -1,4 +1,5 @@
 pub mod Runs
+pub mod Batch
 pub mod inside
 -- what public contracts cite of crates below
 pub use Rattle.arena.specs.Memory

@@ -5,3 +5,4 @@ pub mod Ends
 pub mod Laws
 pub mod Turns
 pub mod Rows
+pub mod Contexts

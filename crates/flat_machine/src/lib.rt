@@ -1,6 +1,7 @@
 //! The machine that runs accepted programs, on words and bytes.
 #![tactic(auto)]
 
+mod batch;
 mod calls;
 mod dispatch;
 mod execution;
@@ -10,4 +11,5 @@ mod map_words;
 mod ops;
 mod running;
 
+pub use batch::{GIVEN_WORDS, context_words, run_packets};
 pub use running::run;

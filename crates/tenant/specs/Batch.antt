@@ -1,9 +1,10 @@
 -- A program on many packets: the test runs of the packets, one after another. Packets are counted from 0. This project's own.
-use Rattle.std.specs.Prelude.{◌≡◌, ℕ, pos, ◌-◌, Bool, ◌||◌, nat_lt, List, [], ◌∷◌, ◌++◌, length, drop, slice_range, Option, Some, None, Ok, if◌then◌else◌}
+use Rattle.std.specs.Prelude.{◌≡◌, ℕ, pos, ◌-◌, Bool, ◌||◌, nat_lt, List, [], ◌∷◌, ◌++◌, length, drop, Option, Some, None, Ok, if◌then◌else◌}
 use Rattle.byteorder.specs.Endian.{little_bytes}
 use Rattle.command_frames.specs.Command.{prog_test_run, parsed}
 use Rattle.command_frames.specs.Frame.{reply_to}
 use Rattle.fd_table.specs.Table.{named}
+pub use Rattle.flat_machine.specs.Batch.{packets_in}
 use Rattle.tenant.specs.declared.errno.Errno.{Errno}
 use Rattle.tenant.specs.declared.errno.Errno.TheVariants.{TooBig, BadDescriptor, Invalid}
 use Rattle.tenant.specs.declared.object.OpenObject.{OpenObject}
@@ -11,16 +12,6 @@ use Rattle.tenant.specs.declared.object.OpenObject.TheVariants as object
 use Rattle.tenant.specs.Alone.{AloneWithRefusals}
 use Rattle.tenant.specs.Machine.{Answers, gives, refuses, longest_packet}
 use Rattle.tenant.specs.State.{TenantState}
-
--- ---- packets
-
--- packets that lie one after another in these bytes: the first begins at `start`, and each ends at its end
-unfoldable pub packets_from : List ℕ → ℕ → List ℕ → List (List ℕ)
-packets_from bytes start [] = []
-packets_from bytes start (end ∷ ends) = slice_range bytes start end ∷ packets_from bytes end ends
-
-abbrev pub packets_in : List ℕ → List ℕ → List (List ℕ)
-packets_in bytes ends = packets_from bytes 0 ends
 
 -- ---- the runs
 

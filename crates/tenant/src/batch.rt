@@ -12,8 +12,9 @@ use crate::errno::Errno;
 use crate::object::OpenObject;
 use crate::tenant::Tenant;
 use crate::test_run::LONGEST_PACKET;
-use arena::Arena;
-use command_frames::GIVEN_WORDS;
+use arena::{Arena, Trace};
+use flat_machine::{GIVEN_WORDS, run_packets};
+use verifier::laws;
 
 /// Checks that packets with these ends lie one after another in `many` bytes, that none is longer than a test run takes, and
 /// that there is room for as many results.
@@ -70,15 +71,22 @@ impl Tenant {
         ensures others { (other : ℕ) → other ≢ tenant
             → part_bytes arena.new other ≡ part_bytes arena.old other }
     {
-        let mut start = 0;
-        for (at, end) in ends.iter().enumerate() {
-            let packet = &bytes[start..*end];
-            match self.run_packet(fd, words, packet, tenant, arena) {
-                Ok(result) => results[at] = result,
-                Err(_) => unreachable!(),
-            }
-            start = *end;
-        }
+        laws::maps_are_listed();
+        let Some(OpenObject::Program(program)) = self.objects.get(fd) else {
+            unreachable!()
+        };
+        run_packets(
+            program.program(),
+            program.maps(),
+            tenant,
+            arena,
+            &mut self.maps,
+            words,
+            bytes,
+            ends,
+            results,
+            &mut Trace::new(),
+        );
     }
 
     /// Runs the program at a descriptor on many packets, one after another, on the same ten words of context. The packets lie

@@ -1,6 +1,6 @@
 //! Test runs of loaded programs.
 
-ghost use Rattle.std.specs.Prelude.{◌≡◌, ◌≢◌, ℕ, ◌<◌, Bool, List, ◌∷◌, length, IfErr};
+ghost use Rattle.std.specs.Prelude.{◌≡◌, ◌≢◌, ℕ, ◌<◌, Bool, List, length, IfErr};
 ghost use Rattle.std.specs.Result.{result_err};
 ghost use Rattle.arena.specs.Memory.{part_bytes};
 ghost use Rattle.bpf_helpers.specs.Parts.{IsPartOf};
@@ -17,21 +17,12 @@ use crate::object::OpenObject;
 use crate::reply::Reply;
 use crate::tenant::Tenant;
 use arena::{Arena, Trace};
-use command_frames::GIVEN_WORDS;
-use flat_machine::run;
-use tagged_model::{CONTEXT_WORDS, Outcome};
+use flat_machine::{GIVEN_WORDS, context_words, run};
+use tagged_model::Outcome;
 use verifier::laws;
 
 /// The length of the longest packet of a test run, in bytes.
 pub(crate) const LONGEST_PACKET: usize = 65_536;
-
-/// The words of the context: the packet's length, and the ten that are given.
-fn context_words(length: u32, words: &[u32; GIVEN_WORDS]) -> [u32; CONTEXT_WORDS]
-    ensures { result ≡ length ∷ words.now }
-{
-    let [a, b, c, d, e, f, g, h, i, j] = *words;
-    [length, a, b, c, d, e, f, g, h, i, j]
-}
 
 impl Tenant {
     /// Runs the program at a descriptor on ten words of context and a packet, with the maps with which it was loaded, and returns

@@ -1,78 +1,50 @@
-use Rattle.std.proofs.Common.{◌≡◌, ◌-◌, ◌≤◌, List, Option, Some, None, length, take, drop, get_or, refl, ap, ◌∙◌, arith}
-use Rattle.std.proofs.lemmas.List.{length-take, length-set}
+use Rattle.std.proofs.Common.{◌≡◌, ℕ, List, length, Some, sym, ap, subst, ◌∙◌}
 use Rattle.arena.specs.Memory.{part_bytes}
 use Rattle.fd_table.specs.Table.{named}
-use Rattle.tenant.specs.declared.object.OpenObject.{OpenObject}
-use Rattle.tenant.specs.Batch.{object_refusal}
-use Rattle.tenant.specs.Kept.{state_in}
-use Rattle.tenant.specs.Machine.{longest_packet}
-use Rattle.tenant.proofs.Batches.{fits_batch, fits_at, run_fits, ran_none, ran_more, ran_all}
+use Rattle.flat_machine.specs.Batch.{packets_in}
+use Rattle.flat_machine.specs.Runs.{AreBound, standing}
+use Rattle.tenant.specs.Batch.{RunsInOrder}
+use Rattle.tenant.specs.Kept.{KeptTenant, state_in}
+use Rattle.tenant.specs.declared.object.OpenObject.TheVariants as object
+use Rattle.tenant.proofs.Batches.{fits_batch, are_packets, are_short, runs_in_order}
+use Rattle.tenant.proofs.StillKept.{kept_in, with_live}
+use Rattle.tenant.proofs.TestRunKept.{kept_after}
+use Rattle.tenant.proofs.TestRunKeys.{are_bound, bound_of}
 use Rattle.tenant.proofs.tenant.Tenant.run_each.Goals as goal
 
-pub loop-at-init : goal.loop-at-init
-loop-at-init c =
-    let s = c.args.self.now in
-    let bytes = c.args.bytes.now in
-    let ends = c.args.ends.now in
-    let room = c.args.results.now in
-    let fits = fits_batch (named s.objects c.args.fd) (length bytes) ends (length room) c.requires.fits in record {
-      opened = refl;
-      ran = ran_none c.args.fd c.args.words.now bytes ends room (state_in (part_bytes c.args.arena.now c.args.tenant) s) fits.fits;
-      room = fits.enough;
-      changes = record { parts = refl; part = refl; others = λ other ne. refl };
-    }
+pub run_packets-requires-clause-bound : goal.run_packets-requires-clause-bound
+run_packets-requires-clause-bound c =
+    let k = kept_in c.self.inside in
+    let l = c.in-Some-Program.program in
+    let opened : named k.objects c.args.fd ≡ Some (object.Program l) = sym c.in-Some-Program.ensures ∙ ap Some c.in-Some-Program.field-0-is in
+    subst (λ (ps : List ℕ). AreBound c.program.result.now ps k.live) (sym c.maps.ensures)
+    (are_bound c.self.invariant (bound_of c.args.fd c.self.invariant opened) c.maps_are_listed.ensures c.program.result.now c.program.ensures.code c.program.ensures.entries)
 
--- ---- the packet that is next
+pub run_packets-requires-clause-packets : goal.run_packets-requires-clause-packets
+run_packets-requires-clause-packets c =
+    are_packets (length c.args.bytes.now) 0 c.args.ends.now (fits_batch (named c.args.self.now.objects c.args.fd) (length c.args.bytes.now) c.args.ends.now (length c.args.results.now) c.requires.fits).fits
 
-pub slice_bounds-packet-count : goal.slice_bounds-packet-count
-slice_bounds-packet-count c = (fits_at (length c.args.bytes.now) c.loop-at.start c.loop-at.at c.args.ends.now c.loop-at-test.true c.loop-at.invariant.ran.fits).ordered
+pub run_packets-requires-clause-room : goal.run_packets-requires-clause-room
+run_packets-requires-clause-room c = (fits_batch (named c.args.self.now.objects c.args.fd) (length c.args.bytes.now) c.args.ends.now (length c.args.results.now) c.requires.fits).enough
 
-pub slice_bounds-packet-start : goal.slice_bounds-packet-start
-slice_bounds-packet-start c = (fits_at (length c.args.bytes.now) c.loop-at.start c.loop-at.at c.args.ends.now c.loop-at-test.true c.loop-at.invariant.ran.fits).ordered
+pub invariant_of-self : goal.invariant_of-self
+invariant_of-self c = kept_after c.self.invariant c.run_packets.ensures.maps
 
-pub slice_bounds-packet-end : goal.slice_bounds-packet-end
-slice_bounds-packet-end c = (fits_at (length c.args.bytes.now) c.loop-at.start c.loop-at.at c.args.ends.now c.loop-at-test.true c.loop-at.invariant.ran.fits).within
-
-pub unreachable-requires : goal.unreachable-requires
-unreachable-requires c =
-    let s = c.args.self.now in
-    let bytes = c.args.bytes.now in
-    let ends = c.args.ends.now in
-    let start = c.loop-at.start in
-    let end = get_or ends c.loop-at.at 0 in
-    let fd = c.args.fd in
-    let fits = fits_batch (named s.objects fd) (length bytes) ends (length c.args.results.now) c.requires.fits in
-    let here = fits_at (length bytes) start c.loop-at.at ends c.loop-at-test.true c.loop-at.invariant.ran.fits in
-    let packet = take (end - start) (drop start bytes) in
-    let program : object_refusal (named c.loop-at.self.objects fd) ≡ None = ap (λ (os : List (Option OpenObject)). object_refusal (named os fd)) c.loop-at.invariant.opened ∙ fits.program in
-    let most = here.short in
-    let short : length packet ≤ longest_packet = omega (arith, length-take (end - start) (drop start bytes)) in
-    let wrong : Some c.in-Err.field-0 ≡ None = c.in-Err.ensures.refusal ∙ run_fits (named c.loop-at.self.objects fd) (length packet) program short in
-    cc
-
-pub loop-at-preserved : goal.loop-at-preserved
-loop-at-preserved c =
-    let ran = c.loop-at.invariant.ran in
-    let changes = c.loop-at.invariant.changes in
-    let run = c.in-Ok.ensures in
-    let enough = c.loop-at.invariant.room in
-    let later = state_in (part_bytes c.run_packet.new.arena c.args.tenant) c.run_packet.new.self in record {
-      opened = run.objects ∙ c.loop-at.invariant.opened;
-      ran = ran_more (get_or c.args.ends.now c.loop-at.at 0) c.in-Ok.result later run.answer.0 ran c.loop-at-test.true (omega arith) refl run.answer.1;
-      room = omega (arith, length-set c.loop-at.results c.loop-at.at c.in-Ok.result);
-      changes = record {
-        parts = run.parts ∙ changes.parts;
-        part = run.part ∙ changes.part;
-        others = λ other ne. run.others other ne ∙ changes.others other ne;
-      };
-    }
-
-pub returns : goal.returns
-returns c =
-    let changes = c.loop-at.invariant.changes in
-    let enough = c.loop-at.invariant.room in record {
-      runs = ran_all c.loop-at.invariant.ran c.loop-at-test.false (omega arith);
-      parts = changes.parts;
-      part = changes.part;
-      others = changes.others;
-    }
+pub returns-clause-runs : goal.returns-clause-runs
+returns-clause-runs c =
+    let k = kept_in c.self.inside in
+    let l = c.in-Some-Program.program in
+    let opened : named k.objects c.args.fd ≡ Some (object.Program l) = sym c.in-Some-Program.ensures ∙ ap Some c.in-Some-Program.field-0-is in
+    let t = c.args.tenant in
+    let words = c.args.words.now in
+    let packets = packets_in c.args.bytes.now c.args.ends.now in
+    let run = c.run_packets in
+    let before = standing k.live c.args.arena.now t c.new.result.steps in
+    let after = standing run.new.maps run.new.arena t run.new.trace.steps in
+    let fits = (fits_batch (named c.args.self.now.objects c.args.fd) (length c.args.bytes.now) c.args.ends.now (length c.args.results.now) c.requires.fits).fits in
+    let (results, each, written) = run.ensures.runs in
+    let order = runs_in_order c.maps_are_listed.ensures c.args.fd words k l opened c.program.result.now.code c.maps.result.now c.maps.ensures c.program.ensures.code packets results before after c.self.invariant (are_short c.args.bytes.now 0 c.args.ends.now fits) each in (
+      results,
+      subst (λ (x : KeptTenant). RunsInOrder c.args.fd words (state_in before.part x) packets results (state_in after.part (with_live k after.maps))) c.self.view_is order,
+      written,
+    )

@@ -13,5 +13,6 @@ int main()
     const bpfhost_reply reply = ask(&host, frame, length);
     CHECK(reply.payload_length == 8 && bpfhost_get32(reply.payload) == 2);
     bpfhost_free(&host);
+    CHECK(strcmp(bpfhost_version(), BPFHOST_VERSION) == 0);
     puts("C++: the header compiles, and a host runs");
 }

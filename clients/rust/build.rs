@@ -37,12 +37,12 @@ fn folder() -> Result<PathBuf, String> {
     Ok(folder)
 }
 
-/// The folder that `bpfhost.pc` stands for.
+/// The folder of the library, as `bpfhost.pc` tells it.
 fn told_by_pkg_config() -> Result<String, String> {
     let wanted = format!(
         "set BPFHOST_LIB to the folder that `tools/library FOLDER` of bpfhost has filled with {ARCHIVE}, or name it in PKG_CONFIG_PATH"
     );
-    match Command::new("pkg-config").args(["--variable=prefix", "bpfhost"]).output() {
+    match Command::new("pkg-config").args(["--variable=libdir", "bpfhost"]).output() {
         Ok(told) if told.status.success() => Ok(String::from_utf8_lossy(&told.stdout).trim().to_string()),
         Ok(_) => Err(format!("pkg-config knows no bpfhost: {wanted}")),
         Err(_) => Err(format!("BPFHOST_LIB is not set, and pkg-config can't be run: {wanted}")),

@@ -37,6 +37,19 @@
 extern "C" {
 #endif
 
+/* ---- version: that of this header, and of the library that it came with. docs/RELEASES.md says what may change in which version. */
+
+#define BPFHOST_VERSION_MAJOR 0
+#define BPFHOST_VERSION_MINOR 1
+#define BPFHOST_VERSION_PATCH 0
+#define BPFHOST_VERSION "0.1.0"
+
+/* The version as text: "0.1.0". */
+static inline const char *bpfhost_version(void)
+{
+    return BPFHOST_VERSION;
+}
+
 /* ---- limits: docs/PROTOCOL.md has the others. tools/header compares these numbers with the library's. */
 
 #define BPFHOST_MOST_TENANTS 64

@@ -25,6 +25,8 @@ from bpfhost.replies import Reply, read_replies
 from bpfhost.runs import TestRuns
 from bpfhost.tenant import Tenant
 
+__version__ = "0.1.0"
+
 __all__ = [
     "BpfhostError",
     "CaptureError",

@@ -13,6 +13,9 @@ mod packet;
 mod reply;
 mod tenant;
 
+/// The version of this crate, which is the library's too.
+pub const VERSION: &str = env!("CARGO_PKG_VERSION");
+
 pub use built::{BuiltMap, BuiltProgram, LoadedProgram, NotBuilt};
 pub use errno::Errno;
 pub use error::Error;

@@ -40,9 +40,9 @@ def spelled(octets: bytes) -> str:
 
 def show(words: str, frame: bytes, reply: Reply) -> None:
     print(words)
+    print("  is answered:", reply.says())
     print("  frame ", spelled(frame))
     print("  reply ", spelled(reply.to_bytes()))
-    print("         " + reply.says())
 
 
 def main() -> None:

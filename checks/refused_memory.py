@@ -10,17 +10,15 @@ been, and the other tenant is answered so from the beginning.
 from __future__ import annotations
 
 import itertools
-import os
-import subprocess
 import sys
 import tempfile
-from collections.abc import Iterator, Sequence
+from collections.abc import Sequence
 from dataclasses import dataclass
-from pathlib import Path
 
 sys.dont_write_bytecode = True
 
 from common import MAP, READS_INDEX, SECOND, THIRD, number, updates  # noqa: E402
+from refusals import Ended, Refusals, ends  # noqa: E402
 from bpfhost import Errno, Host, HostError, MapType, Reply, Update, assemble, frames, hex_lines  # noqa: E402
 
 PROGRAM = SECOND
@@ -53,9 +51,6 @@ exit
 """
 
 MAP_ARGUMENT = "3:array:4:8:1"
-
-# What a program ended with: its status, and what it wrote.
-Ended = tuple[int, bytes, bytes]
 
 
 class Differs(Exception):
@@ -154,27 +149,6 @@ def play(bpfhost: str, steps: Sequence[Step], wanted: Sequence[Reply]) -> int | 
     return told
 
 
-class Refusals:
-    """Runs in which one call for memory is refused: the first, the second, and so on until none is."""
-
-    def __init__(self, library: str, folder: str) -> None:
-        self._told = Path(folder) / "refused"
-        os.environ["LD_PRELOAD"] = str(Path(library).resolve())
-        os.environ["REFUSED_FILE"] = str(self._told)
-
-    def runs(self) -> Iterator[int]:
-        """The number of each run's call. The one that asks for the next tells whether it was refused."""
-        for call in itertools.count(1):
-            os.environ["REFUSED_CALL"] = str(call)
-            self._told.unlink(missing_ok=True)
-            yield call
-            if not self._told.exists():
-                return
-
-    def refused(self) -> bool:
-        return self._told.exists()
-
-
 def check_frames(bpfhost: str, refusals: Refusals, steps: Sequence[Step], wanted: Sequence[Reply]) -> None:
     """Each frame's answer, whichever call for memory is refused."""
     at_start = in_frames = 0
@@ -192,11 +166,6 @@ def check_frames(bpfhost: str, refusals: Refusals, steps: Sequence[Step], wanted
     if not at_start or in_frames != call - 1 - at_start:
         raise Differs(f"serve, {call - 1} calls refused: {at_start} told at the start, {in_frames} in frames")
     print(f"serve: {at_start} refusals before the first frame, {in_frames} in frames")
-
-
-def ends(bpfhost: str, words: Sequence[str], given: bytes) -> Ended:
-    ended = subprocess.run([bpfhost, *words], input=given, capture_output=True, timeout=60, check=False)
-    return ended.returncode, ended.stdout, ended.stderr
 
 
 def check_words(program: str, refusals: Refusals, name: str, words: Sequence[str], given: bytes, wanted: Ended) -> None:

@@ -17,6 +17,7 @@ from bpfhost.shards.errors import (
     RedisError,
     RepliesDiffer,
     ReplyGone,
+    SessionPassed,
     SetAside,
     ShardError,
 )
@@ -44,6 +45,7 @@ __all__ = [
     "RepliesDiffer",
     "ReplyGone",
     "Seat",
+    "SessionPassed",
     "SetAside",
     "Settings",
     "ShardError",

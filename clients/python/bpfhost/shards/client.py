@@ -20,7 +20,7 @@ from bpfhost.shards.aside import Aside
 from bpfhost.shards.calls import LONGEST_CALL, MOST_FRAMES, whole_frames
 from bpfhost.shards.connection import Redis
 from bpfhost.shards.directory import Directory, Seat, demand_name
-from bpfhost.shards.errors import Away, NoReply, NotDone, NotServed, NotTaken, OutOfMemory, ReplyGone, SetAside, ShardError
+from bpfhost.shards.errors import Away, NoReply, NotDone, NotServed, NotTaken, OutOfMemory, ReplyGone, SessionPassed, SetAside, ShardError
 from bpfhost.shards.names import FAULT, PREFIX, REPLIES, ShardKeys, before, order
 from bpfhost.shards.parts import in_parts
 from bpfhost.shards.snapshot import split
@@ -34,6 +34,7 @@ _PAUSE, _LONGEST_PAUSE = 0.005, 0.1
 _SECONDS_TO_LOOK = 1.0
 # With which the names of sessions begin that nobody chose; they are forgotten after a day in which the shard was served.
 NAMELESS = "~"
+_SESSIONS = f"customer {{name}} has {names.MOST_SESSIONS} sessions, and can't have another one"
 
 
 class Client:
@@ -59,7 +60,7 @@ class Client:
     def customer(self, name: str, seconds: float = SECONDS, session: str | None = None) -> Customer:
         """What speaks for one customer, and waits for so many seconds at most.
 
-        A session with a name can be gone on with by the next process (`Customer.resume`); two at once must not have the same one.
+        A session with a name can be gone on with by the next process (`Customer.resume`); from then on the one before it is refused.
         """
         if session is not None and (not session or session.startswith(NAMELESS)):
             raise ValueError(f"a session's name is not empty and does not begin with {NAMELESS}, and is not {session!r}")
@@ -110,7 +111,8 @@ class Customer:
     def resume(self) -> int:
         """How many calls of this session were taken, by this process or one before it; the next call has the number behind it.
 
-        So a producer that is killed and started again, with the same name for its session, knows which of its calls it sends next.
+        So a producer that is killed and started again, with the same name for its session, knows which of its calls it sends next. What
+        a process before it has still on its way is not taken any more, and its next call is refused: a SessionPassed.
         """
         last = self.last()
         return last.number if last else 0
@@ -118,28 +120,38 @@ class Customer:
     def last(self) -> Ticket | None:
         """The last call of this session that was taken, also by a process before this one, to be waited for; or None."""
         deadline = self._deadline(None)
-        while True:
-            seat = self._take_seat(deadline, None)
-            redis, keys = self._shard(seat.shard, deadline)
-            record = redis.patiently(lambda limited: limited.hget(keys.sessions(seat.generation), self.session), deadline)
-            if record or redis.patiently(lambda limited: limited.hget(keys.seats, seat.tenant), deadline) == seat.owned_by(self.name):
-                break
-        number, given_up, _, place = record.split(b" ", 3) if record else (b"0", b"0", b"", b"-")
-        self._number, self._given_up = max(self._number, int(number)), max(self._given_up, int(given_up))
-        if place == b"-":
-            return None
-        return Ticket(b"", self.session, int(number), int(given_up), seat, Place.read(place))
+        seat, number, given_up, place = self._resumed(deadline)
+        self._number, self._given_up = max(self._number, number), given_up
+        return Ticket(b"", self.session, number, given_up, seat, Place.read(place)) if place != b"-" else None
 
-    def post(self, stream: bytes, seconds: float | None = None) -> Ticket:
-        """Puts a call into the stream of the customer's shard, without waiting for its replies.
+    def _resumed(self, deadline: float) -> tuple[Seat, int, int, bytes]:
+        """The customer's seat, and the session's record there, from which on no other process is known."""
+        given_up = b"0"
+        while True:
+            seat = self._seat or self._take_seat(deadline, None)
+            redis, keys = self._shard(seat.shard, deadline)
+            used = [keys.seats, keys.sessions(seat.generation), keys.lease]
+            words = [self.session, given_up, seat.tenant, seat.owned_by(self.name), names.MOST_SESSIONS]
+            what, *said = scripts.RESUME.patiently(redis, used, words, deadline)
+            if what == b"resumed":
+                return seat, int(said[0]), int(said[1]), bytes(said[2])
+            if what == b"passed":
+                given_up = bytes(said[0])
+            elif what == b"sessions":
+                raise NotTaken(_SESSIONS.format(name=self.name), None)
+            else:
+                self._seat = None
+
+    def post(self, stream: bytes, seconds: float | None = None, by: int = 1) -> Ticket:
+        """Puts a call into the stream of the customer's shard, without waiting for its replies. Its number in the session is that of
+        the last call and `by` more, so that a session may count its frames.
 
         A NotTaken where there is no room: then the call is not done later either. A NoReply where it is not known whether it was
         taken: it has the ticket, and waiting for that, or the next call, sends it again.
         """
         whole_frames(stream)
         self.settle(seconds)
-        self._number += 1
-        self._open = ticket = Ticket(stream, self.session, self._number, self._given_up)
+        self._open = ticket = Ticket(stream, self.session, self._number + by, self._given_up)
         self.settle(seconds)
         return ticket
 
@@ -153,12 +165,11 @@ class Customer:
             self._send(ticket, deadline)
         except NotTaken:
             # No later one of this number is taken for it.
-            self._open = None
-            self._number, self._given_up = ticket.number - 1, ticket.given_up + 1
+            self._open, self._given_up = None, ticket.given_up + 1
             raise
         except Away as away:
             raise NoReply(f"it is not known whether a call of customer {self.name} was taken: {away}", ticket) from None
-        self._open = None
+        self._open, self._number = None, ticket.number
 
     def wait(self, ticket: Ticket, seconds: float | None = None) -> list[bytes]:
         """Waits for the replies to a call, one for each frame; a NoReply after so many seconds, and then it can be called again.
@@ -218,8 +229,10 @@ class Customer:
         elif what == b"full":
             return f"customer {self.name} has as many calls waiting as one may have: the worker of shard {seat.shard} is behind"
         elif what == b"sessions":
-            self._give_up(ticket, seat, f"customer {self.name} has {names.MOST_SESSIONS} sessions, and can't have another one")
+            self._give_up(ticket, seat, _SESSIONS.format(name=self.name))
         elif what == b"given up":
+            if int(said[0]) > ticket.given_up + 1:
+                raise SessionPassed(f"another process goes on with session {self.session} of customer {self.name}", ticket)
             raise NotTaken(f"call {ticket.number} of customer {self.name} was given up", ticket)
         else:
             raise ShardError(f"call {ticket.number} of customer {self.name} was passed by call {int(said[0])} of its session")

@@ -82,6 +82,10 @@ class NotServed(NotTaken):
     """No shard is served that may have the customer."""
 
 
+class SessionPassed(NotTaken):
+    """Another process goes on with the session of this call."""
+
+
 class NoReply(CallError):
     """No reply came in time. The call may be in its stream; its ticket can be waited for again."""
 

@@ -19,6 +19,8 @@ REPLIES, FAULT = b"r", b"e"
 MOST_WAITING, CALL_WEIGHT = 4 << 20, 1024
 # So many sessions of one customer are remembered.
 MOST_SESSIONS = 1000
+# One process of a session gives fewer calls up than this.
+GIVEN_UP_BY_ONE = 1_000_000
 
 # Where no entry is.
 START = b"0-0"

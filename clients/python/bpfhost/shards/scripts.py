@@ -4,12 +4,13 @@ Each is right to run twice, and late: what was asked on a connection that was cu
 """
 
 from bpfhost.shards.connection import Script
+from bpfhost.shards.names import GIVEN_UP_BY_ONE
 
 # A seat's text is its generation and a word: `name:` a customer who has it, `leaves:` or `arrives:` an entry, or `closed:`.
 
 # Takes a call: once for each number of a session, while the customer has its seat and may have more waiting. The record of a session is
 # the number of its last call, how many calls were given up, how long the shard had been served, and the shard, tenant and entry of the
-# call, or `-`. A call that is older than the last one that was given up is not taken.
+# call, or `-`. A call that is older than the last one that was given up is not taken; then it is told how many were given up.
 # KEYS: seats, frames, sessions, waiting, lease. ARGV: session, number, given up, seat, shard, tenant, frames, weight, most waiting, most
 # sessions.
 ASK = Script("""
@@ -18,7 +19,7 @@ if record then
   local number, given_up, place = string.match(record, '^(%d+) (%d+) %d+ (.+)$')
   if number == ARGV[2] then return {'taken', place} end
   if tonumber(number) > tonumber(ARGV[2]) then return {'passed', number} end
-  if tonumber(given_up) > tonumber(ARGV[3]) then return {'given up'} end
+  if tonumber(given_up) > tonumber(ARGV[3]) then return {'given up', given_up} end
 end
 if redis.call('HGET', KEYS[1], ARGV[6]) ~= ARGV[4] then return {'seat'} end
 local waits = tonumber(redis.call('HGET', KEYS[4], ARGV[6]) or '0')
@@ -47,6 +48,25 @@ end
 local served = redis.call('HGET', KEYS[2], 'served') or '0'
 redis.call('HSET', KEYS[1], ARGV[1], last .. ' ' .. (ARGV[3] + 1) .. ' ' .. served .. ' ' .. place)
 return {'given up'}
+""", without_memory=True)
+
+# Lets another process go on with a session: what one before it has on its way is not taken any more. A process counts what it gives up
+# by ones, and each process counts from another million on. Who has read an old count is told the one that is there, and asks again.
+# KEYS: seats, sessions, lease. ARGV: session, given up before, tenant, seat, most sessions.
+RESUME = Script(f"""
+if redis.call('HGET', KEYS[1], ARGV[3]) ~= ARGV[4] then return {{'seat'}} end
+local record = redis.call('HGET', KEYS[2], ARGV[1])
+local last, given_up, place = '0', '0', '-'
+if record then
+  last, given_up, place = string.match(record, '^(%d+) (%d+) %d+ (.+)$')
+elseif redis.call('HLEN', KEYS[2]) >= tonumber(ARGV[5]) then
+  return {{'sessions'}}
+end
+if given_up ~= ARGV[2] then return {{'passed', given_up}} end
+local served = redis.call('HGET', KEYS[3], 'served') or '0'
+local next = string.format('%.0f', (math.floor(given_up / {GIVEN_UP_BY_ONE}) + 1) * {GIVEN_UP_BY_ONE})
+redis.call('HSET', KEYS[2], ARGV[1], last .. ' ' .. next .. ' ' .. served .. ' ' .. place)
+return {{'resumed', last, next, place}}
 """, without_memory=True)
 
 # Drops the record of a session, if it is still this one. KEYS: sessions. ARGV: session, record.

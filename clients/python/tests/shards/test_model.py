@@ -22,7 +22,7 @@ _WHY = None if importlib.util.find_spec("lupa") else "python3-lupa is missing"
 
 def case(name: str) -> Sequence[Process]:
     """The processes of a case."""
-    from tests.shards.model.cases import aborter, client, mover, worker
+    from tests.shards.model.cases import aborter, client, mover, sharing, worker
 
     def served() -> list[Process]:
         # Shard 0 with two of its tenants, since a customer that comes back has another number there.
@@ -31,6 +31,9 @@ def case(name: str) -> Sequence[Process]:
     if name == "calls":
         # A client, and two workers who take the lease from each other; the first call may be skipped.
         return [client(2), worker(0, "a", 2, b"call 1"), worker(0, "b", 2, b"call 1")]
+    if name == "sessions":
+        # Two processes of one session, each of which may die, or be late.
+        return sharing()
     calls = 1 if name.startswith("one call") else 2
     if name.endswith("moves"):
         # A client, a mover who may die, and another one.
@@ -41,17 +44,18 @@ def case(name: str) -> Sequence[Process]:
 
 def explore(name: str, faults: int, mistake: str | None = None) -> int:
     """Goes through a case with so many faults of the network, and gives how many states it has."""
-    from tests.shards.model.cases import begun, mutated, replies_are_right
+    from tests.shards.model.cases import begun, calls_are_known, mutated, replies_are_right
     from tests.shards.model.explorer import Explorer
 
-    explorer = Explorer(case(name), replies_are_right, faults, mutated(mistake) if mistake else None)
+    invariant = calls_are_known if name == "sessions" else replies_are_right
+    explorer = Explorer(case(name), invariant, faults, mutated(mistake) if mistake else None)
     return explorer.run(begun(held=name != "calls"))
 
 
 @unittest.skipIf(_WHY is not None, _WHY or "")
 class Model(TimedTest):
     def test_all_interleavings(self) -> None:
-        for name, faults, least in (("calls", 1, 20_000), ("moves", 0, 4_000), ("one call moves", 1, 10_000), ("aborts", 0, 5_000)):
+        for name, faults, least in (("calls", 1, 20_000), ("moves", 0, 4_000), ("one call moves", 1, 10_000), ("aborts", 0, 5_000), ("sessions", 3, 300)):
             # Each case has the time of a test.
             signal.alarm(SECONDS)
             self.assertGreater(explore(name, faults), least, name)
@@ -65,6 +69,7 @@ class Model(TimedTest):
             ("a seat is given before the old one is taken", "moves", 0, "calls are answered"),
             ("the old seat is not taken", "moves", 0, "calls are answered"),
             ("a call is not remembered", "calls", 1, "a call is taken twice"),
+            ("a session is not fenced", "sessions", 0, "were taken, and the session has"),
             ("a seat that is closed is arrived at", "one call aborts", 1, "a call is taken twice|calls are answered"),
         ):
             signal.alarm(SECONDS)
@@ -73,5 +78,5 @@ class Model(TimedTest):
 
 
 if __name__ == "__main__":
-    for each in ("calls", "moves", "aborts"):
+    for each in ("calls", "moves", "aborts", "sessions"):
         print(f"{each}: {explore(each, int(sys.argv[1])):,} states", flush=True)

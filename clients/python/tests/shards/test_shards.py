@@ -17,6 +17,7 @@ from bpfhost.shards import (
     NotTaken,
     RedisError,
     ReplyGone,
+    SessionPassed,
     SetAside,
     Settings,
     ShardError,
@@ -120,7 +121,7 @@ class Calls(ShardTest):
         gives = [keys.sessions(1), keys.lease]
         for _ in range(2):
             self.assertEqual(scripts.GIVE_UP(redis, gives, ["one", 3, 0]), [b"given up"])
-        self.assertEqual([ask(3), ask(1), ask(2)[0]], [[b"given up"], [b"passed", b"2"], b"taken"])
+        self.assertEqual([ask(3), ask(1), ask(2)[0]], [[b"given up", b"1"], [b"passed", b"2"], b"taken"])
         third = ask(3, given_up=1)
         self.assertEqual((third[0], ask(3), scripts.GIVE_UP(redis, gives, ["one", 3, 1])), (b"taken", third, third))
         self.assertEqual(scripts.GIVE_UP(redis, gives, ["one", 2, 0]), [b"passed", b"3"])
@@ -274,8 +275,38 @@ class Calls(ShardTest):
         self.assertEqual(third.resume(), 2)
         self.assertEqual(third.ask(LOOK_UP).payload, (1).to_bytes(8, "little"))
         self.assertEqual(self.client.customer("acme", session="counts").resume(), 3)
+        with self.assertRaisesRegex(SessionPassed, "another process goes on with session counts of customer acme"):
+            third.ask(LOOK_UP)
         with self.assertRaisesRegex(ShardError, "call 1 of customer acme was passed by call 3 of its session"):
             self.client.customer("acme", session="counts").ask(LOOK_UP)
+
+    def test_a_session_that_counts_frames(self) -> None:
+        """What a process before it has on its way is not taken, also where the next one has other calls."""
+        redis, keys = self.empty_shard(0)
+        first = self.client.customer("acme", session="frames")
+        first.post(CREATE + put(1), by=2)
+        right, late = Script.__call__, list[tuple[object, ...]]()
+
+        def delays(script: Script, *arguments: object) -> object:
+            if script is scripts.ASK and not late:
+                late.append(arguments)
+                raise ShardError("it is on its way")
+            return right(script, *arguments)  # type: ignore[arg-type]
+
+        with mock.patch.object(Script, "__call__", delays), self.assertRaisesRegex(ShardError, "on its way"):
+            first.post(put(2) * 5, by=5)
+        second = self.client.customer("acme", session="frames")
+        self.assertEqual(second.resume(), 2)
+        ticket = second.post(put(3), by=1)
+        self.assertEqual((ticket.number, scripts.ASK(*late[0])[0]), (3, b"given up"))  # type: ignore[arg-type]
+        self.assertEqual((redis.xlen(keys.frames(0)), second.resume()), (2, 3))
+        # One that has read an old count is told the new one.
+        seat = self.client.directory.seat("acme")
+        assert seat is not None
+        used, words = [keys.seats, keys.sessions(1), keys.lease], ["frames", 0, 0, seat.owned_by("acme"), 1]
+        self.assertEqual(scripts.RESUME(redis, used, words), [b"passed", b"2000000"])
+        self.assertEqual(scripts.RESUME(redis, used, ["other", *words[1:]]), [b"sessions"])
+        self.assertEqual(scripts.RESUME(redis, used, [*words[:3], b"7 name:acme", 1]), [b"seat"])
 
 
 class Workers(ShardTest):

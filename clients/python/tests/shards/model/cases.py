@@ -62,6 +62,39 @@ def _next(number: int, calls: int) -> Local:
     return ("place", number + 1) if number < calls else ("done",)
 
 
+# Processes of one session, which send one call each: ("place",), ("claim", seat), ("resume", seat, given up), ("ask", seat, number, given
+# up), ("done",).
+
+
+def resuming(call: int, more: int) -> Process:
+    """A process that goes on with a session which others go on with too. Its call has a number of its own, and is sent once, as by a
+    process that dies then; whether it was taken is for the next one to say."""
+
+    def steps(local: Local) -> list[Step]:
+        if local[0] == "done":
+            return []
+        if local[0] == "place":
+            return [Step(_script(directory.PLACE, _DIRECTORY.all, NAME), lambda found: ("claim", found[0]))]
+        shard, tenant, generation = map(int, local[1].split())
+        keys, seat = _KEYS[shard], f"{generation} name:{NAME}"
+        if local[0] == "claim":
+            return [Step(_script(scripts.CLAIM, [keys.seats], tenant, generation, seat), lambda has: ("resume", local[1], b"0") if has else ("place",))]
+        if local[0] == "resume":
+            words = _script(scripts.RESUME, [keys.seats, keys.sessions(generation), keys.lease], "s", local[2], tenant, seat, 10)
+            return [Step(words, lambda said: _resumed(local[1], said))]
+        used = [keys.seats, keys.frames(tenant), keys.sessions(generation), keys.waiting, keys.lease]
+        words = _script(scripts.ASK, used, "s", local[2], local[3], seat, shard, tenant, f"call {call}", 1, 1000, 10)
+        # An old seat is no reason to send it to another one: the model asks who is refused there to resume again.
+        return [Step(words, lambda said: ("place",) if said[0] == b"seat" else ("done",))]
+
+    def _resumed(seat: bytes, said: Any) -> Local:
+        if said[0] == b"passed":
+            return ("resume", seat, said[1])
+        return ("ask", seat, int(said[1]) + more, said[2]) if said[0] == b"resumed" else ("place",)
+
+    return Process(("place",), steps, _is_done, lambda local: ("done",) if local[0] == "ask" else local)
+
+
 # A worker: ("idle", starts, seen), ("restore", token), ("read", token, place, count), ("write", token, place, count, entry, fields).
 
 
@@ -270,6 +303,24 @@ def replies_are_right(keys: dict[bytes, Any]) -> None:
     assert [counts[number] for number in done] == list(range(1, len(done) + 1)), f"calls are answered {counts}"
 
 
+def calls_are_known(keys: dict[bytes, Any]) -> None:
+    """A process that goes on with a session is told of each call that was taken by then; so none is taken below it: the numbers of
+    calls, each of which is so many above the last one that its process was told, are told apart by this."""
+    replies_are_right(keys)
+    entries = [value for field, value in keys.get(_KEYS[0].frames(0).encode(), Stream()).entries.values() if field == b"f"]
+    record = keys.get(_KEYS[0].sessions(1).encode(), {}).get(b"s", b"0").split()
+    assert int(record[0]) == sum(_MORE[value] for value in entries), f"{entries} were taken, and the session has {record[0]!r}"
+
+
+# How far the calls of processes of one session are above the last one that they were told.
+_MORE = {b"call 1": 5, b"call 2": 3}
+
+
+def sharing() -> list[Process]:
+    """Two processes that go on with one session."""
+    return [resuming(int(call.split()[1]), more) for call, more in _MORE.items()]
+
+
 def begun(held: bool = False) -> dict[bytes, Any]:
     """The keys of two shards that are offered."""
     store = Store()
@@ -296,6 +347,11 @@ MISTAKES = {
         "",
     ),
     "a call is not remembered": (scripts.ASK, "redis.call('HSET', KEYS[3], ARGV[1],", "redis.call('HSET', KEYS[3], 'x' .. ARGV[1],"),
+    "a session is not fenced": (
+        scripts.RESUME,
+        "redis.call('HSET', KEYS[2], ARGV[1], last .. ' ' .. next",
+        "redis.call('HSET', KEYS[2], ARGV[1], last .. ' ' .. given_up",
+    ),
     "a seat that is closed is arrived at": (scripts.ARRIVE, "if string.match(seat, '^%d+ closed:') then return false end", ""),
 }
 

@@ -85,6 +85,10 @@ class Said:
     def _new(self) -> list[bytes]:
         return [frame_of(self._draw, self._poison) for _ in range(self._draw.randrange(1, 5))]
 
+    def change(self) -> None:
+        """Has another next call than before."""
+        self.next = self._new()
+
     def is_poison(self) -> bool:
         """Whether the next call ends a host."""
         return any(frame[20:24] == POISON for frame in self.next)
@@ -195,6 +199,9 @@ class Play:
         if last and number == said.taken + 1:
             self.counts["resumed"] += 1
             self._wait(said, last, wait)
+        else:
+            # What the last process sent is not taken any more, so this one may send something else.
+            said.change()
 
     def _wait(self, said: Said, ticket: Ticket, wait: Callable[[Ticket], list[bytes]]) -> None:
         while True:

@@ -95,7 +95,13 @@ class CaptureError(InputError):
 
 
 # What parts of this package want, by the names of modules and of Debian's packages.
-PACKAGES = {"elftools": "python3-pyelftools", "dpkt": "python3-dpkt", "rich": "python3-rich", "redis": "python3-redis"}
+PACKAGES = {
+    "elftools": "python3-pyelftools",
+    "dpkt": "python3-dpkt",
+    "rich": "python3-rich",
+    "redis": "python3-redis",
+    "greenlet": "python3-greenlet",
+}
 
 
 class MissingPackage(BpfhostError):

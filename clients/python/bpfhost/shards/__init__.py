@@ -6,6 +6,7 @@ from bpfhost.shards.client import Client, Customer
 from bpfhost.shards.directory import Directory, Seat
 from bpfhost.shards.errors import (
     CallError,
+    CallPassed,
     LeaseHeld,
     LeaseLost,
     MemoryRefused,
@@ -29,6 +30,7 @@ from bpfhost.shards.worker import Worker
 
 __all__ = [
     "CallError",
+    "CallPassed",
     "Client",
     "Customer",
     "Directory",

@@ -4,9 +4,11 @@ from __future__ import annotations
 
 import argparse
 from collections.abc import Sequence
+from pathlib import Path
 
 from bpfhost.shards.client import SECONDS
 from bpfhost.shards.directory import MOST_SHARD, demand_name
+from bpfhost.shards.gateway.limits import GatewayLimits
 from bpfhost.shards.lease import SECONDS as LEASE_SECONDS
 from bpfhost.shards.names import PREFIX
 from bpfhost.shards.settings import MOST_ENTRIES, Settings
@@ -17,6 +19,7 @@ _ABOUT = "Serves customers by many hosts, behind Redis Streams (docs/SCALING.md)
 _shard = in_range(int, f"shard from 0 to {MOST_SHARD}", 0, MOST_SHARD)
 _seconds = in_range(float, "number of seconds from 0.1 on", 0.1, 1e6)
 _many = in_range(int, f"number from 1 to {MOST_ENTRIES}", 1, MOST_ENTRIES)
+_rate = in_range(float, "number from 0.1 on", 0.1)
 _name = named(demand_name, "name of 1 to 255 printable characters without spaces")
 # Words for one customer, and for one shard, with what they do.
 _OF_CUSTOMERS = {
@@ -51,8 +54,12 @@ def _parser() -> Parser:
             one.add_argument("--undo", action="store_true", help="offer it again")
         else:
             one.add_argument("--lost", action="store_true", help="also with its customers, whose data are lost")
+    _add_gateway(words)
+    words.add_parser("token", help="write a new token for a customer, and what the file of customers has of it")
     words.add_parser("show", help="show the shards, their workers, moves, what is set aside, and where each customer is")
     for word, one in words.choices.items():
+        if word == "token":
+            continue
         _add_redis(one, "the shard's Redis" if word == "worker" else "the directory's Redis")
     return parser
 
@@ -71,6 +78,19 @@ def _add_worker(words: argparse._SubParsersAction[Parser]) -> None:
         "--keep-replies", metavar="S", type=_seconds, default=usual.reply_seconds, help="how long replies stay that nobody has read (3600)"
     )
     parser.add_argument("--volatile", action="store_true", help="also on a Redis that may lose what it has answered")
+
+
+def _add_gateway(words: argparse._SubParsersAction[Parser]) -> None:
+    usual = GatewayLimits()
+    parser = words.add_parser("gateway", help="let customers in until SIGTERM; SIGHUP reads the file of customers again")
+    parser.add_argument("--listen", metavar="ADDRESS", action="append", help="host:port or unix:PATH; more than once (127.0.0.1:7443)")
+    parser.add_argument("--customers", metavar="FILE", type=Path, required=True, help="who the customers are")
+    parser.add_argument("--certificate", metavar="FILE", type=Path, help="the gateway's certificate, for TLS")
+    parser.add_argument("--key", metavar="FILE", type=Path, help="its key")
+    parser.add_argument("--clients", metavar="FILE", type=Path, help="the certificate of who signs the customers' certificates")
+    parser.add_argument("--connections", metavar="N", type=_many, default=usual.connections, help="connections at once (1000)")
+    parser.add_argument("--new-connections", metavar="N", type=_rate, default=usual.new, help="new connections a second (200)")
+    parser.add_argument("--seconds", metavar="S", type=_seconds, default=usual.seconds, help="how long a call waits for a worker (60)")
 
 
 def _add_seconds(parser: argparse.ArgumentParser) -> None:

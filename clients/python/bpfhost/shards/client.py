@@ -20,7 +20,18 @@ from bpfhost.shards.aside import Aside
 from bpfhost.shards.calls import LONGEST_CALL, MOST_FRAMES, whole_frames
 from bpfhost.shards.connection import Redis
 from bpfhost.shards.directory import Directory, Seat, demand_name
-from bpfhost.shards.errors import Away, NoReply, NotDone, NotServed, NotTaken, OutOfMemory, ReplyGone, SessionPassed, SetAside, ShardError
+from bpfhost.shards.errors import (
+    Away,
+    CallPassed,
+    NoReply,
+    NotDone,
+    NotServed,
+    NotTaken,
+    OutOfMemory,
+    ReplyGone,
+    SessionPassed,
+    SetAside,
+)
 from bpfhost.shards.names import FAULT, PREFIX, REPLIES, ShardKeys, before, order
 from bpfhost.shards.parts import in_parts
 from bpfhost.shards.snapshot import split
@@ -235,7 +246,8 @@ class Customer:
                 raise SessionPassed(f"another process goes on with session {self.session} of customer {self.name}", ticket)
             raise NotTaken(f"call {ticket.number} of customer {self.name} was given up", ticket)
         else:
-            raise ShardError(f"call {ticket.number} of customer {self.name} was passed by call {int(said[0])} of its session")
+            sentence = f"call {ticket.number} of customer {self.name} was passed by call {int(said[0])} of its session"
+            raise CallPassed(sentence, ticket)
         return ""
 
     def _give_up(self, ticket: Ticket, seat: Seat, why: str) -> None:

@@ -1,4 +1,4 @@
-"""The command `python3 -m bpfhost.shards`: a worker of a shard, calls of a customer, moves, and an operator's words.
+"""The command `python3 -m bpfhost.shards`: a worker of a shard, a gateway, calls of a customer, moves, and an operator's words.
 
 Its status is 0 where all went well; 1 where an input is refused, a customer can't be moved, a call is set aside or a stream can't be
 written; 2 where the words are wrong; 3 where the host or Redis does not do its part, a reply does not come, or a package is missing; 4
@@ -8,6 +8,7 @@ Each error is one sentence on standard error.
 
 from __future__ import annotations
 
+import asyncio
 import signal
 import sys
 from argparse import Namespace
@@ -45,6 +46,10 @@ def main(words: Sequence[str] | None = None) -> int:
     def run() -> int:
         if said.word == "worker":
             run_worker(said)
+        elif said.word == "gateway":
+            run_gateway(said)
+        elif said.word == "token":
+            run_token()
         else:
             with Client(said.redis, said.prefix) as client:
                 _RUNS[said.word](client, said)
@@ -71,6 +76,21 @@ def run_worker(said: Namespace) -> None:
     with closing(connect(said.redis)) as redis, closing(connect(said.directory)) if said.directory else nullcontext() as directory:
         keys = ShardKeys(said.shard, said.prefix)
         Worker(redis, keys, find_program(said.bpfhost), settings, _say, directory).run(lambda: stopped[0])
+
+
+def run_gateway(said: Namespace) -> None:
+    """Lets customers in until SIGTERM or SIGINT."""
+    from bpfhost.shards.gateway.running import serve
+
+    asyncio.run(serve(said, _say))
+
+
+def run_token() -> None:
+    """Writes a token, and its hash."""
+    from bpfhost.shards.gateway.customers import hash_of, new_token
+
+    token = new_token()
+    print(f"{token}\ntoken-sha256 = \"{hash_of(token)}\"")
 
 
 def _say(sentence: str) -> None:

@@ -86,6 +86,10 @@ class SessionPassed(NotTaken):
     """Another process goes on with the session of this call."""
 
 
+class CallPassed(CallError):
+    """A later call of the session was taken before this one was asked for; its process knows whether this one was taken."""
+
+
 class NoReply(CallError):
     """No reply came in time. The call may be in its stream; its ticket can be waited for again."""
 

@@ -2,9 +2,10 @@
 
 from __future__ import annotations
 
+import asyncio
 import contextlib
 import socket
-from collections.abc import Sequence
+from collections.abc import Iterator, Sequence
 from typing import Any
 
 from bpfhost.errors import PACKAGES, MissingPackage
@@ -21,9 +22,36 @@ _USER_TIMEOUT = getattr(socket, "TCP_USER_TIMEOUT", 18)
 def _library() -> Any:
     try:
         import redis  # type: ignore[import]
+        import redis.asyncio  # type: ignore[import]  # noqa: F401
     except ModuleNotFoundError:
         raise MissingPackage("redis", PACKAGES["redis"]) from None
     return redis
+
+
+def _pool(url: str, classes: Any) -> Any:
+    """What makes connections to a URL; a RedisError where it is none."""
+    try:
+        return classes.from_url(url)
+    except ValueError as error:
+        raise RedisError(f"{url} is no URL of a Redis: {error}") from None
+
+
+@contextlib.contextmanager
+def _told() -> Iterator[None]:
+    """Tells the library's errors as this package's own."""
+    errors = _library().exceptions
+    try:
+        yield
+    except (errors.AuthenticationError, errors.AuthorizationError) as error:
+        raise RedisError(f"Redis does not know this user, or not by this password: {error}") from None
+    except (errors.BusyLoadingError, errors.ConnectionError, errors.TimeoutError, TimeoutError, OSError) as error:
+        raise Away(f"Redis can't be reached: {error or 'it does not answer in time'}") from error
+    except errors.NoScriptError:
+        raise NoScript("Redis does not have the script yet") from None
+    except errors.RedisError as error:
+        if "OOM" in str(error) or "allow-oom" in str(error):
+            raise OutOfMemory(f"Redis has no memory: {error}") from None
+        raise RedisError(f"Redis refuses a command: {error}") from None
 
 
 class SocketLink:
@@ -31,29 +59,19 @@ class SocketLink:
 
     def __init__(self, url: str) -> None:
         """A RedisError where the URL is none."""
-        self._errors = _library().exceptions
-        try:
-            pool = _library().ConnectionPool.from_url(url)
-        except ValueError as error:
-            raise RedisError(f"{url} is no URL of a Redis: {error}") from None
-        self._connection = pool.make_connection()
+        self._connection = _pool(url, _library().ConnectionPool).make_connection()
 
     def call(self, words: Sequence[Word], seconds: float) -> Any:
         """The answer to a command, within so many seconds."""
-        connection, errors = self._connection, self._errors
-        try:
-            self._prepare(seconds)
-            connection.send_command(*words)
-            return connection.read_response()
-        except (errors.BusyLoadingError, errors.ConnectionError, errors.TimeoutError, OSError) as error:
-            connection.disconnect()
-            raise Away(f"Redis can't be reached: {error}") from error
-        except errors.NoScriptError:
-            raise NoScript("Redis does not have the script yet") from None
-        except errors.RedisError as error:
-            if "OOM" in str(error) or "allow-oom" in str(error):
-                raise OutOfMemory(f"Redis has no memory: {error}") from None
-            raise RedisError(f"Redis refuses a command: {error}") from None
+        connection = self._connection
+        with _told():
+            try:
+                self._prepare(seconds)
+                connection.send_command(*words)
+                return connection.read_response()
+            except (_library().exceptions.ConnectionError, _library().exceptions.TimeoutError, OSError):
+                connection.disconnect()
+                raise
 
     def _prepare(self, seconds: float) -> None:
         """A connection whose calls take so many seconds at most."""
@@ -68,6 +86,41 @@ class SocketLink:
     def close(self) -> None:
         """Ends the connection."""
         self._connection.disconnect()
+
+
+class AsyncConnection:
+    """The same on an event loop, for one call at a time. A call that is broken off ends the connection, and the next one makes it anew."""
+
+    def __init__(self, url: str) -> None:
+        """A RedisError where the URL is none."""
+        self._connection = _pool(url, _library().asyncio.ConnectionPool).make_connection()
+
+    async def call(self, words: Sequence[Word], seconds: float) -> Any:
+        """The answer to a command, within so many seconds."""
+        connection, is_whole = self._connection, False
+        with _told():
+            try:
+                async with asyncio.timeout(seconds):
+                    if not connection.is_connected:
+                        await connection.connect()
+                    await connection.send_command(*words)
+                    answer = await connection.read_response()
+                is_whole = True
+                return answer
+            except _library().exceptions.ResponseError:
+                is_whole = True
+                raise
+            finally:
+                if not is_whole:
+                    self.close()
+
+    def close(self) -> None:
+        """Ends the connection."""
+        connection = self._connection
+        connection._parser.on_disconnect()
+        if connection._writer:
+            connection._writer.close()
+        connection._reader = connection._writer = None
 
 
 def _watch(made: socket.socket) -> None:

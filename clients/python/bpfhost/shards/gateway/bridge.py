@@ -1,0 +1,81 @@
+"""The client of shards in asyncio: it runs as it is, and where it waits for Redis or for time to go by, others run.
+
+Each call runs in a greenlet (of Debian: python3-greenlet), which gives way to the event loop where it waits.
+"""
+
+from __future__ import annotations
+
+import asyncio
+import time
+import uuid
+from collections.abc import Callable, Coroutine, Sequence
+from typing import Any, TypeVar
+
+import greenlet
+
+from bpfhost.program import Program
+from bpfhost.shards.link import AsyncConnection
+from bpfhost.shards.system import Asked, Beside, Link, Word
+
+Answer = TypeVar("Answer")
+
+
+async def in_turns(call: Callable[[], Answer]) -> Answer:
+    """Runs a function that waits by `waits`, beside all else that the event loop does."""
+    beside = greenlet.greenlet(call)
+    said = beside.switch()
+    while not beside.dead:
+        try:
+            found = await said
+        except BaseException as error:
+            said = beside.throw(error)
+        else:
+            said = beside.switch(found)
+    answer: Answer = said
+    return answer
+
+
+def waits(what: Coroutine[Any, Any, Answer]) -> Answer:
+    """Waits for what the event loop does; called beneath `in_turns`."""
+    found: Answer = greenlet.getcurrent().parent.switch(what)
+    return found
+
+
+class AsyncLink:
+    """A connection to a Redis, on the event loop."""
+
+    def __init__(self, url: str) -> None:
+        self._connection = AsyncConnection(url)
+
+    def call(self, words: Sequence[Word], seconds: float) -> Any:
+        """The answer to a command, within so many seconds."""
+        return waits(self._connection.call(words, seconds))
+
+    def close(self) -> None:
+        """Ends the connection."""
+        self._connection.close()
+
+
+class Loop:
+    """This machine, for functions that run in turns."""
+
+    def now(self) -> float:
+        return time.monotonic()
+
+    def sleep(self, seconds: float) -> None:
+        waits(asyncio.sleep(seconds))
+
+    def beside(self, run: Callable[[], None]) -> Beside:
+        raise NotImplementedError
+
+    def link(self, url: str) -> Link:
+        return AsyncLink(url)
+
+    def host(self, program: Program, tenants: int) -> Asked:
+        raise NotImplementedError
+
+    def fresh(self) -> str:
+        return uuid.uuid4().hex
+
+
+LOOP = Loop()

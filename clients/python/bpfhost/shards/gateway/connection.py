@@ -1,0 +1,286 @@
+"""One connection of a customer: frames come in, are gathered into calls, and their replies go out.
+
+While a call waits for its replies, the frames that come are gathered, and are the next call. So a connection has one call on its way,
+and it holds what it has read: a call, the next one, and the replies.
+"""
+
+from __future__ import annotations
+
+import asyncio
+import contextlib
+import ssl
+from collections.abc import Callable
+from typing import TYPE_CHECKING, TypeVar
+
+from bpfhost.shards.calls import MOST_FRAMES
+from bpfhost.shards.client import NAMELESS, Customer
+from bpfhost.shards.errors import CallPassed, NoReply, NotDone, NotTaken, ReplyGone, SessionPassed, SetAside, ShardError
+from bpfhost.shards.gateway.bridge import LOOP, in_turns
+from bpfhost.shards.gateway.customers import Known
+from bpfhost.shards.gateway.protocol import LONGEST_HELLO, Incoming, Refusal, Why, Word, hello_size, read_hello, told
+from bpfhost.shards.tickets import Ticket
+
+if TYPE_CHECKING:
+    from bpfhost.shards.gateway.server import Gateway
+
+_READ_AT_ONCE = 1 << 16
+# So many bytes of replies wait in a connection before the gateway waits for the customer to read.
+_MOST_UNREAD = 1 << 16
+# So long the end of a connection takes, that its customer may still read why.
+_SECONDS_TO_END = 2.0
+
+Answer = TypeVar("Answer")
+
+
+class Connection:
+    """A connection, from its first byte to its last."""
+
+    def __init__(self, gateway: Gateway, reader: asyncio.StreamReader, writer: asyncio.StreamWriter) -> None:
+        self._gateway, self._reader, self._writer = gateway, reader, writer
+        self._limits = gateway.limits
+        self._incoming = Incoming()
+        # Frames have come, or will not; there is room for more.
+        self._came, self._room = asyncio.Event(), asyncio.Event()
+        self._known: Known | None = None
+        self._customer: Customer | None = None
+        self._session: str | None = None
+        self._has_ended = False
+        # How many frames were taken, and how many replies were sent.
+        self._taken = self._answered = 0
+        self._task = asyncio.current_task()
+        # Why it is to end: at once, or behind what came before it.
+        self._refusal: Refusal | None = None
+        self._wrong: Refusal | None = None
+        self._is_calling = False
+        self._began = 0.0
+        writer.transport.set_write_buffer_limits(_MOST_UNREAD)
+
+    async def run(self) -> None:
+        """Serves the connection until it ends."""
+        try:
+            await self._serve()
+        except Refusal as refusal:
+            await self._end(refusal)
+        except asyncio.CancelledError:
+            if self._task:
+                self._task.uncancel()
+            await self._end(self._refusal or self._crowded())
+        except (ConnectionError, ssl.SSLError, asyncio.IncompleteReadError):
+            pass
+        finally:
+            self._leave()
+            self._writer.transport.abort()
+
+    def _leave(self) -> None:
+        """Is no connection of its customer any more."""
+        if self._known:
+            self._gateway.left(self._known, self._session, self)
+            self._known = None
+
+    def refuse(self, refusal: Refusal) -> None:
+        """Ends the connection, when the call that is on its way is answered."""
+        self._refusal = self._refusal or refusal
+        self._came.set()
+        if not self._is_calling and self._task:
+            self._task.cancel()
+
+    def _crowded(self) -> Refusal:
+        """Why the gateway broke it off without a word."""
+        if self._gateway.is_ending:
+            return Refusal(Why.ENDS, "the gateway ends")
+        return Refusal(Why.AGAIN, f"{self._limits.unknown} connections have come since that have not said who they are")
+
+    async def _serve(self) -> None:
+        first, rest = await self._first()
+        await self._greet(first)
+        reading = asyncio.create_task(self._read(rest))
+        try:
+            await self._call()
+        finally:
+            reading.cancel()
+            with contextlib.suppress(asyncio.CancelledError):
+                await reading
+
+    # Who it is.
+
+    async def _first(self) -> tuple[bytes, bytes]:
+        """The first frame, and what came behind it."""
+        held, seconds = bytearray(), self._limits.seconds_for_a_frame
+        try:
+            async with asyncio.timeout(seconds):
+                while (size := hello_size(held)) is None:
+                    data = await self._reader.read(LONGEST_HELLO)
+                    if not data:
+                        raise ConnectionResetError
+                    held += data
+        except TimeoutError:
+            raise Refusal(Why.SLOW, f"nobody said within {seconds:g} s which customer this is") from None
+        return bytes(held[:size]), bytes(held[size:])
+
+    async def _greet(self, first: bytes) -> None:
+        """Finds out who it is, and sends the replies that a session lacks."""
+        token, session, answered = read_hello(first)
+        tls = self._writer.get_extra_info("ssl_object")
+        known = self._gateway.customers.of(token, tls.getpeercert() if tls else None)
+        self._gateway.came(known, session, self)
+        self._known, self._session = known, session
+        self._customer = Customer(self._gateway.client, known.name, self._limits.seconds, _own(session))
+        self._incoming.acked = answered
+        missing = await self._resume(self._customer, answered) if session else []
+        self._write(told(Word.HELLO, None, customer=known.name, taken=self._taken))
+        self._send(missing)
+
+    async def _resume(self, customer: Customer, answered: int) -> list[bytes]:
+        """Goes on with a session, and gives the replies that the customer does not have yet."""
+        last = await self._behind(customer.last)
+        self._taken = last.number if last else 0
+        self._answered = answered
+        if answered > self._taken:
+            raise Refusal(Why.WRONG, f"session {self._session} has {self._taken} frames taken, and not {answered} replies")
+        if last is None or answered == self._taken:
+            return []
+        replies = await self._replies(customer, last, self._taken - answered)
+        if len(replies) < self._taken - answered:
+            raise Refusal(Why.GONE, f"of session {self._session} the last {len(replies)} replies are known, and {self._taken - answered} are missing")
+        return replies[len(replies) - (self._taken - answered) :]
+
+    # Frames.
+
+    async def _read(self, came: bytes) -> None:
+        """Reads frames as long as there is room, until they end. What is wrong is told behind the replies to what came before it."""
+        try:
+            self._incoming.feed(came)
+            self._came.set()
+            while data := await self._read_some():
+                self._incoming.feed(data)
+                self._came.set()
+            if self._incoming.is_partial():
+                raise Refusal(Why.WRONG, "the frames end within a frame")
+            self._has_ended = True
+        except Refusal as refusal:
+            self._wrong = refusal
+        except (ConnectionError, ssl.SSLError):
+            self._has_ended = True
+        finally:
+            self._came.set()
+
+    async def _read_some(self) -> bytes:
+        """Some bytes; a Refusal where a frame that has begun does not end, or nothing comes for long."""
+        while not (room := self._incoming.room()):
+            self._room.clear()
+            await self._room.wait()
+        now = asyncio.get_running_loop().time()
+        if not self._incoming.is_partial():
+            self._began = now
+            left, sentence = self._limits.seconds_idle, f"no frame came for {self._limits.seconds_idle:g} s"
+        else:
+            seconds = self._limits.seconds_for_a_frame
+            left, sentence = self._began + seconds - now, f"a frame that has begun is not whole after {seconds:g} s"
+        try:
+            async with asyncio.timeout(max(0.0, left)):
+                return await self._reader.read(min(room, _READ_AT_ONCE))
+        except TimeoutError:
+            raise Refusal(Why.SLOW, sentence) from None
+
+    # Calls.
+
+    async def _call(self) -> None:
+        """Makes calls of what comes, one after the other."""
+        assert self._customer and self._known
+        while await self._is_next_there():
+            stream, count, replies = self._incoming.take(MOST_FRAMES)
+            self._room.set()
+            await self._gateway.wait_for_rate(self._known, count, len(stream))
+            size = await self._gateway.room.take(replies)
+            try:
+                self._is_calling = True
+                await self._answer(self._customer, stream, count)
+            finally:
+                self._is_calling = False
+                self._gateway.room.give(size)
+
+    async def _is_next_there(self) -> bool:
+        """Waits for frames of the next call; False where there will be none. In a session, it comes when the customer has said that it
+        has all replies."""
+        while True:
+            if self._refusal:
+                raise self._refusal
+            if self._incoming.count() and (self._session is None or self._incoming.acked >= self._answered):
+                return True
+            if self._wrong:
+                raise self._wrong
+            if self._has_ended:
+                await self._drain()
+                return False
+            self._came.clear()
+            await self._came.wait()
+
+    async def _answer(self, customer: Customer, stream: bytes, count: int) -> None:
+        ticket = await self._behind(lambda: customer.post(stream, by=count))
+        self._taken += count
+        self._gateway.counts.note(len(stream), count)
+        self._send(await self._replies(customer, ticket, count))
+        await self._drain()
+
+    async def _replies(self, customer: Customer, ticket: Ticket, count: int) -> list[bytes]:
+        """The replies to a call; or so many times what stands in their place, where there are none."""
+        try:
+            return await self._behind(lambda: customer.wait(ticket))
+        except (NotDone, ReplyGone) as error:
+            why = Why.GONE if isinstance(error, ReplyGone) else Why.NOT_DONE
+            return [told(Word.NO_REPLIES, why, frames=count, why=str(error)), *[b""] * (count - 1)]
+
+    async def _behind(self, call: Callable[[], Answer]) -> Answer:
+        """Calls what is behind the gateway; a Refusal where it does not do its part."""
+        try:
+            return await in_turns(call)
+        except (SessionPassed, CallPassed):
+            raise Refusal(Why.PASSED, f"another connection goes on with session {self._session}") from None
+        except SetAside as error:
+            raise Refusal(Why.ASIDE, str(error)) from None
+        except (NotDone, ReplyGone):
+            raise
+        except (NotTaken, NoReply) as error:
+            raise Refusal(Why.AGAIN, str(error)) from None
+        except ShardError as error:
+            raise Refusal(Why.BEHIND, f"what is behind the gateway does not do its part: {error}") from None
+
+    # Replies.
+
+    def _send(self, replies: list[bytes]) -> None:
+        self._answered += len(replies)
+        self._write(b"".join(replies))
+
+    def _write(self, data: bytes) -> None:
+        if not self._writer.transport.is_closing():
+            self._writer.write(data)
+
+    async def _drain(self) -> None:
+        """Waits until the customer has read some of what was written."""
+        try:
+            async with asyncio.timeout(self._limits.seconds_to_read):
+                await self._writer.drain()
+        except TimeoutError:
+            raise Refusal(Why.SLOW, f"replies were not read for {self._limits.seconds_to_read:g} s") from None
+
+    async def _end(self, refusal: Refusal) -> None:
+        """Says why the connection ends, to a customer who reads."""
+        self._gateway.counts.refused(refusal.why)
+        self._leave()
+        with contextlib.suppress(ConnectionError, ssl.SSLError, TimeoutError, RuntimeError, asyncio.CancelledError):
+            self._write(told(Word.END, refusal.why, why=str(refusal), taken=self._taken))
+            async with asyncio.timeout(_SECONDS_TO_END):
+                if self._writer.can_write_eof():
+                    self._writer.write_eof()
+                else:
+                    self._writer.close()
+                # What the customer still sends is read and dropped, so that the system does not drop what it has not read yet.
+                while await self._reader.read(_READ_AT_ONCE):
+                    pass
+
+
+def _own(session: str | None) -> str:
+    """The name of a gateway's session, which no client without a gateway takes for its own."""
+    if session is None:
+        return NAMELESS + LOOP.fresh()
+    return f"{NAMELESS if session.startswith(NAMELESS) else ''}gateway {session}"

@@ -1,0 +1,40 @@
+"""Runs a gateway until it is told to end."""
+
+from __future__ import annotations
+
+import asyncio
+import signal
+from argparse import Namespace
+from collections.abc import Callable
+
+from bpfhost.shards.errors import ShardError
+from bpfhost.shards.gateway.limits import GatewayLimits
+from bpfhost.shards.gateway.server import Gateway, Tls
+
+
+def tls_of(said: Namespace) -> Tls | None:
+    """The files of TLS; a ShardError where one is missing."""
+    if bool(said.certificate) != bool(said.key) or said.clients and not said.certificate:
+        raise ShardError("TLS needs both --certificate and --key")
+    return Tls(said.certificate, said.key, said.clients) if said.certificate else None
+
+
+async def serve(said: Namespace, tell: Callable[[str], None]) -> None:
+    """Serves until SIGTERM or SIGINT; SIGHUP reads the file of customers again. At a TCP address that others reach TLS is needed."""
+    tls = tls_of(said)
+    limits = GatewayLimits(connections=said.connections, new=said.new_connections, seconds=said.seconds)
+    gateway = Gateway(said.redis, said.customers, limits, said.prefix, tell)
+    ended, loop = asyncio.Event(), asyncio.get_running_loop()
+    for number in (signal.SIGTERM, signal.SIGINT):
+        loop.add_signal_handler(number, ended.set)
+    loop.add_signal_handler(signal.SIGHUP, gateway.reload)
+    try:
+        for address in said.listen or ["127.0.0.1:7443"]:
+            is_local = address.startswith(("unix:", "127.", "localhost:", "[::1]:"))
+            if not tls and not is_local:
+                raise ShardError(f"at {address} others could read tokens: TLS needs --certificate and --key")
+            own = None if address.startswith("unix:") else tls
+            tell(f"the gateway serves {len(gateway.customers)} customers at {await gateway.listen(address, own)}{', by TLS' if own else ''}")
+        await ended.wait()
+    finally:
+        await gateway.end()

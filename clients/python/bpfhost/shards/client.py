@@ -18,7 +18,7 @@ from bpfhost.replies import Reply, read_replies
 from bpfhost.shards import names, scripts
 from bpfhost.shards.aside import Aside
 from bpfhost.shards.calls import LONGEST_CALL, MOST_FRAMES, whole_frames
-from bpfhost.shards.connection import Redis
+from bpfhost.shards.connection import Redis, as_in
 from bpfhost.shards.directory import Directory, Seat, demand_name
 from bpfhost.shards.errors import (
     Away,
@@ -82,7 +82,7 @@ class Client:
         until = self.system.now() + SECONDS if deadline is None else deadline
         url = self.redis.patiently(lambda redis: Directory(redis, self.prefix).server(number), until)
         if url not in self._servers:
-            self._servers[url] = Redis(url, self.system)
+            self._servers[url] = Redis(as_in(url, self.redis.url), self.system)
         return self._servers[url], ShardKeys(number, self.prefix)
 
 

@@ -6,10 +6,11 @@ import copy
 import hashlib
 import os
 import threading
+import urllib.parse
 from collections.abc import Callable, Mapping, Sequence
 from typing import Any, TypeVar
 
-from bpfhost.shards.errors import Away, NoScript, RedisError
+from bpfhost.shards.errors import Away, NoScript, NotAllowed, RedisError
 from bpfhost.shards.names import START, before
 from bpfhost.shards.system import MACHINE, Link, System, Word
 
@@ -28,6 +29,32 @@ Answer = TypeVar("Answer")
 def redis_url(url: str | None = None) -> str:
     """A URL, as `redis://host:6379/0` or `unix:///path`; without one that of the variable BPFHOST_REDIS, or of this machine's Redis."""
     return url or os.environ.get("BPFHOST_REDIS") or DEFAULT_URL
+
+
+def without_secrets(url: str) -> str:
+    """A URL without what is for one process alone: a user, a password, and files of TLS."""
+    found = urllib.parse.urlsplit(url)
+    host = found.netloc.rpartition("@")[2]
+    said = [pair for pair in urllib.parse.parse_qsl(found.query) if not _is_own(pair[0])]
+    return _joined(found.scheme, host, found.path, said)
+
+
+def as_in(url: str, own: str) -> str:
+    """A URL that says no user and no files of TLS, with those of this process's own URL."""
+    found, mine = urllib.parse.urlsplit(url), urllib.parse.urlsplit(own)
+    user, has_user, _ = mine.netloc.rpartition("@")
+    said = urllib.parse.parse_qsl(found.query)
+    said += [pair for pair in urllib.parse.parse_qsl(mine.query) if _is_own(pair[0]) and (found.scheme == "rediss" or "ssl" not in pair[0])]
+    return _joined(found.scheme, f"{user}{has_user}{found.netloc}", found.path, said)
+
+
+def _joined(scheme: str, place: str, path: str, said: list[tuple[str, str]]) -> str:
+    words = urllib.parse.urlencode(said)
+    return f"{scheme}://{place}{path}{'?' if words else ''}{words}"
+
+
+def _is_own(word: str) -> bool:
+    return word.startswith("ssl_") or word in ("username", "password")
 
 
 class _Links:
@@ -215,17 +242,33 @@ class Script:
         return redis.patiently(call, deadline, give_up)
 
 
-def demand_durable(redis: Redis) -> None:
-    """A RedisError where the server does not write each change to its disk before it answers, or may drop keys."""
-    for name, wanted in {"appendonly": "yes", "appendfsync": "always", "maxmemory-policy": "noeviction"}.items():
-        has = dict(_pairs(redis.call("CONFIG", "GET", name))).get(name.encode(), b"").decode()
-        if has != wanted:
-            raise RedisError(f"Redis has {name} {has}, and a shard's log needs {wanted}: else it may lose what it has answered")
+def told_by(redis: Redis, section: str) -> dict[str, str]:
+    """What the server tells of itself in a section of INFO."""
+    lines = bytes(redis.call("INFO", section)).decode().splitlines()
+    return dict(line.split(":", 1) for line in lines if ":" in line)
+
+
+def demand_durable(redis: Redis) -> str:
+    """A RedisError where the server does not write each change to its disk before it answers, or may drop keys. Gives a sentence on what
+    could not be seen, since this user may not ask for it, or nothing."""
+    is_logged, policy = told_by(redis, "persistence").get("aof_enabled"), told_by(redis, "memory").get("maxmemory_policy", "")
+    _demand("appendonly", "yes" if is_logged == "1" else "no", "yes")
+    _demand("maxmemory-policy", policy, "noeviction")
+    try:
+        found = _pairs(redis.call("CONFIG", "GET", "appendfsync"))
+    except NotAllowed:
+        return "this user may not see whether appendfsync is always, as a shard's log needs: `show` of an operator tells it"
+    _demand("appendfsync", found.get(b"appendfsync", b"").decode(), "always")
+    return ""
+
+
+def _demand(name: str, has: str, wanted: str) -> None:
+    if has != wanted:
+        raise RedisError(f"Redis has {name} {has}, and a shard's log needs {wanted}: else it may lose what it has answered")
 
 
 def demand_version(redis: Redis) -> None:
     """A RedisError where the server is too old for flags of scripts."""
-    lines = bytes(redis.call("INFO", "server")).decode().splitlines()
-    version = next((line.partition(":")[2] for line in lines if line.startswith("redis_version:")), "0.0")
+    version = told_by(redis, "server").get("redis_version", "0.0")
     if tuple(map(int, version.split(".")[:2])) < _LEAST_VERSION:
         raise RedisError(f"Redis is of version {version}, and shards need one from 7.0 on")

@@ -26,6 +26,10 @@ class OutOfMemory(RedisError):
     """Redis has no memory for a command; it has done nothing of it."""
 
 
+class NotAllowed(RedisError):
+    """This user of Redis may not give a command, or not for these keys."""
+
+
 class NoScript(RedisError):
     """Redis does not have a script yet."""
 

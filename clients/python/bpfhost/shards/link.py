@@ -4,12 +4,14 @@ from __future__ import annotations
 
 import asyncio
 import contextlib
+import functools
+import importlib
 import socket
 from collections.abc import Iterator, Sequence
 from typing import Any
 
 from bpfhost.errors import PACKAGES, MissingPackage
-from bpfhost.shards.errors import Away, NoScript, OutOfMemory, RedisError
+from bpfhost.shards.errors import Away, NoScript, NotAllowed, OutOfMemory, RedisError
 from bpfhost.shards.system import Word
 
 _SECONDS_TO_CONNECT = 5.0
@@ -19,19 +21,22 @@ _MILLISECONDS_UNACKNOWLEDGED = 10_000
 _USER_TIMEOUT = getattr(socket, "TCP_USER_TIMEOUT", 18)
 
 
-def _library() -> Any:
+@functools.cache
+def _library(name: str = "redis") -> Any:
+    # By its name: the types that mypy may find of it are not those of Debian's version.
     try:
-        import redis  # type: ignore[import]
-        import redis.asyncio  # type: ignore[import]  # noqa: F401
+        return importlib.import_module(name)
     except ModuleNotFoundError:
         raise MissingPackage("redis", PACKAGES["redis"]) from None
-    return redis
 
 
 def _pool(url: str, classes: Any) -> Any:
-    """What makes connections to a URL; a RedisError where it is none."""
+    """What makes connections to a URL; a RedisError where it is none. By TLS, the name in the server's certificate is compared."""
     try:
-        return classes.from_url(url)
+        pool = classes.from_url(url)
+        if url.startswith("rediss:"):
+            pool.connection_kwargs["ssl_check_hostname"] = True
+        return pool
     except ValueError as error:
         raise RedisError(f"{url} is no URL of a Redis: {error}") from None
 
@@ -48,7 +53,11 @@ def _told() -> Iterator[None]:
         raise Away(f"Redis can't be reached: {error or 'it does not answer in time'}") from error
     except errors.NoScriptError:
         raise NoScript("Redis does not have the script yet") from None
+    except errors.NoPermissionError as error:
+        raise NotAllowed(f"Redis refuses a command to this user: {error}") from None
     except errors.RedisError as error:
+        if "user executing the script can't" in str(error):
+            raise NotAllowed(f"Redis refuses a script to this user: {error}") from None
         if "OOM" in str(error) or "allow-oom" in str(error):
             raise OutOfMemory(f"Redis has no memory: {error}") from None
         raise RedisError(f"Redis refuses a command: {error}") from None
@@ -93,7 +102,7 @@ class AsyncConnection:
 
     def __init__(self, url: str) -> None:
         """A RedisError where the URL is none."""
-        self._connection = _pool(url, _library().asyncio.ConnectionPool).make_connection()
+        self._connection = _pool(url, _library("redis.asyncio").ConnectionPool).make_connection()
 
     async def call(self, words: Sequence[Word], seconds: float) -> Any:
         """The answer to a command, within so many seconds."""

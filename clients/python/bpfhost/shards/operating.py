@@ -8,9 +8,9 @@ from dataclasses import dataclass
 from bpfhost.shards import moving, scripts
 from bpfhost.shards.aside import LOST, SKIP, Aside
 from bpfhost.shards.client import Client
-from bpfhost.shards.connection import Redis
+from bpfhost.shards.connection import Redis, demand_durable
 from bpfhost.shards.directory import Seat
-from bpfhost.shards.errors import RedisError, ShardError
+from bpfhost.shards.errors import Away, RedisError, ShardError
 from bpfhost.shards.lease import holder_of
 from bpfhost.shards.names import CALL_WEIGHT, ShardKeys
 
@@ -82,6 +82,7 @@ def show(client: Client) -> Iterator[str]:
         health = _health(first[shard], _lease_of(client, shard))
         waits = _waiting(client, shard)
         yield ", ".join(filter(None, [f"shard {shard}: {load} customers", waits, health, offered]))
+    yield from filter(None, (_durability(client, shard) for shard in sorted(loads)))
     for name, to in sorted(client.directory.moves().items()):
         seat = customers.get(name)
         yield f"{name} is being {'moved' if to else 'removed'}: from shard {seat.shard if seat else '?'}" + (f" to shard {to.shard}" if to else "")
@@ -117,6 +118,16 @@ def _health(first: _Lease | str, second: _Lease | str) -> str:
         return "not served"
     stands = isinstance(first, _Lease) and first.token == second.token and first.count == second.count
     return f"{holder_of(second.token)} has its lease, and does not raise it" if stands else f"served by {holder_of(second.token)}"
+
+
+def _durability(client: Client, shard: int) -> str:
+    """What is wrong with how a shard's Redis keeps what it is given; nothing where it can't be reached, which its lease tells."""
+    try:
+        return demand_durable(_near(client, shard)[0])
+    except Away:
+        return ""
+    except RedisError as error:
+        return f"shard {shard}: {error}"
 
 
 def _waiting(client: Client, shard: int) -> str:

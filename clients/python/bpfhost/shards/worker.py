@@ -19,7 +19,7 @@ from bpfhost.shards.aside import ENTRY, LOST, MOST_TRIES, RETRY, SKIP, STATE, As
 from bpfhost.shards.attending import Attending
 from bpfhost.shards.building import build_of
 from bpfhost.shards.calls import Arrives, Call, Item, Leaves, NoCall, item_of, size_of
-from bpfhost.shards.connection import Redis, demand_durable, demand_version
+from bpfhost.shards.connection import Redis, demand_durable, demand_version, without_secrets
 from bpfhost.shards.directory import Directory
 from bpfhost.shards.errors import (
     Away,
@@ -80,7 +80,7 @@ class Worker:
         self._system = redis.system
         # What is read while a state is made is read again, and not the whole state made anew.
         self._patient = redis.patient(_SECONDS_OF_PATIENCE)
-        self._server = redis.url if directory else ""
+        self._server = without_secrets(redis.url) if directory else ""
         self._directory = Directory(directory or redis, keys.prefix)
         self._lease = Lease(redis, keys, settings.lease_seconds)
         self._writing = Writing(redis, keys, self._lease)
@@ -113,7 +113,9 @@ class Worker:
     def _take_lease(self) -> None:
         demand_version(self._redis)
         if self._settings.demand_durable:
-            demand_durable(self._redis)
+            unseen = demand_durable(self._redis)
+            if unseen:
+                self._tell_now_and_then(f"shard {self._keys.number}: {unseen}")
         self._lease.take(self._is_stopped)
 
     def _serve_under_lease(self, serving: Serving) -> None:

@@ -6,7 +6,7 @@ from collections.abc import Iterable, Iterator, Sequence
 
 from bpfhost.shards import names, scripts
 from bpfhost.shards.calls import Arrives, Leaves
-from bpfhost.shards.connection import Redis, Script
+from bpfhost.shards.connection import Redis, Script, told_by
 from bpfhost.shards.errors import ShardError, SnapshotDamaged
 from bpfhost.shards.lease import Lease
 from bpfhost.shards.log import Log
@@ -115,6 +115,5 @@ class Writing:
 
     def memory(self) -> tuple[int, int]:
         """How many bytes of memory the server uses, and may use at most: 0 where there is no such limit."""
-        lines = bytes(self.redis.call("INFO", "memory")).decode().splitlines()
-        said = dict(line.partition(":")[::2] for line in lines if ":" in line)
+        said = told_by(self.redis, "memory")
         return int(said["used_memory"]), int(said["maxmemory"])

@@ -2,9 +2,11 @@
 
 from __future__ import annotations
 
+import importlib.util
 import shutil
 import subprocess
 import time
+from collections.abc import Mapping
 from pathlib import Path
 
 from bpfhost.shards.connection import connect
@@ -18,20 +20,17 @@ def missing() -> str | None:
     """What is missing for tests of shards, in a word, or None."""
     if SERVER is None:
         return "redis-server is missing"
-    try:
-        import redis  # type: ignore[import]  # noqa: F401
-    except ModuleNotFoundError:
-        return "python3-redis is missing"
-    return None
+    return None if importlib.util.find_spec("redis") else "python3-redis is missing"
 
 
 class RedisServer:
     """A running redis-server in a folder. It is a context manager, which kills it."""
 
-    def __init__(self, folder: Path, fsync: str = "always") -> None:
-        self.folder, self._fsync = folder, fsync
+    def __init__(self, folder: Path, fsync: str = "always", user: str = "", options: Mapping[str, str] | None = None) -> None:
+        """With a user, as `name:password`, who may ask whether it answers; and with more options."""
+        self.folder, self._fsync, self._options = folder, fsync, options or {}
         # The path of a Unix socket has 107 bytes at most.
-        self.url = f"unix://{folder}/s"
+        self.url = f"unix://{user}{'@' if user else ''}{folder}/s"
         self.process: subprocess.Popen[bytes] | None = None
         self.start()
 
@@ -52,6 +51,7 @@ class RedisServer:
             "save": "",
             "daemonize": "no",
             "loglevel": "warning",
+            **self._options,
         }
         words = [part for name, value in options.items() for part in (f"--{name}", value)]
         log = open(self.folder / "log", "ab")
@@ -70,7 +70,7 @@ class RedisServer:
             time.sleep(0.005)
         while time.monotonic() < until:
             try:
-                redis.get("nothing")
+                redis.call("PING")
                 redis.close()
                 return
             except Away:

@@ -62,7 +62,8 @@ class Store:
         return [name, {b"appendonly": b"yes", b"appendfsync": b"always"}.get(name, b"noeviction")]
 
     def _info(self, _section: bytes) -> bytes:
-        return b"redis_version:7.0.15\r\nused_memory:1\r\nmaxmemory:0\r\n"
+        said = {"redis_version": "7.0.15", "used_memory": 1, "maxmemory": 0, "maxmemory_policy": "noeviction", "aof_enabled": 1}
+        return "".join(f"{name}:{value}\r\n" for name, value in said.items()).encode()
 
     # Texts.
 

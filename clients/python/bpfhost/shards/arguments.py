@@ -3,22 +3,26 @@
 from __future__ import annotations
 
 import argparse
-from collections.abc import Sequence
+import os
+import sys
+from collections.abc import Mapping, Sequence
 from pathlib import Path
 
 from bpfhost.shards.client import SECONDS
+from bpfhost.shards.configuration import configure
 from bpfhost.shards.directory import MOST_SHARD, demand_name
 from bpfhost.shards.gateway.limits import GatewayLimits
 from bpfhost.shards.lease import SECONDS as LEASE_SECONDS
 from bpfhost.shards.names import PREFIX
 from bpfhost.shards.settings import MOST_ENTRIES, Settings
-from bpfhost.telling import Parser, add_program, in_range, named
+from bpfhost.telling import WRONG_WORDS, Parser, add_program, in_range, named
 
 _ABOUT = "Serves customers by many hosts, behind Redis Streams (docs/SCALING.md)."
 
 _shard = in_range(int, f"shard from 0 to {MOST_SHARD}", 0, MOST_SHARD)
 _seconds = in_range(float, "number of seconds from 0.1 on", 0.1, 1e6)
 _many = in_range(int, f"number from 1 to {MOST_ENTRIES}", 1, MOST_ENTRIES)
+_drain = in_range(float, "number of seconds from 0 on", 0.0, 1e6)
 _rate = in_range(float, "number from 0.1 on", 0.1)
 _name = named(demand_name, "name of 1 to 255 printable characters without spaces")
 # Words for one customer, and for one shard, with what they do.
@@ -36,7 +40,7 @@ _OF_SHARDS = {
 }
 
 
-def _parser() -> Parser:
+def _parser() -> tuple[Parser, Mapping[str, Parser]]:
     parser = Parser(prog="python3 -m bpfhost.shards", description=_ABOUT)
     words = parser.add_subparsers(metavar="WORD", required=True, parser_class=Parser, dest="word")
     _add_worker(words)
@@ -56,12 +60,17 @@ def _parser() -> Parser:
             one.add_argument("--lost", action="store_true", help="also with its customers, whose data are lost")
     _add_gateway(words)
     words.add_parser("token", help="write a new token for a customer, and what the file of customers has of it")
-    words.add_parser("show", help="show the shards, their workers, moves, what is set aside, and where each customer is")
+    show = words.add_parser("show", help="show the shards, their workers, moves, what is set aside, and where each customer is")
+    show.add_argument("--json", action="store_true", help="as one JSON object")
     for word, one in words.choices.items():
         if word == "token":
             continue
         _add_redis(one, "the shard's Redis" if word == "worker" else "the directory's Redis")
-    return parser
+        one.add_argument("--config", metavar="FILE", type=Path, help="what is not said here; else that of the variable BPFHOST_SHARDS_CONFIG")
+        if word in ("worker", "gateway"):
+            one.add_argument("--log", choices=("text", "json"), default="text", help="how lines on standard error are written (text)")
+            one.add_argument("--metrics", metavar="ADDRESS", help="host:port where /metrics and /health are read")
+    return parser, words.choices
 
 
 def _add_worker(words: argparse._SubParsersAction[Parser]) -> None:
@@ -77,6 +86,7 @@ def _add_worker(words: argparse._SubParsersAction[Parser]) -> None:
     parser.add_argument(
         "--keep-replies", metavar="S", type=_seconds, default=usual.reply_seconds, help="how long replies stay that nobody has read (3600)"
     )
+    parser.add_argument("--drain", metavar="S", type=_drain, default=10.0, help="how long snapshots are taken at the end (10)")
     parser.add_argument("--volatile", action="store_true", help="also on a Redis that may lose what it has answered")
 
 
@@ -104,4 +114,24 @@ def _add_redis(parser: argparse.ArgumentParser, whose: str) -> None:
 
 def parse(words: Sequence[str] | None) -> argparse.Namespace:
     """The words of the command; wrong ones end the process with the status 2."""
-    return _parser().parse_args(words)
+    parser, of_words = _parser()
+    given = list(sys.argv[1:] if words is None else words)
+    file = _config_of(given)
+    if file:
+        try:
+            configure(Path(file), of_words)
+        except ValueError as error:
+            parser.exit(WRONG_WORDS, f"bpfhost.shards: {error}\n")
+    return parser.parse_args(given)
+
+
+def _config_of(words: Sequence[str]) -> str | None:
+    """The configuration file that words name, or the variable."""
+    reader = argparse.ArgumentParser(add_help=False, allow_abbrev=False, exit_on_error=False)
+    reader.add_argument("--config")
+    try:
+        said = reader.parse_known_args(words)[0].config
+    except (argparse.ArgumentError, SystemExit):
+        # What is wrong with the words is told when all of them are read.
+        return None
+    return said or os.environ.get("BPFHOST_SHARDS_CONFIG") or None

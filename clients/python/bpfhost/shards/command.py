@@ -9,11 +9,13 @@ Each error is one sentence on standard error.
 from __future__ import annotations
 
 import asyncio
+import json
 import signal
 import sys
 from argparse import Namespace
 from collections.abc import Callable, Sequence
 from contextlib import closing, nullcontext
+from typing import TextIO, cast
 
 from bpfhost.program import find_program
 from bpfhost.shards import moving, operating
@@ -21,6 +23,8 @@ from bpfhost.shards.arguments import parse
 from bpfhost.shards.client import Client
 from bpfhost.shards.connection import connect
 from bpfhost.shards.errors import LeaseHeld, LeaseLost, MemoryRefused, NoReply, OtherShard, RedisError, SetAside
+from bpfhost.shards.logs import JsonLines
+from bpfhost.shards.metrics import Page
 from bpfhost.shards.names import ShardKeys
 from bpfhost.shards.settings import Settings
 from bpfhost.shards.snapshot import split
@@ -63,6 +67,9 @@ def run_worker(said: Namespace) -> None:
     stopped = [False]
 
     def stop(_number: int, _frame: object) -> None:
+        if stopped[0]:
+            # Who says it twice does not wait for snapshots.
+            raise KeyboardInterrupt
         stopped[0] = True
 
     for number in (signal.SIGTERM, signal.SIGINT):
@@ -72,16 +79,21 @@ def run_worker(said: Namespace) -> None:
         snapshot_entries=said.snapshot_entries,
         reply_seconds=said.keep_replies,
         demand_durable=not said.volatile,
+        drain_seconds=said.drain,
     )
+    _log(said, shard=said.shard)
     with closing(connect(said.redis)) as redis, closing(connect(said.directory)) if said.directory else nullcontext() as directory:
         keys = ShardKeys(said.shard, said.prefix)
-        Worker(redis, keys, find_program(said.bpfhost), settings, _say, directory).run(lambda: stopped[0])
+        worker = Worker(redis, keys, find_program(said.bpfhost), settings, _say, directory)
+        with closing(Page(said.metrics, worker.metrics.text, worker.health)) if said.metrics else nullcontext():
+            worker.run(lambda: stopped[0])
 
 
 def run_gateway(said: Namespace) -> None:
     """Lets customers in until SIGTERM or SIGINT."""
     from bpfhost.shards.gateway.running import serve
 
+    _log(said)
     asyncio.run(serve(said, _say))
 
 
@@ -91,6 +103,12 @@ def run_token() -> None:
 
     token = new_token()
     print(f"{token}\ntoken-sha256 = \"{hash_of(token)}\"")
+
+
+def _log(said: Namespace, **of_all: object) -> None:
+    """Writes lines on standard error as JSON from now on, where that was said."""
+    if said.log == "json":
+        sys.stderr = cast(TextIO, JsonLines(sys.stderr, word=said.word, **of_all))
 
 
 def _say(sentence: str) -> None:
@@ -140,7 +158,11 @@ def run_remove_shard(client: Client, said: Namespace) -> None:
 
 def run_show(client: Client, said: Namespace) -> None:
     """Shows what there is."""
-    for line in operating.show(client):
+    seen = operating.look(client)
+    if said.json:
+        print(json.dumps(operating.plain(seen)))
+        return
+    for line in operating.lines(seen):
         print(line)
 
 

@@ -12,6 +12,7 @@ from bpfhost.shards import scripts
 from bpfhost.shards.client import NAMELESS
 from bpfhost.shards.log import Log, Since
 from bpfhost.shards.manifest import Manifest, pieces_of
+from bpfhost.shards.metrics import Told
 from bpfhost.shards.names import START, after, order
 from bpfhost.shards.serving import Serving
 from bpfhost.shards.settings import Settings
@@ -27,8 +28,8 @@ _LEAST_SECONDS, _SECONDS_TO_SETTLE = 1.0, 3.0
 class Keeping:
     """Takes snapshots of one shard's tenants."""
 
-    def __init__(self, writing: Writing, settings: Settings, build: str) -> None:
-        self._writing, self._settings, self._build = writing, settings, build
+    def __init__(self, writing: Writing, settings: Settings, build: str, metrics: Told) -> None:
+        self._writing, self._settings, self._build, self._metrics = writing, settings, build, metrics
         self._redis, self._keys = writing.redis, writing.keys
         self._looked = self._settled = 0.0
         # Tenants of which no snapshot could be taken.
@@ -73,7 +74,7 @@ class Keeping:
 
     def snapshot(self, serving: Serving, log: Log) -> Steps[None]:
         """Takes a snapshot of a tenant, and drops what came before the one before it."""
-        old = log.before
+        old, began = log.before, self._redis.system.now()
         if log.since.changed or log.snapshot is None:
             manifest = yield from self.keep(serving, log)
         else:
@@ -81,6 +82,8 @@ class Keeping:
             manifest = log.snapshot.at(log.place)
         self._writing.keep_snapshot(log, manifest)
         log.since = Since()
+        self._metrics.add("bpfhost_worker_snapshots_total")
+        self._metrics.add("bpfhost_worker_snapshot_seconds_total", self._redis.system.now() - began)
         yield from self.forget_old(log, old)
         yield from self._forget_sessions(log)
 
@@ -134,7 +137,9 @@ class Keeping:
 
     def look_at_waiting(self, logs: Sequence[Log], busy: set[int]) -> None:
         """Looks whether something is said to wait where nothing does."""
-        for tenant, weight in self._redis.hgetall(self._keys.waiting).items():
+        weights = self._redis.hgetall(self._keys.waiting)
+        self._metrics.set("bpfhost_worker_waiting_bytes", sum(map(int, weights.values())))
+        for tenant, weight in weights.items():
             if weight != b"0" and int(tenant) not in busy:
                 logs[int(tenant)].settle(self._writing.note)
 

@@ -93,6 +93,10 @@ class Lease:
                 pass
             self._system.sleep(min(self.seconds / 6, 0.5))
 
+    def age(self) -> float:
+        """How many seconds ago it was raised last, by this worker's clock; nothing before it is held."""
+        return self._system.now() - self._raised if self._raised else 0.0
+
     def at_work(self, seconds: float) -> None:
         """Says that the worker goes on, and may take so many seconds for what it does now."""
         self._work_until = self._system.now() + seconds

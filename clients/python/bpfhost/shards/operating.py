@@ -3,7 +3,7 @@
 from __future__ import annotations
 
 from collections.abc import Iterator
-from dataclasses import dataclass
+from dataclasses import asdict, dataclass
 
 from bpfhost.shards import moving, scripts
 from bpfhost.shards.aside import LOST, SKIP, Aside
@@ -69,26 +69,79 @@ class _Lease:
     seconds: float
 
 
-def show(client: Client) -> Iterator[str]:
-    """Lines on the shards, moves, what is set aside, and customers. It looks at the leases twice, to see whether they are raised."""
+@dataclass(frozen=True)
+class SeenShard:
+    """A shard: its customers, the bytes that wait, who serves it and whether that one raises the lease, whether it is offered and drained,
+    and what is wrong with its Redis."""
+
+    shard: int
+    customers: int
+    waiting: int | None
+    served_by: str
+    raises: bool
+    offered: bool
+    drained: bool
+    unreachable: str
+    wrong: str
+
+
+@dataclass(frozen=True)
+class Seen:
+    """All that there is to see. Of moves, the next seats; of what is set aside, the customer's name, or where it is, and why."""
+
+    shards: list[SeenShard]
+    moves: dict[str, Seat | None]
+    aside: list[tuple[str, str]]
+    customers: dict[str, Seat]
+
+
+def look(client: Client) -> Seen:
+    """Looks at all there is; at the leases twice, to see whether they are raised."""
     loads, drained, beats = client.directory.loads(), client.directory.drained(), client.directory.beats()
     first = {shard: _lease_of(client, shard) for shard in loads}
     held = [lease.seconds for lease in first.values() if isinstance(lease, _Lease) and lease.token]
     if held:
         client.system.sleep(min(_SECONDS_TO_ANSWER, max(held) * 0.7))
-    customers = client.directory.customers()
+    customers, shards = client.directory.customers(), []
     for shard, load in sorted(loads.items()):
-        offered = "drained" if shard in drained else "" if shard in beats else "not offered"
-        health = _health(first[shard], _lease_of(client, shard))
-        waits = _waiting(client, shard)
-        yield ", ".join(filter(None, [f"shard {shard}: {load} customers", waits, health, offered]))
-    yield from filter(None, (_durability(client, shard) for shard in sorted(loads)))
-    for name, to in sorted(client.directory.moves().items()):
-        seat = customers.get(name)
+        second = _lease_of(client, shard)
+        told, raises = ("", False) if isinstance(second, str) else (holder_of(second.token), _is_raised(first[shard], second))
+        seen = SeenShard(
+            shard, load, _waiting(client, shard), told, raises, shard in beats, shard in drained,
+            second if isinstance(second, str) else "", _durability(client, shard),
+        )  # fmt: skip
+        shards.append(seen)
+    return Seen(shards, client.directory.moves(), list(_asides(client, customers)), customers)
+
+
+def show(client: Client) -> Iterator[str]:
+    """Lines on the shards, moves, what is set aside, and customers."""
+    return lines(look(client))
+
+
+def lines(seen: Seen) -> Iterator[str]:
+    """What was seen, in lines."""
+    for one in seen.shards:
+        offered = "drained" if one.drained else "" if one.offered else "not offered"
+        waits = f"{one.waiting // CALL_WEIGHT} KiB of calls wait" if one.waiting is not None else ""
+        yield ", ".join(filter(None, [f"shard {one.shard}: {one.customers} customers", waits, _health(one), offered]))
+    yield from (f"shard {one.shard}: {one.wrong}" for one in seen.shards if one.wrong)
+    for name, to in sorted(seen.moves.items()):
+        seat = seen.customers.get(name)
         yield f"{name} is being {'moved' if to else 'removed'}: from shard {seat.shard if seat else '?'}" + (f" to shard {to.shard}" if to else "")
-    yield from _asides(client, customers)
-    for name, seat in sorted(customers.items()):
+    yield from (f"{name} is set aside: {why}" for name, why in seen.aside)
+    for name, seat in sorted(seen.customers.items()):
         yield place(name, seat)
+
+
+def plain(seen: Seen) -> dict[str, object]:
+    """What was seen, as JSON has it."""
+    return {
+        "shards": [asdict(one) for one in seen.shards],
+        "moves": {name: asdict(to) if to else None for name, to in sorted(seen.moves.items())},
+        "aside": [{"customer": name, "why": why} for name, why in seen.aside],
+        "customers": {name: asdict(seat) for name, seat in sorted(seen.customers.items())},
+    }
 
 
 def place(name: str, seat: Seat) -> str:
@@ -111,13 +164,17 @@ def _lease_of(client: Client, shard: int) -> _Lease | str:
     return _Lease(said.get(b"token", b""), said.get(b"count", b"0"), int(said.get(b"milliseconds", b"0")) / 1000)
 
 
-def _health(first: _Lease | str, second: _Lease | str) -> str:
-    if isinstance(second, str):
-        return second
-    if not second.token:
+def _is_raised(first: _Lease | str, second: _Lease) -> bool:
+    """Whether a lease was raised between two looks, or came to another worker."""
+    return bool(second.token) and (not isinstance(first, _Lease) or (first.token, first.count) != (second.token, second.count))
+
+
+def _health(seen: SeenShard) -> str:
+    if seen.unreachable:
+        return seen.unreachable
+    if not seen.served_by:
         return "not served"
-    stands = isinstance(first, _Lease) and first.token == second.token and first.count == second.count
-    return f"{holder_of(second.token)} has its lease, and does not raise it" if stands else f"served by {holder_of(second.token)}"
+    return f"served by {seen.served_by}" if seen.raises else f"{seen.served_by} has its lease, and does not raise it"
 
 
 def _durability(client: Client, shard: int) -> str:
@@ -127,20 +184,19 @@ def _durability(client: Client, shard: int) -> str:
     except Away:
         return ""
     except RedisError as error:
-        return f"shard {shard}: {error}"
+        return str(error)
 
 
-def _waiting(client: Client, shard: int) -> str:
-    """How much waits in a shard."""
+def _waiting(client: Client, shard: int) -> int | None:
+    """How much waits in a shard, in bytes; None where its Redis does not say it."""
     try:
         redis, keys = _near(client, shard)
-        weights = [int(one) for one in redis.hgetall(keys.waiting).values()]
+        return sum(int(one) for one in redis.hgetall(keys.waiting).values())
     except RedisError:
-        return ""
-    return f"{sum(weights) // CALL_WEIGHT} KiB of calls wait"
+        return None
 
 
-def _asides(client: Client, customers: dict[str, Seat]) -> Iterator[str]:
+def _asides(client: Client, customers: dict[str, Seat]) -> Iterator[tuple[str, str]]:
     names = {(seat.shard, seat.tenant): name for name, seat in customers.items()}
     for shard in sorted(client.directory.loads()):
         try:
@@ -149,5 +205,4 @@ def _asides(client: Client, customers: dict[str, Seat]) -> Iterator[str]:
         except RedisError:
             continue
         for tenant, kept in sorted(found.items()):
-            name = names.get((shard, int(tenant)), f"tenant {int(tenant)} of shard {shard}")
-            yield f"{name} is set aside: {Aside.read(kept).why}"
+            yield names.get((shard, int(tenant)), f"tenant {int(tenant)} of shard {shard}"), Aside.read(kept).why

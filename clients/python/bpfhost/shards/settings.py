@@ -15,7 +15,7 @@ MOST_ENTRIES, MOST_BYTES = 200_000, 1 << 29
 class Settings:
     """How a worker works: the seconds of its lease; how many calls, frames, or bytes of frames and replies, a worker that begins plays
     again at most, in all of its tenants (a snapshot is taken of the tenant that has most of them); for how long replies stay for those
-    that have not read them; and how many frames a host is asked before another one is started with the same state."""
+    that have not read them; and how many frames a host is asked before another one is started with the same state; and how long snapshots are taken at the end."""
 
     lease_seconds: float = SECONDS
     snapshot_entries: int = 50_000
@@ -24,6 +24,7 @@ class Settings:
     reply_seconds: float = 3600.0
     most_asked: int = MOST_ASKED
     demand_durable: bool = True
+    drain_seconds: float = 0.0
 
     def __post_init__(self) -> None:
         if not 1 <= self.snapshot_entries <= MOST_ENTRIES or not 1 <= self.snapshot_bytes <= MOST_BYTES:

@@ -14,7 +14,7 @@ from typing import Generator, TypeVar
 from bpfhost.errors import HostError, ReplyError
 from bpfhost.numbers import MOST_TENANTS
 from bpfhost.program import Program
-from bpfhost.shards import scripts
+from bpfhost.shards import metrics, scripts
 from bpfhost.shards.aside import ENTRY, LOST, MOST_TRIES, RETRY, SKIP, STATE, Aside
 from bpfhost.shards.attending import Attending
 from bpfhost.shards.building import build_of
@@ -37,6 +37,7 @@ from bpfhost.shards.keeping import Keeping
 from bpfhost.shards.lease import Lease
 from bpfhost.shards.log import Log, Since
 from bpfhost.shards.manifest import Manifest
+from bpfhost.shards.metrics import Told
 from bpfhost.shards.names import FAULT, START, ShardKeys, after, order
 from bpfhost.shards.registering import register
 from bpfhost.shards.restoring import Restored, restored
@@ -76,6 +77,7 @@ class Worker:
         directory: Redis | None = None,
     ) -> None:
         """The directory is in the shard's Redis where no other one is named."""
+        self.metrics = Told(metrics.WORKER, self._numbers)
         self._redis, self._keys, self._program, self._settings, self._tell = redis, keys, program, settings, tell
         self._system = redis.system
         # What is read while a state is made is read again, and not the whole state made anew.
@@ -84,7 +86,7 @@ class Worker:
         self._directory = Directory(directory or redis, keys.prefix)
         self._lease = Lease(redis, keys, settings.lease_seconds)
         self._writing = Writing(redis, keys, self._lease)
-        self._keeping = Keeping(self._writing, settings, build_of(program))
+        self._keeping = Keeping(self._writing, settings, build_of(program), self.metrics)
         self._logs: list[Log] = []
         self._jobs: deque[_Job] = deque()
         # Tenants with a job, and the entries that may have ended a host, with how often each was tried.
@@ -130,8 +132,10 @@ class Worker:
             self._tell(f"shard {self._keys.number} is served{self._last_places()}")
             attending = Attending(self._directory, self._keys.number, incarnation, self._settings.lease_seconds, self._tell)
             attended = self._system.beside(lambda: attending.run(lambda: self._has_ended) if attending else None)
+            self.metrics.set("bpfhost_worker_serves", 1)
             while not self._is_stopped():
                 self._turn(serving)
+            self._drain(serving)
         except (RedisError, LeaseLost):
             raise
         except ShardError as error:
@@ -141,6 +145,7 @@ class Worker:
             raise
         finally:
             self._has_ended = True
+            self.metrics.set("bpfhost_worker_serves", 0)
             # Nothing is written any more, so the next worker need not wait.
             with contextlib.suppress(RedisError):
                 if attending:
@@ -149,6 +154,29 @@ class Worker:
                 self._lease.release()
                 if attending and not self._redis.hget(self._keys.lease, "token"):
                     attending.end()
+
+    def _drain(self, serving: Serving) -> None:
+        """Takes snapshots of all tenants that were asked anything, between turns, so that the next worker has little to play again."""
+        until = self._system.now() + self._settings.drain_seconds
+        if self._settings.drain_seconds:
+            for log in self._logs:
+                if log.since.frames and not log.aside and log.tenant not in self._busy | self._keeping.failed:
+                    self._begin(log.tenant, self._keeping.snapshot(serving, log))
+        while self._jobs and self._system.now() < until:
+            self._turn(serving)
+
+    def _numbers(self) -> metrics.Numbers:
+        """What is looked at when the metrics are read."""
+        return {
+            "bpfhost_worker_lease_age_seconds": self._lease.age(),
+            "bpfhost_worker_aside": sum(log.aside is not None for log in self._logs),
+        }
+
+    def health(self) -> tuple[bool, dict[str, object]]:
+        """Whether it serves, under a lease that is raised."""
+        age, serves = self._lease.age(), bool(self.metrics.value("bpfhost_worker_serves"))
+        said: dict[str, object] = {"shard": self._keys.number, "serves": serves, "lease_age": round(age, 3), "lease_seconds": self._settings.lease_seconds}
+        return serves and age < self._settings.lease_seconds, said
 
     def _alive(self) -> None:
         self._lease.at_work(_SECONDS_AT_WORK)
@@ -180,9 +208,11 @@ class Worker:
     def _restore(self, serving: Serving) -> None:
         """Makes all tenants' states. Where the host ends meanwhile, another one is begun; a state that ends it three times is set aside."""
         ended: Counter[int] = Counter()
+        began = self._system.now()
         while True:
             if not serving.is_new:
                 serving.restart()
+                self.metrics.add("bpfhost_worker_hosts_total")
             self._jobs.clear()
             self._busy.clear()
             self._keeping.begin()
@@ -192,6 +222,7 @@ class Worker:
                 for at in self._tenants_with_a_log():
                     self._restore_or_set_aside(serving, self._logs[at], ended[at])
                 self._writing.drop_strays(self._logs)
+                self.metrics.set("bpfhost_worker_restore_seconds", self._system.now() - began)
                 return
             except (HostError, ReplyError, MemoryRefused) as error:
                 ended[at] += 1
@@ -217,6 +248,7 @@ class Worker:
         """Makes a tenant's state; what can't be made is set aside."""
         kept = self._patient.hget(self._keys.aside, log.tenant)
         found: Restored = yield from restored(serving, log, self._alive, accepts=word == SKIP)
+        self.metrics.add("bpfhost_worker_replayed_frames_total", log.since.frames)
         for sentence in found.told:
             self._tell(f"shard {self._keys.number}, tenant {log.tenant}: {sentence}")
         if found.aside:
@@ -236,6 +268,7 @@ class Worker:
 
     def _turn(self, serving: Serving) -> None:
         self._alive()
+        self.metrics.add("bpfhost_worker_turns_total")
         self._waiting_for_redis(self._lease.keep)
         self._waiting_for_redis(lambda: self._look_at_words(serving))
         if self._keeping.is_due_to_look():
@@ -294,9 +327,15 @@ class Worker:
             log.since.frames += len(call.frames) if isinstance(call, Call) else 0
             log.since.size += call.size + len(written.value)
             log.since.changed |= changed
+            self._note_call(call, len(written.value))
             if self._careful.get(call.tenant) == written.entry:
                 del self._careful[call.tenant]
                 self._tries.pop((call.tenant, written.entry), None)
+
+    def _note_call(self, call: Call | NoCall, replies: int) -> None:
+        self.metrics.add("bpfhost_worker_calls_total")
+        self.metrics.add("bpfhost_worker_frames_total", len(call.frames) if isinstance(call, Call) else 0)
+        self.metrics.add("bpfhost_worker_bytes_total", call.size + replies)
 
     # A host that ends.
 
@@ -472,6 +511,8 @@ class Worker:
         """Looks at what waits, and at the memory that Redis has: where little is left, room is made before it is none."""
         self._keeping.look_at_waiting(self._logs, self._busy)
         used, most = self._writing.memory()
+        self.metrics.set("bpfhost_worker_redis_memory_bytes", used)
+        self.metrics.set("bpfhost_worker_redis_memory_most_bytes", most)
         if most and used > most * _FULL_MEMORY and not self._jobs:
             self._tell_now_and_then(f"shard {self._keys.number} makes room: {_memory(used, most)}")
             for log in self._logs:

@@ -9,6 +9,7 @@ from __future__ import annotations
 import asyncio
 import contextlib
 import ssl
+import time
 from collections.abc import Callable
 from typing import TYPE_CHECKING, TypeVar
 
@@ -216,10 +217,12 @@ class Connection:
             await self._came.wait()
 
     async def _answer(self, customer: Customer, stream: bytes, count: int) -> None:
+        began = time.monotonic()
         ticket = await self._behind(lambda: customer.post(stream, by=count))
         self._taken += count
-        self._gateway.counts.note(len(stream), count)
-        self._send(await self._replies(customer, ticket, count))
+        replies = await self._replies(customer, ticket, count)
+        self._gateway.counts.note(len(stream), count, time.monotonic() - began)
+        self._send(replies)
         await self._drain()
 
     async def _replies(self, customer: Customer, ticket: Ticket, count: int) -> list[bytes]:

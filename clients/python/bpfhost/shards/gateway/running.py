@@ -7,9 +7,11 @@ import signal
 from argparse import Namespace
 from collections.abc import Callable
 
+from bpfhost.shards import metrics
 from bpfhost.shards.errors import ShardError
 from bpfhost.shards.gateway.limits import GatewayLimits
 from bpfhost.shards.gateway.server import Gateway, Tls
+from bpfhost.shards.metrics import Page, Told
 
 
 def tls_of(said: Namespace) -> Tls | None:
@@ -24,11 +26,17 @@ async def serve(said: Namespace, tell: Callable[[str], None]) -> None:
     tls = tls_of(said)
     limits = GatewayLimits(connections=said.connections, new=said.new_connections, seconds=said.seconds)
     gateway = Gateway(said.redis, said.customers, limits, said.prefix, tell)
+    page: Page | None = None
     ended, loop = asyncio.Event(), asyncio.get_running_loop()
     for number in (signal.SIGTERM, signal.SIGINT):
         loop.add_signal_handler(number, ended.set)
     loop.add_signal_handler(signal.SIGHUP, gateway.reload)
+    looking = asyncio.create_task(gateway.look())
+    told = Told(metrics.GATEWAY, gateway.numbers)
     try:
+        if said.metrics:
+            page = Page(said.metrics, told.text, gateway.health)
+            tell(f"metrics are read at {page.address}")
         for address in said.listen or ["127.0.0.1:7443"]:
             is_local = address.startswith(("unix:", "127.", "localhost:", "[::1]:"))
             if not tls and not is_local:
@@ -38,3 +46,6 @@ async def serve(said: Namespace, tell: Callable[[str], None]) -> None:
         await ended.wait()
     finally:
         await gateway.end()
+        looking.cancel()
+        if page:
+            page.close()

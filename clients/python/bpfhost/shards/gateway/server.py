@@ -14,12 +14,13 @@ from pathlib import Path
 
 from bpfhost.shards.client import Client
 from bpfhost.shards.errors import ShardError
-from bpfhost.shards.gateway.bridge import LOOP
+from bpfhost.shards.gateway.bridge import LOOP, in_turns
 from bpfhost.shards.gateway.connection import Connection
 from bpfhost.shards.gateway.counts import Counts
 from bpfhost.shards.gateway.customers import Customers, Known
 from bpfhost.shards.gateway.limits import GatewayLimits, Rate, Room
 from bpfhost.shards.gateway.protocol import Refusal, Why
+from bpfhost.shards.metrics import Numbers
 from bpfhost.shards.names import PREFIX
 
 # So many connections wait in the system until the gateway takes them.
@@ -27,7 +28,7 @@ _BACKLOG = 1024
 _READ_LIMIT = 1 << 16
 # So long the gateway waits at its end for calls that are on their way.
 SECONDS_TO_DRAIN = 30.0
-_PAUSE = 0.05
+_PAUSE, _SECONDS_TO_LOOK = 0.05, 5.0
 
 
 @dataclass(frozen=True)
@@ -80,6 +81,7 @@ class Gateway:
         self._listening: list[asyncio.Task[None]] = []
         self._new: Rate | None = None
         self.is_ending = False
+        self._redis_says = "was not asked yet"
 
     # Listening.
 
@@ -182,6 +184,30 @@ class Gateway:
         of_bytes.take(size)
         if delay:
             await asyncio.sleep(delay)
+
+    # What is seen of it.
+
+    def numbers(self) -> Numbers:
+        """The metrics."""
+        return self.counts.numbers(len(self.connections), len(self._unknown))
+
+    def health(self) -> tuple[bool, dict[str, object]]:
+        """Whether it takes customers, and the directory answers."""
+        said = {"customers": len(self.customers), "connections": len(self.connections), "ends": self.is_ending, "redis": self._redis_says}
+        return not self.is_ending and self._redis_says == "answers", said
+
+    async def look(self) -> None:
+        """Asks the directory's Redis now and then whether it answers."""
+        while True:
+            try:
+                await in_turns(self._ping)
+                self._redis_says = "answers"
+            except ShardError as error:
+                self._redis_says = str(error)
+            await asyncio.sleep(_SECONDS_TO_LOOK)
+
+    def _ping(self) -> None:
+        self.client.redis.until(LOOP.now() + _SECONDS_TO_LOOK).call("PING")
 
     # Changes, and the end.
 

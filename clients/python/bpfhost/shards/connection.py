@@ -10,6 +10,7 @@ import urllib.parse
 from collections.abc import Callable, Mapping, Sequence
 from typing import Any, TypeVar
 
+from bpfhost.shards.cluster import NodesLink, Place, told_to
 from bpfhost.shards.errors import Away, NoScript, NotAllowed, RedisError
 from bpfhost.shards.names import START, before
 from bpfhost.shards.system import MACHINE, Link, System, Word
@@ -60,15 +61,18 @@ def _is_own(word: str) -> bool:
 class _Links:
     """The connections to a server that nobody uses just now."""
 
-    def __init__(self, system: System, url: str) -> None:
-        self._system, self._url = system, url
-        self._idle: list[Link] = [system.link(url)]
+    def __init__(self, system: System, place: Place) -> None:
+        self._system, self._place, self.nodes = system, place, place.nodes()
+        self._idle: list[Link] = [self._made()]
         self._lock = threading.Lock()
+
+    def _made(self) -> Link:
+        return NodesLink(self._place, self.nodes, self._system.link) if self.nodes else self._system.link(self._place.url)
 
     def call(self, words: Sequence[Word], seconds: float) -> Any:
         with self._lock:
             link = self._idle.pop() if self._idle else None
-        link = link or self._system.link(self._url)
+        link = link or self._made()
         try:
             return link.call(words, seconds)
         finally:
@@ -88,7 +92,11 @@ class Redis:
     def __init__(self, url: str | None = None, system: System = MACHINE) -> None:
         """The server of a URL (`redis_url`), to which a connection is made when it is first called."""
         self.url, self.system = redis_url(url), system
-        self._links = _Links(system, self.url)
+        place = Place.of(self.url)
+        self.replicas, self._links = place.replicas, _Links(system, place)
+        # How often nodes had changed when the caller last looked, where it wants to know; shared with those that are limited.
+        self._known_changes: list[int] = []
+        self._near = ""
         self._deadline: float | None = None
         self._patience = 0.0
 
@@ -104,6 +112,22 @@ class Redis:
         patient._patience = seconds
         return patient
 
+    def near(self, key: str) -> Redis:
+        """The same server; of a cluster, the node of a key, for commands that name none."""
+        near = copy.copy(self)
+        near._near = key
+        return near
+
+    def watch(self) -> None:
+        """From now on each call is an Away where another node of a cluster, or a server with another history, would do it; until this is
+        called again."""
+        if self._links.nodes:
+            self._known_changes[:] = [self._links.nodes.changes]
+
+    def has_changed(self) -> bool:
+        """Whether it is so since `watch`."""
+        return bool(self._links.nodes and self._known_changes and self._known_changes[0] != self._links.nodes.changes)
+
     def close(self) -> None:
         """Ends the connections."""
         self._links.close()
@@ -115,7 +139,7 @@ class Redis:
             try:
                 return self._call_once(words, wait)
             except Away:
-                if self.system.now() >= until:
+                if self.system.now() >= until or self.has_changed():
                     raise
             self.system.sleep(_PAUSE)
 
@@ -123,6 +147,9 @@ class Redis:
         seconds = wait + _SECONDS_TO_ANSWER
         if self._deadline is not None:
             seconds = max(_LEAST_SECONDS, min(seconds, self._deadline - self.system.now()))
+        if self._links.nodes:
+            name = told_to(words[0], self._near, self._known_changes[0] if self._known_changes else None)
+            words = (name, *words[1:])
         return self._links.call(words, seconds)
 
     def patiently(
@@ -134,7 +161,7 @@ class Redis:
             try:
                 return call(self.until(deadline))
             except Away as away:
-                if self.system.now() + pause > deadline:
+                if self.system.now() + pause > deadline or self.has_changed():
                     raise (give_up(away) if give_up else away) from None
             self.system.sleep(pause)
             pause = min(2 * pause, _LONGEST_PAUSE)
@@ -216,15 +243,19 @@ class Script:
 
     def __init__(self, text: str, without_memory: bool = False) -> None:
         """`without_memory` is for one that makes room, or needs next to none: it runs also where the server has no memory left."""
-        self.text = f"#!lua{' flags=allow-oom' if without_memory else ''}\n{text}"
-        self._name = hashlib.sha1(self.text.encode()).hexdigest()
+        head = f"#!lua{' flags=allow-oom' if without_memory else ''}\n"
+        self.text = f"{head}{text}"
+        # Where replicas are waited for, each script writes something: what is waited for is that, and so all that it has seen.
+        self.touching = f"{head}redis.call('SET', KEYS[1] .. ':touched', '')\n{text}"
+        self._names = {text: hashlib.sha1(text.encode()).hexdigest() for text in (self.text, self.touching)}
 
     def __call__(self, redis: Redis, keys: Sequence[str], arguments: Sequence[Word]) -> Any:
         """What the script gives. A server that has just begun does not know it yet."""
+        text = self.touching if redis.replicas else self.text
         try:
-            return redis.call("EVALSHA", self._name, len(keys), *keys, *arguments)
+            return redis.call("EVALSHA", self._names[text], len(keys), *keys, *arguments)
         except NoScript:
-            return redis.call("EVAL", self.text, len(keys), *keys, *arguments)
+            return redis.call("EVAL", text, len(keys), *keys, *arguments)
 
     def patiently(
         self,

@@ -22,6 +22,14 @@ class Away(RedisError):
     """Redis can't be reached just now, or is reading its files; whether it did what it was last asked is not known."""
 
 
+class Moved(RedisError):
+    """Another node of a cluster has the slot of a key, `node` by its host and port."""
+
+    def __init__(self, node: str) -> None:
+        super().__init__(f"node {node} has the key")
+        self.node = node
+
+
 class OutOfMemory(RedisError):
     """Redis has no memory for a command; it has done nothing of it."""
 
@@ -40,6 +48,10 @@ class LeaseHeld(ShardError):
 
 class LeaseLost(ShardError):
     """Another worker has taken the lease, and nothing can be written by this one any more."""
+
+
+class LogChanged(ShardError):
+    """Another node of a cluster, or a server with another history, has the log now: it may lack what no replica had."""
 
 
 class Stopped(ShardError):

@@ -11,10 +11,12 @@ from collections.abc import Iterator, Sequence
 from typing import Any
 
 from bpfhost.errors import PACKAGES, MissingPackage
-from bpfhost.shards.errors import Away, NoScript, NotAllowed, OutOfMemory, RedisError
+from bpfhost.shards.errors import Away, Moved, NoScript, NotAllowed, OutOfMemory, RedisError
 from bpfhost.shards.system import Word
 
 _SECONDS_TO_CONNECT = 5.0
+# How errors begin that say that a server, or its cluster, can't do it just now, and has done nothing of it.
+_AWAY = ("NOREPLICAS", "UNBLOCKED", "CLUSTERDOWN", "MASTERDOWN", "READONLY", "TRYAGAIN", "ASK ")
 # What was sent and is acknowledged by nobody for so long ends a connection, also where much is on its way over a slow link.
 _MILLISECONDS_UNACKNOWLEDGED = 10_000
 # Linux's TCP_USER_TIMEOUT, which has no name in the types of the library.
@@ -53,11 +55,19 @@ def _told() -> Iterator[None]:
         raise Away(f"Redis can't be reached: {error or 'it does not answer in time'}") from error
     except errors.NoScriptError:
         raise NoScript("Redis does not have the script yet") from None
+    except errors.MovedError as error:
+        raise Moved(error.node_addr[0] and f"{error.node_addr[0]}:{error.node_addr[1]}") from None
+    except (errors.ClusterDownError, errors.MasterDownError, errors.TryAgainError, errors.AskError, errors.ReadOnlyError) as error:
+        raise Away(f"Redis can't do it just now: {error}") from error
     except errors.NoPermissionError as error:
         raise NotAllowed(f"Redis refuses a command to this user: {error}") from None
     except errors.RedisError as error:
         if "user executing the script can't" in str(error):
             raise NotAllowed(f"Redis refuses a script to this user: {error}") from None
+        if str(error).startswith(_AWAY):
+            raise Away(f"Redis can't do it just now: {error}") from error
+        if str(error).startswith("MOVED "):
+            raise Moved(str(error).split()[2]) from None
         if "OOM" in str(error) or "allow-oom" in str(error):
             raise OutOfMemory(f"Redis has no memory: {error}") from None
         raise RedisError(f"Redis refuses a command: {error}") from None

@@ -180,7 +180,8 @@ def _health(seen: SeenShard) -> str:
 def _durability(client: Client, shard: int) -> str:
     """What is wrong with how a shard's Redis keeps what it is given; nothing where it can't be reached, which its lease tells."""
     try:
-        return demand_durable(_near(client, shard)[0])
+        redis, keys = _near(client, shard)
+        return demand_durable(redis.near(keys.lease))
     except Away:
         return ""
     except RedisError as error:

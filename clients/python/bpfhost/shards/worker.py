@@ -25,6 +25,7 @@ from bpfhost.shards.errors import (
     Away,
     CopyDiffers,
     LeaseLost,
+    LogChanged,
     MemoryRefused,
     OutOfMemory,
     RedisError,
@@ -113,9 +114,10 @@ class Worker:
             self._serve_under_lease(serving)
 
     def _take_lease(self) -> None:
-        demand_version(self._redis)
+        near = self._redis.near(self._keys.lease)
+        demand_version(near)
         if self._settings.demand_durable:
-            unseen = demand_durable(self._redis)
+            unseen = demand_durable(near)
             if unseen:
                 self._tell_now_and_then(f"shard {self._keys.number}: {unseen}")
         self._lease.take(self._is_stopped)
@@ -127,14 +129,14 @@ class Worker:
         try:
             self._alive()
             incarnation = self._waiting_for_redis(lambda: register(self._redis, self._keys, self._directory, self._server))
-            self._waiting_for_redis(lambda: self._restore(serving))
+            self._restored(serving)
             self._waiting_for_redis(lambda: self._directory.beat(self._keys.number, incarnation))
             self._tell(f"shard {self._keys.number} is served{self._last_places()}")
             attending = Attending(self._directory, self._keys.number, incarnation, self._settings.lease_seconds, self._tell)
             attended = self._system.beside(lambda: attending.run(lambda: self._has_ended) if attending else None)
             self.metrics.set("bpfhost_worker_serves", 1)
             while not self._is_stopped():
-                self._turn(serving)
+                self._turn_or_begin_anew(serving)
             self._drain(serving)
         except (RedisError, LeaseLost):
             raise
@@ -163,7 +165,7 @@ class Worker:
                 if log.since.frames and not log.aside and log.tenant not in self._busy | self._keeping.failed:
                     self._begin(log.tenant, self._keeping.snapshot(serving, log))
         while self._jobs and self._system.now() < until:
-            self._turn(serving)
+            self._turn_or_begin_anew(serving)
 
     def _numbers(self) -> metrics.Numbers:
         """What is looked at when the metrics are read."""
@@ -188,11 +190,32 @@ class Worker:
             try:
                 return call()
             except Away as away:
+                self._demand_same_log()
                 self._tell_now_and_then(f"shard {self._keys.number} waits: {away}")
             if self._is_stopped():
                 raise Stopped(f"shard {self._keys.number} waited for its Redis")
             self._system.sleep(pause)
             pause = min(2 * pause, _LONGEST_PAUSE)
+
+    def _demand_same_log(self) -> None:
+        if self._redis.has_changed():
+            raise LogChanged("another node of the cluster, or a server with another history, has the log now")
+
+    def _turn_or_begin_anew(self, serving: Serving) -> None:
+        """A turn; where the log may lack what this host has played, all states are made anew of the log."""
+        try:
+            self._turn(serving)
+        except LogChanged as changed:
+            self._tell(f"shard {self._keys.number} begins a new host: {changed}")
+            self._restored(serving)
+
+    def _restored(self, serving: Serving) -> None:
+        """Makes all states, of one log."""
+        while True:
+            try:
+                return self._waiting_for_redis(lambda: self._restore(serving))
+            except LogChanged:
+                continue
 
     def _tell_now_and_then(self, sentence: str) -> None:
         if self._system.now() >= self._told_at + _SECONDS_TO_TELL:
@@ -209,6 +232,7 @@ class Worker:
         """Makes all tenants' states. Where the host ends meanwhile, another one is begun; a state that ends it three times is set aside."""
         ended: Counter[int] = Counter()
         began = self._system.now()
+        self._redis.watch()
         while True:
             if not serving.is_new:
                 serving.restart()
@@ -346,7 +370,7 @@ class Worker:
             self._tries[key] = self._tries.get(key, 0) + 1
             self._careful.setdefault(call.tenant, call.entry)
         self._tell(f"shard {self._keys.number} begins a new host: {error}")
-        self._waiting_for_redis(lambda: self._restore(serving))
+        self._restored(serving)
         if len(suspects) == 1 and self._tries[suspects[0].tenant, suspects[0].entry] >= MOST_TRIES:
             self._give_up(suspects[0], error)
 
@@ -409,13 +433,15 @@ class Worker:
             except StopIteration:
                 self._end_job(tenant)
             except (Away, OutOfMemory) as error:
+                self._demand_same_log()
                 self._end_job(tenant)
                 self._tell_now_and_then(f"shard {self._keys.number} waits: {error}")
-                self._waiting_for_redis(lambda: self._restore_after(serving, tenant))
+                if not self._made_anew(serving, tenant):
+                    return
             except (HostError, ReplyError, MemoryRefused) as error:
                 self._job_ended_host(serving, tenant, error)
                 return
-            except (LeaseLost, RedisError, Stopped):
+            except (LeaseLost, LogChanged, RedisError, Stopped):
                 raise
             except ShardError as error:
                 self._end_job(tenant)
@@ -431,7 +457,7 @@ class Worker:
         key = tenant, b"behind " + place
         self._tries[key] = self._tries.get(key, 0) + 1
         self._tell(f"shard {self._keys.number} begins a new host: {error}")
-        self._waiting_for_redis(lambda: self._restore(serving))
+        self._restored(serving)
         if self._tries[key] >= MOST_TRIES:
             del self._tries[key]
             self._keeping.failed.add(tenant)
@@ -441,6 +467,15 @@ class Worker:
         if self._jobs and self._jobs[0][0] == tenant:
             self._jobs.popleft()
         self._busy.discard(tenant)
+
+    def _made_anew(self, serving: Serving, tenant: int) -> bool:
+        """Makes a tenant anew whose job broke off; False where the host ended meanwhile, and all are made anew."""
+        try:
+            self._waiting_for_redis(lambda: self._restore_after(serving, tenant))
+        except (HostError, ReplyError, MemoryRefused) as error:
+            self._job_ended_host(serving, tenant, error)
+            return False
+        return True
 
     def _restore_after(self, serving: Serving, tenant: int) -> None:
         """Makes a tenant anew, whose job broke off anywhere."""
@@ -505,7 +540,7 @@ class Worker:
             for log in changed:
                 self._begin(log.tenant, self._keeping.snapshot(serving, log))
         else:
-            self._waiting_for_redis(lambda: self._restore(serving))
+            self._restored(serving)
 
     def _look_around(self, serving: Serving) -> None:
         """Looks at what waits, and at the memory that Redis has: where little is left, room is made before it is none."""

@@ -115,5 +115,5 @@ class Writing:
 
     def memory(self) -> tuple[int, int]:
         """How many bytes of memory the server uses, and may use at most: 0 where there is no such limit."""
-        said = told_by(self.redis, "memory")
+        said = told_by(self.redis.near(self.keys.lease), "memory")
         return int(said["used_memory"]), int(said["maxmemory"])

@@ -25,7 +25,7 @@ class Simulated(TimedTest):
             signal.alarm(common.SECONDS)
             counts.update(play(seed, SECONDS))
         # Each kind of fault is seen, and work is done beside it.
-        for what in ("kills", "pauses", "hosts", "servers away", "jumps", "movers killed", "moved", "resumed", "set aside", "skipped"):
+        for what in ("kills", "pauses", "hosts", "servers away", "jumps", "movers killed", "moved", "resumed", "set aside", "skipped", "failovers"):
             self.assertGreater(counts[what], 0, what)
         self.assertGreater(counts["calls"], 500)
 

@@ -32,6 +32,8 @@ class Server:
         self._world, self._scripts = world, scripts
         self.store = Store()
         self.away_until = 0.0
+        # How often a replica took over: each time connections are cut, and another history is told.
+        self.failovers = 0
         self.jumped = 0.0
         self.waiting: list[Actor] = []
         self.store.on_write = self._wake
@@ -44,10 +46,22 @@ class Server:
         """What the server answers; an Away where it is away."""
         if self._world.now < self.away_until:
             raise Away("the server is away")
+        if words[0] == "WAIT":
+            self.store.replicas_have_all()
+            return words[1]
+        if list(words) == ["INFO", "replication"]:
+            return f"master_replid:{self.failovers}\r\n".encode()
         self.store.milliseconds = 1_000_000 + int((self._world.now + self.jumped) * 1000)
         if words[0] in ("EVALSHA", "EVAL"):
             return self._scripts.run(self.store, words)
         return self.store.do(words)
+
+
+    def fail_over(self) -> None:
+        """A replica takes over, which lacks what no answer to WAIT speaks of."""
+        self.store.fail_over()
+        self.failovers += 1
+        self._wake()
 
 
 class Network:
@@ -71,6 +85,12 @@ class SimulatedLink:
 
     def __init__(self, network: Network, url: str) -> None:
         self._network, self._server = network, network.server(url)
+        self._failovers = self._server.failovers
+
+    def _demand_connection(self) -> None:
+        if self._failovers != self._server.failovers:
+            self._failovers = self._server.failovers
+            raise Away("the connection was cut, as another server took over")
 
     def close(self) -> None:
         """Ends it."""
@@ -80,19 +100,24 @@ class SimulatedLink:
         world, weather, draw = self._network.world, self._network.weather, self._network.world.draw
         deadline, chance = world.now + seconds, draw.random()
         world.sleep(draw.random() * weather.seconds)
+        self._demand_connection()
         if chance < weather.lost:
             raise Away("the connection was cut")
         if chance < weather.lost + weather.late:
             # It was on its way when the connection was cut, and the server has it later.
-            world.later(draw.random() * weather.seconds_late, lambda: self._late(words))
+            failovers = self._server.failovers
+            world.later(draw.random() * weather.seconds_late, lambda: self._late(words, failovers))
             raise Away("the connection was cut, and the call comes late")
         answer = self._block(words, deadline) if "BLOCK" in words else self._server.do(words)
         if chance < weather.lost + weather.late + weather.unanswered:
             raise Away("the answer was lost")
         world.sleep(draw.random() * weather.seconds)
+        self._demand_connection()
         return answer
 
-    def _late(self, words: Sequence[Word]) -> None:
+    def _late(self, words: Sequence[Word], failovers: int) -> None:
+        if failovers != self._server.failovers:
+            return
         try:
             self._server.do(words)
         except RedisError:
@@ -105,6 +130,7 @@ class SimulatedLink:
         until = min(deadline, world.now + float(str(words[at + 1])) / 1000)
         asked = [*words[:at], *words[at + 2 :]]
         while True:
+            self._demand_connection()
             found = server.do(asked)
             if found or world.now >= until:
                 return found

@@ -33,12 +33,13 @@ from bpfhost.shards import (
     move,
 )
 from bpfhost.shards.aside import Aside
+from bpfhost.shards.cluster import Place
 from bpfhost.shards.connection import Redis
 from bpfhost.shards.errors import RedisError
 from bpfhost.shards.operating import say
 from bpfhost.shards.tickets import Ticket
 from tests.shards.simulator.host import POISON, FakeHost
-from tests.shards.simulator.network import Network, Simulated, Weather
+from tests.shards.simulator.network import Network, Server, Simulated, Weather
 from tests.shards.simulator.world import Process, World
 
 DIRECTORY = "redis://directory"
@@ -113,6 +114,8 @@ class Play:
         self._workers: list[tuple[int, Process, Simulated]] = []
         self._asking: dict[str, Process] = {}
         self._is_ending = False
+        # In every other run the servers have a replica each, which takes over now and then.
+        self._replicas = "?replicas=1" if seed % 2 else ""
 
     def run(self) -> None:
         """All of it; a Differs where anything is wrong."""
@@ -133,7 +136,10 @@ class Play:
             self.world.end()
 
     def _url(self, shard: int) -> str:
-        return f"redis://shard-{shard}" if shard else DIRECTORY
+        return (f"redis://shard-{shard}" if shard else DIRECTORY) + self._replicas
+
+    def _server(self, shard: int) -> Server:
+        return self.network.server(Place.of(self._url(shard)).url)
 
     # Workers, which are started again when they end.
 
@@ -152,7 +158,7 @@ class Play:
 
     def _work(self, shard: int, machine: Simulated) -> None:
         redis = Redis(self._url(shard), machine)
-        directory = Redis(DIRECTORY, machine) if shard else None
+        directory = Redis(self._url(0), machine) if shard else None
         try:
             Worker(redis, ShardKeys(shard), "none", SETTINGS, lambda said: self.world.tell(f"worker: {said}"), directory).run()
         except (LeaseHeld, LeaseLost, RedisError) as error:
@@ -171,7 +177,7 @@ class Play:
                 return
 
     def _ask(self, said: Said, machine: Simulated) -> None:
-        with Client(DIRECTORY, system=machine) as client:
+        with Client(self._url(0), system=machine) as client:
             customer = client.customer(said.name, 30.0, session="calls")
             self._resume(said, self._last(customer), customer.wait)
             while not self._is_ending:
@@ -232,7 +238,7 @@ class Play:
     # An operator, who says a word where something is set aside, and moves customers.
 
     def _operate(self) -> None:
-        with Client(DIRECTORY, system=Simulated(self.network, Process("operator"))) as client:
+        with Client(self._url(0), system=Simulated(self.network, Process("operator"))) as client:
             while True:
                 self.world.sleep(2.0)
                 for said in self.customers:
@@ -270,7 +276,7 @@ class Play:
 
     def _move_one(self, machine: Simulated) -> None:
         name = self._draw.choice(self.customers).name
-        with Client(DIRECTORY, system=machine) as client:
+        with Client(self._url(0), system=machine) as client:
             try:
                 if self._draw.random() < 0.2:
                     abort_move(client, name, 20.0)
@@ -291,6 +297,8 @@ class Play:
             self._away: 3,
             self._jump: 2,
         }
+        if self._replicas:
+            kinds[self._fail_over] = 3
         while not self._is_ending:
             self.world.sleep(self._draw.random() * 3)
             self._draw.choices(list(kinds), list(kinds.values()))[0]()
@@ -325,13 +333,17 @@ class Play:
         self.world.kill(self._asking[self._draw.choice(self.customers).name])
 
     def _away(self) -> None:
-        server = self.network.server(self._url(self._draw.randrange(SHARDS)))
+        server = self._server(self._draw.randrange(SHARDS))
         server.away_until = self.world.now + self._draw.random() * 8
         self.counts["servers away"] += 1
 
+    def _fail_over(self) -> None:
+        self._server(self._draw.randrange(SHARDS)).fail_over()
+        self.counts["failovers"] += 1
+
     def _jump(self) -> None:
         """The clock of a server jumps a day, and back."""
-        server = self.network.server(self._url(self._draw.randrange(SHARDS)))
+        server = self._server(self._draw.randrange(SHARDS))
         server.jumped = 0.0 if server.jumped else self._draw.choice((_DAY, -_DAY, 5.0))
         self.counts["jumps"] += 1
 
@@ -343,11 +355,11 @@ class Play:
             self.counts["calls"] += said.calls
         if any(self._asking[said.name] in [actor.process for actor in self.world.actors] for said in self.customers):
             raise Differs("a customer waits for ever")
-        moves = self.network.server(DIRECTORY).store.keys.get(b"bpfhost:{directory}:moves", {})
+        moves = self._server(0).store.keys.get(b"bpfhost:{directory}:moves", {})
         if moves:
             raise Differs(f"moves do not end: {moves}")
         for shard in range(SHARDS):
-            keys, store = ShardKeys(shard), self.network.server(self._url(shard)).store.keys
+            keys, store = ShardKeys(shard), self._server(shard).store.keys
             for tenant in range(64):
                 asked, replied = (store.get(name(tenant).encode()) for name in (keys.frames, keys.replies))
                 if asked and (replied is None or (asked.added, asked.last) != (replied.added, replied.last)):

@@ -2,6 +2,7 @@
 
 from __future__ import annotations
 
+import copy
 import hashlib
 from collections.abc import Callable, Sequence
 from typing import Any
@@ -29,6 +30,21 @@ class Store:
         self.milliseconds = 1_000_000
         self.has_memory = True
         self.on_write: Callable[[], None] = lambda: None
+        # What keys had before they were written to, since the replicas had all.
+        self._before: dict[bytes, Value] = {}
+
+    def replicas_have_all(self) -> None:
+        """From now on a failover loses nothing of what was written before."""
+        self._before.clear()
+
+    def fail_over(self) -> None:
+        """Has what the replicas have."""
+        for name, value in self._before.items():
+            if value is None:
+                self.keys.pop(name, None)
+            else:
+                self.keys[name] = value
+        self._before.clear()
 
     def do(self, words: Sequence[object]) -> Value:
         """The answer to a command."""
@@ -36,6 +52,8 @@ class Store:
         command = getattr(self, f"_{name.decode().lower()}", None)
         if command is None:
             raise RedisError(f"the simulator has no command {name.decode()}")
+        if name in _WRITES and rest[0] not in self._before:
+            self._before[rest[0]] = _copied(self.keys.get(rest[0]))
         return command(*rest)
 
     def _of(self, name: bytes, kind: type) -> Value:
@@ -70,6 +88,10 @@ class Store:
     def _get(self, name: bytes) -> bytes | None:
         found: bytes | None = self.keys.get(name)
         return found
+
+    def _set(self, name: bytes, value: bytes) -> bytes:
+        self.keys[name] = value
+        return b"OK"
 
     def _setnx(self, name: bytes, value: bytes) -> int:
         if name in self.keys:
@@ -198,6 +220,18 @@ class Store:
 
 class Sorted(dict[bytes, float]):
     """A sorted set: members with their scores."""
+
+
+_WRITES = (b"SET", b"SETNX", b"INCR", b"DEL", b"HSET", b"HDEL", b"HINCRBY", b"ZADD", b"ZINCRBY", b"ZREM", b"XADD", b"XTRIM")
+
+
+def _copied(value: Value) -> Value:
+    """A value that changes no more with the one that is written to."""
+    if isinstance(value, Stream):
+        copied = Stream()
+        copied.entries, copied.last, copied.added = dict(value.entries), value.last, value.added
+        return copied
+    return copy.copy(value)
 
 
 def _bytes(word: object) -> bytes:

@@ -1,0 +1,218 @@
+"""A cluster of Redis, and replicas: which node has a key, and whether what was answered is on the replicas.
+
+A URL says so: `redis://host:6379/0?cluster=1&replicas=1` names any node of a cluster whose masters have a replica each. With `replicas`, an
+answer to a call that writes comes when so many replicas have it; else the call has an Away, as one whose answer was lost, and is made
+again. docs/SCALING.md says what that gives. All keys of a shard, and all of the directory, are on one node, by their braces.
+"""
+
+from __future__ import annotations
+
+import threading
+import urllib.parse
+from collections.abc import Callable, Sequence
+from dataclasses import dataclass, field
+from typing import Any, cast
+
+from bpfhost.shards.errors import Away, Moved, RedisError
+from bpfhost.shards.system import Link, Word
+
+_SLOTS = 16_384
+# Commands that may write. WAIT is asked behind them.
+_WRITES = ("EVALSHA", "EVAL", "HSET", "HDEL", "DEL", "XADD", "XTRIM")
+_SECONDS_FOR_REPLICAS = 1.0
+# A call is sent on so often, as long as nodes send it on.
+_MOST_MOVES = 4
+
+
+class Command(str):
+    """The name of a command with what is known of it besides: a key on whose node it is to be done, where it has none itself; and how
+    often nodes may have changed, where its caller wants to know of another change."""
+
+    key: str = ""
+    changes: int | None = None
+
+
+def told_to(name: object, key: str = "", changes: int | None = None) -> Command:
+    """A command's name, with that."""
+    made = Command(str(name))
+    made.key, made.changes = key, changes
+    return made
+
+
+def slot_of(key: str | bytes) -> int:
+    """The slot of a key: CRC16 (XMODEM) of what stands in its first braces, or of all of it, modulo 16384 (Redis Cluster specification)."""
+    word = key.encode() if isinstance(key, str) else key
+    begin = word.find(b"{")
+    end = word.find(b"}", begin + 1)
+    if begin >= 0 and end > begin + 1:
+        word = word[begin + 1 : end]
+    crc = 0
+    for byte in word:
+        crc ^= byte << 8
+        for _ in range(8):
+            crc = (crc << 1 ^ 0x1021 if crc & 0x8000 else crc << 1) & 0xFFFF
+    return crc % _SLOTS
+
+
+def key_of(words: Sequence[Word]) -> str | bytes | None:
+    """The first key of a command, or that which was told with its name."""
+    name, found = words[0], cast(Sequence[Any], words)
+    if name in ("EVALSHA", "EVAL"):
+        return found[3] if int(found[2]) else None
+    if name == "XREAD":
+        return str(found[list(words).index("STREAMS") + 1])
+    if name == "XINFO":
+        return str(found[2])
+    if name in ("INFO", "CONFIG", "PING"):
+        return name.key or None if isinstance(name, Command) else None
+    return str(found[1])
+
+
+@dataclass
+class Nodes:
+    """What is known of a cluster, or of a server with replicas: the node of a slot, and how often that, or what a node tells, changed."""
+
+    seeds: list[str]
+    of_slots: dict[int, str] = field(default_factory=dict)
+    changes: int = 0
+    # Nodes that could not be reached the last time, and which history each tells, by its replication id.
+    away: set[str] = field(default_factory=set)
+    histories: dict[str, str] = field(default_factory=dict)
+    lock: threading.Lock = field(default_factory=threading.Lock)
+
+    def find(self, slot: int, expected: int | None) -> str:
+        """The node of a slot, as far as it is known, or one that will tell it; an Away where something has changed since it was
+        `expected`."""
+        with self.lock:
+            if expected is not None and expected != self.changes:
+                raise Away("Redis has another history since, or another node of its cluster serves a slot")
+            node = self.of_slots.get(slot, self.seeds[0])
+            others = [one for one in self.seeds if one not in self.away]
+            return others[0] if node in self.away and others else node
+
+    def learn(self, slot: int, node: str) -> bool:
+        """Notes the node of a slot; whether that is another one than was known."""
+        with self.lock:
+            known = self.of_slots.get(slot, node)
+            self.of_slots[slot] = node
+            if node not in self.seeds:
+                self.seeds.append(node)
+            self.changes += known != node
+            return known != node
+
+    def tells(self, node: str, history: str) -> bool:
+        """Notes the history that a node tells; whether it is another one than it told before."""
+        with self.lock:
+            known = self.histories.get(node, history)
+            self.histories[node] = history
+            self.changes += known != history
+            return known != history
+
+    def note(self, node: str, is_away: bool) -> None:
+        """Notes whether a node could be reached. Where none could, all are asked again."""
+        with self.lock:
+            (self.away.add if is_away else self.away.discard)(node)
+            if len(self.away) == len(self.seeds):
+                self.away.clear()
+                self.seeds.append(self.seeds.pop(0))
+
+
+@dataclass(frozen=True)
+class Place:
+    """What a URL says: a server's URL, whether it is one of a cluster, and how many replicas are waited for."""
+
+    url: str
+    is_cluster: bool
+    replicas: int
+
+    @classmethod
+    def of(cls, url: str) -> Place:
+        """A RedisError where it says something else."""
+        found = urllib.parse.urlsplit(url)
+        words = dict(urllib.parse.parse_qsl(found.query))
+        cluster, replicas = words.pop("cluster", "0"), words.pop("replicas", "0")
+        if cluster not in ("0", "1") or not replicas.isdecimal() or cluster == "1" and found.scheme == "unix":
+            raise RedisError(f"{url} is no URL of a Redis: cluster is 0 or 1, of hosts with ports, and replicas is a number")
+        if "cluster=" not in found.query and "replicas=" not in found.query:
+            return cls(url, False, 0)
+        rest = urllib.parse.urlencode(words)
+        return cls(f"{found.scheme}://{found.netloc}{found.path}{'?' if rest else ''}{rest}", cluster == "1", int(replicas))
+
+    def nodes(self) -> Nodes | None:
+        """What is known of it at first; None of a server without replicas."""
+        return Nodes([self._split()[1]]) if self.is_cluster or self.replicas else None
+
+    def at(self, node: str) -> str:
+        """The URL of a node."""
+        user, first = self._split()
+        return self.url.replace(f"{user}{first}", f"{user}{node}", 1) if node != first else self.url
+
+    def _split(self) -> tuple[str, str]:
+        user, has_user, first = urllib.parse.urlsplit(self.url).netloc.rpartition("@")
+        return user + has_user, first
+
+
+class NodesLink:
+    """A connection to the nodes of a cluster, or to a server with replicas."""
+
+    def __init__(self, place: Place, nodes: Nodes, make: Callable[[str], Link]) -> None:
+        self._place, self._nodes, self._make = place, nodes, make
+        self._links: dict[str, Link] = {}
+        # Nodes whose history was looked at since this connection was last cut.
+        self._seen: set[str] = set()
+
+    def call(self, words: Sequence[Word], seconds: float) -> Any:
+        """The answer to a command, by the node that has its key. An Away also where another node has it than before, and where too few
+        replicas have what it writes."""
+        key = key_of(words) if self._place.is_cluster else None
+        slot, name = slot_of(key) if key is not None else -1, words[0]
+        expected = name.changes if isinstance(name, Command) else None
+        node = self._nodes.find(slot, expected)
+        for _ in range(_MOST_MOVES):
+            try:
+                return self._ask(node, words, seconds, expected is not None)
+            except Moved as moved:
+                # Who asks for a slot that was known elsewhere has to know that its history may be another one.
+                if self._nodes.learn(slot, moved.node):
+                    raise Away(f"{moved.node} of the cluster serves a slot now, which another node served") from None
+                node = moved.node
+        raise Away("the nodes of the cluster do not agree on who serves a slot")
+
+    def _ask(self, node: str, words: Sequence[Word], seconds: float, is_expecting: bool) -> Any:
+        try:
+            link = self._link(node)
+            if is_expecting and node not in self._seen:
+                self._look(node, link, seconds)
+            answer = link.call(words, seconds)
+            if self._place.replicas and words[0] in _WRITES:
+                self._wait(link, seconds)
+        except Away:
+            self._seen.discard(node)
+            self._nodes.note(node, is_away=True)
+            raise
+        self._nodes.note(node, is_away=False)
+        return answer
+
+    def _wait(self, link: Link, seconds: float) -> None:
+        limit = max(0.001, min(seconds, _SECONDS_FOR_REPLICAS))
+        has = link.call(["WAIT", self._place.replicas, int(limit * 1000)], seconds + limit)
+        if has < self._place.replicas:
+            raise Away(f"{has} replicas have what was written, and {self._place.replicas} are to have it")
+
+    def _look(self, node: str, link: Link, seconds: float) -> None:
+        """Looks which history a node tells: one that was away may tell another one."""
+        said = bytes(link.call(["INFO", "replication"], seconds)).decode()
+        history = next((line.partition(":")[2] for line in said.splitlines() if line.startswith("master_replid:")), "")
+        self._seen.add(node)
+        if self._nodes.tells(node, history):
+            raise Away(f"{node} tells another history than before")
+
+    def _link(self, node: str) -> Link:
+        if node not in self._links:
+            self._links[node] = self._make(self._place.at(node))
+        return self._links[node]
+
+    def close(self) -> None:
+        """Ends the connections."""
+        for link in self._links.values():
+            link.close()

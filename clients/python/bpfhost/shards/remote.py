@@ -225,14 +225,13 @@ class GatewayCustomer:
         """Sends what is to be sent; a _Broken where it can't be."""
         if self._socket is None or not self._out:
             return
+        # What was not sent is sent anew on the next connection.
+        out, self._out = self._out, bytearray()
         try:
-            self._socket.sendall(self._out)
+            self._socket.sendall(out)
         except OSError as error:
             self.close()
             raise _Broken(f"a gateway can't be reached: {error}") from None
-        finally:
-            # What was not sent is sent anew on the next connection.
-            self._out.clear()
 
     def _read_frame(self, deadline: float) -> bytes:
         """The next frame of the gateway; a _Broken where none comes."""

@@ -41,7 +41,7 @@ impl BytesIndex {
     }
 
     /// Returns the place of a key; `None` if the key is absent.
-    #[inline(always)]
+    #[inline(never)]
     pub(crate) fn get(&self, key: &[u8]) -> Option<u32>
         ensures { result ≡ found key.now self.now.entries }
     {

@@ -111,7 +111,7 @@ impl ValueMap for HashMapIx {
         self.place_of(key)
     }
 
-    #[inline(never)]
+    #[inline(always)]
     fn claim(&mut self, key: &[u8], flags: u64) -> Result<u32, MapFault> {
         self.places_are_distinct();
         if flags > EXIST {

@@ -53,7 +53,7 @@ impl WordIndex {
     }
 
     /// Returns the place of a key; `None` if the key is absent.
-    #[inline(always)]
+    #[inline(never)]
     pub(crate) fn get(&self, key: &[u8]) -> Option<u32>
         requires { length key.now ≡ self.now.size }
         ensures { result ≡ found key.now self.now.entries }

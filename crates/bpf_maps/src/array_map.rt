@@ -108,15 +108,14 @@ impl ArrayMap {
         if flags > EXIST {
             return Err(MapFault::Invalid);
         }
-        match self.place_of(key) {
-            Some(place) => {
-                if flags == NOEXIST {
-                    Err(MapFault::Exists)
-                } else {
-                    Ok(place)
-                }
+        let index = self.index_spelled(key);
+        if index < self.shape.max_entries {
+            if flags == NOEXIST {
+                return Err(MapFault::Exists);
             }
-            None => Err(MapFault::TooBig),
+            Ok(index)
+        } else {
+            Err(MapFault::TooBig)
         }
     }
 

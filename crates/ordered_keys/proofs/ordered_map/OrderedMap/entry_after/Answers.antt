@@ -1,0 +1,52 @@
+use Rattle.std.proofs.Common.{◌≡◌, ℕ, ◌∙◌, List, Option, Some, length, slice_get, option_map, sym, ap, subst}
+use Rattle.ordered_keys.specs.Orders.{BoundedKeys, lent_entry, IsNextIndex, HasNextIndex}
+use Rattle.ordered_keys.specs.inside.Ordered.{key_of}
+use Rattle.ordered_keys.proofs.Ordered.{members_within}
+use Rattle.ordered_keys.proofs.Behind.{entry_or_none, next_occurs, next_member, next_entry, with_its_place, without_key}
+use Rattle.ordered_keys.proofs.ordered_map.OrderedMap.entry_after.Goals as goal
+
+pub next_place-requires : goal.next_place-requires
+next_place-requires g c =
+    let m = c.self.inside in
+    next_occurs m.table.entries m.indices.items m.order c.self.invariant c.args.place
+    (subst (λ (b : BoundedKeys g.row.K.Denot). HasNextIndex c.args.place b.entries) (sym c.self.view_is) c.requires)
+
+pub returns-in_err-next : goal.returns-in_err-next
+returns-in_err-next g c = λ at is.
+    let m = c.self.inside in
+    let there = subst (λ (b : BoundedKeys g.row.K.Denot). IsNextIndex c.args.place b.entries at) (sym c.self.view_is) is in
+    ap (option_map (lent_entry {K = g.row.K.Denot})) c.from_residual.ensures
+    ∙ ap (entry_or_none m.table.entries m.indices.items) c.in_err-next.ensures
+    ∙ next_entry m.table.entries m.indices.items m.order c.self.invariant c.args.place at there
+    ∙ ap (λ (b : BoundedKeys g.row.K.Denot). slice_get b.entries at) c.self.view_is
+
+pub key_at-requires : goal.key_at-requires
+key_at-requires g c =
+    let m = c.self.inside in
+    let next = c.in_ok-next.next in
+    let long : length c.deref.result.now ≡ m.order.bound = ap length c.deref.ensures.value ∙ c.self.invariant.long in
+    members_within (length c.deref.result.now) m.order.bound m.order.places (Some next) long c.self.invariant.within
+    (next_member m.table.entries m.indices.items m.order c.self.invariant c.args.place next c.in_ok-next.ensures)
+
+pub returns-in_err-key : goal.returns-in_err-key
+returns-in_err-key g c = λ at is.
+    let m = c.self.inside in
+    let next = c.in_ok-next.next in
+    let there = subst (λ (b : BoundedKeys g.row.K.Denot). IsNextIndex c.args.place b.entries at) (sym c.self.view_is) is in
+    let none = c.in_err-key.ensures ∙ ap (λ (is : List ℕ). key_of m.table.entries is (let o : Option ℕ = Some next in o)) c.deref.ensures.value in
+    ap (option_map (lent_entry {K = g.row.K.Denot})) c.from_residual-in_err-key.ensures
+    ∙ sym (without_key m.table.entries m.indices.items m.order c.self.invariant next (next_member m.table.entries m.indices.items m.order c.self.invariant c.args.place next c.in_ok-next.ensures) (sym none))
+    ∙ ap (entry_or_none m.table.entries m.indices.items) c.in_ok-next.ensures
+    ∙ next_entry m.table.entries m.indices.items m.order c.self.invariant c.args.place at there
+    ∙ ap (λ (b : BoundedKeys g.row.K.Denot). slice_get b.entries at) c.self.view_is
+
+pub returns : goal.returns
+returns g c = λ at is.
+    let m = c.self.inside in
+    let next = c.in_ok-next.next in
+    let there = subst (λ (b : BoundedKeys g.row.K.Denot). IsNextIndex c.args.place b.entries at) (sym c.self.view_is) is in
+    let some = c.in_ok-key.ensures ∙ ap (λ (is : List ℕ). key_of m.table.entries is (let o : Option ℕ = Some next in o)) c.deref.ensures.value in
+    sym (with_its_place m.table.entries m.indices.items m.order c.self.invariant next c.in_ok-key.key.now (next_member m.table.entries m.indices.items m.order c.self.invariant c.args.place next c.in_ok-next.ensures) (sym some))
+    ∙ ap (entry_or_none m.table.entries m.indices.items) c.in_ok-next.ensures
+    ∙ next_entry m.table.entries m.indices.items m.order c.self.invariant c.args.place at there
+    ∙ ap (λ (b : BoundedKeys g.row.K.Denot). slice_get b.entries at) c.self.view_is

@@ -8,8 +8,7 @@ use Rattle.host.specs.inside.program.Judgements.{IsJudgementLine, judgement_stat
 use Rattle.host.specs.program.Shapes.{AreMapArguments}
 use Rattle.host.specs.inside.program.Rewriting.{WritesWholeOutput, ReadsWholeInput, Streams}
 use Rattle.host.specs.program.Arguments.{Asked, Verifies}
-use Rattle.host.specs.declared.program.judging.Judgement.{Judgement}
-use Rattle.host.specs.declared.program.judging.Judgement.TheVariants.{Accepted, Refused}
+use Rattle.verifier.specs.declared.refusal.Refusal.{Refusal}
 
 -- what holds of the bytes that were read holds of the input
 of_input : (P : List ℕ → Type 0) (before after : Option (List ℕ)) (input : List ℕ) → ReadsWholeInput before after input → P input → IfSome before P
@@ -18,12 +17,12 @@ of_input P (Some bytes) None input whole holds = absurd whole.read
 of_input P (Some bytes) (Some rest) input whole holds =
     subst P (sym (whole.read ∙ (ap (λ more. input ++ more) whole.end ∙ append-nil input))) holds
 
-pub accepts_known : (arguments : List Text) (maps given : List Named) (judgement : Judgement) (old new : Streams) → AreMapArguments arguments maps → given ≡ maps
-    → WritesWholeOutput (IsJudgementLine given judgement) old new → judgement_status judgement ≡ 0 → AcceptsIfKnown arguments old.input
-accepts_known arguments maps given Accepted old new named same ended zero =
+pub accepts_known : (arguments : List Text) (maps given : List Named) (refusal : Option Refusal) (old new : Streams) → AreMapArguments arguments maps → given ≡ maps
+    → WritesWholeOutput (IsJudgementLine given refusal) old new → judgement_status refusal ≡ 0 → AcceptsIfKnown arguments old.input
+accepts_known arguments maps given None old new named same ended zero =
     of_input (Accepts arguments) old.input new.input ended.input ended.whole
     (record { maps = given; named = subst (AreMapArguments arguments) (sym same) named; judged = ended.made_so.0 })
-accepts_known arguments maps given (Refused slot reason) old new named same ended zero = absurd (omega (arith, zero))
+accepts_known arguments maps given (Some refusal) old new named same ended zero = absurd (omega (arith, zero))
 
 words_of : Option Asked → List Text
 words_of (Some (Verifies arguments)) = arguments

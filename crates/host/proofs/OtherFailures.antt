@@ -37,9 +37,9 @@ at_slot slot other = λ e. omega (arith, e)
 pub refused_otherwise : (task : TextTask) (input : List ℕ) (failure : Failure) → IsInputRefused task input failure → IsOther failure
 refused_otherwise Assemble input failure (inl none) = λ e. omega (arith, sym (ap exit_status none.1) ∙ e)
 refused_otherwise Assemble input failure (inr of_text) = subst IsOther (sym of_text.failure_is) (on_line of_text.fault.line of_text.fault.kind)
-refused_otherwise Disassemble input failure (inl none) = λ e. omega (arith, sym (ap exit_status none.1) ∙ e)
-refused_otherwise Disassemble input failure (inr (inl of_hex)) = subst IsOther (sym of_hex.failure_is) (on_line of_hex.fault.line of_hex.fault.kind)
-refused_otherwise Disassemble input failure (inr (inr of_program)) =
+refused_otherwise Disassemble input failure (inl (inl none)) = λ e. omega (arith, sym (ap exit_status none.1) ∙ e)
+refused_otherwise Disassemble input failure (inl (inr of_hex)) = subst IsOther (sym of_hex.failure_is) (on_line of_hex.fault.line of_hex.fault.kind)
+refused_otherwise Disassemble input failure (inr of_program) =
     subst IsOther (sym of_program.failure_is) (at_slot of_program.fault.slot of_program.fault.kind)
 
 -- ---- runs

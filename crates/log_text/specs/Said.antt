@@ -1,10 +1,9 @@
 -- What the text of a log says of the verdict, unless it is a graph. This project's own.
 use Rattle.std.specs.Prelude.{◌≡◌, ◌⊎◌, ℕ, Bool, true, false, List, [], ◌∷◌, ◌++◌, Option, Some, None, codes}
-use Rattle.std.specs.Fmt.{decimal}
 use Rattle.insn_set.specs.declared.insn.Insn.{Insn}
-use Rattle.reg_kinds.specs.Reason.{number}
 use Rattle.tagged_model.specs.declared.shape.Named.{Named}
 use Rattle.verifier.specs.declared.fault.VerifyFault.{VerifyFault}
+use Rattle.verifier.specs.Judgement.{refusal_of_program, refusal_text}
 use Rattle.verifier.specs.Verdict.{IsRefused}
 
 -- no bytes, or bytes that end with a line feed
@@ -17,7 +16,7 @@ accepted_line = codes "accepted" ++ 10 ∷ []
 
 -- the first line of a refusal, with the slot and the number of the reason
 abbrev pub refusal_line : VerifyFault → List ℕ
-refusal_line fault = codes "refused: slot " ++ (decimal fault.slot ++ (codes " reason " ++ (decimal (number fault.reason) ++ 10 ∷ [])))
+refusal_line fault = refusal_text (refusal_of_program fault) ++ 10 ∷ []
 
 -- the verdict is added: the line of an acceptance, or that of a refusal with more behind it
 abbrev pub AddsVerdict : Option VerifyFault → List ℕ → List ℕ → Type 0

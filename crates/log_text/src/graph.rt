@@ -2,7 +2,7 @@
 
 use crate::control::{block_starts, target_at};
 use crate::lines::Story;
-use crate::needs::{Refusal, write_refusal};
+use crate::needs::{RefusedProgram, write_refusal};
 use crate::steps::Step;
 use bpf_text::write_insn;
 use insn_codec::{Insn, Successors};
@@ -112,7 +112,7 @@ fn write_label(text: &mut String, lines: &str) -> Result<(), AllocError> {
 struct Graph<'a> {
     alloc: Global,
     story: &'a Story<'a>,
-    refusal: Option<&'a Refusal<'a>>,
+    refusal: Option<&'a RefusedProgram<'a>>,
     /// For each slot whether a block begins there.
     starts: &'a [bool],
     /// The index of the next step.
@@ -226,7 +226,7 @@ pub(crate) fn write_graph(
     text: &mut String,
     alloc: Global,
     story: &Story<'_>,
-    refusal: Option<&Refusal<'_>>,
+    refusal: Option<&RefusedProgram<'_>>,
 ) -> Result<(), AllocError> {
     let starts = block_starts(alloc, story.program)?;
     let graph = Graph {

@@ -10,7 +10,7 @@ use crate::control::live_jumps;
 use crate::graph::write_graph;
 use crate::known::nothing_known;
 use crate::lines::{Story, write_lines};
-use crate::needs::{Refusal, write_refusal};
+use crate::needs::{RefusedProgram, write_refusal};
 use crate::reasons::is_of_shape;
 use crate::recorder::{Judged, KnownFacts, judge};
 use crate::steps::steps_of;
@@ -44,7 +44,7 @@ pub struct Log {
 }
 
 /// Writes the verdict, and of a refusal what was known against what was needed.
-fn write_verdict(text: &mut String, refusal: Option<&Refusal<'_>>) -> Result<(), AllocError>
+fn write_verdict(text: &mut String, refusal: Option<&RefusedProgram<'_>>) -> Result<(), AllocError>
     ensures { OnOk result (AddsVerdict (fault_of refusal.entry) (string_bytes text.old)
         (string_bytes text.new)) }
 {
@@ -58,7 +58,7 @@ fn write_verdict(text: &mut String, refusal: Option<&Refusal<'_>>) -> Result<(),
 fn lines_of(
     alloc: Global,
     story: &Story<'_>,
-    refusal: Option<&Refusal<'_>>,
+    refusal: Option<&RefusedProgram<'_>>,
 ) -> Result<String, AllocError>
     ensures { IfOk result (λ text. EndsInVerdict (fault_of refusal.entry) (string_bytes text)) }
 {
@@ -73,7 +73,7 @@ fn lines_of(
 fn graph_of(
     alloc: Global,
     story: &Story<'_>,
-    refusal: Option<&Refusal<'_>>,
+    refusal: Option<&RefusedProgram<'_>>,
 ) -> Result<String, AllocError> {
     let mut text = String::new(alloc);
     write_graph(&mut text, alloc, story, refusal)?;
@@ -95,12 +95,12 @@ fn refusal_of<'a>(
     named: &'a [Named],
     judged: &'a Judged,
     facts: &'a Facts,
-) -> Option<Refusal<'a>>
+) -> Option<RefusedProgram<'a>>
     ensures { option_map (λ refusal. refusal.fault) result ≡ judged.now.fault }
 {
     let Judged { known, fault } = judged;
     match *fault {
-        Some(fault) => Some(Refusal {
+        Some(fault) => Some(RefusedProgram {
             alloc,
             program,
             named,

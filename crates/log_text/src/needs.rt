@@ -16,11 +16,11 @@ use reg_kinds::{Facts, Reason};
 use std::alloc::{AllocError, Global};
 use std::fmt::Write;
 use tagged_model::Named;
-use verifier::VerifyFault;
+use verifier::{Refusal, VerifyFault};
 
 /// A refused program, with what is known before each instruction that the pass reached, and the facts before the last of them.
 #[derive(Clone, Copy)]
-pub(crate) struct Refusal<'a> {
+pub(crate) struct RefusedProgram<'a> {
     pub alloc: Global,
     pub program: &'a Program,
     pub named: &'a [Named],
@@ -30,7 +30,11 @@ pub(crate) struct Refusal<'a> {
 }
 
 /// Writes what was known at an instruction, against what it needs.
-fn write_need(text: &mut String, refusal: &Refusal<'_>, insn: &Insn) -> Result<(), AllocError> {
+fn write_need(
+    text: &mut String,
+    refusal: &RefusedProgram<'_>,
+    insn: &Insn,
+) -> Result<(), AllocError> {
     if is_of_shape(refusal.fault.reason) {
         return shape::write_need(text, refusal, insn);
     }
@@ -56,7 +60,7 @@ fn write_need(text: &mut String, refusal: &Refusal<'_>, insn: &Insn) -> Result<(
 
 /// The line that says why a program is refused: the reason in words, and what was known against what was needed, with `between`
 /// between the two.
-fn reason_line(refusal: &Refusal<'_>, between: &str) -> Result<String, AllocError> {
+fn reason_line(refusal: &RefusedProgram<'_>, between: &str) -> Result<String, AllocError> {
     let mut line = String::from_str(refusal.alloc, reason_words(refusal.fault.reason))?;
     if let Some(insn) = refusal.program.get(refusal.fault.slot) {
         line.push_str(between)?;
@@ -70,15 +74,15 @@ fn reason_line(refusal: &Refusal<'_>, between: &str) -> Result<String, AllocErro
 fn write_fault(text: &mut String, fault: VerifyFault) -> Result<(), AllocError>
     ensures { OnOk result (string_bytes text.new ≡ string_bytes text.old ++ refusal_line fault) }
 {
-    let (slot, number) = (fault.slot, fault.reason.number());
-    writeln!(text, "refused: slot {slot} reason {number}")
+    let refusal = Refusal::from(fault);
+    writeln!(text, "{refusal}")
 }
 
 /// Writes a line with the slot and the reason of a refusal, and then the reason in words and what was known against what was
 /// needed, with `between` between the two.
 pub(crate) fn write_refusal(
     text: &mut String,
-    refusal: &Refusal<'_>,
+    refusal: &RefusedProgram<'_>,
     between: &str,
 ) -> Result<(), AllocError>
     ensures { OnOk result (AddsVerdict (Some refusal.now.fault) (string_bytes text.old)

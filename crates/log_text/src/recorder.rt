@@ -52,7 +52,7 @@ pub(crate) struct Judged {
 ///
 /// `AllocError`: out of memory for the verdict or for the facts.
 pub(crate) fn judge(alloc: Global, program: &Program, named: &[Named]) -> Result<Judged, AllocError>
-    ensures { IfOk result (λ judged. IsJudged program.now named.now judged.known.items judged.fault) }
+    ensures { IfOk result (λ told. IsJudged program.now named.now told.known.items told.fault) }
 {
     let mut recorder = Recorder {
         known: Vec::new(alloc),
@@ -60,7 +60,7 @@ pub(crate) fn judge(alloc: Global, program: &Program, named: &[Named]) -> Result
     let verdict = verify_watched(alloc, program, named, &mut recorder);
     let Recorder { known } = recorder;
     match verdict {
-        Ok(_) => Ok(Judged { known, fault: None }),
+        Ok(()) => Ok(Judged { known, fault: None }),
         Err(fault) if fault.reason == Reason::Memory => Err(AllocError),
         Err(fault) => Ok(Judged {
             known,

@@ -3,11 +3,12 @@
 use crate::arguments::{ProgramForm, form_of, parse_arguments, style_of};
 use crate::log::{Log, LogStyle, log_of};
 use clap::ArgMatches;
-use host::{Failure, hex_program, maps_named, text_program, whole_input};
-use insn_codec::Program;
+use host::{Failure, hex_slots, maps_named, text_program, whole_input};
+use insn_codec::{FaultKind, Program, read_program};
 use std::alloc::{AllocError, Global};
 use std::io::{Read, Write};
 use tagged_model::Named;
+use verifier::Refusal;
 
 /// The program's output and its exit status.
 #[derive(Drop)]
@@ -24,19 +25,34 @@ fn maps_given(alloc: Global, matches: &ArgMatches<'_>) -> Result<Vec<Named>, Fai
     }
 }
 
-/// The program of an input.
-fn program_in(alloc: Global, matches: &ArgMatches<'_>, input: &[u8]) -> Result<Program, Failure> {
+/// The program of slots, or their refusal if they are none.
+fn program_of_slots(alloc: Global, slots: &[u8]) -> Result<Result<Program, Refusal>, AllocError> {
+    match read_program(alloc, slots) {
+        Ok(program) => Ok(Ok(program)),
+        Err(fault) if fault.kind == FaultKind::Memory => Err(AllocError),
+        Err(fault) => Ok(Err(Refusal::from(fault))),
+    }
+}
+
+/// The program of an input, or the refusal of its slots if they are none.
+fn program_in(
+    alloc: Global,
+    matches: &ArgMatches<'_>,
+    input: &[u8],
+) -> Result<Result<Program, Refusal>, Failure> {
     match form_of(matches, input) {
-        ProgramForm::Hex => hex_program(alloc, input),
-        ProgramForm::Text => text_program(alloc, input),
+        ProgramForm::Hex => {
+            let slots = hex_slots(alloc, input)?;
+            Ok(program_of_slots(alloc, &slots)?)
+        }
+        ProgramForm::Text => Ok(Ok(text_program(alloc, input)?)),
     }
 }
 
 /// The answer to an input whose slots are no program: the line that `verify` writes.
-fn no_program(alloc: Global, slot: usize, kind: u16) -> Result<Answer, Failure> {
-    let reason = 100 + u32::from(kind);
+fn refused(alloc: Global, refusal: Refusal) -> Result<Answer, AllocError> {
     Ok(Answer {
-        text: format!(in alloc; "refused: slot {slot} reason {reason}\n")?,
+        text: format!(in alloc; "{refusal}\n")?,
         status: 1,
     })
 }
@@ -65,10 +81,9 @@ fn log_answer<I: Read + Drop>(
 ) -> Result<Answer, Failure> {
     let maps = maps_given(alloc, matches)?;
     let input = whole_input(alloc, input)?;
-    match program_in(alloc, matches, &input) {
+    match program_in(alloc, matches, &input)? {
         Ok(program) => Ok(logged(alloc, &program, &maps, style_of(matches))?),
-        Err(Failure::Slot { slot, kind }) => no_program(alloc, slot, kind),
-        Err(failure) => Err(failure),
+        Err(refusal) => Ok(refused(alloc, refusal)?),
     }
 }
 

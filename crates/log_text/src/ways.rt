@@ -1,6 +1,6 @@
 //! The path on which something is missing that an instruction needs.
 
-use crate::needs::Refusal;
+use crate::needs::RefusedProgram;
 use crate::needs::registers::kind_of;
 use insn_codec::{Insn, MAX_SLOTS, Program};
 use reg_kinds::{Facts, Kind, Slot};
@@ -168,7 +168,7 @@ fn first_arrivals(alloc: Global, slots: usize) -> Result<Vec<Arrival>, AllocErro
 }
 
 /// Why something is missing before the refused instruction.
-fn cause_of(refusal: &Refusal<'_>, wanted: Wanted) -> Result<Option<Cause>, AllocError> {
+fn cause_of(refusal: &RefusedProgram<'_>, wanted: Wanted) -> Result<Option<Cause>, AllocError> {
     let (alloc, program, named) = (refusal.alloc, refusal.program, refusal.named);
     let mut finder = Finder {
         program,
@@ -210,7 +210,7 @@ fn verbs_of(wanted: Wanted) -> Verbs {
 /// Writes why something is missing before the refused instruction.
 pub(crate) fn write_way(
     text: &mut String,
-    refusal: &Refusal<'_>,
+    refusal: &RefusedProgram<'_>,
     wanted: Wanted,
 ) -> Result<(), AllocError> {
     let Verbs { was, is, holds } = verbs_of(wanted);

@@ -21,7 +21,9 @@ use Rattle.tenant.specs.declared.object.OpenObject.TheVariants as object
 use Rattle.tenant.specs.Errno.{status_of}
 use Rattle.tenant.specs.Loaded.{LoadedProgram}
 use Rattle.tenant.specs.State.{Map, TenantState, new_tenant, live, is_named, shape_area, with_objects}
-use Rattle.tenant.specs.Machine.{Answer, Answers, refuses, refuses_for_memory, kind_of, asked_shape, new_map, room_for, created_at, created_as, created_under, created, LoadJudgement, accepted, rejected, places_from, named_place, loaded_program, answer_of_judgement, LoadsAs, LoadsUnder, Loads, closed, on_map, of_object, of_place, gives_if_found, element_put, element_taken_out, outcome_answer, run_of, longest_packet, maps_given}
+use Rattle.insn_set.specs.declared.insn.Insn.{Insn}
+use Rattle.verifier.specs.declared.refusal.Refusal.{Refusal}
+use Rattle.tenant.specs.Machine.{Answer, cause_errno, Answers, refuses, refuses_for_memory, kind_of, asked_shape, new_map, room_for, created_at, created_as, created_under, created, places_from, named_place, loaded_program, answer_of_judgement, LoadsAs, LoadsUnder, Loads, closed, on_map, of_object, of_place, gives_if_found, element_put, element_taken_out, outcome_answer, run_of, longest_packet, maps_given}
 use Rattle.saving.specs.Alike.{HoldsItsMaps}
 use Rattle.saving.specs.Births.{Birth, OfMap, OfProgram, number, birth_of, latest_at, is_of_map, is_of_program, IsBorn, AreInOrder, AreBirths, is_open_program, lives, with_birth, with_opened, births_after}
 use Rattle.saving.specs.Laws.{MapsAreHeld, BirthsAreKept}
@@ -245,9 +247,9 @@ module _ {s : TenantState} (h : HoldsItsMaps s) (bs : List Birth) (are : AreBirt
       by (Some (object.Program l)) is rest = rest
       by (Some (object.Map place)) is rest = ((apart_from fd (object.Map place) low n (object.Map place) is, are.latest n (object.Map place) is), rest)
 
-  judged_births : (fd : ℕ) (j : LoadJudgement) → table.lowest s.objects ≡ Some fd → Born (answer_of_judgement s fd j)
-  judged_births fd (rejected errno slot n) low = refused_births errno s are
-  judged_births fd (accepted insns) low =
+  judged_births : (fd : ℕ) (j : Result (List Insn) Refusal) → table.lowest s.objects ≡ Some fd → Born (answer_of_judgement s fd j)
+  judged_births fd (Err refusal) low = refused_births (cause_errno refusal.cause) s are
+  judged_births fd (Ok insns) low =
       let l = loaded_program s insns in
       after_opening fd (object.Program l) low (record s { objects = table.with_open s.objects fd (object.Program l) }) refl
       (opened_births fd (object.Program l) low s.maps (λ p some. some) refl (l, here fd (object.Program l) low, maps_born fd low (maps_of insns)))

@@ -25,7 +25,10 @@ use Rattle.tenant.specs.declared.object.OpenObject.TheVariants as object
 use Rattle.tenant.specs.Loaded.{LoadedProgram}
 use Rattle.tenant.specs.Errno.{status_of, map_errno}
 use Rattle.tenant.specs.State.{Map, TenantState, live, is_named, shape_area, with_map_at, with_objects}
-use Rattle.tenant.specs.Machine.{Answer, refuses, refuses_for_memory, gives, opens, kind_of, asked_shape, new_map, room_for, created_at, created_as, created_under, created, of_place, of_object, on_map, gives_if_found, element_put, element_taken_out, LoadJudgement, accepted, rejected, Judges, targets, targets_from, places_from, loaded_program, answer_of_judgement, LoadsAs, LoadsUnder, Loads, longest_packet, maps_given, maps_left, outcome_answer, ran, run_of, closed, Answers}
+use Rattle.insn_set.specs.declared.insn.Insn.{Insn}
+use Rattle.verifier.specs.declared.refusal.Refusal.{Refusal}
+use Rattle.verifier.specs.Judgement.{Judges}
+use Rattle.tenant.specs.Machine.{Answer, refuses, refuses_for_memory, gives, opens, kind_of, asked_shape, new_map, room_for, created_at, created_as, created_under, created, of_place, of_object, on_map, gives_if_found, element_put, element_taken_out, targets, targets_from, places_from, loaded_program, answer_of_judgement, LoadsAs, LoadsUnder, Loads, longest_packet, maps_given, maps_left, outcome_answer, ran, run_of, closed, Answers}
 use Rattle.saving.specs.Alike.{moved_maps, moved_object, IsMovedBy, IsAlikeAnswer}
 use Rattle.saving.specs.Laws.{AlikeIsBisimulation}
 use Rattle.saving.proofs.Moved.{named_moved, lowest_moved, open_moved, closed_moved, named_by, stands_at, named_place_is_named, lookup_names, targets_moved, places_moved}
@@ -134,9 +137,9 @@ module _ {move : ℕ → ℕ} {s t : TenantState} (h : ArePair move s t) where
     );
   }
 
-  judged_too : (fd : ℕ) (j : LoadJudgement) → IsAlikeAnswer (answer_of_judgement s fd j) (answer_of_judgement t fd j)
-  judged_too fd (rejected errno slot number) = unchanged h _ _
-  judged_too fd (accepted insns) =
+  judged_too : (fd : ℕ) (j : Result (List Insn) Refusal) → IsAlikeAnswer (answer_of_judgement s fd j) (answer_of_judgement t fd j)
+  judged_too fd (Err refusal) = unchanged h _ _
+  judged_too fd (Ok insns) =
       opened_too fd (loaded_program s insns) (loaded_program t insns)
       (ap₂ (λ (ns : List Named) (ms : List (ℕ × ℕ)). object.Program (record { insns = insns; named = ns; maps = ms }))
       (ap (entries_of (maps_of insns)) same_targets)

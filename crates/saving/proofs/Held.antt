@@ -22,7 +22,9 @@ use Rattle.tenant.specs.declared.object.OpenObject.TheVariants as object
 use Rattle.tenant.specs.Loaded.{LoadedProgram}
 use Rattle.bpf_maps.specs.Limits.{most_maps}
 use Rattle.tenant.specs.State.{Map, TenantState, new_tenant, live, names, is_named, shape_area, with_map_at}
-use Rattle.tenant.specs.Machine.{Answer, refuses, kind_of, asked_shape, new_map, room_for, created_at, created_as, created_under, created, of_place, of_object, on_map, gives_if_found, element_put, element_taken_out, LoadJudgement, accepted, rejected, loaded_program, answer_of_judgement, LoadsAs, LoadsUnder, Loads, longest_packet, maps_given, maps_left, outcome_answer, run_of, closed, Answers}
+use Rattle.insn_set.specs.declared.insn.Insn.{Insn}
+use Rattle.verifier.specs.declared.refusal.Refusal.{Refusal}
+use Rattle.tenant.specs.Machine.{Answer, refuses, kind_of, asked_shape, new_map, room_for, created_at, created_as, created_under, created, of_place, of_object, on_map, gives_if_found, element_put, element_taken_out, loaded_program, answer_of_judgement, LoadsAs, LoadsUnder, Loads, longest_packet, maps_given, maps_left, outcome_answer, run_of, closed, Answers}
 use Rattle.saving.specs.Alike.{HoldsItsMaps}
 use Rattle.saving.specs.Laws.{MapsAreHeld}
 use Rattle.saving.proofs.Lists.{not_none, there_is, set_by_place}
@@ -185,9 +187,9 @@ module _ {s : TenantState} (h : HoldsItsMaps s) where
       was p (inl e) = named p e
       was p (inr e) = e
 
-  judged_held : (fd : ℕ) (j : LoadJudgement) → table.lowest s.objects ≡ Some fd → HoldsItsMaps (answer_of_judgement s fd j).after
-  judged_held fd (rejected errno slot number) low = h
-  judged_held fd (accepted insns) low = opened_held fd (loaded_program s insns) low (λ p e. places_named s.objects (maps_of insns) p e)
+  judged_held : (fd : ℕ) (j : Result (List Insn) Refusal) → table.lowest s.objects ≡ Some fd → HoldsItsMaps (answer_of_judgement s fd j).after
+  judged_held fd (Err refusal) low = h
+  judged_held fd (Ok insns) low = opened_held fd (loaded_program s insns) low (λ p e. places_named s.objects (maps_of insns) p e)
 
   loads_held : (refused : Bool) (kind : ℕ) (slots : List ℕ) (a : Answer) → Loads refused s kind slots a → HoldsItsMaps a.after
   loads_held refused kind slots a is = by (kind == 1) is

@@ -26,7 +26,10 @@ use Rattle.tenant.specs.declared.object.OpenObject.TheVariants as object
 use Rattle.tenant.specs.Loaded.{LoadedProgram}
 use Rattle.bpf_maps.specs.Limits.{most_bytes, most_maps}
 use Rattle.tenant.specs.State.{Map, TenantState, new_tenant, free_place, live, is_named, shape_area, map_area, maps_area, with_map_at, with_objects}
-use Rattle.tenant.specs.Machine.{Answer, Answers, refuses, refuses_for_memory, kind_of, asked_shape, new_map, room_for, created_at, created_as, created_under, created, of_place, of_object, on_map, gives_if_found, element_put, element_taken_out, LoadJudgement, Judges, targets, accepted, rejected, loaded_program, answer_of_judgement, LoadsAs, LoadsUnder, Loads, longest_packet, maps_given, maps_left, outcome_answer, run_of, closed}
+use Rattle.insn_set.specs.declared.insn.Insn.{Insn}
+use Rattle.verifier.specs.declared.refusal.Refusal.{Refusal}
+use Rattle.verifier.specs.Judgement.{Judges}
+use Rattle.tenant.specs.Machine.{Answer, Answers, refuses, refuses_for_memory, kind_of, asked_shape, new_map, room_for, created_at, created_as, created_under, created, of_place, of_object, on_map, gives_if_found, element_put, element_taken_out, targets, loaded_program, answer_of_judgement, LoadsAs, LoadsUnder, Loads, longest_packet, maps_given, maps_left, outcome_answer, run_of, closed}
 use Rattle.saving.specs.Alike.{HoldsItsMaps}
 use Rattle.saving.specs.Restorable.{AreDistinct, IsWholeTable, IsWholeMap, IsWholeProgram, IsRestorable}
 use Rattle.saving.specs.Laws.{MapsAreHeld, RestorableIsKept}
@@ -271,9 +274,9 @@ module _ {s : TenantState} (can : IsRestorable s) where
       by n k (inl same) = subst (IsWholeProgram s) (let e : (let o : OpenObject = object.Program l in o) ≡ object.Program k = same in cc e) whole
       by n k (inr there) = can.programs n k there
 
-  judged_kept : LoadedMapsHaveShapes → (fd : ℕ) (slots : List ℕ) (j : LoadJudgement) → table.lowest s.objects ≡ Some fd → Judges (targets s) slots j → Keeps (answer_of_judgement s fd j)
-  judged_kept law fd slots (rejected errno slot number) low judges = λ holds. can
-  judged_kept law fd slots (accepted insns) low (program, spelled, fine) = λ holds. opened_kept fd (loaded_program s insns) low (loaded_whole law s can.held.descriptors insns program fine) holds
+  judged_kept : LoadedMapsHaveShapes → (fd : ℕ) (slots : List ℕ) (j : Result (List Insn) Refusal) → table.lowest s.objects ≡ Some fd → Judges (targets s) slots j → Keeps (answer_of_judgement s fd j)
+  judged_kept law fd slots (Err refusal) low judges = λ holds. can
+  judged_kept law fd slots (Ok insns) low (program, spelled, fine) = λ holds. opened_kept fd (loaded_program s insns) low (loaded_whole law s can.held.descriptors insns program fine) holds
 
   loads_kept : LoadedMapsHaveShapes → (refused : Bool) (kind : ℕ) (slots : List ℕ) (a : Answer) → Loads refused s kind slots a → Keeps a
   loads_kept law refused kind slots a is = by (kind == 1) is

@@ -1,5 +1,5 @@
 -- A program is loaded again with its maps.
-use Rattle.std.proofs.Common.{◌≡◌, ℕ, zero, suc, ◌+◌, ◌≤◌, Bool, true, false, List, [], ◌∷◌, ◌++◌, filter, Option, Some, None, is_some, refl, sym, ap, ap₂, subst, ◌∙◌, inl, inr, arith, true≢false}
+use Rattle.std.proofs.Common.{◌≡◌, ℕ, zero, suc, ◌+◌, ◌≤◌, Bool, true, false, List, [], ◌∷◌, ◌++◌, filter, Option, Some, None, is_some, refl, sym, ap, ap₂, subst, ◌∙◌, inl, inr, arith, true≢false, Ok}
 use Rattle.std.specs.Prelude.{◌⊎◌, ◌==◌, ◌||◌, option_map, if◌then◌else◌}
 use Rattle.std.specs.List.{list_any, AllByRecursion}
 use Rattle.std.specs.Map.{lookup, keys_of}
@@ -20,7 +20,7 @@ use Rattle.tenant.specs.declared.object.OpenObject.{OpenObject}
 use Rattle.tenant.specs.declared.object.OpenObject.TheVariants as object
 use Rattle.tenant.specs.Loaded.{LoadedProgram}
 use Rattle.tenant.specs.State.{Map, TenantState, live, names, is_named}
-use Rattle.tenant.specs.Machine.{Answers, opens, object_target, entry_of, targets_from, targets, places_from, named_place, loaded_program, accepted, LoadsUnder}
+use Rattle.tenant.specs.Machine.{Answers, opens, object_target, entry_of, targets_from, targets, places_from, named_place, loaded_program, LoadsUnder}
 use Rattle.saving.specs.Restored.{load_of}
 use Rattle.saving.specs.Restorable.{shapes_from, IsWholeProgram}
 use Rattle.saving.proofs.Moved.{or_parts}
@@ -136,7 +136,7 @@ module _ (s : TenantState) (f : Opened) (l : LoadedProgram) (whole : IsWholeProg
   pub load_answer : SameEntriesSameVerdict → (fd : ℕ) → IsOnlyFree f fd → Answers [] (state_of s f) (load_of l.insns) (opens fd (state_of s (set_at f fd (Some (object.Program l)))))
   load_answer same fd free =
       subst (λ (o : Option ℕ). LoadsUnder false (state_of s f) o (program_bytes l.insns) (opens fd (state_of s (set_at f fd (Some (object.Program l)))))) (sym (lowest-table f fd free))
-      (accepted l.insns, (whole.program, refl, accepted_again same), ap (opens fd) (sym after))
+      (Ok l.insns, (whole.program, refl, accepted_again same), ap (opens fd) (sym after))
     where
       either : (a b : Bool) → (a ≡ true → b ≡ true) → (a || b) ≡ b
       either true b h = sym (h refl)

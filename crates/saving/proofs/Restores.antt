@@ -1,5 +1,5 @@
 -- A new tenant that is given the commands of a state is alike to it.
-use Rattle.std.proofs.Common.{◌≡◌, ◌≢◌, ℕ, zero, suc, ◌+◌, ◌≤◌, ◌<◌, Bool, true, false, List, [], ◌∷◌, ◌++◌, get_or, replicate, Option, Some, None, IsSome, is_some, refl, sym, ap, ap₂, subst, ◌∙◌, inl, inr, arith, true≢false}
+use Rattle.std.proofs.Common.{◌≡◌, ◌≢◌, ℕ, zero, suc, ◌+◌, ◌≤◌, ◌<◌, Bool, true, false, List, [], ◌∷◌, ◌++◌, get_or, replicate, Option, Some, None, IsSome, is_some, refl, sym, ap, ap₂, subst, ◌∙◌, inl, inr, arith, true≢false, Ok}
 use Rattle.std.specs.Prelude.{◌⊎◌, is_none, nat_lt, if◌then◌else◌}
 use Rattle.std.proofs.Math.Path.{fun_ext}
 use Rattle.std.proofs.lemmas.Bool.{cases_eq, cases_lt, eq-eqb, lt-ltb, le-ltb}
@@ -16,7 +16,7 @@ use Rattle.tenant.specs.declared.object.OpenObject.TheVariants as object
 use Rattle.tenant.specs.Loaded.{LoadedProgram}
 use Rattle.bpf_maps.specs.Limits.{most_maps}
 use Rattle.tenant.specs.State.{Map, TenantState, new_tenant, live, names, is_named, named_from}
-use Rattle.tenant.specs.Machine.{Answers, gives, opens, targets, places_from, loaded_program, accepted, LoadsUnder}
+use Rattle.tenant.specs.Machine.{Answers, gives, opens, targets, places_from, loaded_program, LoadsUnder}
 use Rattle.saving.specs.Alike.{HoldsItsMaps}
 use Rattle.saving.specs.Births.{Birth, birth_of, latest_at, AreBirths}
 use Rattle.saving.specs.Filler.{filler}
@@ -81,7 +81,7 @@ next_filled k fd = by (cases_eq fd k)
 fill_answer : FillerIsAccepted → (k : ℕ) → IsDescriptor k → Answers [] (filling k) (load_of filler) (opens k (filling (k + 1)))
 fill_answer fine k is =
     subst (λ (o : Option ℕ). LoadsUnder false (filling k) o (program_bytes filler) (opens k (filling (k + 1)))) (sym (lowest-is (filled_to k) k free))
-    (accepted filler, (fine.0, refl, fine.1 (targets (filling k))), ap (λ (os : List (Option OpenObject)). opens k (record { objects = os; maps = no_maps; refused = false })) (sym objects))
+    (Ok filler, (fine.0, refl, fine.1 (targets (filling k))), ap (λ (os : List (Option OpenObject)). opens k (record { objects = os; maps = no_maps; refused = false })) (sym objects))
   where
     free : IsLowestFree (filled_to k) k
     free = record {

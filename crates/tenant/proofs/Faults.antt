@@ -8,6 +8,7 @@ use Rattle.command_frames.specs.declared.command.BadFrame.{BadFrame}
 use Rattle.fd_table.specs.Table as table
 use Rattle.insn_codec.specs.declared.fault.FaultKind.{FaultKind}
 use Rattle.insn_codec.specs.declared.fault.FaultKind.TheVariants as kind
+use Rattle.insn_set.specs.declared.insn.Insn.{Insn}
 use Rattle.reg_kinds.specs.declared.reason.Reason.{Reason}
 use Rattle.reg_kinds.specs.declared.reason.Reason.TheVariants as reason
 use Rattle.tagged_model.specs.declared.shape.MapShape.{MapShape}
@@ -18,6 +19,9 @@ use Rattle.tagged_model.specs.Shape.{area}
 use Rattle.tagged_model.specs.Table as call
 use Rattle.tagged_model.specs.Step.{refused_at_first}
 use Rattle.tagged_model.specs.Table.{verdict, removal, look_up, next_of}
+use Rattle.verifier.specs.declared.refusal.Cause.{Cause}
+use Rattle.verifier.specs.declared.refusal.Cause.TheVariants as cause
+use Rattle.verifier.specs.declared.refusal.Refusal.{Refusal}
 use Rattle.tenant.specs.declared.errno.Errno.{Errno}
 use Rattle.tenant.specs.declared.errno.Errno.TheVariants.{NotPermitted, TooBig, BadAddress, Invalid}
 use Rattle.tenant.specs.declared.object.OpenObject.{OpenObject}
@@ -25,7 +29,7 @@ use Rattle.tenant.specs.declared.object.OpenObject.TheVariants as object
 use Rattle.command_frames.specs.Frame.{owner, command_number, reply_to}
 use Rattle.tenant.specs.Alone.{AnswersFrame, IsFault}
 use Rattle.tenant.specs.Errno.{status_of}
-use Rattle.tenant.specs.Machine.{Answer, targets, ran, refuses, codec_errno, verdict_errno, created_as, created_under, created, room_for, kind_of, asked_shape, of_object, of_place, on_map, gives_if_found, element_put, element_taken_out, LoadJudgement, accepted, rejected, Judges, answer_of_judgement, LoadsUnder, outcome_answer, run_of, longest_packet, closed, Answers}
+use Rattle.tenant.specs.Machine.{Answer, ran, refuses, cause_errno, codec_errno, verdict_errno, created_as, created_under, created, room_for, kind_of, asked_shape, of_object, of_place, on_map, gives_if_found, element_put, element_taken_out, answer_of_judgement, LoadsUnder, outcome_answer, run_of, longest_packet, closed, Answers}
 use Rattle.tenant.specs.State.{Map, TenantState, live}
 use Rattle.tenant.proofs.LookUps.{has_size}
 use Rattle.tenant.proofs.NextKeys.{is_empty_or_fits}
@@ -77,6 +81,10 @@ verdict_other reason.NoDirectValue = invalid
 verdict_other reason.Memory = no_memory
 verdict_other other = denied
 
+cause_other : (c : Cause) → low (status_of (cause_errno c)) ≢ 242
+cause_other (cause.Slots kind) = codec_other kind
+cause_other (cause.Verdict why) = verdict_other why
+
 -- ---- command by command
 
 bare_as : (b : Bool) (s : TenantState) (shape : MapShape) (fd : ℕ) (o : Option ℕ) → IsBare (created_as b s shape fd o)
@@ -126,10 +134,9 @@ bare_taken : (s : TenantState) (place : ℕ) (t : Map) (key : List ℕ) (r : Res
 bare_taken s place t key (Err fault) e = refl
 bare_taken s place t key (Ok value) e = refl
 
-bare_judged : (s : TenantState) (fd : ℕ) (slots : List ℕ) (j : LoadJudgement) → Judges (targets s) slots j → IsBare (answer_of_judgement s fd j)
-bare_judged s fd slots (accepted insns) h e = refl
-bare_judged s fd slots (rejected errno slot number) (inl (fault, is, same, at, number_is)) e = absurd (codec_other fault.kind (ap (λ (x : Errno). low (status_of x)) (sym same) ∙ e))
-bare_judged s fd slots (rejected errno slot number) (inr (insns, why, program, spelled, refused, same, number_is)) e = absurd (verdict_other why (ap (λ (x : Errno). low (status_of x)) (sym same) ∙ e))
+bare_judged : (s : TenantState) (fd : ℕ) (j : Result (List Insn) Refusal) → IsBare (answer_of_judgement s fd j)
+bare_judged s fd (Ok insns) e = refl
+bare_judged s fd (Err refusal) e = absurd (cause_other refusal.cause e)
 
 bare_told : (a b : Answer) → a ≡ b → IsBare b → IsBare a
 bare_told a b same bare = subst IsBare (sym same) bare
@@ -137,7 +144,7 @@ bare_told a b same bare = subst IsBare (sym same) bare
 bare_load : (b : Bool) (s : TenantState) (o : Option ℕ) (slots : List ℕ) (a : Answer) → LoadsUnder b s o slots a → IsBare a
 bare_load b s None slots a h = bare_told a _ h (λ e. refl)
 bare_load true s (Some fd) slots a h = bare_told a _ h (λ e. refl)
-bare_load false s (Some fd) slots a (j, is, told) = bare_told a _ told (bare_judged s fd slots j is)
+bare_load false s (Some fd) slots a (j, is, told) = bare_told a _ told (bare_judged s fd j)
 
 bare_loads : (right b : Bool) (s : TenantState) (slots : List ℕ) (a x : Answer) → x.payload ≡ [] → MatchBool right (LoadsUnder b s (table.lowest s.objects) slots a) (a ≡ x) → IsBare a
 bare_loads true b s slots a x plain h = bare_load b s (table.lowest s.objects) slots a h

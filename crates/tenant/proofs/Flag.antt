@@ -20,7 +20,9 @@ use Rattle.tenant.specs.Loaded.{LoadedProgram}
 use Rattle.tenant.specs.State.{Map, TenantState, live}
 use Rattle.command_frames.specs.declared.command.BadFrame.{BadFrame}
 use Rattle.tenant.specs.Alone.{AnswersFrame, RepliesUnder, MayReply, IsToldAlone, AloneWithRefusals, EndsOrIsRefused, IsToldAloneUntilRefused}
-use Rattle.tenant.specs.Machine.{Answer, of_object, of_place, on_map, element_put, created_at, created_as, created_under, created, room_for, kind_of, asked_shape, refuses, maps_left, maps_given, outcome_answer, ran, run_of, longest_packet, LoadsAs, LoadsUnder, Answers, LoadJudgement, accepted, rejected, answer_of_judgement, gives_if_found, element_taken_out, closed}
+use Rattle.insn_set.specs.declared.insn.Insn.{Insn}
+use Rattle.verifier.specs.declared.refusal.Refusal.{Refusal}
+use Rattle.tenant.specs.Machine.{Answer, of_object, of_place, on_map, element_put, created_at, created_as, created_under, created, room_for, kind_of, asked_shape, refuses, maps_left, maps_given, outcome_answer, ran, run_of, longest_packet, LoadsAs, LoadsUnder, Answers, answer_of_judgement, gives_if_found, element_taken_out, closed}
 use Rattle.tenant.proofs.LookUps.{has_size}
 use Rattle.tenant.proofs.NextKeys.{is_empty_or_fits}
 use Rattle.tenant.proofs.Updates.{has_sizes, key_of, value_of, put_of}
@@ -113,9 +115,9 @@ clear_run tell r s words packet (Some (object.Program l)) e = by_length (nat_lt 
 
 -- ---- a load
 
-kept_judged : (s : TenantState) (fd : ℕ) (j : LoadJudgement) → (answer_of_judgement s fd j).after.refused ≡ s.refused
-kept_judged s fd (accepted insns) = refl
-kept_judged s fd (rejected errno slot number) = refl
+kept_judged : (s : TenantState) (fd : ℕ) (j : Result (List Insn) Refusal) → (answer_of_judgement s fd j).after.refused ≡ s.refused
+kept_judged s fd (Ok insns) = refl
+kept_judged s fd (Err refusal) = refl
 
 loads_as : (b : Bool) (s : TenantState) (fd : ℕ) (slots : List ℕ) (a : Answer) → LoadsAs b s fd slots a → a.after.refused ≡ false → LoadsAs false s fd slots a × (s.refused ≡ false)
 loads_as true s fd slots a is e = no _ (sym (ap (λ (x : Answer). x.after.refused) is) ∙ e)

@@ -46,7 +46,7 @@ no_fault_written h bytes (Ok (reply.Opened fd)) s writable written = apart h byt
 no_fault_written h bytes (Ok (reply.Value value)) s writable written = apart h bytes (shown_answer (Ok (reply.Value value)) s) written no_zero
 no_fault_written h bytes (Ok (reply.Key key)) s writable written = apart h bytes (shown_answer (Ok (reply.Key key)) s) written no_zero
 no_fault_written h bytes (Ok (reply.Number number)) s writable written = apart h bytes (shown_answer (Ok (reply.Number number)) s) written no_zero
-no_fault_written h bytes (Ok (reply.RefusedAt errno slot reason)) s writable written =
+no_fault_written h bytes (Ok (reply.Refused refusal)) s writable written =
     -- it is longer
     λ e. let wrong : 14 ≡ 8 = ap (λ (b : List ℕ). get_or b 0 0) (sym written ∙ e) in absurd (omega (arith, wrong))
 no_fault_written h bytes (Err errno) s writable written = apart h bytes (shown_answer (Err errno) s) written (other_errno errno writable)

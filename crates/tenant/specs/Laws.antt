@@ -1,17 +1,13 @@
 -- The machine is deterministic: with the same refusals of memory a command has one answer, and a list of frames has one list
 -- of replies. This project's own.
 use Rattle.std.specs.Prelude.{◌≡◌, ℕ, Bool, false, [], List, Option, Some}
-use Rattle.tagged_model.specs.declared.shape.Named.{Named}
 use Rattle.command_frames.specs.Command.{Command}
 use Rattle.tenant.specs.State.{TenantState}
-use Rattle.tenant.specs.Machine.{Answer, LoadJudgement, Judges, Answers}
+use Rattle.tenant.specs.Machine.{Answer, Answers}
 use Rattle.command_frames.specs.Frame.{reply_to}
 use Rattle.tenant.specs.declared.errno.Errno.TheVariants.{BadAddress}
 use Rattle.tenant.specs.Errno.{status_of}
 use Rattle.tenant.specs.Alone.{RepliesUnder, MayReply, IsFault, IsToldAlone, AloneWithRefusals, IsToldAloneUntilRefused}
-
-abbrev pub OneJudgement : Type 0
-OneJudgement = (named : List Named) (slots : List ℕ) (j k : LoadJudgement) → Judges named slots j → Judges named slots k → j ≡ k
 
 abbrev pub OneAnswer : Type 0
 OneAnswer = (refusals : List Bool) (s : TenantState) (command : Command) (a b : Answer) → Answers refusals s command a → Answers refusals s command b → a ≡ b

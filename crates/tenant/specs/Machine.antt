@@ -6,15 +6,10 @@ use Rattle.byteorder.specs.Endian.{little_bytes}
 use Rattle.command_frames.specs.Command.{Command, map_create, map_lookup, map_update, map_delete, map_next_key, prog_load, prog_test_run, close}
 use Rattle.fd_table.specs.Table as table
 use Rattle.insn_set.specs.declared.insn.Insn.{Insn}
-use Rattle.insn_codec.specs.declared.fault.CodecFault.{CodecFault}
 use Rattle.insn_codec.specs.declared.fault.FaultKind.{FaultKind}
 use Rattle.insn_codec.specs.declared.fault.FaultKind.TheVariants as kind
-use Rattle.insn_set.specs.Program.{IsProgram, program_bytes}
-use Rattle.insn_codec.specs.ProgramFault.{IsProgramFault}
-use Rattle.insn_codec.specs.Fault.{fault_number}
 use Rattle.reg_kinds.specs.declared.reason.Reason.{Reason}
 use Rattle.reg_kinds.specs.declared.reason.Reason.TheVariants as reason
-use Rattle.reg_kinds.specs.Reason.{number as reason_number}
 use Rattle.tagged_model.specs.declared.shape.MapKind.{MapKind}
 use Rattle.tagged_model.specs.declared.shape.MapKind.TheVariants.{Hash, Array}
 use Rattle.tagged_model.specs.declared.shape.MapShape.{MapShape}
@@ -29,7 +24,10 @@ use Rattle.tagged_model.specs.Shape.{is_shape, is_valid}
 use Rattle.tagged_model.specs.Step.{refused_at_first, MapsByDescriptor, result_with, left_with, was_refused}
 use Rattle.tagged_model.specs.Table as call
 use Rattle.tagged_model.specs.Table.{look_up, verdict, removal, next_of, with_new, with_object, with_deleted, after_run, new_table}
-use Rattle.verifier.specs.Verdict.{IsAccepted, IsRefused}
+use Rattle.verifier.specs.declared.refusal.Cause.{Cause}
+use Rattle.verifier.specs.declared.refusal.Cause.TheVariants as cause
+use Rattle.verifier.specs.declared.refusal.Refusal.{Refusal}
+use Rattle.verifier.specs.Judgement.{cause_number, Judges}
 use Rattle.verifier.specs.Maps.{maps_of, entries_of}
 use Rattle.tenant.specs.declared.errno.Errno.{Errno}
 use Rattle.tenant.specs.declared.errno.Errno.TheVariants.{NoEntry, TooBig, BadDescriptor, NoMemory, AccessDenied, BadAddress, Invalid, TooManyOpen, NoSpace}
@@ -54,10 +52,6 @@ refuses errno s = record { status = status_of errno; payload = []; after = s }
 -- a refusal of memory sets the flag, and changes nothing else
 abbrev pub refuses_for_memory : TenantState → Answer
 refuses_for_memory s = record { status = status_of NoMemory; payload = []; after = record s { refused = true } }
-
--- a refused load reports the slot and the reason
-abbrev pub refuses_at : Errno → ℕ → ℕ → TenantState → Answer
-refuses_at errno slot number s = record { status = status_of errno; payload = little_bytes 4 slot ++ little_bytes 2 number; after = s }
 
 abbrev pub gives : List ℕ → TenantState → Answer
 gives payload s = record { status = pos 0; payload = payload; after = s }
@@ -201,25 +195,13 @@ verdict_errno reason.LengthUnbounded = AccessDenied
 verdict_errno reason.UnalignedAtomic = AccessDenied
 verdict_errno reason.Memory = NoMemory
 
--- the judgement of slots: a program, or why they are none that may run
-pub data LoadJudgement : Type 0 where
-  accepted : (insns : List Insn) → LoadJudgement
-  rejected : (errno : Errno) (slot number : ℕ) → LoadJudgement
+abbrev pub cause_errno : Cause → Errno
+cause_errno (cause.Slots kind) = codec_errno kind
+cause_errno (cause.Verdict why) = verdict_errno why
 
-abbrev pub IsNoProgram : List ℕ → Errno → ℕ → ℕ → Type 0
-IsNoProgram slots errno slot number =
-    (fault : CodecFault) × IsProgramFault slots fault
-    × (errno ≡ codec_errno fault.kind) × (slot ≡ fault.slot) × (number ≡ 100 + fault_number fault.kind)
-
-abbrev pub IsRefusedProgram : List Named → List ℕ → Errno → ℕ → ℕ → Type 0
-IsRefusedProgram named slots errno slot number =
-    (insns : List Insn) × (why : Reason) × IsProgram insns × (slots ≡ program_bytes insns) × IsRefused insns named slot why
-    × (errno ≡ verdict_errno why) × (number ≡ reason_number why)
-
--- there is at most one judgement
-abbrev pub Judges : List Named → List ℕ → LoadJudgement → Type 0
-Judges named slots (accepted insns) = IsProgram insns × (slots ≡ program_bytes insns) × IsAccepted insns named
-Judges named slots (rejected errno slot number) = IsNoProgram slots errno slot number ⊎ IsRefusedProgram named slots errno slot number
+-- a refused load reports the slot, and the number of the cause
+abbrev pub refuses_load : Refusal → TenantState → Answer
+refuses_load refusal s = record { status = status_of (cause_errno refusal.cause); payload = little_bytes 4 refusal.slot ++ little_bytes 2 (cause_number refusal.cause); after = s }
 
 -- an open object as the verifier sees it: a map of its shape, or a program
 abbrev pub object_target : TenantState → OpenObject → Option Target
@@ -260,14 +242,14 @@ loaded_program s insns = record {
   maps = places_from s.objects (maps_of insns);
 }
 
-abbrev pub answer_of_judgement : TenantState → ℕ → LoadJudgement → Answer
-answer_of_judgement s fd (rejected errno slot number) = refuses_at errno slot number s
-answer_of_judgement s fd (accepted insns) = opens fd (record s { objects = table.with_open s.objects fd (object.Program (loaded_program s insns)) })
+abbrev pub answer_of_judgement : TenantState → ℕ → Result (List Insn) Refusal → Answer
+answer_of_judgement s fd (Err refusal) = refuses_load refusal s
+answer_of_judgement s fd (Ok insns) = opens fd (record s { objects = table.with_open s.objects fd (object.Program (loaded_program s insns)) })
 
 -- if memory is refused, that is the answer whatever the slots are
 abbrev pub LoadsAs : Bool → TenantState → ℕ → List ℕ → Answer → Type 0
 LoadsAs true s fd slots answer = answer ≡ refuses_for_memory s
-LoadsAs false s fd slots answer = (j : LoadJudgement) × Judges (targets s) slots j × (answer ≡ answer_of_judgement s fd j)
+LoadsAs false s fd slots answer = (j : Result (List Insn) Refusal) × Judges (targets s) slots j × (answer ≡ answer_of_judgement s fd j)
 
 abbrev pub LoadsUnder : Bool → TenantState → Option ℕ → List ℕ → Answer → Type 0
 LoadsUnder refused s None slots answer = answer ≡ refuses TooManyOpen s

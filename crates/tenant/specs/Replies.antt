@@ -1,5 +1,5 @@
 -- The machine's answers that the code's replies represent. This project's own.
-use Rattle.std.specs.Prelude.{◌≢◌, ◌+◌, ◌<◌, ◌≤◌, [], length, Result, Ok, Err}
+use Rattle.std.specs.Prelude.{◌≢◌, ◌+◌, ◌<◌, ◌≤◌, ◌^◌, [], length, Result, Ok, Err}
 use Rattle.byteorder.specs.Endian.{little_bytes}
 use Rattle.bpf_maps.specs.KeyRef.{key_bytes}
 use Rattle.command_frames.specs.Frame.{longest_payload}
@@ -9,7 +9,7 @@ use Rattle.tenant.specs.declared.errno.Errno.TheVariants.{BadAddress}
 use Rattle.tenant.specs.declared.reply.Reply.{Reply}
 use Rattle.tenant.specs.declared.reply.Reply.TheVariants as reply
 use Rattle.tenant.specs.State.{TenantState}
-use Rattle.tenant.specs.Machine.{Answer, gives, opens, refuses, refuses_at}
+use Rattle.tenant.specs.Machine.{Answer, gives, opens, refuses, refuses_load}
 
 -- the answer that a reply or an error represents, with the state after the command
 abbrev pub shown_answer : Result Reply Errno → TenantState → Answer
@@ -18,15 +18,15 @@ shown_answer (Ok (reply.Opened fd)) s = opens fd s
 shown_answer (Ok (reply.Value value)) s = gives value.now s
 shown_answer (Ok (reply.Key key)) s = gives (key_bytes key) s
 shown_answer (Ok (reply.Number number)) s = gives (little_bytes 4 number) s
-shown_answer (Ok (reply.RefusedAt errno slot reason)) s = refuses_at errno slot reason s
+shown_answer (Ok (reply.Refused refusal)) s = refuses_load refusal s
 shown_answer (Err errno) s = refuses errno s
 
--- a descriptor is one of the table's, a payload is no longer than the longest, and the error is not that of a run that faults
+-- a descriptor is one of the table's, a payload is no longer than the longest, a slot has room in four bytes, and the error is not that of a run that faults
 abbrev pub IsWritable : Result Reply Errno → Type 0
 IsWritable (Ok reply.Done) = Unit {0}
 IsWritable (Ok (reply.Opened fd)) = fd < first_descriptor + most
 IsWritable (Ok (reply.Value value)) = length value.now ≤ longest_payload
 IsWritable (Ok (reply.Key key)) = length (key_bytes key) ≤ longest_payload
 IsWritable (Ok (reply.Number number)) = Unit {0}
-IsWritable (Ok (reply.RefusedAt errno slot reason)) = Unit {0}
+IsWritable (Ok (reply.Refused refusal)) = refusal.slot < 2 ^ 32
 IsWritable (Err errno) = errno ≢ BadAddress

@@ -1,8 +1,12 @@
 //! Error numbers.
 
 ghost use Rattle.std.specs.Prelude.{◌≡◌, ◌≢◌};
+ghost use Rattle.tenant.specs.Machine.{cause_errno, codec_errno, verdict_errno};
 
+use insn_codec::FaultKind;
+use reg_kinds::Reason;
 use tagged_model::MapFault;
+use verifier::Cause;
 
 /// Why a command is refused: the errors of bpf(2).
 #[derive(Clone, Copy, Debug, PartialEq, Eq)]
@@ -31,6 +35,54 @@ pub enum Errno {
     NoSpace,
 }
 
+/// The error of a load whose slots are no program.
+fn errno_of_codec(kind: FaultKind) -> Errno
+    ensures { result ≡ codec_errno kind }
+{
+    match kind {
+        FaultKind::Empty | FaultKind::TooLong => Errno::TooBig,
+        FaultKind::Opcode
+        | FaultKind::Reserved
+        | FaultKind::Register
+        | FaultKind::SecondSlot
+        | FaultKind::Ragged => Errno::Invalid,
+        FaultKind::Memory => Errno::NoMemory,
+    }
+}
+
+/// The error of a load whose program is not accepted.
+fn errno_of_verdict(reason: Reason) -> Errno
+    ensures { result ≡ verdict_errno reason }
+{
+    match reason {
+        Reason::JumpOutside | Reason::JumpBackward | Reason::FallsOff => Errno::Invalid,
+        Reason::Unreachable
+        | Reason::UnknownHelper
+        | Reason::DescriptorNotMap
+        | Reason::NoDirectValue => Errno::Invalid,
+        Reason::DescriptorNotOpen => Errno::BadDescriptor,
+        Reason::FramePointerWritten
+        | Reason::UnreadableRegister
+        | Reason::ResultNotScalar
+        | Reason::NotPointer
+        | Reason::PointerArithmetic
+        | Reason::OffsetTooLarge
+        | Reason::OutsideStack
+        | Reason::UnalignedStack
+        | Reason::UnwrittenStack
+        | Reason::PartOfSpill
+        | Reason::OutsideValue
+        | Reason::MaybeNull
+        | Reason::ContextAccess
+        | Reason::PointerStored
+        | Reason::PointerComparison
+        | Reason::HelperArgument
+        | Reason::LengthUnbounded
+        | Reason::UnalignedAtomic => Errno::AccessDenied,
+        Reason::Memory => Errno::NoMemory,
+    }
+}
+
 impl Errno {
     ghost use Rattle.tenant.specs.Errno.{status_of, map_errno};
     ghost use Rattle.tenant.specs.declared.errno.Errno.TheVariants.{BadAddress};
@@ -47,6 +99,16 @@ impl Errno {
             MapFault::Exists => Errno::Exists,
             MapFault::Invalid => Errno::Invalid,
             MapFault::NoSpace => Errno::NoSpace,
+        }
+    }
+
+    /// The error of a load that is refused for this cause.
+    pub(crate) fn of_cause(cause: Cause) -> Errno
+        ensures { result ≡ cause_errno cause }
+    {
+        match cause {
+            Cause::Slots(kind) => errno_of_codec(kind),
+            Cause::Verdict(reason) => errno_of_verdict(reason),
         }
     }
 

@@ -1,23 +1,13 @@
 //! Laws of the machine. Each law is the contract of a function that does nothing.
 
 ghost use Rattle.tenant.specs.Batch.{BatchIsItsFrames, RefusedAsItsFrame, OneResultEach};
-ghost use Rattle.tenant.specs.Laws.{OneJudgement, OneAnswer, OneReply, OneAlone, ClearFlagMeansNoRefusal, ClearFlagMeansAlone, AloneUntilRefused, FaultsHaveNoPayload};
-
-/// The judgement of slots is unique: one accepted program, or one fault.
-pub fn one_judgement()
-    ensures { OneJudgement }
-{
-    insn_codec::laws::one_program();
-    insn_codec::laws::one_fault();
-    verifier::laws::one_refusal();
-    verifier::laws::accepted_is_not_refused();
-}
+ghost use Rattle.tenant.specs.Laws.{OneAnswer, OneReply, OneAlone, ClearFlagMeansNoRefusal, ClearFlagMeansAlone, AloneUntilRefused, FaultsHaveNoPayload};
 
 /// The answer to a command is unique, for the same refusals of memory.
 pub fn one_answer()
     ensures { OneAnswer }
 {
-    one_judgement();
+    verifier::laws::one_judgement();
 }
 
 /// The reply to a frame is unique, for the same refusals of memory.

@@ -1,13 +1,13 @@
 //! PROG_LOAD.
 
-ghost use Rattle.std.specs.Prelude.{◌≡◌, ◌+◌, ◌<◌, ◌^◌, ℕ, Bool, false, List, IfOk, IfErr, Some, length, is_none, map};
+ghost use Rattle.std.specs.Prelude.{◌≡◌, ◌≤◌, ◌+◌, ◌*◌, ◌<◌, ◌^◌, ℕ, Bool, false, List, IfOk, IfErr, Ok, Err, Some, length, is_none, map};
 ghost use Rattle.bpf_maps.specs.Live.{holds_at};
 ghost use Rattle.fd_table.specs.Table.{first_descriptor, most, named, lowest};
-ghost use Rattle.verifier.specs.Maps.{maps_of, entries_of};
+ghost use Rattle.verifier.specs.Judgement.{Judges};
 ghost use Rattle.tenant.specs.Kept.{times_listed, AreHeld, IsBound, state_in};
 ghost use Rattle.tenant.specs.Loaded.{map_places};
-ghost use Rattle.tenant.specs.inside.Loading.{codec_told, verdict_told, with_program, AreLive, IsHeldMore, IsLoadFault};
-ghost use Rattle.tenant.specs.Machine.{accepted, codec_errno, verdict_errno, loaded_program, named_place, places_from, targets, Judges, Loads};
+ghost use Rattle.tenant.specs.inside.Loading.{with_program, AreLive, IsHeldMore};
+ghost use Rattle.tenant.specs.Machine.{loaded_program, named_place, places_from, targets, Loads};
 ghost use Rattle.tenant.specs.Replies.{shown_answer, IsWritable};
 
 use crate::errno::Errno;
@@ -16,128 +16,11 @@ use crate::reply::Reply;
 use crate::tenant::{Tenant, open};
 use bpf_maps::{MapKey, Maps};
 use fd_table::FdTable;
-use insn_codec::{CodecFault, FaultKind, read_program};
-use reg_kinds::Reason;
 use std::alloc::{AllocError, Global};
-use tagged_model::Named;
-use verifier::{Verified, VerifyFault, laws, verify_owned};
+use verifier::{Refusal, laws, verify_slots};
 
 /// The type of socket filters, the only one that can be loaded (BPF_PROG_TYPE_SOCKET_FILTER).
 const SOCKET_FILTER: u32 = 1;
-
-/// Why slots are not loaded.
-#[derive(Clone, Copy, Debug, PartialEq, Eq)]
-enum LoadFault {
-    /// Out of memory.
-    Memory,
-    /// Because of a slot.
-    At {
-        errno: Errno,
-        slot: u32,
-        reason: u16,
-    },
-}
-
-fn errno_of_codec(kind: FaultKind) -> Errno
-    ensures { result ≡ codec_errno kind }
-{
-    match kind {
-        FaultKind::Empty | FaultKind::TooLong => Errno::TooBig,
-        FaultKind::Opcode
-        | FaultKind::Reserved
-        | FaultKind::Register
-        | FaultKind::SecondSlot
-        | FaultKind::Ragged => Errno::Invalid,
-        FaultKind::Memory => Errno::NoMemory,
-    }
-}
-
-fn errno_of_verdict(reason: Reason) -> Errno
-    ensures { result ≡ verdict_errno reason }
-{
-    match reason {
-        Reason::JumpOutside | Reason::JumpBackward | Reason::FallsOff => Errno::Invalid,
-        Reason::Unreachable
-        | Reason::UnknownHelper
-        | Reason::DescriptorNotMap
-        | Reason::NoDirectValue => Errno::Invalid,
-        Reason::DescriptorNotOpen => Errno::BadDescriptor,
-        Reason::FramePointerWritten
-        | Reason::UnreadableRegister
-        | Reason::ResultNotScalar
-        | Reason::NotPointer
-        | Reason::PointerArithmetic
-        | Reason::OffsetTooLarge
-        | Reason::OutsideStack
-        | Reason::UnalignedStack
-        | Reason::UnwrittenStack
-        | Reason::PartOfSpill
-        | Reason::OutsideValue
-        | Reason::MaybeNull
-        | Reason::ContextAccess
-        | Reason::PointerStored
-        | Reason::PointerComparison
-        | Reason::HelperArgument
-        | Reason::LengthUnbounded
-        | Reason::UnalignedAtomic => Errno::AccessDenied,
-        Reason::Memory => Errno::NoMemory,
-    }
-}
-
-/// The load fault for slots that are no program.
-fn of_codec(fault: CodecFault) -> LoadFault
-    requires { fault.slot < 2 ^ 32 }
-    ensures { result ≡ codec_told fault.kind fault.slot }
-{
-    if fault.kind == FaultKind::Memory {
-        return LoadFault::Memory;
-    }
-    LoadFault::At {
-        errno: errno_of_codec(fault.kind),
-        slot: fault.slot as u32,
-        reason: 100 + fault.kind.number(),
-    }
-}
-
-/// The load fault for a program that is not accepted.
-fn of_verdict(fault: VerifyFault) -> LoadFault
-    requires { fault.slot < 2 ^ 32 }
-    ensures { result ≡ verdict_told fault.reason fault.slot }
-{
-    if fault.reason == Reason::Memory {
-        return LoadFault::Memory;
-    }
-    LoadFault::At {
-        errno: errno_of_verdict(fault.reason),
-        slot: fault.slot as u32,
-        reason: fault.reason.number(),
-    }
-}
-
-/// The program that the slots spell, if it is accepted with these open descriptors.
-fn verdict_of_slots(
-    alloc: Global,
-    slots: &[u8],
-    descriptors: &[Named],
-) -> Result<Verified, LoadFault>
-    requires { length slots.now < 2 ^ 32 }
-    ensures judges { IfOk result (λ program.
-        Judges descriptors.now slots.now (accepted program.code)) }
-    ensures entries { IfOk result (λ program.
-        program.entries ≡ entries_of (maps_of program.code) descriptors.now) }
-    ensures refused { IfErr result (λ fault. IsLoadFault descriptors.now slots.now fault) }
-{
-    let program = match read_program(alloc, slots) {
-        Ok(program) => program,
-        Err(fault) => return Err(of_codec(fault)),
-    };
-    // By this law the slot of a fault is one of the program's.
-    program.code();
-    match verify_owned(alloc, program, descriptors) {
-        Ok(verified) => Ok(verified),
-        Err(fault) => Err(of_verdict(fault)),
-    }
-}
 
 /// Adds one reference to each of these maps.
 fn hold_all(maps: &mut Maps, held: &[MapKey])
@@ -182,27 +65,33 @@ fn maps_named(
 }
 
 impl Tenant {
-    /// The program that the slots spell, with the keys of its maps, if it is accepted.
-    fn program_of(&self, alloc: Global, slots: &[u8]) -> Result<LoadedProgram, LoadFault>
-        requires { length slots.now < 2 ^ 32 }
-        ensures judges { IfOk result (λ l. (part : List ℕ) →
-            Judges (targets (state_in part self.now)) slots.now (accepted l.insns)) }
-        ensures found { IfOk result (λ l. (part : List ℕ) →
-            l ≡ loaded_program (state_in part self.now) l.insns) }
-        ensures bound { IfOk result (λ l. IsBound self.now.live l) }
-        ensures there { IfOk result (λ l. AreLive self.now.live (map_places l)) }
-        ensures refused { IfErr result (λ fault. (part : List ℕ) →
-            IsLoadFault (targets (state_in part self.now)) slots.now fault) }
+    /// The program that the slots spell, with the keys of its maps, if it is accepted; or why the slots are refused.
+    fn program_of(
+        &self,
+        alloc: Global,
+        slots: &[u8],
+    ) -> Result<Result<LoadedProgram, Refusal>, AllocError>
+        ensures judges { IfOk result (λ verdict. IfOk verdict (λ l. (part : List ℕ) →
+            Judges (targets (state_in part self.now)) slots.now (Ok l.insns))) }
+        ensures found { IfOk result (λ verdict. IfOk verdict (λ l. (part : List ℕ) →
+            l ≡ loaded_program (state_in part self.now) l.insns)) }
+        ensures bound { IfOk result (λ verdict. IfOk verdict (IsBound self.now.live)) }
+        ensures there { IfOk result (λ verdict. IfOk verdict (λ l.
+            AreLive self.now.live (map_places l))) }
+        ensures refused { IfOk result (λ verdict. IfErr verdict (λ refusal. (part : List ℕ) →
+            Judges (targets (state_in part self.now)) slots.now (Err refusal))) }
+        ensures slot { IfOk result (λ verdict. IfErr verdict (λ refusal.
+            8 * refusal.slot ≤ length slots.now)) }
     {
         laws::loaded_maps_have_shapes();
         laws::maps_are_listed();
-        let Ok(descriptors) = self.targets(alloc) else {
-            return Err(LoadFault::Memory);
-        };
-        let program = verdict_of_slots(alloc, slots, &descriptors)?;
-        match maps_named(alloc, &self.objects, program.maps()) {
-            Ok(maps) => Ok(LoadedProgram::new(program, maps)),
-            Err(_) => Err(LoadFault::Memory),
+        let descriptors = self.targets(alloc)?;
+        match verify_slots(alloc, slots, &descriptors)? {
+            Ok(program) => {
+                let maps = maps_named(alloc, &self.objects, program.maps())?;
+                Ok(Ok(LoadedProgram::new(program, maps)))
+            }
+            Err(refusal) => Ok(Err(refusal)),
         }
     }
 
@@ -224,8 +113,7 @@ impl Tenant {
     /// PROG_LOAD: opens the program that the slots spell, if it is accepted with the open descriptors. It keeps its maps
     /// when their descriptors are closed.
     ///
-    /// Slots that are no program, or whose program is not accepted, are refused with the slot and the reason: 100 plus the
-    /// number of the codec's fault, or the number of the verdict's reason.
+    /// Slots that are no program, or whose program is not accepted, are refused with the slot and the number of the cause.
     ///
     /// # Errors
     ///
@@ -250,22 +138,12 @@ impl Tenant {
             return Err(Errno::TooManyOpen);
         }
         match self.program_of(alloc, slots) {
-            Ok(program) => Ok(Reply::Opened(self.open_program(program))),
-            Err(LoadFault::Memory) => {
+            Ok(Ok(program)) => Ok(Reply::Opened(self.open_program(program))),
+            Ok(Err(refusal)) => Ok(Reply::Refused(refusal)),
+            Err(AllocError) => {
                 self.refused = true;
                 Err(Errno::NoMemory)
             }
-            Err(
-                LoadFault::At {
-                    errno,
-                    slot,
-                    reason,
-                },
-            ) => Ok(Reply::RefusedAt {
-                errno,
-                slot,
-                reason,
-            }),
         }
     }
 }

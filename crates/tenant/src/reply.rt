@@ -7,6 +7,7 @@ ghost use Rattle.tenant.specs.inside.Frames.{Writes};
 use crate::errno::Errno;
 use bpf_maps::KeyRef;
 use command_frames::{Head, ReplyBuf, write_number, write_reply};
+use verifier::Refusal;
 
 /// The reply to a command that is executed, or to a load that is refused because of a slot. Any other refusal is an `Errno`.
 #[derive(Drop)]
@@ -21,12 +22,8 @@ pub enum Reply<'a> {
     Key(KeyRef<'a>),
     /// The payload is the result of a test run.
     Number(u32),
-    /// The payload is the slot and the reason of a load that is refused.
-    RefusedAt {
-        errno: Errno,
-        slot: u32,
-        reason: u16,
-    },
+    /// The payload is the slot of a load that is refused, and the number of the cause.
+    Refused(Refusal),
 }
 
 /// Writes the reply to a command, or its error, to `reply`.
@@ -41,15 +38,10 @@ pub(crate) fn write_answer(head: Head, answer: Result<Reply<'_>, Errno>, reply: 
         Ok(Reply::Value(value)) => write_reply(head, 0, value, reply),
         Ok(Reply::Key(key)) => write_reply(head, 0, key.bytes(), reply),
         Ok(Reply::Number(number)) => write_number(head, number, reply),
-        Ok(
-            Reply::RefusedAt {
-                errno,
-                slot,
-                reason,
-            },
-        ) => {
-            let [a, b, c, d] = slot.to_le_bytes();
-            let [e, f] = reason.to_le_bytes();
+        Ok(Reply::Refused(Refusal { slot, cause })) => {
+            let [a, b, c, d] = (slot as u32).to_le_bytes();
+            let [e, f] = cause.number().to_le_bytes();
+            let errno = Errno::of_cause(cause);
             write_reply(head, errno.status(), &[a, b, c, d, e, f], reply);
         }
         Err(errno) => write_reply(head, errno.status(), &[], reply),

@@ -2,6 +2,7 @@ pub mod EntryLists
 pub mod Inflow
 pub mod Telling
 pub mod OneVerdict
+pub mod Judgements
 pub mod Reached
 pub mod Rules
 pub mod Loads

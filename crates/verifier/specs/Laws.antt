@@ -1,5 +1,5 @@
 -- Laws of the verdict. This project's own.
-use Rattle.std.specs.Prelude.{◌≡◌, ◌≢◌, ℕ, List, slice_get, Some, IsSome}
+use Rattle.std.specs.Prelude.{◌≡◌, ◌≢◌, ℕ, List, Result, slice_get, Some, IsSome}
 use Rattle.std.specs.List.{All}
 use Rattle.insn_set.specs.declared.insn.Insn.{Insn}
 use Rattle.insn_set.specs.Program.{begins_at}
@@ -9,8 +9,14 @@ use Rattle.tagged_model.specs.declared.shape.Named.{Named}
 use Rattle.tagged_model.specs.Named.{shapes_named}
 use Rattle.insn_set.specs.Flow.{descriptor}
 use Rattle.verifier.specs.Shape.{structure_fault}
+use Rattle.verifier.specs.declared.refusal.Refusal.{Refusal}
+use Rattle.verifier.specs.Judgement.{Judges}
 use Rattle.verifier.specs.Maps.{maps_of, shapes_of}
 use Rattle.verifier.specs.Verdict.{HasNoFault, IsAccepted, safety_fault}
+
+-- slots have one judgement
+abbrev pub OneJudgement : Type 0
+OneJudgement = (named : List Named) (slots : List ℕ) (j k : Result (List Insn) Refusal) → Judges named slots j → Judges named slots k → j ≡ k
 
 -- in a program without a fault of its shape, all that an instruction names exists: none is refused for safety because it calls an
 -- unknown helper, loads something other than a map, or loads a direct value that the map does not have

@@ -3,6 +3,7 @@ pub mod ShapeLaws
 pub mod Maps
 pub mod Before
 pub mod Verdict
+pub mod Judgement
 pub mod Told
 pub mod Laws
 pub mod Sound

@@ -6,7 +6,7 @@ ghost use Rattle.insn_set.specs.declared.insn.Insn.{Insn};
 ghost use Rattle.reg_kinds.specs.declared.reason.Reason.{Reason};
 ghost use Rattle.reg_kinds.specs.declared.reason.Reason.TheVariants.{Memory};
 ghost use Rattle.tagged_model.specs.declared.shape.Named.{Named};
-ghost use Rattle.verifier.specs.Laws.{LoadedMapsHaveShapes, MapsAreListed, SafetyFollowsShape};
+ghost use Rattle.verifier.specs.Laws.{LoadedMapsHaveShapes, MapsAreListed, OneJudgement, SafetyFollowsShape};
 ghost use Rattle.verifier.specs.Sound.{StepIsSound, StepsGoOn, NeverFaults};
 ghost use Rattle.verifier.specs.Verdict.{IsAccepted, IsRefused};
 
@@ -28,6 +28,16 @@ pub fn refused_by_a_rule()
         → IsRefused code named slot reason → reason ≢ Memory }
 {
     transfer::laws::effects_need_no_memory();
+}
+
+/// The judgement of slots is unique: one accepted program, or one refusal.
+pub fn one_judgement()
+    ensures { OneJudgement }
+{
+    insn_codec::laws::one_program();
+    insn_codec::laws::one_fault();
+    one_refusal();
+    accepted_is_not_refused();
 }
 
 /// If the shape of a program has no fault, no instruction is refused for safety because it calls an unknown helper, loads something

@@ -12,13 +12,15 @@ mod known_answers;
 pub mod laws;
 mod maps;
 mod pass;
+mod refusal;
 mod shape;
 mod target_facts;
 mod verified;
 mod watcher;
 
 pub use fault::VerifyFault;
+pub use refusal::{Cause, Refusal};
 pub use reg_kinds::Reason;
 pub use tagged_model::Named;
-pub use verified::{Verified, verify, verify_owned, verify_watched};
+pub use verified::{Verified, verify, verify_slots, verify_watched};
 pub use watcher::Watcher;

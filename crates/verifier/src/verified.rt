@@ -1,20 +1,24 @@
 //! Accepted programs.
 
-ghost use Rattle.std.specs.Prelude.{◌≡◌, ◌≢◌, ℕ, Bool, List, IfErr, IfOk, OnOk};
+ghost use Rattle.std.specs.Prelude.{◌≡◌, ◌≢◌, ℕ, ◌*◌, ◌≤◌, Bool, List, length, None, Ok, Err, IfErr, IfOk, OnOk};
+ghost use Rattle.insn_codec.specs.ProgramFault.{length_fault};
 ghost use Rattle.tagged_model.specs.declared.value.Outcome.TheVariants.{Fault};
 ghost use Rattle.tagged_model.specs.Step.{MapsByDescriptor, result_with};
-ghost use Rattle.verifier.specs.Maps.{maps_of};
+ghost use Rattle.verifier.specs.Judgement.{Judges};
+ghost use Rattle.verifier.specs.Maps.{maps_of, entries_of};
 ghost use Rattle.verifier.specs.Sound.{AreRunInputs};
 ghost use Rattle.verifier.specs.Told.{IsToldRefused, IsToldWhole};
-ghost use Rattle.verifier.specs.Verdict.{IsFaultOf};
+ghost use Rattle.verifier.specs.Verdict.{IsAccepted, IsFaultOf};
 ghost use Rattle.verifier.specs.Verified.{IsAcceptedAs, IsVerified, GoesAhead, shapes_in};
 
 use crate::fault::VerifyFault;
 use crate::judging::{LoadedMaps, judge};
 use crate::laws;
+use crate::refusal::Refusal;
 use crate::watcher::{Unwatched, Watcher};
-use insn_codec::Program;
-use std::alloc::Global;
+use insn_codec::{FaultKind, Program, read_program};
+use reg_kinds::Reason;
+use std::alloc::{AllocError, Global};
 use std::marker::Model;
 use tagged_model::Named;
 
@@ -92,25 +96,45 @@ pub fn verify(alloc: Global, program: &Program, named: &[Named]) -> Result<Verif
     Ok(Verified { program, loaded })
 }
 
-/// Verifies a program like `verify`, but takes it over, so no copy is made.
+/// Verifies the program that the bytes of slots spell. It is kept without a copy, or the slots are refused: no error but want of memory
+/// is told in another way.
 ///
 /// # Errors
 ///
-/// Those of `verify`; then the program is dropped.
-pub fn verify_owned(
+/// `AllocError`: out of memory for the program or for the verdict.
+pub fn verify_slots(
     alloc: Global,
-    program: Program,
+    slots: &[u8],
     named: &[Named],
-) -> Result<Verified, VerifyFault>
-    ensures accepted { IfOk result (IsAcceptedAs program named.now) }
-    ensures refused { IfErr result (IsFaultOf program named.now) }
+) -> Result<Result<Verified, Refusal>, AllocError>
+    ensures accepted { IfOk result (λ verdict. IfOk verdict (λ program.
+        Judges named.now slots.now (Ok program.code))) }
+    ensures refused { IfOk result (λ verdict. IfErr verdict (λ refusal.
+        Judges named.now slots.now (Err refusal))) }
+    ensures entries { IfOk result (λ verdict. IfOk verdict (λ program.
+        program.entries ≡ entries_of (maps_of program.code) named.now)) }
+    // Memory is asked for only if a program may have so many slots.
+    ensures memory { IfErr result (λ _. length_fault (length slots.now) ≡ None) }
+    // The slot of a refusal is one of the slots', or the one after them.
+    ensures slot { IfOk result (λ verdict. IfErr verdict (λ refusal.
+        8 * refusal.slot ≤ length slots.now)) }
 {
-    let loaded = judge(alloc, &program, named, &mut Unwatched)?;
-    Ok(Verified { program, loaded })
+    insn_codec::laws::one_fault();
+    let program = match read_program(alloc, slots) {
+        Ok(program) => program,
+        Err(fault) if fault.kind == FaultKind::Memory => return Err(AllocError),
+        Err(fault) => return Ok(Err(Refusal::from(fault))),
+    };
+    match judge(alloc, &program, named, &mut Unwatched) {
+        Ok(loaded) => Ok(Ok(Verified { program, loaded })),
+        Err(fault) if fault.reason == Reason::Memory => Err(AllocError),
+        Err(fault) => Ok(Err(Refusal::from(fault))),
+    }
 }
 
 /// Verifies a program like `verify`, and passes the facts before each instruction that a run may reach to `watcher`: each slot once
 /// and in order. If the program is refused for its safety, the last slot is that of the fault; if for its shape, nothing is passed.
+/// Nothing is kept of the program.
 ///
 /// # Errors
 ///
@@ -120,15 +144,14 @@ pub fn verify_watched<W: Watcher>(
     program: &Program,
     named: &[Named],
     watcher: &mut W,
-) -> Result<Verified, VerifyFault>
-    ensures accepted { IfOk result (IsAcceptedAs program.now named.now) }
+) -> Result<(), VerifyFault>
+    ensures accepted { OnOk result (IsAccepted program.now named.now) }
     ensures refused { IfErr result (IsFaultOf program.now named.now) }
     ensures told { OnOk result
         (IsToldWhole program.now named.now (W.told watcher.old) (W.told watcher.new)) }
     ensures told_refused { IfErr result
         (IsToldRefused program.now named.now (W.told watcher.old) (W.told watcher.new)) }
 {
-    let loaded = judge(alloc, program, named, watcher)?;
-    let program = program.clone()?;
-    Ok(Verified { program, loaded })
+    judge(alloc, program, named, watcher)?;
+    Ok(())
 }

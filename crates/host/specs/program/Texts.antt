@@ -8,6 +8,11 @@ use Rattle.insn_set.specs.declared.insn.Insn.{Insn}
 use Rattle.host.specs.program.Failure.{codec_failure}
 use Rattle.host.specs.declared.program.failure.Failure.{Failure}
 
+-- the input has these slots as hex lines
+pub record IsSlotText (input slots : List ℕ) : Type 0 where
+  pub utf8 : IsUtf8 input
+  pub lines : IsHexText input slots
+
 -- the input has a program's slots as hex lines
 pub record IsProgramText (input : List ℕ) (insns : List Insn) : Type 0 where
   pub utf8 : IsUtf8 input

@@ -17,7 +17,7 @@ ghost use Rattle.host.specs.inside.program.Asked.{asked_by, texts_given, HasTena
 use crate::program::decimal::decimal;
 use crate::program::failure::Failure;
 use crate::program::frames::serve_frames;
-use crate::program::judging::judge;
+use crate::program::judging::{judge, verdict_status};
 use crate::program::shapes::named_maps;
 use crate::program::texts::{TextTask, rewrite};
 use clap::{Arg, ArgAction, ArgMatches, Command};
@@ -194,8 +194,8 @@ fn judge_streams<I: Read + Drop, O: Write + Drop>(
     let maps = maps_given(alloc, arguments)?;
     let mut reader = Counted::new(input);
     let mut writer = Counted::new(output);
-    let judgement = judge(alloc, &maps, &mut reader, &mut writer)?;
-    Ok(judgement.status())
+    let refusal = judge(alloc, &maps, &mut reader, &mut writer)?;
+    Ok(verdict_status(refusal))
 }
 
 /// Runs the subcommand that the arguments, those after the program's name, ask for, and returns the exit status.

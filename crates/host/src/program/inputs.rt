@@ -4,11 +4,11 @@ ghost use Rattle.std.specs.Prelude.{IfOk, IsUtf8};
 ghost use Rattle.bpf_text.specs.Assembly.{IsAssembled};
 ghost use Rattle.clap.specs.Walk.{texts};
 ghost use Rattle.host.specs.program.Shapes.{AreMapArguments};
-ghost use Rattle.host.specs.program.Texts.{IsProgramText};
+ghost use Rattle.host.specs.program.Texts.{IsSlotText};
 
 use crate::program::failure::Failure;
 use crate::program::shapes::named_maps;
-use crate::program::texts::{program_on, read_input, text_in};
+use crate::program::texts::{read_input, slots_on, text_in};
 use bpf_text::assemble;
 use host_core::Counted;
 use insn_codec::Program;
@@ -38,16 +38,15 @@ pub fn maps_named(alloc: Global, arguments: &[&str]) -> Result<Vec<Named>, Failu
     named_maps(alloc, arguments)
 }
 
-/// The program whose slots are the hex lines of an input.
+/// The slots on the hex lines of an input, as `dis` and `verify` read them.
 ///
 /// # Errors
 ///
-/// `Line` if the input is not UTF-8, a line has a fault or no line has a slot; `Slot` if the slots are no program; `Memory`
-/// if out of memory.
-pub fn hex_program(alloc: Global, input: &[u8]) -> Result<Program, Failure>
-    ensures { IfOk result (λ program. IsProgramText input.now program) }
+/// `Line` if the input is not UTF-8, a line has a fault or no line has a slot; `Memory` if out of memory.
+pub fn hex_slots(alloc: Global, input: &[u8]) -> Result<Vec<u8>, Failure>
+    ensures { IfOk result (λ slots. IsSlotText input.now slots.items) }
 {
-    program_on(alloc, input)
+    slots_on(alloc, input)
 }
 
 /// Assembles the program whose text is an input.

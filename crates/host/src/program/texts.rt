@@ -3,8 +3,8 @@
 ghost use Rattle.std.specs.Prelude.{◌≡◌, ◌<◌, ◌-◌, ◌^◌, List, ℕ, length, IfErr, IfOk, IsUtf8, MatchResult, OnOk};
 ghost use Rattle.std.specs.String.{string_bytes};
 ghost use Rattle.host.specs.inside.program.Outcomes.{Fails, FailsOnly, Gives};
-ghost use Rattle.host.specs.program.Texts.{IsProgramText};
-ghost use Rattle.host.specs.inside.program.Rewriting.{streams, WritesWholeOutput, IsAssembly, IsDisassembly, IsNoProgramText, IsNoText, ReadsWholeInput, IsInputRefused, IsRewritten, HasNoInput, StopsRewriting};
+ghost use Rattle.host.specs.program.Texts.{IsProgramText, IsSlotText};
+ghost use Rattle.host.specs.inside.program.Rewriting.{streams, WritesWholeOutput, IsAssembly, IsDisassembly, IsNoProgramText, IsNoText, IsUnreadable, ReadsWholeInput, IsInputRefused, IsRewritten, HasNoInput, StopsRewriting};
 ghost use Rattle.host.specs.declared.program.failure.Failure.{Failure as AnyFailure};
 ghost use Rattle.insn_set.specs.declared.insn.Insn.{Insn as AnyInsn};
 
@@ -51,6 +51,19 @@ fn assembled(alloc: Global, input: &[u8]) -> Result<String, Failure>
     Ok(lines)
 }
 
+/// The slots on the hex lines of the input.
+pub(crate) fn slots_on(alloc: Global, input: &[u8]) -> Result<Vec<u8>, Failure>
+    ensures read { IfOk result (λ slots. IsSlotText input.now slots.items) }
+    ensures only { (slots : List ℕ) → IsSlotText input.now slots
+        → Gives (λ told. told.items) result slots }
+    ensures fault { FailsOnly result (IsUnreadable input.now) }
+    ensures faulty { (refusal : AnyFailure) → IsUnreadable input.now refusal
+        → Fails result (λ failure. failure ≡ refusal) }
+{
+    let slots = from_hex_lines(alloc, text_in(input)?)?;
+    Ok(slots)
+}
+
 /// The program whose slots are the hex lines of the input.
 pub(crate) fn program_on(alloc: Global, input: &[u8]) -> Result<Program, Failure>
     ensures read { IfOk result (λ program. IsProgramText input.now program) }
@@ -60,7 +73,7 @@ pub(crate) fn program_on(alloc: Global, input: &[u8]) -> Result<Program, Failure
     ensures faulty { (refusal : AnyFailure) → IsNoProgramText input.now refusal
         → Fails result (λ failure. failure ≡ refusal) }
 {
-    let slots = from_hex_lines(alloc, text_in(input)?)?;
+    let slots = slots_on(alloc, input)?;
     let program = read_program(alloc, &slots)?;
     Ok(program)
 }

@@ -2,9 +2,9 @@
 use Rattle.std.specs.Prelude.{Option, option_map}
 use Rattle.std.specs.Borrow.{Bor}
 use Rattle.std.specs.Option.{option_copied}
-use Rattle.log_text.specs.declared.needs.Refusal.{Refusal}
+use Rattle.log_text.specs.declared.needs.RefusedProgram.{RefusedProgram}
 use Rattle.verifier.specs.declared.fault.VerifyFault.{VerifyFault}
 
 -- the fault for which it is refused; None of an accepted one
-abbrev pub fault_of : Option (Bor Refusal) → Option VerifyFault
+abbrev pub fault_of : Option (Bor RefusedProgram) → Option VerifyFault
 fault_of refusal = option_map (λ r. r.fault) (option_copied refusal)

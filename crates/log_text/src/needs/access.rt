@@ -1,7 +1,7 @@
 //! Accesses to the stack, to the context and to maps' values.
 
 use crate::kinds::{write_bytes, write_kind};
-use crate::needs::Refusal;
+use crate::needs::RefusedProgram;
 use crate::needs::arithmetic::write_maybe_null;
 use crate::needs::registers::{kind_of, register_of, write_register};
 use crate::ways::{Wanted, is_written, write_way};
@@ -143,7 +143,7 @@ fn unwritten(facts: &Facts, first: i64, last: i64) -> (i64, i64) {
 /// Writes the stack bytes in a range that may be unwritten, and why.
 pub(crate) fn write_unwritten(
     text: &mut String,
-    refusal: &Refusal<'_>,
+    refusal: &RefusedProgram<'_>,
     first: i64,
     last: i64,
 ) -> Result<(), AllocError> {
@@ -282,7 +282,7 @@ fn write_unaligned_atomic(
 /// Writes what is known of an access to the stack, against what it needs.
 fn write_stack_need(
     text: &mut String,
-    refusal: &Refusal<'_>,
+    refusal: &RefusedProgram<'_>,
     access: Access,
     first: i64,
     last: i64,
@@ -307,7 +307,7 @@ fn write_stack_need(
 /// Writes what is known of an access, against what it needs.
 fn write_access_need(
     text: &mut String,
-    refusal: &Refusal<'_>,
+    refusal: &RefusedProgram<'_>,
     access: Access,
 ) -> Result<(), AllocError> {
     let facts = refusal.facts;
@@ -356,7 +356,7 @@ fn write_access_need(
 /// Writes what is known of the access of an instruction, against what it needs.
 pub(crate) fn write_need(
     text: &mut String,
-    refusal: &Refusal<'_>,
+    refusal: &RefusedProgram<'_>,
     insn: &Insn,
 ) -> Result<(), AllocError> {
     match access_of(insn) {

@@ -1,6 +1,6 @@
 //! Arithmetic on pointers.
 
-use crate::needs::Refusal;
+use crate::needs::RefusedProgram;
 use crate::needs::registers::{kind_of, write_register};
 use insn_codec::{AluOp, Operand, Reg};
 use reg_kinds::{Kind, Reason};
@@ -13,7 +13,7 @@ const FARTHEST: i64 = 0x2000_0000;
 /// Writes the operands; a move reads only the second one.
 fn write_operands(
     text: &mut String,
-    refusal: &Refusal<'_>,
+    refusal: &RefusedProgram<'_>,
     op: AluOp,
     dst: Reg,
     src: Operand,
@@ -29,7 +29,7 @@ fn write_operands(
 }
 
 /// The register among the operands that may be null.
-fn maybe_null(refusal: &Refusal<'_>, dst: Reg, src: Operand) -> u8 {
+fn maybe_null(refusal: &RefusedProgram<'_>, dst: Reg, src: Operand) -> u8 {
     match (kind_of(refusal.facts, dst.number()), src) {
         (Kind::MaybeValue { .. }, _) => dst.number(),
         (_, Operand::Reg(reg)) => reg.number(),
@@ -59,7 +59,7 @@ fn rule(wide: bool, op: AluOp) -> &'static str {
 /// Writes what is known of the operands of an operator, against what it needs.
 pub(crate) fn write_need(
     text: &mut String,
-    refusal: &Refusal<'_>,
+    refusal: &RefusedProgram<'_>,
     wide: bool,
     op: AluOp,
     dst: Reg,
@@ -81,7 +81,7 @@ pub(crate) fn write_need(
 /// Writes what is known of the one operand, which has to be a number.
 pub(crate) fn write_number_needed(
     text: &mut String,
-    refusal: &Refusal<'_>,
+    refusal: &RefusedProgram<'_>,
     register: u8,
 ) -> Result<(), AllocError> {
     write_register(text, refusal.facts, register)?;

@@ -1,7 +1,7 @@
 //! Arguments of helpers.
 
 use crate::kinds::write_range;
-use crate::needs::Refusal;
+use crate::needs::RefusedProgram;
 use crate::needs::access::{
     touched, value_size_of, write_outside_stack, write_outside_value, write_part_of_spill,
     write_unwritten,
@@ -110,7 +110,7 @@ fn argument_reason(named: &[Named], facts: &Facts, argument: Argument) -> Option
 }
 
 /// The first argument that is refused.
-fn refused_argument(refusal: &Refusal<'_>, helper: Helper) -> Option<Argument> {
+fn refused_argument(refusal: &RefusedProgram<'_>, helper: Helper) -> Option<Argument> {
     for place in 0..4 {
         if let Some(argument) = argument_at(helper, place)
             && argument_reason(refusal.named, refusal.facts, argument).is_some()
@@ -147,7 +147,7 @@ fn write_length(text: &mut String, kind: Kind) -> Result<(), AllocError> {
 /// Writes what is known of an argument, against what is needed.
 fn write_argument(
     text: &mut String,
-    refusal: &Refusal<'_>,
+    refusal: &RefusedProgram<'_>,
     argument: Argument,
 ) -> Result<(), AllocError> {
     let (register, role, facts) = (argument.register, argument.role, refusal.facts);
@@ -178,7 +178,7 @@ fn write_argument(
 /// Writes what is known of the refused argument of a helper, against what is needed.
 pub(crate) fn write_need(
     text: &mut String,
-    refusal: &Refusal<'_>,
+    refusal: &RefusedProgram<'_>,
     id: i32,
 ) -> Result<(), AllocError> {
     match known_helper(id).and_then(|helper| refused_argument(refusal, helper)) {

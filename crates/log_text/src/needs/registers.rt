@@ -1,7 +1,7 @@
 //! Unreadable registers, results and comparisons.
 
 use crate::kinds::write_kind;
-use crate::needs::Refusal;
+use crate::needs::RefusedProgram;
 use crate::ways::{Wanted, write_way};
 use insn_codec::{Insn, Operand, Reference, Reg};
 use reg_kinds::{Facts, Kind};
@@ -81,7 +81,7 @@ fn unreadable_in(facts: &Facts, insn: &Insn) -> Option<u8> {
 /// Writes which unreadable register is read, and why nothing is known of it.
 pub(crate) fn write_unreadable(
     text: &mut String,
-    refusal: &Refusal<'_>,
+    refusal: &RefusedProgram<'_>,
     insn: &Insn,
 ) -> Result<(), AllocError> {
     match unreadable_in(refusal.facts, insn) {
@@ -94,7 +94,10 @@ pub(crate) fn write_unreadable(
 }
 
 /// Writes what is known of register 0 at the exit.
-pub(crate) fn write_result(text: &mut String, refusal: &Refusal<'_>) -> Result<(), AllocError> {
+pub(crate) fn write_result(
+    text: &mut String,
+    refusal: &RefusedProgram<'_>,
+) -> Result<(), AllocError> {
     write_register(text, refusal.facts, 0)?;
     text.push_str(", and a number is needed")
 }
@@ -102,7 +105,7 @@ pub(crate) fn write_result(text: &mut String, refusal: &Refusal<'_>) -> Result<(
 /// Writes what is known of the operands of a comparison.
 pub(crate) fn write_comparison(
     text: &mut String,
-    refusal: &Refusal<'_>,
+    refusal: &RefusedProgram<'_>,
     dst: Reg,
     src: Operand,
 ) -> Result<(), AllocError> {

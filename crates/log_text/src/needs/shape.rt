@@ -1,6 +1,6 @@
 //! Faults of a program's shape.
 
-use crate::needs::Refusal;
+use crate::needs::RefusedProgram;
 use insn_codec::{Insn, Reference};
 use reg_kinds::Reason;
 use std::alloc::AllocError;
@@ -15,7 +15,11 @@ fn far_target(insn: &Insn, slot: usize) -> i64 {
 }
 
 /// Writes the target of a jump at which no instruction begins.
-fn write_outside(text: &mut String, refusal: &Refusal<'_>, insn: &Insn) -> Result<(), AllocError> {
+fn write_outside(
+    text: &mut String,
+    refusal: &RefusedProgram<'_>,
+    insn: &Insn,
+) -> Result<(), AllocError> {
     let (target, slots) = (
         far_target(insn, refusal.fault.slot),
         refusal.program.slots(),
@@ -32,7 +36,11 @@ fn write_outside(text: &mut String, refusal: &Refusal<'_>, insn: &Insn) -> Resul
 }
 
 /// Writes the target of a jump that does not go forward.
-fn write_backward(text: &mut String, refusal: &Refusal<'_>, insn: &Insn) -> Result<(), AllocError> {
+fn write_backward(
+    text: &mut String,
+    refusal: &RefusedProgram<'_>,
+    insn: &Insn,
+) -> Result<(), AllocError> {
     let target = far_target(insn, refusal.fault.slot);
     write!(text, "it leads to slot {target}, and jumps go forward only")
 }
@@ -49,7 +57,7 @@ fn write_no_map(text: &mut String, insn: &Insn, what: &str) -> Result<(), AllocE
 }
 
 /// Writes that control leaves the program at its end.
-fn write_falls_off(text: &mut String, refusal: &Refusal<'_>) -> Result<(), AllocError> {
+fn write_falls_off(text: &mut String, refusal: &RefusedProgram<'_>) -> Result<(), AllocError> {
     let next = refusal.program.slots();
     write!(
         text,
@@ -99,7 +107,7 @@ fn write_no_value(text: &mut String, named: &[Named], insn: &Insn) -> Result<(),
 /// Writes what is wrong with an instruction, whatever the registers hold.
 pub(crate) fn write_need(
     text: &mut String,
-    refusal: &Refusal<'_>,
+    refusal: &RefusedProgram<'_>,
     insn: &Insn,
 ) -> Result<(), AllocError> {
     let slot = refusal.fault.slot;

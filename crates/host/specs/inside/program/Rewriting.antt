@@ -50,9 +50,13 @@ pub record IsHexRefused (input : List ℕ) (failure : Failure) : Type 0 where
   pub own : IsHexFault input fault
   pub failure_is : failure ≡ text_failure fault
 
+-- the input is no text, a line has a fault, or no line has a slot
+abbrev pub IsUnreadable : List ℕ → Failure → Type 0
+IsUnreadable input failure = IsNoText input failure ⊎ IsHexRefused input failure
+
 -- why the input has no program's slots
 abbrev pub IsNoProgramText : List ℕ → Failure → Type 0
-IsNoProgramText input failure = IsNoText input failure ⊎ (IsHexRefused input failure ⊎ IsProgramRefused input failure)
+IsNoProgramText input failure = IsUnreadable input failure ⊎ IsProgramRefused input failure
 
 abbrev pub IsInputRefused : TextTask → List ℕ → Failure → Type 0
 IsInputRefused Assemble input failure = IsNoText input failure ⊎ IsTextRefused input failure

@@ -1,7 +1,0 @@
-use Rattle.std.proofs.Common.{refl}
-use Rattle.verifier.proofs.KeptPrograms.{copy_is_whole}
-use Rattle.verifier.proofs.verified.verify_owned.Goals as goal
-
-pub invariant_of-result : goal.invariant_of-result
-invariant_of-result c =
-    copy_is_whole c.args.program c.args.program c.args.named.now c.in_ok-loaded.loaded.entries.items c.in_ok-loaded.loaded.maps.items refl c.in_ok-loaded.ensures.accepted c.in_ok-loaded.ensures.entries c.in_ok-loaded.ensures.maps

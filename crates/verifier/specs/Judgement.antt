@@ -1,0 +1,41 @@
+-- The judgement of slots: the program that they spell is accepted, or they are refused because of one slot. What is refused, in which
+-- order, and the numbers are this project's own.
+use Rattle.std.specs.Prelude.{◌≡◌, ℕ, ◌+◌, List, ◌++◌, Result, Ok, Err, codes}
+use Rattle.std.specs.Fmt.{decimal}
+use Rattle.insn_set.specs.declared.insn.Insn.{Insn}
+use Rattle.insn_set.specs.Program.{IsProgram, program_bytes}
+use Rattle.insn_codec.specs.declared.fault.CodecFault.{CodecFault}
+use Rattle.insn_codec.specs.Fault.{fault_number}
+use Rattle.insn_codec.specs.ProgramFault.{IsProgramFault}
+use Rattle.reg_kinds.specs.Reason.{number}
+use Rattle.tagged_model.specs.declared.shape.Named.{Named}
+use Rattle.verifier.specs.declared.fault.VerifyFault.{VerifyFault}
+use Rattle.verifier.specs.declared.refusal.Cause.{Cause}
+use Rattle.verifier.specs.declared.refusal.Cause.TheVariants.{Slots, Verdict}
+use Rattle.verifier.specs.declared.refusal.Refusal.{Refusal}
+use Rattle.verifier.specs.Verdict.{IsAccepted, IsRefused}
+
+-- the number of a cause; the reasons of the verdict have numbers below 100
+abbrev pub cause_number : Cause → ℕ
+cause_number (Slots kind) = 100 + fault_number kind
+cause_number (Verdict reason) = number reason
+
+abbrev pub refusal_of_slots : CodecFault → Refusal
+refusal_of_slots fault = record { slot = fault.slot; cause = Slots fault.kind }
+
+abbrev pub refusal_of_program : VerifyFault → Refusal
+refusal_of_program fault = record { slot = fault.slot; cause = Verdict fault.reason }
+
+-- the line of a refusal, without its line feed
+abbrev pub refusal_text : Refusal → List ℕ
+refusal_text refusal = codes "refused: slot " ++ (decimal refusal.slot ++ (codes " reason " ++ decimal (cause_number refusal.cause)))
+
+-- the slots are no program, or their program breaks a rule
+abbrev pub IsRefusedFor : List Named → List ℕ → ℕ → Cause → Type 0
+IsRefusedFor named slots slot (Slots kind) = IsProgramFault slots (record { slot = slot; kind = kind })
+IsRefusedFor named slots slot (Verdict reason) = (insns : List Insn) × IsProgram insns × (slots ≡ program_bytes insns) × IsRefused insns named slot reason
+
+-- the slots are this program's, which is accepted, or this is their refusal; there is at most one judgement
+abbrev pub Judges : List Named → List ℕ → Result (List Insn) Refusal → Type 0
+Judges named slots (Ok insns) = IsProgram insns × (slots ≡ program_bytes insns) × IsAccepted insns named
+Judges named slots (Err refusal) = IsRefusedFor named slots refusal.slot refusal.cause

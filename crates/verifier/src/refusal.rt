@@ -1,0 +1,77 @@
+//! Why slots are refused: one answer, with a slot and a number.
+
+ghost use Rattle.std.specs.Prelude.{◌≡◌};
+
+use crate::fault::VerifyFault;
+use insn_codec::{CodecFault, FaultKind};
+use reg_kinds::Reason;
+use std::fmt;
+
+/// What is wrong with slots that are refused.
+#[derive(Clone, Copy, Debug, PartialEq, Eq)]
+pub enum Cause {
+    /// They are no program.
+    Slots(FaultKind),
+    /// They are a program that breaks a rule.
+    Verdict(Reason),
+}
+
+impl Cause {
+    ghost use Rattle.verifier.specs.Judgement.{cause_number};
+
+    /// The number that loads, `verify` and the log give: that of the reason, or 100 plus that of the codec's fault.
+    pub fn number(self) -> u16
+        ensures { result ≡ cause_number self }
+    {
+        match self {
+            Cause::Slots(kind) => 100 + kind.number(),
+            Cause::Verdict(reason) => reason.number(),
+        }
+    }
+}
+
+/// Why slots are refused, and because of which slot. Its text is the line of `verify` and of the log.
+#[derive(Clone, Copy, Debug, PartialEq, Eq)]
+pub struct Refusal {
+    /// The slot of the instruction; if they are no program because of their number, the slot that `read_program` reports.
+    pub slot: usize,
+    pub cause: Cause,
+}
+
+impl From<CodecFault> for Refusal {
+    ghost use Rattle.verifier.specs.Judgement.{refusal_of_slots};
+
+    ghost from_gives = { λ fault refusal. refusal ≡ refusal_of_slots fault };
+
+    fn from(fault: CodecFault) -> Refusal {
+        Refusal {
+            slot: fault.slot,
+            cause: Cause::Slots(fault.kind),
+        }
+    }
+}
+
+impl From<VerifyFault> for Refusal {
+    ghost use Rattle.verifier.specs.Judgement.{refusal_of_program};
+
+    ghost from_gives = { λ fault refusal. refusal ≡ refusal_of_program fault };
+
+    fn from(fault: VerifyFault) -> Refusal {
+        Refusal {
+            slot: fault.slot,
+            cause: Cause::Verdict(fault.reason),
+        }
+    }
+}
+
+impl fmt::Display for Refusal {
+    ghost use Rattle.std.specs.Prelude.{Some};
+    ghost use Rattle.verifier.specs.Judgement.{refusal_text};
+
+    ghost output = { λ refusal. Some (refusal_text refusal) };
+
+    fn fmt<W: fmt::Write>(&self, f: &mut fmt::Formatter<W>) -> fmt::Result {
+        let (slot, number) = (self.slot, self.cause.number());
+        write!(f, "refused: slot {slot} reason {number}")
+    }
+}

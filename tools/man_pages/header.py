@@ -11,8 +11,7 @@ from man_pages import roff
 # Functions of the header that are parts of others: a caller needs none of them.
 PARTS = frozenset("""
     bpfhost_are_apart bpfhost_pair_code bpfhost_bytes_at bpfhost_frame_code bpfhost_may_empty bpfhost_context_at bpfhost_context_words
-    bpfhost_packets_code bpfhost_run_code bpfhost_put16 bpfhost_put32 bpfhost_put_bytes bpfhost_get16 bpfhost_get32 bpfhost_frame_begin
-    bpfhost_may_copy bpfhost_frame_of_key
+    bpfhost_packets_code bpfhost_run_code bpfhost_frame_begin bpfhost_may_copy bpfhost_frame_of_key
 """.split())
 COMMENT = re.compile(r"/\* (.*?)\s*\*/", re.S)
 NAME = re.compile(r"\b(bpfhost_\w+)\(")
@@ -61,6 +60,11 @@ def _constants(code: str) -> str:
     return "".join(roff.tagged(f"**{name}**, {number}", words) for name, number, words in lines)
 
 
+def _below(comment: str) -> str:
+    """What a comment says, below the code."""
+    return f".RS 4\n{roff.paragraph(comment)}.RE\n" if comment else ""
+
+
 def _item(item: Item) -> str:
     if item.is_section:
         title, _, text = re.sub(r"\s+", " ", item.comment.removeprefix("---- ")).partition(". ")
@@ -68,9 +72,9 @@ def _item(item: Item) -> str:
     if item.name:
         # Further lines stand below the first argument.
         prototype = re.sub(r"\n {14}", "\n", item.code.partition("\n{")[0].removeprefix("static inline "))
-        return roff.example(f"{prototype};") + f".RS 4\n{roff.paragraph(item.comment)}.RE\n"
+        return roff.example(f"{prototype};") + _below(item.comment)
     if item.code.startswith("typedef"):
-        return roff.example(item.code) + (f".RS 4\n{roff.paragraph(item.comment)}.RE\n" if item.comment else "")
+        return roff.example(item.code) + _below(item.comment)
     return _constants(item.code) or (roff.example(item.code) if item.code else "")
 
 

@@ -38,6 +38,9 @@ class Man(unittest.TestCase):
     def test_each_function(self) -> None:
         functions = set(re.findall(r"(?m)^static inline .*?\b(bpfhost_\w+)\(", HEADER))
         self.assertLessEqual(header.PARTS, functions)
+        # What a caller is shown is no part of another function.
+        used = "".join((TOP / name).read_text() for name in ("docs/EMBEDDING.md", "examples/embed/example.c", "examples/packet_path/packet_path.c"))
+        self.assertEqual(header.PARTS & set(re.findall(r"\w+", used)), set())
         shown = header.libbpfhost(HEADER, roff.Release("1.2.3", "2026-01-01"))
         self.assertEqual({name for name in functions if f" {name}(" in shown or f"*{name}(" in shown}, functions - header.PARTS)
 

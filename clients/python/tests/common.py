@@ -13,7 +13,7 @@ from pathlib import Path
 PROGRAM = os.environ.get("BPFHOST", "")
 SECONDS = 180
 
-# r0 = 1; exit: the program of the repository's README.
+# r0 = 1; exit: the program of the exchange in docs/PROTOCOL.md.
 ONE = bytes.fromhex("b700000001000000 9500000000000000")
 # r0 = *(u32 *)(r1 + 0); exit: the packet's length, by docs/INSTRUCTIONS.md.
 LENGTH = bytes.fromhex("6110000000000000 9500000000000000")

@@ -1,4 +1,4 @@
-"""Frames: their bytes are those of docs/PROTOCOL.md and of the README."""
+"""Frames: their bytes are those of docs/PROTOCOL.md."""
 
 import unittest
 
@@ -11,7 +11,7 @@ def of(text: str) -> bytes:
 
 
 class Frames(unittest.TestCase):
-    def test_the_exchange_of_the_readme(self) -> None:
+    def test_the_exchange_of_the_page(self) -> None:
         load = frames.prog_load(0, of("b700000001000000 9500000000000000"))
         self.assertEqual(load, of("18000000 0000 0500 01000000 b700000001000000 9500000000000000"))
         self.assertEqual(frames.prog_test_run(0, 3), of("30000000 0000 0a00 03000000") + bytes(40))

@@ -20,6 +20,7 @@ from bpfhost.host import Host
 from bpfhost.maps import Map
 from bpfhost.numbers import Command, Errno, MapType, Update
 from bpfhost.packets import Packets
+from bpfhost.prog import Prog
 from bpfhost.program import MapShape, Verdict, assemble, disassemble, find_program, hex_lines, serve, verify
 from bpfhost.replies import Reply, read_replies
 from bpfhost.runs import TestRuns
@@ -41,6 +42,7 @@ __all__ = [
     "MapType",
     "MissingPackage",
     "Packets",
+    "Prog",
     "ProgramRefused",
     "Refused",
     "Reply",

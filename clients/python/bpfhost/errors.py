@@ -2,7 +2,10 @@
 
 from __future__ import annotations
 
+import os
 import signal
+import sys
+from pathlib import Path
 from typing import TYPE_CHECKING
 
 from bpfhost.numbers import Errno
@@ -90,6 +93,10 @@ class InputError(BpfhostError, ValueError):
     """A file or a text that is not what it should be."""
 
 
+class StateError(BpfhostError):
+    """What is in a map of a tenant can't be read by its frames."""
+
+
 class CaptureError(InputError):
     """A capture that is cut off, is none, or has a packet that no test run takes."""
 
@@ -104,8 +111,24 @@ PACKAGES = {
 }
 
 
+# Debian's packages are seen by Debian's own Python alone, and another one may stand before it in PATH.
+_DEBIANS_PYTHON, _DEBIANS_PACKAGES = Path("/usr/bin/python3"), Path("/usr/lib/python3/dist-packages")
+
+
 class MissingPackage(BpfhostError):
     """A Python package that is not there."""
 
     def __init__(self, module: str, debian: str) -> None:
-        super().__init__(f"the Python package {module} is missing: apt-get install {debian}")
+        self.module = module
+        found = f"the Python package {module} is missing"
+        if not _is_debians_python() and (_DEBIANS_PACKAGES / module).is_dir():
+            super().__init__(f"{found} for {sys.executable}, and {_DEBIANS_PYTHON} has it: call that one")
+        elif not _is_debians_python() and _DEBIANS_PYTHON.exists():
+            own = f"which {_DEBIANS_PYTHON} sees, and {sys.executable} does not"
+            super().__init__(f"{found}: apt-get install {debian}, {own}")
+        else:
+            super().__init__(f"{found}: apt-get install {debian}")
+
+
+def _is_debians_python() -> bool:
+    return os.path.realpath(sys.executable) == os.path.realpath(_DEBIANS_PYTHON)

@@ -11,6 +11,7 @@ from bpfhost.lowering import Lowered, as_is, lower
 from bpfhost.maps import Map
 from bpfhost.numbers import FIRST_DESCRIPTOR
 from bpfhost.objects import Form, ObjectFile, ObjectMap, ObjectProgram
+from bpfhost.prog import Prog
 from bpfhost.program import MapShape, Program, log_or_fault, verify
 from bpfhost.runs import TestRuns
 from bpfhost.tenant import Tenant
@@ -131,8 +132,13 @@ class LoadedProgram:
 
     tenant: Tenant
     lowered: Lowered
-    descriptor: int
+    prog: Prog
     maps: tuple[LoadedMap, ...]
+
+    @property
+    def descriptor(self) -> int:
+        """The program's descriptor."""
+        return int(self.prog)
 
     @property
     def program(self) -> ObjectProgram:
@@ -141,7 +147,7 @@ class LoadedProgram:
 
     def runs(self) -> TestRuns:
         """Test runs of the program."""
-        return TestRuns(self.tenant.host, self.tenant.number, self.descriptor)
+        return TestRuns(self.tenant.host, self.tenant.number, self.prog)
 
 
 def load_program(tenant: Tenant, object_file: ObjectFile, program: ObjectProgram | Lowered) -> LoadedProgram:
@@ -157,7 +163,7 @@ def load_program(tenant: Tenant, object_file: ObjectFile, program: ObjectProgram
     maps = tuple(LoadedMap(declared, _made(tenant, declared)) for declared in object_file.maps)
     slots = lowered.program.linked([loaded.map.descriptor for loaded in maps])
     try:
-        return LoadedProgram(tenant, lowered, tenant.prog_load(slots), maps)
+        return LoadedProgram(tenant, lowered, tenant.prog_load(slots, lowered.program.name), maps)
     except ProgramRefused as refused:
         raise refused_at(object_file, lowered, refused.slot, refused.reason, log_of(bpfhost, object_file, lowered)) from refused
 

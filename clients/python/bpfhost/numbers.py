@@ -55,6 +55,8 @@ MOST_TENANTS, MOST_DESCRIPTORS, MOST_MAPS, MOST_ENTRIES, MOST_SLOTS = 64, 64, 16
 # Bytes.
 LONGEST_KEY, LONGEST_VALUE, LARGEST_AREA, LARGEST_SUM = 512, 4096, 65_536, 262_144
 LONGEST_PACKET, LONGEST_FRAME, LONGEST_PAYLOAD = 65_536, 131_072, 4096
+# Frames of a stream: a host that was sent so many takes no more.
+MOST_FRAMES = 16_777_216
 # Bytes of a reply before its payload, its length field among them.
 REPLY_HEAD = 12
 

@@ -10,6 +10,9 @@ from typing import TypeVar
 # The link type of captures of Ethernet (LINKTYPE_ETHERNET).
 ETHERNET = 1
 
+# A packet with an Ethernet header, which has the type at its end, has so many bytes at least.
+LEAST_WITH_TYPE = 14
+
 Some = TypeVar("Some", bound="Packets")
 
 

@@ -7,6 +7,7 @@ from __future__ import annotations
 
 import struct
 import sys
+import time
 from array import array
 from collections.abc import Iterable, Iterator, Sequence
 from typing import TYPE_CHECKING
@@ -14,7 +15,8 @@ from typing import TYPE_CHECKING
 from bpfhost.errors import ReplyError
 from bpfhost.frames import NO_CONTEXT, Context, prog_test_run
 from bpfhost.numbers import LONGEST_PACKET, REPLY_HEAD, Command
-from bpfhost.packets import ETHERNET, Packets
+from bpfhost.packets import ETHERNET, LEAST_WITH_TYPE, Packets
+from bpfhost.prog import Prog
 from bpfhost.replies import Reply
 
 if TYPE_CHECKING:
@@ -22,7 +24,6 @@ if TYPE_CHECKING:
 
 # The reply to a run that ended has four words: its length, the tenant and the command, the status, and the result.
 _REPLY_SIZE = REPLY_HEAD + 4
-_ETHERNET_HEAD = 14
 # Bytes of a frame's length, and where the context's word `protocol` stands behind it.
 _LENGTH, _PROTOCOL = 4, slice(20, 24)
 # A number below is no type but the length of IEEE 802.3, for which the kernel has a type of its own (linux/if_ether.h).
@@ -41,10 +42,10 @@ def _types(packets: Packets) -> Sequence[int | None]:
     """The type in each packet's Ethernet header, as `Packets` has it, or None where the packet has no such header."""
     if packets.link_type != ETHERNET:
         return [None] * len(packets)
-    if packets.types is not None and min(packets.lengths, default=0) >= _ETHERNET_HEAD:
+    if packets.types is not None and min(packets.lengths, default=0) >= LEAST_WITH_TYPE:
         return packets.types
     data, places = packets.data, zip(packets.starts, packets.lengths)
-    return [int.from_bytes(data[start + 12 : start + 14], "little") if length >= _ETHERNET_HEAD else None for start, length in places]
+    return [int.from_bytes(data[start + 12 : start + 14], "little") if length >= LEAST_WITH_TYPE else None for start, length in places]
 
 
 class _Heads:
@@ -89,6 +90,7 @@ class TestRuns:
 
     def __init__(self, host: Host, tenant: int, program: int, context: Context = NO_CONTEXT) -> None:
         self.host = host
+        self._prog = program if isinstance(program, Prog) else None
         self._heads = _Heads(tenant, program, context)
         self._whose = tenant | Command.PROG_TEST_RUN << 16
         # The first two words of the reply to a run that ended.
@@ -104,7 +106,10 @@ class TestRuns:
 
     def send(self, packets: Packets) -> None:
         """Sends the frames of runs on packets, `most` at most, which `receive` then reads the replies to."""
-        self.host.send(self.frames(packets))
+        begun = time.perf_counter_ns()
+        self.host.send(self.frames(packets), len(packets))
+        if self._prog is not None:
+            self._prog.count(0, time.perf_counter_ns() - begun)
 
     def frames(self, packets: Packets) -> bytes:
         """The frames of runs on packets; a ValueError where one has more than 65,536 bytes."""
@@ -127,6 +132,13 @@ class TestRuns:
 
     def receive(self, packets: Packets) -> tuple[int, ...]:
         """The results of runs whose frames were sent; a Refused where one was refused, once all replies are read."""
+        begun = time.perf_counter_ns()
+        results = self._results(packets)
+        if self._prog is not None:
+            self._prog.count(len(results), time.perf_counter_ns() - begun)
+        return results
+
+    def _results(self, packets: Packets) -> tuple[int, ...]:
         count = len(packets)
         size, replies, are_results = count * _REPLY_SIZE, b"", True
         while len(replies) < size and are_results:

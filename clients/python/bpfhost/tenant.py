@@ -2,6 +2,7 @@
 
 from __future__ import annotations
 
+import time
 from collections.abc import Iterable, Iterator
 from typing import TYPE_CHECKING
 
@@ -11,6 +12,7 @@ from bpfhost.frames import NO_CONTEXT, Context
 from bpfhost.maps import Map
 from bpfhost.numbers import Errno, MapType, Update
 from bpfhost.packets import Packets
+from bpfhost.prog import Prog
 from bpfhost.program import MapShape
 from bpfhost.runs import TestRuns
 
@@ -30,6 +32,9 @@ class Tenant:
         """The tenant of this number, from 0."""
         self.host = host
         self.number = number
+
+    def __repr__(self) -> str:
+        return f"<Tenant {self.number} of {self.host!r}>"
 
     def map_create(self, map_type: MapType, key_size: int, value_size: int, max_entries: int) -> Map:
         """Makes a map; sizes in bytes. Its descriptor is the lowest that is free."""
@@ -57,13 +62,17 @@ class Tenant:
                 return None
             raise
 
-    def prog_load(self, slots: bytes) -> int:
-        """Loads a socket filter, and gives its descriptor; a ProgramRefused tells the slot and the reason."""
-        return self._done(frames.prog_load(self.number, slots)).status
+    def prog_load(self, slots: bytes, name: str = "") -> Prog:
+        """Loads a socket filter, under a name of the caller's; a ProgramRefused tells the slot and the reason."""
+        return Prog.of(self, self._done(frames.prog_load(self.number, slots)).status, name)
 
     def prog_test_run(self, descriptor: int, packet: bytes = b"", context: Context = NO_CONTEXT) -> int:
         """Runs a program on a packet, and gives its result."""
-        return self._done(frames.prog_test_run(self.number, descriptor, packet, context)).result()
+        begun = time.perf_counter_ns()
+        result = self._done(frames.prog_test_run(self.number, descriptor, packet, context)).result()
+        if isinstance(descriptor, Prog):
+            descriptor.count(1, time.perf_counter_ns() - begun)
+        return result
 
     def prog_test_runs(
         self, descriptor: int, pieces: Iterable[Packets], context: Context = NO_CONTEXT

@@ -2,7 +2,9 @@
 
 from __future__ import annotations
 
-from bpfhost import Errno, Host, Map, MapType, ProgramRefused, Refused, Update
+import re
+
+from bpfhost import Errno, Host, Map, MapType, Packets, ProgramRefused, Refused, Update
 from tests.common import LENGTH, ONE, PROGRAM, HostTest
 
 A, B, C = b"a\0\0\0", b"b\0\0\0", b"c\0\0\0"
@@ -53,9 +55,32 @@ class Hash(HostTest):
         for key, value in ((b"abc", b"12"), (A, b"1"), (b"abcd1", b"2"), (b"abc", b"123")):
             with self.assertRaisesRegex(ValueError, "this map has keys of 4 bytes and values of 2"):
                 self.map[key] = value
-        with self.assertRaises(Refused) as refused:
-            self.map[b"abc"]
-        self.assertTrue(refused.exception.has(Errno.EINVAL))
+        told = "this map has keys of 4 bytes, and not of 1"
+        self.assertRaisesRegex(ValueError, told, self.map.get, b"x")
+        self.assertRaisesRegex(ValueError, told, lambda: b"x" in self.map)
+        with self.assertRaisesRegex(ValueError, told):
+            del self.map[b"x"]
+
+    def test_the_keys_are_walked_again(self) -> None:
+        """Whatever was done to the keys meanwhile, a second walk finds those that there are."""
+        large = self.tenant.map_create(MapType.HASH, 4, 8, 400)
+        keys = [number.to_bytes(4, "little") for number in range(400)]
+        for at in (399, 0, 57, 200, 58):
+            for key in keys:
+                large[key] = bytes(8)
+            self.assertEqual((len(large), large._walk()), (400, list(large)))
+            for key in keys[at:]:
+                del large[key]
+            self.assertEqual((len(large), large._walk(), large.entries()), (at, list(large), list(large.items())))
+        large[keys[3]] = b"12345678"
+        self.assertEqual(large.entries(), list(large.items()))
+
+    def test_what_they_are_shown_as(self) -> None:
+        program = self.tenant.prog_load(ONE, "one")
+        host = rf"<Host {re.escape(PROGRAM)}, 1 tenant, \d+ frames sent>"
+        self.assertRegex(repr(self.tenant), rf"\A<Tenant 0 of {host}>\Z")
+        self.assertRegex(repr(self.map), rf"\A<Map 3:hash:4:2:3 of <Tenant 0 of {host}>>\Z")
+        self.assertRegex(repr(program), rf"\A<Prog 4 one: 0 runs in 0\.000 ms, of <Tenant 0 of {host}>>\Z")
 
     def test_a_full_map(self) -> None:
         for key in (A, B, C):
@@ -110,6 +135,25 @@ class Commands(HostTest):
             self.assertRaisesRegex(Refused, "PROG_TEST_RUN: E2BIG", tenant.prog_test_run, one, bytes(65_537))
             tenant.close(one)
             self.assertRaisesRegex(Refused, "EBADF", tenant.prog_test_run, one)
+
+    def test_programs_count_their_runs(self) -> None:
+        with Host(PROGRAM) as host:
+            length = host.tenant().prog_load(LENGTH, "length")
+            self.assertEqual((length.name, length.descriptor, length.run_cnt, length.run_time_ns), ("length", 3, 0, 0))
+            self.assertEqual((length.run(b"abc"), length.run_cnt), (3, 1))
+            before = length.run_time_ns
+            self.assertGreater(before, 0)
+            self.assertEqual([sum(results) for results in length.runs([Packets.of([b"12"] * 100)] * 2)], [200, 200])
+            self.assertEqual(length.run_cnt, 201)
+            self.assertGreater(length.run_time_ns, before)
+            length.close()
+            self.assertRaisesRegex(Refused, "EBADF", length.run)
+            self.assertEqual(length.run_cnt, 201)
+
+    def test_tenants_that_are_not_served(self) -> None:
+        with Host(PROGRAM, tenants=2) as host:
+            for number in (2, -1, 64):
+                self.assertRaisesRegex(ValueError, f"tenant {number} is not served: this host has the tenants 0 to 1", host.tenant, number)
 
     def test_a_program_that_is_refused(self) -> None:
         # r0 = r5; exit (docs/VERIFIER.md, reason 20)

@@ -7,7 +7,7 @@ from dataclasses import dataclass
 
 from bpfhost.shards.connection import Entry
 from bpfhost.shards.names import ARRIVES, FRAMES, LEAVES
-from bpfhost.shards.snapshot import split
+from bpfhost.state import split
 
 # An entry has at most so many frames and bytes; each of the replies may have 4,108 bytes.
 MOST_FRAMES, LONGEST_CALL = 512, 262_144

@@ -14,6 +14,7 @@ from bpfhost import frames as make
 from bpfhost.frames import NO_CONTEXT, Context
 from bpfhost.host import Host
 from bpfhost.packets import Packets
+from bpfhost.parts import in_parts
 from bpfhost.replies import Reply, read_replies
 from bpfhost.shards import names, scripts
 from bpfhost.shards.aside import Aside
@@ -33,10 +34,9 @@ from bpfhost.shards.errors import (
     SetAside,
 )
 from bpfhost.shards.names import FAULT, PREFIX, REPLIES, ShardKeys, before, order
-from bpfhost.shards.parts import in_parts
-from bpfhost.shards.snapshot import split
 from bpfhost.shards.system import MACHINE, System
 from bpfhost.shards.tickets import Place, Ticket
+from bpfhost.state import split
 from bpfhost.tenant import Tenant
 
 SECONDS = 30.0

@@ -27,8 +27,8 @@ from bpfhost.shards.logs import JsonLines
 from bpfhost.shards.metrics import Page
 from bpfhost.shards.names import ShardKeys
 from bpfhost.shards.settings import Settings
-from bpfhost.shards.snapshot import split
 from bpfhost.shards.worker import Worker
+from bpfhost.state import split
 from bpfhost.telling import FAILED, GOOD, REFUSED, status_of
 
 NO_LEASE, OTHER = 4, 5

@@ -12,14 +12,14 @@ from collections.abc import Iterable, Iterator
 
 from bpfhost import frames
 from bpfhost.numbers import FIRST_DESCRIPTOR, MOST_DESCRIPTORS, MOST_MAPS, SOCKET_FILTER, Command
+from bpfhost.parts import in_parts
 from bpfhost.program import Program
 from bpfhost.replies import Reply
 from bpfhost.shards.errors import CopyDiffers
-from bpfhost.shards.parts import in_parts
-from bpfhost.shards.snapshot import Pairs, Steps, read_pairs
 from bpfhost.shards.system import MACHINE, System
-from bpfhost.shards.tenancy import BODY, LiveMap, OpenProgram, Tenancy, command_of, status_of
 from bpfhost.slots import renamed_maps
+from bpfhost.state import Pairs, Steps, read_pairs
+from bpfhost.tenancy import BODY, LiveMap, OpenProgram, Tenancy, command_of, status_of
 
 _MOST_PROGRAMS = MOST_DESCRIPTORS - MOST_MAPS
 _PLAYED_IN_A_STEP = 400

@@ -16,8 +16,8 @@ from bpfhost.shards.metrics import Told
 from bpfhost.shards.names import START, after, order
 from bpfhost.shards.serving import Serving
 from bpfhost.shards.settings import Settings
-from bpfhost.shards.snapshot import Steps
 from bpfhost.shards.writing import Writing
+from bpfhost.state import Steps
 
 # Replies are looked at so often while they get as old as they may.
 _LOOKS = 8

@@ -12,7 +12,7 @@ from bpfhost.shards.copied import Asked
 from bpfhost.shards.errors import ShardError, SnapshotDamaged
 from bpfhost.shards.manifest import Manifest, read_pieces
 from bpfhost.shards.names import REPLIES, START, ShardKeys, after, order
-from bpfhost.shards.snapshot import Steps, split
+from bpfhost.state import Steps, split
 
 _READ_AT_ONCE = 64
 

@@ -14,7 +14,7 @@ from dataclasses import asdict, dataclass, replace
 
 from bpfhost.shards.connection import Redis
 from bpfhost.shards.errors import SnapshotDamaged
-from bpfhost.shards.snapshot import Steps
+from bpfhost.state import Steps
 
 VERSION = 1
 PIECE = 1 << 18

@@ -24,7 +24,7 @@ from bpfhost.shards.calls import LONGEST_CALL, MOST_FRAMES, whole_frames
 from bpfhost.shards.client import NAMELESS, SECONDS, CustomersTenant
 from bpfhost.shards.errors import NoReply, NotDone, NotTaken, ReplyGone, SessionPassed, SetAside, ShardError
 from bpfhost.shards.gateway.protocol import GATEWAY, Why, Word, ack, hello, read_told
-from bpfhost.shards.parts import in_parts
+from bpfhost.parts import in_parts
 from bpfhost.tenant import Tenant
 
 _READ_AT_ONCE = 1 << 18

@@ -12,7 +12,7 @@ from bpfhost.shards.log import Log, Replies, Since
 from bpfhost.shards.manifest import Manifest
 from bpfhost.shards.names import START, after, order
 from bpfhost.shards.serving import Serving
-from bpfhost.shards.snapshot import Steps
+from bpfhost.state import Steps
 
 
 @dataclass

@@ -11,16 +11,16 @@ from itertools import islice
 
 from bpfhost import frames as make
 from bpfhost.numbers import MOST_TENANTS, Command, Errno
+from bpfhost.parts import in_parts
 from bpfhost.program import Program
 from bpfhost.replies import Reply
 from bpfhost.shards.calls import Call, NoCall
 from bpfhost.shards.copied import Asked, Copy
 from bpfhost.shards.errors import CopyDiffers, MemoryRefused, ShardError, StateRefused
 from bpfhost.shards.names import FAULT, REPLIES, weight
-from bpfhost.shards.parts import in_parts
-from bpfhost.shards.snapshot import FILLER, Steps, read_pairs, same_pairs, split, state_frames, wanted_status, with_tenant
 from bpfhost.shards.system import System
-from bpfhost.shards.tenancy import OpenProgram, Tenancy, command_of, status_of
+from bpfhost.state import FILLER, Steps, read_pairs, same_pairs, split, state_frames, wanted_status, with_tenant
+from bpfhost.tenancy import OpenProgram, Tenancy, command_of, status_of
 
 # A host is asked at most so many frames, of which a snapshot may take some four million (docs/PROTOCOL.md: 16,777,216).
 MOST_ASKED = 12_000_000

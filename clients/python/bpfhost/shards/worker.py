@@ -11,7 +11,7 @@ from collections import Counter, deque
 from collections.abc import Callable, Iterator, Sequence
 from typing import Generator, TypeVar
 
-from bpfhost.errors import HostError, ReplyError
+from bpfhost.errors import HostError, ReplyError, StateError
 from bpfhost.numbers import MOST_TENANTS
 from bpfhost.program import Program
 from bpfhost.shards import metrics, scripts
@@ -44,8 +44,8 @@ from bpfhost.shards.registering import register
 from bpfhost.shards.restoring import Restored, restored
 from bpfhost.shards.serving import Serving, Written
 from bpfhost.shards.settings import Settings
-from bpfhost.shards.snapshot import Steps, at_once
 from bpfhost.shards.writing import Writing
+from bpfhost.state import Steps, at_once
 
 # In a turn each tenant has calls of so many frames and bytes at most, or one call.
 TURN_FRAMES, TURN_BYTES = 512, 1 << 18
@@ -140,7 +140,7 @@ class Worker:
             self._drain(serving)
         except (RedisError, LeaseLost):
             raise
-        except ShardError as error:
+        except (ShardError, StateError) as error:
             # Another worker may have dropped what this one was about to read.
             if not isinstance(error, Stopped) and not self._lease.is_held():
                 raise self._lease.lost() from error
@@ -443,7 +443,7 @@ class Worker:
                 return
             except (LeaseLost, LogChanged, RedisError, Stopped):
                 raise
-            except ShardError as error:
+            except (ShardError, StateError) as error:
                 self._end_job(tenant)
                 self._keeping.failed.add(tenant)
                 self._tell(f"shard {self._keys.number}, tenant {tenant}: no snapshot can be taken: {error}")

@@ -4,6 +4,7 @@ from __future__ import annotations
 
 from collections.abc import Iterable, Iterator, Sequence
 
+from bpfhost.parts import in_parts
 from bpfhost.shards import names, scripts
 from bpfhost.shards.calls import Arrives, Leaves
 from bpfhost.shards.connection import Redis, Script, told_by
@@ -12,10 +13,9 @@ from bpfhost.shards.lease import Lease
 from bpfhost.shards.log import Log
 from bpfhost.shards.manifest import Manifest
 from bpfhost.shards.names import ShardKeys
-from bpfhost.shards.parts import in_parts
 from bpfhost.shards.serving import Written
-from bpfhost.shards.snapshot import Steps
 from bpfhost.shards.system import Word
+from bpfhost.state import Steps
 
 # A script is given about so many bytes of replies at most, and so many names of pieces.
 WRITTEN_AT_ONCE = 1 << 20

@@ -14,7 +14,7 @@ from typing import Any
 from bpfhost.shards.gateway.customers import hash_of
 from bpfhost.shards.gateway.limits import GatewayLimits
 from bpfhost.shards.gateway.protocol import GATEWAY, Why, Word, hello, read_told
-from bpfhost.shards.snapshot import split
+from bpfhost.state import split
 
 WHY_NOT = None if importlib.util.find_spec("greenlet") else "python3-greenlet is missing"
 

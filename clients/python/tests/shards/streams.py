@@ -11,8 +11,8 @@ from collections.abc import Callable
 
 from bpfhost import Command, Host, MapType, Update, assemble, frames
 from bpfhost.program import MapShape
-from bpfhost.shards.tenancy import LiveMap, Tenancy
 from bpfhost.slots import renamed_maps
+from bpfhost.tenancy import LiveMap, Tenancy
 
 # A key of four bytes from the packet at r10 - 4; where there is none, key 0.
 _KEY = "*(u32 *)(r10 - 4) = 0\nr2 = 0\nr3 = r10\nr3 += -4\nr4 = 4\ncall 26\nr2 = r10\nr2 += -4\nr1 = map_fd 3 ll\n"

@@ -4,7 +4,7 @@ from __future__ import annotations
 
 import unittest
 
-from bpfhost.shards.parts import in_parts
+from bpfhost.parts import in_parts
 
 
 class Parts(unittest.TestCase):

@@ -11,10 +11,10 @@ from bpfhost.shards.copied import Asked, Copy
 from bpfhost.shards.errors import CopyDiffers, MemoryRefused, StateRefused
 from bpfhost.shards.names import FRAMES
 from bpfhost.shards.serving import Serving, answered
-from bpfhost.shards.snapshot import Steps, at_once, split, state_frames, with_tenant
 from bpfhost.shards.system import MACHINE
-from bpfhost.shards.tenancy import Tenancy, status_of
 from bpfhost.slots import named_maps, renamed_maps
+from bpfhost.state import Steps, at_once, split, state_frames, with_tenant
+from bpfhost.tenancy import Tenancy, status_of
 from tests.common import PROGRAM, SECONDS, HostTest, TimedTest
 from tests.shards.common import CREATE, LOOK_UP
 from tests.shards.streams import Stream, is_without_descriptor, slots_of

@@ -13,9 +13,9 @@ from bpfhost.shards.calls import Call
 from bpfhost.shards.connection import Redis, connect
 from bpfhost.shards.names import MOST_WAITING
 from bpfhost.shards.serving import Serving
-from bpfhost.shards.snapshot import Steps
 from bpfhost.shards.system import MACHINE, Link, Machine, Word
 from bpfhost.shards.worker import TURN_FRAMES, _turn_of
+from bpfhost.state import Steps
 from tests.common import PROGRAM, HostTest
 from tests.shards.common import CREATE, LOOK_UP, SECONDS, ShardTest, put
 from tests.shards.streams import slots_of

@@ -13,7 +13,7 @@ from typing import Any
 from bpfhost.host import LONGEST_REPLY
 from bpfhost.numbers import REPLY_HEAD, Command
 from bpfhost.shards.calls import LONGEST_CALL
-from bpfhost.shards.tenancy import BODY, command_of, status_of
+from bpfhost.tenancy import BODY, command_of, status_of
 
 # The tenant that the gateway's own frames name.
 GATEWAY = 0xFFFF

@@ -8,8 +8,8 @@ from collections.abc import Iterable, Iterator
 from bpfhost.errors import HostError
 from bpfhost.numbers import FIRST_DESCRIPTOR, MOST_DESCRIPTORS, MOST_MAPS, Command, Errno, MapType
 from bpfhost.replies import Reply
-from bpfhost.shards.tenancy import BODY, command_of
 from bpfhost.slots import named_maps
+from bpfhost.tenancy import BODY, command_of
 
 # A frame with this key ends the host.
 POISON = b"pois"

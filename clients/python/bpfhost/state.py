@@ -9,10 +9,10 @@ from collections.abc import Generator, Iterable, Iterator, Mapping, Sequence
 from typing import Protocol, TypeVar, cast
 
 from bpfhost import frames
+from bpfhost.errors import StateError
 from bpfhost.numbers import FIRST_DESCRIPTOR, REPLY_HEAD, SOCKET_FILTER, Command, Errno, MapType
-from bpfhost.shards.errors import ShardError
-from bpfhost.shards.parts import in_parts
-from bpfhost.shards.tenancy import BODY, LiveMap, OpenProgram, Tenancy, command_of, status_of
+from bpfhost.parts import in_parts
+from bpfhost.tenancy import BODY, LiveMap, OpenProgram, Tenancy, command_of, status_of
 
 # r0 = 0; exit: it takes a descriptor, and none of the room for maps.
 FILLER = frames.prog_load(0, bytes.fromhex("b700000000000000 9500000000000000"), SOCKET_FILTER)
@@ -133,7 +133,7 @@ def _walked(host: AsksBytes, tenant: int, maps: Mapping[LiveMap, int]) -> Steps[
 
 def _payload(reply: bytes) -> bytes:
     if status_of(reply):
-        raise ShardError(f"a map can't be read: the host answers {status_of(reply)}")
+        raise StateError(f"a map can't be read: the host answers {status_of(reply)}")
     return reply[REPLY_HEAD:]
 
 

@@ -1,0 +1,192 @@
+"""One run of `bpfhost serve`: bytes of frames go in, bytes of replies come out."""
+
+from __future__ import annotations
+
+import contextlib
+import subprocess
+import tempfile
+from io import FileIO
+from typing import cast
+
+from bpfhost.errors import HostError, ReplyError
+from bpfhost.numbers import LONGEST_PAYLOAD, REPLY_HEAD
+from bpfhost.replies import Reply, read_replies
+
+LONGEST_REPLY = REPLY_HEAD + LONGEST_PAYLOAD
+# A pipe of a system that does not tell its size is taken to hold so many bytes.
+_LEAST_PIPE = 4096
+# A batch of frames has about so many bytes at most.
+SENT_AT_ONCE = READ_AT_ONCE = 1 << 16
+_SECONDS_TO_END = 5
+
+
+class Stream:
+    """A process and its two pipes.
+
+    What the program wrote to standard error becomes the text of a HostError where it does not start, ends before it has
+    replied, or ends with another status than 0. A reply that is none is a ReplyError.
+    """
+
+    def __init__(self, program: str, tenants: int) -> None:
+        """Starts the program for so many tenants."""
+        self._program = program
+        self._fault = tempfile.TemporaryFile()
+        words = [program, "serve", "--tenants", str(tenants)]
+        pipe = subprocess.PIPE
+        try:
+            # Ctrl-C is meant for who asks: the host, in a group of its own, still answers what is asked afterwards.
+            self._process = subprocess.Popen(words, bufsize=0, stdin=pipe, stdout=pipe, stderr=self._fault, process_group=0)
+        except OSError as error:
+            self._fault.close()
+            raise HostError(f"{program} does not start: {error.strerror}") from error
+        # Without a buffer, both pipes are raw files.
+        self._frames, self._replies = cast(FileIO, self._process.stdin), cast(FileIO, self._process.stdout)
+        # The host seldom waits for the next batch of frames where the pipe holds several.
+        _widen(self._frames, 4 * SENT_AT_ONCE)
+        self._unread = b""
+        # Whether a frame, or a reply, was left in its middle.
+        self._is_torn = False
+
+    @property
+    def is_closed(self) -> bool:
+        """Whether it takes no more frames."""
+        return self._frames.closed
+
+    def room(self) -> int:
+        """So many bytes of replies may wait unread: the host finds room for each while it is sent to, and so goes on to read.
+
+        It is half of what the pipe holds, as a reply begins a new page where it does not fit into the last one.
+        """
+        return _pipe_size(self._replies) // 2
+
+    def widen(self, size: int) -> None:
+        """Lets more bytes of replies wait unread, where the system allows it."""
+        _widen(self._replies, size)
+
+    def send(self, frames: bytes | bytearray | memoryview) -> None:
+        """Sends bytes of frames."""
+        self.demand_open()
+        left = memoryview(frames)
+        self._is_torn = True
+        try:
+            while left:
+                left = left[self._frames.write(left) :]
+        except BrokenPipeError:
+            raise self._ended() from None
+        self._is_torn = False
+
+    def read(self, most: int) -> bytes:
+        """Waits for bytes of replies, and reads so many of those that are there; a HostError where the host has ended."""
+        self.demand_open()
+        if self._unread:
+            read, self._unread = self._unread[:most], self._unread[most:]
+            return read
+        read = self._replies.read(most)
+        if not read:
+            raise self._ended()
+        return read
+
+    def unread(self, replies: bytes) -> None:
+        """Gives back bytes of replies that were read too early: they are read next."""
+        self._unread = replies + self._unread
+
+    def read_whole(self, size: int) -> bytes:
+        """Waits for so many bytes of replies."""
+        pieces = []
+        while size:
+            pieces.append(self.read(size))
+            size -= len(pieces[-1])
+        return b"".join(pieces)
+
+    def read_reply(self) -> Reply:
+        """Waits for a reply."""
+        head = self.read_whole(4)
+        return next(read_replies(head + self.read_whole(self._demand_reply(head))))
+
+    def read_many(self, count: int) -> list[bytes]:
+        """Waits for so many replies, and cuts them out of what is read at once."""
+        replies: list[bytes] = []
+        read, at = b"", 0
+        while len(replies) < count:
+            end = at + 4 + (self._demand_reply(read[at : at + 4]) if at + 4 <= len(read) else 0)
+            if at + 4 < end <= len(read):
+                replies.append(read[at:end])
+                at = end
+            else:
+                read, at = read[at:] + self.read(READ_AT_ONCE), 0
+        self.unread(read[at:])
+        return replies
+
+    def _demand_reply(self, head: bytes) -> int:
+        """The length that the first four bytes of a reply tell; a ReplyError where no reply has it."""
+        length = int.from_bytes(head, "little")
+        if not REPLY_HEAD <= 4 + length <= LONGEST_REPLY:
+            raise ReplyError(f"{self._program} answers {head.hex()}, with which no reply begins")
+        return length
+
+    def tear(self) -> None:
+        """Notes that a reply was left in its middle: who reads next would take the rest of it for another one."""
+        self._is_torn = True
+
+    def demand_open(self) -> None:
+        """A HostError where the stream has ended, or is of no more use."""
+        if self._frames.closed:
+            raise HostError("bpfhost serve was ended before this frame")
+        if self._is_torn:
+            raise HostError("bpfhost serve is of no more use: an interruption or an error left a frame or a reply in its middle")
+
+    def close(self) -> None:
+        """Ends the stream of frames, and the program with it; a HostError where its status is not 0."""
+        if self._frames.closed:
+            return
+        self._frames.close()
+        rest = self._unread + self._replies.readall()
+        status = self._status()
+        said = self._said()
+        if status:
+            raise HostError.of("bpfhost serve", status, said, rest)
+        if rest:
+            raise ReplyError(f"{self._program} wrote {len(rest)} bytes more than the replies")
+
+    def kill(self) -> None:
+        """Ends the program in the middle of whatever it does, and tells nothing of it."""
+        self._frames.close()
+        self._status()
+        self._fault.close()
+
+    def _ended(self) -> HostError:
+        """What to raise where the program has ended before it was told to."""
+        self._frames.close()
+        return HostError.of("bpfhost serve, before its reply,", self._status(), self._said())
+
+    def _status(self) -> int:
+        """The status of the program, which finds the end of its input, and nobody who reads what it writes."""
+        self._replies.close()
+        try:
+            return self._process.wait(_SECONDS_TO_END)
+        except subprocess.TimeoutExpired:
+            self._process.kill()
+            return self._process.wait()
+
+    def _said(self) -> bytes:
+        with self._fault as fault:
+            fault.seek(0)
+            return fault.read()
+
+
+def _pipe_size(pipe: FileIO) -> int:
+    """How many bytes a pipe holds."""
+    try:
+        import fcntl
+
+        return max(fcntl.fcntl(pipe, fcntl.F_GETPIPE_SZ), _LEAST_PIPE)
+    except (ImportError, AttributeError, OSError):
+        return _LEAST_PIPE
+
+
+def _widen(pipe: FileIO, size: int) -> None:
+    """Lets a pipe hold so many bytes, where that is allowed."""
+    with contextlib.suppress(ImportError, AttributeError, OSError):
+        import fcntl
+
+        fcntl.fcntl(pipe, fcntl.F_SETPIPE_SZ, size)

@@ -10,8 +10,9 @@ from collections.abc import Mapping, Sequence
 from dataclasses import dataclass
 from pathlib import Path
 
-from bpfhost.errors import HostError, InputError
+from bpfhost.errors import BpfhostError, HostError, InputError
 from bpfhost.numbers import SLOT_SIZE, MapType
+from bpfhost.words import TEXT_FAULTS, reason_words
 
 Program = str | os.PathLike[str]
 
@@ -19,6 +20,8 @@ Program = str | os.PathLike[str]
 _CRATES = Path(__file__).resolve().parents[3] / "crates"
 _BUILT = _CRATES / "bpfhost/out/bpfhost"
 _BUILT_LOG = _CRATES / "verifier_log/out/verifier_log"
+# The status of `asm` and `dis` where it is their input that is wrong (docs/CLI.md).
+_INPUT_REFUSED = 1
 _SLOT = re.compile(r"[0-9A-Fa-f]{16}")
 _KINDS = {MapType.HASH: "hash", MapType.ARRAY: "array"}
 
@@ -56,18 +59,41 @@ def serve(program: Program, tenants: int, stream: bytes) -> bytes:
     return _written(program, ["serve", "--tenants", str(tenants)], stream)
 
 
-def assemble(program: Program, text: str) -> bytes:
-    """The slots, as bytes, that `bpfhost asm` makes of a program's text."""
-    written = _written(program, ["asm"], text.encode())
+def assemble(program: Program, text: str, name: str = "the text") -> bytes:
+    """The slots, as bytes, that `bpfhost asm` makes of a program's text; an InputError names the line that is wrong."""
+    try:
+        written = _written(program, ["asm"], text.encode())
+    except HostError as error:
+        raise _refused(error, name, text) from error
     try:
         return bytes.fromhex(written.decode())
     except ValueError as error:
         raise HostError(f"{os.fspath(program)} asm does not write hex lines: it is no bpfhost", written=written, status=0) from error
 
 
-def disassemble(program: Program, slots: bytes) -> str:
-    """The text that `bpfhost dis` makes of a program's slots."""
-    return _written(program, ["dis"], hex_lines(slots).encode()).decode()
+def disassemble(program: Program, slots: bytes, name: str = "the slots") -> str:
+    """The text that `bpfhost dis` makes of a program's slots; an InputError names the slot that is wrong."""
+    try:
+        return _written(program, ["dis"], hex_lines(slots).encode()).decode()
+    except HostError as error:
+        raise _refused(error, name, hex_lines(slots)) from error
+
+
+def _refused(error: HostError, name: str, text: str) -> BpfhostError:
+    """What the fault line of `asm` or `dis` means; the error itself where it is not the input that is refused."""
+    if error.status != _INPUT_REFUSED:
+        return error
+    fault = re.fullmatch(r"(line|slot) (\d+): fault (\d+)", error.fault)
+    if not fault:
+        return InputError(f"{name}: {error.fault}")
+    where, number, kind = fault[1], int(fault[2]), int(fault[3])
+    if where == "slot":
+        return InputError(f"{name}: slot {number}: {reason_words(100 + kind)}")
+    words = TEXT_FAULTS.get(kind, f"fault {kind}")
+    if not number:
+        return InputError(f"{name}: {words}")
+    line = text.split("\n")[number - 1].strip()
+    return InputError(f"{name}:{number}: {line}: {words}")
 
 
 def hex_lines(slots: bytes) -> str:

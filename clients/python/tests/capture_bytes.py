@@ -19,7 +19,7 @@ RECORDS: list[Record] = [
 def pcap(records: list[Record] = RECORDS, order: str = "<", magic: int = MICRO, link_type: int = 1) -> bytes:
     """A pcap file."""
     part = 1 if magic == NANO else 1000
-    head = struct.pack(f"{order}IHHiIII", magic, 2, 4, 0, 0, 65_536, link_type)
+    head = struct.pack(f"{order}IHHiIII", magic, 2, 4, 0, 0, 262_144, link_type)
     heads = (struct.pack(f"{order}IIII", s.seconds, s.nanoseconds // part, len(packet), s.length) for packet, s in records)
     return head + b"".join(head + packet for head, (packet, _) in zip(heads, records))
 

@@ -2,6 +2,7 @@
 
 from __future__ import annotations
 
+import gzip
 import importlib.util
 import random
 import struct
@@ -11,7 +12,7 @@ import unittest
 from pathlib import Path
 
 from bpfhost import CaptureError, MissingPackage
-from bpfhost.captures import link_type_name, open_capture
+from bpfhost.captures import Piece, link_type_name, open_capture
 from bpfhost.captures.piece import Stamp
 from tests.capture_bytes import MICRO, NANO, RAW_IP, RECORDS, Record, block, enhanced, interface, old, pcap, pcapng, section, simple
 from tests.common import TimedTest
@@ -92,11 +93,11 @@ class Pcap(CaptureTest):
             self.assertEqual(self.read_to_fault(whole[:end]), ([packet for packet, _ in RECORDS][:packets], fault))
 
     def test_a_packet_that_is_too_long(self) -> None:
-        for length in (65_537, 0xFFFF_FFFF):
+        for length in (262_145, 0xFFFF_FFFF):
             content = pcap() + struct.pack("<IIII", 0, 0, length, length) + bytes(100_000)
             packets, fault = self.read_to_fault(content)
             self.assertEqual(len(packets), 3)
-            self.assertEqual(fault, f"capture: packet 4 has {length:,} bytes, and that of a test run has 65,536 at most")
+            self.assertEqual(fault, f"capture: packet 4 has {length:,} bytes, and no capture has one of more than 262,144")
 
     def test_another_version(self) -> None:
         content = struct.pack("<IHHiIII", MICRO, 3, 0, 0, 0, 65_536, 1)
@@ -170,9 +171,9 @@ class Pcapng(CaptureTest):
             begun + struct.pack("<II", 6, 8) + bytes(8): "it has a block of 8 bytes before packet 1",
             begun + struct.pack("<II", 6, 0x7FFFFFF0) + bytes(8): "it has a block of 2,147,483,632 bytes before packet 1",
             begun + enhanced("<", b"abcd", 0, 4, kept=5): "the block of packet 1 has not what it says",
-            begun + enhanced("<", bytes(65_537), 0, 65_537): "packet 1 has 65,537 bytes, and that of a test run has 65,536 at most",
+            begun + enhanced("<", bytes(262_145), 0, 262_145): "packet 1 has 262,145 bytes, and no capture has one of more than 262,144",
             begun + struct.pack("<7I", 6, 37, 0, 0, 0, 4, 4) + b"abcde" + struct.pack("<I", 37): "it has a block of 37 bytes before packet 1",
-            begun + enhanced("<", b"abcd", 0, 4, kept=65_537): "packet 1 has 65,537 bytes, and that of a test run has 65,536 at most",
+            begun + enhanced("<", b"abcd", 0, 4, kept=65_537): "the block of packet 1 has not what it says",
             begun + enhanced("<", b"abcd", 0, 4, of=1): "the block of packet 1 has not what it says",
             section("<") + packet: "the block of packet 1 has not what it says",
             section("<") + block(3, struct.pack("<I", 4) + b"abcd", "<"): "the block of packet 1 has not what it says",
@@ -215,12 +216,68 @@ class Wrong(CaptureTest):
 
 
 @needs_dpkt
+class ShortAndLong(CaptureTest):
+    """Packets of which the capture has fewer bytes than there were on the wire, and packets that no test run takes."""
+
+    RECORDS = [(b"abcdefghijklmnop", Stamp(1, 0, 16)), (b"abc", Stamp(2, 0, 70_000)), (bytes(65_549), Stamp(3, 0, 65_549)), (b"x", Stamp(4, 0, 2))]
+
+    def pieces(self, content: bytes) -> list[Piece]:
+        with open_capture(self.written(content)) as capture:
+            return list(capture.pieces())
+
+    def test_lengths(self) -> None:
+        for order in "<>":
+            for content in (pcap(self.RECORDS, order), pcapng(self.RECORDS, order)):
+                pieces = self.pieces(content)
+                self.assertEqual([wire for piece in pieces for wire in piece.wires], [16, 70_000, 65_549, 2])
+                self.assertEqual([length for piece in pieces for length in piece.lengths], [16, 3, 65_536, 1])
+                self.assertEqual([piece.whole for piece in pieces if piece.whole], [65_549])
+                self.assertEqual(sum(piece.shorts() for piece in pieces), 2)
+
+    def test_padded(self) -> None:
+        for content in (pcap(self.RECORDS), pcapng(self.RECORDS)):
+            padded = [packet for piece in self.pieces(content) for packet in piece.padded()]
+            self.assertEqual(padded, [b"abcdefghijklmnop", b"abc".ljust(65_536, b"\0"), bytes(65_536), b"x\0"])
+
+    def test_a_long_packet_is_written_whole(self) -> None:
+        piece = next(piece for piece in self.pieces(pcap(self.RECORDS)) if piece.whole)
+        self.assertEqual((len(piece.captured(0, 0xFFFF_FFFF)), len(piece.captured(0, 65_540)), len(piece.captured(0, 3))), (65_549, 65_540, 3))
+
+    def test_a_simple_block_of_pcapng(self) -> None:
+        content = section("<") + interface("<", longest=3) + simple("<", b"abc", 9)
+        self.assertEqual([(piece.lengths, piece.wires) for piece in self.pieces(content)], [([3], [9])])
+
+
+@needs_dpkt
+class Compressed(CaptureTest):
+    def test_both_formats(self) -> None:
+        for content in (pcap(RECORDS), pcapng(RECORDS), pcap(RECORDS * 5000)):
+            (self.scratch / "whole").write_bytes(content)
+            (self.scratch / "capture.gz").write_bytes(gzip.compress(content, 1))
+            told = []
+            for name in ("whole", "capture.gz"):
+                with open_capture(self.scratch / name) as capture:
+                    told.append([(piece[at], piece.stamp(at)) for piece in capture.pieces() for at in range(len(piece))])
+            self.assertEqual(told[0], told[1])
+
+    def test_compressed_bytes_that_are_wrong(self) -> None:
+        whole = gzip.compress(pcap(RECORDS * 20_000))
+        wrong = bytearray(whole)
+        wrong[len(wrong) // 2 : len(wrong) // 2 + 40] = bytes(40)
+        for content, told in ((whole[: len(whole) // 2], "cut off"), (bytes(wrong), "capture"), (whole[:-8], "cut off behind packet 60,000")):
+            with open_capture(self.written(content)) as capture, self.assertRaisesRegex(CaptureError, told):
+                self.assertGreater(sum(len(piece) for piece in capture.pieces()), -1)
+        with self.assertRaisesRegex(CaptureError, "compressed bytes"), open_capture(self.written(whole[:12])):
+            pass
+
+
+@needs_dpkt
 class Writer(CaptureTest):
-    def copied(self, content: bytes, longest: int = 100_000, has_nanoseconds: bool | None = None) -> bytes:
+    def copied(self, content: bytes, longest: int = 100_000, has_nanoseconds: bool | None = None, name: str = "written") -> bytes:
         """A capture that the packets of another one are written to."""
         from bpfhost.captures.writer import CaptureWriter
 
-        path = self.scratch / "written"
+        path = self.scratch / name
         with open_capture(self.written(content)) as capture:
             has_more = capture.has_nanoseconds if has_nanoseconds is None else has_nanoseconds
             with CaptureWriter(path, has_more) as writer:
@@ -246,11 +303,25 @@ class Writer(CaptureTest):
     def test_link_types_that_are_not_in_one_file(self) -> None:
         content = section("<") + interface("<") + interface("<", RAW_IP)
         content += enhanced("<", b"a", 0, 1) + enhanced("<", b"b", 0, 1, of=1)
-        with self.assertRaisesRegex(CaptureError, "no room for packets of the link types 1 and 101"):
-            self.copied(content)
+        told = "written: a pcap file has room for one link type, so 1 packet is left out, 1 of link type 101: name a file .*pcapng"
+        self.assertRaisesRegex(CaptureError, told, self.copied, content)
+        self.assertEqual((self.scratch / "written").read_bytes(), pcap([(b"a", Stamp(0, 0, 1))], magic=NANO))
+
+    def test_link_types_in_a_pcapng_file(self) -> None:
+        """It is read again."""
+        for has_nanoseconds in (False, True):
+            content = section(">") + interface(">") + interface(">", RAW_IP)
+            content += enhanced(">", b"abcde", 1_234_567, 9) + enhanced(">", b"b", 1 << 50, 1, of=1) + enhanced(">", b"", 5, 0)
+            written = self.scratch / "again.pcapng"
+            written.write_bytes(self.copied(content, has_nanoseconds=has_nanoseconds, name="written.pcapng"))
+            self.assertEqual(self.packets_of(written), self.packets_of(self.written(content)))
+
+    def packets_of(self, path: Path) -> list[tuple[bytes, int, Stamp]]:
+        with open_capture(path) as capture:
+            return [(piece[at], piece.link_type, piece.stamp(at)) for piece in capture.pieces() for at in range(len(piece))]
 
     def test_times_that_are_not_in_the_file(self) -> None:
-        with self.assertRaisesRegex(CaptureError, "no room for the time of a packet"):
+        with self.assertRaisesRegex(CaptureError, "no room for the time of 1 packet, left out"):
             self.copied(section("<") + interface("<") + enhanced("<", b"a", 1 << 60, 1))
 
     def test_files_that_can_not_be_written(self) -> None:

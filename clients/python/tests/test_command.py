@@ -21,7 +21,7 @@ from dataclasses import dataclass
 from pathlib import Path
 from unittest import mock
 
-from bpfhost import hex_lines
+from bpfhost import MissingPackage, hex_lines
 from bpfhost.command import main
 from tests.capture_bytes import RAW_IP, RECORDS, pcap, pcapng
 from tests.common import LENGTH, ONE, PROGRAM, HostTest
@@ -294,15 +294,19 @@ class Run(CommandTest):
                 "accepted": 2,
                 "bytes_kept": 5 + 64,
                 "results": {"5": 1, "64": 1},
+                "short": 1,
+                "long": 0,
+                "skipped": 0,
                 "fault": None,
+                "signal": None,
             },
         )
-        self.assertEqual(maps[".bss"]["entries"], [{"key": 0, "value": {"packets": 2, "bytes": 261, "longest": 256}}])
+        self.assertEqual(maps[".bss"]["entries"], [{"key": 0, "value": {"packets": 2, "bytes": 1505, "longest": 1500}}])
         self.assertEqual(maps[".rodata"]["entries"], [{"key": 0, "value": {"kept": 64}}])
 
     def test_packets_that_are_kept(self) -> None:
         (self.scratch / "capture").write_bytes(pcap())
-        self.assertEqual(self.command("run", "counter.o", "capture", "--accepted", "kept").returncode, 0)
+        self.assertEqual(self.command("run", "counter.o", "capture", "--short", "as-is", "--accepted", "kept").returncode, 0)
         kept = [(packet[:64], stamp) for packet, stamp in RECORDS if packet]
         self.assertEqual((self.scratch / "kept").read_bytes(), pcap(kept))
 
@@ -318,7 +322,7 @@ class Run(CommandTest):
         self.assertEqual((self.scratch / "counter.o").read_bytes(), (EXAMPLE / "counter.o").read_bytes())
 
     def test_progress_is_shown_on_a_terminal_alone(self) -> None:
-        words = ("run", "counter.o", "sample.pcap", "--json")
+        words = ("run", "counter.o", "sample.pcap", "--limit", "10", "--json")
         self.assertEqual(self.process(*words).stderr, b"")
         environment = {**os.environ, "PYTHONPATH": str(PACKAGE), "BPFHOST": PROGRAM, "TERM": "xterm", "COLUMNS": "80"}
         ours, theirs = pty.openpty()
@@ -329,7 +333,7 @@ class Run(CommandTest):
         finally:
             os.close(ours)
             os.close(theirs)
-        self.assertEqual(json.loads(ended.stdout)["packets"], 235)
+        self.assertEqual(json.loads(ended.stdout)["packets"], 10)
         # A bar, and how much of the file is read: its size is 33,302 bytes.
         self.assertRegex(shown, r"\u2501+.*33\.3/33\.3 kB")
 
@@ -342,7 +346,8 @@ class Run(CommandTest):
         os.mkfifo(self.scratch / "pipe")
         call = [sys.executable, "-m", "bpfhost", "run", "counter.o", "pipe", "--json", "--limit", "2"]
         environment = {**os.environ, "PYTHONPATH": str(PACKAGE), "BPFHOST": PROGRAM}
-        with subprocess.Popen(call, stdout=subprocess.PIPE, cwd=self.scratch, env=environment) as process:
+        quiet = subprocess.DEVNULL
+        with subprocess.Popen(call, stdout=subprocess.PIPE, stderr=quiet, cwd=self.scratch, env=environment) as process:
             with open(self.scratch / "pipe", "wb") as pipe:
                 pipe.write(pcapng(RECORDS) + b"\0")
                 pipe.flush()
@@ -359,15 +364,18 @@ class Run(CommandTest):
         self.refuses(1, "return table[class]; (slot", "run", "refused.o", "sample.pcap")
 
     def test_other_link_types_are_told(self) -> None:
-        (self.scratch / "capture").write_bytes(pcap(link_type=RAW_IP))
+        (self.scratch / "capture").write_bytes(pcap(RECORDS[:1], link_type=RAW_IP))
         ended = self.command("run", "counter.o", "capture")
         told = "bpfhost: capture: its packets of link type 101 (RAW) are passed to the filter as they are\n"
         self.assertEqual((ended.stderr.decode(), ended.returncode), (told, 0))
 
     def test_a_capture_that_is_cut_off(self) -> None:
         (self.scratch / "capture").write_bytes(pcapng()[:-1])
-        ended = self.command("run", "counter.o", "capture")
-        self.assertEqual(ended.stderr, b"bpfhost: capture: it is cut off in the block of packet 3, or before it\n")
+        ended = self.command("run", "counter.o", "capture", "--limit", "2")
+        self.assertEqual(ended.returncode, 0)
+        ended = self.command("run", "counter.o", "capture", "--short", "as-is")
+        told = b"bpfhost: capture: 1 packet is cut short in it: skb->len is what the capture has\n"
+        self.assertEqual(ended.stderr, told + b"bpfhost: capture: it is cut off in the block of packet 3, or before it\n")
         self.assertRegex(ended.stdout.decode().splitlines()[1], r"\Apackets +2\Z")
         self.assertEqual(ended.returncode, 1)
 
@@ -391,4 +399,9 @@ class Run(CommandTest):
             path = f"{self.scratch}:{PACKAGE}"
             ended = self.process("run", "counter.o", "sample.pcap", PYTHONPATH=path)
             self.is_refusal(ended, 3, f"the Python package {module} is missing: apt-get install {package}")
+            with mock.patch("bpfhost.errors._DEBIANS_PYTHON", Path("/bin/true")), mock.patch("bpfhost.errors._DEBIANS_PACKAGES", self.scratch):
+                told = f"the Python package {module} is missing for {sys.executable}, and /bin/true has it: call that one"
+                self.assertEqual(str(MissingPackage(module, package)), told)
+                told = f"the Python package other is missing: apt-get install {package}, which /bin/true sees, and {sys.executable} does not"
+                self.assertEqual(str(MissingPackage("other", package)), told)
             shutil.rmtree(self.scratch / module)

@@ -57,7 +57,13 @@ class Subcommands(HostTest):
     def test_asm_and_dis(self) -> None:
         self.assertEqual(assemble(PROGRAM, "r0 = 1\nexit\n"), ONE)
         self.assertEqual(disassemble(PROGRAM, ONE), "r0 = 1\nexit\n")
-        self.assertRaisesRegex(HostError, "bpfhost asm ended with status 1: line 1: fault 1", assemble, PROGRAM, "r0 =+ 1\n")
+
+    def test_a_text_that_is_wrong(self) -> None:
+        """An InputError says the line, and what is wrong with it."""
+        self.assertRaisesRegex(InputError, "the text:2: exti: it is none of the forms", assemble, PROGRAM, "r0 = 1\nexti\n")
+        self.assertRaisesRegex(InputError, "the text: there is no instruction", assemble, PROGRAM, "")
+        self.assertRaisesRegex(InputError, "the slots: slot 1: no instruction begins", disassemble, PROGRAM, ONE[:8] + b"\xff" * 8)
+        self.assertRaisesRegex(HostError, "/nowhere does not start", assemble, "/nowhere", "exit\n")
 
     def test_serve(self) -> None:
         self.assertEqual(serve(PROGRAM, 1, b""), b"")

@@ -7,14 +7,18 @@ had, and does not tell where a capture ends in the middle of one.
 from __future__ import annotations
 
 import os
+import zlib
 from collections.abc import Iterator
 from contextlib import contextmanager
+from gzip import GzipFile
 from io import BufferedReader
 
 from bpfhost.captures.piece import Capture, Piece
 from bpfhost.errors import CaptureError, MissingPackage
 
 __all__ = ["Capture", "Piece", "open_capture", "link_type_name"]
+
+_GZIP = b"\x1f\x8b"
 
 # Names of link types that are met often (tcpdump.org/linktypes.html).
 _LINK_TYPES = {
@@ -41,27 +45,42 @@ def link_type_name(link_type: int) -> str:
 def open_capture(path: str | os.PathLike[str]) -> Iterator[Capture]:
     """The capture of a file, pcap or pcapng by what it begins with.
 
-    A CaptureError where the file can't be read or is neither; and, from the pieces, where it is cut off or wrong. What comes
+    It may be compressed by gzip. A CaptureError where the file can't be read or is neither; and, from the pieces, where it is cut off or wrong. What comes
     before is given first. A MissingPackage where there is no dpkt.
     """
     name = os.fspath(path)
     try:
         file = open(path, "rb")
     except OSError as error:
-        raise CaptureError(f"{name}: {error.strerror}") from error
+        raise CaptureError(f"{name}: {error.strerror or error}") from error
     with file:
         yield _begun(name, file)
 
 
-def _begun(name: str, file: BufferedReader) -> Capture:
+class _Gzip(GzipFile):
+    """A compressed capture, which is read from its front to its end: to go back would mean to read all of it again."""
+
+    def seekable(self) -> bool:
+        return False
+
+
+def _begun(name: str, opened: BufferedReader) -> Capture:
     try:
         from bpfhost.captures import pcap, pcapng
     except ModuleNotFoundError as error:
         raise MissingPackage("dpkt", "python3-dpkt") from error
     try:
-        magic = file.read(4)
+        file: BufferedReader | GzipFile = _Gzip(fileobj=opened) if opened.peek(2)[:2] == _GZIP else opened
+        magic = _read_magic(name, file)
         if magic == pcapng.SECTION:
             return pcapng.PcapngCapture(name, file, magic)
         return pcap.PcapCapture(name, file, magic)
     except OSError as error:
-        raise CaptureError(f"{name}: {error.strerror}") from error
+        raise CaptureError(f"{name}: {error.strerror or error}") from error
+
+
+def _read_magic(name: str, file: BufferedReader | GzipFile) -> bytes:
+    try:
+        return file.read(4)
+    except (EOFError, zlib.error) as error:
+        raise CaptureError(f"{name}: its compressed bytes are damaged or cut off") from error

@@ -5,11 +5,12 @@ from __future__ import annotations
 import contextlib
 import struct
 from dataclasses import dataclass, field
+from gzip import GzipFile
 from io import BufferedReader
 
 from dpkt import pcap
 
-from bpfhost.captures.piece import Capture, Piece, Stamp, low_first
+from bpfhost.captures.piece import LONGEST_CAPTURED, Capture, Piece, Stamp, low_first
 from bpfhost.numbers import LONGEST_PACKET
 
 _NANOSECONDS = (pcap.TCPDUMP_MAGIC_NANO, pcap.PMUDPCT_MAGIC_NANO)
@@ -38,7 +39,7 @@ class _PcapPiece(Piece):
 class PcapCapture(Capture):
     """A capture in the format pcap, in either byte order, with microseconds or nanoseconds."""
 
-    def __init__(self, name: str, file: BufferedReader, magic: bytes) -> None:
+    def __init__(self, name: str, file: BufferedReader | GzipFile, magic: bytes) -> None:
         """Reads the header, whose first bytes are `magic`."""
         super().__init__(name, file, b"")
         number = int.from_bytes(magic, "big")
@@ -56,30 +57,32 @@ class PcapCapture(Capture):
         self.has_nanoseconds = number in _NANOSECONDS
         self._link_type = read.linktype & _LINK_TYPE
         self._order = order
-        self._length = struct.Struct(f"{order}8xI").unpack_from
+        self._length = struct.Struct(f"{order}8xII").unpack_from
         self._layout = _Layout(kind.__hdr_len__, struct.Struct(f"{order}II4xI"), 1 if self.has_nanoseconds else 1000)
-        # A packet's length, and the type in its Ethernet header: what lies between them is as long as what stands before a packet.
-        self._length_and_type = struct.Struct(f"{order}8xI{kind.__hdr_len__}xH").unpack_from
+        # A packet's length, that on the wire, and the type in its Ethernet header, 12 bytes behind what stands before a packet.
+        self._length_and_type = struct.Struct(f"{order}8xII{kind.__hdr_len__ - 4}xH").unpack_from
 
     def _next_piece(self, data: bytes, at: int, most: int) -> tuple[Piece | None, int]:
         starts: list[int] = []
         lengths: list[int] = []
+        wires: list[int] = []
         types: list[int] = []
         head, unpack, size = self._layout.head, self._length_and_type, len(data)
         with contextlib.suppress(struct.error):
             # Where the bytes end before the type, there is nothing to unpack.
             for _ in range(most):
-                length, ethernet_type = unpack(data, at)
+                length, wire, ethernet_type = unpack(data, at)
                 start = at + head
                 end = start + length
                 if end > size or length > LONGEST_PACKET:
                     break
                 starts.append(start)
                 lengths.append(length)
+                wires.append(wire)
                 types.append(ethernet_type)
                 at = end
         if starts:
-            return self._piece(data, starts, lengths, low_first(types, self._order)), at
+            return self._piece(data, starts, lengths, wires, low_first(types, self._order)), at
         return self._last_packet(data, at)
 
     def _last_packet(self, data: bytes, at: int) -> tuple[Piece | None, int]:
@@ -87,11 +90,16 @@ class PcapCapture(Capture):
         start = at + self._layout.head
         if start > len(data):
             return None, at
-        length: int = self._length(data, at)[0]
-        if length > LONGEST_PACKET:
+        length, wire = self._length(data, at)
+        if length > LONGEST_CAPTURED:
             raise self._too_long(length)
         end = start + length
-        return (self._piece(data, [start], [length], None), end) if end <= len(data) else (None, at)
+        if end > len(data):
+            return None, at
+        whole = length if length > LONGEST_PACKET else None
+        return self._piece(data, [start], [min(length, LONGEST_PACKET)], [wire], None, whole), end
 
-    def _piece(self, data: bytes, starts: list[int], lengths: list[int], types: list[int] | None) -> Piece:
-        return _PcapPiece(data, starts, lengths, self._link_type, types, layout=self._layout)
+    def _piece(
+        self, data: bytes, starts: list[int], lengths: list[int], wires: list[int], types: list[int] | None, whole: int | None = None
+    ) -> Piece:
+        return _PcapPiece(data, starts, lengths, self._link_type, types, wires=wires, whole=whole, layout=self._layout)

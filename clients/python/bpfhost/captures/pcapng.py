@@ -6,11 +6,12 @@ import contextlib
 import struct
 from collections.abc import Sequence
 from dataclasses import dataclass, field
+from gzip import GzipFile
 from io import BufferedReader
 
 from dpkt import pcapng
 
-from bpfhost.captures.piece import Capture, Piece, Stamp, low_first
+from bpfhost.captures.piece import LONGEST_CAPTURED, Capture, Piece, Stamp, low_first
 from bpfhost.errors import CaptureError
 from bpfhost.numbers import LONGEST_PACKET
 
@@ -60,7 +61,7 @@ class PcapngCapture(Capture):
 
     has_nanoseconds = True
 
-    def __init__(self, name: str, file: BufferedReader, magic: bytes) -> None:
+    def __init__(self, name: str, file: BufferedReader | GzipFile, magic: bytes) -> None:
         """Reads nothing; `magic` is what was read of the file."""
         super().__init__(name, file, magic)
         self._begin_section()
@@ -73,12 +74,13 @@ class PcapngCapture(Capture):
     def _has_order(self, order: str) -> None:
         self._order = order
         self._pair = struct.Struct(f"{order}II").unpack_from
-        # A block with a packet, up to the packet's length: its kind, its length, the interface, the time, the packet's length.
-        self._enhanced = struct.Struct(f"{order}3I8xI").unpack_from
-        self._old = struct.Struct(f"{order}2IH10xI").unpack_from
+        # A block with a packet, up to the packet's lengths: its kind, its length, the interface, the time, the packet's length here and on
+        # the wire.
+        self._enhanced = struct.Struct(f"{order}3I8xII").unpack_from
+        self._old = struct.Struct(f"{order}2IH10xII").unpack_from
         # The same of an enhanced packet block with the type in the packet's Ethernet header, and behind the end of the block before.
-        self._enhanced_with_type = struct.Struct(f"{order}3I8xI16xH").unpack_from
-        self._end_and_enhanced = struct.Struct(f"{order}4I8xI16xH").unpack_from
+        self._enhanced_with_type = struct.Struct(f"{order}3I8xII12xH").unpack_from
+        self._end_and_enhanced = struct.Struct(f"{order}4I8xII12xH").unpack_from
 
     def _cut_off(self) -> CaptureError:
         return self.error(f"it is cut off in the block of {self._next_packet()}, or before it")
@@ -95,11 +97,15 @@ class PcapngCapture(Capture):
             if piece:
                 return piece, at
 
-    def _piece(
-        self, data: bytes, starts: list[int], lengths: list[int], link_type: int, kind: int, types: list[int] | None = None
-    ) -> Piece:
+    def _one(self, data: bytes, start: int, length: int, wire: int, link_type: int, kind: int) -> Piece:
+        """The piece of one packet, which may be longer than those of test runs."""
+        if length > LONGEST_CAPTURED:
+            raise self._too_long(length)
+        whole = length if length > LONGEST_PACKET else None
         order, interfaces = self._order, self._interfaces
-        return _PcapngPiece(data, starts, lengths, link_type, types, kind=kind, order=order, interfaces=interfaces)
+        return _PcapngPiece(
+            data, [start], [min(length, LONGEST_PACKET)], link_type, wires=[wire], whole=whole, kind=kind, order=order, interfaces=interfaces
+        )
 
     def _enhanced_packets(self, data: bytes, at: int, most: int) -> tuple[Piece | None, int]:
         """The packets of whole enhanced packet blocks of one link type, from `at` on, up to the first block that is something else.
@@ -109,11 +115,12 @@ class PcapngCapture(Capture):
         """
         starts: list[int] = []
         lengths: list[int] = []
+        wires: list[int] = []
         types: list[int] = []
         unpack, link_type, interface = self._end_and_enhanced, -1, -1
         link_types = self._link_types
         with contextlib.suppress(struct.error):
-            kind, block, number, length, ethernet_type = self._enhanced_with_type(data, at)
+            kind, block, number, length, wire, ethernet_type = self._enhanced_with_type(data, at)
             for _ in range(most):
                 if kind != _ENHANCED or length > LONGEST_PACKET or block < _AROUND + length or block & 3:
                     break
@@ -121,17 +128,22 @@ class PcapngCapture(Capture):
                     if number >= len(link_types) or starts and link_types[number] != link_type:
                         break
                     interface, link_type = number, link_types[number]
-                end, kind, next_block, number, next_length, next_type = unpack(data, at + block - 4)
+                end, kind, next_block, number, next_length, next_wire, next_type = unpack(data, at + block - 4)
                 if end != block:
                     break
                 starts.append(at + _BEFORE)
                 lengths.append(length)
+                wires.append(wire)
                 types.append(ethernet_type)
                 at += block
-                block, length, ethernet_type = next_block, next_length, next_type
+                block, length, wire, ethernet_type = next_block, next_length, next_wire, next_type
         if not starts:
             return None, at
-        return self._piece(data, starts, lengths, link_type, _ENHANCED, low_first(types, self._order)), at
+        order, interfaces = self._order, self._interfaces
+        types = low_first(types, order)
+        return _PcapngPiece(
+            data, starts, lengths, link_type, types, wires=wires, kind=_ENHANCED, order=order, interfaces=interfaces
+        ), at
 
     def _block_end(self, data: bytes, at: int) -> int | None:
         """Where the block that begins at `at` ends, or None where it is not whole; a section's block sets the byte order."""
@@ -170,12 +182,10 @@ class PcapngCapture(Capture):
         """The packet of a block of the old kind, or of an enhanced packet block that is the last one in these bytes, or wrong."""
         if end - at < _AROUND:
             raise self._wrong_packet()
-        _, _, number, length = (self._old if kind == pcapng.PCAPNG_BT_PB else self._enhanced)(data, at)
-        if length > LONGEST_PACKET:
-            raise self._too_long(length)
+        _, _, number, length, wire = (self._old if kind == pcapng.PCAPNG_BT_PB else self._enhanced)(data, at)
         if number >= len(self._interfaces) or end - at < _AROUND + length:
             raise self._wrong_packet()
-        return self._piece(data, [at + _BEFORE], [length], self._interfaces[number].link_type, kind)
+        return self._one(data, at + _BEFORE, length, wire, self._interfaces[number].link_type, kind)
 
     def _simple_packet(self, data: bytes, at: int, end: int) -> Piece:
         """The packet of a simple packet block, which is of the first interface and has no length of its own."""
@@ -184,9 +194,7 @@ class PcapngCapture(Capture):
         interface = self._interfaces[0]
         whole: int = self._pair(data, at + 4)[1]
         length = min(whole, interface.longest or whole, end - at - _BEFORE_SIMPLE - 4)
-        if length > LONGEST_PACKET:
-            raise self._too_long(length)
-        return self._piece(data, [at + _BEFORE_SIMPLE], [length], interface.link_type, pcapng.PCAPNG_BT_SPB)
+        return self._one(data, at + _BEFORE_SIMPLE, length, whole, interface.link_type, pcapng.PCAPNG_BT_SPB)
 
     def _wrong_packet(self) -> CaptureError:
         return self.error(f"the block of {self._next_packet()} has not what it says")

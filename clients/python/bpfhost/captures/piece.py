@@ -4,21 +4,31 @@ from __future__ import annotations
 
 import os
 import stat
+import zlib
 from abc import ABC, abstractmethod
 from array import array
 from collections.abc import Callable, Generator, Iterator
-from dataclasses import dataclass
+from dataclasses import dataclass, field, replace
+from gzip import BadGzipFile, GzipFile
 from io import BufferedReader
+from itertools import accumulate
+from typing import TypeVar
 
 from bpfhost.errors import CaptureError
 from bpfhost.numbers import LONGEST_PACKET
-from bpfhost.packets import Packets
+from bpfhost.packets import LEAST_WITH_TYPE, Packets
 
 # A capture is read by so many bytes: enough for the costs of a piece to be small beside those of its packets, and few enough to stay
 # in the processor's cache until they are sent.
 _CHUNK = 1 << 17
 # A piece has so many packets at most.
 MOST_PACKETS = 1024
+
+
+# A longer packet is taken for a lie: no capture of network packets has one (MAXIMUM_SNAPLEN of libpcap).
+LONGEST_CAPTURED = 262_144
+
+SomePiece = TypeVar("SomePiece", bound="Piece")
 
 
 @dataclass(frozen=True)
@@ -32,11 +42,43 @@ class Stamp:
 
 @dataclass(frozen=True)
 class Piece(Packets, ABC):
-    """Packets of a capture."""
+    """Packets of a capture.
+
+    `wires[i]` is the length that packet i had on the wire, as the capture tells it. `whole` has, where the packet is longer than those
+    of test runs, so many bytes as the capture has of it; such a packet is a piece of its own, and `lengths` has what a test run takes.
+    """
+
+    wires: list[int] = field(kw_only=True)
+    whole: int | None = field(kw_only=True, default=None)
 
     @abstractmethod
     def stamp(self, at: int) -> Stamp:
         """The time and the length of a packet."""
+
+    @property
+    def is_short(self) -> bool:
+        """Whether the capture has fewer bytes of some packet than there were on the wire."""
+        return self.whole is None and self.wires != self.lengths
+
+    def shorts(self) -> int:
+        """Of how many packets the capture has fewer bytes than there were on the wire."""
+        captured = self.lengths if self.whole is None else [self.whole]
+        return sum(1 for length, wire in zip(captured, self.wires) if wire > length)
+
+    def padded(self) -> Packets:
+        """The packets as long as they were on the wire, or as a test run takes, with zeros behind the bytes that the capture has."""
+        lengths = [max(length, min(wire, LONGEST_PACKET)) for length, wire in zip(self.lengths, self.wires)]
+        joined = b"".join([packet.ljust(length, b"\0") for packet, length in zip(self, lengths)])
+        types = self.types if min(self.lengths) >= LEAST_WITH_TYPE else None
+        return Packets(joined, list(accumulate(lengths, initial=0))[: len(lengths)], lengths, self.link_type, types)
+
+    def captured(self, at: int, longest: int) -> bytes:
+        """The first bytes of a packet that the capture has, `longest` at most."""
+        length = self.lengths[at] if self.whole is None else self.whole
+        return self.data[self.starts[at] : self.starts[at] + min(length, longest)]
+
+    def _some(self: SomePiece, at: int, end: int) -> SomePiece:
+        return replace(super()._some(at, end), wires=self.wires[at:end])
 
 
 def low_first(types: list[int], order: str) -> list[int]:
@@ -54,7 +96,7 @@ class Capture(ABC):
     # Whether times have more digits than microseconds have.
     has_nanoseconds = False
 
-    def __init__(self, name: str, file: BufferedReader, begun: bytes) -> None:
+    def __init__(self, name: str, file: BufferedReader | GzipFile, begun: bytes) -> None:
         """Reads nothing; `begun` is what was read of the file."""
         self.name = name
         self._file = file
@@ -104,7 +146,9 @@ class Capture(ABC):
         return self._read(more)
 
     def size(self) -> int | None:
-        """The bytes of the file, or None where it is no regular file."""
+        """The bytes of the file, or None where it is no regular file, or a compressed one."""
+        if isinstance(self._file, GzipFile):
+            return None
         status = os.fstat(self._file.fileno())
         return status.st_size if stat.S_ISREG(status.st_mode) else None
 
@@ -115,6 +159,8 @@ class Capture(ABC):
     def _read(self, size: int, by: Callable[[int], bytes] | None = None) -> bytes:
         try:
             read = (by or self._file.read)(size)
+        except (EOFError, BadGzipFile, zlib.error) as error:
+            raise self.error(f"its compressed bytes are damaged or cut off behind packet {self.packets_read:,}") from error
         except OSError as error:
             raise self.error(error.strerror or "it can't be read") from error
         self.bytes_read += len(read)
@@ -128,5 +174,5 @@ class Capture(ABC):
 
     def _too_long(self, length: int) -> CaptureError:
         return self.error(
-            f"{self._next_packet()} has {length:,} bytes, and that of a test run has {LONGEST_PACKET:,} at most"
+            f"{self._next_packet()} has {length:,} bytes, and no capture has one of more than {LONGEST_CAPTURED:,}"
         )

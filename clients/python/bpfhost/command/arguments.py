@@ -45,7 +45,13 @@ def _add_run(words: _Words) -> None:
     parser.add_argument("--tenants", metavar="N", type=_tenants, default=1, help="so many tenants run the filter, each on every packet")
     parser.add_argument("--limit", metavar="N", type=_number, help="so many packets at most")
     parser.add_argument("--json", action="store_true", help="write JSON in place of tables")
-    parser.add_argument("--accepted", metavar="FILE", help="write the packets that are kept, cut as the filter says, as a pcap file")
+    parser.add_argument(
+        "--accepted", metavar="FILE", help="write the packets that are kept, cut as the filter says; *.pcapng is pcapng, - standard output"
+    )
+    parser.add_argument(
+        "--short", choices=("pad", "as-is"), default="pad", help="packets that are cut short in the capture: with zeros up to their length on the wire"
+    )
+    parser.add_argument("--long", choices=("cut", "skip"), default="cut", help="packets of more than 65,536 bytes: run the first of these, or none")
     _add_form(parser)
     add_program(parser)
 

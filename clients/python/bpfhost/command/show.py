@@ -3,10 +3,9 @@
 from __future__ import annotations
 
 import json
-import sys
 from collections.abc import Iterator
 from dataclasses import dataclass
-from typing import TYPE_CHECKING, Literal
+from typing import TYPE_CHECKING, Literal, TextIO
 
 from bpfhost.errors import MissingPackage
 from bpfhost.filtering import Outcome
@@ -57,7 +56,7 @@ def _microseconds(outcome: Outcome) -> float | None:
 # JSON.
 
 
-def write_json(report: Report) -> None:
+def write_json(report: Report, output: TextIO) -> None:
     """Writes the report as one object of JSON."""
     outcome = report.outcome
     told = {
@@ -73,10 +72,14 @@ def write_json(report: Report) -> None:
         "results": {str(result): count for result, count in sorted(outcome.results.items())},
         "microseconds_per_packet": _microseconds(outcome),
         "maps": {each.declared.name: _plain_map(report.object_file, each) for each in report.maps},
+        "short": outcome.short,
+        "long": outcome.long,
+        "skipped": outcome.skipped,
         "fault": str(outcome.fault) if outcome.fault else None,
+        "signal": outcome.signal,
     }
-    json.dump(told, sys.stdout, indent=2)
-    print()
+    json.dump(told, output, indent=2)
+    print(file=output)
 
 
 def _plain_map(object_file: ObjectFile, shown: ShownMap) -> dict[str, object]:
@@ -107,20 +110,20 @@ def _plain(object_file: ObjectFile, type_id: int | None, data: bytes) -> object:
 # Tables.
 
 
-def write_tables(report: Report) -> None:
+def write_tables(report: Report, output: TextIO) -> None:
     """Writes the report as tables; a MissingPackage where there is no rich."""
     try:
         from rich.console import Console
     except ModuleNotFoundError as error:
         raise MissingPackage("rich", "python3-rich") from error
     # Where no terminal sets a width, a table is as wide as it needs to be, and lines end without spaces.
-    is_terminal = sys.stdout.isatty()
+    is_terminal = output.isatty()
     console = Console(markup=False, emoji=False, highlight=False, width=None if is_terminal else _WIDE)
     with console.capture() as captured:
         for part in _parts(report):
             console.print(part)
     written = captured.get()
-    sys.stdout.write(written if is_terminal else "".join(f"{line.rstrip()}\n" for line in written.splitlines()))
+    output.write(written if is_terminal else "".join(f"{line.rstrip()}\n" for line in written.splitlines()))
 
 
 def _parts(report: Report) -> Iterator[str | Table]:

@@ -3,18 +3,14 @@
 from __future__ import annotations
 
 import argparse
-import re
 import sys
 from pathlib import Path
 
 from bpfhost.command.objects import read_object
-from bpfhost.errors import BpfhostError, HostError, InputError
+from bpfhost.errors import InputError
 from bpfhost.program import assemble, disassemble, find_program, hex_lines, slots_of
-from bpfhost.words import TEXT_FAULTS, reason_words
 
 _ELF = b"\x7fELF"
-# The status of `asm` and `dis` where it is their input that is wrong (docs/CLI.md).
-_INPUT_REFUSED = 1
 
 
 def _read(file: str | None) -> tuple[str, bytes]:
@@ -34,11 +30,7 @@ def asm(said: argparse.Namespace) -> int:
     """Writes the slots of a text as hex lines; a fault is told with its line."""
     name, given = _read(said.file)
     text = _decoded(name, given)
-    try:
-        slots = assemble(find_program(said.bpfhost), text)
-    except HostError as error:
-        raise _refused(error, name, text) from error
-    sys.stdout.write(hex_lines(slots))
+    sys.stdout.write(hex_lines(assemble(find_program(said.bpfhost), text, name)))
     return 0
 
 
@@ -48,32 +40,8 @@ def dis(said: argparse.Namespace) -> int:
     program = find_program(said.bpfhost)
     if given.startswith(_ELF):
         return _dis_object(said, program)
-    sys.stdout.write(_text_of(program, slots_of(_decoded(name, given), name), name))
+    sys.stdout.write(disassemble(program, slots_of(_decoded(name, given), name), name))
     return 0
-
-
-def _text_of(program: str, slots: bytes, name: str) -> str:
-    try:
-        return disassemble(program, slots)
-    except HostError as error:
-        raise _refused(error, name, hex_lines(slots)) from error
-
-
-def _refused(error: HostError, name: str, text: str) -> BpfhostError:
-    """What the fault line of `asm` or `dis` means; the error itself where it is not the input that is refused."""
-    if error.status != _INPUT_REFUSED:
-        return error
-    fault = re.fullmatch(r"(line|slot) (\d+): fault (\d+)", error.fault)
-    if not fault:
-        return InputError(f"{name}: {error.fault}")
-    where, number, kind = fault[1], int(fault[2]), int(fault[3])
-    if where == "slot":
-        return InputError(f"{name}: slot {number}: {reason_words(100 + kind)}")
-    words = TEXT_FAULTS.get(kind, f"fault {kind}")
-    if not number:
-        return InputError(f"{name}: {words}")
-    line = text.split("\n")[number - 1].strip()
-    return InputError(f"{name}:{number}: {line}: {words}")
 
 
 def _dis_object(said: argparse.Namespace, program: str) -> int:
@@ -95,6 +63,6 @@ def _dis_object(said: argparse.Namespace, program: str) -> int:
             print(f"// as compiled, for it is in no other form: {error}")
             lowered = as_is(each)
         print("".join(f"// {change}\n" for change in lowered.changes), end="")
-        text = _text_of(program, lowered.program.linked(first_descriptors(object_file)), said.file)
+        text = disassemble(program, lowered.program.linked(first_descriptors(object_file)), said.file)
         sys.stdout.write(with_sources(text, lowered))
     return 0

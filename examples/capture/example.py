@@ -37,7 +37,7 @@ def called(*words: object, cwd: Path = HERE) -> bytes:
 
 def command(scratch: Path, *words: str) -> subprocess.CompletedProcess[str]:
     """Runs the command in the folder of the objects."""
-    environment = {**os.environ, "PYTHONPATH": str(PACKAGE), "PYTHONDONTWRITEBYTECODE": "1"}
+    environment = {**os.environ, "PYTHONPATH": str(PACKAGE), "PYTHONDONTWRITEBYTECODE": "1", "VERIFIER_LOG": ""}
     calls = [sys.executable, "-m", "bpfhost", *words]
     return subprocess.run(calls, capture_output=True, check=False, text=True, cwd=scratch, env=environment)
 

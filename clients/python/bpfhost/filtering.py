@@ -103,6 +103,22 @@ class _Turn:
     piece: Piece
     packets: Packets
     runs: TestRuns
+    times: list[int] | None
+
+
+class _Clock:
+    """The time of a capture: milliseconds since its first packet, modulo 2^32; 0 for packets that are older than that one."""
+
+    def __init__(self) -> None:
+        self._first: int | None = None
+
+    def milliseconds(self, piece: Piece) -> list[int]:
+        """The times of the packets of a piece."""
+        stamps = [piece.stamp(at) for at in range(len(piece))]
+        times = [stamp.seconds * 1_000_000_000 + stamp.nanoseconds for stamp in stamps]
+        if self._first is None and times:
+            self._first = times[0]
+        return [max(0, at - (self._first or 0)) // 1_000_000 % (1 << 32) for at in times]
 
 
 class Filter:
@@ -150,8 +166,8 @@ class Filter:
                 if left is not None:
                     piece = piece.first(left)
                     left -= len(piece)
-                if len(piece):
-                    yield piece
+                # An interface gives an empty piece where nothing has come, so that what waits for its results gets them.
+                yield piece
                 if left == 0:
                     return
         except CaptureError as error:
@@ -184,13 +200,15 @@ class Filter:
                 raise TenantsDiffer(f"tenant {self._runs.index(turn.runs)} is told something else than tenant 0")
 
     def _turns(self, pieces: Iterable[Piece], outcome: Outcome) -> Iterator[_Turn]:
+        clock = _Clock()
         for piece in pieces:
             packets = self._packets(piece, outcome)
-            yield from (_Turn(piece, packets, runs) for runs in self._runs)
+            times = clock.milliseconds(piece) if self._runs[0].timed else None
+            yield from (_Turn(piece, packets, runs, times) for runs in self._runs)
 
 
 def _send(turn: _Turn) -> None:
-    turn.runs.send(turn.packets)
+    turn.runs.send(turn.packets, turn.times)
 
 
 def _receive(turn: _Turn) -> tuple[_Turn, tuple[int, ...]]:

@@ -3,7 +3,7 @@
 A number that has no room in its field is a ValueError; all else, right or wrong, is the host's to judge.
 """
 
-from dataclasses import astuple, dataclass
+from dataclasses import astuple, dataclass, fields
 
 from bpfhost.numbers import SOCKET_FILTER, Command, MapType, Update
 
@@ -29,6 +29,16 @@ class Context:
 
 
 NO_CONTEXT = Context()
+# Bytes of a test run's frame before its context: length, tenant, command, descriptor.
+_BEFORE_CONTEXT = 12
+
+
+def place_of(word: str) -> int:
+    """Where a word of the context begins in a test run's frame; a ValueError where there is no such word."""
+    names = [each.name for each in fields(Context)]
+    if word not in names:
+        raise ValueError(f"the context has no word {word}, but {', '.join(names)}")
+    return _BEFORE_CONTEXT + 4 * names.index(word)
 
 
 def _number(name: str, value: int, bits: int) -> bytes:

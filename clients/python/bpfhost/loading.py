@@ -13,16 +13,26 @@ from bpfhost.numbers import FIRST_DESCRIPTOR
 from bpfhost.objects import Form, ObjectFile, ObjectMap, ObjectProgram
 from bpfhost.prog import Prog
 from bpfhost.program import MapShape, Program, log_or_fault, verify
+from bpfhost.refusals import PAGE, folded, hint, need_of, with_names
 from bpfhost.runs import TestRuns
 from bpfhost.tenant import Tenant
 from bpfhost.words import reason_words
 
 
-def refused_at(object_file: ObjectFile, lowered: Lowered, slot: int, reason: int, log: str | None = None) -> SourceRefused:
-    """The error of a program that is refused at a slot for a reason, with the line of the source and the reason in words."""
-    place, moved = _place(object_file, lowered.program, slot), lowered.place(slot)
+def refused_at(bpfhost: Program, object_file: ObjectFile, lowered: Lowered, slot: int, reason: int) -> SourceRefused:
+    """The error of a program that is refused at a slot for a reason.
+
+    Its text has the line of the source, the reason in words, what was known against what was needed, where there is a log that tells it, and
+    what to change.
+    """
+    place, moved, program = _place(object_file, lowered.program, slot), lowered.place(slot), lowered.program
+    log = _raw_log(bpfhost, object_file, lowered)
+    need = need_of(log, _map_names(object_file)) if log else None
+    change = hint(reason, program.linked(first_descriptors(object_file)), slot)
     told = f"{place} (slot {slot}{f', {moved}' if moved else ''}: {reason_words(reason)}, reason {reason})"
-    return SourceRefused(told, slot, reason, log)
+    told += f": {need}" if need else ""
+    told += f"; {change} ({PAGE})" if change else ""
+    return SourceRefused(told, slot, reason, None if log is None else _readable(log, object_file, lowered))
 
 
 def _place(object_file: ObjectFile, program: ObjectProgram, slot: int) -> str:
@@ -66,10 +76,30 @@ def lowered_program(bpfhost: Program, object_file: ObjectFile, program: ObjectPr
 def log_of(bpfhost: Program, object_file: ObjectFile, lowered: Lowered) -> str | None:
     """The verifier's log on a program, or why there is none; None where there is no program to write it.
 
-    Of a program in another form it has the lines of the source, each before the first instruction that comes from it.
+    It has the lines of the source, each before the first instruction that comes from it, the names of maps and helpers, and large numbers in
+    hexadecimal digits.
     """
-    log = log_or_fault(bpfhost, lowered.program.linked(first_descriptors(object_file)), shapes_of(object_file))
-    return log if log is None or not lowered.origins else with_sources(log, lowered)
+    log = _raw_log(bpfhost, object_file, lowered)
+    return None if log is None else _readable(log, object_file, lowered)
+
+
+def graph_of(bpfhost: Program, object_file: ObjectFile, lowered: Lowered) -> str | None:
+    """The control-flow graph of a program, for Graphviz, with long blocks folded; None where there is no program to write it."""
+    graph = _raw_log(bpfhost, object_file, lowered, "--dot")
+    return None if graph is None else folded(graph)
+
+
+def _raw_log(bpfhost: Program, object_file: ObjectFile, lowered: Lowered, *words: str) -> str | None:
+    return log_or_fault(bpfhost, lowered.program.linked(first_descriptors(object_file)), shapes_of(object_file), *words)
+
+
+def _readable(log: str, object_file: ObjectFile, lowered: Lowered) -> str:
+    return with_sources(with_names(log, _map_names(object_file)), lowered)
+
+
+def _map_names(object_file: ObjectFile) -> dict[int, str]:
+    """The names of the object's maps by the descriptors that they have in the log."""
+    return {fd: declared.name for fd, declared in zip(first_descriptors(object_file), object_file.maps)}
 
 
 def with_sources(text: str, lowered: Lowered) -> str:
@@ -145,9 +175,9 @@ class LoadedProgram:
         """The program in the form that is loaded."""
         return self.lowered.program
 
-    def runs(self) -> TestRuns:
-        """Test runs of the program."""
-        return TestRuns(self.tenant.host, self.tenant.number, self.prog)
+    def runs(self, timed: str | None = None) -> TestRuns:
+        """Test runs of the program; `timed` names the word of the context that has the time of each packet."""
+        return TestRuns(self.tenant.host, self.tenant.number, self.prog, timed=timed)
 
 
 def load_program(tenant: Tenant, object_file: ObjectFile, program: ObjectProgram | Lowered) -> LoadedProgram:
@@ -159,13 +189,13 @@ def load_program(tenant: Tenant, object_file: ObjectFile, program: ObjectProgram
     bpfhost = tenant.host.program
     lowered = lowered_program(bpfhost, object_file, program) if isinstance(program, ObjectProgram) else program
     if lowered.refused is not None:
-        raise refused_at(object_file, lowered, *lowered.refused, log_of(bpfhost, object_file, lowered))
+        raise refused_at(bpfhost, object_file, lowered, *lowered.refused)
     maps = tuple(LoadedMap(declared, _made(tenant, declared)) for declared in object_file.maps)
     slots = lowered.program.linked([loaded.map.descriptor for loaded in maps])
     try:
         return LoadedProgram(tenant, lowered, tenant.prog_load(slots, lowered.program.name), maps)
     except ProgramRefused as refused:
-        raise refused_at(object_file, lowered, refused.slot, refused.reason, log_of(bpfhost, object_file, lowered)) from refused
+        raise refused_at(bpfhost, object_file, lowered, refused.slot, refused.reason) from refused
 
 
 def _made(tenant: Tenant, declared: ObjectMap) -> Map:

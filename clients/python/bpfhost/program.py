@@ -174,23 +174,23 @@ def _is_program(path: Path) -> bool:
     return path.is_file() and os.access(path, os.X_OK)
 
 
-def verifier_log(program: Program, slots: bytes, maps: Mapping[int, MapShape]) -> str | None:
-    """The log of the verifier on slots, with maps by their descriptors; None where there is no program `verifier_log` to write it.
+def verifier_log(program: Program, slots: bytes, maps: Mapping[int, MapShape], *words: str) -> str | None:
+    """The log of the verifier on slots, with maps by their descriptors, and other words, as `--dot`; None where there is no program `verifier_log` to write it.
 
     A HostError where it ends with another status than those of an accepted and of a refused program, 0 and 1.
     """
     logger = find_verifier_log(program)
     if logger is None:
         return None
-    ended = _called(logger, _map_words(maps), hex_lines(slots).encode())
+    ended = _called(logger, [*words, *_map_words(maps)], hex_lines(slots).encode())
     if ended.returncode not in (0, 1):
         raise HostError.of("verifier_log", ended.returncode, ended.stderr, ended.stdout)
     return ended.stdout.decode(errors="replace")
 
 
-def log_or_fault(program: Program, slots: bytes, maps: Mapping[int, MapShape]) -> str | None:
+def log_or_fault(program: Program, slots: bytes, maps: Mapping[int, MapShape], *words: str) -> str | None:
     """The log, or a line with the reason why it can't be had: a verdict is told all the same."""
     try:
-        return verifier_log(program, slots, maps)
+        return verifier_log(program, slots, maps, *words)
     except HostError as error:
         return f"there is no log: {error}\n"

@@ -13,7 +13,7 @@ from collections.abc import Iterable, Iterator, Sequence
 from typing import TYPE_CHECKING
 
 from bpfhost.errors import ReplyError
-from bpfhost.frames import NO_CONTEXT, Context, prog_test_run
+from bpfhost.frames import NO_CONTEXT, Context, place_of, prog_test_run
 from bpfhost.numbers import LONGEST_PACKET, REPLY_HEAD, Command
 from bpfhost.packets import ETHERNET, LEAST_WITH_TYPE, Packets
 from bpfhost.prog import Prog
@@ -88,10 +88,13 @@ class TestRuns:
     # It is no class of tests, whatever pytest thinks of its name.
     __test__ = False
 
-    def __init__(self, host: Host, tenant: int, program: int, context: Context = NO_CONTEXT) -> None:
+    def __init__(self, host: Host, tenant: int, program: int, context: Context = NO_CONTEXT, timed: str | None = None) -> None:
+        """Runs of a program; `timed` names the word of the context that has a number of each packet."""
         self.host = host
         self._prog = program if isinstance(program, Prog) else None
         self._heads = _Heads(tenant, program, context)
+        self.timed = timed
+        self._word = place_of(timed) - _LENGTH if timed else 0
         self._whose = tenant | Command.PROG_TEST_RUN << 16
         # The first two words of the reply to a run that ended.
         self._head = struct.pack("<II", _REPLY_SIZE - 4, self._whose)
@@ -104,30 +107,46 @@ class TestRuns:
         """
         return self.host.pipelined(self.send, self.receive, (few for piece in pieces for few in piece.split(self.most)))
 
-    def send(self, packets: Packets) -> None:
+    def send(self, packets: Packets, numbers: Sequence[int] | None = None) -> None:
         """Sends the frames of runs on packets, `most` at most, which `receive` then reads the replies to."""
         begun = time.perf_counter_ns()
-        self.host.send(self.frames(packets), len(packets))
+        self.host.send(self.frames(packets, numbers), len(packets))
         if self._prog is not None:
             self._prog.count(0, time.perf_counter_ns() - begun)
 
-    def frames(self, packets: Packets) -> bytes:
-        """The frames of runs on packets; a ValueError where one has more than 65,536 bytes."""
+    def frames(self, packets: Packets, numbers: Sequence[int] | None = None) -> bytes:
+        """The frames of runs on packets; a ValueError where one has more than 65,536 bytes.
+
+        `numbers` has one of 32 bits for each packet, which the word `timed` of its context has.
+        """
+        if not len(packets):
+            return b""
         types = _types(packets)
         try:
-            return self._joined(packets, types)
+            return self._joined(packets, types, numbers)
         except (IndexError, KeyError):
             self._heads.learn(packets.lengths, types)
-            return self._joined(packets, types)
+            return self._joined(packets, types, numbers)
 
-    def _joined(self, packets: Packets, types: Sequence[int | None]) -> bytes:
+    def _joined(self, packets: Packets, types: Sequence[int | None], numbers: Sequence[int] | None) -> bytes:
         """The frames, in as few steps as can be; an IndexError or a KeyError where a length or a type was not learned."""
+        if numbers is not None:
+            return self._joined_with(packets, types, numbers)
         data, lengths, contexts = memoryview(packets.data), self._heads.lengths, self._heads.contexts
         pieces: list[bytes | memoryview] = []
         for start, length, ethernet_type in zip(packets.starts, packets.lengths, types):
             pieces.append(lengths[length])
             pieces.append(contexts[ethernet_type])
             pieces.append(data[start : start + length])
+        return b"".join(pieces)
+
+    def _joined_with(self, packets: Packets, types: Sequence[int | None], numbers: Sequence[int]) -> bytes:
+        """The same with a number in a word of each context."""
+        lengths, contexts, word = self._heads.lengths, self._heads.contexts, self._word
+        pieces: list[bytes] = []
+        for packet, length, ethernet_type, number in zip(packets, packets.lengths, types, numbers, strict=True):
+            context = contexts[ethernet_type]
+            pieces += (lengths[length], context[:word], number.to_bytes(4, "little"), context[word + 4 :], packet)
         return b"".join(pieces)
 
     def receive(self, packets: Packets) -> tuple[int, ...]:

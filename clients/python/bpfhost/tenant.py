@@ -85,8 +85,12 @@ class Tenant:
         self._done(frames.close(self.number, descriptor))
 
     def _done(self, frame: bytes) -> Reply:
-        reply = self.host.ask(frame)
-        if reply.tenant | reply.command << 16 != int.from_bytes(frame[4:8], "little"):
-            raise ReplyError(f"a command has the reply of something else: {reply}")
-        reply.done()
-        return reply
+        return answered(frame, self.host.ask(frame))
+
+
+def answered(frame: bytes, reply: Reply) -> Reply:
+    """The reply to a frame: a ReplyError where it is one to something else, and a Refused where the command is refused."""
+    if reply.tenant | reply.command << 16 != int.from_bytes(frame[4:8], "little"):
+        raise ReplyError(f"a command has the reply of something else: {reply}")
+    reply.done()
+    return reply

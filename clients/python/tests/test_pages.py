@@ -47,7 +47,7 @@ class Pages(HostTest):
             self.skipTest("clang 14 is missing")
         self.set_up()
         page = TUTORIAL.read_text()
-        for name, text in zip(("flows.c", "labels.c"), blocks(page, "c"), strict=True):
+        for name, text in zip(("flows.c", "labels.c", "bucket.c"), blocks(page, "c"), strict=True):
             (self.scratch / name).write_text(text)
         for file in (EXAMPLE.parent / "c_filter/bpfhost.h", EXAMPLE / "sample.pcap"):
             shutil.copy(file, self.scratch)

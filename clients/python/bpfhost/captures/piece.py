@@ -152,6 +152,10 @@ class Capture(ABC):
         status = os.fstat(self._file.fileno())
         return status.st_size if stat.S_ISREG(status.st_mode) else None
 
+    def dropped(self) -> int:
+        """How many packets came and could not be read in time: none of a file."""
+        return 0
+
     def error(self, fault: str) -> CaptureError:
         """The error that tells the file and a fault."""
         return CaptureError(f"{self.name}: {fault}")

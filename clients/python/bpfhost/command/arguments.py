@@ -3,17 +3,24 @@
 from __future__ import annotations
 
 import argparse
+import contextlib
 from collections.abc import Callable, Sequence
 from typing import TypeAlias
 
 from bpfhost.command import build, check, frames, run, texts
+from bpfhost.command.words import seconds, setting
 from bpfhost.numbers import MOST_TENANTS
+from bpfhost.command.version import Version
 from bpfhost.telling import Parser, add_program, in_range, named
 
 _ABOUT = "Runs filters that clang compiled on captures, by a bpfhost; checks them; reads and writes programs and frames as text."
 
 _Words: TypeAlias = "argparse._SubParsersAction[Parser]"
 
+_seconds = named(seconds, "time, as 1s or 500ms")
+_setting = named(setting, "NAME=VALUE")
+# Words of the context that a run leaves 0, and whose names say nothing of a packet that a capture tells.
+_TIMED = ("mark", "priority", "queue_mapping")
 _number = in_range(int, "number of at least 0", 0)
 _tenants = in_range(int, f"number from 1 to {MOST_TENANTS}", 1, MOST_TENANTS)
 _hex = named(bytes.fromhex, "bytes in hexadecimal digits")
@@ -21,6 +28,7 @@ _hex = named(bytes.fromhex, "bytes in hexadecimal digits")
 
 def _parser() -> Parser:
     parser = Parser(prog="python3 -m bpfhost", description=_ABOUT)
+    parser.add_argument("--version", action=Version, nargs=0, help="tell the version, and which program is used, and whether it is proved")
     words = parser.add_subparsers(metavar="WORD", required=True, parser_class=Parser)
     _add_run(words)
     _add_check(words)
@@ -38,13 +46,22 @@ def _word(words: _Words, name: str, call: Callable[[argparse.Namespace], int], d
 
 
 def _add_run(words: _Words) -> None:
-    parser = _word(words, "run", run.run, "run a filter on every packet of a capture")
+    parser = _word(words, "run", run.run, "run a filter on every packet of a capture, or of an interface")
+    parser.set_defaults(wrong=parser.error)
     parser.add_argument("object", metavar="OBJECT", help="an ELF object of machine BPF, as clang -target bpf -g writes it")
-    parser.add_argument("capture", metavar="CAPTURE", help="a capture, pcap or pcapng; - is standard input")
+    parser.add_argument("capture", metavar="CAPTURE", nargs="?", help="a capture, pcap or pcapng, also compressed by gzip; - is standard input")
+    parser.add_argument("--interface", metavar="IF", help="the packets of a network interface, as they come, in place of a capture (as root)")
     _add_section(parser)
     parser.add_argument("--tenants", metavar="N", type=_tenants, default=1, help="so many tenants run the filter, each on every packet")
     parser.add_argument("--limit", metavar="N", type=_number, help="so many packets at most")
-    parser.add_argument("--json", action="store_true", help="write JSON in place of tables")
+    written = parser.add_mutually_exclusive_group()
+    written.add_argument("--json", action="store_true", help="write JSON in place of tables")
+    written.add_argument("--csv", metavar="MAP", help="write the entries of a map as CSV in place of tables")
+    parser.add_argument("--every", metavar="TIME", type=_seconds, help="show the tables again and again, each time behind so much time, as 1s or 500ms")
+    parser.add_argument("--top", metavar="N", type=_number, help="show so many entries of each map, those with the greatest numbers")
+    parser.add_argument("--by", metavar="FIELD", help="the field with these numbers, as bytes or flow.port; else the first one of a value")
+    parser.add_argument("--set", metavar="NAME=VALUE", type=_setting, action="append", default=[], help="give a global variable a value")
+    parser.add_argument("--time", metavar="WORD", choices=_TIMED, help=f"milliseconds since the first packet, in a word of the context: {', '.join(_TIMED)}")
     parser.add_argument(
         "--accepted", metavar="FILE", help="write the packets that are kept, cut as the filter says; *.pcapng is pcapng, - standard output"
     )
@@ -70,6 +87,7 @@ def _add_form(parser: Parser) -> None:
 def _add_check(words: _Words) -> None:
     parser = _word(words, "check", check.run, "verify each program of an object, and show the verifier's log where there is one")
     parser.add_argument("object", metavar="OBJECT")
+    parser.add_argument("--dot", action="store_true", help="write control-flow graphs, for Graphviz, in place of verdicts")
     _add_form(parser)
     add_program(parser)
 
@@ -103,5 +121,13 @@ def _add_frames(words: _Words) -> None:
 
 
 def parse(words: Sequence[str] | None) -> argparse.Namespace:
-    """The words of the command; wrong ones end the process with the status 2."""
-    return _parser().parse_args(words)
+    """The words of the command; wrong ones end the process with the status 2.
+
+    Shells are given what completes them by argcomplete, where it is there (Debian: python3-argcomplete).
+    """
+    parser = _parser()
+    with contextlib.suppress(ModuleNotFoundError):
+        import argcomplete
+
+        argcomplete.autocomplete(parser)
+    return parser.parse_args(words)

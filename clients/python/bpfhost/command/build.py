@@ -8,20 +8,20 @@ import tempfile
 from pathlib import Path
 
 from bpfhost.command.objects import read_object, tell_changes
+from bpfhost.command.version import program_of
 from bpfhost.errors import InputError
-from bpfhost.program import find_program
 
 
 def run(said: argparse.Namespace) -> int:
     """Writes the file; nothing is written where the program is refused."""
-    program, object_file = find_program(said.bpfhost), read_object(said, said.object)
+    program, object_file = program_of(said), read_object(said, said.object)
     from bpfhost.built import built
-    from bpfhost.loading import choose_program, log_of, lowered_program, refused_at
+    from bpfhost.loading import choose_program, lowered_program, refused_at
 
     chosen = choose_program(object_file, said.section)
     lowered = lowered_program(program, object_file, chosen)
     if lowered.refused is not None:
-        raise refused_at(object_file, lowered, *lowered.refused, log_of(program, object_file, lowered))
+        raise refused_at(program, object_file, lowered, *lowered.refused)
     if os.path.exists(said.output) and os.path.samefile(said.output, said.object):
         raise InputError(f"{said.output}: the program can't be written over its object")
     _write(Path(said.output), built(object_file, lowered))

@@ -5,14 +5,14 @@ from __future__ import annotations
 import argparse
 
 from bpfhost.command.objects import read_object
-from bpfhost.errors import SourceRefused
-from bpfhost.program import find_program
+from bpfhost.command.version import program_of
+from bpfhost.errors import HostError, SourceRefused
 
 
 def run(said: argparse.Namespace) -> int:
     """Verifies each program by itself, with the maps of the object; the status is 1 where one is refused."""
-    program, object_file = find_program(said.bpfhost), read_object(said, said.object)
-    from bpfhost.loading import choose_program, log_of, lowered_program, refused_at
+    program, object_file = program_of(said), read_object(said, said.object)
+    from bpfhost.loading import choose_program, graph_of, log_of, lowered_program, refused_at
     from bpfhost.lowering import LoweringError
 
     if not object_file.programs:
@@ -26,10 +26,17 @@ def run(said: argparse.Namespace) -> int:
             print(f"{name} is refused: {error}")
             status = 1
             continue
-        refused: SourceRefused | None = refused_at(object_file, lowered, *lowered.refused) if lowered.refused else None
+        if said.dot:
+            print(graph_of(program, object_file, lowered) or _no_graph(), end="")
+            continue
+        refused: SourceRefused | None = refused_at(program, object_file, lowered, *lowered.refused) if lowered.refused else None
         verdict = f"refused: {refused}" if refused else f"accepted{' in another form' if lowered.changes else ''}"
         print(f"{name} is {verdict}")
         print("".join(f"- {change}\n" for change in lowered.changes), end="")
-        print(log_of(program, object_file, lowered) or "", end="")
+        print((refused.log if refused else log_of(program, object_file, lowered)) or "", end="")
         status = 1 if refused else status
     return status
+
+
+def _no_graph() -> str:
+    raise HostError("there is no program verifier_log, which writes graphs: name it by the variable VERIFIER_LOG")

@@ -6,16 +6,17 @@ import argparse
 import contextlib
 import os
 import sys
-from collections.abc import Callable, Iterator
+from collections.abc import Iterator
 from typing import TYPE_CHECKING
 
 from bpfhost.captures import open_capture
+from bpfhost.command.live import Shown
 from bpfhost.command.objects import read_object, tell_changes
+from bpfhost.command.version import program_of
 from bpfhost.errors import CaptureError, InputError
 from bpfhost.host import Host
 from bpfhost.numbers import LONGEST_PACKET
 from bpfhost.packets import ETHERNET
-from bpfhost.program import find_program
 from bpfhost.stopping import Stopping
 from bpfhost.telling import GOOD, REFUSED
 
@@ -24,8 +25,6 @@ if TYPE_CHECKING:
     from bpfhost.captures.writer import CaptureWriter
     from bpfhost.filtering import Outcome, Treatment
 
-    Advanced = Callable[[Outcome], None]
-
 _STANDARD_INPUT = "/dev/stdin"
 # The status of a process that a signal ended, as a shell has it, is this and the signal's number: 130 of Ctrl-C.
 _BY_SIGNAL = 128
@@ -33,31 +32,48 @@ _BY_SIGNAL = 128
 
 def run(said: argparse.Namespace) -> int:
     """Loads the filter, runs it, and shows what came of it; the status is 1 where the capture is wrong behind some packet."""
+    path = _input_of(said)
     object_file = read_object(said, said.object)
-    from bpfhost.command import show
+    from bpfhost.command.show import demand_map
     from bpfhost.filtering import Filter, Long, Short, Treatment, accept_none, accept_to
     from bpfhost.loading import choose_program, load_program, lowered_program
+    from bpfhost.objects.settings import with_values
 
+    object_file = with_values(object_file, dict(said.set))
     program = choose_program(object_file, said.section)
-    path = _STANDARD_INPUT if said.capture == "-" else said.capture
+    if said.csv is not None:
+        demand_map(object_file, said.csv)
     _refuse_loss(said.accepted, (said.object, "object that is run"), (path, "capture that they are read from"))
     treatment = Treatment(Short(said.short), Long(said.long))
-    with open_capture(path) as capture, Host(find_program(said.bpfhost), said.tenants) as host:
+    with _opened(said, path) as capture, Host(program_of(said), said.tenants) as host:
         lowered = lowered_program(host.program, object_file, program)
         loaded = [load_program(host.tenant(number), object_file, lowered) for number in range(said.tenants)]
         tell_changes(program.name, lowered.changes)
-        with Stopping() as stopping, _accepting(said, capture) as writer, _progress(capture) as advanced:
+        shown = Shown(said, object_file, loaded[0])
+        with Stopping() as stopping, _accepting(said, capture) as writer, shown.advancing(capture) as advanced:
             accept = accept_to(writer) if writer else accept_none
-            outcome = Filter([each.runs() for each in loaded], treatment).run(capture, said.limit, accept, advanced, stopping)
-        report = show.Report.of(object_file, loaded[0], said.capture, said.tenants, outcome)
-    # Where the packets that are kept go to standard output, what is told of them goes to standard error.
-    output = sys.stderr if said.accepted == "-" else sys.stdout
-    if said.json:
-        show.write_json(report, output)
-    else:
-        show.write_tables(report, output)
-    output.flush()
-    return _noted(said.capture, treatment, outcome, writer.fault if writer else None)
+            runs = [each.runs(said.time) for each in loaded]
+            outcome = Filter(runs, treatment).run(capture, said.limit, accept, advanced, stopping)
+        shown.end(outcome)
+        dropped = capture.dropped()
+    return _noted(shown.name, treatment, outcome, dropped, writer.fault if writer else None)
+
+
+def _input_of(said: argparse.Namespace) -> str:
+    """The path of the capture, or the name of the interface; the words are wrong where not one of them is named."""
+    if (said.capture is None) == (said.interface is None):
+        said.wrong("the following arguments are required: CAPTURE, or --interface IF in its place")
+    if said.interface is not None:
+        return str(said.interface)
+    return _STANDARD_INPUT if said.capture == "-" else str(said.capture)
+
+
+def _opened(said: argparse.Namespace, path: str) -> contextlib.AbstractContextManager[Capture]:
+    if said.interface is None:
+        return open_capture(path)
+    from bpfhost.captures.interface import open_interface
+
+    return open_interface(path)
 
 
 def _refuse_loss(accepted: str | None, *read: tuple[str, str]) -> None:
@@ -84,26 +100,10 @@ def _accepting(said: argparse.Namespace, capture: Capture) -> Iterator[CaptureWr
         writer.end()
 
 
-@contextlib.contextmanager
-def _progress(capture: Capture) -> Iterator[Advanced]:
-    """What shows how much of the capture is read, where standard error is a terminal and rich is there."""
-    if not sys.stderr.isatty():
-        yield lambda _: None
-        return
-    try:
-        from rich.console import Console
-        from rich.progress import BarColumn, DownloadColumn, Progress, TimeRemainingColumn
-    except ModuleNotFoundError:
-        yield lambda _: None
-        return
-    console = Console(stderr=True)
-    with Progress(BarColumn(), DownloadColumn(), TimeRemainingColumn(), console=console, transient=True) as progress:
-        task = progress.add_task(capture.name, total=capture.size())
-        yield lambda _: progress.update(task, completed=capture.bytes_read)
-
-
-def _noted(name: str, treatment: Treatment, outcome: Outcome, unwritten: CaptureError | None) -> int:
+def _noted(name: str, treatment: Treatment, outcome: Outcome, dropped: int, unwritten: CaptureError | None) -> int:
     """Tells how packets were run that are not as they were on the wire, and what is wrong, and gives the status."""
+    if dropped:
+        print(f"bpfhost: {name}: {_packets(dropped)} dropped by the kernel, as the filter was too slow for them", file=sys.stderr)
     for note in _notes(treatment, outcome):
         print(f"bpfhost: {name}: {note}", file=sys.stderr)
     for fault in (outcome.fault, unwritten):

@@ -2,12 +2,14 @@
 
 from __future__ import annotations
 
+import csv
 import json
 from collections.abc import Iterator
 from dataclasses import dataclass
 from typing import TYPE_CHECKING, Literal, TextIO
 
-from bpfhost.errors import MissingPackage
+from bpfhost.command.words import first_number, number_at
+from bpfhost.errors import InputError, MissingPackage
 from bpfhost.filtering import Outcome
 from bpfhost.loading import LoadedProgram
 from bpfhost.numbers import MapType
@@ -31,6 +33,38 @@ class ShownMap:
 
 
 @dataclass(frozen=True)
+class Order:
+    """Which entries of a map its table has: all in their order, or so many with the greatest numbers in a field."""
+
+    top: int | None = None
+    by: str | None = None
+
+    def of(self, object_file: ObjectFile, shown: ShownMap) -> list[tuple[bytes, bytes]]:
+        """The entries that are shown; of a map that does not have the field, the first ones in their order."""
+        entries = shown.entries
+        if self.top is None and self.by is None:
+            return entries
+        numbers = [self._number(object_file, shown.declared, key, value) for key, value in entries]
+        if all(number is not None for number in numbers):
+            ranks = sorted(range(len(entries)), key=lambda at: -(numbers[at] or 0))
+            entries = [entries[at] for at in ranks]
+        return entries[: self.top]
+
+    def told(self, are_some: bool) -> str:
+        """What a table says of its order."""
+        if self.top is None or not are_some:
+            return ""
+        return f"; the first {self.top:,}{f' by {self.by}' if self.by else ''}"
+
+    def _number(self, object_file: ObjectFile, declared: ObjectMap, key: bytes, value: bytes) -> float | None:
+        plain = _plain(object_file, declared.value_type, value)
+        if self.by is None:
+            return first_number(plain)
+        found = number_at(plain, self.by)
+        return number_at(_plain(object_file, declared.key_type, key), self.by) if found is None else found
+
+
+@dataclass(frozen=True)
 class Report:
     """All that a run is told of."""
 
@@ -41,12 +75,15 @@ class Report:
     tenants: int
     outcome: Outcome
     maps: list[ShownMap]
+    order: Order = Order()
 
     @classmethod
-    def of(cls, object_file: ObjectFile, loaded: LoadedProgram, capture: str, tenants: int, outcome: Outcome) -> Report:
+    def of(
+        cls, object_file: ObjectFile, loaded: LoadedProgram, capture: str, tenants: int, outcome: Outcome, order: Order = Order()
+    ) -> Report:
         """The report on a run, with the maps as a tenant has them now."""
         maps = [ShownMap(each.declared, each.map.entries()) for each in loaded.maps]
-        return cls(object_file, loaded.program.section, loaded.program.name, capture, tenants, outcome, maps)
+        return cls(object_file, loaded.program.section, loaded.program.name, capture, tenants, outcome, maps, order)
 
 
 def _microseconds(outcome: Outcome) -> float | None:
@@ -107,6 +144,50 @@ def _plain(object_file: ObjectFile, type_id: int | None, data: bytes) -> object:
     return object_file.types.plain(type_id, data)
 
 
+# CSV.
+
+
+def write_csv(report: Report, name: str, output: TextIO) -> None:
+    """Writes the entries of one map as CSV, a column for each field; an InputError where there is no such map."""
+    demand_map(report.object_file, name)
+    shown = next(each for each in report.maps if each.declared.name == name)
+    entries = [dict(_columns("key", key) + _columns("value", value)) for key, value in _told_entries(report, shown)]
+    columns = list(dict.fromkeys(column for entry in entries for column in entry)) or ["key", "value"]
+    writer = csv.DictWriter(output, columns, lineterminator="\n")
+    writer.writeheader()
+    writer.writerows(entries)
+
+
+def demand_map(object_file: ObjectFile, name: str) -> None:
+    """An InputError where the object has no map of this name."""
+    names = [declared.name for declared in object_file.maps]
+    if name not in names:
+        raise InputError(f"{object_file.path}: there is no map {name} to write as CSV: its maps are {', '.join(names) or 'none'}")
+
+
+def _told_entries(report: Report, shown: ShownMap) -> Iterator[tuple[object, object]]:
+    declared, object_file = shown.declared, report.object_file
+    for key, value in report.order.of(object_file, shown):
+        is_array = declared.map_type == MapType.ARRAY
+        name = int.from_bytes(key, "little") if is_array else _texts(object_file, declared.key_type, key)
+        yield name, _texts(object_file, declared.value_type, value)
+
+
+def _texts(object_file: ObjectFile, type_id: int | None, data: bytes) -> object:
+    if object_file.types is None or type_id is None:
+        return data.hex()
+    return object_file.types.texts(type_id, data)
+
+
+def _columns(name: str, value: object) -> list[tuple[str, object]]:
+    """A value as cells with the names of columns, as `value.packets` or `key.ports.0`."""
+    if isinstance(value, dict):
+        return [cell for field, inner in value.items() for cell in _columns(f"{name}.{field}", inner)]
+    if isinstance(value, list):
+        return [cell for at, inner in enumerate(value) for cell in _columns(f"{name}.{at}", inner)]
+    return [(name, value)]
+
+
 # Tables.
 
 
@@ -135,7 +216,7 @@ def _parts(report: Report) -> Iterator[str | Table]:
     yield _results(report.outcome)
     for shown in report.maps:
         yield ""
-        yield from _map_parts(report.object_file, shown)
+        yield from _map_parts(report, shown)
 
 
 def _table(*columns: tuple[str, Literal["left", "right"]], has_header: bool = True) -> Table:
@@ -166,19 +247,24 @@ def _results(outcome: Outcome) -> Table:
     # Of results that are as frequent, the lower one goes first.
     frequent = sorted(outcome.results.items(), key=lambda item: (-item[1], item[0]))
     for result, count in frequent[:_MOST_RESULTS]:
-        table.add_row(f"{result:,}", f"{count:,}")
+        table.add_row(_result(result), f"{count:,}")
     others = frequent[_MOST_RESULTS:]
     if others:
         table.add_row(f"{len(others):,} others", f"{sum(count for _, count in others):,}")
     return table
 
 
-def _map_parts(object_file: ObjectFile, shown: ShownMap) -> Iterator[str | Table]:
-    declared = shown.declared
+def _result(result: int) -> str:
+    """A result, which has 32 bits; that of `return -1` as that, too."""
+    return f"{result:,} ({result - (1 << 32)})" if result >> 31 else f"{result:,}"
+
+
+def _map_parts(report: Report, shown: ShownMap) -> Iterator[str | Table]:
+    object_file, declared = report.object_file, shown.declared
     is_array = declared.map_type == MapType.ARRAY
     # The elements of an array are all there, and most have often not been written to.
-    entries = [entry for entry in shown.entries if not is_array or declared.max_entries == 1 or any(entry[1])]
-    yield _map_title(declared, len(shown.entries), len(entries))
+    entries = [entry for entry in report.order.of(object_file, shown) if not is_array or declared.max_entries == 1 or any(entry[1])]
+    yield _map_title(declared, len(shown.entries), len(entries)) + report.order.told(len(entries) < len(shown.entries))
     if not entries:
         return
     table = _table(("key", "left"), ("value", "left"))
@@ -193,7 +279,7 @@ def _map_title(declared: ObjectMap, there: int, listed: int) -> str:
         return f"{declared.name}, a hash map: {there:,} of {declared.max_entries:,} keys"
     if declared.max_entries == 1:
         return f"{declared.name}, an array of one element"
-    zero = f"; the {there - listed:,} others are zero" if there > listed else ""
+    zero = f"; the {there - listed:,} others are zero or not shown" if there > listed else ""
     return f"{declared.name}, an array: {listed:,} of {there:,} elements{zero}"
 
 

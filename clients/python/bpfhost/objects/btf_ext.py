@@ -26,11 +26,24 @@ class LineInfo:
 
 
 @dataclass(frozen=True)
+class CoreRelocation:
+    """A CO-RE relocation, by the offset in bytes of its instruction in the section: of a type, by the numbers of members on the way to a field.
+
+    `kind` is what is asked of it, by the numbers of enum bpf_core_relo_kind.
+    """
+
+    offset: int
+    type: int
+    access: str
+    kind: int
+
+
+@dataclass(frozen=True)
 class BtfExt:
-    """Lines, and the offsets of instructions with CO-RE relocations; by the names of sections, in the order of the offsets."""
+    """Lines and CO-RE relocations; by the names of sections, in the order of the offsets."""
 
     lines: dict[str, tuple[LineInfo, ...]]
-    relocated: dict[str, tuple[int, ...]]
+    relocated: dict[str, tuple[CoreRelocation, ...]]
 
 
 NOTHING = BtfExt({}, {})
@@ -47,12 +60,17 @@ def read_btf_ext(section: bytes, strings: ByteReader) -> BtfExt:
     return BtfExt(lines, _relocated(whole, header_size, strings))
 
 
-def _relocated(whole: ByteReader, header_size: int, strings: ByteReader) -> dict[str, tuple[int, ...]]:
+def _relocated(whole: ByteReader, header_size: int, strings: ByteReader) -> dict[str, tuple[CoreRelocation, ...]]:
     if header_size < 32:
         return {}
     at, size = whole.words(24, 2)
     rows = _rows(whole.part(header_size + at, size, f"the CO-RE relocations of {_NAME}"), strings, 4)
-    return {name: tuple(sorted(row[0] for row in of_section)) for name, of_section in rows.items()}
+    return {name: tuple(_relocation(row, strings) for row in sorted(of_section)) for name, of_section in rows.items()}
+
+
+def _relocation(row: tuple[int, ...], strings: ByteReader) -> CoreRelocation:
+    offset, type_id, access_at, kind = row
+    return CoreRelocation(offset, type_id, strings.string(access_at), kind)
 
 
 def _in_order(rows: list[tuple[int, ...]], strings: ByteReader) -> tuple[LineInfo, ...]:

@@ -5,11 +5,11 @@ Source: RFC 9669; docs/INSTRUCTIONS.md for what the host has. What is no instruc
 
 from __future__ import annotations
 
+from bpfhost.helpers import HELPERS, helper_name, the_helpers
 from bpfhost.numbers import SLOT_SIZE
 from bpfhost.objects.place import Place
 from bpfhost.slots import WIDE_LOAD, first_slots
 
-HELPERS = (1, 2, 3, 26)
 _CALL, _CALL_REGISTER = 0x85, 0x8D
 _ATOMIC = (0xC3, 0xDB)
 _ATOMIC_OPERATIONS = (0x00, 0x40, 0x50, 0xA0)
@@ -65,11 +65,7 @@ def _lacks(instruction: bytes) -> str | None:
 
 def _lacks_call(source: int, constant: int) -> str | None:
     if source == 0:
-        return None if constant in HELPERS else f"calls helper {constant}, and the host has {_helpers()}"
+        return None if constant in HELPERS else f"calls helper {helper_name(constant)}, and the host has {the_helpers()}"
     if source == 1:
         return None
     return f"calls function {constant} of the kernel, which the host does not have"
-
-
-def _helpers() -> str:
-    return f"{', '.join(map(str, HELPERS[:-1]))} and {HELPERS[-1]}"

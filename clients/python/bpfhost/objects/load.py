@@ -21,7 +21,7 @@ def load_object(path: str | os.PathLike[str], form: Form = Form.LOWERED) -> Obje
 
     An ObjectError, which begins with the path, where the file can't be read, is no such object or is damaged; or where it
     asks for what is not there: another helper or kind of map than the host's, atomic operations that fetch, addresses in variables,
-    CO-RE relocations, more than the limits of docs/PROTOCOL.md; and, where programs are taken as they are, calls between functions.
+    CO-RE relocations of other types than the context's, more than the limits of docs/PROTOCOL.md; and, where programs are taken as they are, calls between functions.
     A MissingPackage where there is no pyelftools.
     """
     name = os.fsdecode(path)
@@ -36,7 +36,7 @@ def _read(name: str, elf: ElfObject, form: Form) -> ObjectFile:
     changes = MapChanges(form is not Form.LOWERED)
     maps = [*defined_maps(elf, btf, changes), *variable_maps(elf, btf)]
     check_maps([each.map for each in maps])
-    programs, functions = read_programs(elf, maps, btf_ext, has_calls=form is not Form.AS_IS)
+    programs, functions = read_programs(elf, maps, (btf, btf_ext), has_calls=form is not Form.AS_IS)
     types = Types(btf) if btf else None
     return ObjectFile(name, programs, tuple(each.map for each in maps), types, functions, tuple(changes.told), form)
 

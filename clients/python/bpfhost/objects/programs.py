@@ -13,7 +13,9 @@ from itertools import accumulate
 from typing import TypeVar
 
 from bpfhost.numbers import SLOT_SIZE
-from bpfhost.objects.btf_ext import BtfExt, LineInfo
+from bpfhost.objects.btf import Btf
+from bpfhost.objects.btf_ext import BtfExt, CoreRelocation, LineInfo
+from bpfhost.objects.core import relocate
 from bpfhost.objects.definitions import DefinedMap
 from bpfhost.objects.elf import ElfObject, Relocation, Section, Symbol
 from bpfhost.objects.errors import ObjectError
@@ -29,7 +31,7 @@ _Row = TypeVar("_Row")
 
 
 def read_programs(
-    elf: ElfObject, maps: Sequence[DefinedMap], btf_ext: BtfExt, has_calls: bool = True
+    elf: ElfObject, maps: Sequence[DefinedMap], types: tuple[Btf | None, BtfExt], has_calls: bool = True
 ) -> tuple[tuple[ObjectProgram, ...], tuple[ObjectProgram, ...]]:
     """All programs, in the order of the sections and of the functions there, and the functions that they call.
 
@@ -38,7 +40,7 @@ def read_programs(
     sections = [section for section in elf.sections if _has_programs(section)]
     if not sections:
         raise ObjectError(_nothing(elf))
-    reader = _Reader(elf, Linker(elf, maps), btf_ext, has_calls)
+    reader = _Reader(elf, Linker(elf, maps), types, has_calls)
     named = [(section, function) for section in sections for function in reader.section(section).functions]
     if len(named) > MOST_PROGRAMS:
         raise ObjectError(f"the object has {len(named):,} functions with a section, and at most {MOST_PROGRAMS} are read")
@@ -49,10 +51,10 @@ def read_programs(
 class _Reader:
     """Reads functions, and those that they call, each once."""
 
-    def __init__(self, elf: ElfObject, linker: Linker, btf_ext: BtfExt, has_calls: bool) -> None:
+    def __init__(self, elf: ElfObject, linker: Linker, types: tuple[Btf | None, BtfExt], has_calls: bool) -> None:
         self._elf = elf
         self._linker = linker
-        self._btf_ext = btf_ext
+        self._btf, self._btf_ext = types
         self._has_calls = has_calls
         self._sections: dict[int, _Section] = {}
         # What is called, in the order in which it was met, by section and first byte.
@@ -61,7 +63,7 @@ class _Reader:
     def section(self, section: Section) -> _Section:
         """What the object has of a section with functions."""
         if section.index not in self._sections:
-            self._sections[section.index] = _Section.of(self._elf, section, self._btf_ext)
+            self._sections[section.index] = _Section.of(self._elf, section, self._btf, self._btf_ext)
         return self._sections[section.index]
 
     def function(self, section: Section, function: Symbol) -> ObjectProgram:
@@ -108,17 +110,18 @@ def _functions(elf: ElfObject, section: Section) -> tuple[Symbol, ...]:
 
 @dataclass(frozen=True)
 class _Section:
-    """A section of programs. Lines, relocations and the offsets of CO-RE relocations are in the order of their offsets."""
+    """A section of programs. Lines, relocations and CO-RE relocations are in the order of their offsets."""
 
     section: Section
     functions: tuple[Symbol, ...]
     code: bytes
     relocations: Sequence[Relocation]
     lines: Sequence[LineInfo]
-    core: Sequence[int]
+    core: Sequence[CoreRelocation]
+    btf: Btf | None
 
     @classmethod
-    def of(cls, elf: ElfObject, section: Section, btf_ext: BtfExt) -> _Section:
+    def of(cls, elf: ElfObject, section: Section, btf: Btf | None, btf_ext: BtfExt) -> _Section:
         """What an object has of a section."""
         functions = _functions(elf, section)
         if not functions:
@@ -126,16 +129,15 @@ class _Section:
         relocations = sorted(elf.relocations_of(section), key=_relocated_byte)
         _check_owners(section, functions, relocations)
         core = btf_ext.relocated.get(section.name, ())
-        return cls(section, functions, elf.data(section), relocations, btf_ext.lines.get(section.name, ()), core)
+        return cls(section, functions, elf.data(section), relocations, btf_ext.lines.get(section.name, ()), core, btf)
 
     def program(self, function: Symbol, linker: Linker) -> tuple[Place, ObjectProgram, dict[int, Callee]]:
         """The program of a function, with where it is, and what it calls by the slots of the calls."""
         place = Place(self.section, function, self._lines(function))
         self._check_range(place)
-        for offset in _between(self.core, place.begin, place.end, _same):
-            slot = (offset - place.begin) // SLOT_SIZE
-            raise place.refused(slot, "has a CO-RE relocation, which is for a kernel's types")
         slots = bytearray(self.code[place.begin : place.end])
+        for relocation in _between(self.core, place.begin, place.end, _core_byte):
+            relocate(place, slots, self.btf, relocation)
         map_slots, callees = linker.link(place, slots, _between(self.relocations, place.begin, place.end, _relocated_byte))
         check_instructions(bytes(slots), place)
         return place, ObjectProgram(self.section.name, function.name, bytes(slots), map_slots, place.lines), callees
@@ -181,8 +183,8 @@ def _first_byte(line: LineInfo) -> int:
     return line.offset
 
 
-def _same(offset: int) -> int:
-    return offset
+def _core_byte(relocation: CoreRelocation) -> int:
+    return relocation.offset
 
 
 def _source_line(line: LineInfo, begin: int) -> SourceLine:

@@ -6,7 +6,7 @@ from dataclasses import dataclass
 
 from bpfhost.objects.btf import Btf
 from bpfhost.objects.layout import spelling
-from bpfhost.objects.values import decode, plain, text
+from bpfhost.objects.values import decode, plain, text, texts
 
 
 @dataclass(frozen=True)
@@ -25,6 +25,10 @@ class Types:
     def plain(self, type_id: int, data: bytes) -> object:
         """The value as numbers, strings, lists and dicts, for JSON; the errors are those of `show`."""
         return plain(decode(self.btf, type_id, data))
+
+    def texts(self, type_id: int, data: bytes) -> object:
+        """The value as lists and dicts of what `show` writes, without quotes, for the cells of a table; the errors are those of `show`."""
+        return texts(decode(self.btf, type_id, data))
 
     def name(self, type_id: int) -> str:
         """The type as C spells it; an ObjectError where there is none."""

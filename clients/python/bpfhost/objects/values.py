@@ -2,11 +2,12 @@
 
 from __future__ import annotations
 
+import ipaddress
 import math
 import struct
 from dataclasses import dataclass
 
-from bpfhost.objects.btf import Array, Btf, Composite, DataSection, Enum, Float, Int, Member, Pointer, Variable
+from bpfhost.objects.btf import Array, Btf, Composite, DataSection, Enum, Float, Int, Member, Modifier, Pointer, Typedef, Variable
 from bpfhost.objects.errors import ObjectError
 from bpfhost.objects.layout import DEEPEST, POINTER_SIZE, resolve, size_of, spelling
 
@@ -62,6 +63,19 @@ def plain(value: Value) -> object:
             return [plain(element) for element in values]
 
 
+def texts(value: Value) -> object:
+    """A value as texts, lists and dicts."""
+    match value:
+        case Leaf(plain=str(written)):
+            return written
+        case Leaf(text=written):
+            return written
+        case Fields(members=members):
+            return {name: texts(member) for name, member in members}
+        case Elements(values=values):
+            return [texts(element) for element in values]
+
+
 def decode(btf: Btf, type_id: int, data: bytes) -> Value:
     """The value that the first bytes are. An ObjectError where there are too few, or where the type has no values."""
     size = size_of(btf, type_id)
@@ -83,6 +97,9 @@ class _Decoder:
         """The value of a type at an offset in bytes, with so many types in one another at most."""
         self._count(depth)
         found = resolve(self.btf, type_id)
+        size = address_size(self.btf, type_id)
+        if size is not None and not (isinstance(found, Array) and self._is_text(found)):
+            return _address(found, self._bytes(at, size))
         match found:
             case Int():
                 return _number(found, self._bits(8 * at + found.bit_offset, found.bits))
@@ -107,6 +124,10 @@ class _Decoder:
         self.left -= 1
         if depth < 0 or self.left < 0:
             raise ObjectError(f"the type {spelling(self.btf, self.whole)} has too many parts to be shown")
+
+    def _is_text(self, found: Array) -> bool:
+        element = resolve(self.btf, found.element)
+        return isinstance(element, Int) and (element.char or element.name == "char")
 
     def _array(self, found: Array, at: int, depth: int) -> Value:
         size = size_of(self.btf, found.element)
@@ -163,6 +184,35 @@ class _Decoder:
         at = first // 8
         whole = int.from_bytes(self._bytes(at, (first + count + 7) // 8 - at), "little")
         return whole >> first % 8 & (1 << count) - 1
+
+
+# Types of linux/types.h whose values are addresses, and the sizes of arrays of bytes that are taken for some: of IPv4, Ethernet and IPv6.
+_ADDRESS = "__be32"
+_ADDRESS_SIZES = (4, 6, 16)
+
+
+def address_size(btf: Btf, type_id: int) -> int | None:
+    """The bytes of an address, where a type is one: `__be32`, or an array of 4, 6 or 16 unsigned bytes; else None."""
+    named = type_id
+    for _ in range(DEEPEST):
+        each = btf.type(named)
+        if isinstance(each, Typedef) and each.name == _ADDRESS:
+            return 4
+        if not isinstance(each, Typedef | Modifier):
+            break
+        named = each.target
+    found = resolve(btf, type_id)
+    if isinstance(found, Array) and found.count in _ADDRESS_SIZES:
+        element = resolve(btf, found.element)
+        if isinstance(element, Int) and element.size == 1 and not element.signed and not element.boolean:
+            return found.count
+    return None
+
+
+def _address(found: object, data: bytes) -> Leaf:
+    """An address as text; for JSON it stays the number, or the list of bytes, that its type has."""
+    text = data.hex(":") if len(data) == 6 else str(ipaddress.ip_address(data))
+    return Leaf(list(data) if isinstance(found, Array) else int.from_bytes(data, "little"), text)
 
 
 def _signed(number: int, bits: int) -> int:

@@ -131,7 +131,7 @@ class Copies(StepTest):
         found = object_of(f=text)
         lowered = self.lowered(found)
         assert lowered.refused is not None
-        told = str(refused_at(found, lowered, *lowered.refused))
+        told = str(refused_at(PROGRAM, found, lowered, *lowered.refused))
         wanted = "f.c:5: r0 += r5 (slot 5, slot 3 of f as compiled: an unreadable register is read, reason 20)"
         self.assertEqual(told, wanted)
 
@@ -213,7 +213,7 @@ class Inlining(StepTest):
         found = object_of(f="r6 = 1\ncall g\nr0 += r6\nexit", g="r0 = 1\ncall h\nexit", h="r0 = r9\nexit")
         lowered = self.lowered(found)
         assert lowered.refused is not None
-        told = str(refused_at(found, lowered, *lowered.refused))
+        told = str(refused_at(PROGRAM, found, lowered, *lowered.refused))
         wanted = "h.c:1: r0 = r9 (slot 2, slot 0 of h as compiled, called at g.c:2: call h, called at f.c:2: call g: "
         self.assertTrue(told.startswith(wanted), told)
 

@@ -6,7 +6,7 @@ import struct
 import unittest
 
 from bpfhost.objects import ObjectError, ObjectProgram, SourceLine
-from bpfhost.objects.btf_ext import LineInfo, read_btf_ext
+from bpfhost.objects.btf_ext import CoreRelocation, LineInfo, read_btf_ext
 from bpfhost.objects.byte_reader import ByteReader
 from tests.objects.common import SOURCES, ClangTest
 
@@ -65,8 +65,9 @@ class Built(unittest.TestCase):
         self.assertEqual(found.relocated, {})
 
     def test_core_relocations(self) -> None:
-        found = read_btf_ext(self.section(b"", self.rows(16, (24, 1, 0, 0), (8, 1, 0, 0))), self.STRINGS)
-        self.assertEqual((found.lines, found.relocated), ({}, {"socket": (8, 24)}))
+        found = read_btf_ext(self.section(b"", self.rows(16, (24, 1, 0, 0), (8, 1, 0, 2))), self.STRINGS)
+        expected = (CoreRelocation(8, 1, "", 2), CoreRelocation(24, 1, "", 0))
+        self.assertEqual((found.lines, found.relocated), ({}, {"socket": expected}))
 
     def test_nothing(self) -> None:
         found = read_btf_ext(self.section(b"", b""), self.STRINGS)

@@ -2,13 +2,14 @@
 
 from __future__ import annotations
 
-from bpfhost.objects import CallSlot, Form, MapSlot, load_object
-from tests.objects.common import ClangTest, ObjectTest
+from bpfhost.objects import CallSlot, Form, MapSlot, ObjectError, ObjectFile, load_object
+from tests.objects.common import ClangTest, ObjectTest, compile_object
 from tests.objects.elf_builder import ALLOC, EXECINSTR, SECTION, ElfBuilder
 
 # What llvm-objdump shows of sections.c.
 LENGTH = "6110000000000000 9500000000000000"
 NONE = "b700000000000000 9500000000000000"
+HELPERS = "bpf_map_lookup_elem (1), bpf_map_update_elem (2), bpf_map_delete_elem (3) and bpf_skb_load_bytes (26)"
 MARK = "6110080000000000 6700000001000000 9500000000000000"
 
 
@@ -53,7 +54,7 @@ class Lacking(ClangTest):
         self.assertEqual(told, f"function f in section socket {what}, at slot {slot} (filter.c:4: {line})")
 
     def test_helpers(self) -> None:
-        self.lacks("calls helper 5, and the host has 1, 2, 3 and 26", 0, "return bpf_ktime_get_ns();")
+        self.lacks(f"calls helper bpf_ktime_get_ns (5), and the host has {HELPERS}", 0, "return bpf_ktime_get_ns();")
 
     def test_calls_of_functions(self) -> None:
         no_calls = "and calls between functions are not supported"
@@ -109,7 +110,40 @@ class Lacking(ClangTest):
             "struct wide { int a, b; } __attribute__((preserve_access_index));\n"
             'SEC("socket") int f(struct wide *wide) { return wide->b; }'
         )
-        self.assertIn("function f in section socket has a CO-RE relocation, which is for a kernel's types, at slot 0 (filter.c:3", told)
+        instead = "and the host has no kernel's types: include bpfhost.h, not vmlinux.h, which has the types of one kernel"
+        self.assertIn(f"function f in section socket has a CO-RE relocation of type struct wide, {instead}, at slot 0 (filter.c:3", told)
+
+    def test_core_relocations_of_the_context(self) -> None:
+        """Its fields are found by their names, wherever the object's own struct has them: that of vmlinux.h, a part of it, a flavor."""
+        whole = "struct __sk_buff { unsigned len, pkt_type, mark, queue_mapping, protocol; }"
+        part = "struct __sk_buff { unsigned short other; unsigned protocol, len; }"
+        flavor = "struct __sk_buff___mine { unsigned protocol, len; }"
+        for declared in (whole, part, flavor):
+            name = declared.split(" {")[0]
+            text = (
+                f"{declared} __attribute__((preserve_access_index));\n"
+                f"__attribute__((section(\"socket\"))) int f({name} *skb) {{ return skb->len + skb->protocol; }}"
+            )
+            loads = {bytes(found.slots[at : at + 8]) for found in self.plain(text).programs for at in range(0, len(found.slots), 8)}
+            offsets = {load[2] for load in loads if load[0] == 0x61}
+            self.assertEqual(offsets, {0, 16}, declared)
+
+    def test_what_else_is_asked_of_the_context(self) -> None:
+        text = (
+            "struct __sk_buff {{ unsigned len, cb; }} __attribute__((preserve_access_index));\n"
+            "__attribute__((section(\"socket\"))) int f(struct __sk_buff *skb) "
+            "{{ return __builtin_preserve_field_info(skb->{0}, {1}); }}"
+        )
+        numbers = [self.plain(text.format(field, kind)).programs[0].slots[4] for field, kind in (("len", 1), ("len", 2), ("cb", 2), ("len", 3))]
+        self.assertEqual(numbers, [4, 1, 0, 0])
+        with self.assertRaisesRegex(ObjectError, "uses skb->cb, and the host's context has skb->len to skb->ifindex, at slot 0"):
+            self.plain(text.format("cb", 0))
+
+    def plain(self, text: str) -> ObjectFile:
+        """The object of a text that includes nothing."""
+        path = self.scratch / "plain.c"
+        path.write_text(text)
+        return load_object(compile_object(path, self.scratch / "plain.o"))
 
     def test_variables_without_a_place(self) -> None:
         self.lacks("loads the address of far, which is not defined in the object", 0, "extern int far; return far;")
@@ -154,7 +188,7 @@ class Calls(ClangTest):
             "NOINLINE int now(int x) { return bpf_ktime_get_ns() + x; }\n"
             'SEC("socket") int f(struct __sk_buff *skb) { return now(skb->len); }'
         )
-        self.assertIn("function now in section .text calls helper 5, and the host has 1, 2, 3 and 26, at slot ", told)
+        self.assertIn(f"function now in section .text calls helper bpf_ktime_get_ns (5), and the host has {HELPERS}, at slot ", told)
 
 
 class Built(ObjectTest):
@@ -199,7 +233,7 @@ class Built(ObjectTest):
         self.assertEqual(
             self.built("8d00000000000000"), f"{where} calls a function by its address, and the host has no such calls, at slot 0"
         )
-        self.assertEqual(self.built("85000000ffffffff"), f"{where} calls helper -1, and the host has 1, 2, 3 and 26, at slot 0")
+        self.assertEqual(self.built("85000000ffffffff"), f"{where} calls helper number -1, and the host has {HELPERS}, at slot 0")
 
     def test_calls_with_relocations(self) -> None:
         """By a symbol of a section the distance counts from the section's first slot, and by one of a function from the function."""

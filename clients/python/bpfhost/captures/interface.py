@@ -1,0 +1,154 @@
+"""Packets of a network interface as they come, by a packet socket of Linux (packet(7)). It wants root, or CAP_NET_RAW."""
+
+from __future__ import annotations
+
+import fcntl
+import socket
+import struct
+import time
+from collections.abc import Iterator
+from contextlib import contextmanager
+from dataclasses import dataclass, field, replace
+
+from bpfhost.captures.piece import LONGEST_CAPTURED, MOST_PACKETS, Capture, Piece, Stamp
+from bpfhost.errors import CaptureError
+from bpfhost.numbers import LONGEST_PACKET
+from bpfhost.packets import ETHERNET
+
+# linux/if_packet.h, linux/if_ether.h, linux/if_arp.h and asm-generic/socket.h.
+_SOL_PACKET, _STATISTICS, _AUXDATA, _VLAN_IS_VALID, _TPID_IS_VALID = 263, 6, 8, 0x10, 0x40
+_ETH_P_ALL, _ETH_P_8021Q, _OUTGOING = 3, 0x8100, 4
+_ARPHRD_ETHER, _ARPHRD_LOOPBACK = 1, 772
+_TIMESTAMPS = 35
+_AUX, _TIME, _COUNTS = struct.Struct("=IIIHHHH"), struct.Struct("@qq"), struct.Struct("=II")
+_RAW_IP = 101
+# Asks for the kind of an interface, behind its name (netdevice(7)).
+_SIOCGIFHWADDR, _HARDWARE = 0x8927, struct.Struct("=16xH14x")
+# The kernel keeps so many bytes of packets for a reader that is busy.
+_KEPT = 1 << 23
+_BEHIND_ADDRESSES = 12
+
+
+@dataclass(frozen=True)
+class _Arrived(Piece):
+    """Packets with the times at which the kernel had them, in nanoseconds."""
+
+    times: list[int] = field(kw_only=True)
+
+    def stamp(self, at: int) -> Stamp:
+        return Stamp(self.times[at] // 1_000_000_000, self.times[at] % 1_000_000_000, self.wires[at])
+
+    def _some(self, at: int, end: int) -> _Arrived:
+        return replace(super()._some(at, end), times=self.times[at:end])
+
+
+class InterfaceCapture(Capture):
+    """The packets of an interface, in both directions, without an end. Every so many seconds it gives what has come, if only nothing."""
+
+    has_nanoseconds = True
+
+    def __init__(self, name: str, opened: socket.socket, seconds: float) -> None:
+        """Packets of a socket that is bound to the interface of this name."""
+        self.name = name
+        self.bytes_read = self.packets_read = 0
+        self._socket = opened
+        self._seconds = seconds
+        kind = _HARDWARE.unpack(fcntl.ioctl(opened, _SIOCGIFHWADDR, struct.pack("32s", name.encode())))[0]
+        self._is_loopback = kind == _ARPHRD_LOOPBACK
+        self._link_type = ETHERNET if kind in (_ARPHRD_ETHER, _ARPHRD_LOOPBACK) else _RAW_IP
+
+    def size(self) -> int | None:
+        """An interface has no size."""
+        return None
+
+    def _next_piece(self, data: bytes, at: int, most: int) -> tuple[Piece | None, int]:
+        raise NotImplementedError
+
+    def pieces(self, most: int = MOST_PACKETS) -> Iterator[Piece]:
+        """The packets in pieces, in order; a CaptureError where the interface is gone."""
+        while True:
+            packets: list[tuple[bytes, int]] = []
+            until = time.monotonic() + self._seconds
+            while len(packets) < most and (left := until - time.monotonic()) > 0:
+                found = self._receive(left)
+                if found is not None:
+                    packets.append(found)
+            yield from self._pieces_of(packets)
+
+    def dropped(self) -> int:
+        """How many packets the kernel has dropped since it was asked last, as nobody read them in time."""
+        return int(_COUNTS.unpack(self._socket.getsockopt(_SOL_PACKET, _STATISTICS, _COUNTS.size))[1])
+
+    def _receive(self, seconds: float) -> tuple[bytes, int] | None:
+        """A packet and its time; None where none comes in so many seconds, or one that the loopback interface shows twice."""
+        self._socket.settimeout(seconds)
+        try:
+            packet, notes, _, address = self._socket.recvmsg(LONGEST_CAPTURED, 256)
+        except TimeoutError:
+            return None
+        except OSError as error:
+            raise self.error(error.strerror or "it can't be read") from error
+        if self._is_loopback and address[2] == _OUTGOING:
+            return None
+        arrived = time.time_ns()
+        for level, kind, data in notes:
+            if level == socket.SOL_SOCKET and kind == _TIMESTAMPS:
+                seconds_of, nanoseconds = _TIME.unpack(data)
+                arrived = seconds_of * 1_000_000_000 + nanoseconds
+            elif level == _SOL_PACKET and kind == _AUXDATA:
+                packet = _with_tag(packet, data)
+        return packet, arrived
+
+    def _pieces_of(self, packets: list[tuple[bytes, int]]) -> Iterator[Piece]:
+        """What has come, each packet that is too long by itself; an empty piece where nothing has."""
+        self.packets_read += len(packets)
+        self.bytes_read += sum(len(packet) for packet, _ in packets)
+        short: list[tuple[bytes, int]] = []
+        for packet, arrived in packets:
+            if len(packet) > LONGEST_PACKET:
+                yield self._piece(short)
+                short = []
+                yield self._piece([(packet, arrived)], len(packet))
+            else:
+                short.append((packet, arrived))
+        yield self._piece(short)
+
+    def _piece(self, packets: list[tuple[bytes, int]], whole: int | None = None) -> Piece:
+        starts, at = [], 0
+        for packet, _ in packets:
+            starts.append(at)
+            at += len(packet)
+        wires = [len(packet) for packet, _ in packets]
+        lengths = [min(wire, LONGEST_PACKET) for wire in wires]
+        times = [arrived for _, arrived in packets]
+        joined = b"".join(packet for packet, _ in packets)
+        return _Arrived(joined, starts, lengths, self._link_type, wires=wires, whole=whole, times=times)
+
+
+def _with_tag(packet: bytes, auxiliary: bytes) -> bytes:
+    """The packet with the VLAN tag that the kernel has taken out of it, as captures have it."""
+    status, _, _, _, _, tag, protocol = _AUX.unpack(auxiliary[: _AUX.size])
+    if not status & _VLAN_IS_VALID:
+        return packet
+    kind = protocol if status & _TPID_IS_VALID else _ETH_P_8021Q
+    return packet[:_BEHIND_ADDRESSES] + struct.pack(">HH", kind, tag) + packet[_BEHIND_ADDRESSES:]
+
+
+@contextmanager
+def open_interface(name: str, seconds: float = 0.2) -> Iterator[InterfaceCapture]:
+    """The packets of an interface; a CaptureError where there is no such one, or it may not be read."""
+    try:
+        opened = socket.socket(socket.AF_PACKET, socket.SOCK_RAW, socket.htons(_ETH_P_ALL))
+    except PermissionError as error:
+        raise CaptureError(f"{name}: packets of an interface are read by root, or with CAP_NET_RAW, alone") from error
+    except (AttributeError, OSError) as error:
+        raise CaptureError(f"{name}: this system has no packet sockets") from error
+    with opened:
+        try:
+            opened.bind((name, 0))
+            opened.setsockopt(socket.SOL_SOCKET, _TIMESTAMPS, 1)
+            opened.setsockopt(_SOL_PACKET, _AUXDATA, 1)
+            opened.setsockopt(socket.SOL_SOCKET, socket.SO_RCVBUF, _KEPT)
+            yield InterfaceCapture(name, opened, seconds)
+        except OSError as error:
+            raise CaptureError(f"{name}: {error.strerror}") from error

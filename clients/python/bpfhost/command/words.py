@@ -1,0 +1,41 @@
+"""What words of `run` mean that several of its parts read."""
+
+from __future__ import annotations
+
+import re
+from collections.abc import Mapping
+
+_SECONDS = re.compile(r"(\d+(?:\.\d+)?)(ms|s|m|)")
+_UNITS = {"ms": 0.001, "s": 1.0, "": 1.0, "m": 60.0}
+
+
+def seconds(word: str) -> float:
+    """A time, as `1s`, `500ms`, `2m` or `1.5`; a ValueError where it is none, or not above 0."""
+    found = _SECONDS.fullmatch(word)
+    if found is None or float(found[1]) == 0:
+        raise ValueError(word)
+    return float(found[1]) * _UNITS[found[2]]
+
+
+def setting(word: str) -> tuple[str, str]:
+    """A name and a value, as `limit=10`; a ValueError where there is no name."""
+    name, sign, value = word.partition("=")
+    if not name or not sign:
+        raise ValueError(word)
+    return name, value
+
+
+def number_at(value: object, path: str) -> float | None:
+    """The number of a field of a plain value, as `bytes` or `flow.packets`; None where there is none."""
+    for name in path.split("."):
+        if not isinstance(value, Mapping) or name not in value:
+            return None
+        value = value[name]
+    return value if isinstance(value, int | float) else None
+
+
+def first_number(value: object) -> float | None:
+    """The value itself where it is a number, or else the first of its fields that is one."""
+    if isinstance(value, Mapping):
+        return next((number for number in map(first_number, value.values()) if number is not None), None)
+    return value if isinstance(value, int | float) else None

@@ -62,4 +62,6 @@ class Pages(HostTest):
         page = (PACKAGE / "README.md").read_text()
         (self.scratch / "shown.py").write_text(blocks(page, "python")[0])
         self.assertEqual(self.shell("python3 shown.py"), blocks(page, "text")[0])
+        (self.scratch / "async.py").write_text(blocks(page, "python")[1])
+        self.assertEqual(self.shell("python3 async.py"), blocks(page, "text")[1])
         self.assertEqual(self.shell("echo 'r0 = 1\nexit' | python3 -m bpfhost asm"), hex_lines(ONE))

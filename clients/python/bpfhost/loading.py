@@ -94,7 +94,8 @@ def _raw_log(bpfhost: Program, object_file: ObjectFile, lowered: Lowered, *words
 
 
 def _readable(log: str, object_file: ObjectFile, lowered: Lowered) -> str:
-    return with_sources(with_names(log, _map_names(object_file)), lowered)
+    has_slots = any(line.partition(": ")[0].isdecimal() for line in log.splitlines())
+    return with_sources(with_names(log, _map_names(object_file)), lowered) if has_slots else log
 
 
 def _map_names(object_file: ObjectFile) -> dict[int, str]:

@@ -18,9 +18,9 @@ VALUE = bytes.fromhex(
 )
 SHOWN = (
     "{ .tiny = -3, .letter = 'x', .yes = true, .small = -300, .negative = -70000, .port = 53, .color = GREEN, "
-    '.large = 18446744073709551615, .name = "eth0", .address = { 250, 251, 252, 253, 254, 255 }, '
+    '.large = 18446744073709551615, .name = "eth0", .address = fa:fb:fc:fd:fe:ff, '
     ".grid = { { -1, 0, 3 }, { 8, 15, 24 } }, .low = 5, .middle = 100, .signed_bits = -7, .high = 8000, "
-    ".either = { .word = 16909060, .bytes = { 4, 3, 2, 1 } }, .first = 11, .second = 12, "
+    ".either = { .word = 16909060, .bytes = 4.3.2.1 }, .first = 11, .second = 12, "
     ".node = { .next = 0xffff888012345678, .number = -1 }, .nothing = 0x0, .function = 0x0, .ratio = 0.5, .part = 1.25 }"
 )
 PLAIN = {

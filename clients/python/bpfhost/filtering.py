@@ -183,7 +183,7 @@ class Filter:
     def _packets(self, piece: Piece, outcome: Outcome) -> Packets:
         """The packets as they are run; those that are too long or short are counted."""
         outcome.long += piece.whole is not None
-        if piece.wires == piece.lengths:
+        if piece.wires is piece.lengths:
             return piece
         short = piece.shorts()
         outcome.short += short

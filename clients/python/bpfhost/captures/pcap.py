@@ -65,7 +65,7 @@ class PcapCapture(Capture):
     def _next_piece(self, data: bytes, at: int, most: int) -> tuple[Piece | None, int]:
         starts: list[int] = []
         lengths: list[int] = []
-        wires: list[int] = []
+        wire, is_short = 0, False
         types: list[int] = []
         head, unpack, size = self._layout.head, self._length_and_type, len(data)
         with contextlib.suppress(struct.error):
@@ -78,12 +78,20 @@ class PcapCapture(Capture):
                     break
                 starts.append(start)
                 lengths.append(length)
-                wires.append(wire)
+                if wire != length:
+                    is_short = True
                 types.append(ethernet_type)
                 at = end
         if starts:
+            # Most captures have their packets whole, and then the lengths on the wire are the same list.
+            wires = self._wires(data, starts) if is_short else lengths
             return self._piece(data, starts, lengths, wires, low_first(types, self._order)), at
         return self._last_packet(data, at)
+
+    def _wires(self, data: bytes, starts: list[int]) -> list[int]:
+        """The lengths on the wire of packets that begin there."""
+        head = self._layout.head
+        return [self._length(data, start - head)[1] for start in starts]
 
     def _last_packet(self, data: bytes, at: int) -> tuple[Piece | None, int]:
         """The packet at `at` and where it ends, where it is whole, though the bytes may end before the type in its header."""

@@ -115,7 +115,7 @@ class PcapngCapture(Capture):
         """
         starts: list[int] = []
         lengths: list[int] = []
-        wires: list[int] = []
+        wire, is_short = 0, False
         types: list[int] = []
         unpack, link_type, interface = self._end_and_enhanced, -1, -1
         link_types = self._link_types
@@ -133,7 +133,8 @@ class PcapngCapture(Capture):
                     break
                 starts.append(at + _BEFORE)
                 lengths.append(length)
-                wires.append(wire)
+                if wire != length:
+                    is_short = True
                 types.append(ethernet_type)
                 at += block
                 block, length, wire, ethernet_type = next_block, next_length, next_wire, next_type
@@ -141,6 +142,8 @@ class PcapngCapture(Capture):
             return None, at
         order, interfaces = self._order, self._interfaces
         types = low_first(types, order)
+        # Most captures have their packets whole, and then the lengths on the wire are the same list.
+        wires = [self._enhanced(data, start - _BEFORE)[4] for start in starts] if is_short else lengths
         return _PcapngPiece(
             data, starts, lengths, link_type, types, wires=wires, kind=_ENHANCED, order=order, interfaces=interfaces
         ), at

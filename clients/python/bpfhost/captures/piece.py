@@ -44,7 +44,7 @@ class Stamp:
 class Piece(Packets, ABC):
     """Packets of a capture.
 
-    `wires[i]` is the length that packet i had on the wire, as the capture tells it. `whole` has, where the packet is longer than those
+    `wires[i]` is the length that packet i had on the wire, as the capture tells it; it is `lengths` where all of them are whole. `whole` has, where the packet is longer than those
     of test runs, so many bytes as the capture has of it; such a packet is a piece of its own, and `lengths` has what a test run takes.
     """
 
@@ -54,11 +54,6 @@ class Piece(Packets, ABC):
     @abstractmethod
     def stamp(self, at: int) -> Stamp:
         """The time and the length of a packet."""
-
-    @property
-    def is_short(self) -> bool:
-        """Whether the capture has fewer bytes of some packet than there were on the wire."""
-        return self.whole is None and self.wires != self.lengths
 
     def shorts(self) -> int:
         """Of how many packets the capture has fewer bytes than there were on the wire."""
@@ -78,7 +73,8 @@ class Piece(Packets, ABC):
         return self.data[self.starts[at] : self.starts[at] + min(length, longest)]
 
     def _some(self: SomePiece, at: int, end: int) -> SomePiece:
-        return replace(super()._some(at, end), wires=self.wires[at:end])
+        some = super()._some(at, end)
+        return replace(some, wires=some.lengths if self.wires is self.lengths else self.wires[at:end])
 
 
 def low_first(types: list[int], order: str) -> list[int]:

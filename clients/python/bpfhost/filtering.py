@@ -68,7 +68,7 @@ class Outcome:
         self.packets += len(results)
         self.bytes_kept += sum([result if result < length else length for result, length in zip(results, packets.lengths)])
         self.results.update(results)
-        if packets.link_type not in self.link_types:
+        if results and packets.link_type not in self.link_types:
             self.link_types.append(packets.link_type)
 
     @property
@@ -166,7 +166,7 @@ class Filter:
                 if left is not None:
                     piece = piece.first(left)
                     left -= len(piece)
-                # An interface gives an empty piece where nothing has come, so that what waits for its results gets them.
+                # An empty piece, where nothing has come for a while, lets what waits for its results have them.
                 yield piece
                 if left == 0:
                     return

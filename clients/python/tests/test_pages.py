@@ -24,6 +24,13 @@ def blocks(page: str, kind: str) -> list[str]:
 
 
 class Pages(HostTest):
+    def test_the_cargo_that_is_new_enough(self) -> None:
+        """Debian's `cargo` is older than the pages ask for: where they name a version, they name the package that has it."""
+        top = PACKAGE.parents[1]
+        for page in ("CONTRIBUTING.md", "docs/EMBEDDING.md"):
+            text = " ".join((top / page).read_text().split())
+            self.assertRegex(text, r"cargo 1\.85 or later \([^)]*`cargo-web`", page)
+
     def shell(self, command: str) -> str:
         """What a command writes, on both outputs, in the scratch folder."""
         path = f"{self.scratch}/bin:{os.environ['PATH']}"

@@ -19,7 +19,7 @@ from bpfhost.captures.piece import Stamp
 from bpfhost.command import version
 from bpfhost.objects import load_object
 from bpfhost.objects.settings import with_values
-from tests.capture_bytes import pcap, pcapng
+from tests.capture_bytes import RECORDS, pcap, pcapng
 from tests.common import PROGRAM
 from tests.objects.common import ClangTest
 from tests.test_command import EXAMPLE, PACKAGE, CommandTest, needs_packages
@@ -137,6 +137,26 @@ class Orders(CommandTest):
         counts = [int(count.replace(",", "")) for count in re.findall(r"^packets +([0-9,]+)$", told, re.M)]
         self.assertEqual((counts[-1], counts), (30_000, sorted(counts)))
         self.assertGreater(len(counts), 2)
+
+
+@needs_packages
+class Pauses(CommandTest):
+    def test_a_capture_that_pauses(self) -> None:
+        """What has come is shown, though nothing follows for a while."""
+        self.example("counter.o")
+        os.mkfifo(self.scratch / "pipe")
+        call = [sys.executable, "-m", "bpfhost", "run", "counter.o", "pipe", "--every", "100ms"]
+        environment = {**os.environ, "PYTHONPATH": str(PACKAGE), "BPFHOST": PROGRAM}
+        pipe = subprocess.PIPE
+        with subprocess.Popen(call, stdout=pipe, stderr=pipe, text=True, cwd=self.scratch, env=environment) as process:
+            with open(self.scratch / "pipe", "wb") as written:
+                assert process.stdout is not None
+                for content, count in ((pcap(RECORDS[:1]), 1), (pcap(RECORDS[:1])[24:] * 2, 3)):
+                    written.write(content)
+                    written.flush()
+                    while not re.match(rf"packets +{count}\n", process.stdout.readline()):
+                        pass
+            self.assertEqual(process.communicate()[1], "")
 
 
 @needs_packages

@@ -45,7 +45,8 @@ def link_type_name(link_type: int) -> str:
 def open_capture(path: str | os.PathLike[str]) -> Iterator[Capture]:
     """The capture of a file, pcap or pcapng by what it begins with.
 
-    It may be compressed by gzip. A CaptureError where the file can't be read or is neither; and, from the pieces, where it is cut off or wrong. What comes
+    It may be compressed by gzip. A CaptureError where the file can't be read or is neither; and, from the pieces, where it is cut off or
+    wrong. What comes
     before is given first. A MissingPackage where there is no dpkt.
     """
     name = os.fspath(path)

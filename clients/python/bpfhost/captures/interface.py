@@ -47,12 +47,12 @@ class InterfaceCapture(Capture):
 
     has_nanoseconds = True
 
-    def __init__(self, name: str, opened: socket.socket, seconds: float) -> None:
+    def __init__(self, name: str, opened: socket.socket, pause: float) -> None:
         """Packets of a socket that is bound to the interface of this name."""
         self.name = name
         self.bytes_read = self.packets_read = 0
         self._socket = opened
-        self._seconds = seconds
+        self._pause = pause
         kind = _HARDWARE.unpack(fcntl.ioctl(opened, _SIOCGIFHWADDR, struct.pack("32s", name.encode())))[0]
         self._is_loopback = kind == _ARPHRD_LOOPBACK
         self._link_type = ETHERNET if kind in (_ARPHRD_ETHER, _ARPHRD_LOOPBACK) else _RAW_IP
@@ -68,7 +68,7 @@ class InterfaceCapture(Capture):
         """The packets in pieces, in order; a CaptureError where the interface is gone."""
         while True:
             packets: list[tuple[bytes, int]] = []
-            until = time.monotonic() + self._seconds
+            until = time.monotonic() + min(self._pause, self.seconds or self._pause)
             while len(packets) < most and (left := until - time.monotonic()) > 0:
                 found = self._receive(left)
                 if found is not None:
@@ -135,7 +135,7 @@ def _with_tag(packet: bytes, auxiliary: bytes) -> bytes:
 
 
 @contextmanager
-def open_interface(name: str, seconds: float = 0.2) -> Iterator[InterfaceCapture]:
+def open_interface(name: str, pause: float = 0.2) -> Iterator[InterfaceCapture]:
     """The packets of an interface; a CaptureError where there is no such one, or it may not be read."""
     try:
         opened = socket.socket(socket.AF_PACKET, socket.SOCK_RAW, socket.htons(_ETH_P_ALL))
@@ -149,6 +149,6 @@ def open_interface(name: str, seconds: float = 0.2) -> Iterator[InterfaceCapture
             opened.setsockopt(socket.SOL_SOCKET, _TIMESTAMPS, 1)
             opened.setsockopt(_SOL_PACKET, _AUXDATA, 1)
             opened.setsockopt(socket.SOL_SOCKET, socket.SO_RCVBUF, _KEPT)
-            yield InterfaceCapture(name, opened, seconds)
+            yield InterfaceCapture(name, opened, pause)
         except OSError as error:
             raise CaptureError(f"{name}: {error.strerror}") from error

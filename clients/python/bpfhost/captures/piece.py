@@ -3,6 +3,7 @@
 from __future__ import annotations
 
 import os
+import select
 import stat
 import zlib
 from abc import ABC, abstractmethod
@@ -44,8 +45,9 @@ class Stamp:
 class Piece(Packets, ABC):
     """Packets of a capture.
 
-    `wires[i]` is the length that packet i had on the wire, as the capture tells it; it is `lengths` where all of them are whole. `whole` has, where the packet is longer than those
-    of test runs, so many bytes as the capture has of it; such a packet is a piece of its own, and `lengths` has what a test run takes.
+    `wires[i]` is the length that packet i had on the wire, as the capture tells it; it is `lengths` where all of them are whole. `whole` has,
+    where the packet is longer than those of test runs, so many bytes as the capture has of it; such a packet is a piece of its own, and
+    `lengths` has what a test run takes.
     """
 
     wires: list[int] = field(kw_only=True)
@@ -86,9 +88,21 @@ def low_first(types: list[int], order: str) -> list[int]:
     return swapped.tolist()
 
 
-class Capture(ABC):
-    """A capture that is read from its front to its end."""
+@dataclass(frozen=True)
+class Nothing(Piece):
+    """No packets: what a capture gives where none has come for a while."""
 
+    def stamp(self, at: int) -> Stamp:
+        raise IndexError(at)
+
+
+class Capture(ABC):
+    """A capture that is read from its front to its end.
+
+    Where `seconds` is set, a capture that comes through a pipe gives an empty piece each time nothing has come for so long.
+    """
+
+    seconds: float | None = None
     # Whether times have more digits than microseconds have.
     has_nanoseconds = False
 
@@ -112,6 +126,8 @@ class Capture(ABC):
         while len(data := self._with_more(self._rest)) > len(self._rest):
             at = yield from self._pieces_in(data, most)
             self._rest = data[at:]
+            while self._is_quiet():
+                yield Nothing(b"", [], [], wires=[])
         if self._rest:
             raise self._cut_off()
 
@@ -124,6 +140,12 @@ class Capture(ABC):
                 return at
             self.packets_read += len(piece)
             yield piece
+
+    def _is_quiet(self) -> bool:
+        """Whether nothing comes through a pipe for a while; what was read of it is all in use by then."""
+        if self.seconds is None or isinstance(self._file, GzipFile) or self._file.seekable():
+            return False
+        return not select.select([self._file], [], [], self.seconds)[0]
 
     def _with_more(self, rest: bytes) -> bytes:
         """The bytes that were read last, and what follows; nothing follows at the end of the file.

@@ -57,17 +57,17 @@ def _add_run(words: _Words) -> None:
     written = parser.add_mutually_exclusive_group()
     written.add_argument("--json", action="store_true", help="write JSON in place of tables")
     written.add_argument("--csv", metavar="MAP", help="write the entries of a map as CSV in place of tables")
-    parser.add_argument("--every", metavar="TIME", type=_seconds, help="show the tables again and again, each time behind so much time, as 1s or 500ms")
+    parser.add_argument("--every", metavar="TIME", type=_seconds, help="show the tables again and again, each time behind so much time, as 1s")
     parser.add_argument("--top", metavar="N", type=_number, help="show so many entries of each map, those with the greatest numbers")
     parser.add_argument("--by", metavar="FIELD", help="the field with these numbers, as bytes or flow.port; else the first one of a value")
     parser.add_argument("--set", metavar="NAME=VALUE", type=_setting, action="append", default=[], help="give a global variable a value")
-    parser.add_argument("--time", metavar="WORD", choices=_TIMED, help=f"milliseconds since the first packet, in a word of the context: {', '.join(_TIMED)}")
+    timed = f"milliseconds since the first packet, in a word of the context: {', '.join(_TIMED)}"
+    parser.add_argument("--time", metavar="WORD", choices=_TIMED, help=timed)
     parser.add_argument(
         "--accepted", metavar="FILE", help="write the packets that are kept, cut as the filter says; *.pcapng is pcapng, - standard output"
     )
-    parser.add_argument(
-        "--short", choices=("pad", "as-is"), default="pad", help="packets that are cut short in the capture: with zeros up to their length on the wire"
-    )
+    short = "packets that are cut short in the capture: with zeros up to their length on the wire"
+    parser.add_argument("--short", choices=("pad", "as-is"), default="pad", help=short)
     parser.add_argument("--long", choices=("cut", "skip"), default="cut", help="packets of more than 65,536 bytes: run the first of these, or none")
     _add_form(parser)
     add_program(parser)

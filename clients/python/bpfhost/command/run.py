@@ -50,6 +50,7 @@ def run(said: argparse.Namespace) -> int:
         loaded = [load_program(host.tenant(number), object_file, lowered) for number in range(said.tenants)]
         tell_changes(program.name, lowered.changes)
         shown = Shown(said, object_file, loaded[0])
+        capture.seconds = said.every
         with Stopping() as stopping, _accepting(said, capture) as writer, shown.advancing(capture) as advanced:
             accept = accept_to(writer) if writer else accept_none
             runs = [each.runs(said.time) for each in loaded]

@@ -18,7 +18,7 @@ import os
 import sys
 import tempfile
 import time
-from collections.abc import Iterable
+from collections.abc import Callable, Iterable
 from dataclasses import dataclass
 from pathlib import Path
 from typing import Any
@@ -38,6 +38,8 @@ from tests.shards.streams import slots_of  # noqa: E402
 CALLS = (1, 16, 256)
 # How many shards there are, and how many servers of Redis they have together.
 SHARDS = ((1, 1), (2, 1), (4, 1), (4, 4))
+# The first of these again, where what a customer has sent and not waited for goes in one call.
+TOGETHER = "1, sent together"
 # A customer sends so many calls before it waits for the reply to the first one.
 CUSTOMERS, AHEAD = 8, 8
 REPLAYED = 100_000
@@ -77,20 +79,22 @@ def work(url: str, program: str, shard: int, directory: str) -> None:
         sys.exit(command(words + (["--directory", directory] if directory != url else [])))
 
 
-def ask(url: str, program: str, name: str, calls: int, size: int, barrier: Any) -> None:
-    """A customer that sends its calls when all others do."""
+def ask(url: str, program: str, name: str, calls: int, size: int, barrier: Any, together: bool) -> None:
+    """A customer that sends its calls when all others do; together, where they may go in one call."""
     stream = call(size)
     with Client(url) as client:
         customer = client.customer(name)
         customer.wait(customer.post(b"".join(begins(program))))
+        send: Callable[[bytes], Any] = lambda sent: customer.send(sent) if together else customer.post(sent)
+        wait: Callable[[Any], list[bytes]] = lambda ticket: customer.receive(ticket) if together else customer.wait(ticket)
         barrier.wait()
         tickets = []
         for at in range(calls):
-            tickets.append(customer.post(stream))
+            tickets.append(send(stream))
             if at >= AHEAD:
-                customer.wait(tickets[at - AHEAD])
+                wait(tickets[at - AHEAD])
         for ticket in tickets[-AHEAD:]:
-            customer.wait(ticket)
+            wait(ticket)
         barrier.wait()
         # So that its time can still be looked at.
         barrier.wait()
@@ -119,8 +123,8 @@ class Measured:
 class Shards:
     """So many shards with their workers, on so many servers of Redis, and customers who ask them."""
 
-    def __init__(self, folder: Path, program: str, shards: int, servers: int) -> None:
-        self._folder, self._program, self._shards, self._many = folder, program, shards, servers
+    def __init__(self, folder: Path, program: str, shards: int, servers: int, together: bool = False) -> None:
+        self._folder, self._program, self._shards, self._many, self._together = folder, program, shards, servers, together
 
     def measure(self, many: int, size: int) -> Measured:
         """Each customer sends its part of so many frames, in calls of so many."""
@@ -132,7 +136,7 @@ class Shards:
             calls = max(1, many // CUSTOMERS // size)
             workers = [_context.Process(target=work, args=(url, self._program, shard, urls[0])) for shard, url in enumerate(urls)]
             customers = [
-                _context.Process(target=ask, args=(urls[0], self._program, f"customer-{number}", calls, size, barrier))
+                _context.Process(target=ask, args=(urls[0], self._program, f"customer-{number}", calls, size, barrier, self._together))
                 for number in range(CUSTOMERS)
             ]
             try:
@@ -202,11 +206,13 @@ def replay(folder: Path, program: str, size: int) -> float:
 def tell(program: str, folder: Path, many: int, size: int) -> None:
     """Measures calls of so many frames, and prints it."""
     piped = by_pipe(program, many, size)
-    found = {each: Shards(folder, program, *each).measure(many, size) for each in SHARDS}
-    speeds = ", ".join(f"{each[0]} on {each[1]} Redis {one.speed:,.0f} ({one.speed / piped:.3f})" for each, one in found.items())
+    found = {f"{each[0]} on {each[1]} Redis": Shards(folder, program, *each).measure(many, size) for each in SHARDS}
+    found[TOGETHER] = Shards(folder, program, *SHARDS[0], together=True).measure(many, size)
+    speeds = ", ".join(f"{what} {one.speed:,.0f} ({one.speed / piped:.3f})" for what, one in found.items())
     print(f"{size} frames a call: by pipe {piped:,.0f}; shards {speeds}")
-    costs = ", ".join(f"{kind} {cost:.1f}" for kind, cost in found[SHARDS[0]].costs.items())
-    print(f"  us a frame of 1 shard: {costs}; {found[SHARDS[0]].logged:.0f} bytes a frame in the log", flush=True)
+    for what in (next(iter(found)), TOGETHER):
+        costs = ", ".join(f"{kind} {cost:.1f}" for kind, cost in found[what].costs.items())
+        print(f"  us a frame of {what}: {costs}; {found[what].logged:.0f} bytes a frame in the log", flush=True)
 
 
 def main() -> int:

@@ -9,6 +9,7 @@ from collections.abc import Generator, Iterable, Iterator, Mapping, Sequence
 from typing import Protocol, TypeVar, cast
 
 from bpfhost import frames
+from bpfhost.alike import size_of_alike
 from bpfhost.errors import StateError
 from bpfhost.numbers import FIRST_DESCRIPTOR, REPLY_HEAD, SOCKET_FILTER, Command, Errno, MapType
 from bpfhost.parts import in_parts
@@ -66,6 +67,8 @@ def with_tenant(frame: bytes, tenant: int) -> bytes:
 
 def split(stream: bytes) -> list[bytes]:
     """The frames, or replies, that bytes are; a ValueError where they are none."""
+    if size := size_of_alike(stream):
+        return [stream[at : at + size] for at in range(0, len(stream), size)]
     found, at = [], 0
     while at < len(stream):
         end = at + 4 + int.from_bytes(stream[at : at + 4], "little")

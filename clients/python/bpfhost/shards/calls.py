@@ -5,9 +5,11 @@ from __future__ import annotations
 from collections.abc import Mapping
 from dataclasses import dataclass
 
+from bpfhost.alike import size_of_alike
 from bpfhost.shards.connection import Entry
 from bpfhost.shards.names import ARRIVES, FRAMES, LEAVES
 from bpfhost.state import split
+from bpfhost.tenancy import BODY
 
 # An entry has at most so many frames and bytes; each of the replies may have 4,108 bytes.
 MOST_FRAMES, LONGEST_CALL = 512, 262_144
@@ -15,12 +17,23 @@ MOST_FRAMES, LONGEST_CALL = 512, 262_144
 
 @dataclass(frozen=True)
 class Call:
-    """Frames of a tenant, and what they weigh while they wait (`names.weight`)."""
+    """Frames of a tenant, and how many they are; where they are alike, how long each is, and else 0."""
 
     entry: bytes
     tenant: int
-    frames: list[bytes]
-    size: int
+    stream: bytes
+    count: int
+    alike: int = 0
+
+    @property
+    def frames(self) -> list[bytes]:
+        """The frames, one by one."""
+        return split(self.stream)
+
+    @property
+    def size(self) -> int:
+        """The bytes that it has, and weighs while it waits (`names.weight`)."""
+        return len(self.stream)
 
 
 @dataclass(frozen=True)
@@ -63,7 +76,7 @@ def item_of(tenant: int, entry: Entry) -> Item:
         return Arrives(name, tenant, fields[ARRIVES])
     stream = fields.get(FRAMES, b"")
     try:
-        return Call(name, tenant, whole_frames(stream), len(stream))
+        return Call(name, tenant, stream, *count_of(stream))
     except ValueError as error:
         return NoCall(name, tenant, f"no call: {error}", len(stream) if FRAMES in fields else 0)
 
@@ -73,12 +86,20 @@ def size_of(fields: Mapping[bytes, bytes]) -> int:
     return sum(map(len, fields.values()))
 
 
+def count_of(stream: bytes) -> tuple[int, int]:
+    """How many frames a call has, and how long each is, where they are alike; a ValueError where the bytes are no call."""
+    alike = size_of_alike(stream)
+    frames = [stream[:BODY]] if alike else split(stream)
+    count = len(stream) // alike if alike else len(frames)
+    if not count or count > MOST_FRAMES or len(stream) > LONGEST_CALL:
+        limits = f"1 to {MOST_FRAMES} frames of {LONGEST_CALL} bytes together"
+        raise ValueError(f"a call has {limits}, and not {count} of {len(stream)}")
+    if any(len(frame) < BODY or frame[4] or frame[5] for frame in frames):
+        raise ValueError("a frame of a call has a head, and names tenant 0")
+    return count, alike
+
+
 def whole_frames(stream: bytes) -> list[bytes]:
     """The frames of a call; a ValueError where the bytes are none, or there are too many."""
-    frames = split(stream)
-    if not frames or len(frames) > MOST_FRAMES or len(stream) > LONGEST_CALL:
-        limits = f"1 to {MOST_FRAMES} frames of {LONGEST_CALL} bytes together"
-        raise ValueError(f"a call has {limits}, and not {len(frames)} of {len(stream)}")
-    if any(len(frame) < 8 or frame[4] or frame[5] for frame in frames):
-        raise ValueError("a frame of a call has a head, and names tenant 0")
-    return frames
+    count_of(stream)
+    return split(stream)

@@ -18,11 +18,12 @@ from bpfhost.parts import in_parts
 from bpfhost.replies import Reply, read_replies
 from bpfhost.shards import names, scripts
 from bpfhost.shards.aside import Aside
-from bpfhost.shards.calls import LONGEST_CALL, MOST_FRAMES, whole_frames
+from bpfhost.shards.calls import LONGEST_CALL, MOST_FRAMES, count_of
 from bpfhost.shards.connection import Redis, as_in
 from bpfhost.shards.directory import Directory, Seat, demand_name
 from bpfhost.shards.errors import (
     Away,
+    CallError,
     CallPassed,
     NoReply,
     NotDone,
@@ -32,10 +33,11 @@ from bpfhost.shards.errors import (
     ReplyGone,
     SessionPassed,
     SetAside,
+    ShardError,
 )
 from bpfhost.shards.names import FAULT, PREFIX, REPLIES, ShardKeys, before, order
 from bpfhost.shards.system import MACHINE, System
-from bpfhost.shards.tickets import Place, Ticket
+from bpfhost.shards.tickets import Gathered, Part, Place, Ticket
 from bpfhost.state import split
 from bpfhost.tenant import Tenant
 
@@ -95,6 +97,7 @@ class Customer:
         self._seat: Seat | None = None
         self._number = self._given_up = 0
         self._open: Ticket | None = None
+        self._gathered = Gathered()
         self._at: dict[int, tuple[Redis, ShardKeys]] = {}
 
     # As a host is asked.
@@ -160,11 +163,43 @@ class Customer:
         A NotTaken where there is no room: then the call is not done later either. A NoReply where it is not known whether it was
         taken: it has the ticket, and waiting for that, or the next call, sends it again.
         """
-        whole_frames(stream)
+        count_of(stream)
+        if self._gathered.count:
+            self.flush()
         self.settle(seconds)
         self._open = ticket = Ticket(stream, self.session, self._number + by, self._given_up)
         self.settle(seconds)
         return ticket
+
+    def send(self, stream: bytes) -> Part:
+        """Lets frames go with others in one call: with all that are sent before one of them is waited for, or before there is no more room
+        in a call. So many small calls cost no more than a large one. Whether they were taken is known when they are waited for."""
+        count, _ = count_of(stream)
+        if self._gathered.count + count > MOST_FRAMES or len(self._gathered.stream) + len(stream) > LONGEST_CALL:
+            self.flush()
+        part = Part(self._gathered, self._gathered.count, count)
+        part.call.stream += stream
+        part.call.count += count
+        return part
+
+    def flush(self) -> None:
+        """Sends what was gathered. What goes wrong is told to each who waits for it."""
+        call, self._gathered = self._gathered, Gathered()
+        try:
+            call.ticket = self.post(bytes(call.stream)) if call.count else None
+        except CallError as error:
+            call.error, call.ticket = error, error.ticket
+        except ShardError:
+            call.ticket = self._open
+            raise
+
+    def receive(self, part: Part, seconds: float | None = None) -> list[bytes]:
+        """Waits for the replies to frames that were sent, as `wait` does; what is on its way beside them is sent first."""
+        if part.call is self._gathered:
+            self.flush()
+        if part.call.ticket is None or isinstance(part.call.error, NotTaken):
+            raise part.call.error or NotTaken(f"frames of customer {self.name} were not sent", None)
+        return self.wait(part.call.ticket, seconds)[part.first : part.first + part.count]
 
     def settle(self, seconds: float | None = None) -> None:
         """Sends a call again of which it is not known whether it was taken, if there is one."""

@@ -122,7 +122,7 @@ def _play(serving: Serving, log: Log, item: Item, replies: Replies, accepts: boo
     if was is not None and b"e" in was:
         # It was skipped, or is no call.
         return
-    log.since.frames += len(item.frames) if isinstance(item, Call) else 0
+    log.since.frames += item.count if isinstance(item, Call) else 0
     ((written, _),) = serving.play([item])
     if was == {written.name: written.value} or accepts:
         return

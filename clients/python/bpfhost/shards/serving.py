@@ -7,10 +7,14 @@ from __future__ import annotations
 
 from collections.abc import Callable, Iterable, Iterator, Sequence
 from dataclasses import dataclass
-from itertools import islice
+from itertools import groupby, islice
+from typing import cast
 
 from bpfhost import frames as make
-from bpfhost.numbers import MOST_TENANTS, Command, Errno
+from bpfhost.alike import is_short, size_of_alike, statuses_are_zero, with_tenant_in_place
+from bpfhost.errors import ReplyError
+from bpfhost.host import LONGEST_REPLY, Host
+from bpfhost.numbers import MOST_TENANTS, REPLY_HEAD, Command, Errno
 from bpfhost.parts import in_parts
 from bpfhost.program import Program
 from bpfhost.replies import Reply
@@ -24,7 +28,7 @@ from bpfhost.tenancy import OpenProgram, Tenancy, command_of, status_of
 
 # A host is asked at most so many frames, of which a snapshot may take some four million (docs/PROTOCOL.md: 16,777,216).
 MOST_ASKED = 12_000_000
-_ASKED_AT_ONCE, _MADE_IN_A_STEP = 1024, 400
+_ASKED_AT_ONCE, _MADE_IN_A_STEP, _READ_AT_ONCE = 1024, 400, 1 << 16
 # Commands to which memory may be refused; -12 says nothing else.
 _WANTS_MEMORY = (Command.MAP_CREATE, Command.MAP_UPDATE_ELEM, Command.PROG_LOAD)
 
@@ -75,17 +79,38 @@ class Serving:
     def play(self, calls: Sequence[Call | NoCall]) -> Iterator[tuple[Written, bool]]:
         """The replies to calls, in order, and whether the call may have changed anything. A call that ends the host has none, nor has
         any behind it: a HostError then, or a ReplyError. A MemoryRefused where memory was refused to the next one."""
-        real = [call for call in calls if isinstance(call, Call)]
-        replies = self.ask(with_tenant(frame, call.tenant) for call in real for frame in call.frames)
-        for call in calls:
+        for is_alike, some in groupby(calls, self._is_alike):
+            yield from self._play_alike(list(some)) if is_alike else self._play_each(list(some))
+
+    def _is_alike(self, call: Call | NoCall) -> bool:
+        return isinstance(call, Call) and bool(call.alike) and is_short(call.stream) and hasattr(self._host, "pipelined")
+
+    def _play_each(self, calls: Sequence[Call | NoCall]) -> Iterator[tuple[Written, bool]]:
+        """Looks at each frame and each reply."""
+        frames_of = [call.frames if isinstance(call, Call) else [] for call in calls]
+        replies = self.ask(with_tenant(frame, call.tenant) for call, frames in zip(calls, frames_of) for frame in frames)
+        for call, frames in zip(calls, frames_of):
             if isinstance(call, NoCall):
                 yield Written(call.tenant, call.entry, FAULT, call.why.encode()), False
                 continue
             own, changed = [], False
-            for frame, reply in zip(call.frames, list(islice(replies, len(call.frames))), strict=True):
+            for frame, reply in zip(frames, list(islice(replies, len(frames))), strict=True):
                 changed |= self._note(call, frame, reply)
                 own.append(with_tenant(reply, 0))
             yield Written(call.tenant, call.entry, REPLIES, b"".join(own), weight(call.size)), changed
+
+    def _play_alike(self, calls: Sequence[Call | NoCall]) -> Iterator[tuple[Written, bool]]:
+        """Sends frames that are alike as they stand, but for the tenant, and takes their replies the same way."""
+        real = [call for call in calls if isinstance(call, Call)]
+        self.is_new = False
+        for call, replies in zip(real, ask_alike(cast(Host, self._host), real)):
+            self.asked += call.count
+            self._alive()
+            if not (size := size_of_alike(replies)) or not statuses_are_zero(replies, size):
+                # Something was refused, memory perhaps.
+                for frame, reply in zip(call.frames, split(replies), strict=True):
+                    self._note(call, frame, reply)
+            yield Written(call.tenant, call.entry, REPLIES, _of_tenant_zero(replies, size), weight(call.size)), True
 
     def _note(self, call: Call, frame: bytes, reply: bytes) -> bool:
         status = status_of(reply)
@@ -167,6 +192,46 @@ class Serving:
             stream += b"".join(part)
             yield
         return bytes(stream)
+
+
+def ask_alike(host: Host, calls: Sequence[Call]) -> Iterator[bytes]:
+    """The replies to calls whose frames are alike and have short replies."""
+
+    def send(call: Call) -> None:
+        stream = bytearray(call.stream)
+        with_tenant_in_place(stream, call.alike, call.tenant)
+        host.send(stream, call.count)
+
+    return host.pipelined(send, lambda call: _so_many(host, call.count), calls)
+
+
+def _so_many(host: Host, count: int) -> bytes:
+    """So many replies; a ReplyError where what comes is none."""
+    held = bytearray()
+    at = found = 0
+    while True:
+        held += host.read(_READ_AT_ONCE)
+        if not at and (size := size_of_alike(held)) and len(held) == count * size:
+            return bytes(held)
+        while found < count and len(held) - at >= 4:
+            size = 4 + int.from_bytes(held[at : at + 4], "little")
+            if not REPLY_HEAD <= size <= LONGEST_REPLY:
+                raise ReplyError(f"the host answers {held[at : at + 4].hex()}, with which no reply begins")
+            if len(held) - at < size:
+                break
+            found, at = found + 1, at + size
+        if found == count:
+            host.unread(bytes(held[at:]))
+            return bytes(held[:at])
+
+
+def _of_tenant_zero(replies: bytes, size: int) -> bytes:
+    """Replies that name tenant 0; of one length, where one is given."""
+    if not size:
+        return b"".join(with_tenant(reply, 0) for reply in split(replies))
+    own = bytearray(replies)
+    with_tenant_in_place(own, size, 0)
+    return bytes(own)
 
 
 def answered(stream: bytes) -> Iterator[Asked]:

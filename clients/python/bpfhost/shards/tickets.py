@@ -5,6 +5,7 @@ from __future__ import annotations
 from dataclasses import dataclass, field
 
 from bpfhost.shards.directory import Seat
+from bpfhost.shards.errors import CallError
 
 
 @dataclass(frozen=True)
@@ -39,3 +40,22 @@ class Ticket:
     def entry(self) -> bytes | None:
         """The id of its entry, once that is known."""
         return self.place.entry if self.place else None
+
+
+@dataclass
+class Gathered:
+    """Frames of several senders that are one call, once it is sent: its ticket then, or why it was not taken."""
+
+    stream: bytearray = field(default_factory=bytearray)
+    count: int = 0
+    ticket: Ticket | None = None
+    error: CallError | None = None
+
+
+@dataclass(frozen=True)
+class Part:
+    """Frames that go with others in one call: from which one on, and how many they are."""
+
+    call: Gathered
+    first: int
+    count: int

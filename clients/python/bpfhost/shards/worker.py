@@ -318,7 +318,7 @@ class Worker:
         most = 1
         for log in readable:
             items = [item_of(log.tenant, entry) for entry in found.get(log.frames, [])]
-            most = max([most, *(len(item.frames) for item in items if isinstance(item, Call))])
+            most = max([most, *(item.count for item in items if isinstance(item, Call))])
             yield _turn_of(items)
         self._read_at_once = max(1, min(_MOST_READ, TURN_FRAMES // most))
 
@@ -348,7 +348,7 @@ class Worker:
             log = self._logs[call.tenant]
             log.place = written.entry
             log.since.entries += 1
-            log.since.frames += len(call.frames) if isinstance(call, Call) else 0
+            log.since.frames += call.count if isinstance(call, Call) else 0
             log.since.size += call.size + len(written.value)
             log.since.changed |= changed
             self._note_call(call, len(written.value))
@@ -358,7 +358,7 @@ class Worker:
 
     def _note_call(self, call: Call | NoCall, replies: int) -> None:
         self.metrics.add("bpfhost_worker_calls_total")
-        self.metrics.add("bpfhost_worker_frames_total", len(call.frames) if isinstance(call, Call) else 0)
+        self.metrics.add("bpfhost_worker_frames_total", call.count if isinstance(call, Call) else 0)
         self.metrics.add("bpfhost_worker_bytes_total", call.size + replies)
 
     # A host that ends.
@@ -581,7 +581,7 @@ def _turn_of(items: Sequence[Item]) -> list[Item]:
     for item in items:
         if not isinstance(item, (Call, NoCall)):
             return taken or [item]
-        frames -= len(item.frames) if isinstance(item, Call) else 1
+        frames -= item.count if isinstance(item, Call) else 1
         size -= item.size
         if taken and (frames < 0 or size < 0):
             break

@@ -6,10 +6,12 @@ import threading
 import time
 import unittest
 import warnings
-from collections.abc import Callable
+from collections.abc import Callable, Sequence
 
 from bpfhost import MapType, frames
+from bpfhost.alike import size_of_alike
 from bpfhost.shards import Client, Settings, ShardKeys, Worker
+from bpfhost.shards.calls import Call
 from bpfhost.shards.connection import Redis, connect
 from bpfhost.shards.registering import register
 from tests.common import PROGRAM, HostTest
@@ -27,6 +29,12 @@ SETTINGS = Settings(lease_seconds=SECONDS)
 def put(value: int) -> bytes:
     """The frame that does."""
     return frames.map_update_elem(0, 3, b"key1", value.to_bytes(8, "little"))
+
+
+def call_of(entry: bytes, tenant: int, frames: Sequence[bytes]) -> Call:
+    """A call of frames, however many they are."""
+    stream = b"".join(frames)
+    return Call(entry, tenant, stream, len(frames), size_of_alike(stream))
 
 
 class WorkerThread:

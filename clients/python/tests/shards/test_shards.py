@@ -70,6 +70,32 @@ class Asking(ShardTest):
         values = [reply.payload for reply in customer.ask_all(asked)][1::2]
         self.assertEqual(values, [value.to_bytes(8, "little") for value in range(2000)])
 
+    def test_frames_that_go_together(self) -> None:
+        """What is sent before it is waited for is one call, and each sender has its own replies, in order."""
+        self.shard(0)
+        customer = self.client.customer("acme")
+        parts = [customer.send(CREATE)] + [customer.send(put(value) + LOOK_UP) for value in range(200)]
+        told = [customer.receive(part) for part in parts]
+        self.assertEqual([len(one) for one in told], [1] + [2] * 200)
+        self.assertEqual([one[1][12:] for one in told[1:]], [value.to_bytes(8, "little") for value in range(200)])
+        redis, keys = self.client.shard(0)
+        self.assertEqual(redis.xlen(keys.frames(0)), 1)
+        # A call between them keeps its place, and what has no room in a call begins the next one.
+        first, second = customer.send(put(7)), customer.ask(LOOK_UP)
+        self.assertEqual((customer.receive(first)[0][8:], second.payload), (bytes(4), (7).to_bytes(8, "little")))
+        parts = [customer.send(LOOK_UP * 300) for _ in range(3)]
+        self.assertEqual([len(customer.receive(part)) for part in parts], [300] * 3)
+        self.assertEqual(redis.xlen(keys.frames(0)), 6)
+
+    def test_frames_that_are_not_taken(self) -> None:
+        customer = self.client.customer("acme", seconds=0.2)
+        parts = [customer.send(CREATE) for _ in range(2)]
+        for part in parts:
+            with self.assertRaises(NotTaken):
+                customer.receive(part)
+        self.shard(0)
+        self.assertEqual(customer.receive(customer.send(CREATE))[0][8:], bytes([3, 0, 0, 0]))
+
     def test_wrong_calls(self) -> None:
         self.shard(0)
         customer = self.client.customer("acme")

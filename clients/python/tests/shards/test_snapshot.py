@@ -16,7 +16,7 @@ from bpfhost.slots import named_maps, renamed_maps
 from bpfhost.state import Steps, at_once, split, state_frames, with_tenant
 from bpfhost.tenancy import Tenancy, status_of
 from tests.common import PROGRAM, SECONDS, HostTest, TimedTest
-from tests.shards.common import CREATE, LOOK_UP
+from tests.shards.common import CREATE, LOOK_UP, call_of
 from tests.shards.streams import Stream, is_without_descriptor, slots_of
 
 SERVINGS, TENANTS, LENGTH = 5, 64, 200
@@ -31,7 +31,7 @@ class Played:
 
     def play(self, frames: list[bytes]) -> list[bytes]:
         """Plays frames as a call, and gives the replies."""
-        ((written, _),) = self.serving.play([Call(b"1-0", self.tenant, frames, 0)])
+        ((written, _),) = self.serving.play([call_of(b"1-0", self.tenant, frames)])
         replies = split(written.value)
         self.asked += zip(frames, replies, strict=True)
         return replies
@@ -123,9 +123,9 @@ class Snapshots(HostTest):
 
     def test_what_does_not_change(self) -> None:
         with serving() as host:
-            ((_, changed),) = host.play([Call(b"1-0", 3, [CREATE], 0)])
+            ((_, changed),) = host.play([call_of(b"1-0", 3, [CREATE])])
             self.assertTrue(changed)
-            ((_, changed),) = host.play([Call(b"2-0", 3, [LOOK_UP], 0)])
+            ((_, changed),) = host.play([call_of(b"2-0", 3, [LOOK_UP])])
             self.assertFalse(changed)
 
     def test_moves(self) -> None:
@@ -269,7 +269,7 @@ class Entries(HostTest):
         refuses = "while read(4):\n    read(28 - 4)\n    os.write(1, bytes.fromhex('08000000000000 00f4ffffff'))\n"
         with Serving(self.pretender(refuses), MACHINE) as host:
             with self.assertRaisesRegex(MemoryRefused, "memory was refused to entry 5-0"):
-                list(host.play([Call(b"5-0", 0, [CREATE], 0)]))
+                list(host.play([call_of(b"5-0", 0, [CREATE])]))
 
 
 class RefusedStates(HostTest):

@@ -9,7 +9,6 @@ from collections.abc import Callable, Iterator, Sequence
 
 from bpfhost import MapType, frames
 from bpfhost.shards import Settings, ShardKeys, Worker, operating
-from bpfhost.shards.calls import Call
 from bpfhost.shards.connection import Redis, connect
 from bpfhost.shards.names import MOST_WAITING
 from bpfhost.shards.serving import Serving
@@ -17,7 +16,7 @@ from bpfhost.shards.system import MACHINE, Link, Machine, Word
 from bpfhost.shards.worker import TURN_FRAMES, _turn_of
 from bpfhost.state import Steps
 from tests.common import PROGRAM, HostTest
-from tests.shards.common import CREATE, LOOK_UP, SECONDS, ShardTest, put
+from tests.shards.common import CREATE, LOOK_UP, SECONDS, ShardTest, call_of, put
 from tests.shards.streams import slots_of
 
 # A step asks the host so many frames at most (the end of one part and the begin of another), and gives Redis so many bytes.
@@ -51,7 +50,7 @@ class InSteps(HostTest):
 
     def test_full_maps(self) -> None:
         with Serving(PROGRAM, MACHINE) as serving:
-            for _ in serving.play([Call(b"1-0", 0, list(full_maps()), 0)]):
+            for _ in serving.play([call_of(b"1-0", 0, list(full_maps()))]):
                 pass
             state, asked, took = self.steps_of(serving, serving.state(0, nothing, list))
             assert isinstance(state, bytes)
@@ -127,9 +126,9 @@ class Stalls(ShardTest):
         self.assertLessEqual(int(redis.hget(keys.waiting, 0) or 0), MOST_WAITING)
 
     def test_a_turn(self) -> None:
-        call = Call(b"1-0", 0, [LOOK_UP] * 100, 2400)
+        call = call_of(b"1-0", 0, [LOOK_UP] * 100)
         self.assertEqual(len(_turn_of([call] * 60)), TURN_FRAMES // 100)
-        large = Call(b"1-0", 0, [LOOK_UP] * 512, 262_144)
+        large = call_of(b"1-0", 0, [LOOK_UP] * 512)
         self.assertEqual(_turn_of([large, call]), [large])
 
     def worker_with_snapshots(self, machine: Machine) -> None:

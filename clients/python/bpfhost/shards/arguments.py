@@ -14,7 +14,7 @@ from bpfhost.shards.directory import MOST_SHARD, demand_name
 from bpfhost.shards.gateway.limits import GatewayLimits
 from bpfhost.shards.lease import SECONDS as LEASE_SECONDS
 from bpfhost.shards.names import PREFIX
-from bpfhost.shards.settings import MOST_ENTRIES, Settings
+from bpfhost.shards.settings import LEAST_REPLY_BYTES, MOST_ENTRIES, Settings
 from bpfhost.telling import WRONG_WORDS, Parser, add_program, in_range, named
 
 _ABOUT = "Serves customers by many hosts, behind Redis Streams (docs/SCALING.md)."
@@ -22,6 +22,7 @@ _ABOUT = "Serves customers by many hosts, behind Redis Streams (docs/SCALING.md)
 _shard = in_range(int, f"shard from 0 to {MOST_SHARD}", 0, MOST_SHARD)
 _seconds = in_range(float, "number of seconds from 0.1 on", 0.1, 1e6)
 _many = in_range(int, f"number from 1 to {MOST_ENTRIES}", 1, MOST_ENTRIES)
+_bytes = in_range(int, f"number of bytes from {LEAST_REPLY_BYTES} on", LEAST_REPLY_BYTES)
 _drain = in_range(float, "number of seconds from 0 on", 0.0, 1e6)
 _rate = in_range(float, "number from 0.1 on", 0.1)
 _name = named(demand_name, "name of 1 to 255 printable characters without spaces")
@@ -85,6 +86,9 @@ def _add_worker(words: argparse._SubParsersAction[Parser]) -> None:
     )
     parser.add_argument(
         "--keep-replies", metavar="S", type=_seconds, default=usual.reply_seconds, help="how long replies stay that nobody has read (3600)"
+    )
+    parser.add_argument(
+        "--keep-bytes", metavar="N", type=_bytes, default=usual.reply_bytes, help="of so many bytes replies stay at most (1073741824)"
     )
     parser.add_argument("--drain", metavar="S", type=_drain, default=10.0, help="how long snapshots are taken at the end (10)")
     parser.add_argument("--volatile", action="store_true", help="also on a Redis that may lose what it has answered")

@@ -78,6 +78,7 @@ def run_worker(said: Namespace) -> None:
         lease_seconds=said.lease,
         snapshot_entries=said.snapshot_entries,
         reply_seconds=said.keep_replies,
+        reply_bytes=said.keep_bytes,
         demand_durable=not said.volatile,
         drain_seconds=said.drain,
     )

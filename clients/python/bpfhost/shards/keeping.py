@@ -10,7 +10,7 @@ from collections.abc import Callable, Generator, Sequence
 
 from bpfhost.shards import scripts
 from bpfhost.shards.client import NAMELESS
-from bpfhost.shards.log import Log, Since
+from bpfhost.shards.log import Log, Mark, Since
 from bpfhost.shards.manifest import Manifest, pieces_of
 from bpfhost.shards.metrics import Told
 from bpfhost.shards.names import START, after, order
@@ -21,8 +21,15 @@ from bpfhost.state import Steps
 
 # Replies are looked at so often while they get as old as they may.
 _LOOKS = 8
+# Replies have at most so many marks by their bytes.
+_MARKS = 32
 SECONDS_OF_SESSIONS = 86_400.0
 _LEAST_SECONDS, _SECONDS_TO_SETTLE = 1.0, 3.0
+
+
+def _age(marked: tuple[Mark, Log]) -> tuple[float, tuple[int, int]]:
+    """By which marks of several tenants are ordered, the oldest first."""
+    return marked[0].served, order(marked[0].place)
 
 
 class Keeping:
@@ -34,11 +41,16 @@ class Keeping:
         self._looked = self._settled = 0.0
         # Tenants of which no snapshot could be taken.
         self.failed: set[int] = set()
+        # How many bytes of replies have come since it was looked at.
+        self.came = 0
+        # Up to which place replies of tenants are dropped since all have too many bytes.
+        self._drop_by_bytes: dict[int, bytes] = {}
 
     def begin(self) -> None:
         """Begins with tenants that were just made."""
         self._looked = self._redis.system.now()
         self.failed.clear()
+        self._drop_by_bytes.clear()
 
     def empty(self, entry: bytes) -> Manifest:
         """The snapshot of a new tenant."""
@@ -124,8 +136,24 @@ class Keeping:
             return
         self._looked = now
         for log in logs:
-            if log.tenant not in busy and (log.place != START) and (not log.marks or log.marks[-1][1] != log.place or len(log.marks) > 1):
+            if log.tenant not in busy and (log.place != START) and (not log.marks or log.marks[-1].place != log.place or len(log.marks) > 1):
                 begin(log.tenant, self.drop_old(log))
+
+    def look_at_bytes(self, logs: Sequence[Log], begin: Callable[[int, Generator[None, None, None]], None], busy: set[int]) -> None:
+        """Marks how far tenants have come as often as replies have so many bytes more; where all have more than they may, drops the oldest."""
+        most = self._settings.reply_bytes
+        if self.came < most // _MARKS:
+            return
+        self.came = 0
+        for log in logs:
+            if log.tenant not in busy and log.place != START:
+                begin(log.tenant, self.drop_old(log))
+        too_many = sum(log.kept_size() for log in logs) - most
+        for one, log in sorted(((one, log) for log in logs for one in log.marks), key=_age):
+            if too_many <= 0:
+                break
+            too_many -= one.size
+            self._drop_by_bytes[log.tenant] = one.place
 
     def is_due_to_look(self) -> bool:
         """Whether it is time to look at what waits, and at the server's memory."""
@@ -148,9 +176,11 @@ class Keeping:
         served = self._writing.lease.served()
         kept = log.mark(served, self._settings.reply_seconds)
         self._writing.note(self._keys.marks, log.tenant, kept)
-        least = min(log.old_place(served, self._settings.reply_seconds), self._kept_from(log), key=order)
+        old = max(log.old_place(served, self._settings.reply_seconds), self._drop_by_bytes.get(log.tenant, START), key=order)
+        least = min(old, self._kept_from(log), key=order)
         if least != START:
             yield from self._writing.drop(log.replies, after(least))
+            log.dropped(least)
 
     @staticmethod
     def _kept_from(log: Log) -> bytes:

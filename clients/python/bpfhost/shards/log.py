@@ -31,6 +31,26 @@ class Since:
 
 
 @dataclass
+class Mark:
+    """A place: how many seconds the shard had been served when it was reached, and how many bytes of replies are kept that came behind
+    the mark before it."""
+
+    served: float
+    place: bytes
+    size: int = 0
+
+    @classmethod
+    def read(cls, kept: bytes) -> Mark:
+        """As it is kept; one without a size has none that is known."""
+        served, place, *size = kept.split(b"@")
+        return cls(float(served), place, int(size[0]) if size else 0)
+
+    def to_bytes(self) -> bytes:
+        """The same."""
+        return b"%.3f@%s@%d" % (self.served, self.place, self.size)
+
+
+@dataclass
 class Log:
     """The log of one tenant."""
 
@@ -42,8 +62,9 @@ class Log:
     snapshot: Manifest | None = None
     before: Manifest | None = None
     since: Since = field(default_factory=Since)
-    # Places by how many seconds the shard had been served then, the oldest first.
-    marks: list[tuple[float, bytes]] = field(default_factory=list)
+    # Places, the oldest first; the bytes of replies since the last one, and since this worker began to count.
+    marks: list[Mark] = field(default_factory=list)
+    unmarked: int = 0
     aside: Aside | None = None
     # Whether the last snapshot is the only one, and the stream has nothing of what came before it.
     is_cut: bool = False
@@ -122,18 +143,32 @@ class Log:
     def read_marks(self) -> None:
         """The marks of this worker and those before it."""
         kept = self.redis.hget(self.keys.marks, self.tenant) or b""
-        self.marks = [(float(served), place) for served, _, place in (one.partition(b"@") for one in kept.split())]
+        self.marks = [Mark.read(one) for one in kept.split()]
 
     def mark(self, served: float, most: float) -> bytes:
         """Notes how far the tenant has come after so many seconds, and forgets what is older than the last mark above `most` seconds
         ago; gives the marks as they are kept."""
-        if not self.marks or self.marks[-1][1] != self.place:
-            self.marks.append((served, self.place))
-        old = [at for at, (then, _) in enumerate(self.marks) if then <= served - most]
-        self.marks = self.marks[old[-1] :] if old else self.marks
-        return b" ".join(b"%.3f@%s" % one for one in self.marks)
+        if not self.marks or self.marks[-1].place != self.place:
+            self.marks.append(Mark(served, self.place, self.unmarked))
+            self.unmarked = 0
+        old = [at for at, one in enumerate(self.marks) if one.served <= served - most]
+        if old:
+            # What could not be dropped of those that are forgotten is kept as that of the last one.
+            self.marks[old[-1]].size += sum(one.size for one in self.marks[: old[-1]])
+            self.marks = self.marks[old[-1] :]
+        return b" ".join(one.to_bytes() for one in self.marks)
 
     def old_place(self, served: float, seconds: float) -> bytes:
         """The last place that was reached so many seconds ago, or longer."""
-        old = [place for then, place in self.marks if then <= served - seconds]
+        old = [one.place for one in self.marks if one.served <= served - seconds]
         return old[-1] if old else START
+
+    def kept_size(self) -> int:
+        """How many bytes of replies are kept, as far as it is known."""
+        return self.unmarked + sum(one.size for one in self.marks)
+
+    def dropped(self, least: bytes) -> None:
+        """Notes that replies were dropped up to a place."""
+        for one in self.marks:
+            if order(one.place) <= order(least):
+                one.size = 0

@@ -9,23 +9,27 @@ from bpfhost.shards.serving import MOST_ASKED
 
 # Between two snapshots lie at most so many calls, and bytes.
 MOST_ENTRIES, MOST_BYTES = 200_000, 1 << 29
+LEAST_REPLY_BYTES = 1 << 10
 
 
 @dataclass(frozen=True)
 class Settings:
     """How a worker works: the seconds of its lease; how many calls, frames, or bytes of frames and replies, a worker that begins plays
     again at most, in all of its tenants (a snapshot is taken of the tenant that has most of them); for how long replies stay for those
-    that have not read them; and how many frames a host is asked before another one is started with the same state; and how long snapshots are taken at the end."""
+    that have not read them, and how many bytes of them at most, the oldest dropped first; and how many frames a host is asked before another one is started with the same state; and how long snapshots are taken at the end."""
 
     lease_seconds: float = SECONDS
     snapshot_entries: int = 50_000
     snapshot_frames: int = 400_000
     snapshot_bytes: int = 1 << 28
     reply_seconds: float = 3600.0
+    reply_bytes: int = 1 << 30
     most_asked: int = MOST_ASKED
     demand_durable: bool = True
     drain_seconds: float = 0.0
 
     def __post_init__(self) -> None:
+        if self.reply_bytes < LEAST_REPLY_BYTES:
+            raise ValueError(f"replies stay of at least {LEAST_REPLY_BYTES} bytes")
         if not 1 <= self.snapshot_entries <= MOST_ENTRIES or not 1 <= self.snapshot_bytes <= MOST_BYTES:
             raise ValueError(f"between two snapshots lie at most {MOST_ENTRIES} calls and {MOST_BYTES} bytes")

@@ -351,6 +351,8 @@ class Worker:
             log.since.frames += call.count if isinstance(call, Call) else 0
             log.since.size += call.size + len(written.value)
             log.since.changed |= changed
+            log.unmarked += len(written.value)
+            self._keeping.came += len(written.value)
             self._note_call(call, len(written.value))
             if self._careful.get(call.tenant) == written.entry:
                 del self._careful[call.tenant]
@@ -523,7 +525,7 @@ class Worker:
 
     def _look_at_snapshots(self, serving: Serving) -> None:
         """Begins a snapshot of the tenant that has most to be played again, where there is too much of that."""
-        self._keeping.look_at_ages(self._logs, lambda tenant, job: self._begin(tenant, job), self._busy)
+        self._keeping.look_at_ages(self._logs, self._begin, self._busy)
         if self._jobs:
             return
         if serving.asked >= self._settings.most_asked:
@@ -532,6 +534,8 @@ class Worker:
         due = self._keeping.due(self._logs, self._busy)
         if due is not None:
             self._begin(due.tenant, self._keeping.snapshot(serving, due))
+        else:
+            self._keeping.look_at_bytes(self._logs, self._begin, self._busy)
 
     def _replace_host(self, serving: Serving) -> None:
         """A host that was asked often is replaced by a new one: after snapshots of all, so that little is played again."""

@@ -269,6 +269,32 @@ class Calls(ShardTest):
             with self.assertRaisesRegex(ReplyGone, "nobody read them in time"):
                 customer.wait(ticket)
 
+    def test_replies_of_too_many_bytes(self) -> None:
+        """The oldest replies are dropped where all tenants have too many bytes, and are in a snapshot; also those of a worker before."""
+        settings = Settings(SECONDS, snapshot_entries=1, reply_bytes=40_000)
+        worker = self.shard(0, settings)
+        redis, keys = self.client.shard(0)
+        customers = [self.client.customer(name) for name in ("acme", "other")]
+        for customer in customers:
+            customer.ask(CREATE)
+            customer.ask(put(1))
+        for turn in range(20):
+            if turn == 10:
+                worker.stop()
+                worker = self.shard(0, settings)
+            for customer in customers:
+                self.assertEqual(len(customer.wait(customer.post(LOOK_UP * 100))), 100)
+
+        def kept() -> int:
+            entries = [one for tenant in (0, 1) for one in redis.xrange(keys.replies(tenant), b"0-1", b"+", 1000)]
+            return sum(len(fields[b"r"]) for _, fields in entries)
+
+        # 80,000 bytes of replies, of which at most 40,000 stay, and what is newer than the snapshot before the last one.
+        self.until(lambda: kept() < 50_000)
+        self.assertGreater(kept(), 10_000)
+        self.assertLess(sum(log.kept_size() for log in worker.worker._logs), 80_000)
+        self.assertTrue(redis.hget(keys.marks, 0))
+
     def test_calls_that_were_dropped_undone(self) -> None:
         redis, keys = self.empty_shard(0)
         customer = self.client.customer("acme")

@@ -70,7 +70,9 @@ class Connection:
             pass
         finally:
             self._leave()
-            self._writer.transport.abort()
+            # Where TLS has ended by itself, asyncio has nothing beneath it to be aborted any more.
+            with contextlib.suppress(AttributeError):
+                self._writer.transport.abort()
 
     def _leave(self) -> None:
         """Is no connection of its customer any more."""

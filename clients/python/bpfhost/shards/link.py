@@ -73,6 +73,23 @@ def _told() -> Iterator[None]:
         raise RedisError(f"Redis refuses a command: {error}") from None
 
 
+def packed(words: Sequence[Word]) -> bytes:
+    """A command as the server reads it. A worker's turn names 64 streams, for which the library's own form takes four times as long."""
+    parts = [b"*%d\r\n" % len(words)]
+    for word in words:
+        parts.append(_bulk(word) if type(word) is str else _bulk_of(word if isinstance(word, bytes) else str(word).encode()))
+    return b"".join(parts)
+
+
+def _bulk_of(data: bytes) -> bytes:
+    return b"$%d\r\n%b\r\n" % (len(data), data)
+
+
+@functools.lru_cache(4096)
+def _bulk(word: str) -> bytes:
+    return _bulk_of(word.encode())
+
+
 class SocketLink:
     """A connection of the library, which is made anew where it broke."""
 
@@ -86,7 +103,7 @@ class SocketLink:
         with _told():
             try:
                 self._prepare(seconds)
-                connection.send_command(*words)
+                connection.send_packed_command([packed(words)])
                 return connection.read_response()
             except (_library().exceptions.ConnectionError, _library().exceptions.TimeoutError, OSError):
                 connection.disconnect()
@@ -122,7 +139,7 @@ class AsyncConnection:
                 async with asyncio.timeout(seconds):
                     if not connection.is_connected:
                         await connection.connect()
-                    await connection.send_command(*words)
+                    await connection.send_packed_command([packed(words)])
                     answer = await connection.read_response()
                 is_whole = True
                 return answer

@@ -12,8 +12,10 @@ from pathlib import Path
 from bpfhost import Host
 from bpfhost.shards import Client, RedisError, Settings, ShardKeys, move, operating, remove
 from bpfhost.shards.connection import Redis, as_in, connect, without_secrets
+from bpfhost.shards.cluster import told_to
 from bpfhost.shards.errors import Away, NotAllowed
 from bpfhost.shards.gateway.limits import GatewayLimits
+from bpfhost.shards.link import _library, packed
 from tests.common import PROGRAM, HostTest
 from tests.shards.certificates import OPENSSL, authority, signed
 from tests.shards.common import CREATE, SETTINGS, WorkerThread
@@ -138,6 +140,24 @@ class Users(HostTest):
         (bare / "users.acl").write_text(USERS.read_text())
         told = "Redis does not know this user, or not by this password: Authentication required"
         self.assertRaisesRegex(RedisError, told, lambda: RedisServer(bare, options={"aclfile": str(bare / "users.acl")}))
+
+
+class Words(unittest.TestCase):
+    @unittest.skipIf(_WHY is not None, _WHY or "")
+    def test_commands(self) -> None:
+        """A command's bytes are those that the library would send."""
+        connection = _library().ConnectionPool.from_url("unix:///nothing").make_connection()
+        for words in (
+            ["GET", "a"],
+            ["XREAD", "COUNT", 64, "STREAMS", "bpfhost:{0}:frames:0", b"1-0"],
+            ["EVALSHA", "0" * 40, 1, "key", "\u00e9", b"\0\r\n\xff", 5, -7, 1.5, ""],
+            [told_to("INFO", "key"), "memory"],
+        ):
+            self.assertEqual(packed(words), b"".join(connection.pack_command(*map(_plain, words))))
+
+
+def _plain(word: object) -> object:
+    return str(word) if isinstance(word, str) else word
 
 
 class Urls(unittest.TestCase):

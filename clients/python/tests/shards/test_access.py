@@ -147,12 +147,13 @@ class Words(unittest.TestCase):
     def test_commands(self) -> None:
         """A command's bytes are those that the library would send."""
         connection = _library().ConnectionPool.from_url("unix:///nothing").make_connection()
-        for words in (
+        cases: tuple[list[object], ...] = (
             ["GET", "a"],
             ["XREAD", "COUNT", 64, "STREAMS", "bpfhost:{0}:frames:0", b"1-0"],
             ["EVALSHA", "0" * 40, 1, "key", "\u00e9", b"\0\r\n\xff", 5, -7, 1.5, ""],
             [told_to("INFO", "key"), "memory"],
-        ):
+        )
+        for words in cases:
             self.assertEqual(packed(words), b"".join(connection.pack_command(*map(_plain, words))))
 
 

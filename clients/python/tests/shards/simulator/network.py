@@ -46,9 +46,6 @@ class Server:
         """What the server answers; an Away where it is away."""
         if self._world.now < self.away_until:
             raise Away("the server is away")
-        if words[0] == "WAIT":
-            self.store.replicas_have_all()
-            return words[1]
         if list(words) == ["INFO", "replication"]:
             return f"master_replid:{self.failovers}\r\n".encode()
         self.store.milliseconds = 1_000_000 + int((self._world.now + self.jumped) * 1000)
@@ -86,10 +83,23 @@ class SimulatedLink:
     def __init__(self, network: Network, url: str) -> None:
         self._network, self._server = network, network.server(url)
         self._failovers = self._server.failovers
+        # How much the server had written after this connection's last write: what WAIT waits for.
+        self._written = 0
+
+    def _do(self, words: Sequence[Word]) -> Any:
+        store = self._server.store
+        if words[0] == "WAIT":
+            store.is_replicated = True
+            store.replicas_have(self._written)
+            return words[1]
+        before, answer = store.written, self._server.do(words)
+        if store.written > before:
+            self._written = store.written
+        return answer
 
     def _demand_connection(self) -> None:
         if self._failovers != self._server.failovers:
-            self._failovers = self._server.failovers
+            self._failovers, self._written = self._server.failovers, 0
             raise Away("the connection was cut, as another server took over")
 
     def close(self) -> None:
@@ -108,7 +118,7 @@ class SimulatedLink:
             failovers = self._server.failovers
             world.later(draw.random() * weather.seconds_late, lambda: self._late(words, failovers))
             raise Away("the connection was cut, and the call comes late")
-        answer = self._block(words, deadline) if "BLOCK" in words else self._server.do(words)
+        answer = self._block(words, deadline) if "BLOCK" in words else self._do(words)
         if chance < weather.lost + weather.late + weather.unanswered:
             raise Away("the answer was lost")
         world.sleep(draw.random() * weather.seconds)

@@ -2,6 +2,7 @@
 
 from __future__ import annotations
 
+import collections
 import copy
 import hashlib
 from collections.abc import Callable, Sequence
@@ -30,21 +31,24 @@ class Store:
         self.milliseconds = 1_000_000
         self.has_memory = True
         self.on_write: Callable[[], None] = lambda: None
-        # What keys had before they were written to, since the replicas had all.
-        self._before: dict[bytes, Value] = {}
+        # Whether replicas were asked for; how much was written since; and what keys had before each write that they may not have.
+        self.is_replicated = False
+        self.written = 0
+        self._before: collections.deque[tuple[int, bytes, Value]] = collections.deque()
 
-    def replicas_have_all(self) -> None:
-        """From now on a failover loses nothing of what was written before."""
-        self._before.clear()
+    def replicas_have(self, written: int) -> None:
+        """A failover loses nothing more of what was written up to there."""
+        while self._before and self._before[0][0] <= written:
+            self._before.popleft()
 
     def fail_over(self) -> None:
         """Has what the replicas have."""
-        for name, value in self._before.items():
+        while self._before:
+            _, name, value = self._before.pop()
             if value is None:
                 self.keys.pop(name, None)
             else:
                 self.keys[name] = value
-        self._before.clear()
 
     def do(self, words: Sequence[object]) -> Value:
         """The answer to a command."""
@@ -52,8 +56,9 @@ class Store:
         command = getattr(self, f"_{name.decode().lower()}", None)
         if command is None:
             raise RedisError(f"the simulator has no command {name.decode()}")
-        if name in _WRITES and rest[0] not in self._before:
-            self._before[rest[0]] = _copied(self.keys.get(rest[0]))
+        if self.is_replicated and name in _WRITES:
+            self.written += 1
+            self._before.append((self.written, rest[0], _copied(self.keys.get(rest[0]))))
         return command(*rest)
 
     def _of(self, name: bytes, kind: type) -> Value:

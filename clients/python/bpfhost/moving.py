@@ -13,13 +13,14 @@ from dataclasses import dataclass
 from bpfhost.errors import HostError
 from bpfhost.numbers import LARGEST_SUM, MOST_MAPS, Command, MapType
 from bpfhost.state import Pairs, at_once, read_pairs, state_frames, wanted_status, with_tenant
-from bpfhost.tenancy import BODY, LiveMap, Tenancy, command_of, status_of
+from bpfhost.tenancy import BODY, LiveMap, Tenancy, status_of
 
 AskBytes = Callable[[Iterable[bytes]], Iterator[bytes]]
 
 # The values of a tenant's maps have 262,144 bytes at most, and 8 each at least; a look-up and a step of the walk read one.
 MOST_TO_READ = 2 * (LARGEST_SUM // 8 + MOST_MAPS)
-_OPENS_OR_CLOSES = (Command.MAP_CREATE, Command.PROG_LOAD, Command.CLOSE)
+# Commands that open or close something, as frames have them.
+_OPENS_OR_CLOSES = frozenset(command.to_bytes(2, "little") for command in (Command.MAP_CREATE, Command.PROG_LOAD, Command.CLOSE))
 
 
 class Ledger:
@@ -33,7 +34,7 @@ class Ledger:
 
     def note(self, frame: bytes, status: int) -> None:
         """Notes a frame and the status of its reply."""
-        if status < 0 or len(frame) < BODY or command_of(frame) not in _OPENS_OR_CLOSES:
+        if status < 0 or len(frame) < BODY or frame[6:BODY] not in _OPENS_OR_CLOSES:
             return
         tenant = int.from_bytes(frame[4:6], "little")
         self._changed.add(tenant)
@@ -44,7 +45,7 @@ class Ledger:
     def note_all(self, frames: Iterable[bytes], replies: Iterable[bytes]) -> None:
         """Notes frames and the bytes of the replies to them."""
         for frame, reply in zip(frames, replies):
-            if command_of(frame) in _OPENS_OR_CLOSES:
+            if frame[6:BODY] in _OPENS_OR_CLOSES:
                 self.note(frame, status_of(reply))
 
     def reserve(self) -> int:
